@@ -9,7 +9,8 @@ use Rattle.noc_topo.specs.Words.{is_some_of, tabulate}
 use Rattle.noc_alloc.specs.Arbiter.{RoundRobin, arbiter_at, first_in_turn, nearer, pointers_of}
 use Rattle.noc_alloc.specs.Allocation.{grant_of, pick_of, picked_port, winner_of}
 use Rattle.noc_alloc.specs.Steps.{firsts_after_request}
-use Rattle.noc_alloc.proofs.WordLemmas.{is_some_of-some, is_some_of-none, is_some_of-other, get_or-tabulate, length-tabulate, tabulate-from_each}
+use Rattle.noc_alloc.proofs.WordLemmas.{is_some_of-some, is_some_of-none, is_some_of-other}
+use Rattle.noc_topo.proofs.WordLemmas.{get_or-tabulate, length-tabulate, tabulate-from_each}
 use Rattle.noc_alloc.proofs.ArbiterLemmas.{IsNearest, first_in_turn-same, nearest-is, nearest-skips, nearest-one, nearest-held, nearest-next}
 use Rattle.noc_alloc.proofs.RequestLemmas.{least_member}
 use Rattle.noc_alloc.proofs.SwitchLemmas.{pointer-at}

@@ -8,7 +8,8 @@ use Rattle.noc_topo.specs.Words.{is_some_of, tabulate}
 use Rattle.noc_alloc.specs.Arbiter.{RoundRobin, first_in_turn, arbiter_after, arbiter_at, pointers_of}
 use Rattle.noc_alloc.specs.Allocation.{picked_port, winner_of, has_won, winning_pick, moving_pick, arbiters_after_winners, is_won_by, pick_won}
 use Rattle.noc_alloc.specs.Steps.{arbiters_after_winner}
-use Rattle.noc_alloc.proofs.WordLemmas.{map_indexed-from_each, length-map_indexed, get_or-map_indexed, get_or-tabulate, length-tabulate, is_some_of-true, is_some_of-some, is_some_of-none, is_some_of-other}
+use Rattle.noc_topo.proofs.WordLemmas.{map_indexed-from_each, length-map_indexed, get_or-map_indexed, get_or-tabulate, length-tabulate}
+use Rattle.noc_alloc.proofs.WordLemmas.{is_some_of-true, is_some_of-some, is_some_of-none, is_some_of-other}
 use Rattle.noc_alloc.proofs.ArbiterLemmas.{first_in_turn-picks}
 
 -- the index of an input channel is one of a list with so many for each port

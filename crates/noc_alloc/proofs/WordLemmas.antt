@@ -3,7 +3,6 @@ use Rattle.std.proofs.Common.{◌≡◌, ◌≢◌, ℕ, true, false, eqb, Optio
 use Rattle.std.specs.Option.{option_eq}
 use Rattle.std.proofs.lemmas.Bool.{eq-eqb, ne_eqb, eqb-true, false≢true}
 use Rattle.noc_topo.specs.Words.{is_some_of}
-pub use Rattle.noc_topo.proofs.WordLemmas.{length-map_indexed, get_or-map_indexed, map_indexed-from_each, length-tabulate, get_or-tabulate, tabulate-from_each}
 
 pub is_some_of-true : (o : Option ℕ) (x : ℕ) → is_some_of o x ≡ true → o ≡ Some x
 is_some_of-true None x e = absurd (false≢true e)

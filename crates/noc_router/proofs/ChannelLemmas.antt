@@ -6,7 +6,6 @@ use Rattle.std.specs.Option.{option_eq}
 use Rattle.std.proofs.lemmas.Bool.{cases_eq, false≢true, eq-eqb, ne_eqb, eqb-true, lt-ltb, ltb-true, and_parts}
 use Rattle.std.proofs.lemmas.List.{get_or_default, set-get_or, get_or-replicate, length-replicate, length-append}
 use Rattle.std.proofs.lemmas.List.Elements.{All-append, All-replicate}
-pub use Rattle.noc_router.proofs.FindLemmas.{find-below, find-none as find-below-none}
 use Rattle.noc_packet.specs.Set.{has_bit}
 use Rattle.noc_packet.specs.declared.packet.Flit.{Flit}
 use Rattle.noc_ring.specs.Buffers.{Buffers, buffer_at, buffers_after_push, buffers_after_pop, empty_buffers}
@@ -19,7 +18,8 @@ use Rattle.noc_vc.specs.declared.input.InputState.TheVariants.{Idle, Waiting, Ac
 use Rattle.noc_vc.specs.declared.output.OutputState.{OutputState}
 use Rattle.noc_vc.specs.declared.output.OutputState.TheVariants.{Idle as Free, Owned, Draining}
 use Rattle.noc_router.specs.declared.channels.Standing.{Standing}
-use Rattle.noc_router.specs.Members.{AreBelow, is_within}
+use Rattle.noc_alloc.specs.Places.{AreBelow}
+use Rattle.noc_router.specs.Members.{is_within}
 use Rattle.noc_router.specs.Sound.{KeepsAwaiting, is_awaiting, is_occupied, is_supplied, owns, is_owned_from, is_worm, is_worm_of, AreSound, AreStanding, Sets}
 
 -- ---- an element of a list is replaced

@@ -17,7 +17,8 @@ use Rattle.noc_vc.specs.Input.{Input, idle_input, is_waiting, is_empty}
 use Rattle.noc_vc.specs.Output.{Output, ejection_output, is_free, has_credit}
 use Rattle.noc_vc.specs.declared.input.InputState.{InputState}
 use Rattle.noc_router.specs.Settled.{CanGrant, CanMove, view_after_verdicts, view_after_route, granted_by, ejected_packet, moved_by, moved_in_phase, CanTakeEffect, decisions_by, effect_of}
-use Rattle.noc_router.specs.Tally.{empty_finding, finding_at}
+use Rattle.noc_router.specs.Found.{empty_finding}
+use Rattle.noc_router.specs.Tally.{finding_at}
 use Rattle.noc_router.specs.Verdict.{Waits, ask_of, out_of, is_moved, is_event}
 use Rattle.noc_router.specs.View.{View, Site, Decisions, finding_of, size_of, view_claim, view_buffer, view_input, view_output, first_flit, mover, mover_to, held_by, spent_by, flit_out, tail_packet, decided_verdict, input_after, buffer_after, output_after, beat_out, idle_beat, idle_beats, has_event, PlanContents}
 use Rattle.noc_router.specs.declared.verdict.Verdict.{Verdict}

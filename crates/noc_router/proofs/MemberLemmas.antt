@@ -3,7 +3,7 @@ use Rattle.std.proofs.Common.{◌≡◌, ℕ, true, sym, ◌∙◌}
 use Rattle.std.specs.Prelude.{nat_eq, not, ◌&&◌}
 use Rattle.std.proofs.lemmas.Bool.{and_parts}
 use Rattle.noc_packet.specs.Set.{has_bit}
-use Rattle.noc_router.specs.Members.{AreBelow}
+use Rattle.noc_alloc.specs.Places.{AreBelow}
 
 -- a set less one member
 pub AreBelow-without : (n set i rest : ℕ) → ((k : ℕ) → has_bit rest k ≡ (not (nat_eq k i) && has_bit set k)) → AreBelow n set → AreBelow n rest

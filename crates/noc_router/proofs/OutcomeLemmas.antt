@@ -14,7 +14,8 @@ use Rattle.noc_vc.specs.declared.input.InputState.TheVariants.{Idle, Waiting, Ac
 use Rattle.noc_router.specs.Decided.{IsDecidedFor}
 use Rattle.noc_router.specs.Settled.{CanTakeEffect, AreContentsFor, decisions_by, effect_of, finding_by, found_with, planned_verdict, view_after_tally}
 use Rattle.noc_router.specs.Sound.{is_occupied, out_in}
-use Rattle.noc_router.specs.Tally.{empty_finding, is_empty_verdict}
+use Rattle.noc_router.specs.Found.{empty_finding}
+use Rattle.noc_router.specs.Tally.{is_empty_verdict}
 use Rattle.noc_router.specs.Verdict.{Round, Waits, Holds, ask_of, out_of, is_event, verdict_of}
 use Rattle.noc_router.specs.View.{View, PlanContents, Decisions, asked_for, claim_in, view_after_commit, counts_after, decided_verdict, finding_of, plan_contents, decisions_of, port_and_vc, route_of, size_of, view_buffer, view_claim, view_input, view_round, idle_beats}
 use Rattle.noc_router.specs.declared.verdict.Verdict.{Verdict}

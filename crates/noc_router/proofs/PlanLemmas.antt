@@ -15,8 +15,10 @@ use Rattle.noc_vc.specs.declared.input.InputState.TheVariants.{Idle, Waiting, Ac
 use Rattle.noc_alloc.specs.Allocation.{grant_of, pick_of, picked_port, winner_of}
 use Rattle.noc_alloc.proofs.ArbiterLemmas.{first_in_turn-picks}
 use Rattle.noc_alloc.proofs.WordLemmas.{is_some_of-true, is_some_of-some}
-use Rattle.noc_router.specs.Tally.{empty_finding, finding_at}
-use Rattle.noc_router.specs.Verdict.{Claim, Unrouted, Waits, Holds, Stand, Round, ask_of, asks_of, ready_of, ready_port, verdict_of, pointers_of}
+use Rattle.noc_router.specs.Found.{empty_finding}
+use Rattle.noc_router.specs.Tally.{finding_at}
+use Rattle.noc_router.specs.Verdict.{Claim, Unrouted, Waits, Holds, Stand, Round, ask_of, asks_of, ready_of, ready_port, verdict_of}
+use Rattle.noc_alloc.specs.Arbiter.{pointers_of}
 use Rattle.noc_router.specs.View.{View, Decisions, decisions_of, view_round, view_stands, view_stand, view_claim, claim_in, asked_for, finding_of, size_of, view_buffer, view_input, view_output, mover, decided_verdict}
 use Rattle.noc_router.specs.declared.verdict.Verdict.{Verdict}
 use Rattle.noc_router.specs.declared.verdict.Verdict.TheVariants.{Routed, Granted, Moved, LostChannel, LostInput, LostSwitch}

@@ -15,7 +15,8 @@ use Rattle.noc_router.specs.Decided.{IsDecidedFor, empty_plan_contents}
 use Rattle.noc_router.specs.Inside.{IsRouter, view_of}
 use Rattle.noc_alloc.proofs.OfferLemmas.{wins-granted}
 use Rattle.noc_router.specs.Standing.{AreAsked, picked_vc, picked_way}
-use Rattle.noc_router.specs.Verdict.{Round, asks_of, is_event, pointers_of, ready_of}
+use Rattle.noc_router.specs.Verdict.{Round, asks_of, is_event, ready_of}
+use Rattle.noc_alloc.specs.Arbiter.{pointers_of}
 use Rattle.noc_router.specs.View.{PlanContents, View, finding_of, plan_contents, route_of, size_of, view_round, view_stands}
 use Rattle.noc_router.proofs.StandLemmas.{asks_of-stands}
 use Rattle.noc_router.proofs.WholeLemmas.{size_view}

@@ -11,7 +11,7 @@ use Rattle.noc_router.specs.declared.links.Links.{Links}
 use Rattle.noc_router.specs.declared.router.Router.TheInside.{Inside}
 use Rattle.noc_router.specs.Inside.{IsRouter}
 use Rattle.noc_router.specs.Links.{AreLoaded, is_idle_beat}
-use Rattle.noc_router.specs.Members.{AreBelow}
+use Rattle.noc_alloc.specs.Places.{AreBelow}
 use Rattle.noc_router.specs.Settled.{with_credit_at, with_flit_at}
 use Rattle.noc_router.specs.View.{idle_beat}
 

@@ -12,7 +12,7 @@ use Rattle.noc_router.specs.declared.router.Router.TheInside.{Inside}
 use Rattle.noc_router.specs.Inside.{IsRouter, view_of}
 use Rattle.noc_router.specs.Tally.{TallyContents}
 use Rattle.noc_router.specs.View.{local_channel}
-use Rattle.noc_router.specs.Members.{AreBelow}
+use Rattle.noc_alloc.specs.Places.{AreBelow}
 use Rattle.noc_router.specs.Parts.{ChannelStates, states_after_land, states_in}
 use Rattle.noc_router.specs.Sound.{is_awaiting, nth_input, KeepsAwaiting}
 

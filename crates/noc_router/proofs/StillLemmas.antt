@@ -10,7 +10,7 @@ use Rattle.noc_topo.specs.Words.{below, tabulate, map_indexed, is_some_of}
 use Rattle.noc_topo.specs.Shape.{ports, local_port}
 use Rattle.noc_topo.proofs.WordLemmas.{get_or-map_indexed, get_or-tabulate, length-map_indexed, length-tabulate, map_indexed-from_each, tabulate-from_each}
 use Rattle.noc_route.specs.Routes.{Routes}
-use Rattle.noc_alloc.specs.Arbiter.{RoundRobin, arbiter_after}
+use Rattle.noc_alloc.specs.Arbiter.{RoundRobin, arbiter_after, pointers_of}
 use Rattle.noc_alloc.specs.Allocation.{has_won, arbiters_after_winners, winning_pick, winner_of, picked_port}
 use Rattle.noc_alloc.proofs.ArbiterLemmas.{first_in_turn-picks}
 use Rattle.noc_alloc.proofs.WordLemmas.{is_some_of-true}
@@ -19,8 +19,9 @@ use Rattle.noc_vc.specs.Output.{ejection_output}
 use Rattle.noc_packet.specs.Set.{has_bit}
 use Rattle.noc_router.specs.Settled.{planned_verdict}
 use Rattle.noc_router.specs.Still.{takes_effect}
-use Rattle.noc_router.specs.Tally.{empty_finding, finding_at}
-use Rattle.noc_router.specs.Verdict.{arbiters_after, is_event, is_moved, out_of, pointers_of, ready_of}
+use Rattle.noc_router.specs.Found.{empty_finding}
+use Rattle.noc_router.specs.Tally.{finding_at}
+use Rattle.noc_router.specs.Verdict.{arbiters_after, is_event, is_moved, out_of, ready_of}
 use Rattle.noc_router.specs.View.{View, Decisions, PlanContents, plan_contents, finding_of, beat_out, buffer_after, view_after_commit, counts_after, decided_verdict, first_flit, flit_out, has_event, held_by, idle_beat, idle_beats, input_after, mover, mover_to, output_after, decisions_of, size_of, spent_by, view_claim, view_round, view_stands}
 use Rattle.noc_router.specs.declared.verdict.Verdict.{Verdict}
 use Rattle.noc_router.specs.declared.verdict.Verdict.TheVariants.{Empty, Granted, Moved}

@@ -18,10 +18,11 @@ use Rattle.noc_router.specs.declared.verdict.Verdict.{Verdict}
 use Rattle.noc_router.specs.declared.verdict.Verdict.TheVariants.{Empty, Routed, Granted, Moved, NoFlit, NoIdleChannel, LostChannel, NoCredit, LostInput, LostSwitch}
 use Rattle.noc_router.specs.declared.verdict.Finding.{Finding}
 use Rattle.noc_counts.specs.Counts.{one_at, one_if, with_sets}
-use Rattle.noc_router.specs.Members.{AreBelow}
+use Rattle.noc_alloc.specs.Places.{AreBelow}
 use Rattle.noc_router.specs.Settled.{finding_by, planned_verdict}
 use Rattle.noc_router.specs.Sound.{is_occupied, finding_with, nth_input, out_in}
-use Rattle.noc_router.specs.Tally.{AreCounted, AreFindings, empty_finding, finding_at, is_empty_verdict}
+use Rattle.noc_router.specs.Tally.{AreCounted, AreFindings, finding_at, is_empty_verdict}
+use Rattle.noc_router.specs.Found.{empty_finding}
 use Rattle.noc_router.specs.Verdict.{column}
 use Rattle.noc_router.specs.View.{Decisions, PlanContents, decided_verdict}
 use Rattle.noc_router.proofs.CountLemmas.{sets-risen}

@@ -1,7 +1,8 @@
 -- One round of a switch of three ports with two virtual channels each.
 use Rattle.std.proofs.Common.{◌≡◌, ℕ, true, false, List, [], ◌∷◌, Some, None, refl}
 use Rattle.noc_topo.specs.Words.{below, tabulate, map_indexed, least_by}
-use Rattle.noc_router.specs.Verdict.{ArbiterStates, Unrouted, Waits, Holds, Stand, round_of, verdict_of, arbiters_after, pointers_of, opening_arbiters, first_in_turn}
+use Rattle.noc_router.specs.Verdict.{ArbiterStates, Unrouted, Waits, Holds, Stand, round_of, verdict_of, arbiters_after, opening_arbiters, first_in_turn}
+use Rattle.noc_alloc.specs.Arbiter.{pointers_of}
 use Rattle.noc_router.specs.declared.verdict.Verdict.{Verdict}
 use Rattle.noc_router.specs.declared.verdict.Verdict.TheVariants.{Empty, Granted, Moved, NoFlit, NoIdleChannel, LostChannel, NoCredit, LostInput, LostSwitch}
 

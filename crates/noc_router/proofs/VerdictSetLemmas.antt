@@ -12,7 +12,8 @@ use Rattle.noc_vc.specs.declared.input.InputState.{InputState}
 use Rattle.noc_vc.specs.declared.input.InputState.TheVariants.{Idle, Waiting, Active}
 use Rattle.noc_counts.specs.Counts.{one_at, one_if}
 use Rattle.noc_router.specs.Planned.{IsPlan, plan_contents_in}
-use Rattle.noc_router.specs.Requests.{AreAmong, is_given}
+use Rattle.noc_router.specs.Requests.{AreAmong}
+use Rattle.noc_alloc.specs.Requests.{is_given}
 use Rattle.noc_router.specs.Sound.{is_supplied}
 use Rattle.noc_router.specs.Standing.{IsStanding, is_won_from}
 use Rattle.noc_router.specs.Verdict.{Round, Unrouted, Waits, Holds, ask_of, column, is_event, is_granted, is_moved, verdict_of}

@@ -4,7 +4,8 @@ use Rattle.noc_packet.specs.declared.limits.TheConstants.{MAX_CHANNELS, MAX_PORT
 use Rattle.noc_topo.specs.Words.{tabulate}
 use Rattle.noc_alloc.specs.Allocation.{grant_of}
 use Rattle.noc_router.specs.Places.{sets_of}
-use Rattle.noc_router.specs.Verdict.{ArbiterStates, Round, arbiters_after, pointers_of}
+use Rattle.noc_router.specs.Verdict.{ArbiterStates, Round, arbiters_after}
+use Rattle.noc_alloc.specs.Arbiter.{pointers_of}
 use Rattle.noc_router.specs.declared.arbiters.Arbiters.{Arbiters}
 use Rattle.noc_router.specs.declared.requests.Requests.{Requests}
 

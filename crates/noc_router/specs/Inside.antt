@@ -7,7 +7,7 @@ use Rattle.noc_packet.specs.declared.limits.TheConstants.{MAX_CHANNELS}
 use Rattle.noc_topo.specs.Shape.{IsGrid, nodes, ports, local_port, neighbour}
 use Rattle.noc_router.specs.declared.router.Router.TheInside.{Inside}
 use Rattle.noc_router.specs.declared.source.Source.{Source}
-use Rattle.noc_router.specs.Members.{AreBelow}
+use Rattle.noc_alloc.specs.Places.{AreBelow}
 use Rattle.noc_router.specs.Queue.{queue_from, sending_from}
 use Rattle.noc_router.specs.Sound.{is_awaiting}
 use Rattle.noc_router.specs.View.{View}

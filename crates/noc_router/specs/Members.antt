@@ -2,7 +2,6 @@
 use Rattle.std.specs.Prelude.{ℕ, Bool, true, nat_lt}
 use Rattle.noc_vc.specs.declared.input.InputState.{InputState}
 use Rattle.noc_vc.specs.declared.input.InputState.TheVariants.{Idle, Waiting, Active}
-pub use Rattle.noc_alloc.specs.Places.{AreBelow}
 
 -- the output channel that a packet owns, if it owns one, is below n
 abbrev pub is_within : ℕ → InputState → Bool

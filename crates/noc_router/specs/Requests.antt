@@ -1,7 +1,6 @@
 -- Lists of requests and winners.
 use Rattle.std.specs.Prelude.{◌≡◌, ℕ, ◌<◌, true, List, slice_index_or, if◌then◌else◌}
 use Rattle.noc_packet.specs.Set.{has_bit}
-pub use Rattle.noc_alloc.specs.Requests.{AllBelow, is_given}
 
 -- each entry of the list is that of the function, but those of the members of the set are not there yet
 abbrev pub IsFilled : {X : Type 0} → ℕ → ℕ → X → (ℕ → X) → List X → Type 0

@@ -9,7 +9,8 @@ use Rattle.noc_vc.specs.declared.input.InputState.{InputState}
 use Rattle.noc_vc.specs.declared.input.InputState.TheVariants.{Idle, Waiting, Active}
 use Rattle.noc_vc.specs.declared.output.OutputState.{OutputState}
 use Rattle.noc_vc.specs.declared.output.OutputState.TheVariants.{Idle as Free, Owned, Draining}
-use Rattle.noc_router.specs.Members.{AreBelow, is_within}
+use Rattle.noc_alloc.specs.Places.{AreBelow}
+use Rattle.noc_router.specs.Members.{is_within}
 use Rattle.noc_router.specs.declared.channels.Standing.{Standing}
 use Rattle.noc_router.specs.declared.verdict.Verdict.{Verdict}
 use Rattle.noc_router.specs.declared.verdict.Finding.{Finding}

@@ -8,7 +8,7 @@ use Rattle.noc_alloc.specs.Arbiter.{pointers_of}
 use Rattle.noc_vc.specs.Input.{is_active, is_empty, is_idle_phase, is_waiting}
 use Rattle.noc_vc.specs.declared.input.InputState.{InputState}
 use Rattle.noc_vc.specs.declared.input.InputState.TheVariants.{Idle, Waiting, Active}
-use Rattle.noc_router.specs.Members.{AreBelow}
+use Rattle.noc_alloc.specs.Places.{AreBelow}
 use Rattle.noc_router.specs.Sound.{AreStanding, is_supplied}
 use Rattle.noc_router.specs.Verdict.{Round, asks_of, is_event, ready_of}
 use Rattle.noc_router.specs.VerdictSets.{sets_with, verdict_by}

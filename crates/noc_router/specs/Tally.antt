@@ -3,12 +3,12 @@ use Rattle.std.specs.Prelude.{◌≡◌, ℕ, zero, suc, ◌+◌, ◌-◌, ◌^�
 use Rattle.noc_packet.specs.Set.{has_bit}
 use Rattle.noc_topo.specs.Words.{map_indexed}
 use Rattle.noc_ring.specs.Buffers.{buffer_at}
-pub use Rattle.noc_router.specs.Found.{empty_finding}
+use Rattle.noc_router.specs.Found.{empty_finding}
 use Rattle.noc_router.specs.declared.verdict.Verdict.{Verdict}
 use Rattle.noc_router.specs.declared.verdict.Verdict.TheVariants.{Empty}
 use Rattle.noc_router.specs.declared.channels.Channels.{Channels}
 use Rattle.noc_router.specs.declared.verdict.Finding.{Finding}
-use Rattle.noc_router.specs.Members.{AreBelow}
+use Rattle.noc_alloc.specs.Places.{AreBelow}
 use Rattle.noc_router.specs.Settled.{planned_verdict}
 use Rattle.noc_router.specs.Sound.{nth_input, is_occupied}
 use Rattle.noc_router.specs.Verdict.{column}

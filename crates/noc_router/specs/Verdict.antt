@@ -2,7 +2,7 @@
 -- Both the state of the whole network and the view of one router are read by these definitions.
 use Rattle.std.specs.Prelude.{ℕ, ◌*◌, ◌/◌, ◌%◌, Bool, true, false, List, map, replicate, Option, Some, None, slice_index_or, if◌then◌else◌}
 use Rattle.noc_topo.specs.Words.{tabulate, is_some_of}
-pub use Rattle.noc_alloc.specs.Arbiter.{RoundRobin, pointers_of}
+use Rattle.noc_alloc.specs.Arbiter.{RoundRobin, pointers_of}
 unfoldable pub use Rattle.noc_alloc.specs.Arbiter.{first_in_turn}
 use Rattle.noc_alloc.specs.Allocation.{grant_of, pick_of, winner_of, winning_pick, arbiters_after_winners}
 use Rattle.noc_router.specs.declared.verdict.Verdict.{Verdict}

@@ -14,7 +14,8 @@ ghost use Rattle.noc_packet.specs.declared.limits.TheConstants.{INDICES};
 ghost use Rattle.noc_ring.specs.Buffers.{empty_buffers, buffer_at, buffers_after_pop};
 ghost use Rattle.noc_vc.specs.Input.{idle_input, is_idle_phase, is_waiting, is_empty, fits, input_after_route, input_after_grant, input_after_send};
 ghost use Rattle.noc_vc.specs.Output.{ejection_output, link_output, is_free, is_owned, has_credit, credit_fits, output_after_credit, output_after_hold, output_after_spend};
-ghost use Rattle.noc_router.specs.Members.{AreBelow, is_within};
+ghost use Rattle.noc_alloc.specs.Places.{AreBelow};
+ghost use Rattle.noc_router.specs.Members.{is_within};
 ghost use Rattle.noc_router.specs.Sound.{nth_input, nth_output, is_occupied, CanHold, CanInject, CanRoute, CanSend, KeepsAwaiting, AreSound, AreStanding, asked_in, finding_with};
 
 use crate::indices::Indices;

@@ -3,8 +3,9 @@
 ghost use Rattle.std.specs.Prelude.{◌≡◌, ℕ, ◌<◌, ◌&&◌, not, None, IfOk, false, if◌then◌else◌, length, replicate, slice_index_or};
 ghost use Rattle.noc_packet.specs.Set.{has_bit};
 ghost use Rattle.noc_topo.specs.Words.{tabulate};
-ghost use Rattle.noc_router.specs.Tally.{IsPlanOf, empty_finding, finding_at};
-ghost use Rattle.noc_router.specs.Members.{AreBelow};
+ghost use Rattle.noc_router.specs.Tally.{IsPlanOf, finding_at};
+ghost use Rattle.noc_router.specs.Found.{empty_finding};
+ghost use Rattle.noc_alloc.specs.Places.{AreBelow};
 ghost use Rattle.noc_router.specs.Settled.{finding_by};
 ghost use Rattle.noc_router.specs.Sound.{nth_input, finding_with};
 

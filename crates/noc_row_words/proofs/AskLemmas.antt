@@ -9,7 +9,7 @@ use Rattle.noc_alloc.proofs.ArbiterLemmas.{first_in_turn-same}
 use Rattle.noc_packet.specs.Set.{has_bit, IsLeast}
 use Rattle.noc_packet.proofs.SetLemmas.{both_members, has_bit-zero}
 use Rattle.noc_vc.specs.Output.{is_free}
-use Rattle.noc_router.specs.Members.{AreBelow}
+use Rattle.noc_alloc.specs.Places.{AreBelow}
 use Rattle.noc_router.specs.View.{View, size_of, view_output, asked_for, local_channel, is_vacant}
 use Rattle.noc_router.proofs.FindLemmas.{find-below, find-none}
 use Rattle.noc_row_words.proofs.BitLemmas.{and_fits, least_is}

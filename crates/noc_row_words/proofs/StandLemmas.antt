@@ -16,8 +16,8 @@ use Rattle.noc_vc.specs.Input.{is_active, is_waiting, is_idle_phase, is_empty}
 use Rattle.noc_vc.specs.Output.{has_credit}
 use Rattle.noc_vc.specs.declared.input.InputState.{InputState}
 use Rattle.noc_vc.specs.declared.input.InputState.TheVariants.{Idle, Waiting, Active}
-use Rattle.noc_router.specs.Members.{AreBelow}
-use Rattle.noc_router.specs.Requests.{is_given}
+use Rattle.noc_alloc.specs.Places.{AreBelow}
+use Rattle.noc_alloc.specs.Requests.{is_given}
 use Rattle.noc_router.specs.Sound.{is_supplied}
 use Rattle.noc_router.specs.Standing.{IsStanding, is_won_from}
 use Rattle.noc_router.specs.Verdict.{Holds, ask_of, ready_of, ready_port}

@@ -11,7 +11,7 @@ use Rattle.noc_packet.specs.Set.{has_bit, IsLeast}
 use Rattle.noc_packet.proofs.SetLemmas.{both_members, either_members, has_bit-zero}
 use Rattle.noc_alloc.specs.Arbiter.{first_in_turn}
 use Rattle.noc_alloc.proofs.ArbiterLemmas.{first_in_turn-at, first_in_turn-before, first_in_turn-none}
-use Rattle.noc_router.specs.Members.{AreBelow}
+use Rattle.noc_alloc.specs.Places.{AreBelow}
 use Rattle.noc_row_words.specs.Bits.{minus, lowest}
 use Rattle.noc_row_words.specs.Fields.{ShowsPointer}
 use Rattle.noc_row_words.specs.Turns.{first_bit, mask_past}

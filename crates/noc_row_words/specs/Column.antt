@@ -10,7 +10,7 @@ use Rattle.noc_vc.specs.declared.input.InputState.{InputState}
 use Rattle.noc_vc.specs.declared.input.InputState.TheVariants.{Idle, Waiting, Active}
 use Rattle.noc_vc.specs.declared.output.OutputState.{OutputState}
 use Rattle.noc_vc.specs.declared.output.OutputState.TheVariants.{Idle as Free, Owned, Draining}
-use Rattle.noc_router.specs.Members.{AreBelow}
+use Rattle.noc_alloc.specs.Places.{AreBelow}
 use Rattle.noc_router.specs.Sound.{is_supplied, owns, is_owned_from}
 use Rattle.noc_router.specs.View.{Site, View, size_of, local_channel, view_buffer, view_input, view_output}
 use Rattle.noc_packet.specs.declared.packet.Beat.{Beat}

@@ -7,7 +7,7 @@ use Rattle.noc_packet.specs.Set.{has_bit}
 use Rattle.noc_alloc.specs.Arbiter.{arbiter_at}
 use Rattle.noc_vc.specs.declared.input.InputState.{InputState}
 use Rattle.noc_vc.specs.declared.input.InputState.TheVariants.{Active}
-use Rattle.noc_router.specs.Requests.{is_given}
+use Rattle.noc_alloc.specs.Requests.{is_given}
 use Rattle.noc_router.specs.Verdict.{arbiters_after, ask_of}
 use Rattle.noc_router.specs.View.{View, size_of, view_claim, view_input, view_round}
 use Rattle.noc_row_words.specs.Bits.{less, plus}

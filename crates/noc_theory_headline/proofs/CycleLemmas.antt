@@ -4,7 +4,8 @@ use Rattle.noc_topo.specs.Words.{Has}
 use Rattle.noc_route.specs.Channel.{Channel}
 use Rattle.noc_theory.specs.Network.{Setup, all_inputs, frozen_at}
 use Rattle.noc_theory.specs.Good.{IsGoodSetup}
-use Rattle.noc_theory.proofs.worms.NetworkLemmas.{out-at, worm_order-at, worm_order-frozen_at, credit-at, frozen_credit-at}
+use Rattle.noc_theory.proofs.worms.NetworkLemmas.{out-at, frozen_credit-at}
+use Rattle.noc_theory.proofs.worms.WormOrderLemmas.{worm_order-at, worm_order-frozen_at, credit-at}
 use Rattle.noc_theory.proofs.join.OrderedStateLemmas.{ordered-frozen}
 use Rattle.noc_theory.proofs.join.PlaceViewLemmas.{input-at, arriving-at, same-place}
 use Rattle.noc_theory.proofs.join.LockstepTheoremLemmas.{good-network}

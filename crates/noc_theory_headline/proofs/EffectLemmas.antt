@@ -10,12 +10,12 @@ use Rattle.noc_router.specs.declared.verdict.Verdict.TheVariants.{Granted, Moved
 use Rattle.noc_theory.specs.Network.{Setup, State, Located, Place, On, In, Out, leaving, owner_of, next_channel, place_of_flit, after_verdicts, all_inputs, granted_pair, grant_to_owner, is_released, verdict_in, end_of, is_in, gone_to}
 use Rattle.noc_theory.proofs.worms.BufferLemmas.{same_channel-refl}
 use Rattle.noc_theory.proofs.worms.GrantLemmas.{is_granted-true, once-after_verdicts}
-use Rattle.noc_theory.proofs.worms.PathLemmas.{IsEject}
+use Rattle.noc_theory.proofs.worms.StateWordLemmas.{IsEject, IsPlaced}
 use Rattle.noc_theory.proofs.worms.MemberLemmas.{Has-append, Has-filter, Has-filter_map, Has-filter_mapped, Has-right, find-some}
 use Rattle.noc_theory.proofs.worms.MoveLemmas.{IsFirst, IsMoving, IsStaying, moved-or-not, first-is, next-no-eject, placed-in}
 use Rattle.noc_theory.proofs.worms.OwnedLemmas.{owner-has, owner-is, idle-none, once-same}
-use Rattle.noc_theory.proofs.worms.PlaceLemmas.{IsValid, flit-there}
-use Rattle.noc_theory.proofs.worms.StateWordLemmas.{IsPlaced}
+use Rattle.noc_theory.specs.Good.{IsValid}
+use Rattle.noc_theory.proofs.worms.PlaceLemmas.{flit-there}
 use Rattle.noc_theory.proofs.join.OrderedLemmas.{IsGood, IsOrderedFrozen}
 use Rattle.noc_theory.proofs.join.PlaceViewLemmas.{IsAt, input-at, arriving-at, arrives-in, begins-at}
 use Rattle.noc_theory_headline.specs.Effects.{IsGrantedTo, IsSentOn}

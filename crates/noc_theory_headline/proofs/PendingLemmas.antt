@@ -11,7 +11,8 @@ use Rattle.noc_router.specs.declared.verdict.Verdict.TheVariants.{Empty, Routed,
 use Rattle.noc_theory.specs.Network.{Setup, State, Injection, Located, Place, Source, On, In, Out, after_landing, after_credits, injections, all_inputs, arrival_in, out_cycle, packet_at, tail_place, state_at, frozen_at, verdict_in}
 use Rattle.noc_theory.specs.Progress.{events, is_flying, is_pending}
 use Rattle.noc_theory.specs.Good.{IsGoodSetup}
-use Rattle.noc_theory.proofs.worms.NetworkLemmas.{mid_at, whole-at}
+use Rattle.noc_theory.proofs.worms.NetworkLemmas.{mid_at}
+use Rattle.noc_theory.proofs.worms.WormOrderLemmas.{whole-at}
 use Rattle.noc_theory.proofs.worms.MemberLemmas.{list_any-from}
 use Rattle.noc_theory.proofs.worms.OpeningLemmas.{below-has}
 use Rattle.noc_theory.proofs.worms.PlaceLemmas.{place-of-flit}

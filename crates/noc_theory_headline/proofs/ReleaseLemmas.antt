@@ -11,9 +11,10 @@ use Rattle.noc_theory.proofs.worms.BufferLemmas.{same_channel-refl, same_channel
 use Rattle.noc_theory.proofs.worms.GrantLemmas.{granted-is, once-after_verdicts}
 use Rattle.noc_theory.proofs.worms.MemberLemmas.{Has-append, Has-filter, Has-filter_map, Has-kept, Has-left, list_any-from, list_any-has}
 use Rattle.noc_theory.proofs.worms.OwnedLemmas.{has-of, of-has, owner-has, owner-is}
-use Rattle.noc_theory.proofs.worms.PlaceLemmas.{IsValid}
+use Rattle.noc_theory.specs.Good.{IsValid}
 use Rattle.noc_theory.proofs.worms.VerdictPhaseLemmas.{leaves-tail, tail-of}
-use Rattle.noc_theory.proofs.worms.WormRecordLemmas.{last_of, valid-last}
+use Rattle.noc_theory.proofs.worms.StateWordLemmas.{last_of}
+use Rattle.noc_theory.proofs.worms.WormRecordLemmas.{valid-last}
 use Rattle.noc_theory.proofs.join.OrderedLemmas.{IsGood, IsOrderedFrozen}
 use Rattle.noc_theory.proofs.injection.SourceLemmas.{same-owner}
 use Rattle.noc_theory_headline.specs.Effects.{IsLeftBy, IsSentOn}

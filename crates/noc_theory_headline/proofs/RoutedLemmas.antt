@@ -8,11 +8,11 @@ use Rattle.noc_router.specs.Verdict.{is_routed, is_moved}
 use Rattle.noc_router.specs.declared.verdict.Verdict.{Verdict}
 use Rattle.noc_router.specs.declared.verdict.Verdict.TheVariants.{Routed, Moved}
 use Rattle.noc_theory.specs.Network.{Setup, State, In, all_inputs, tail_leaves, verdict_in, after_verdicts}
-use Rattle.noc_theory.proofs.worms.BufferLemmas.{is_moved-true}
+use Rattle.noc_router.proofs.SettleLemmas.{is_moved-true}
 use Rattle.noc_theory.proofs.worms.MemberLemmas.{Has-append, Has-filter, Has-kept, Has-left, Has-right}
 use Rattle.noc_theory.proofs.worms.OwnedLemmas.{owner-has, owner-is}
 use Rattle.noc_theory.proofs.worms.VerdictPhaseLemmas.{tail-of}
-use Rattle.noc_theory.proofs.worms.WormRecordLemmas.{last_of}
+use Rattle.noc_theory.proofs.worms.StateWordLemmas.{last_of}
 use Rattle.noc_theory.proofs.worms.RoutedVerdictLemmas.{has-channel, channel-has, is_routed-true}
 use Rattle.noc_theory.proofs.join.OrderedLemmas.{IsGood, IsOrderedFrozen}
 use Rattle.noc_theory.proofs.join.PlaceViewLemmas.{IsAt, arrives-in}

@@ -7,24 +7,27 @@ use Rattle.std.proofs.lemmas.Option.{none-some, same_Some}
 use Rattle.noc_topo.specs.Words.{Has, below}
 use Rattle.noc_topo.specs.Shape.{nodes}
 use Rattle.noc_route.specs.Channel.{Channel, Link, Inject, Eject, is_link, same_channel}
-use Rattle.noc_theory.specs.Good.{IsGoodSetup}
+use Rattle.noc_theory.specs.Good.{IsGoodSetup, IsValid}
 use Rattle.noc_theory.specs.Network.{Setup, State, Injection, Located, Place, Source, On, In, Out, after_credits, after_injection, after_landing, count_in, first_waiting, flits_of, frozen_state, frozen_at, injection_at, injection_with, injections, is_at_source, is_freed, is_idle, is_injection_of, is_on, is_past, landed_place, owned_by, owner_of, packet_at, place_of_flit, state_at, tail_place}
 use Rattle.noc_theory.proofs.worms.BuiltLemmas.{good-built, good-wired}
 use Rattle.noc_theory.proofs.worms.BuiltRecordLemmas.{IsBuilt}
 use Rattle.noc_theory.proofs.worms.BufferLemmas.{find-passes}
-use Rattle.noc_theory.proofs.worms.NetworkLemmas.{mid_at, whole-at, whole-frozen_at, whole-mid_at, worm_order-at}
-use Rattle.noc_theory.proofs.worms.FirstOfNodeLemmas.{Precedes, waiting-first}
+use Rattle.noc_theory.proofs.worms.NetworkLemmas.{mid_at, whole-mid_at}
+use Rattle.noc_theory.proofs.worms.WormOrderLemmas.{whole-at, whole-frozen_at, worm_order-at}
+use Rattle.noc_theory.proofs.worms.StateWordLemmas.{Precedes, last_of}
+use Rattle.noc_theory.proofs.worms.FirstOfNodeLemmas.{waiting-first}
 use Rattle.noc_theory.proofs.worms.GrantLemmas.{Has-below, IsWired}
 use Rattle.noc_theory.proofs.worms.InjectionPhaseLemmas.{IsInjected, apart-same, new-entry, two-injects}
 use Rattle.noc_theory.proofs.worms.InjectionStateLemmas.{entries-apart, entries-are, entries-move, injection_of-is, waiting-is}
 use Rattle.noc_theory.proofs.worms.MemberLemmas.{Has-append, Has-filter, Has-filter_map, Has-filter_mapped, Has-kept, Has-left, Has-mapped, Has-right, find-fails, find-has, list_any-from}
 use Rattle.noc_theory.proofs.worms.OpeningLemmas.{below-has}
-use Rattle.noc_theory.proofs.worms.OptionLemmas.{and_then-some, cond-some, is_none-none}
+use Rattle.noc_theory.proofs.worms.OptionLemmas.{and_then-some, cond-some}
+use Rattle.noc_route.proofs.OptionLemmas.{is_none-none}
 use Rattle.noc_theory.proofs.worms.OwnedLemmas.{has-of, idle-none, of-has, owner-has, owner-is}
-use Rattle.noc_theory.proofs.worms.PlaceLemmas.{IsValid, flit-there, place-stepped}
+use Rattle.noc_theory.proofs.worms.PlaceLemmas.{flit-there, place-stepped}
 use Rattle.noc_theory.proofs.worms.RoomLemmas.{landed-count}
 use Rattle.noc_theory.proofs.worms.SoundLemmas.{IsSoundFrozen, IsSoundState}
-use Rattle.noc_theory.proofs.worms.WormRecordLemmas.{last_of, source-landed, valid-last}
+use Rattle.noc_theory.proofs.worms.WormRecordLemmas.{source-landed, valid-last}
 use Rattle.noc_theory.proofs.budget.HasLemmas.{least-some}
 use Rattle.noc_theory.proofs.budget.WormLemmas.{filter-none}
 use Rattle.noc_theory_headline.specs.Effects.{Begins, GoesOnAt, HasPassed, IsFirstOfNode, IsNextFlit, entry_channel}

@@ -33,7 +33,7 @@ use Rattle.noc_theory.proofs.join.OrderedStateLemmas.{ordered-frozen}
 use Rattle.noc_theory.proofs.join.PlaceViewLemmas.{arriving-at}
 use Rattle.noc_theory.proofs.join.CoreOpeningLemmas.{opening-is}
 use Rattle.noc_theory.proofs.join.LockstepTheoremLemmas.{good-network, lockstep-is_state}
-use Rattle.noc_theory.proofs.worms.NetworkLemmas.{worm_order-at}
+use Rattle.noc_theory.proofs.worms.WormOrderLemmas.{worm_order-at}
 use Rattle.noc_theory_headline.specs.Headline.{IsInputOf, AsksForChannel, GoesOnBy}
 use Rattle.noc_theory_headline.specs.Steps.{IsBufferIn, IsFoundIn, IsRightCore, IsRightRouter, IsRightWire, beat_in, beats_of}
 use Rattle.noc_theory_headline.proofs.ClaimLemmas.{Case, off, all_taken, asks, goes, case-of, claim-goes}

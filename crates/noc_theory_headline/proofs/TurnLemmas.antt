@@ -6,7 +6,8 @@ use Rattle.std.proofs.Math.Nat.{mod-eq_of_lt, add-mod_right}
 use Rattle.noc_topo.specs.Words.{below}
 use Rattle.noc_alloc.specs.Arbiter.{distance_in_turn, first_in_turn}
 use Rattle.noc_alloc.proofs.ArbiterLemmas.{first_in_turn-picks, nearest-is}
-use Rattle.noc_theory.proofs.worms.FirstOfNodeLemmas.{Precedes, least_by-first}
+use Rattle.noc_theory.proofs.worms.StateWordLemmas.{Precedes}
+use Rattle.noc_theory.proofs.worms.FirstOfNodeLemmas.{least_by-first}
 use Rattle.noc_theory.proofs.worms.MemberLemmas.{Has-kept, Pairs-filter}
 use Rattle.noc_theory.proofs.worms.OpeningLemmas.{below-has, below-rises}
 use Rattle.noc_theory_headline.specs.Headline.{IsFirstInTurn}

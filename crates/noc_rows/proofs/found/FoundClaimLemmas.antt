@@ -10,7 +10,7 @@ use Rattle.noc_packet.proofs.SetLemmas.{both_members, has_bit-zero}
 use Rattle.noc_vc.specs.Input.{is_active, is_empty, is_idle_phase, is_waiting}
 use Rattle.noc_vc.specs.declared.input.InputState.{InputState}
 use Rattle.noc_vc.specs.declared.input.InputState.TheVariants.{Idle, Waiting, Active}
-use Rattle.noc_router.specs.Members.{AreBelow}
+use Rattle.noc_alloc.specs.Places.{AreBelow}
 use Rattle.noc_router.specs.Verdict.{out_of}
 use Rattle.noc_router.specs.View.{View, claim_in, port_and_vc, size_of, view_buffer, view_claim, view_input}
 use Rattle.noc_row_words.specs.Column.{IsColumn, ShowsPhase, place_of}

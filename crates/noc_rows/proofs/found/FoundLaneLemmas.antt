@@ -6,7 +6,7 @@ use Rattle.noc_topo.specs.Shape.{nodes}
 use Rattle.noc_packet.specs.declared.packet.Flit.{Flit}
 use Rattle.noc_vc.specs.Input.{is_empty}
 use Rattle.noc_router.specs.Found.{empty_finding}
-use Rattle.noc_router.specs.Members.{AreBelow}
+use Rattle.noc_alloc.specs.Places.{AreBelow}
 use Rattle.noc_router.specs.Verdict.{out_of}
 use Rattle.noc_router.specs.VerdictSets.{verdict_by}
 use Rattle.noc_router.specs.View.{Site, View, finding_of, port_and_vc, size_of, view_buffer, view_claim, view_input, view_round}

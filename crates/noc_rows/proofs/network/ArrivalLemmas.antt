@@ -16,7 +16,8 @@ use Rattle.noc_theory.proofs.injection.EntryLemmas.{Goes, goes, stays, goes_in}
 use Rattle.noc_theory.proofs.landing.LandLemmas.{landed-tail}
 use Rattle.noc_theory.proofs.join.OrderedStateLemmas.{ordered-state, ordered-mid, ordered-frozen}
 use Rattle.noc_theory.proofs.join.PhaseLemmas.{mid}
-use Rattle.noc_theory.proofs.worms.WormRecordLemmas.{last_of, valid-last}
+use Rattle.noc_theory.proofs.worms.StateWordLemmas.{last_of}
+use Rattle.noc_theory.proofs.worms.WormRecordLemmas.{valid-last}
 use Rattle.noc_rows.proofs.wiring.FrozenWireLemmas.{frozen_of}
 use Rattle.noc_rows.proofs.network.NetworkLemmas.{good, frozen-seen}
 use Rattle.noc_rows.proofs.network.NetworkMoveLemmas.{moves_at, moves-are}

@@ -6,11 +6,10 @@ use Rattle.noc_packet.specs.Packet.{flit_at}
 use Rattle.noc_packet.specs.declared.packet.Flit.{Flit}
 use Rattle.noc_router.specs.View.{Site, View, size_of, view_buffer}
 use Rattle.noc_theory.specs.declared.limits.TheConstants.{CYCLE_LIMIT}
-use Rattle.noc_theory.specs.Good.{IsGoodSetup}
+use Rattle.noc_theory.specs.Good.{IsGoodSetup, IsValid}
 use Rattle.noc_theory.specs.Lockstep.{seen_flits, view_at}
 use Rattle.noc_theory.specs.Network.{Setup, State, Located, size, arriving, packet_at, is_in, buffer_of, state_at, frozen_at}
 use Rattle.noc_theory.proofs.worms.MemberLemmas.{Has-filter, Has-map}
-use Rattle.noc_theory.proofs.worms.PlaceLemmas.{IsValid}
 use Rattle.noc_theory.proofs.join.OrderedStateLemmas.{ordered-mid}
 use Rattle.noc_theory.proofs.join.PhaseLemmas.{mid}
 use Rattle.noc_theory.proofs.join.ViewLemmas.{view_at-seen}

@@ -16,7 +16,7 @@ use Rattle.noc_packet.proofs.SetLemmas.{bit_at-true, bit_at-false, both_members,
 use Rattle.noc_alloc.specs.Arbiter.{RoundRobin, pointer_after, pointers_of, arbiter_at, arbiter_after}
 use Rattle.noc_vc.specs.declared.input.InputState.{InputState}
 use Rattle.noc_vc.specs.declared.input.InputState.TheVariants.{Idle, Waiting, Active}
-use Rattle.noc_router.specs.Members.{AreBelow}
+use Rattle.noc_alloc.specs.Places.{AreBelow}
 use Rattle.noc_router.specs.Standing.{is_won_from}
 use Rattle.noc_router.specs.Verdict.{arbiters_after, out_of}
 use Rattle.noc_router.specs.View.{View, size_of, view_input, view_claim, claim_in, view_round, first_flit, flit_out, is_tail, mover, mover_to}

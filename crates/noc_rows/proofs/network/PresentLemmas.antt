@@ -14,10 +14,11 @@ use Rattle.noc_theory.proofs.landing.ComeLemmas.{come-before, count-none, count-
 use Rattle.noc_theory.proofs.worms.InjectionRoomLemmas.{filter-none}
 use Rattle.noc_theory.proofs.join.OrderedLemmas.{IsGood}
 use Rattle.noc_theory.proofs.worms.OwnedLemmas.{owner-has, owner-is}
-use Rattle.noc_theory.proofs.worms.PathLemmas.{IsEject}
-use Rattle.noc_theory.proofs.worms.PlaceLemmas.{IsValid, flit-there, is_in-is, place-of-flit}
-use Rattle.noc_theory.proofs.worms.RoutedRecordLemmas.{IsHeld, entering-behind}
-use Rattle.noc_theory.proofs.worms.WormRecordLemmas.{IsPlaced, goal, last_of, far_of, heavy-not-past, valid-first, valid-last}
+use Rattle.noc_theory.proofs.worms.StateWordLemmas.{IsEject, IsHeld, IsPlaced, goal, last_of, far_of}
+use Rattle.noc_theory.specs.Good.{IsValid}
+use Rattle.noc_theory.proofs.worms.PlaceLemmas.{flit-there, is_in-is, place-of-flit}
+use Rattle.noc_theory.proofs.worms.RoutedRecordLemmas.{entering-behind}
+use Rattle.noc_theory.proofs.worms.WormRecordLemmas.{heavy-not-past, valid-first, valid-last}
 use Rattle.noc_rows.proofs.network.SteadyLemmas.{IsSteady}
 
 module _ (net : Setup) (good : IsGood net) (S : State) (x : IsSteady net good S) where

@@ -21,7 +21,8 @@ use Rattle.noc_vc.specs.declared.input.InputState.{InputState}
 use Rattle.noc_vc.specs.declared.input.InputState.TheVariants.{Idle, Waiting, Active}
 use Rattle.noc_router.specs.Arrivals.{is_expected_in, arrivals_after}
 use Rattle.noc_router.specs.Standing.{is_won_from}
-use Rattle.noc_router.specs.Verdict.{Claim, Round, out_of, pointers_of, ready_of, ready_port, is_moved}
+use Rattle.noc_router.specs.Verdict.{Claim, Round, out_of, ready_of, ready_port, is_moved}
+use Rattle.noc_alloc.specs.Arbiter.{pointers_of}
 use Rattle.noc_router.specs.declared.verdict.Verdict.{Verdict}
 use Rattle.noc_router.specs.declared.verdict.Verdict.TheVariants.{Moved, Empty, NoFlit, Routed, NoIdleChannel, LostChannel, Granted, NoCredit, LostInput, LostSwitch}
 use Rattle.noc_router.specs.View.{Site, View, size_of, view_buffer, view_input, view_output, view_claim, claim_in, view_round, view_stands, first_flit, flit_out, idle_beat, beat_out, mover, decisions_of, view_after_commit, decided_verdict, with_arrival, with_misfit, tail_packet}

@@ -20,13 +20,12 @@ use Rattle.noc_theory.proofs.worms.MemberLemmas.{Has-filter}
 use Rattle.noc_theory.proofs.worms.MoveLemmas.{IsNext, leads-end, far-link, far-eject, same-far}
 use Rattle.noc_theory.proofs.worms.NextLemmas.{next-from}
 use Rattle.noc_theory.proofs.worms.OwnedLemmas.{owner-has, owner-is}
-use Rattle.noc_theory.proofs.worms.PlaceLemmas.{IsKeyed}
-use Rattle.noc_theory.proofs.worms.RoutedRecordLemmas.{IsHeld, IsRoutedMid}
+use Rattle.noc_theory.proofs.worms.StateWordLemmas.{IsKeyed, IsHeld, IsRoutedMid, IsPlaced, goal, last_of, far_of}
 use Rattle.noc_theory.proofs.worms.RoutedStateLemmas.{IsCovered}
 use Rattle.noc_theory.proofs.worms.RoutedVerdictLemmas.{channel-has}
 use Rattle.noc_theory.proofs.worms.SourceOfLemmas.{has-source}
 use Rattle.noc_theory.proofs.worms.VerdictRoomLemmas.{none-on}
-use Rattle.noc_theory.proofs.worms.WormRecordLemmas.{IsWorm, IsPlaced, goal, last_of, far_of, valid-last}
+use Rattle.noc_theory.proofs.worms.WormRecordLemmas.{IsWorm, valid-last}
 use Rattle.noc_theory.proofs.verdicts.AfterHolderLemmas.{unowned-verdict}
 use Rattle.noc_theory.proofs.verdicts.AfterLemmas.{owned-kept}
 use Rattle.noc_theory.proofs.join.OrderedLemmas.{IsGood, IsOrdered, IsOrderedFrozen}

@@ -29,12 +29,12 @@ use Rattle.noc_theory.proofs.worms.InjectionRoomLemmas.{filter-none}
 use Rattle.noc_theory.proofs.worms.MemberLemmas.{Has-filter, find-has}
 use Rattle.noc_theory.proofs.worms.NextLemmas.{next-from}
 use Rattle.noc_theory.proofs.worms.OwnedLemmas.{owner-has, idle-none}
-use Rattle.noc_theory.proofs.worms.PathLemmas.{IsEject}
-use Rattle.noc_theory.proofs.worms.PlaceLemmas.{IsValid, flit-there, place-of-flit}
+use Rattle.noc_theory.proofs.worms.StateWordLemmas.{IsEject, Come, IsPlaced, goal, last_of}
+use Rattle.noc_theory.specs.Good.{IsValid}
+use Rattle.noc_theory.proofs.worms.PlaceLemmas.{flit-there, place-of-flit}
 use Rattle.noc_theory.proofs.worms.RoomLemmas.{filter-some, unowned-empty}
-use Rattle.noc_theory.proofs.worms.RoutedRecordLemmas.{Come}
 use Rattle.noc_theory.proofs.injection.SourceLemmas.{same-owner}
-use Rattle.noc_theory.proofs.worms.WormRecordLemmas.{IsPlaced, goal, last_of, valid-last, valid-first}
+use Rattle.noc_theory.proofs.worms.WormRecordLemmas.{valid-last, valid-first}
 use Rattle.noc_theory.proofs.join.OrderedLemmas.{IsGood}
 use Rattle.noc_theory.proofs.join.PlaceViewLemmas.{arriving-at, leaving-from, not-eject, OutputCase, ejects, links, output-case}
 use Rattle.noc_theory.specs.Seen.{IsSeen}

@@ -9,7 +9,7 @@ use Rattle.noc_packet.specs.Packet.{IsWithinLimits}
 use Rattle.noc_packet.specs.declared.packet.Packet.{Packet}
 use Rattle.noc_packet.specs.Set.{has_bit}
 use Rattle.noc_route.specs.Routes.{Routes}
-use Rattle.noc_router.specs.Members.{AreBelow}
+use Rattle.noc_alloc.specs.Places.{AreBelow}
 use Rattle.noc_router.specs.View.{View, opening_view, size_of}
 use Rattle.noc_theory.specs.Good.{IsGoodPacket, IsGoodSetup}
 use Rattle.noc_theory.specs.Lockstep.{beats_at, beats_in, ends_at, site_at, starts_at, starts_of, view_at}

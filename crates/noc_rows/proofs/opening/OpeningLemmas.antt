@@ -17,7 +17,7 @@ use Rattle.noc_vc.specs.declared.output.OutputState.TheVariants.{Idle as Free}
 use Rattle.noc_counts.specs.Counts.{one_if}
 use Rattle.noc_router.specs.Sound.{is_supplied}
 use Rattle.noc_router.specs.View.{Site, View, size_of, view_buffer, view_input, view_output, opening_view}
-use Rattle.noc_router.proofs.QuietLemmas.{at_replicate}
+use Rattle.noc_alloc.proofs.RequestLemmas.{at_replicate}
 use Rattle.noc_theory.specs.Good.{IsGoodSetup}
 use Rattle.noc_theory.specs.Lockstep.{site_at, starts_at, ends_at, view_at}
 use Rattle.noc_theory.specs.Network.{Setup}

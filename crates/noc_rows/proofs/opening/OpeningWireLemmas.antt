@@ -10,7 +10,7 @@ use Rattle.noc_packet.proofs.SetLemmas.{has_bit-zero}
 use Rattle.noc_packet.specs.declared.packet.Beat.{Beat}
 use Rattle.noc_packet.specs.declared.packet.Flit.{Flit}
 use Rattle.noc_router.specs.View.{View, size_of, idle_beat, view_buffer}
-use Rattle.noc_router.proofs.QuietLemmas.{at_replicate}
+use Rattle.noc_alloc.proofs.RequestLemmas.{at_replicate}
 use Rattle.noc_theory.specs.Good.{IsGoodSetup}
 use Rattle.noc_theory.specs.Lockstep.{beat_by, beats_at, beats_in, site_at, view_at}
 use Rattle.noc_theory.specs.Network.{Setup, opening_state, state_at}

@@ -17,8 +17,8 @@ use Rattle.noc_vc.specs.Input.{is_waiting}
 use Rattle.noc_vc.specs.Output.{is_free}
 use Rattle.noc_vc.specs.declared.input.InputState.{InputState}
 use Rattle.noc_vc.specs.declared.input.InputState.TheVariants.{Idle, Waiting, Active}
-use Rattle.noc_router.specs.Members.{AreBelow}
-use Rattle.noc_router.specs.Requests.{is_given}
+use Rattle.noc_alloc.specs.Places.{AreBelow}
+use Rattle.noc_alloc.specs.Requests.{is_given}
 use Rattle.noc_router.specs.Verdict.{ask_of, asks_of, arbiters_after}
 use Rattle.noc_router.specs.View.{View, size_of, claim_in, view_claim, view_input, view_output, view_round, view_stands}
 use Rattle.noc_router.proofs.FindLemmas.{find-some}

@@ -13,8 +13,8 @@ use Rattle.noc_route.specs.Routes.{Routes, IsRelation, width}
 use Rattle.noc_vc.specs.Output.{is_free}
 use Rattle.noc_vc.specs.declared.input.InputState.{InputState}
 use Rattle.noc_vc.specs.declared.input.InputState.TheVariants.{Idle, Waiting, Active}
-use Rattle.noc_router.specs.Members.{AreBelow}
-use Rattle.noc_router.specs.Requests.{is_given}
+use Rattle.noc_alloc.specs.Places.{AreBelow}
+use Rattle.noc_alloc.specs.Requests.{is_given}
 use Rattle.noc_router.specs.Verdict.{ask_of, arbiters_after}
 use Rattle.noc_router.specs.View.{Site, View, size_of, view_buffer, view_claim, view_input, view_output, view_round, route_of}
 use Rattle.noc_row_words.specs.Bits.{less}

@@ -10,7 +10,7 @@ use Rattle.noc_topo.proofs.WordLemmas.{get_or-tabulate, length-tabulate}
 use Rattle.noc_packet.specs.Set.{has_bit}
 use Rattle.noc_packet.proofs.SetLemmas.{has_bit-zero, zero_from_none}
 use Rattle.noc_route.specs.Routes.{Routes}
-use Rattle.noc_router.specs.Members.{AreBelow}
+use Rattle.noc_alloc.specs.Places.{AreBelow}
 use Rattle.noc_router.specs.Verdict.{is_event}
 use Rattle.noc_router.specs.View.{View, size_of, view_round, finding_of, decisions_of, has_event}
 use Rattle.noc_router.specs.declared.verdict.Finding.{Finding}

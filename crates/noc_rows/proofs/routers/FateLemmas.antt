@@ -15,7 +15,7 @@ use Rattle.noc_vc.specs.declared.input.InputState.{InputState}
 use Rattle.noc_vc.specs.declared.input.InputState.TheVariants.{Idle, Waiting, Active}
 use Rattle.noc_vc.specs.declared.output.OutputState.{OutputState}
 use Rattle.noc_vc.specs.declared.output.OutputState.TheVariants.{Idle as Free, Owned, Draining}
-use Rattle.noc_router.specs.Requests.{is_given}
+use Rattle.noc_alloc.specs.Requests.{is_given}
 use Rattle.noc_router.specs.Sound.{is_owned_from, is_supplied, owns}
 use Rattle.noc_router.specs.Verdict.{ask_of}
 use Rattle.noc_router.specs.declared.verdict.Verdict.{Verdict}

@@ -12,7 +12,7 @@ use Rattle.noc_vc.specs.declared.input.InputState.{InputState}
 use Rattle.noc_vc.specs.declared.input.InputState.TheVariants.{Idle, Waiting, Active}
 use Rattle.noc_vc.specs.declared.output.OutputState.{OutputState}
 use Rattle.noc_vc.specs.declared.output.OutputState.TheVariants.{Idle as Free, Owned, Draining}
-use Rattle.noc_router.specs.Requests.{is_given}
+use Rattle.noc_alloc.specs.Requests.{is_given}
 use Rattle.noc_router.specs.Verdict.{ask_of}
 use Rattle.noc_router.specs.View.{Site, View, size_of, view_buffer, view_claim, claim_in, view_input, view_output, view_round, first_flit, is_tail, mover_to, decisions_of, view_after_commit, held_by, spent_by, route_of}
 use Rattle.noc_row_words.specs.Column.{Column, IsColumn, RouterMarks, ShowsHolder, ShowsMarks, ShowsPhase, sends_by}

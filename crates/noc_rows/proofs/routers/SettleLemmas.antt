@@ -12,7 +12,7 @@ use Rattle.noc_route.specs.Routes.{Routes}
 use Rattle.noc_vc.specs.Output.{Output}
 use Rattle.noc_router.specs.Arrivals.{is_expected_in, arrivals_after}
 use Rattle.noc_counts.specs.Counts.{one_if}
-use Rattle.noc_router.specs.Members.{AreBelow}
+use Rattle.noc_alloc.specs.Places.{AreBelow}
 use Rattle.noc_router.specs.Sound.{is_supplied}
 use Rattle.noc_router.specs.Standing.{is_won_from}
 use Rattle.noc_router.specs.Verdict.{ArbiterStates, arbiters_after}

@@ -19,7 +19,7 @@ use Rattle.noc_router.specs.declared.verdict.Verdict.TheVariants.{Empty}
 use Rattle.noc_router.specs.View.{Site, View, size_of, view_buffer, view_input, idle_beat, idle_beats, view_after_take, view_after_takes_from, view_after_takes, with_flit, with_credit, view_after_inject_from, view_after_inject, decisions_of, view_after_commit, counts_after, local_step}
 use Rattle.noc_router.proofs.VacantLemmas.{vacant-committed, no_event}
 use Rattle.noc_theory.specs.declared.limits.TheConstants.{CYCLE_LIMIT}
-use Rattle.noc_theory.specs.Good.{IsGoodSetup}
+use Rattle.noc_theory.specs.Good.{IsGoodSetup, IsValid}
 use Rattle.noc_theory.specs.Halves.{IsSilent}
 use Rattle.noc_theory.specs.Lockstep.{beats_at, beats_in, seen_flits, seen_input, seen_phase_with, has_come, view_at, view_in}
 use Rattle.noc_theory.specs.Network.{Setup, State, Located, Place, Source, On, In, Out, size, arriving, packet_at, place_of_flit, tail_place, is_in, is_past, has_channel, next_channel, buffer_of, state_at}
@@ -27,11 +27,10 @@ use Rattle.noc_theory.specs.Progress.{weight, hops, head_place}
 use Rattle.noc_theory.specs.Unseen.{without_findings}
 use Rattle.noc_theory.proofs.worms.BufferLemmas.{same_channel-refl}
 use Rattle.noc_theory.proofs.worms.OwnedLemmas.{owner-has}
-use Rattle.noc_theory.proofs.worms.PathLemmas.{IsEject}
-use Rattle.noc_theory.proofs.worms.PlaceLemmas.{IsValid, is_in-is}
-use Rattle.noc_theory.proofs.worms.RoutedRecordLemmas.{IsHeld}
+use Rattle.noc_theory.proofs.worms.StateWordLemmas.{IsEject, IsHeld, IsPlaced, goal, last_of, far_of}
+use Rattle.noc_theory.proofs.worms.PlaceLemmas.{is_in-is}
 use Rattle.noc_theory.proofs.worms.UnmixedLemmas.{in-buffer}
-use Rattle.noc_theory.proofs.worms.WormRecordLemmas.{IsPlaced, goal, last_of, far_of, valid-last}
+use Rattle.noc_theory.proofs.worms.WormRecordLemmas.{valid-last}
 use Rattle.noc_theory.proofs.landing.ComeLemmas.{come-before}
 use Rattle.noc_theory.proofs.join.OrderedLemmas.{IsGood, IsOrdered}
 use Rattle.noc_theory.proofs.join.OrderedStateLemmas.{ordered-state}

@@ -11,7 +11,7 @@ use Rattle.noc_packet.specs.declared.packet.Beat.{Beat}
 use Rattle.noc_packet.specs.declared.packet.Flit.{Flit}
 use Rattle.noc_packet.specs.declared.packet.Packet.{Packet}
 use Rattle.noc_router.proofs.VacantLemmas.{vacant-counted}
-use Rattle.noc_router.specs.Members.{AreBelow}
+use Rattle.noc_alloc.specs.Places.{AreBelow}
 use Rattle.noc_router.specs.Still.{counted_times, view_after_waiting}
 use Rattle.noc_router.specs.Verdict.{column}
 use Rattle.noc_router.specs.View.{Site, View, size_of, counts_after, view_buffer}

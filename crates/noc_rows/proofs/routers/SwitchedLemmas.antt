@@ -14,7 +14,7 @@ use Rattle.noc_route.specs.Routes.{Routes}
 use Rattle.noc_vc.specs.Input.{is_active, is_empty, is_idle_phase}
 use Rattle.noc_vc.specs.declared.input.InputState.{InputState}
 use Rattle.noc_vc.specs.declared.input.InputState.TheVariants.{Idle, Waiting, Active}
-use Rattle.noc_router.specs.Members.{AreBelow}
+use Rattle.noc_alloc.specs.Places.{AreBelow}
 use Rattle.noc_router.specs.Sound.{is_supplied}
 use Rattle.noc_router.specs.Standing.{is_won_from}
 use Rattle.noc_router.specs.Verdict.{ask_of, out_of}

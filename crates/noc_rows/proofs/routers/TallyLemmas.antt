@@ -7,7 +7,7 @@ use Rattle.noc_packet.specs.Set.{has_bit}
 use Rattle.noc_packet.proofs.SetLemmas.{both_members, has_bit-zero}
 use Rattle.noc_alloc.specs.Arbiter.{arbiter_at}
 use Rattle.noc_counts.specs.Counts.{one_if}
-use Rattle.noc_router.specs.Members.{AreBelow}
+use Rattle.noc_alloc.specs.Places.{AreBelow}
 use Rattle.noc_router.specs.Standing.{is_won_from}
 use Rattle.noc_router.specs.View.{Site, View, first_flit, is_tail, local_channel, decisions_of, size_of, view_input, view_round}
 use Rattle.noc_theory.specs.declared.limits.TheConstants.{CYCLE_LIMIT}

@@ -15,7 +15,8 @@ use Rattle.noc_alloc.proofs.WordLemmas.{is_some_of-some}
 use Rattle.noc_vc.specs.Input.{is_empty}
 use Rattle.noc_vc.specs.declared.input.InputState.TheVariants.{Active}
 use Rattle.noc_router.specs.Still.{takes_effect}
-use Rattle.noc_router.specs.Verdict.{Claim, Holds, Stand, Unrouted, Waits, ask_of, asks_of, is_event, pointers_of, ready_of, ready_port, verdict_of}
+use Rattle.noc_router.specs.Verdict.{Claim, Holds, Stand, Unrouted, Waits, ask_of, asks_of, is_event, ready_of, ready_port, verdict_of}
+use Rattle.noc_alloc.specs.Arbiter.{pointers_of}
 use Rattle.noc_router.specs.View.{View, decided_verdict, decisions_of, size_of, view_buffer, view_claim, view_input, view_stand, view_stands}
 use Rattle.noc_router.specs.declared.verdict.Verdict.{Verdict}
 use Rattle.noc_router.specs.declared.verdict.Verdict.TheVariants.{Granted, LostChannel, LostInput, LostSwitch, Moved}

@@ -11,7 +11,8 @@ use Rattle.noc_topo.specs.Shape.{ports}
 use Rattle.noc_topo.specs.Words.{below, is_some_of, tabulate}
 use Rattle.noc_route.proofs.OptionLemmas.{some-value}
 use Rattle.noc_alloc.proofs.ArbiterLemmas.{first_in_turn-picks}
-use Rattle.noc_alloc.proofs.WordLemmas.{is_some_of-true, is_some_of-some, get_or-tabulate}
+use Rattle.noc_alloc.proofs.WordLemmas.{is_some_of-true, is_some_of-some}
+use Rattle.noc_topo.proofs.WordLemmas.{get_or-tabulate}
 use Rattle.noc_theory.proofs.worms.OptionLemmas.{and_then-some}
 use Rattle.noc_theory.proofs.worms.MemberLemmas.{Has-kept}
 use Rattle.noc_theory.proofs.worms.OpeningLemmas.{below-has}

@@ -9,7 +9,8 @@ use Rattle.noc_route.specs.Channel.{Channel, arrival_of, channel_vc, is_link, sa
 use Rattle.noc_router.specs.Verdict.{is_moved, verdict_of}
 use Rattle.noc_router.specs.declared.verdict.Verdict.TheVariants.{Empty, Moved}
 use Rattle.noc_topo.specs.Words.{Has}
-use Rattle.noc_theory.proofs.worms.BufferLemmas.{same_flit, IsDistinct, same_channel-refl, same_channel-true, is_moved-true, moved-holds}
+use Rattle.noc_theory.proofs.worms.BufferLemmas.{same_flit, IsDistinct, same_channel-refl, same_channel-true, moved-holds}
+use Rattle.noc_router.proofs.SettleLemmas.{is_moved-true}
 use Rattle.noc_theory.proofs.worms.MemberLemmas.{Has-filter, find-some}
 use Rattle.noc_theory.proofs.budget.SumLemmas.{sum_by-sum_by, sum_by-+}
 use Rattle.noc_theory.proofs.budget.RemainderPhaseLemmas.{sum_by-each}

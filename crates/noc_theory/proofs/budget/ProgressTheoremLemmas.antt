@@ -6,7 +6,8 @@ use Rattle.noc_theory.specs.Network.{Setup, packet_at, state_at, frozen_at, netw
 use Rattle.noc_theory.specs.Progress.{remainder, budget, events, is_pending, is_stuck}
 use Rattle.noc_theory.specs.Good.{IsGoodSetup}
 use Rattle.noc_theory.proofs.worms.BuiltLemmas.{good-built, good-wired}
-use Rattle.noc_theory.proofs.worms.NetworkLemmas.{whole-at, whole-frozen_at, queued-frozen_at, led-frozen_at}
+use Rattle.noc_theory.proofs.worms.WormOrderLemmas.{whole-at, whole-frozen_at}
+use Rattle.noc_theory.proofs.worms.NetworkLemmas.{queued-frozen_at, led-frozen_at}
 use Rattle.noc_theory.proofs.budget.ProgressRecordLemmas.{IsBuilt}
 use Rattle.noc_theory.proofs.budget.BuiltProgressLemmas.{built-good, nearer-good}
 use Rattle.noc_theory.proofs.budget.DistanceBoundLemmas.{distance-within}

@@ -16,7 +16,8 @@ use Rattle.noc_router.specs.declared.verdict.Verdict.TheVariants.{Granted, Moved
 use Rattle.noc_topo.specs.Shape.{local_port, neighbour, nodes, ports}
 use Rattle.noc_topo.specs.Words.{tabulate, Has, below, is_some_of}
 use Rattle.noc_alloc.proofs.ArbiterLemmas.{first_in_turn-picks}
-use Rattle.noc_alloc.proofs.WordLemmas.{is_some_of-true, is_some_of-some, get_or-tabulate}
+use Rattle.noc_alloc.proofs.WordLemmas.{is_some_of-true, is_some_of-some}
+use Rattle.noc_topo.proofs.WordLemmas.{get_or-tabulate}
 use Rattle.noc_theory.proofs.worms.OpeningLemmas.{below-has}
 use Rattle.noc_theory.proofs.worms.MemberLemmas.{Has-filter_mapped, Has-flat_mapped}
 use Rattle.noc_theory.proofs.budget.AllocationLemmas.{first_in_turn-some, switch-moves, moves-at}

@@ -7,7 +7,7 @@ use Rattle.noc_route.specs.Channel.{Channel}
 use Rattle.noc_router.specs.Verdict.{is_event, is_moved}
 use Rattle.noc_theory.specs.Network.{Setup, Located, Place, Source, On, In, Out, packet_at, state_at, frozen_at, network_cycle, after_verdicts, moved_place, is_the_flit, front_in, gone_to, next_channel, verdict_in, arrival_in}
 use Rattle.noc_theory.specs.Progress.{events, is_pending, is_stuck, last_event_before}
-use Rattle.noc_theory.proofs.worms.BufferLemmas.{is_moved-true}
+use Rattle.noc_router.proofs.SettleLemmas.{is_moved-true}
 use Rattle.noc_theory.proofs.worms.MemberLemmas.{any-same}
 use Rattle.noc_theory.specs.Good.{IsGoodSetup}
 use Rattle.noc_theory.proofs.budget.ProgressLemmas.{map-same, at-same, quiet-frozen}

@@ -16,12 +16,12 @@ use Rattle.noc_theory.proofs.worms.BufferLemmas.{same_channel-refl, same_channel
 use Rattle.noc_theory.proofs.worms.InjectionPhaseLemmas.{IsEntry, light, source-behind, apart-same}
 use Rattle.noc_theory.proofs.worms.InjectionStateLemmas.{entry-of, entries-apart}
 use Rattle.noc_theory.proofs.worms.OwnedLemmas.{owner-has}
-use Rattle.noc_theory.proofs.worms.PathLemmas.{IsEject}
-use Rattle.noc_theory.proofs.worms.PlaceLemmas.{IsValid, place-of-flit, flit-there}
-use Rattle.noc_theory.proofs.worms.RoutedRecordLemmas.{IsHeld}
+use Rattle.noc_theory.proofs.worms.StateWordLemmas.{IsEject, IsHeld, IsPlaced, goal}
+use Rattle.noc_theory.specs.Good.{IsValid}
+use Rattle.noc_theory.proofs.worms.PlaceLemmas.{place-of-flit, flit-there}
 use Rattle.noc_theory.proofs.worms.UnmixedLemmas.{in-buffer}
 use Rattle.noc_theory.proofs.worms.MemberLemmas.{Has-kept, Has-filter_mapped}
-use Rattle.noc_theory.proofs.worms.WormRecordLemmas.{IsPlaced, goal, valid-below}
+use Rattle.noc_theory.proofs.worms.WormRecordLemmas.{valid-below}
 use Rattle.noc_theory.proofs.worms.OpeningLemmas.{below-has}
 use Rattle.noc_theory.proofs.verdicts.AfterInputLemmas.{made, seen-held}
 use Rattle.noc_theory.proofs.landing.ComeLemmas.{come-level}

@@ -14,11 +14,12 @@ use Rattle.noc_theory.proofs.worms.InjectionStateLemmas.{all_entries, entries-ar
 use Rattle.noc_theory.proofs.worms.MemberLemmas.{Has-left}
 use Rattle.noc_theory.proofs.worms.MoveLemmas.{IsNext, next-is}
 use Rattle.noc_theory.proofs.worms.OwnedLemmas.{owner-has, idle-none}
-use Rattle.noc_theory.proofs.worms.PathLemmas.{IsEject}
-use Rattle.noc_theory.proofs.worms.PlaceLemmas.{IsKeyed, IsValid, place-of-flit, place-stepped}
+use Rattle.noc_theory.proofs.worms.StateWordLemmas.{IsEject, IsKeyed, IsHeld, IsNear, goal, last_of, far_of}
+use Rattle.noc_theory.specs.Good.{IsValid}
+use Rattle.noc_theory.proofs.worms.PlaceLemmas.{place-of-flit, place-stepped}
 use Rattle.noc_theory.proofs.worms.RoutedInjectionLemmas.{split, is-new, added, routed-injection}
-use Rattle.noc_theory.proofs.worms.RoutedRecordLemmas.{IsHeld, IsRoutedFrozen}
-use Rattle.noc_theory.proofs.worms.WormRecordLemmas.{IsWorm, IsNear, goal, last_of, far_of}
+use Rattle.noc_theory.proofs.worms.RoutedRecordLemmas.{IsRoutedFrozen}
+use Rattle.noc_theory.proofs.worms.WormRecordLemmas.{IsWorm}
 use Rattle.noc_theory.proofs.worms.NextLemmas.{next-from}
 use Rattle.noc_theory.proofs.verdicts.NextViewLemmas.{owner-at, owner-none, next-none, no-next}
 use Rattle.noc_theory.proofs.join.OrderedLemmas.{IsGood, IsOrderedFrozen}

@@ -10,12 +10,13 @@ use Rattle.noc_packet.specs.declared.packet.Packet.{Packet}
 use Rattle.noc_route.specs.Channel.{Channel, Inject, channel_vc}
 use Rattle.noc_theory.specs.Lockstep.{starts_at, has_flit_at_source, seen_sending}
 use Rattle.noc_theory.specs.Network.{Setup, State, Located, Place, Source, In, Injection, packet_at, place_of_flit, tail_place, flits_of, owned_by, is_at_source, is_injection_of, first_waiting, injections, injection_at, after_injection}
-use Rattle.noc_theory.proofs.worms.FirstOfNodeLemmas.{Precedes}
+use Rattle.noc_theory.proofs.worms.StateWordLemmas.{Precedes, last_of}
 use Rattle.noc_theory.proofs.worms.InjectionPhaseLemmas.{source-behind}
 use Rattle.noc_theory.proofs.worms.InjectionStateLemmas.{waiting-is}
 use Rattle.noc_theory.proofs.worms.MemberLemmas.{Has-filter, Has-kept, Has-filter_map, list_any-from}
-use Rattle.noc_theory.proofs.worms.PlaceLemmas.{IsValid, place-of-flit, flit-there}
-use Rattle.noc_theory.proofs.worms.WormRecordLemmas.{last_of, valid-last, valid-below}
+use Rattle.noc_theory.specs.Good.{IsValid}
+use Rattle.noc_theory.proofs.worms.PlaceLemmas.{place-of-flit, flit-there}
+use Rattle.noc_theory.proofs.worms.WormRecordLemmas.{valid-last, valid-below}
 use Rattle.noc_theory.proofs.injection.EntryChannelLemmas.{entered, is_entry, own}
 use Rattle.noc_theory.proofs.injection.EntryLemmas.{step, keyed, worm, wormT, keyedT, Moved, moved, still, enters, to-place, owned-left, WasHeld, was-held, held, begun}
 use Rattle.noc_theory.proofs.join.KeyLemmas.{count-places}

@@ -15,9 +15,8 @@ use Rattle.noc_theory.specs.Network.{Setup, State, Located, Place, Source, On, I
 use Rattle.noc_theory.proofs.worms.BufferLemmas.{same_channel-true, filter-kept}
 use Rattle.noc_theory.proofs.worms.MemberLemmas.{find-has}
 use Rattle.noc_theory.proofs.worms.OwnedLemmas.{owner-has}
-use Rattle.noc_theory.proofs.worms.PathLemmas.{IsEject}
-use Rattle.noc_theory.proofs.worms.RoutedRecordLemmas.{IsHeld}
-use Rattle.noc_theory.proofs.worms.WormRecordLemmas.{goal, last_of, valid-last}
+use Rattle.noc_theory.proofs.worms.StateWordLemmas.{IsEject, IsHeld, goal, last_of}
+use Rattle.noc_theory.proofs.worms.WormRecordLemmas.{valid-last}
 use Rattle.noc_theory.proofs.verdicts.AfterInputLemmas.{made, seen-held, seen-unowned}
 use Rattle.noc_theory.proofs.injection.EntryLemmas.{step, worm, routedT, Goes, goes, stays, goes_in, Quiet, owner-quiet, next-same, come-quiet, count-quiet, owned-left}
 use Rattle.noc_theory.proofs.join.OrderedLemmas.{IsGood, IsOrderedFrozen}

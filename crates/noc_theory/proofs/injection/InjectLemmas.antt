@@ -22,8 +22,8 @@ use Rattle.noc_theory.proofs.worms.InjectionStateLemmas.{waiting-is}
 use Rattle.noc_theory.proofs.worms.OwnedLemmas.{owner-has, idle-none}
 use Rattle.noc_theory.proofs.worms.PlaceLemmas.{flit-there}
 use Rattle.noc_theory.proofs.worms.RoomLemmas.{unowned-empty}
-use Rattle.noc_theory.proofs.worms.RoutedRecordLemmas.{IsHeld}
-use Rattle.noc_theory.proofs.worms.WormRecordLemmas.{goal, last_of, valid-last, valid-first}
+use Rattle.noc_theory.proofs.worms.StateWordLemmas.{IsHeld, goal, last_of}
+use Rattle.noc_theory.proofs.worms.WormRecordLemmas.{valid-last, valid-first}
 use Rattle.noc_theory.proofs.injection.EntryChannelLemmas.{entered, flits-in, input-in}
 use Rattle.noc_theory.proofs.injection.EntryLemmas.{keyed, worm, entry, Quiet, Goes, goes, stays, goes_in}
 use Rattle.noc_theory.proofs.injection.EntrySourceLemmas.{queue-none, sending-none, queue-more, queue-last, sending-more, sending-last, count-was, entry-here}

@@ -8,7 +8,8 @@ use Rattle.noc_topo.specs.Words.{below, Has, Pairs, least_by}
 use Rattle.noc_packet.specs.declared.packet.Packet.{Packet}
 use Rattle.noc_theory.specs.Lockstep.{inserted_by_due, by_due, starts_at, has_flit_at_source}
 use Rattle.noc_theory.specs.Network.{Setup, State, Located, packet_at, flits_of, is_at_source, first_waiting}
-use Rattle.noc_theory.proofs.worms.FirstOfNodeLemmas.{Precedes, least_by-first}
+use Rattle.noc_theory.proofs.worms.StateWordLemmas.{Precedes}
+use Rattle.noc_theory.proofs.worms.FirstOfNodeLemmas.{least_by-first}
 use Rattle.noc_theory.proofs.worms.GrantLemmas.{Has-below}
 use Rattle.noc_theory.proofs.worms.InjectionStateLemmas.{least_by-has}
 use Rattle.noc_theory.proofs.worms.MemberLemmas.{each-at, each-from, Has-filter, Has-kept, Pairs-filter}

@@ -11,8 +11,7 @@ use Rattle.noc_theory.specs.Network.{Setup, State, size, arriving, leaving, plac
 use Rattle.noc_theory.proofs.worms.BufferLemmas.{same_channel-refl, same_channel-true}
 use Rattle.noc_theory.proofs.worms.MoveLemmas.{IsNext, next-is, next-once, leads-end, no-end-eject}
 use Rattle.noc_theory.proofs.worms.OwnedLemmas.{owner-has, once-same}
-use Rattle.noc_theory.proofs.worms.PathLemmas.{IsEject}
-use Rattle.noc_theory.proofs.worms.PlaceLemmas.{IsKeyed}
+use Rattle.noc_theory.proofs.worms.StateWordLemmas.{IsEject, IsKeyed}
 use Rattle.noc_theory.proofs.worms.WormRecordLemmas.{IsWorm}
 use Rattle.noc_theory.proofs.worms.NextLemmas.{next-from}
 use Rattle.noc_theory.proofs.join.OrderedLemmas.{IsGood}

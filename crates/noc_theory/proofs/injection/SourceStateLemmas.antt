@@ -13,7 +13,7 @@ use Rattle.noc_theory.proofs.worms.BufferLemmas.{find-passes}
 use Rattle.noc_theory.proofs.worms.InjectionPhaseLemmas.{two-injects}
 use Rattle.noc_theory.proofs.worms.MemberLemmas.{find-has, find-some}
 use Rattle.noc_theory.proofs.worms.OwnedLemmas.{of-has, has-of}
-use Rattle.noc_theory.proofs.worms.PlaceLemmas.{IsKeyed}
+use Rattle.noc_theory.proofs.worms.StateWordLemmas.{IsKeyed}
 use Rattle.noc_theory.proofs.worms.WormRecordLemmas.{IsWorm}
 
 -- two tests that agree on a list leave the same of it

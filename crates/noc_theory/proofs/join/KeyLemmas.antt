@@ -6,7 +6,8 @@ use Rattle.std.proofs.lemmas.Bool.{eqb-true, eq-eqb}
 use Rattle.noc_topo.specs.Words.{below, Has, Pairs}
 use Rattle.noc_theory.specs.Network.{Setup, State, Located, Place, flits_of, place_of_flit, packet_at}
 use Rattle.noc_theory.proofs.worms.MemberLemmas.{each-at, Has-filter, Has-kept, Pairs-filter}
-use Rattle.noc_theory.proofs.worms.PlaceLemmas.{IsSortedPair, IsKeyed, place-of-flit}
+use Rattle.noc_theory.proofs.worms.StateWordLemmas.{IsSortedPair, IsKeyed}
+use Rattle.noc_theory.proofs.worms.PlaceLemmas.{place-of-flit}
 use Rattle.noc_theory.proofs.join.LockstepStepLemmas.{count-cons}
 
 -- flits of one packet in order, just those with the n indices from a on

@@ -16,7 +16,7 @@ use Rattle.noc_theory.specs.Lockstep.{flies_to, has_event_at, last_event_at}
 use Rattle.noc_theory.specs.Network.{Setup, State, Located, Place, Source, On, In, Out, Injection, after_landing, after_credits, all_inputs, arriving, end_of, frozen_at, injection_at, injections, size, state_at, verdict_in, verdict_in_cycle}
 use Rattle.noc_theory.specs.Progress.{events, is_flying, last_event_before}
 use Rattle.noc_theory.proofs.worms.BufferLemmas.{same_channel-refl}
-use Rattle.noc_theory.proofs.worms.NetworkLemmas.{whole-at}
+use Rattle.noc_theory.proofs.worms.WormOrderLemmas.{whole-at}
 use Rattle.noc_theory.proofs.worms.GrantLemmas.{Has-below}
 use Rattle.noc_theory.proofs.worms.MemberLemmas.{Has-filter_map, Has-filter_mapped, list_any-has, list_any-from}
 use Rattle.noc_theory.proofs.worms.PlaceLemmas.{place-of-flit}

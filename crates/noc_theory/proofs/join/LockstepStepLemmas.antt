@@ -6,7 +6,7 @@ use Rattle.std.proofs.lemmas.List.Sums.{sum_by-append}
 use Rattle.std.proofs.lemmas.Bool.{true≢false}
 use Rattle.noc_topo.specs.Words.{Has, Pairs}
 use Rattle.noc_theory.proofs.worms.MemberLemmas.{each-at}
-use Rattle.noc_theory.proofs.worms.PlaceLemmas.{IsSortedPair}
+use Rattle.noc_theory.proofs.worms.StateWordLemmas.{IsSortedPair}
 use Rattle.noc_theory.specs.Network.{Located}
 
 pub count-cons : {X : Type 0} (t : X → Bool) (x : X) (xs : List X) → count_by t (x ∷ xs) ≡ cond (t x) 1 0 + count_by t xs

@@ -20,7 +20,8 @@ use Rattle.noc_theory.specs.Network.{Setup, State, Located, Place, Source, size,
 use Rattle.noc_theory.proofs.worms.MemberLemmas.{Has-kept, list_any-from}
 use Rattle.noc_theory.proofs.worms.OpeningLemmas.{at-source, sound-opening}
 use Rattle.noc_theory.proofs.worms.PlaceLemmas.{flit-there}
-use Rattle.noc_theory.proofs.worms.WormRecordLemmas.{last_of, valid-last, valid-first}
+use Rattle.noc_theory.proofs.worms.StateWordLemmas.{last_of}
+use Rattle.noc_theory.proofs.worms.WormRecordLemmas.{valid-last, valid-first}
 use Rattle.noc_theory.proofs.verdicts.CommitEndLemmas.{map-each, ends-here}
 use Rattle.noc_theory.proofs.verdicts.CommitInputLemmas.{find-empty}
 use Rattle.noc_theory.proofs.join.OpeningStateLemmas.{opening-none}

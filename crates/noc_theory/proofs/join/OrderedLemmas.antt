@@ -4,12 +4,11 @@ use Rattle.noc_topo.specs.Words.{Has}
 use Rattle.noc_topo.specs.Shape.{nodes, neighbour}
 use Rattle.noc_route.specs.Channel.{Channel, Link, Eject, is_link}
 use Rattle.noc_route.specs.Routes.{set_at, IsRelation}
-use Rattle.noc_theory.specs.Good.{IsGoodPacket}
+use Rattle.noc_theory.specs.Good.{IsGoodPacket, IsValid}
 use Rattle.noc_theory.specs.Network.{Setup, State, On, packet_at, place_of_flit, has_channel, all_inputs}
 use Rattle.noc_theory.proofs.worms.BuiltRecordLemmas.{IsBuilt}
 use Rattle.noc_theory.proofs.worms.FirstOfNodeLemmas.{IsQueued}
 use Rattle.noc_theory.proofs.worms.GrantLemmas.{IsWired}
-use Rattle.noc_theory.proofs.worms.PlaceLemmas.{IsValid}
 use Rattle.noc_theory.proofs.worms.RoutedStateLemmas.{IsCovering, IsWhole, IsWholeFrozen}
 
 -- what a network has that was made

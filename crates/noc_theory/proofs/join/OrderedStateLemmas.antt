@@ -14,7 +14,7 @@ use Rattle.noc_theory.proofs.worms.MemberLemmas.{Has-filter}
 use Rattle.noc_theory.proofs.worms.OneBackLemmas.{arbiters-frozen, arbiters-mid, arbiters-state, one-back-state}
 use Rattle.noc_theory.proofs.worms.OneOnLinkLemmas.{one-on-link}
 use Rattle.noc_theory.proofs.worms.OpeningLemmas.{at-source}
-use Rattle.noc_theory.proofs.worms.PlaceLemmas.{IsValid}
+use Rattle.noc_theory.specs.Good.{IsValid}
 use Rattle.noc_theory.proofs.worms.RoutedStateLemmas.{IsWhole, IsWholeFrozen, whole-mid, whole-state, whole-frozen_state}
 use Rattle.noc_theory.proofs.worms.RoutedVerdictLemmas.{channel-has}
 use Rattle.noc_theory.proofs.join.JoinedLemmas.{joined}

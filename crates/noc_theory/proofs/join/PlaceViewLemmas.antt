@@ -15,7 +15,7 @@ use Rattle.noc_route.specs.Routes.{is_sent, permits, permits_at, set_at}
 use Rattle.noc_theory.specs.Network.{Setup, size, arriving, leaving, all_inputs}
 use Rattle.noc_theory.proofs.worms.GrantLemmas.{Has-below}
 use Rattle.noc_theory.proofs.worms.MemberLemmas.{Has-filter_map, Has-flat_map, Has-flat_mapped, Has-filter_mapped}
-use Rattle.noc_theory.proofs.worms.PathLemmas.{IsEject}
+use Rattle.noc_theory.proofs.worms.StateWordLemmas.{IsEject}
 use Rattle.noc_theory.proofs.worms.OpeningLemmas.{below-has}
 use Rattle.noc_theory.proofs.join.OrderedLemmas.{IsGood}
 

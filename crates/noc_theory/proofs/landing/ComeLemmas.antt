@@ -13,11 +13,12 @@ use Rattle.noc_theory.proofs.worms.BuiltRecordLemmas.{IsBuilt}
 use Rattle.noc_theory.proofs.worms.BufferLemmas.{same_channel-refl, same_channel-true}
 use Rattle.noc_theory.proofs.worms.InjectionPhaseLemmas.{two-injects}
 use Rattle.noc_theory.proofs.worms.MoveLemmas.{same-far}
-use Rattle.noc_theory.proofs.worms.PathLemmas.{IsEject}
-use Rattle.noc_theory.proofs.worms.PlaceLemmas.{IsValid, IsKeyed, flit-there}
+use Rattle.noc_theory.proofs.worms.StateWordLemmas.{IsEject, IsKeyed, IsPlaced, goal, last_of, far_of}
+use Rattle.noc_theory.specs.Good.{IsValid}
+use Rattle.noc_theory.proofs.worms.PlaceLemmas.{flit-there}
 use Rattle.noc_theory.proofs.worms.MemberLemmas.{Has-kept}
 use Rattle.noc_theory.proofs.join.LockstepStepLemmas.{count-zero}
-use Rattle.noc_theory.proofs.worms.WormRecordLemmas.{IsWorm, IsPlaced, goal, last_of, far_of, valid-last, valid-first}
+use Rattle.noc_theory.proofs.worms.WormRecordLemmas.{IsWorm, valid-last, valid-first}
 use Rattle.noc_theory.proofs.join.KeyLemmas.{count-places}
 
 module _ (net : Setup) (built : IsBuilt net) (S : State) (keyed : IsKeyed net S.at) (w : IsWorm net S.own (place_of_flit net S)) where

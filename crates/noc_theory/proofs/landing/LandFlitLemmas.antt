@@ -18,10 +18,11 @@ use Rattle.noc_theory.specs.Network.{Setup, State, Located, Place, Source, On, I
 use Rattle.noc_theory.specs.Progress.{weight, head_place}
 use Rattle.noc_theory.proofs.worms.BufferLemmas.{same_channel-refl, same_channel-true, find-passes}
 use Rattle.noc_theory.proofs.worms.MemberLemmas.{Has-kept, find-has, Has-filter}
-use Rattle.noc_theory.proofs.worms.PlaceLemmas.{IsValid, place-of-flit, flit-there, is_in-is, is_on-is}
-use Rattle.noc_theory.proofs.worms.RoutedRecordLemmas.{IsHeld}
+use Rattle.noc_theory.specs.Good.{IsValid}
+use Rattle.noc_theory.proofs.worms.PlaceLemmas.{place-of-flit, flit-there, is_in-is, is_on-is}
+use Rattle.noc_theory.proofs.worms.StateWordLemmas.{IsHeld, IsPlaced, goal, last_of, far_of}
 use Rattle.noc_theory.proofs.worms.UnmixedLemmas.{in-buffer}
-use Rattle.noc_theory.proofs.worms.WormRecordLemmas.{IsPlaced, goal, last_of, far_of, valid-last, valid-below}
+use Rattle.noc_theory.proofs.worms.WormRecordLemmas.{valid-last, valid-below}
 use Rattle.noc_theory.proofs.verdicts.AfterInputLemmas.{made, seen-held}
 use Rattle.noc_theory.proofs.landing.ComeLemmas.{come-level, come-behind, count-to, count-none}
 use Rattle.noc_theory.proofs.join.KeyLemmas.{count-places}

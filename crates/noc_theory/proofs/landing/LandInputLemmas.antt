@@ -15,9 +15,7 @@ use Rattle.noc_theory.specs.Network.{Setup, State, Located, Place, Source, On, I
 use Rattle.noc_theory.proofs.worms.BufferLemmas.{same_channel-refl, same_channel-true}
 use Rattle.noc_theory.proofs.worms.MemberLemmas.{find-fails}
 use Rattle.noc_theory.proofs.worms.OwnedLemmas.{owner-has, idle-none}
-use Rattle.noc_theory.proofs.worms.PathLemmas.{IsEject}
-use Rattle.noc_theory.proofs.worms.RoutedRecordLemmas.{IsHeld}
-use Rattle.noc_theory.proofs.worms.WormRecordLemmas.{goal}
+use Rattle.noc_theory.proofs.worms.StateWordLemmas.{IsEject, IsHeld, goal}
 use Rattle.noc_theory.proofs.verdicts.AfterInputLemmas.{made, seen-held, seen-unowned}
 use Rattle.noc_theory.proofs.landing.ComeLemmas.{count-all}
 use Rattle.noc_theory.proofs.landing.LandLemmas.{keyed, worm, landed-tail, past-landed, come-landed, owner-still, owner-gone, owner-freed, next-still}

@@ -11,10 +11,12 @@ use Rattle.noc_theory.proofs.worms.BufferLemmas.{same_channel-true}
 use Rattle.noc_theory.proofs.worms.MemberLemmas.{Has-filter, Has-kept}
 use Rattle.noc_theory.proofs.worms.MoveLemmas.{IsNext, next-is, same-far, far-link}
 use Rattle.noc_theory.proofs.worms.OwnedLemmas.{owner-has, idle-none}
-use Rattle.noc_theory.proofs.worms.PlaceLemmas.{IsKeyed, IsValid, place-stepped}
+use Rattle.noc_theory.proofs.worms.StateWordLemmas.{IsKeyed, IsPlaced, goal, last_of, far_of}
+use Rattle.noc_theory.specs.Good.{IsValid}
+use Rattle.noc_theory.proofs.worms.PlaceLemmas.{place-stepped}
 use Rattle.noc_theory.proofs.worms.RoutedRecordLemmas.{past-earlier}
 use Rattle.noc_theory.proofs.worms.SoundLemmas.{IsSoundFrozen, sound-landed, sound-credits}
-use Rattle.noc_theory.proofs.worms.WormRecordLemmas.{IsWorm, IsPlaced, goal, last_of, far_of, valid-last}
+use Rattle.noc_theory.proofs.worms.WormRecordLemmas.{IsWorm, valid-last}
 use Rattle.noc_theory.proofs.worms.NextLemmas.{next-from}
 use Rattle.noc_theory.proofs.verdicts.NextViewLemmas.{owner-at, owner-none, next-none, no-next}
 use Rattle.noc_theory.proofs.join.OrderedLemmas.{IsGood, IsOrdered}

@@ -14,12 +14,12 @@ use Rattle.noc_theory.specs.Progress.{weight, hops}
 use Rattle.noc_theory.proofs.worms.BufferLemmas.{same_channel-refl, same_channel-true}
 use Rattle.noc_theory.proofs.worms.MoveLemmas.{IsNext, far-link, far-eject}
 use Rattle.noc_theory.proofs.worms.OwnedLemmas.{owner-has}
-use Rattle.noc_theory.proofs.worms.PathLemmas.{IsEject}
-use Rattle.noc_theory.proofs.worms.PlaceLemmas.{IsValid, place-of-flit, flit-there, is_in-is, is_on-is}
+use Rattle.noc_theory.proofs.worms.StateWordLemmas.{IsEject, IsHeld, IsPlaced, goal, last_of, far_of}
+use Rattle.noc_theory.specs.Good.{IsValid}
+use Rattle.noc_theory.proofs.worms.PlaceLemmas.{place-of-flit, flit-there, is_in-is, is_on-is}
 use Rattle.noc_theory.proofs.worms.RoomLemmas.{landed-count, filter-some}
-use Rattle.noc_theory.proofs.worms.RoutedRecordLemmas.{IsHeld}
 use Rattle.noc_theory.proofs.worms.SourceOfLemmas.{has-source}
-use Rattle.noc_theory.proofs.worms.WormRecordLemmas.{IsPlaced, goal, last_of, far_of, valid-last}
+use Rattle.noc_theory.proofs.worms.WormRecordLemmas.{valid-last}
 use Rattle.noc_theory.proofs.landing.ComeLemmas.{come-level}
 use Rattle.noc_theory.proofs.landing.LandLemmas.{keyed, worm, sound, keyedM, wormM, landed-tail, sent-landed, owned-still, owner-still, owner-gone, owner-freed, wire-weight}
 use Rattle.noc_theory.proofs.join.OrderedLemmas.{IsGood, IsOrdered}

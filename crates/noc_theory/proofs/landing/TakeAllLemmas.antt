@@ -20,7 +20,7 @@ use Rattle.noc_packet.specs.Packet.{flit_at}
 use Rattle.noc_theory.proofs.worms.BufferLemmas.{same_channel-refl, same_channel-true, find-passes}
 use Rattle.noc_theory.proofs.worms.MemberLemmas.{find-has, find-some, list_any-has, list_any-from}
 use Rattle.noc_theory.proofs.worms.PlaceLemmas.{place-of-flit}
-use Rattle.noc_theory.proofs.worms.WormRecordLemmas.{IsPlaced}
+use Rattle.noc_theory.proofs.worms.StateWordLemmas.{IsPlaced}
 use Rattle.noc_theory.proofs.worms.OpeningLemmas.{below-has}
 use Rattle.noc_theory.proofs.verdicts.CommitEndLemmas.{map-each, ends-here}
 use Rattle.noc_theory.proofs.landing.LandInputLemmas.{flits-none, input-none}

@@ -13,7 +13,7 @@ use Rattle.noc_packet.specs.declared.packet.Beat.{Beat}
 use Rattle.noc_route.specs.Routes.{Routes}
 use Rattle.noc_router.specs.Still.{IsHeldBefore, counted_times, takes_effect, view_after_waiting}
 use Rattle.noc_router.specs.View.{View, Decisions, view_after_takes, begun_on, view_after_commit, counts_after, decided_verdict, flit_out, idle_beat, idle_beats, view_after_inject, view_after_inject_from, is_vacant, local_channel, local_step, opening_view, decisions_of, tail_packet, view_buffer, view_round, with_arrival, with_injected}
-use Rattle.noc_router.proofs.QuietLemmas.{at_replicate}
+use Rattle.noc_alloc.proofs.RequestLemmas.{at_replicate}
 use Rattle.noc_router.proofs.StillLemmas.{map_indexed-same, still-committed}
 use Rattle.noc_router.specs.declared.verdict.Findings.TheVariants.{Record, Leave}
 use Rattle.noc_theory.specs.Halves.{IsSilent, view_after_decide, view_after_puts, incoming}

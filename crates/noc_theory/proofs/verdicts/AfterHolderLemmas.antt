@@ -8,11 +8,11 @@ use Rattle.noc_theory.specs.Lockstep.{has_come, come_count, seen_source}
 use Rattle.noc_theory.specs.Network.{Setup, State, Located, Place, Source, On, In, Out, size, leaving, place_of_flit, tail_place, is_on, is_in, is_past, owner_of, leads_from, verdict_in, tail_leaves, is_released, after_verdicts, all_inputs, has_channel, count_in, count_on, next_channel, verdict_at, round_at, claim_with}
 use Rattle.noc_theory.proofs.worms.BufferLemmas.{same_channel-refl, same_channel-true}
 use Rattle.noc_theory.proofs.worms.MoveLemmas.{IsFirst, IsMoved, moved-or-not}
-use Rattle.noc_theory.proofs.worms.PathLemmas.{IsEject}
-use Rattle.noc_theory.proofs.worms.PlaceLemmas.{IsValid, flit-there, is_on-is}
-use Rattle.noc_theory.proofs.worms.RoutedRecordLemmas.{IsHeld}
+use Rattle.noc_theory.proofs.worms.StateWordLemmas.{IsEject, IsHeld, IsPlaced, goal, last_of, far_of}
+use Rattle.noc_theory.specs.Good.{IsValid}
+use Rattle.noc_theory.proofs.worms.PlaceLemmas.{flit-there, is_on-is}
 use Rattle.noc_theory.proofs.worms.SourceOfLemmas.{has-source}
-use Rattle.noc_theory.proofs.worms.WormRecordLemmas.{IsPlaced, goal, last_of, far_of, valid-last}
+use Rattle.noc_theory.proofs.worms.WormRecordLemmas.{valid-last}
 use Rattle.noc_theory.proofs.verdicts.AfterLemmas.{whole, wormT, Moves, Next, held-kept, come-gone}
 use Rattle.noc_router.specs.Verdict.{Unrouted, is_routed, is_moved, verdict_of}
 use Rattle.noc_router.specs.declared.verdict.Verdict.TheVariants.{Empty, Moved}

@@ -15,9 +15,8 @@ use Rattle.noc_theory.specs.Lockstep.{seen_input, seen_phase, seen_phase_with, s
 use Rattle.noc_theory.specs.Network.{Setup, State, Located, Place, place_of_flit, packet_at, owner_of, next_channel, leads_from, has_channel, verdict_in, tail_leaves, is_released, after_verdicts, all_inputs, tail_place, is_past, count_in}
 use Rattle.noc_theory.specs.Progress.{head_place}
 use Rattle.noc_theory.proofs.worms.OwnedLemmas.{owner-has, idle-none}
-use Rattle.noc_theory.proofs.worms.PathLemmas.{IsEject, no-inject}
-use Rattle.noc_theory.proofs.worms.RoutedRecordLemmas.{IsHeld, Come}
-use Rattle.noc_theory.proofs.worms.WormRecordLemmas.{class_of, goal}
+use Rattle.noc_theory.proofs.worms.StateWordLemmas.{IsEject, IsHeld, Come, class_of, goal}
+use Rattle.noc_theory.proofs.worms.PathLemmas.{no-inject}
 use Rattle.noc_theory.proofs.worms.PlaceLemmas.{is_in-is}
 use Rattle.noc_theory.proofs.verdicts.AfterLemmas.{whole, wormT, WasOwned, was-owned, kept, given, held-kept, tail-past, count-kept}
 use Rattle.noc_theory.proofs.verdicts.AfterNextLemmas.{routed-after, next-kept}

@@ -12,12 +12,12 @@ use Rattle.noc_theory.proofs.worms.BufferLemmas.{same_channel-refl, same_channel
 use Rattle.noc_theory.proofs.worms.GrantLemmas.{IsGrant, granted-is}
 use Rattle.noc_theory.proofs.worms.MemberLemmas.{Has-append, Has-right, Has-filter, Has-filter_map, Has-filter_mapped}
 use Rattle.noc_theory.proofs.worms.MoveLemmas.{IsNext, IsFirst, IsMoving, IsMoved, moved-or-not, same-far, far-link, far-eject, next-no-eject}
-use Rattle.noc_theory.proofs.worms.PathLemmas.{IsEject}
-use Rattle.noc_theory.proofs.worms.PlaceLemmas.{IsValid, IsKeyed, place-of-flit, place-stepped}
-use Rattle.noc_theory.proofs.worms.RoutedRecordLemmas.{IsHeld}
+use Rattle.noc_theory.proofs.worms.StateWordLemmas.{IsEject, IsKeyed, IsHeld, goal, last_of, far_of}
+use Rattle.noc_theory.specs.Good.{IsValid}
+use Rattle.noc_theory.proofs.worms.PlaceLemmas.{place-of-flit, place-stepped}
 use Rattle.noc_theory.proofs.worms.RoutedStateLemmas.{IsWhole, whole-verdicts}
 use Rattle.noc_theory.proofs.worms.VerdictPhaseLemmas.{kept-left, tail-of, leaves-tail}
-use Rattle.noc_theory.proofs.worms.WormRecordLemmas.{IsWorm, goal, last_of, far_of, valid-last}
+use Rattle.noc_theory.proofs.worms.WormRecordLemmas.{IsWorm, valid-last}
 use Rattle.noc_theory.proofs.join.OrderedLemmas.{IsGood, IsOrderedFrozen}
 use Rattle.noc_theory.proofs.join.LockstepStepLemmas.{count-step}
 

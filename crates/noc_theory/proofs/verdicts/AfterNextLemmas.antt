@@ -13,9 +13,8 @@ use Rattle.noc_theory.proofs.worms.GrantLemmas.{IsGrant}
 use Rattle.noc_theory.proofs.worms.MemberLemmas.{list_any-has}
 use Rattle.noc_theory.proofs.worms.MoveLemmas.{IsNext, next-is, next-once, leads-end, no-end-eject}
 use Rattle.noc_theory.proofs.worms.OwnedLemmas.{owner-has, of-has}
-use Rattle.noc_theory.proofs.worms.RoutedRecordLemmas.{IsHeld}
+use Rattle.noc_theory.proofs.worms.StateWordLemmas.{IsHeld, class_of, goal}
 use Rattle.noc_theory.proofs.worms.RoutedVerdictLemmas.{has-channel}
-use Rattle.noc_theory.proofs.worms.WormRecordLemmas.{class_of, goal}
 use Rattle.noc_theory.proofs.worms.NextLemmas.{next-from}
 use Rattle.noc_theory.proofs.verdicts.AfterLemmas.{whole, wormT, Next, WasOwned, was-owned, kept, given, owned-kept, owned-given, held-kept}
 use Rattle.noc_theory.proofs.verdicts.NextViewLemmas.{channel-filter, channel-append, next-none, no-next}

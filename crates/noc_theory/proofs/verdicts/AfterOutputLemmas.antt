@@ -8,7 +8,8 @@ use Rattle.noc_route.specs.Channel.{Channel, is_link}
 use Rattle.noc_router.specs.Verdict.{is_moved}
 use Rattle.noc_counts.specs.Counts.{one_if}
 use Rattle.noc_theory.specs.Network.{Setup, State, Located, is_on, count_on, count_in, credit_of, has_channel, verdict_in, after_verdicts, all_inputs}
-use Rattle.noc_theory.proofs.worms.BufferLemmas.{buffer-moved, buffer-stays, is_moved-true, next-some}
+use Rattle.noc_theory.proofs.worms.BufferLemmas.{buffer-moved, buffer-stays, next-some}
+use Rattle.noc_router.proofs.SettleLemmas.{is_moved-true}
 use Rattle.noc_theory.proofs.worms.InjectionRoomLemmas.{filter-none}
 use Rattle.noc_theory.proofs.worms.MemberLemmas.{Has-mapped, Has-map}
 use Rattle.noc_theory.proofs.worms.MoveLemmas.{next-once}

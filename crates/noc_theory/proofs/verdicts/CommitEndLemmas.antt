@@ -12,7 +12,8 @@ use Rattle.noc_theory.specs.Lockstep.{ends_at}
 use Rattle.noc_theory.specs.Network.{Setup, State, On, In, Out, size, leaving, packet_at, place_of_flit, tail_place, out_cycle, gone_to, after_verdicts}
 use Rattle.noc_theory.proofs.worms.MemberLemmas.{Has-map, Has-mapped, Has-filter, Has-kept, list_any-from}
 use Rattle.noc_theory.proofs.worms.MoveLemmas.{IsMoved, moved-or-not, next-once}
-use Rattle.noc_theory.proofs.worms.WormRecordLemmas.{last_of, valid-last}
+use Rattle.noc_theory.proofs.worms.StateWordLemmas.{last_of}
+use Rattle.noc_theory.proofs.worms.WormRecordLemmas.{valid-last}
 use Rattle.noc_theory.proofs.verdicts.AfterLemmas.{Moves}
 use Rattle.noc_theory.proofs.verdicts.MoverLemmas.{MoverTo}
 use Rattle.noc_theory.proofs.join.OrderedLemmas.{IsGood, IsOrderedFrozen}

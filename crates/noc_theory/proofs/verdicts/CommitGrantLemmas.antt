@@ -13,8 +13,7 @@ use Rattle.noc_theory.specs.Lockstep.{seen_input, seen_output, seen_holder, seen
 use Rattle.noc_theory.specs.Network.{Setup, State, Place, size, leaving, owner_of, is_in, is_past, credit_of, tail_place, after_verdicts}
 use Rattle.noc_theory.specs.Progress.{head_place}
 use Rattle.noc_theory.proofs.worms.BufferLemmas.{same_channel-refl}
-use Rattle.noc_theory.proofs.worms.RoutedRecordLemmas.{IsHeld, Come}
-use Rattle.noc_theory.proofs.worms.WormRecordLemmas.{goal}
+use Rattle.noc_theory.proofs.worms.StateWordLemmas.{IsHeld, Come, goal}
 use Rattle.noc_theory.proofs.verdicts.AfterHolderLemmas.{is_sent_on, given-unsent}
 use Rattle.noc_theory.proofs.verdicts.AfterInputLemmas.{seen-held}
 use Rattle.noc_theory.proofs.verdicts.AfterLemmas.{whole, wormT, owned-given}

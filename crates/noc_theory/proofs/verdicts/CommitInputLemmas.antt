@@ -21,12 +21,13 @@ use Rattle.noc_router.specs.declared.verdict.Finding.{Finding}
 use Rattle.noc_router.proofs.PlanLemmas.{verdict-moved, verdict-granted, verdict-routed}
 use Rattle.noc_theory.specs.Lockstep.{finding_in, seen_flits, seen_input, seen_phase, seen_phase_with, seen_set}
 use Rattle.noc_theory.specs.Network.{Setup, State, Located, size, arriving, leaving, packet_at, place_of_flit, owner_of, next_channel, has_channel, has_credit_in, ask, claim_of, claim_with, verdict_in, round_at, count_in, buffer_of, front_in, is_in, is_tail_of_packet, tail_leaves, after_verdicts, granted_pair, grant_to_owner, end_of}
-use Rattle.noc_theory.proofs.worms.BufferLemmas.{find-passes, buffer-moved, buffer-stays, is_moved-true}
+use Rattle.noc_theory.proofs.worms.BufferLemmas.{find-passes, buffer-moved, buffer-stays}
+use Rattle.noc_router.proofs.SettleLemmas.{is_moved-true}
 use Rattle.noc_theory.proofs.worms.GrantLemmas.{IsGrant, granted-is}
 use Rattle.noc_theory.proofs.worms.MemberLemmas.{Has-kept, find-has}
 use Rattle.noc_theory.proofs.worms.OwnedLemmas.{owner-has, owner-is}
 use Rattle.noc_theory.proofs.worms.RoomLemmas.{unowned-empty}
-use Rattle.noc_theory.proofs.worms.RoutedRecordLemmas.{IsHeld}
+use Rattle.noc_theory.proofs.worms.StateWordLemmas.{IsHeld}
 use Rattle.noc_theory.proofs.worms.UnmixedLemmas.{in-buffer}
 use Rattle.noc_theory.proofs.worms.VerdictRoomLemmas.{sorted-distinct}
 use Rattle.noc_theory.proofs.verdicts.AfterInputLemmas.{unowned-after, phase-after, unchanged, waits-after, goes-after, left-after}

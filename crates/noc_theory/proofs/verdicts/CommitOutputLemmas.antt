@@ -19,7 +19,7 @@ use Rattle.noc_theory.proofs.worms.MemberLemmas.{list_any-from}
 use Rattle.noc_theory.proofs.worms.MoveLemmas.{next-once}
 use Rattle.noc_theory.proofs.worms.OwnedLemmas.{owner-has, has-of, idle-none}
 use Rattle.noc_theory.proofs.worms.VerdictPhaseLemmas.{leaves-tail}
-use Rattle.noc_theory.proofs.worms.WormRecordLemmas.{goal, last_of}
+use Rattle.noc_theory.proofs.worms.StateWordLemmas.{goal, last_of}
 use Rattle.noc_theory.proofs.verdicts.AfterHolderLemmas.{is_sent_on, sent-kept, link-kept, eject-kept, tail-moves}
 use Rattle.noc_theory.proofs.verdicts.AfterLemmas.{whole, wormT, Moves, Next, owned-kept, was-owned, WasOwned, kept, given}
 use Rattle.noc_theory.proofs.verdicts.AfterOutputLemmas.{on-none, on-one, credit-stays, credit-spent}

@@ -17,7 +17,7 @@ use Rattle.noc_theory.specs.Network.{Setup, State, Located, Source, In, size, ar
 use Rattle.noc_theory.proofs.worms.InjectionStateLemmas.{waiting-is}
 use Rattle.noc_theory.proofs.worms.PathLemmas.{no-inject}
 use Rattle.noc_theory.proofs.worms.VerdictPhaseLemmas.{inject-kept, tail-of}
-use Rattle.noc_theory.proofs.worms.WormRecordLemmas.{class_of, goal}
+use Rattle.noc_theory.proofs.worms.StateWordLemmas.{class_of, goal}
 use Rattle.noc_theory.proofs.worms.MemberLemmas.{any-same}
 use Rattle.noc_theory.proofs.verdicts.AfterLemmas.{whole, wormT, step, goes, Goes, stays, moves, was-owned, WasOwned, kept, given}
 use Rattle.noc_theory.proofs.verdicts.CommitInputLemmas.{decided-none, decided-some}

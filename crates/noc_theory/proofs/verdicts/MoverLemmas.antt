@@ -17,7 +17,7 @@ use Rattle.noc_theory.proofs.worms.GrantLemmas.{IsGrant}
 use Rattle.noc_theory.proofs.worms.MemberLemmas.{find-has}
 use Rattle.noc_theory.proofs.worms.MoveLemmas.{IsNext, first-is as first-of}
 use Rattle.noc_theory.proofs.worms.OwnedLemmas.{owner-is}
-use Rattle.noc_theory.proofs.worms.RoutedRecordLemmas.{IsHeld}
+use Rattle.noc_theory.proofs.worms.StateWordLemmas.{IsHeld}
 use Rattle.noc_theory.proofs.worms.PlaceLemmas.{is_in-is}
 use Rattle.noc_theory.proofs.verdicts.AfterLemmas.{Moves, Goes, goes, stays, moves, step}
 use Rattle.noc_theory.proofs.verdicts.CommitInputLemmas.{d, first-some, first-packet, claim-holds, given-at, Given, won-below}

@@ -9,7 +9,7 @@ use Rattle.noc_theory.proofs.worms.BuiltRecordLemmas.{IsBuilt}
 use Rattle.noc_theory.proofs.worms.BufferLemmas.{same_channel-true}
 use Rattle.noc_theory.proofs.worms.MoveLemmas.{IsNext, next-is}
 use Rattle.noc_theory.proofs.worms.OwnedLemmas.{owner-has, owner-is}
-use Rattle.noc_theory.proofs.worms.PlaceLemmas.{IsKeyed}
+use Rattle.noc_theory.proofs.worms.StateWordLemmas.{IsKeyed}
 use Rattle.noc_theory.proofs.worms.WormRecordLemmas.{IsWorm}
 use Rattle.noc_theory.proofs.worms.NextLemmas.{next-from}
 

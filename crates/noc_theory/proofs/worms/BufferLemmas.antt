@@ -5,11 +5,9 @@ use Rattle.std.specs.List.{AllByRecursion}
 use Rattle.std.proofs.lemmas.Bool.{false≢true, and_from, and_parts, and_right, and_left, eq-eqb, eqb-true}
 use Rattle.noc_topo.specs.Words.{is_some_of}
 use Rattle.noc_route.specs.Channel.{Channel, Link, Inject, Eject, same_channel, arrival_of, channel_vc}
-use Rattle.noc_router.specs.Verdict.{Claim, Unrouted, Waits, Holds, Round, verdict_of}
+use Rattle.noc_router.specs.Verdict.{Claim, Unrouted, Waits, Holds, Round, verdict_of, is_moved}
 use Rattle.noc_theory.specs.Network.{Setup, State, Located, Place, Source, On, In, Out, buffer_of, front_in, is_in, is_the_flit, moved_place, after_verdicts, verdict_in, gone_to, next_channel, claim_of, owned_by, owner_of, has_channel, ask, round_at, count_in, verdict_at, leads_from}
-use Rattle.noc_router.specs.Verdict.{is_moved}
 use Rattle.noc_router.specs.declared.verdict.Verdict.TheVariants.{Empty, Granted, Moved, LostChannel}
-pub use Rattle.noc_router.proofs.SettleLemmas.{is_moved-true}
 
 -- whether two are the same flit
 abbrev pub same_flit : Located → Located → Bool

@@ -18,7 +18,7 @@ use Rattle.noc_theory.proofs.worms.InjectionStateLemmas.{entries-are}
 use Rattle.noc_theory.proofs.worms.OpeningLemmas.{sound-state}
 use Rattle.noc_theory.proofs.worms.SoundLemmas.{IsSoundState, IsSoundFrozen, sound-landed, sound-credits, sound-frozen}
 use Rattle.noc_theory.proofs.worms.VerdictPhaseLemmas.{owned-before}
-use Rattle.noc_theory.proofs.worms.WormRecordLemmas.{class_of, goal}
+use Rattle.noc_theory.proofs.worms.StateWordLemmas.{class_of, goal}
 
 module _ (net : Setup) where
   -- the relation let packet p go on to c, or p began there

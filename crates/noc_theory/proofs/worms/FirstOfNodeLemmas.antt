@@ -4,23 +4,23 @@ use Rattle.std.specs.Prelude.{filter, find, ◌⊎◌, nat_eq, nat_le, nat_lt, �
 use Rattle.std.specs.List.{list_any}
 use Rattle.std.proofs.lemmas.Bool.{cases_eq, cases_order, leb-true, leb-false, and_from, eq-eqb}
 use Rattle.std.proofs.lemmas.Option.{none-some, same_Some}
-use Rattle.noc_topo.specs.Words.{below, least_by, lesser_by}
+use Rattle.noc_topo.specs.Words.{below, least_by, lesser_by, Has, Pairs}
 use Rattle.noc_topo.specs.Shape.{nodes}
 use Rattle.noc_route.specs.Channel.{Channel, Inject}
 use Rattle.noc_theory.specs.Network.{Setup, network_cycle, Injection, State, Located, Source, packet_at, place_of_flit, landed_place, flits_of, is_at_source, is_idle, first_waiting, injection_at, injection_with, is_injection_of, owned_by, count_in, after_landing, after_credits, after_injection, after_verdicts, frozen_state, state_at}
 use Rattle.noc_theory.proofs.worms.BuiltRecordLemmas.{IsBuilt}
 use Rattle.noc_theory.proofs.worms.OptionLemmas.{and_then-some, cond-some}
-use Rattle.noc_topo.specs.Words.{Has, Pairs}
 use Rattle.noc_theory.proofs.worms.MemberLemmas.{Has-kept, Has-filter_map, Pairs-filter, list_any-from, each-at}
 use Rattle.noc_theory.proofs.worms.GrantLemmas.{IsWired}
-use Rattle.noc_theory.proofs.worms.PlaceLemmas.{IsValid, IsKeyed, place-stepped, flit-there}
-use Rattle.noc_theory.proofs.worms.WormRecordLemmas.{last_of, valid-last, valid-first, source-landed}
+use Rattle.noc_theory.specs.Good.{IsValid}
+use Rattle.noc_theory.proofs.worms.StateWordLemmas.{IsKeyed, last_of, Precedes, IsFirstOf}
+use Rattle.noc_theory.proofs.worms.PlaceLemmas.{place-stepped, flit-there}
+use Rattle.noc_theory.proofs.worms.WormRecordLemmas.{valid-last, valid-first, source-landed}
 use Rattle.noc_theory.proofs.worms.InjectionPhaseLemmas.{IsInjected}
 use Rattle.noc_theory.proofs.worms.InjectionStateLemmas.{entries-move, entries-are, entries-apart, all_entries, waiting-is}
 use Rattle.noc_theory.proofs.worms.VerdictPhaseLemmas.{source-before, source-after}
 use Rattle.noc_theory.proofs.worms.SoundLemmas.{IsSoundState, IsSoundFrozen, sound-landed, sound-credits, sound-frozen}
 use Rattle.noc_theory.proofs.worms.OpeningLemmas.{sound-state, at-source, below-has, below-rises}
-pub use Rattle.noc_theory.proofs.worms.StateWordLemmas.{Precedes, IsFirstOf}
 
 -- the least by key precedes each
 pub least_by-first : (key : ℕ → ℕ) (xs : List ℕ) (x y : ℕ) → Pairs (λ (a b : ℕ). a < b) xs → least_by key xs ≡ Some x → Has y xs → Precedes key x y

@@ -9,12 +9,10 @@ use Rattle.noc_theory.specs.Progress.{head_place, weight}
 use Rattle.noc_theory.proofs.worms.BuiltRecordLemmas.{IsBuilt}
 use Rattle.noc_topo.specs.Words.{Has}
 use Rattle.noc_theory.proofs.worms.OwnedLemmas.{owner-is}
-use Rattle.noc_theory.proofs.worms.PlaceLemmas.{IsKeyed}
-use Rattle.noc_theory.proofs.worms.WormRecordLemmas.{IsWorm, IsPlaced, goal, last_of, far_of, valid-last, valid-first}
+use Rattle.noc_theory.proofs.worms.StateWordLemmas.{IsKeyed, IsPlaced, goal, last_of, far_of, IsHeld, IsRoutedMid, Come, Reached}
+use Rattle.noc_theory.proofs.worms.WormRecordLemmas.{IsWorm, valid-last, valid-first}
 use Rattle.noc_theory.proofs.worms.MoveLemmas.{IsNext, same-far, far-link, far-eject, leads-end, no-end-eject, placed-in, weight-in}
-use Rattle.noc_theory.proofs.worms.RoutedRecordLemmas.{IsHeld, IsRoutedMid, Come}
 use Rattle.noc_theory.proofs.worms.SourceOfLemmas.{has-source}
-pub use Rattle.noc_theory.proofs.worms.StateWordLemmas.{Reached}
 
 module _ (net : Setup) (built : IsBuilt net) (S : State) (keyed : IsKeyed net S.at) (w : IsWorm net S.own (place_of_flit net S)) where
   -- a place that weighs at most what the wire of o weighs has reached o

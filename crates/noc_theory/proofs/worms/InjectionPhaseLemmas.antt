@@ -9,10 +9,11 @@ use Rattle.noc_theory.specs.Worm.{IsPath}
 use Rattle.noc_theory.proofs.worms.BuiltRecordLemmas.{IsBuilt}
 use Rattle.noc_topo.specs.Words.{Has, Pairs}
 use Rattle.noc_theory.proofs.worms.MemberLemmas.{Has-append, Has-left, Has-right, Has-filter, Has-kept, Has-map, Has-mapped, Pairs-filter, Pairs-append, Pairs-map, each-at, each-from}
-use Rattle.noc_theory.proofs.worms.OwnedLemmas.{IsOnce, IsOtherChannel, of, of-append, of-has, has-of}
+use Rattle.noc_theory.proofs.worms.OwnedLemmas.{IsOnce, of, of-append, of-has, has-of}
+use Rattle.noc_theory.proofs.worms.StateWordLemmas.{IsOtherChannel, IsPlaced, IsNear, IsEntering, class_of, goal, last_of}
 use Rattle.noc_theory.proofs.worms.PathLemmas.{IsBehind, path-behind, path-tail}
-use Rattle.noc_theory.proofs.worms.PlaceLemmas.{IsValid}
-use Rattle.noc_theory.proofs.worms.WormRecordLemmas.{IsWorm, IsPlaced, IsNear, IsEntering, class_of, goal, last_of, valid-last, valid-first, valid-below}
+use Rattle.noc_theory.specs.Good.{IsValid}
+use Rattle.noc_theory.proofs.worms.WormRecordLemmas.{IsWorm, valid-last, valid-first, valid-below}
 
 -- of different packets, to different channels
 abbrev pub IsApart : (net : Setup) → Injection net → Injection net → Type 0

@@ -3,15 +3,14 @@ use Rattle.std.proofs.Common.{◌≡◌, ℕ, ◌+◌, ◌<◌, ◌≤◌, Bool,
 use Rattle.std.specs.Prelude.{filter, find, option_map, ◌⊎◌, nat_eq, nat_lt, nat_le, ◌&&◌, not}
 use Rattle.std.proofs.lemmas.Bool.{false≢true, true≢false, eqb-true, and_parts, and_from, ltb-true, not-true}
 use Rattle.std.proofs.lemmas.Option.{none-some, same_Some}
-use Rattle.noc_topo.specs.Words.{below}
+use Rattle.noc_topo.specs.Words.{below, Has, Pairs}
 use Rattle.noc_route.specs.Channel.{Channel, Inject}
 use Rattle.noc_theory.specs.Network.{Setup, Injection, State, Located, In, packet_at, place_of_flit, is_in, count_in, after_injection, injection_at, injections, injected_place, injection_with, beginning, first_waiting, is_injection_of, owned_by, first_at_source, is_the_flit, is_at_source, is_idle}
 use Rattle.noc_theory.proofs.worms.BuiltRecordLemmas.{IsBuilt}
 use Rattle.noc_theory.proofs.worms.OptionLemmas.{and_then-some, cond-some}
 use Rattle.noc_theory.proofs.worms.BufferLemmas.{find-passes, same_channel-true}
-use Rattle.noc_topo.specs.Words.{Has, Pairs}
 use Rattle.noc_theory.proofs.worms.MemberLemmas.{Has-kept, Has-filter_map, find-has, each-at}
-use Rattle.noc_theory.proofs.worms.PlaceLemmas.{IsKeyed}
+use Rattle.noc_theory.proofs.worms.StateWordLemmas.{IsKeyed}
 use Rattle.noc_theory.proofs.worms.WormRecordLemmas.{IsWorm}
 use Rattle.noc_theory.proofs.worms.InjectionPhaseLemmas.{IsApart}
 use Rattle.noc_theory.proofs.worms.InjectionStateLemmas.{entry-of, entries-apart}

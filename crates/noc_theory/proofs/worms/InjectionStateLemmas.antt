@@ -4,19 +4,21 @@ use Rattle.std.specs.Prelude.{filter, find, option_map, nat_eq, nat_lt, nat_le, 
 use Rattle.std.specs.List.{range_with_len, list_any}
 use Rattle.std.proofs.lemmas.Bool.{false≢true, eqb-true, eq-eqb, ne_eqb, and_parts, and_from, and_right}
 use Rattle.std.proofs.lemmas.Option.{none-some, same_Some}
-use Rattle.noc_topo.specs.Words.{below, least_by, lesser_by}
+use Rattle.noc_topo.specs.Words.{below, least_by, lesser_by, Has, Pairs}
 use Rattle.noc_topo.specs.Shape.{nodes}
 use Rattle.noc_route.specs.Channel.{Channel, Link, Inject, Eject}
 use Rattle.noc_theory.specs.Network.{Setup, Injection, State, Located, Place, Source, In, packet_at, place_of_flit, owner_of, owned_by, is_idle, flits_of, is_at_source, first_waiting, is_injection_of, beginning, injection_with, injection_at, injections, first_at_source, is_the_flit, injected_place, after_injection, count_in}
 use Rattle.noc_theory.proofs.worms.BuiltRecordLemmas.{IsBuilt}
-use Rattle.noc_theory.proofs.worms.OptionLemmas.{and_then-some, cond-some, is_none-none}
+use Rattle.noc_theory.proofs.worms.OptionLemmas.{and_then-some, cond-some}
+use Rattle.noc_route.proofs.OptionLemmas.{is_none-none}
 use Rattle.noc_theory.proofs.worms.BufferLemmas.{find-passes}
-use Rattle.noc_topo.specs.Words.{Has, Pairs}
 use Rattle.noc_theory.proofs.worms.MemberLemmas.{Has-filter, Has-filter_map, find-has, find-fails, find-some, list_any-has, Pairs-filter_map, each-from}
 use Rattle.noc_theory.proofs.worms.OwnedLemmas.{of, of-has, has-of, idle-none}
 use Rattle.noc_theory.proofs.worms.GrantLemmas.{Has-range, Has-below}
-use Rattle.noc_theory.proofs.worms.PlaceLemmas.{IsValid, IsKeyed, place-of-flit, flit-there, place-stepped, find-first, keyed-stepped, at_source-is}
-use Rattle.noc_theory.proofs.worms.WormRecordLemmas.{IsWorm, last_of, valid-last}
+use Rattle.noc_theory.specs.Good.{IsValid}
+use Rattle.noc_theory.proofs.worms.StateWordLemmas.{IsKeyed, last_of}
+use Rattle.noc_theory.proofs.worms.PlaceLemmas.{place-of-flit, flit-there, place-stepped, find-first, keyed-stepped, at_source-is}
+use Rattle.noc_theory.proofs.worms.WormRecordLemmas.{IsWorm, valid-last}
 use Rattle.noc_theory.proofs.worms.InjectionPhaseLemmas.{IsApart, IsEntry, IsEnteredBy, IsInjected, source-behind, worm-injected}
 
 pub range-apart : (a n : ℕ) → Pairs (λ (x y : ℕ). x ≢ y) (range_with_len a n)

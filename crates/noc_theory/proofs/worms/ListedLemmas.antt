@@ -6,7 +6,9 @@ use Rattle.std.proofs.lemmas.Bool.{eqb-true, eq-eqb}
 use Rattle.noc_topo.specs.Words.{Has, Pairs, below, tabulate}
 use Rattle.noc_theory.specs.Network.{Setup, State, Located, Place, packet_at, place_of_flit, flits_of}
 use Rattle.noc_theory.proofs.worms.MemberLemmas.{Has-filter, Has-kept, Pairs-filter, each-at}
-use Rattle.noc_theory.proofs.worms.PlaceLemmas.{IsValid, IsKeyed, IsSortedPair, place-of-flit}
+use Rattle.noc_theory.specs.Good.{IsValid}
+use Rattle.noc_theory.proofs.worms.StateWordLemmas.{IsKeyed, IsSortedPair}
+use Rattle.noc_theory.proofs.worms.PlaceLemmas.{place-of-flit}
 
 module _ (net : Setup) (S : State) (keyed : IsKeyed net S.at) where
   -- flit i of packet p, where it is

@@ -11,14 +11,17 @@ use Rattle.noc_theory.specs.Progress.{weight, hops}
 use Rattle.noc_theory.specs.Worm.{IsPath}
 use Rattle.noc_theory.proofs.worms.BuiltRecordLemmas.{IsBuilt}
 use Rattle.noc_router.specs.declared.verdict.Verdict.TheVariants.{Moved}
-use Rattle.noc_theory.proofs.worms.OptionLemmas.{is_some_of-true}
-use Rattle.noc_theory.proofs.worms.BufferLemmas.{find-passes, same_channel-refl, next-some, is_moved-true}
+use Rattle.noc_alloc.proofs.WordLemmas.{is_some_of-true}
+use Rattle.noc_theory.proofs.worms.BufferLemmas.{find-passes, same_channel-refl, next-some}
+use Rattle.noc_router.proofs.SettleLemmas.{is_moved-true}
 use Rattle.noc_topo.specs.Words.{Has}
 use Rattle.noc_theory.proofs.worms.MemberLemmas.{find-has}
 use Rattle.noc_theory.proofs.worms.OwnedLemmas.{of, of-has, has-of, owner-is}
-use Rattle.noc_theory.proofs.worms.PathLemmas.{IsEject, IsBehind, path-behind, path-tail}
-use Rattle.noc_theory.proofs.worms.PlaceLemmas.{IsValid, IsKeyed, place-of-flit, flit-there, place-stepped, find-first, is_in-is}
-use Rattle.noc_theory.proofs.worms.WormRecordLemmas.{IsWorm, IsPlaced, class_of, goal, far_of}
+use Rattle.noc_theory.proofs.worms.StateWordLemmas.{IsEject, IsKeyed, IsPlaced, class_of, goal, far_of}
+use Rattle.noc_theory.proofs.worms.PathLemmas.{IsBehind, path-behind, path-tail}
+use Rattle.noc_theory.specs.Good.{IsValid}
+use Rattle.noc_theory.proofs.worms.PlaceLemmas.{place-of-flit, flit-there, place-stepped, find-first, is_in-is}
+use Rattle.noc_theory.proofs.worms.WormRecordLemmas.{IsWorm}
 
 module _ (net : Setup) where
   -- a channel from which another leads ends where that begins, as far away

@@ -12,9 +12,9 @@ use Rattle.noc_topo.specs.Words.{Has}
 use Rattle.noc_theory.proofs.worms.OwnedLemmas.{of, of-has, has-of, owner-is}
 use Rattle.noc_theory.proofs.worms.MemberLemmas.{find-some, find-has}
 use Rattle.noc_theory.proofs.worms.BufferLemmas.{find-passes}
-use Rattle.noc_theory.proofs.worms.PathLemmas.{IsEject, path-tail, ends-at-eject}
-use Rattle.noc_theory.proofs.worms.PlaceLemmas.{IsKeyed}
-use Rattle.noc_theory.proofs.worms.WormRecordLemmas.{IsWorm, class_of, goal, far_of}
+use Rattle.noc_theory.proofs.worms.StateWordLemmas.{IsEject, IsKeyed, class_of, goal, far_of}
+use Rattle.noc_theory.proofs.worms.PathLemmas.{path-tail, ends-at-eject}
+use Rattle.noc_theory.proofs.worms.WormRecordLemmas.{IsWorm}
 use Rattle.noc_theory.proofs.worms.MoveLemmas.{IsNext, leads-end, end-far, same-far, far-link, far-eject}
 
 module _ (net : Setup) (built : IsBuilt net) (F : State) (keyed : IsKeyed net F.at) (w : IsWorm net F.own (place_of_flit net F)) where

@@ -7,8 +7,10 @@ use Rattle.noc_theory.specs.Network.{Setup, network_cycle, State, Located, Place
 use Rattle.noc_theory.specs.Progress.{weight}
 use Rattle.noc_theory.proofs.worms.BuiltRecordLemmas.{IsBuilt}
 use Rattle.noc_theory.proofs.worms.GrantLemmas.{IsWired}
-use Rattle.noc_theory.proofs.worms.PlaceLemmas.{IsValid, place-stepped, out-landed}
-use Rattle.noc_theory.proofs.worms.WormRecordLemmas.{IsPlaced, far_of, valid-below}
+use Rattle.noc_theory.specs.Good.{IsValid}
+use Rattle.noc_theory.proofs.worms.PlaceLemmas.{place-stepped, out-landed}
+use Rattle.noc_theory.proofs.worms.StateWordLemmas.{IsPlaced, far_of}
+use Rattle.noc_theory.proofs.worms.WormRecordLemmas.{valid-below}
 use Rattle.noc_theory.proofs.worms.InjectionPhaseLemmas.{IsInjected}
 use Rattle.noc_theory.proofs.worms.InjectionStateLemmas.{entries-move, entries-are, entries-apart, all_entries}
 use Rattle.noc_theory.proofs.worms.MoveLemmas.{IsMoving, IsMoved, moved-or-not, same-far, far-eject, leads-end, no-end-eject, weight-in}

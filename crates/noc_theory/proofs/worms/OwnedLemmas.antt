@@ -10,7 +10,7 @@ use Rattle.noc_theory.specs.Network.{Setup, State, owner_of}
 use Rattle.noc_theory.proofs.worms.BufferLemmas.{same_channel-refl, same_channel-true, find-passes}
 use Rattle.noc_topo.specs.Words.{Has, Pairs}
 use Rattle.noc_theory.proofs.worms.MemberLemmas.{Has-filter, Has-kept, Has-map, Has-mapped, find-has, find-some, each-at}
-pub use Rattle.noc_theory.proofs.worms.StateWordLemmas.{IsOtherChannel}
+use Rattle.noc_theory.proofs.worms.StateWordLemmas.{IsOtherChannel}
 
 -- no channel twice
 abbrev pub IsOnce : List (Channel × ℕ) → Type 0

@@ -8,7 +8,7 @@ use Rattle.noc_theory.specs.Network.{Setup, end_distance, leads_from}
 use Rattle.noc_theory.specs.Worm.{IsPath}
 use Rattle.noc_theory.proofs.worms.BuiltRecordLemmas.{IsBuilt}
 use Rattle.noc_topo.specs.Words.{Has}
-pub use Rattle.noc_theory.proofs.worms.StateWordLemmas.{IsEject}
+use Rattle.noc_theory.proofs.worms.StateWordLemmas.{IsEject}
 
 module _ (net : Setup) (built : IsBuilt net) (m t : ℕ) where
   abbrev pub far : Channel → ℕ

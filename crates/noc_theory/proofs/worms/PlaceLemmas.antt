@@ -8,7 +8,8 @@ use Rattle.noc_theory.proofs.worms.BufferLemmas.{find-passes, same_channel-true}
 use Rattle.noc_topo.specs.Words.{Has, Pairs}
 use Rattle.noc_route.specs.Channel.{Channel}
 use Rattle.noc_theory.proofs.worms.MemberLemmas.{Has-map, Has-mapped, find-has, find-some, Pairs-map, each-at}
-pub use Rattle.noc_theory.proofs.worms.StateWordLemmas.{IsSortedPair, IsValid, IsKeyed}
+use Rattle.noc_theory.proofs.worms.StateWordLemmas.{IsSortedPair, IsKeyed}
+use Rattle.noc_theory.specs.Good.{IsValid}
 
 -- ---- a place by its test
 pub is_in-is : (c : Channel) (x : Place) → is_in c x ≡ true → x ≡ In c

@@ -8,9 +8,9 @@ use Rattle.noc_theory.proofs.worms.BuiltRecordLemmas.{IsBuilt}
 use Rattle.noc_theory.proofs.worms.BufferLemmas.{same_channel-true}
 use Rattle.noc_topo.specs.Words.{Has, Pairs}
 use Rattle.noc_theory.proofs.worms.MemberLemmas.{Has-filter, each-at}
-use Rattle.noc_theory.proofs.worms.PlaceLemmas.{IsKeyed, IsSortedPair, place-of-flit}
-use Rattle.noc_theory.proofs.worms.WormRecordLemmas.{IsWorm, IsPlaced}
-pub use Rattle.noc_theory.proofs.worms.StateWordLemmas.{places_taken}
+use Rattle.noc_theory.proofs.worms.StateWordLemmas.{IsKeyed, IsSortedPair, IsPlaced}
+use Rattle.noc_theory.proofs.worms.PlaceLemmas.{place-of-flit}
+use Rattle.noc_theory.proofs.worms.WormRecordLemmas.{IsWorm}
 
 -- ---- counting through a step
 

@@ -9,12 +9,11 @@ use Rattle.noc_theory.specs.Progress.{head_place, hops}
 use Rattle.noc_theory.proofs.worms.BuiltRecordLemmas.{IsBuilt}
 use Rattle.noc_topo.specs.Words.{Has}
 use Rattle.noc_theory.proofs.worms.MemberLemmas.{Has-append, Has-left, Has-right}
-use Rattle.noc_theory.proofs.worms.PathLemmas.{IsEject}
-use Rattle.noc_theory.proofs.worms.PlaceLemmas.{IsKeyed}
-use Rattle.noc_theory.proofs.worms.WormRecordLemmas.{IsWorm, IsNear, goal, last_of, far_of, valid-last, valid-first}
+use Rattle.noc_theory.proofs.worms.StateWordLemmas.{IsEject, IsKeyed, IsNear, goal, last_of, far_of, Come, IsHeld, HasNext}
+use Rattle.noc_theory.proofs.worms.WormRecordLemmas.{IsWorm, valid-last, valid-first}
 use Rattle.noc_theory.proofs.worms.InjectionPhaseLemmas.{apart-same, IsEnteredBy, IsInjected, news, new-entry, new-fresh}
 use Rattle.noc_theory.proofs.worms.InjectionStateLemmas.{entries-move, entries-are, entries-apart, all_entries, worm-after_injection}
-use Rattle.noc_theory.proofs.worms.RoutedRecordLemmas.{Come, IsHeld, HasNext, IsRoutedFrozen, entering-behind}
+use Rattle.noc_theory.proofs.worms.RoutedRecordLemmas.{IsRoutedFrozen, entering-behind}
 
 module _ (net : Setup) (built : IsBuilt net) (S : State) (keyed : IsKeyed net S.at) (w : IsWorm net S.own (place_of_flit net S)) (n : ℕ) (r : IsRoutedFrozen net S) where
   abbrev pub T : State

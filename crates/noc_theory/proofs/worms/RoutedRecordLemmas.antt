@@ -8,11 +8,11 @@ use Rattle.noc_theory.specs.Progress.{head_place}
 use Rattle.noc_theory.proofs.worms.BuiltRecordLemmas.{IsBuilt}
 use Rattle.noc_topo.specs.Words.{Has}
 use Rattle.noc_theory.proofs.worms.MemberLemmas.{Has-filter, Has-kept}
-use Rattle.noc_theory.proofs.worms.PathLemmas.{IsEject}
-use Rattle.noc_theory.proofs.worms.PlaceLemmas.{IsValid, IsKeyed, place-stepped, out-landed}
-use Rattle.noc_theory.proofs.worms.WormRecordLemmas.{IsWorm, IsEntering, goal, last_of, far_of, valid-last, valid-first, freed}
+use Rattle.noc_theory.proofs.worms.StateWordLemmas.{IsEject, IsKeyed, IsEntering, goal, last_of, far_of, Come, IsHeld, IsRoutedMid}
+use Rattle.noc_theory.specs.Good.{IsValid}
+use Rattle.noc_theory.proofs.worms.PlaceLemmas.{place-stepped, out-landed}
+use Rattle.noc_theory.proofs.worms.WormRecordLemmas.{IsWorm, valid-last, valid-first, freed}
 use Rattle.noc_theory.proofs.worms.MoveLemmas.{far-link}
-pub use Rattle.noc_theory.proofs.worms.StateWordLemmas.{Come, IsHeld, HasNext, IsRoutedMid}
 
 module _ (net : Setup) where
   -- the state at the start of a cycle: a channel is routed exactly where its owner's head has come and its tail is not past it

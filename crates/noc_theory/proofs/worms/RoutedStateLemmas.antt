@@ -3,21 +3,20 @@ use Rattle.std.proofs.Common.{◌≡◌, ℕ, zero, suc, ◌<◌, true, false, O
 use Rattle.std.specs.Prelude.{find, ◌⊎◌, not, nat_lt, nat_le, IsTrue, option_map}
 use Rattle.std.proofs.lemmas.Bool.{false≢true}
 use Rattle.std.proofs.lemmas.Option.{none-some, same_Some}
-use Rattle.noc_topo.specs.Words.{below}
+use Rattle.noc_topo.specs.Words.{below, Has}
 use Rattle.noc_topo.specs.Shape.{nodes}
 use Rattle.noc_route.specs.Channel.{Channel, Link, Inject, Eject, inputs, arrival_of, is_link}
 use Rattle.noc_route.specs.Routes.{permits}
 use Rattle.noc_theory.specs.Network.{Setup, network_cycle, tail_place, Injection, State, packet_at, place_of_flit, injection_at, injection_with, first_waiting, is_injection_of, owned_by, is_idle, count_in, is_released, is_past, has_channel, opening_state, after_landing, after_credits, after_injection, after_verdicts, frozen_state, state_at}
 use Rattle.noc_theory.proofs.worms.BuiltRecordLemmas.{IsBuilt}
 use Rattle.noc_theory.proofs.worms.OptionLemmas.{and_then-some, cond-some}
-use Rattle.noc_topo.specs.Words.{Has}
 use Rattle.noc_theory.proofs.worms.MemberLemmas.{Has-filter, Has-filter_map, find-has}
-use Rattle.noc_theory.proofs.worms.PathLemmas.{IsEject, no-inject}
+use Rattle.noc_theory.proofs.worms.StateWordLemmas.{IsEject, IsKeyed, class_of, goal, IsHeld, IsRoutedMid}
+use Rattle.noc_theory.proofs.worms.PathLemmas.{no-inject}
 use Rattle.noc_theory.proofs.worms.GrantLemmas.{IsWired, IsGrant, Has-below}
-use Rattle.noc_theory.proofs.worms.PlaceLemmas.{IsKeyed}
-use Rattle.noc_theory.proofs.worms.WormRecordLemmas.{IsWorm, freed, class_of, goal}
+use Rattle.noc_theory.proofs.worms.WormRecordLemmas.{IsWorm, freed}
 use Rattle.noc_theory.proofs.worms.VerdictPhaseLemmas.{owned-before}
-use Rattle.noc_theory.proofs.worms.RoutedRecordLemmas.{IsHeld, IsRoutedMid, IsRoutedFrozen, IsRoutedWell, routed-landed, routed-credits}
+use Rattle.noc_theory.proofs.worms.RoutedRecordLemmas.{IsRoutedFrozen, IsRoutedWell, routed-landed, routed-credits}
 use Rattle.noc_theory.proofs.worms.RoutedInjectionLemmas.{routed-injection, is-new, split, added}
 use Rattle.noc_theory.proofs.worms.RoutedVerdictLemmas.{routed-verdicts, backed-after}
 use Rattle.noc_theory.proofs.worms.SoundLemmas.{IsSoundState, IsSoundFrozen, sound-landed, sound-credits, sound-injection, sound-verdicts}

@@ -3,9 +3,8 @@ use Rattle.std.proofs.Common.{◌≡◌, ◌≢◌, ℕ, ◌+◌, ◌*◌, ◌<�
 use Rattle.std.specs.Prelude.{filter, ◌⊎◌, not, nat_lt, ◌&&◌, option_map, unwrap_or, get_or}
 use Rattle.std.proofs.lemmas.Bool.{false≢true, and_left, cases_eq, ltb-true, lt-ltb, not-true, and_from, and_parts}
 use Rattle.noc_route.specs.Channel.{Channel, Link, Inject, Eject, inputs, same_channel, is_link, arrival_of, channel_vc}
-use Rattle.noc_router.specs.Verdict.{Claim, Unrouted, verdict_of, Holds, Waits, Round}
+use Rattle.noc_router.specs.Verdict.{Claim, Unrouted, verdict_of, Holds, Waits, Round, is_moved, is_routed}
 use Rattle.noc_theory.specs.Network.{Setup, front_in, is_tail_of_packet, tail_place, State, Located, Place, Source, On, In, Out, place_of_flit, is_past, is_in, leads_from, owned_by, next_channel, has_channel, verdict_in, verdict_at, tail_leaves, tail_leaves_to, is_released, gone_to, count_in, claim_of, round_at, after_verdicts}
-use Rattle.noc_router.specs.Verdict.{is_moved, is_routed}
 use Rattle.noc_theory.specs.Progress.{head_place, weight, hops}
 use Rattle.noc_theory.proofs.worms.BuiltRecordLemmas.{IsBuilt}
 use Rattle.noc_theory.specs.Worm.{IsPath}
@@ -15,14 +14,16 @@ use Rattle.noc_theory.proofs.worms.BufferLemmas.{same_channel-refl, same_channel
 use Rattle.noc_topo.specs.Words.{Has, is_some_of}
 use Rattle.noc_theory.proofs.worms.MemberLemmas.{Has-append, Has-left, Has-right, Has-filter, Has-kept, list_any-has, list_any-from}
 use Rattle.noc_theory.proofs.worms.OwnedLemmas.{of, of-has, has-of}
-use Rattle.noc_theory.proofs.worms.PathLemmas.{IsEject, IsLast, IsBehind, path-behind, no-inject}
+use Rattle.noc_theory.proofs.worms.StateWordLemmas.{IsEject, IsKeyed, IsPlaced, IsNear, class_of, goal, last_of, far_of, Come, IsHeld, HasNext}
+use Rattle.noc_theory.proofs.worms.PathLemmas.{IsLast, IsBehind, path-behind, no-inject}
 use Rattle.noc_theory.proofs.worms.GrantLemmas.{IsWired, IsGrant, grant-last, last-same}
-use Rattle.noc_theory.proofs.worms.PlaceLemmas.{IsValid, IsKeyed, flit-there, place-of-flit, is_in-is}
-use Rattle.noc_theory.proofs.worms.WormRecordLemmas.{IsWorm, IsPlaced, IsNear, class_of, goal, last_of, far_of, valid-last, valid-first, heavy-not-past}
+use Rattle.noc_theory.specs.Good.{IsValid}
+use Rattle.noc_theory.proofs.worms.PlaceLemmas.{flit-there, place-of-flit, is_in-is}
+use Rattle.noc_theory.proofs.worms.WormRecordLemmas.{IsWorm, valid-last, valid-first, heavy-not-past}
 use Rattle.noc_theory.proofs.worms.MoveLemmas.{IsMoving, IsMoved, far-link, next-once, next-is, placed-in, weight-in}
 use Rattle.noc_theory.proofs.worms.VerdictPhaseLemmas.{leaves-tail, kept-left, owned-before, known-after}
 use Rattle.noc_theory.proofs.worms.RoomLemmas.{filter-some}
-use Rattle.noc_theory.proofs.worms.RoutedRecordLemmas.{Come, IsHeld, HasNext, IsRoutedFrozen, IsRoutedWell}
+use Rattle.noc_theory.proofs.worms.RoutedRecordLemmas.{IsRoutedFrozen, IsRoutedWell}
 use Rattle.noc_theory.proofs.worms.NextLemmas.{leads-far, two-ejects}
 use Rattle.noc_theory.proofs.worms.RoutedMoveLemmas.{worm, step, same-held, come-after, come-before, behind-after, stays-if, kept-held, given, far-given, not-come}
 use Rattle.noc_theory.proofs.worms.InjectionPhaseLemmas.{light as lighter}

@@ -6,12 +6,14 @@ use Rattle.noc_route.specs.Channel.{Channel}
 use Rattle.noc_theory.specs.Network.{Setup, State, Located, Place, Source, On, In, Out, place_of_flit, count_in, landed_place, after_landing, after_credits, after_injection, after_verdicts, frozen_state, network_cycle}
 use Rattle.noc_theory.proofs.worms.BuiltRecordLemmas.{IsBuilt}
 use Rattle.noc_theory.proofs.worms.GrantLemmas.{IsWired}
-use Rattle.noc_theory.proofs.worms.PlaceLemmas.{IsValid, IsKeyed, place-stepped, keyed-stepped}
+use Rattle.noc_theory.specs.Good.{IsValid, places_taken}
+use Rattle.noc_theory.proofs.worms.StateWordLemmas.{IsKeyed}
+use Rattle.noc_theory.proofs.worms.PlaceLemmas.{place-stepped, keyed-stepped}
 use Rattle.noc_theory.proofs.worms.WormRecordLemmas.{IsWorm, worm-landed, worm-freed}
 use Rattle.noc_theory.proofs.worms.InjectionPhaseLemmas.{IsInjected}
 use Rattle.noc_theory.proofs.worms.InjectionStateLemmas.{worm-after_injection, keyed-after_injection, entries-move, entries-are, entries-apart, all_entries}
 use Rattle.noc_theory.proofs.worms.VerdictPhaseLemmas.{worm-after_verdicts, keyed-after_verdicts}
-use Rattle.noc_theory.proofs.worms.RoomLemmas.{places_taken, landed-count}
+use Rattle.noc_theory.proofs.worms.RoomLemmas.{landed-count}
 use Rattle.noc_theory.proofs.worms.InjectionRoomLemmas.{room-after_injection}
 use Rattle.noc_theory.proofs.worms.VerdictRoomLemmas.{room-after_verdicts}
 

@@ -10,7 +10,8 @@ use Rattle.noc_theory.specs.Worm.{IsPath}
 use Rattle.noc_topo.specs.Words.{Has}
 use Rattle.noc_theory.proofs.worms.OwnedLemmas.{of, has-of, of-has}
 use Rattle.noc_theory.proofs.worms.PathLemmas.{IsBehind, path-behind}
-use Rattle.noc_theory.proofs.worms.WormRecordLemmas.{IsWorm, IsPlaced, class_of, goal, last_of, far_of, valid-last}
+use Rattle.noc_theory.proofs.worms.WormRecordLemmas.{IsWorm, valid-last}
+use Rattle.noc_theory.proofs.worms.StateWordLemmas.{IsPlaced, class_of, goal, last_of, far_of}
 
 module _ (net : Setup) (built : IsBuilt net) (own : List (Channel × ℕ)) (at : ℕ → ℕ → Place) (w : IsWorm net own at) where
   -- what is not the first of a path has one before it

@@ -5,7 +5,7 @@ use Rattle.noc_topo.specs.Shape.{distance}
 use Rattle.noc_route.specs.Channel.{Channel, Link, Inject, Eject}
 use Rattle.noc_theory.specs.Network.{Setup, State, Located, Place, Source, On, In, Out, packet_at, has_channel, is_past, leads_from, end_distance, tail_place}
 use Rattle.noc_theory.specs.Progress.{hops, head_place}
-pub use Rattle.noc_theory.specs.Good.{IsValid, places_taken}
+use Rattle.noc_theory.specs.Good.{IsValid}
 
 -- the first index of a packet is below the second, if they are of one packet
 abbrev pub IsSortedPair : Located → Located → Type 0

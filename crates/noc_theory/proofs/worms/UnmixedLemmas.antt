@@ -12,8 +12,10 @@ use Rattle.noc_theory.proofs.worms.BufferLemmas.{same_channel-refl}
 use Rattle.noc_topo.specs.Words.{Has, Pairs}
 use Rattle.noc_theory.proofs.worms.MemberLemmas.{Has-filter, Has-kept, Pairs-filter, each-at}
 use Rattle.noc_theory.proofs.worms.OwnedLemmas.{owner-is}
-use Rattle.noc_theory.proofs.worms.PlaceLemmas.{IsValid, IsKeyed, IsSortedPair, place-of-flit, flit-there, is_in-is}
-use Rattle.noc_theory.proofs.worms.WormRecordLemmas.{IsWorm, IsPlaced, valid-below}
+use Rattle.noc_theory.specs.Good.{IsValid}
+use Rattle.noc_theory.proofs.worms.StateWordLemmas.{IsKeyed, IsSortedPair, IsPlaced}
+use Rattle.noc_theory.proofs.worms.PlaceLemmas.{place-of-flit, flit-there, is_in-is}
+use Rattle.noc_theory.proofs.worms.WormRecordLemmas.{IsWorm, valid-below}
 use Rattle.noc_theory.proofs.worms.InjectionPhaseLemmas.{two-injects}
 use Rattle.noc_theory.proofs.worms.MoveLemmas.{same-far, placed-in}
 

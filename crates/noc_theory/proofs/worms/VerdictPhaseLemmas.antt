@@ -12,14 +12,16 @@ use Rattle.noc_router.specs.Verdict.{is_moved}
 use Rattle.noc_theory.specs.Progress.{weight, hops}
 use Rattle.noc_theory.proofs.worms.BuiltRecordLemmas.{IsBuilt}
 use Rattle.noc_router.specs.declared.verdict.Verdict.TheVariants.{Moved}
-use Rattle.noc_theory.proofs.worms.BufferLemmas.{is_moved-true}
+use Rattle.noc_router.proofs.SettleLemmas.{is_moved-true}
 use Rattle.noc_topo.specs.Words.{Has}
 use Rattle.noc_theory.proofs.worms.MemberLemmas.{Has-append, Has-left, Has-filter, Has-kept, Has-filter_map}
 use Rattle.noc_theory.proofs.worms.OwnedLemmas.{owner-has, once-same}
-use Rattle.noc_theory.proofs.worms.PathLemmas.{IsEject, no-inject}
-use Rattle.noc_theory.proofs.worms.PlaceLemmas.{IsValid, IsKeyed, keyed-stepped}
+use Rattle.noc_theory.proofs.worms.StateWordLemmas.{IsEject, IsKeyed, IsPlaced, IsNear, IsEntering, class_of, goal, last_of, far_of}
+use Rattle.noc_theory.proofs.worms.PathLemmas.{no-inject}
+use Rattle.noc_theory.specs.Good.{IsValid}
+use Rattle.noc_theory.proofs.worms.PlaceLemmas.{keyed-stepped}
 use Rattle.noc_theory.proofs.worms.GrantLemmas.{IsWired, IsGrant, granted-is, once-after_verdicts, path-after_verdicts}
-use Rattle.noc_theory.proofs.worms.WormRecordLemmas.{IsWorm, IsPlaced, IsNear, IsEntering, class_of, goal, last_of, far_of, valid-last, valid-first, valid-below}
+use Rattle.noc_theory.proofs.worms.WormRecordLemmas.{IsWorm, valid-last, valid-first, valid-below}
 use Rattle.noc_theory.proofs.worms.InjectionPhaseLemmas.{light}
 use Rattle.noc_theory.proofs.worms.MoveLemmas.{IsFirst, IsMoving, IsStaying, IsMoved, moved-or-not, first-is, weight-gone, weight-in, placed-in, same-far, next-no-eject, leads-end, end-far, no-end-eject}
 

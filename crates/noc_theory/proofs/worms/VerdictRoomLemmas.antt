@@ -4,20 +4,21 @@ use Rattle.std.specs.Prelude.{◌⊎◌, nat_eq, nat_lt, ◌&&◌, not, if◌the
 use Rattle.std.specs.List.{AllByRecursion}
 use Rattle.std.proofs.lemmas.Bool.{false≢true, eqb-true, ne_eqb, and_parts, and_left, and_right, ltb-true, or_cases}
 use Rattle.noc_route.specs.Channel.{Channel, Link, Inject, Eject, same_channel, is_link, inputs, arrival_of, channel_vc, output_index}
-use Rattle.noc_router.specs.Verdict.{Unrouted, Holds}
+use Rattle.noc_router.specs.Verdict.{Unrouted, Holds, is_moved}
 use Rattle.noc_theory.specs.Network.{Setup, State, Located, Place, On, In, Out, place_of_flit, is_on, has_channel, buffer_of, count_on, count_in, credit_of, has_credit_in, after_verdicts, verdict_in, verdict_at, next_channel, gone_to, moved_place, claim_of, round_at}
-use Rattle.noc_router.specs.Verdict.{is_moved}
-use Rattle.noc_theory.proofs.worms.BufferLemmas.{same_flit}
+use Rattle.noc_theory.proofs.worms.BufferLemmas.{same_flit, same_channel-true, moved-holds, buffer-moved, buffer-stays, next-some, IsDistinct}
 use Rattle.noc_theory.proofs.worms.BuiltRecordLemmas.{IsBuilt}
 use Rattle.noc_router.specs.declared.verdict.Verdict.TheVariants.{Empty, Moved}
-use Rattle.noc_theory.proofs.worms.BufferLemmas.{same_channel-true, moved-holds, is_moved-true, buffer-moved, buffer-stays, next-some, IsDistinct}
+use Rattle.noc_router.proofs.SettleLemmas.{is_moved-true}
 use Rattle.noc_topo.specs.Words.{Has, Pairs}
 use Rattle.noc_theory.proofs.worms.MemberLemmas.{Has-filter, Has-map, list_any-has, each-at}
 use Rattle.noc_theory.proofs.worms.OwnedLemmas.{once-same}
-use Rattle.noc_theory.proofs.worms.PlaceLemmas.{IsValid, IsKeyed, IsSortedPair, place-of-flit, place-stepped, is_on-is}
+use Rattle.noc_theory.specs.Good.{IsValid, places_taken}
+use Rattle.noc_theory.proofs.worms.StateWordLemmas.{IsKeyed, IsSortedPair}
+use Rattle.noc_theory.proofs.worms.PlaceLemmas.{place-of-flit, place-stepped, is_on-is}
 use Rattle.noc_theory.proofs.worms.WormRecordLemmas.{IsWorm}
 use Rattle.noc_theory.proofs.worms.MoveLemmas.{IsMoving, IsMoved, moved-or-not, next-once}
-use Rattle.noc_theory.proofs.worms.RoomLemmas.{places_taken, Gains, count-one_more, filter-some}
+use Rattle.noc_theory.proofs.worms.RoomLemmas.{Gains, count-one_more, filter-some}
 
 -- flits in order are of different keys
 pub sorted-distinct : (net : Setup) (fs : List Located) → Pairs IsSortedPair fs → IsDistinct same_flit fs

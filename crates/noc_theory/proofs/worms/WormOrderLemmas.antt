@@ -6,17 +6,16 @@ use Rattle.noc_topo.specs.Words.{Has}
 use Rattle.noc_route.specs.Channel.{Channel, Link, Inject, Eject, is_link}
 use Rattle.noc_theory.specs.Network.{Setup, State, Located, Place, Source, On, In, Out, place_of_flit, tail_place, count_in, count_on, credit_of, has_channel, owner_of, owned_by, is_past, packet_at, state_at, frozen_at}
 use Rattle.noc_theory.specs.Worm.{IsWormOrder, IsPath, IsRear}
-use Rattle.noc_theory.specs.Good.{IsGoodSetup}
+use Rattle.noc_theory.specs.Good.{IsGoodSetup, places_taken}
 use Rattle.noc_theory.proofs.worms.BuiltRecordLemmas.{IsBuilt}
 use Rattle.noc_theory.proofs.worms.BuiltLemmas.{good-built, good-wired, good-covering}
 use Rattle.noc_theory.proofs.worms.OwnedLemmas.{of-has, has-of, owner-is}
-use Rattle.noc_theory.proofs.worms.PathLemmas.{IsEject, IsBehind, path-behind, ends-at-eject}
-use Rattle.noc_theory.proofs.worms.PlaceLemmas.{IsKeyed, place-of-flit}
-use Rattle.noc_theory.proofs.worms.WormRecordLemmas.{IsWorm, IsPlaced, IsEntering, class_of, goal, last_of, far_of, valid-last}
+use Rattle.noc_theory.proofs.worms.StateWordLemmas.{IsEject, IsKeyed, IsPlaced, IsEntering, class_of, goal, last_of, far_of, IsHeld}
+use Rattle.noc_theory.proofs.worms.PathLemmas.{IsBehind, path-behind, ends-at-eject}
+use Rattle.noc_theory.proofs.worms.PlaceLemmas.{place-of-flit}
+use Rattle.noc_theory.proofs.worms.WormRecordLemmas.{IsWorm, valid-last}
 use Rattle.noc_theory.proofs.worms.MoveLemmas.{placed-in}
-use Rattle.noc_theory.proofs.worms.RoomLemmas.{places_taken}
 use Rattle.noc_theory.proofs.worms.UnmixedLemmas.{unmixed-buffer}
-use Rattle.noc_theory.proofs.worms.RoutedRecordLemmas.{IsHeld}
 use Rattle.noc_theory.proofs.worms.RoutedStateLemmas.{IsWhole, IsWholeFrozen, whole-state, whole-frozen_state}
 
 module _ (net : Setup) (built : IsBuilt net) (S : State) (keyed : IsKeyed net S.at) (w : IsWorm net S.own (place_of_flit net S)) where

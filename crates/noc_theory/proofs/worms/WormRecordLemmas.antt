@@ -11,10 +11,10 @@ use Rattle.noc_theory.specs.Worm.{IsPath}
 use Rattle.noc_theory.proofs.worms.BuiltRecordLemmas.{IsBuilt}
 use Rattle.noc_topo.specs.Words.{Has}
 use Rattle.noc_theory.proofs.worms.MemberLemmas.{Has-filter, Has-kept, Pairs-filter}
-use Rattle.noc_theory.proofs.worms.OwnedLemmas.{IsOnce, IsOtherChannel, of, of-filter, of-has}
-use Rattle.noc_theory.proofs.worms.PathLemmas.{IsEject, path-filter, no-inject}
-use Rattle.noc_theory.proofs.worms.PlaceLemmas.{IsValid}
-pub use Rattle.noc_theory.proofs.worms.StateWordLemmas.{class_of, goal, last_of, far_of, IsNear, IsPlaced, IsEntering}
+use Rattle.noc_theory.proofs.worms.OwnedLemmas.{IsOnce, of, of-filter, of-has}
+use Rattle.noc_theory.proofs.worms.StateWordLemmas.{IsOtherChannel, IsEject, class_of, goal, last_of, far_of, IsNear, IsPlaced, IsEntering}
+use Rattle.noc_theory.proofs.worms.PathLemmas.{path-filter, no-inject}
+use Rattle.noc_theory.specs.Good.{IsValid}
 
 module _ (net : Setup) where
   -- who owns what, and where the flit of each packet and index is

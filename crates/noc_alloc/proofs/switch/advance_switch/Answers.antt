@@ -4,7 +4,7 @@ use Rattle.std.proofs.lemmas.Bool.{le-ltb}
 use Rattle.std.proofs.lemmas.List.{get_or_default, take_all}
 use Rattle.noc_alloc.specs.Arbiter.{RoundRobin, arbiter_after, arbiter_at}
 use Rattle.noc_alloc.specs.Allocation.{winning_pick}
-use Rattle.noc_alloc.proofs.WordLemmas.{map_indexed-from_each}
+use Rattle.noc_topo.proofs.WordLemmas.{map_indexed-from_each}
 use Rattle.noc_alloc.proofs.SwitchLemmas.{AllTurned, moved-by_requests, turned-more, turned_below-all, turned_below-more, turned_by-sizes}
 use Rattle.noc_alloc.proofs.switch.advance_switch.Goals as goal
 

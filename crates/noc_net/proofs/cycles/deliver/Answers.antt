@@ -8,7 +8,7 @@ use Rattle.noc_theory.specs.Halves.{beat_at, sent_on}
 use Rattle.std.specs.Prelude.{◌&&◌, not, nat_eq}
 use Rattle.std.proofs.lemmas.Bool.{false≢true}
 use Rattle.noc_theory.proofs.runs.WireLemmas.{AreLeft, left-at, left-first, left-more, left-none, received-first, received-last, received_more, unloaded, link_within, rows_kept}
-use Rattle.noc_router.proofs.QuietLemmas.{least_member, none_left}
+use Rattle.noc_alloc.proofs.RequestLemmas.{least_member, none_left}
 use Rattle.noc_net.proofs.cycles.deliver.Goals as goal
 
 pub loop-port-init : goal.loop-port-init

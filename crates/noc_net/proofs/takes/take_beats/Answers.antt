@@ -7,7 +7,7 @@ use Rattle.noc_packet.specs.Set.{has_bit}
 use Rattle.noc_packet.specs.declared.packet.Beat.{Beat}
 use Rattle.noc_router.specs.Links.{is_idle_beat}
 use Rattle.noc_router.specs.View.{View, view_after_takes, idle_beat}
-use Rattle.noc_router.proofs.QuietLemmas.{least_member, none_left}
+use Rattle.noc_alloc.proofs.RequestLemmas.{least_member, none_left}
 use Rattle.noc_router.proofs.SiteLemmas.{taken-site}
 use Rattle.noc_theory.specs.Halves.{incoming}
 use Rattle.noc_theory.proofs.runs.StepLemmas.{taken_end, IsRelationOf-same_site}

@@ -6,7 +6,8 @@ use Rattle.noc_topo.proofs.WordLemmas.{tabulate-from_each}
 use Rattle.noc_packet.specs.Set.{has_bit}
 use Rattle.noc_router.specs.Settled.{finding_by, planned_verdict}
 use Rattle.noc_router.specs.Sound.{nth_input, finding_with}
-use Rattle.noc_router.specs.Tally.{IsPlanOf, empty_finding}
+use Rattle.noc_router.specs.Tally.{IsPlanOf}
+use Rattle.noc_router.specs.Found.{empty_finding}
 use Rattle.noc_router.specs.declared.verdict.Finding.{Finding}
 use Rattle.noc_router.specs.declared.verdict.Verdict.{Verdict}
 use Rattle.noc_router.proofs.TallyLemmas.{IsNoting, noting-last, noting-more, plan_verdict}

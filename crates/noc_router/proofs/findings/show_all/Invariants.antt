@@ -1,5 +1,5 @@
 use Rattle.std.proofs.Common.{◌≡◌, None, drop, get_or, length}
-use Rattle.noc_router.specs.Members.{AreBelow}
+use Rattle.noc_alloc.specs.Places.{AreBelow}
 use Rattle.noc_router.specs.Settled.{planned_verdict}
 use Rattle.noc_router.specs.Sound.{nth_input, finding_with}
 use Rattle.noc_router.proofs.TallyLemmas.{IsNoting}

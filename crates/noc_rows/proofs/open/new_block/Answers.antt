@@ -1,6 +1,6 @@
 use Rattle.noc_row_words.proofs.FrameLemmas.{same-each, same-port}
 use Rattle.std.proofs.Common.{refl}
-use Rattle.noc_router.proofs.QuietLemmas.{at_replicate}
+use Rattle.noc_alloc.proofs.RequestLemmas.{at_replicate}
 use Rattle.noc_rows.proofs.opening.OpenLemmas.{none-at, sources-none}
 use Rattle.noc_rows.proofs.open.new_block.Goals as goal
 

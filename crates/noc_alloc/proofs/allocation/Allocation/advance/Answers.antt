@@ -2,7 +2,7 @@ use Rattle.std.proofs.Common.{◌∙◌, ap, None, get_or}
 use Rattle.std.specs.Prelude.{if◌then◌else◌}
 use Rattle.noc_alloc.specs.Arbiter.{RoundRobin, arbiter_after, arbiter_at}
 use Rattle.noc_alloc.proofs.OfferLemmas.{both_lacks}
-use Rattle.noc_alloc.proofs.WordLemmas.{map_indexed-from_each}
+use Rattle.noc_topo.proofs.WordLemmas.{map_indexed-from_each}
 use Rattle.noc_alloc.proofs.allocation.Allocation.advance.Goals as goal
 
 pub returns-clause-pointers : goal.returns-clause-pointers

@@ -1,7 +1,7 @@
 use Rattle.std.proofs.Common.{◌≡◌, Some, None, get_or, sym, ◌∙◌, arith}
 use Rattle.noc_router.proofs.MemberLemmas.{without-member}
 use Rattle.noc_router.proofs.PickedLemmas.{picks-first, picks-last, picks-next, picks-skip, pick-below}
-use Rattle.noc_router.proofs.QuietLemmas.{least_member, none_left}
+use Rattle.noc_alloc.proofs.RequestLemmas.{least_member, none_left}
 use Rattle.noc_router.proofs.requests.Requests.picked_by.Goals as goal
 
 pub loop-port-init : goal.loop-port-init

@@ -6,7 +6,7 @@ use Rattle.noc_router.specs.Settled.{decisions_by, planned_verdict}
 use Rattle.noc_router.proofs.LinkLemmas.{none_below-more, none_from_search}
 use Rattle.noc_router.proofs.OutcomeLemmas.{can_take, outcome-decided, effect_first, effect_more}
 use Rattle.noc_router.proofs.PassedLemmas.{can_take-turns, each-view, effect-turns, passed-all, passing-more, passing_first, with_turns}
-use Rattle.noc_router.proofs.QuietLemmas.{least_member}
+use Rattle.noc_alloc.proofs.RequestLemmas.{least_member}
 use Rattle.noc_router.proofs.EffectLemmas.{none_left}
 use Rattle.noc_router.proofs.WholeLemmas.{whole_view, size_view}
 use Rattle.noc_router.proofs.router.Router.apply_verdicts.Goals as goal

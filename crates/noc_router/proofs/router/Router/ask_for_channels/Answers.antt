@@ -4,7 +4,7 @@ use Rattle.noc_router.specs.Verdict.{ask_of}
 use Rattle.noc_router.specs.View.{size_of, view_claim}
 use Rattle.noc_router.proofs.FilledLemmas.{filled-last, filled-next, filled-skip}
 use Rattle.noc_router.proofs.MemberLemmas.{without-member}
-use Rattle.noc_router.proofs.QuietLemmas.{least_member, none_left}
+use Rattle.noc_alloc.proofs.RequestLemmas.{least_member, none_left}
 use Rattle.noc_router.proofs.StandLemmas.{asked-view, asks_of-stands}
 use Rattle.noc_router.proofs.router.Router.ask_for_channels.Goals as goal
 

@@ -5,7 +5,7 @@ use Rattle.noc_router.specs.View.{route_of, size_of}
 use Rattle.noc_router.proofs.FilledLemmas.{filled-last, filled-next}
 use Rattle.noc_router.proofs.MemberLemmas.{without-member}
 use Rattle.noc_router.proofs.PlaceLemmas.{length-sets}
-use Rattle.noc_router.proofs.QuietLemmas.{least_member, none_left}
+use Rattle.noc_alloc.proofs.RequestLemmas.{least_member, none_left}
 use Rattle.noc_router.proofs.StandLemmas.{head-route}
 use Rattle.noc_router.proofs.router.Router.route_heads.Goals as goal
 
