@@ -257,10 +257,10 @@ module _ (net : Setup) (good : IsGood net) (S : State) (x : IsSteady net good S)
             with (Some d) n h g = absurd (false≢true g)
             with None n h g = come (x.routed.only c h).2
               where
-                only : (p : ℕ) × Rattle.noc_theory.proofs.worms.RoutedRecordLemmas.IsHeld net S c p × Rattle.noc_theory.proofs.worms.RoutedRecordLemmas.Come net p c (head_place net S p) × (is_past net c (goal net p) (tail_place net S p) ≡ false)
+                only : (p : ℕ) × Rattle.noc_theory.proofs.worms.StateWordLemmas.IsHeld net S c p × Rattle.noc_theory.proofs.worms.StateWordLemmas.Come net p c (head_place net S p) × (is_past net c (goal net p) (tail_place net S p) ≡ false)
                 only = x.routed.only c h
 
-                come : Rattle.noc_theory.proofs.worms.RoutedRecordLemmas.Come net only.0 c (head_place net S only.0) → is_empty (seen_flits net S (Some c)) ≡ false
+                come : Rattle.noc_theory.proofs.worms.StateWordLemmas.Come net only.0 c (head_place net S only.0) → is_empty (seen_flits net S (Some c)) ≡ false
                 come (inl e) =
                     some (buffer_of net S c)
                     (in-some net good S x c only.0 0 (valid-first net good.built only.0 (x.worm.known c only.0 only.1.0)) (ap (is_in c) e ∙ same_channel-refl c))

@@ -182,7 +182,7 @@ module _ (net : Setup) (good : IsGood net) (M : State) (x : IsOrderedFrozen net 
   low-far p (Eject a w) h e = absurd (e tt)
 
   pub entry-own : (one : Injection net) → Has one (injections net M n) → (a v p i : ℕ) → IsValid net p i → one.packet ≡ p → place_of_flit net T p i ≡ In one.channel → one.channel ≡ Inject a v → Has (Inject a v, p) T.own
-  entry-own one h a v p i valid e now is = subst (λ (y : Place). Rattle.noc_theory.proofs.worms.WormRecordLemmas.IsPlaced net T.own p y) (now ∙ ap In is) (wormT.placed p i valid)
+  entry-own one h a v p i valid e now is = subst (λ (y : Place). Rattle.noc_theory.proofs.worms.StateWordLemmas.IsPlaced net T.own p y) (now ∙ ap In is) (wormT.placed p i valid)
 
   pub come-quiet : (p i : ℕ) (c : Channel) → IsValid net p i → IsHeld net M c p → Quiet c → has_come net c (goal net p) (place_of_flit net T p i) ≡ has_come net c (goal net p) (place_of_flit net M p i)
   come-quiet p i c v h quiet = by (goes p i v)

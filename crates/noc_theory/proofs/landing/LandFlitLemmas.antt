@@ -299,7 +299,7 @@ module _ (net : Setup) (good : IsGood net) (S : State) (x : IsOrdered net S) (a 
               let o = x.whole.routed.mid.only (Link a b w) e in
               let same : o.0 ≡ it.flit.packet = Rattle.noc_theory.proofs.injection.SourceLemmas.same-owner net good S (keyed net good S x) (worm net good S x) (Link a b w) o.0 it.flit.packet o.1.0 own in
               let head : head_place net S it.flit.packet ≡ On (Link a b w) = ap (place_of_flit net S it.flit.packet) (sym z) ∙ here in
-              let come = Rattle.noc_theory.proofs.verdicts.CommitGrantLemmas.come-true net S it.flit.packet (Link a b w) (head_place net S it.flit.packet) (subst (λ q. Rattle.noc_theory.proofs.worms.RoutedRecordLemmas.Come net q (Link a b w) (head_place net S q)) same o.2) in
+              let come = Rattle.noc_theory.proofs.verdicts.CommitGrantLemmas.come-true net S it.flit.packet (Link a b w) (head_place net S it.flit.packet) (subst (λ q. Rattle.noc_theory.proofs.worms.StateWordLemmas.Come net q (Link a b w) (head_place net S q)) same o.2) in
               absurd (false≢true (sym not-come ∙ ap (has_come net (Link a b w) (goal net it.flit.packet)) (here ∙ sym head) ∙ come))
 
       by : (y : Bool) → has_channel S.routed (Link a b w) ≡ y → is_expected net.relation r (i / net.relation.vcs) w (seen_flits net S (Some (Link a b w))) (seen_input net S r i (Some (Link a b w))) (flit_of it.flit) (seen_input net S r i (Some (Link a b w))).phase ≡ true
