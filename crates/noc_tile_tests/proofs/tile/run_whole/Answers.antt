@@ -1,4 +1,4 @@
-use Rattle.std.proofs.Common.{arith, ap, refl, subst}
+use Rattle.std.proofs.Common.{rules, arith, ap, refl, subst}
 use Rattle.noc_topo.specs.Shape.{IsGrid}
 use Rattle.noc_theory.specs.Network.{Run}
 use Rattle.noc_tiles.specs.Tiles.{CanRun}
@@ -18,4 +18,4 @@ run_tile-tile-requires g c =
       done = refl;
       end = omega (arith, ap (λ (u : Run). u.count) c.into_parts-relation.ensures.network, c.requires.opening, c.requires.cycles);
     } in
-    λ κs b. can
+    (search rules, can)
