@@ -12,6 +12,7 @@ import fcntl
 import os
 import resource
 import shutil
+import signal
 import socket
 import subprocess
 import sys
@@ -355,7 +356,8 @@ def rising_ranks(side):
 def bounded_memory(calls):
     """Under each bound on its memory the program answers, or says that memory or a thread was refused.
 
-    Below 4 MB the loader itself may not find the room for the C library, and says so before the program begins.
+    Below 4 MB the loader itself may not find the room for the C library, and says so before the program begins. Or the system may not
+    find it for the stack, of which the program needs more than the bound leaves, and ends the program by a signal before it writes.
     """
     traffic, report = late_packets(20000)
     square = PLAIN.replace(b"[2]", b"[8, 8]")
@@ -373,7 +375,8 @@ def bounded_memory(calls):
             is_refused = (ran.returncode, ran.stdout) == (6, b"") and status_of(ran.stderr) == 6 and megabytes < AMPLE
             is_answer = (ran.returncode, ran.stdout, ran.stderr) == (0, answer, b"")
             is_loader = (ran.returncode, ran.stdout) == (127, b"") and b"while loading shared libraries" in ran.stderr and megabytes < 4
-            calls.count(f"{megabytes} MB {words}", is_refused or is_answer or is_loader, ran)
+            is_stack = (ran.returncode, ran.stdout, ran.stderr) == (-signal.SIGSEGV, b"", b"") and megabytes < 4
+            calls.count(f"{megabytes} MB {words}", is_refused or is_answer or is_loader or is_stack, ran)
 
 
 GROUPS = [inputs_that_cannot_be_read, inputs_at_the_limit, names, wrong_words, outputs_that_fail, pipe_that_closes_early, trace_cycle_by_cycle,
