@@ -7,7 +7,8 @@ Cycles go to the right. A row stands for each router on the packet's way, its so
 packet came in by, from the cycle in which its head came until its tail has left. A bar is a stretch of cycles with one verdict
 of that channel, coloured by it, with its cycles and verdict as a tooltip. Above them is the time in the queue of the source. At the
 right of each row stand its cycles and the reason for which the packet stood still there longest. CONFIG, TRAFFIC and F are files,
-one of them '-' for standard input. The network is run once. Python 3.11 or later; nothing else is needed.
+one of them '-' for standard input. The network is run once; where that takes long, by several noc side by side, as far as processors
+are free, each of which traces a part. Python 3.11 or later; nothing else is needed.
 """
 import argparse
 import sys

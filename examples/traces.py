@@ -4,19 +4,25 @@ What a trace is stands in docs/FORMATS.md. A script asks for one and reads it as
 script has seen enough.
 """
 import csv
+import json
 import os
 import shutil
 import subprocess
 import sys
 import tempfile
 from collections import Counter
-from dataclasses import dataclass, field
+from dataclasses import asdict, dataclass, field
+from functools import cached_property
 from io import StringIO
+from itertools import chain
 from pathlib import Path
+from queue import SimpleQueue
+from threading import Thread
 from typing import NamedTuple
 
-from network import NOC, Packet, read_network, refuse, report_of
+from network import DONE, NOC, STUCK, Packet, read_network, refuse
 
+TRACE_HEADER = "cycle,router,port,vc,verdict,packet,out,permitted\n"
 TRAFFIC_HEADER = ["source", "destination", "class", "length", "due"]
 STANDARD_INPUT = "-"
 EMPTY, MOVED, NO_FLIT = "Empty", "Moved", "NoFlit"
@@ -29,6 +35,11 @@ STALLS = VERDICTS[4:]
 OWNING = {MOVED, NO_FLIT, "NoCredit", "LostInput", "LostSwitch"}
 # Where a packet is that is due and has not come in: no channel, and no verdict.
 QUEUE = "queue"
+# A span is long where it has so many cycles, each router counted by itself: a noc takes some tenth of a second for it. A trace of a
+# long span is shared by several noc, by three at most.
+LONG, MOST_PARTS = 1_000_000, 3
+# The most bytes that are taken from a pipe at once.
+ROOM = 1 << 16
 
 
 class Finding(NamedTuple):
@@ -84,6 +95,15 @@ class Given:
         self.path = str(path)
 
 
+def free_processors():
+    """How many processors have nothing to do, as far as the system tells how many programs run now."""
+    try:
+        running = int(Path("/proc/loadavg").read_text().split()[3].split("/")[0]) - 1
+    except OSError:
+        running = 0
+    return max(1, (os.cpu_count() or 1) - running)
+
+
 class Run:
     """A network with its traffic, of which noc is asked for traces."""
 
@@ -93,6 +113,7 @@ class Run:
             refuse("standard input can be one of the files, and not two of them")
         self.given = [Given(name) for name in names]
         self.network = read_network(self.given[0].path)
+        self.free = free_processors()
         self.rows = read_traffic(self.given[1])
         self.files = [self.given[0].path, self.given[1].path] + (["--table", self.given[2].path] if table else [])
 
@@ -115,24 +136,22 @@ class Run:
         """The place of a packet in the queue of its source: by due time, and then by number."""
         return self.packet(number).due, number
 
-    def out(self, packet):
-        """The cycle in which a packet is out, or None."""
-        line = report_of("run", *self.files).splitlines()[1 + packet.number]
-        out = line.split(",")[6]
-        return None if out == "-" else int(out)
+    def is_long(self, cycles):
+        return LONG <= cycles * self.network.nodes
+
+    def start_trace(self, errors=True, **options):
+        """A noc that traces with these options, and says its errors or keeps them to itself."""
+        words = [word for name, value in options.items() for word in words_of(name, value)]
+        return start("trace", *self.files, *words, stderr=None if errors else subprocess.DEVNULL)
 
     def trace(self, **options):
         """The findings of a trace with these options, one after the other. Where noc refuses, the script ends with its line and its
         status."""
-        words = [word for name, value in options.items() for word in words_of(name, value)]
-        try:
-            noc = subprocess.Popen([NOC, "trace", *self.files, *words], stdout=subprocess.PIPE, text=True)
-        except OSError as error:
-            refuse(f"{NOC}: {error.strerror}")
-        # (a trace has a header at least)
-        if not noc.stdout.readline():
+        noc = self.start_trace(**options)
+        header = noc.stdout.readline()
+        if header != TRACE_HEADER:
             noc.stdout.close()
-            sys.exit(noc.wait())
+            sys.exit(noc.wait() or refuse("what noc writes is no trace"))
         return findings_of(noc)
 
 
@@ -148,10 +167,151 @@ def findings_of(noc):
         sys.exit(noc.returncode)
 
 
+class Beside:
+    """A noc that runs beside others. What it writes is taken in as it comes, so that it never waits for its reader."""
+
+    def __init__(self, noc):
+        self.noc, self.chunks = noc, SimpleQueue()
+        self.reader = Thread(target=self.take_in, daemon=True)
+        self.reader.start()
+
+    def take_in(self):
+        while chunk := os.read(self.noc.stdout.fileno(), ROOM):
+            self.chunks.put(chunk)
+        self.chunks.put(b"")
+
+    def lines(self):
+        """Its lines, without their ends. Where it refuses, the script ends with its status."""
+        rest = ""
+        while chunk := self.chunks.get():
+            *lines, rest = (rest + chunk.decode()).split("\n")
+            yield from lines
+        if self.noc.wait() not in (DONE, STUCK):
+            sys.exit(self.noc.returncode)
+
+    def findings(self, port=None):
+        """The findings of a trace, or of one port alone: most lines are then not looked at any further."""
+        lines = self.lines()
+        if next(lines, None) != TRACE_HEADER.rstrip("\n"):
+            refuse("what noc writes is no trace")
+        return (finding_of(line) for line in lines if port is None or f",{port}," in line)
+
+    def end(self):
+        self.noc.kill()
+        self.reader.join()
+        self.noc.stdout.close()
+        self.noc.wait()
+
+
+class Shared:
+    """A trace. A long one is shared by several noc, each of which traces a part of the span; they run from now on, and no longer than
+    this object is used. What a noc refuses, the first one refuses too: so the others say nothing."""
+
+    def __init__(self, run, first, last, beside=1, errors=True, **options):
+        """The trace of a span, beside so many traces in all; with options of noc."""
+        number = max(1, min(MOST_PARTS, run.free // beside)) if run.is_long(last + 1 - first) else 1
+        self.parts = []
+        for begin, end in parts_of(first, last + 1, number):
+            noc = run.start_trace(errors and begin == first, first=begin, last=end - 1, **options)
+            self.parts.append((begin, Beside(noc)))
+
+    def findings(self):
+        """Its findings, where it is no trace of changes."""
+        return chain.from_iterable(part.findings() for _, part in self.parts)
+
+    def changes(self, port=None):
+        """The findings of a trace of changes, of one port or of all, as if one noc had made it."""
+        return joined((first, part.findings(port)) for first, part in self.parts)
+
+    def end(self):
+        for _, part in self.parts:
+            part.end()
+
+    def __enter__(self):
+        return self
+
+    def __exit__(self, *_):
+        self.end()
+
+
+class Outs:
+    """When packets were out before a cycle: by the latency report of a run that ends with it, beside other calls of noc."""
+
+    def __init__(self, run, cycle):
+        self.run, self.cycle, self.noc = run, cycle, None
+
+    def begin(self, errors=True):
+        settings = asdict(self.run.network) | {"cycles": self.cycle + 1}
+        self.config = tempfile.NamedTemporaryFile("w", prefix="noc-", suffix=".toml")
+        self.config.writelines(f"{key} = {json.dumps(value)}\n" for key, value in settings.items())
+        self.config.flush()
+        words = ["run", self.config.name, *self.run.files[1:]]
+        self.noc = Beside(start(*words, stderr=None if errors else subprocess.DEVNULL))
+
+    @cached_property
+    def rows(self):
+        if self.noc is None:
+            self.begin()
+        return list(self.noc.lines())[1:]
+
+    def out(self, packet):
+        """The cycle in which a packet was out, or None."""
+        out = self.rows[packet.number].split(",")[6]
+        return None if out == "-" else int(out)
+
+    def __enter__(self):
+        return self
+
+    def __exit__(self, *_):
+        if self.noc is not None:
+            self.noc.end()
+            self.config.close()
+
+
+def parts_of(first, end, number):
+    """Parts of a span; side by side all end at the same time, where a traced cycle takes twice as long as one before the trace."""
+    latest = (2**number * end - first) / (2**number - 1)
+    ends = [round(latest - (latest - first) / 2**part) for part in range(number + 1)]
+    return [(begin, end) for begin, end in zip(ends, ends[1:]) if begin < end]
+
+
+def joined(parts):
+    """The findings of a trace of changes, from those of its parts, each of which tells in its first cycle of all that is not empty."""
+    told = {}
+    for first, findings in parts:
+        untold = set(told)
+        for finding in findings:
+            place, said = place_of(finding), finding[3:]
+            if first < finding.cycle:
+                yield from emptied(untold, told, first)
+            untold.discard(place)
+            if told.get(place) != said:
+                told[place] = said
+                yield finding
+            if finding.verdict == EMPTY:
+                del told[place]
+        yield from emptied(untold, told, first)
+
+
+def emptied(places, told, cycle):
+    """Channels of which something was told before a cycle, and nothing in it."""
+    while places:
+        router, channel = place = places.pop()
+        del told[place]
+        yield Finding(cycle, router, channel, EMPTY, None, "-", ())
+
+
 def words_of(name, value):
     """An option as words: first=3 is '--from 3', changes=True is '--changes', and None is no option."""
     word = "--" + {"first": "from", "last": "to"}.get(name, name)
     return [] if value is None else [word] if value is True else [word, str(value)]
+
+
+def start(*words, **given):
+    try:
+        return subprocess.Popen([NOC, *words], stdout=subprocess.PIPE, text=True, **given)
+    except OSError as error:
+        refuse(f"{NOC}: {error.strerror}")
 
 
 def read_traffic(given):
@@ -259,11 +419,13 @@ class Life:
         return found
 
 
-def life_of(run, packet, came_in=None):
-    """The life of a packet that is due within the run. Where it is known when it came in, what was before is not traced."""
-    first, end = packet.due if came_in is None else came_in, run.network.cycles
-    stays = stays_of(run.trace(packet=packet.number, first=first) if first < end else (), packet)
-    came_in = stays[0].first if stays else end
+def life_of(run, packet, last=None, beside=1):
+    """The life of a packet that is due within the run, up to a last cycle; by a trace that is one of so many side by side."""
+    last = run.network.cycles - 1 if last is None else last
+    # (a trace of changes takes longer)
+    with Shared(run, packet.due, last, beside, packet=packet.number) as trace:
+        stays = stays_of(trace.findings(), packet)
+    came_in = stays[0].first if stays else last + 1
     queue = [Stay(packet.source, QUEUE, [Bar(packet.due, came_in, QUEUE)])] if packet.due < came_in else []
     gone = stays and stays[-1].router == packet.destination and stays[-1].counts()[MOVED] == packet.length
     return Life(packet, queue + stays, stays[-1].end - 1 if gone else None)

@@ -13,17 +13,17 @@ step before: then these packets wait for one another. Where a packet may go by s
 leads to a packet that moves in the fewest steps.
 
 CONFIG, TRAFFIC and F are files, one of them '-' for standard input. With CYCLE the network is run once, by 'noc trace', and once
-more where only that tells whether the packet is out. A life takes a run up to where it comes in, one for the way from there on, and
-one for each of the longest waits on that way, side by side. Python 3.11 or later; nothing else is needed.
+more where only that tells whether the packet is out: at the same time, where a run takes long. A life takes two runs side by side,
+one for the packet and one for its source, and then one for each other router where it waited long, up to that wait. Each of these is
+shared by several noc where it is long and processors are free. Python 3.11 or later; nothing else is needed.
 """
 import argparse
 from collections import Counter
-from concurrent.futures import ThreadPoolExecutor
+from contextlib import ExitStack
 from dataclasses import dataclass
-from itertools import groupby
 
 from network import opposite, refuse, split
-from traces import OWNING, QUEUE, STALLS, Run, add_files, life_of, write
+from traces import EMPTY, OWNING, QUEUE, STALLS, Outs, Run, Shared, add_files, life_of, write
 
 # So many of the longest waits are told of, and so many of the packets that held what was waited for.
 WAITS, HOLDERS = 3, 3
@@ -63,8 +63,9 @@ class Step:
 class Moment:
     """A run in one cycle: what each input channel says that holds a packet, and which packets each router has one cycle later."""
 
-    def __init__(self, run, cycle):
+    def __init__(self, run, cycle, outs=None):
         self.run, self.cycle = run, cycle
+        self.outs = outs or Outs(run, cycle)
         self.found, self.following = {}, set()
         for finding in run.trace(first=cycle, last=min(cycle + 1, run.network.cycles - 1)):
             if finding.cycle == cycle:
@@ -260,8 +261,8 @@ def start_of(moment, packet):
         return None, f"Packet {packet.number} is due in cycle {packet.due}."
     head = moment.head(packet)
     if head is None and (packet.number, packet.source) not in moment.following and not moment.must_wait(packet):
-        out = moment.run.out(packet)
-        if out is not None and out < moment.cycle:
+        out = moment.outs.out(packet)
+        if out is not None:
             return None, f"Packet {packet.number} was out in cycle {out}."
     return head or Place(packet.number, packet.source, QUEUE), None
 
@@ -341,30 +342,26 @@ def longest_waits(life):
 
 
 class RouterThen:
-    """A router in one of the cycles of a run: what its channels say, which of them said something up to then, the first one first,
-    and for each output channel the last one that said it had it."""
+    """A router in one of the cycles of a run: what its channels say, and the last one that said it had an output channel."""
 
-    def __init__(self, run, router):
-        self.run, self.router = run, router
-        self.cycle, self.found, self.seen, self.had = None, {}, {}, {}
+    def __init__(self, run):
+        self.run, self.cycle, self.found, self.had = run, None, {}, {}
 
-    def cycles(self, first, last=None):
-        """Goes through the cycles of a span, and through some before it."""
-        trace = self.run.trace(router=self.router, first=max(0, first - BEFORE), last=last)
-        for self.cycle, found in groupby(trace, key=lambda finding: finding.cycle):
-            self.found = {finding.channel: finding for finding in found}
-            self.seen.update(self.found)
-            self.had.update((finding.out, finding) for finding in self.found.values() if finding.verdict in OWNING)
-            yield self.cycle
+    def take(self, finding):
+        self.found[finding.channel] = finding
+        if finding.verdict in OWNING:
+            self.had[finding.out] = finding
 
     def those(self, verdicts, holds):
         return [finding for finding in self.found.values() if finding.verdict in verdicts and holds(finding)]
 
     def holders(self, wait):
         """The packets that hold what is waited for in this cycle, each with what it does."""
+        if wait.channel == QUEUE:
+            return self.in_the_way()
         own = self.found[wait.channel]
         if wait.verdict == "NoIdleChannel":
-            return [self.holder_of(channel) for channel in own.permitted]
+            return [self.holder_of(wait.router, channel) for channel in own.permitted]
         if wait.verdict == "LostChannel":
             words, found = f"got {own.out}", self.those({"Granted"}, lambda other: other.out == own.out)
         elif wait.verdict == "LostInput":
@@ -375,64 +372,96 @@ class RouterThen:
             words, found = f"won the port {port}", self.those({"Moved"}, lambda other: split(other.out)[0] == port)
         return [(finding.packet, words) for finding in found]
 
-    def holder_of(self, channel):
+    def holder_of(self, router, channel):
         """Who has an output channel that is not idle, or had it where it drains."""
-        last = self.had.get(channel) or self.had.setdefault(channel, self.end_behind(channel))
+        last = self.had.get(channel) or self.had.setdefault(channel, self.end_behind(router, channel))
         now = self.found.get(last.channel)
         has_it = now is not None and now.verdict in OWNING and (now.packet, now.out) == (last.packet, channel)
         return last.packet, f"had {channel}" if has_it else f"drained from {channel}"
 
-    def end_behind(self, channel):
+    def end_behind(self, router, channel):
         """The end of the packet that had an output channel before the trace began, in the buffer to which it leads."""
         port, number = split(channel)
-        following = self.run.network.neighbour(self.router, port)
+        following = self.run.network.neighbour(router, port)
         findings = self.run.trace(router=following, first=self.cycle, last=self.cycle)
         (end,) = [finding for finding in findings if finding.channel == f"{opposite(port)}.{number}"]
         return end._replace(channel=None)
 
     def in_the_way(self):
         """Who has the channels of the port local, or is the last one that came in by one where some are left."""
-        inside = [self.found[channel] for channel in self.seen if channel in self.found and channel.startswith("local")]
+        inside = [finding for finding in self.found.values() if finding.channel.startswith("local") and finding.verdict != EMPTY]
         if len(inside) == self.run.network.channels:
             return [(finding.packet, f"had {finding.channel}") for finding in inside]
         return [(max((finding.packet for finding in inside), key=self.run.turn), "came in first")]
 
 
-def held_in_queue(run, packet):
-    """Which packets kept a packet in its queue, with what they did, and in how many cycles; and the cycle in which it came in."""
-    then, counts = RouterThen(run, packet.source), Counter()
-    for cycle in then.cycles(packet.due):
-        if any(finding.packet == packet.number for finding in then.found.values()):
-            return counts, cycle
-        if packet.due <= cycle:
-            counts.update(then.in_the_way())
-    return counts, run.network.cycles
+def holders_at(run, findings, waits):
+    """For each wait at a router, of which these are the findings, which packets held what was waited for, with what they did, and in
+    how many of its cycles."""
+    counts = [Counter() for _ in waits]
+    then, coming = RouterThen(run), iter(findings)
+    following = next(coming, None)
+    wanted = {cycle: place for place, wait in enumerate(waits) for cycle in wait.cycles}
+    held = None
+    for then.cycle in sorted(wanted):
+        while following is not None and following.cycle <= then.cycle:
+            then.take(following)
+            following, held = next(coming, None), None
+        place = wanted[then.cycle]
+        # (while nothing changes the same packets hold it)
+        if held is None or held[0] != place:
+            held = place, then.holders(waits[place])
+        counts[place].update(held[1])
+    return list(zip(waits, counts))
 
 
-def held_at_router(run, wait):
-    """Which packets held what was waited for at a router, with what they did, and in how many cycles."""
-    then, wanted, counts = RouterThen(run, wait.router), set(wait.cycles), Counter()
-    for cycle in then.cycles(wait.cycles[0], wait.cycles[-1]):
-        if cycle in wanted:
-            counts.update(then.holders(wait))
-    return counts
+def begin(cycle):
+    """Where a trace begins that tells what leads to a cycle."""
+    return max(0, cycle - BEFORE)
+
+
+def waits_in_words(run, life, source):
+    """The longest waits; with a trace of the source of the packet, which is read as far as they are there, and one beside it for each
+    other router."""
+    waits = longest_waits(life)
+    at = {wait.router: [other for other in waits if other.router == wait.router] for wait in waits}
+    there = at.pop(life.packet.source, [])
+    with ExitStack() as stack:
+        spans = [(begin(min(wait.cycles[0] for wait in here)), max(wait.cycles[-1] for wait in here)) for here in at.values()]
+        traces = [stack.enter_context(Shared(run, *span, len(at), router=router, changes=True)) for router, span in zip(at, spans)]
+        port = "local" if all(wait.channel == QUEUE for wait in there) else None
+        held = holders_at(run, source.changes(port), there) if there else []
+        source.end()
+        for trace, here in zip(traces, at.values()):
+            held += holders_at(run, trace.changes(), here)
+    return [wait.line(count) for wait, count in sorted(held, key=lambda pair: waits.index(pair[0]))]
 
 
 def life_lines(run, packet):
     """The life in words, a line as soon as it is known."""
-    queue, came_in = held_in_queue(run, packet)
-    life = life_of(run, packet, came_in)
-    yield title(run, life)
-    for stay in life.stays:
-        counts = "" if stay.channel == QUEUE else f": {listed(stay.counts())}"
-        yield f"{place_name(stay)}, {stretch(stay.first, stay.end - 1)}{counts}."
-    foremost = Counter(bar.verdict for _, bar in life.foremost())
-    yield f"Its foremost flit, in {cycles_in_words(foremost.total())}: {listed(foremost)}."
-    waits = longest_waits(life)
-    # (the traces run side by side)
-    with ThreadPoolExecutor() as pool:
-        held = pool.map(lambda wait: queue if wait.channel == QUEUE else held_at_router(run, wait), waits)
-        yield from (wait.line(counts) for wait, counts in zip(waits, held))
+    last = run.network.cycles - 1
+    with Shared(run, begin(packet.due), last, beside=2, errors=False, router=packet.source, changes=True) as source:
+        life = life_of(run, packet, beside=2)
+        yield title(run, life)
+        for stay in life.stays:
+            counts = "" if stay.channel == QUEUE else f": {listed(stay.counts())}"
+            yield f"{place_name(stay)}, {stretch(stay.first, stay.end - 1)}{counts}."
+        foremost = Counter(bar.verdict for _, bar in life.foremost())
+        yield f"Its foremost flit, in {cycles_in_words(foremost.total())}: {listed(foremost)}."
+        yield from waits_in_words(run, life, source)
+
+
+def may_be_out(run, packet, cycle):
+    """Whether a packet that nothing keeps waiting is out before a cycle."""
+    return packet.due + 3 * run.network.distance(packet.source, packet.destination) + packet.length + 1 < cycle
+
+
+def moment_lines(run, packet, cycle):
+    """The steps from a packet to a root. That a packet is out may be needed, so a run that takes long begins at once."""
+    with Outs(run, cycle) as outs:
+        if run.is_long(cycle) and may_be_out(run, packet, cycle):
+            outs.begin(errors=False)
+        return lines(Moment(run, cycle, outs), packet)
 
 
 def main():
@@ -448,7 +477,7 @@ def main():
         packet = run.packet(options.packet)
         if not 0 <= options.cycle < run.network.cycles:
             refuse(f"the run has the cycles 0 to {run.network.cycles - 1}")
-        said = lines(Moment(run, options.cycle), packet)
+        said = moment_lines(run, packet, options.cycle)
     write(f"{line}\n" for line in said)
 
 

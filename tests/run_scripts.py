@@ -180,24 +180,29 @@ for number, out in enumerate(outs):
 # channels of the port local each has one, or some are left and one packet comes in. What was before the wait changes nothing.
 HOLDERS = """
 for number in range(len(run.rows)):
-    packet = run.packet(number)
-    life, (queue, came_in) = traces.life_of(run, packet), why.held_in_queue(run, packet)
-    assert came_in - packet.due <= queue.total() <= run.network.channels * (came_in - packet.due), number
-    assert life.stays == traces.life_of(run, packet, came_in).stays, number
+    life = traces.life_of(run, run.packet(number))
     foremost = life.foremost()
     assert None not in foremost, number
-    assert len(foremost) == (run.network.cycles if life.out is None else life.out + 1) - packet.due, number
+    assert len(foremost) == (run.network.cycles if life.out is None else life.out + 1) - life.packet.due, number
     for wait in why.longest_waits(life):
-        held = queue
-        if wait.verdict != traces.QUEUE:
-            (held, *others) = [why.held_at_router(run, wait) for why.BEFORE in (100, 0, 3, run.network.cycles)]
-            assert others == [held] * 3, (number, wait, held, others)
+        ((_, held),) = why.holders_at(run, run.trace(router=wait.router, last=wait.cycles[-1], changes=True), [wait])
+        late = run.trace(router=wait.router, first=wait.cycles[0], last=wait.cycles[-1], changes=True)
+        assert why.holders_at(run, late, [wait]) == [(wait, held)], (number, wait, held)
         if wait.verdict == "NoIdleChannel":
             (permitted,) = {row.permitted for row in run.trace(packet=number, router=wait.router) if row.verdict == "NoIdleChannel"}
             assert held.total() == len(permitted) * len(wait.cycles), (number, wait, held)
         elif wait.verdict != traces.QUEUE:
             assert held.total() == len(wait.cycles), (number, wait, held)
         assert number not in {packet for packet, _ in held}, (number, wait, held)
+"""
+# A long trace is shared by several noc; and a long run that tells whether a packet is out begins at once.
+SHARED = """
+run.free = 6
+for number in range(len(run.rows)):
+    packet, said = run.packet(number), []
+    for traces.LONG in (1_000_000, 1):
+        said.append([*why.life_lines(run, packet), *why.moment_lines(run, packet, 39)])
+    assert said[0] == said[1], number
 """
 
 
@@ -224,6 +229,10 @@ def lives_agree_with_the_program(folder):
 
 def waits_have_holders(folder):
     return holds_on_made_networks(folder, 4, HOLDERS)
+
+
+def a_shared_trace_says_the_same(folder):
+    return holds_on_made_networks(folder, 2, SHARED)
 
 
 # ---- the lives of why.py
@@ -597,19 +606,18 @@ def calls_of(folder, script, *words):
 
 
 def scripts_run_the_program_once(folder):
-    """In cycle 1 packet 0 has the one channel of the port local, so packet 2 is in its queue. A life takes a run for the queue and one
-    for the way; packet 1 waits nowhere."""
+    """In cycle 1 packet 0 has the one channel of the port local, so packet 2 is in its queue. A life takes two runs side by side."""
     folder.put(c=LINE, t=IN_THE_WAY)
     once = [calls_of(folder, *words) for words in [("timeline", 2), ("why", 2, 5), ("why", 2, 1), ("waves",), ("replay",)]]
-    return set(once) == {1} and calls_of(folder, "why", 1) == 2
+    return set(once) == {1} and calls_of(folder, "why", 1) == calls_of(folder, "why", 2) == 2
 
 
 def scripts_run_the_program_once_more(folder):
-    """Packet 1 waits at two routers, each of which is traced; and packet 2 is in its queue while a channel is left."""
+    """Packet 1 waits at two routers, one of which is not its source; and packet 2 is in its queue while a channel is left."""
     folder.put(c=LINE.replace("channels = 1", "channels = 2").replace("buffer = 2", "buffer = 4"), t=HEADER + "0,2,0,4,0\n1,2,0,4,3\n")
     life = calls_of(folder, "why", 1)
     folder.put(c=LINE.replace("channels = 1", "channels = 3"), t=HEADER + "0,2,0,4,1\n0,2,0,4,0\n0,2,0,1,2\n")
-    return (life, calls_of(folder, "why", 2, 6)) == (4, 2)
+    return (life, calls_of(folder, "why", 2, 6)) == (3, 2)
 
 
 # What is given to a script, and a part of the one sentence that it answers. LINE and IN_THE_WAY are the files c and t.
@@ -756,6 +764,7 @@ CHECKS = [
     why_tells_who_won,
     why_tells_of_a_life_without_an_end,
     waits_have_holders,
+    a_shared_trace_says_the_same,
     timeline_shows_a_packet_alone,
     timeline_shows_a_wait,
     timeline_has_numbers_at_its_ends,
