@@ -30,6 +30,8 @@ PARTS = ("src", "specs", "proofs")
 # What the compiler is told for each program.
 PROGRAMS = {"noc": [], "noc_avx2": ["--cpu", "x86-64-v3"]}
 DISK, MEMORY = 2 << 30, 2 << 30
+# So many seconds to spare are a step of priority less.
+STEP = 15
 # The seconds that each crate took beside the others on four processors, once. Only their shares count.
 SECONDS = {
     "noc_topo": 30, "noc_packet": 10, "noc_ring": 30, "noc_route": 50, "noc_rank": 150, "noc_alloc": 20, "noc_vc": 45,
@@ -148,26 +150,28 @@ class Build:
             print(self.progress(), file=sys.stderr, flush=True)
 
     def begin(self, crate, jobs):
+        """Begins a crate. The more time it has to spare, the lower is its priority: so it takes of the processors what others leave. All are
+        of one session, since Linux compares priorities within a session."""
         with LOG.open("a") as log:
             run = subprocess.Popen(
-                crate.build(self.kit, jobs), cwd=crate.folder, stdin=subprocess.DEVNULL, stdout=log, stderr=log, start_new_session=True)
-        self.running[crate] = run, time.time()
+                crate.build(self.kit, jobs), cwd=crate.folder, stdin=subprocess.DEVNULL, stdout=log, stderr=log, process_group=0)
+        spare = max(self.chain[it] for it in self.left) - self.chain[crate]
+        os.setpriority(os.PRIO_PGRP, run.pid, min(19, int(spare / STEP)))
+        self.running[crate] = run, time.time(), jobs
 
     def begin_what_can(self):
-        """Begins the crates whose libraries are made. Those with the longest chain behind them come first and get most jobs."""
+        """Begins the crates whose libraries are made, as many as there are processors. Those with the longest chain behind them come first."""
         processors = len(os.sched_getaffinity(0))
-        longest = max((self.chain[it] for it in self.left), default=0)
         ready = [it for it in self.left if it not in self.running and not any(on in self.left for on in it.on)]
         for crate in sorted(ready, key=self.chain.get, reverse=True):
             if self.running and (len(self.running) >= processors or free_memory() < 2 * MEMORY):
                 return
-            jobs = min(4, processors)
-            self.begin(crate, jobs if self.chain[crate] == longest else max(1, jobs // 2))
+            self.begin(crate, min(4, processors))
 
     def end(self, crate):
         """Links a program, or tells why nothing was made. A check that was killed, most likely for memory, runs once more by one job."""
-        run, _ = self.running.pop(crate)
-        if run.returncode == -signal.SIGKILL and "1" not in run.args:
+        run, _, jobs = self.running.pop(crate)
+        if run.returncode == -signal.SIGKILL and jobs > 1:
             return self.begin(crate, 1)
         if run.returncode == 0 and crate.program:
             with LOG.open("a") as log:
@@ -184,13 +188,13 @@ class Build:
             self.begin_what_can()
             while self.left:
                 time.sleep(0.2)
-                for crate in [it for it, (run, _) in self.running.items() if run.poll() is not None]:
+                for crate in [it for it, (run, *_) in self.running.items() if run.poll() is not None]:
                     self.end(crate)
                     self.begin_what_can()
                     self.tell(is_news=True)
                 self.tell(is_news=False)
         finally:
-            for run, _ in self.running.values():
+            for run, *_ in self.running.values():
                 with contextlib.suppress(ProcessLookupError):
                     os.killpg(run.pid, signal.SIGKILL)
                 run.wait()
