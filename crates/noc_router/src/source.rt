@@ -14,7 +14,7 @@ pub(crate) struct Source {
     front: Option<(u32, Packet)>,
     // The index of its next flit, and the local virtual channel of the flits after its head.
     index: u32,
-    vc: Option<usize>,
+    pub(crate) vc: Option<usize>,
     // All packets, of which the first `begun` are done or in front.
     packets: Vec<(u32, Packet)>,
     begun: usize,
@@ -39,30 +39,12 @@ impl Source {
         }
     }
 
-    // The next packet comes to the front.
-    fn next_packet(&mut self)
-        ensures vc { self.new.vc ≡ None }
-        ensures queue { queue_from self.new.front self.new.begun self.new.packets.items ≡ drop self.old.begun self.old.packets.items }
-    {
-        self.index = 0;
-        self.vc = None;
-        self.front = self.packets.get(self.begun).copied();
-        self.begun = self.begun.saturating_add(1);
-    }
-
     // The next flit, if a packet is left.
     pub(crate) fn next_flit(&self) -> Option<Flit>
         ensures { result ≡ next_flit_of self.now.front self.now.index }
     {
         let (number, packet) = self.front?;
         Some(flit_of(&packet, number as usize, self.index as usize))
-    }
-
-    // The local virtual channel of the packet in front, once its head has gone.
-    pub(crate) fn channel(&self) -> Option<usize>
-        ensures { result ≡ self.now.vc }
-    {
-        self.vc
     }
 
     // Whether the packet in front is due by this cycle.
@@ -94,7 +76,12 @@ impl Source {
                 self.index += 1;
                 self.vc = Some(vc);
             }
-            _ => self.next_packet(),
+            _ => {
+                self.index = 0;
+                self.vc = None;
+                self.front = self.packets.get(self.begun).copied();
+                self.begun = self.begun.saturating_add(1);
+            }
         }
     }
 }
