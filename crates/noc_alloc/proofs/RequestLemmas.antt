@@ -4,11 +4,11 @@ use Rattle.std.specs.Prelude.{IfSome, ◌⊎◌, is_some, nat_eq, not, ◌&&◌,
 use Rattle.std.proofs.Math.Bool.{and_self}
 use Rattle.std.proofs.Math.ListN.{get_or-eq_default}
 use Rattle.std.proofs.lemmas.Bool.{cases_eq, cases_lt, eq-eqb, ne_eqb}
-use Rattle.std.proofs.lemmas.List.{get_or-replicate, length-replicate, length-set}
+use Rattle.std.proofs.lemmas.List.{get_or-replicate, length-replicate}
 use Rattle.std.proofs.lemmas.List.Elements.{All-set}
 use Rattle.std.specs.Option.{ForSome}
 use Rattle.noc_packet.specs.Set.{has_bit, in_both, IsLeast}
-use Rattle.noc_alloc.specs.Requests.{AllBelow, AreRequests, Requested, is_given, unasked}
+use Rattle.noc_alloc.specs.Requests.{AllBelow, AreRequests, Requested, is_given}
 
 -- a set with no least member is empty
 pub none_left : (bits : ℕ) → IsLeast (in_both bits bits) None → (k : ℕ) → has_bit bits k ≡ false
@@ -94,26 +94,6 @@ marked-first asks grants rest set members none k =
     off (Some o) = refl
 
 -- ---- what is true of requests
--- nobody asks
-pub unasked-are : (requesters resources : ℕ) → requesters ≤ 56 → resources ≤ 56 → AreRequests (unasked requesters resources)
-unasked-are requesters resources few most = record {
-  few_asks = omega (arith, few, length-replicate requesters (at-none));
-  few_grants = omega (arith, most, length-replicate resources (at-none));
-  asks = below-none (length (replicate resources at-none)) requesters (replicate requesters None) refl;
-  grants = below-none (length (replicate requesters at-none)) resources (replicate resources None) refl;
-}
-  where
-    at-none : Option ℕ
-    at-none = None
-
--- one more asks
-pub asked-are : (r : Requested) (requester resource : ℕ) → resource < length r.grants → AreRequests r → AreRequests (record r { asks = set r.asks requester (Some resource) })
-asked-are r requester resource l are = record {
-  few_asks = let same : length (set r.asks requester (Some resource)) ≡ length r.asks = length-set r.asks requester (Some resource) in omega (arith, are.few_asks);
-  few_grants = are.few_grants;
-  asks = below-added (length r.grants) r.asks requester resource l are.asks;
-  grants = subst (λ n. AllBelow n r.grants) (sym (length-set r.asks requester (Some resource))) are.grants;
-}
 
 -- resources go to other requesters
 pub granted-are : (r : Requested) (grants : List (Option ℕ)) → length grants ≡ length r.grants → AllBelow (length r.asks) grants → AreRequests r → AreRequests (record r { grants = grants })
