@@ -287,7 +287,7 @@ impl Router {
         while let Some(index) = rest.least_common(&rest) {
             rest = rest.without(index);
             if let Some(output) = self.channels.asked(index) {
-                requests.ask_for_channel(index, output);
+                requests.channels.ask(index, output);
             }
         }
     }
@@ -443,7 +443,7 @@ impl Router {
     {
         self.count(plan);
         self.apply_verdicts(plan);
-        self.advance_channel_pointers(plan);
+        plan.advance(&mut self.arbiters);
         self.end_cycle();
     }
 
@@ -470,14 +470,6 @@ impl Router {
     {
         self.tally.count_empty(1);
         self.links.clear();
-    }
-
-    // The pointers of the output channels go on past the input channels that they were granted to.
-    fn advance_channel_pointers(&mut self, plan: &Plan)
-        requires { IsDecidedFor (ports_of self.old.site.grid) self.old.site.vcs plan.now }
-        ensures { self.new ≡ record self.old { arbiters = channels_past plan.now.round self.old.arbiters } }
-    {
-        plan.advance(&mut self.arbiters);
     }
 
     // The cycle ends.
