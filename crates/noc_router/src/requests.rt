@@ -78,6 +78,15 @@ impl Requests {
         self.routes[index] = set;
     }
 
+    // An input channel asks for this output channel.
+    pub(crate) fn ask_for_channel(&mut self, index: usize, output: usize)
+        requires input { index < self.old.size }
+        requires output { output < self.old.size }
+        ensures { lists_in self.new ≡ record (lists_in self.old) { asks = slice_set self.old.channels.asks index (Some output) } }
+    {
+        self.channels.ask(index, output);
+    }
+
     // An input port has picked one of its virtual channels, and asks for the output port to which this one sends.
     pub(crate) fn ask_for_port(&mut self, port: usize, vc: usize, output: usize)
         requires port { port < self.old.ports }

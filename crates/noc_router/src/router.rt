@@ -6,8 +6,7 @@ ghost use Rattle.noc_topo.specs.Shape.{IsGrid, nodes as nodes_of, ports as ports
 ghost use Rattle.noc_topo.specs.Words.{tabulate};
 ghost use Rattle.noc_vc.specs.Input.{is_empty};
 ghost use Rattle.noc_router.specs.Arrivals.{noted_arrival};
-ghost use Rattle.noc_router.specs.Asked.{channels_past, lists_in, round_in, routes_in};
-ghost use Rattle.noc_router.specs.Decided.{IsDecidedFor};
+ghost use Rattle.noc_router.specs.Asked.{lists_in, round_in, routes_in};
 ghost use Rattle.noc_router.specs.Finish.{view_after_finish};
 ghost use Rattle.noc_router.specs.Injection.{next_vc, vacant_vc};
 ghost use Rattle.noc_router.specs.Links.{is_idle_beat};
@@ -287,7 +286,7 @@ impl Router {
         while let Some(index) = rest.least_common(&rest) {
             rest = rest.without(index);
             if let Some(output) = self.channels.asked(index) {
-                requests.channels.ask(index, output);
+                requests.ask_for_channel(index, output);
             }
         }
     }

@@ -1,5 +1,4 @@
 use Rattle.std.proofs.Common.{◌≡◌, ◌<◌, Some, None, ap, arith, set, sym, ◌∙◌}
-use Rattle.noc_alloc.specs.Requests.{Requested}
 use Rattle.noc_router.specs.Asked.{RequestLists, lists_in}
 use Rattle.noc_router.specs.Verdict.{ask_of}
 use Rattle.noc_router.specs.View.{size_of, view_claim}
@@ -14,16 +13,17 @@ loop-index-preserved-in-Some-asked c =
     let v = c.args.self.now in
     let i = c.in-Some.index in
     let before = c.loop-index.requests in
-    let after = c.ask.new.self in
+    let after = c.ask_for_channel.new.self in
+    let kept = λ (x : RequestLists). record x { asks = after.channels.asks } in
     let l : i < size_of v.site = c.requires.waiting.below i (c.loop-index.invariant.among i (least_member _ _ c.in-Some.ensures.least)) in
     let size : before.size ≡ size_of v.site = ap (λ (x : RequestLists). x.size) c.loop-index.invariant.lists ∙ c.requires.size.size in
     let asked : Some c.in-Some-asked.output ≡ ask_of (view_claim v i) = sym c.in-Some-asked.is ∙ asked-view c.self.inside v i c.asked.result c.self.view_is c.self.invariant c.asked.ensures.value in
     record {
       among = λ k is. c.loop-index.invariant.among k (without-member c.loop-index.rest c.without-rest.result i k c.without-rest.ensures.members is);
-      lists = ap (λ (x : Requested). record (lists_in before) { asks = after.asks; grants = x.grants }) c.ask.ensures ∙ ap (λ (x : RequestLists). record x { asks = after.asks }) c.loop-index.invariant.lists;
+      lists = ap kept c.ask_for_channel.ensures ∙ ap kept c.loop-index.invariant.lists;
       asks =
-          filled-next (size_of v.site) c.loop-index.rest c.without-rest.result None (λ k. ask_of (view_claim v k)) before.channels.asks after.asks i c.loop-index.invariant.asks c.without-rest.ensures.members
-          (omega (arith, before.an_ask_each)) (ap (λ (x : Requested). x.asks) c.ask.ensures ∙ ap (set before.channels.asks i) asked);
+          filled-next (size_of v.site) c.loop-index.rest c.without-rest.result None (λ k. ask_of (view_claim v k)) before.channels.asks after.channels.asks i c.loop-index.invariant.asks c.without-rest.ensures.members
+          (omega (arith, before.an_ask_each)) (ap (λ (x : RequestLists). x.asks) c.ask_for_channel.ensures ∙ ap (set before.channels.asks i) asked);
     }
 
 pub loop-index-preserved : goal.loop-index-preserved
