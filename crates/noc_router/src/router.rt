@@ -1,7 +1,7 @@
 //! The router.
 
 ghost use Rattle.std.specs.List.Sorted.{IsStrictlyIncreasing};
-ghost use Rattle.std.specs.Prelude.{◌≡◌, ◌+◌, ◌-◌, ◌*◌, ◌<◌, ◌≤◌, All, IfOk, IfSome, Some, map, true, ◌⊎◌, length, ℕ, not, ◌&&◌, None, replicate, slice_index_or, [], false, if◌then◌else◌};
+ghost use Rattle.std.specs.Prelude.{◌≡◌, ◌+◌, ◌-◌, ◌*◌, ◌<◌, ◌≤◌, All, IfOk, IfSome, Some, true, ◌⊎◌, length, ℕ, not, ◌&&◌, None, replicate, slice_index_or, [], false, if◌then◌else◌};
 ghost use Rattle.noc_topo.specs.Shape.{IsGrid, nodes as nodes_of, ports as ports_of, local_port, neighbour as neighbour_of};
 ghost use Rattle.noc_topo.specs.Words.{tabulate};
 ghost use Rattle.noc_vc.specs.Input.{is_empty};
@@ -20,8 +20,7 @@ ghost use Rattle.noc_packet.specs.declared.limits.TheConstants.{INDICES};
 ghost use Rattle.noc_router.specs.Start.{IsNumberedPacket};
 ghost use Rattle.noc_router.specs.Still.{IsHeldBefore, takes_effect, view_after_waiting};
 ghost use Rattle.noc_router.specs.Verdict.{arbiters_after, asks_of, is_event};
-ghost use Rattle.noc_router.specs.View.{IsRelationOf, local_channel, size_of, view_buffer, opening_view, with_flit, with_credit, view_after_take, view_after_takes, view_after_inject, decisions_of, plan_contents, view_after_commit, beat_to_put, view_after_put, idle_beats, local_step, route_for, route_of, view_stands, first_flit, view_input, with_arrival, counts_after};
-ghost use Rattle.noc_router.specs.declared.verdict.Verdict.TheVariants.{Empty};
+ghost use Rattle.noc_router.specs.View.{IsRelationOf, local_channel, size_of, view_buffer, opening_view, with_flit, with_credit, view_after_take, view_after_takes, view_after_inject, decisions_of, plan_contents, view_after_commit, beat_to_put, view_after_put, idle_beats, local_step, route_for, route_of, view_stands, first_flit, view_input, with_arrival};
 
 use crate::arbiters::Arbiters;
 use crate::arrivals::Arrivals;
@@ -375,7 +374,8 @@ impl Router {
         ensures { self.new ≡ record (view_after_commit (decisions_of relation.now self.old) self.old) { findings = self.old.findings } }
     {
         if self.holds_nothing() {
-            self.count_empty();
+            self.tally.count_empty(1);
+            self.links.clear();
             self.end_cycle();
         } else {
             self.plan(relation, plan);
@@ -460,14 +460,6 @@ impl Router {
         ensures { self.new ≡ view_after_tally (decisions_by plan.now self.old) self.old }
     {
         self.tally.count(plan);
-        self.links.clear();
-    }
-
-    // Every input channel is counted as empty, and every beat is idle again.
-    fn count_empty(&mut self)
-        ensures { self.new ≡ record self.old { counts = map (counts_after Empty) self.old.counts; to_put = idle_beats self.old.site } }
-    {
-        self.tally.count_empty(1);
         self.links.clear();
     }
 
