@@ -348,7 +348,7 @@ impl Router {
         requires { AreContentsFor plan.now self.old }
         ensures { (relation : Routes) → plan.now ≡ plan_contents relation self.old → self.new ≡ view_after_commit (decisions_of relation self.old) self.old }
     {
-        self.show(plan);
+        self.tally.show(&self.channels, &self.indices, plan);
         self.take_effect(plan);
     }
 
@@ -444,14 +444,6 @@ impl Router {
         self.apply_verdicts(plan);
         plan.advance(&mut self.arbiters);
         self.end_cycle();
-    }
-
-    // The findings are those of this plan.
-    fn show(&mut self, plan: &Plan)
-        requires { AreContentsFor plan.now self.old }
-        ensures { self.new ≡ record self.old { findings = (decisions_by plan.now self.old).findings } }
-    {
-        self.tally.show(&self.channels, &self.indices, plan);
     }
 
     // The verdicts are counted, and every beat is idle again.
