@@ -39,6 +39,17 @@ impl Source {
         }
     }
 
+    // The next packet comes to the front.
+    fn next_packet(&mut self)
+        ensures vc { self.new.vc ≡ None }
+        ensures queue { queue_from self.new.front self.new.begun self.new.packets.items ≡ drop self.old.begun self.old.packets.items }
+    {
+        self.index = 0;
+        self.vc = None;
+        self.front = self.packets.get(self.begun).copied();
+        self.begun = self.begun.saturating_add(1);
+    }
+
     // The next flit, if a packet is left.
     pub(crate) fn next_flit(&self) -> Option<Flit>
         ensures { result ≡ next_flit_of self.now.front self.now.index }
@@ -76,12 +87,7 @@ impl Source {
                 self.index += 1;
                 self.vc = Some(vc);
             }
-            _ => {
-                self.index = 0;
-                self.vc = None;
-                self.front = self.packets.get(self.begun).copied();
-                self.begun = self.begun.saturating_add(1);
-            }
+            _ => self.next_packet(),
         }
     }
 }
