@@ -1,14 +1,12 @@
 -- Who is named in a list, and sets that are gathered member by member.
 use Rattle.std.proofs.Common.{◌≡◌, ◌≢◌, ℕ, ◌<◌, ◌≤◌, Bool, true, false, List, length, get_or, set, replicate, Option, Some, None, refl, ap, sym, ◌∙◌, arith, inl, inr, subst}
-use Rattle.std.specs.Prelude.{IfSome, ◌⊎◌, is_some, nat_eq, not, ◌&&◌, ◌||◌, if◌then◌else◌}
+use Rattle.std.specs.Prelude.{IfSome, ◌⊎◌, is_some, nat_eq, not, ◌&&◌, if◌then◌else◌}
 use Rattle.std.proofs.Math.Bool.{and_self}
 use Rattle.std.proofs.Math.ListN.{get_or-eq_default}
 use Rattle.std.proofs.lemmas.Bool.{cases_eq, cases_lt, eq-eqb, ne_eqb}
-use Rattle.std.proofs.lemmas.List.{get_or-replicate, length-replicate, length-set}
-use Rattle.std.proofs.lemmas.List.Elements.{All-set}
-use Rattle.std.specs.Option.{ForSome}
+use Rattle.std.proofs.lemmas.List.{get_or-replicate, length-replicate}
 use Rattle.noc_packet.specs.Set.{has_bit, in_both, IsLeast}
-use Rattle.noc_alloc.specs.Requests.{AllBelow, AreRequests, Requested, is_given, unasked}
+use Rattle.noc_alloc.specs.Requests.{AllBelow, AreRequests, Requested, is_given}
 
 -- a set with no least member is empty
 pub none_left : (bits : ℕ) → IsLeast (in_both bits bits) None → (k : ℕ) → has_bit bits k ≡ false
@@ -29,19 +27,6 @@ at_replicate d n k = at (cases_lt k n)
 nobody_below : (n x : ℕ) → None ≡ Some x → x < n
 nobody_below n x e = cc
 
--- somebody below n
-somebody_below : (n y x : ℕ) → y < n → Some y ≡ Some x → x < n
-somebody_below n y x l e = let same : y ≡ x = cc in omega arith
-
-pub below-added : (n : ℕ) (xs : List (Option ℕ)) (i y : ℕ) → y < n → AllBelow n xs → AllBelow n (set xs i (Some y))
-below-added n xs i y l all = All-set (λ one. ForSome one (λ k. k < n)) xs i (Some y) (λ x e. somebody_below n y x l e) all
-
--- nobody is named
-pub below-none : (n count : ℕ) (xs : List (Option ℕ)) → xs ≡ replicate count None → AllBelow n xs
-below-none n count xs is k d l x e =
-    let long : length xs ≡ count = ap (λ (ys : List (Option ℕ)). length ys) is ∙ length-replicate count None in
-    nobody_below n x (sym (ap (λ ys. get_or ys k d) is ∙ get_or-replicate count k None d (omega arith)) ∙ e)
-
 -- whoever is named is below n, said another way
 pub below-from : (n : ℕ) (xs : List (Option ℕ)) → ((k : ℕ) (d : Option ℕ) → k < length xs → IfSome (get_or xs k d) (λ i. i < n)) → AllBelow n xs
 below-from n xs each k d l x e = subst (λ o. IfSome o (λ i. i < n)) e (each k d l)
@@ -60,7 +45,7 @@ abbrev pub IsMarked : ℕ → (ℕ → Bool) → ℕ → Type 0
 IsMarked rest test set = (k : ℕ) → has_bit set k ≡ (if has_bit rest k then false else test k)
 
 -- the next one, which is there now if the test is true
-pub marked-next : (rest less : ℕ) (test : ℕ → Bool) (set more i : ℕ) → IsMarked rest test set → ((k : ℕ) → has_bit less k ≡ (not (nat_eq k i) && has_bit rest k)) → has_bit more i ≡ test i
+marked-next : (rest less : ℕ) (test : ℕ → Bool) (set more i : ℕ) → IsMarked rest test set → ((k : ℕ) → has_bit less k ≡ (not (nat_eq k i) && has_bit rest k)) → has_bit more i ≡ test i
     → ((k : ℕ) → k ≢ i → has_bit more k ≡ has_bit set k) → IsMarked less test more
 marked-next rest less test set more i marked members here others k = at (cases_eq k i)
   where
@@ -69,13 +54,6 @@ marked-next rest less test set more i marked members here others k = at (cases_e
         ap (has_bit more) w ∙ here ∙ sym (ap test w) ∙ ap (λ b. if b then false else test k) (sym (members k ∙ ap (λ same. not same && has_bit rest k) (eq-eqb k i w)))
     at (inr ne) =
         others k ne ∙ marked k ∙ ap (λ b. if b then false else test k) (sym (members k ∙ ap (λ same. not same && has_bit rest k) (ne_eqb k i ne)))
-
--- the test is true, and it is put in
-pub marked-with : (rest less : ℕ) (test : ℕ → Bool) (set more i : ℕ) → IsMarked rest test set → ((k : ℕ) → has_bit less k ≡ (not (nat_eq k i) && has_bit rest k)) → test i ≡ true
-    → ((k : ℕ) → has_bit more k ≡ (nat_eq k i || has_bit set k)) → IsMarked less test more
-marked-with rest less test set more i marked members is puts =
-    marked-next rest less test set more i marked members (puts i ∙ ap (λ b. b || has_bit set i) (eq-eqb i i refl) ∙ sym is)
-    (λ k ne. puts k ∙ ap (λ b. b || has_bit set k) (ne_eqb k i ne))
 
 -- the test is not true
 pub marked-skip : (rest less : ℕ) (test : ℕ → Bool) (set i : ℕ) → IsMarked rest test set → ((k : ℕ) → has_bit less k ≡ (not (nat_eq k i) && has_bit rest k)) → has_bit rest i ≡ true → test i ≡ false
@@ -94,27 +72,6 @@ marked-first asks grants rest set members none k =
     off (Some o) = refl
 
 -- ---- what is true of requests
--- nobody asks
-pub unasked-are : (requesters resources : ℕ) → requesters ≤ 56 → resources ≤ 56 → AreRequests (unasked requesters resources)
-unasked-are requesters resources few most = record {
-  few_asks = omega (arith, few, length-replicate requesters (at-none));
-  few_grants = omega (arith, most, length-replicate resources (at-none));
-  asks = below-none (length (replicate resources at-none)) requesters (replicate requesters None) refl;
-  grants = below-none (length (replicate requesters at-none)) resources (replicate resources None) refl;
-}
-  where
-    at-none : Option ℕ
-    at-none = None
-
--- one more asks
-pub asked-are : (r : Requested) (requester resource : ℕ) → resource < length r.grants → AreRequests r → AreRequests (record r { asks = set r.asks requester (Some resource) })
-asked-are r requester resource l are = record {
-  few_asks = let same : length (set r.asks requester (Some resource)) ≡ length r.asks = length-set r.asks requester (Some resource) in omega (arith, are.few_asks);
-  few_grants = are.few_grants;
-  asks = below-added (length r.grants) r.asks requester resource l are.asks;
-  grants = subst (λ n. AllBelow n r.grants) (sym (length-set r.asks requester (Some resource))) are.grants;
-}
-
 -- resources go to other requesters
 pub granted-are : (r : Requested) (grants : List (Option ℕ)) → length grants ≡ length r.grants → AllBelow (length r.asks) grants → AreRequests r → AreRequests (record r { grants = grants })
 granted-are r grants same below are = record {

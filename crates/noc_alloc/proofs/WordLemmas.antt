@@ -1,6 +1,5 @@
 -- Words on lists and options.
-use Rattle.std.proofs.Common.{◌≡◌, ◌≢◌, ℕ, true, false, eqb, Option, Some, None, refl, ap, ◌∙◌}
-use Rattle.std.specs.Option.{option_eq}
+use Rattle.std.proofs.Common.{◌≡◌, ◌≢◌, ℕ, true, false, Option, Some, None, refl, ap, ◌∙◌}
 use Rattle.std.proofs.lemmas.Bool.{eq-eqb, ne_eqb, eqb-true, false≢true}
 use Rattle.noc_topo.specs.Words.{is_some_of}
 
@@ -16,7 +15,3 @@ is_some_of-none o x e = ap (λ p. is_some_of p x) e
 
 pub is_some_of-other : (o : Option ℕ) (x y : ℕ) → o ≡ Some y → y ≢ x → is_some_of o x ≡ false
 is_some_of-other o x y e other = ap (λ p. is_some_of p x) e ∙ ne_eqb y x other
-
-pub is_some_of-eq : (o : Option ℕ) (x : ℕ) → is_some_of o x ≡ option_eq eqb o (Some x)
-is_some_of-eq None x = refl
-is_some_of-eq (Some y) x = refl

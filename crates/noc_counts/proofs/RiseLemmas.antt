@@ -171,9 +171,6 @@ times-small n zero l = omega arith
 times-small n (suc zero) l = omega arith
 times-small n (suc (suc x)) l = absurd (omega arith)
 
-pub product-small : (n x : ℕ) → x ≤ 1 → n < 2 ^ 64 → n * x < 2 ^ 64
-product-small n x l fits = omega (arith, times-small n x l)
-
 risen-fits : (kinds n : ℕ) (sets : List ℕ) (f : ℕ → ℕ → ℕ) (counts : List (List ℕ)) → AreRows kinds f counts → HaveRoom kinds n (counts_with f counts) → (k j : ℕ) → k < length counts → j < kinds
     → get_or (get_or counts k []) j 0 + n * one_at sets j k + f j k < 2 ^ 64
 risen-fits kinds n sets f counts rows room k j l small =

@@ -98,18 +98,9 @@ impl<const KINDS: usize> Digit<KINDS> {
         if self.kept == KEPT {
             return Some(self.fold(sets));
         }
-        self.keep(sets);
-        None
-    }
-
-    // One more of each kind for each member of its set, where there is room to keep the sets.
-    #[inline(always)]
-    fn keep(&mut self, sets: &[ChannelSet; KINDS])
-        requires { self.old.kept < 7 }
-        ensures { (j k : ℕ) → digit_at self.new j k ≡ digit_at self.old j k + one_at sets.now j k }
-    {
         self.recent[self.kept] = *sets;
         self.kept += 1;
+        None
     }
 
     // One more of each kind for each member of its set, where no sets can be kept any more.

@@ -13,14 +13,14 @@ use std::alloc::Global;
 use std::marker::Model;
 
 // Where a ring begins in its slots, and how many flits it has.
-#[derive(Clone, Copy, Debug)]
+#[derive(Clone, Copy)]
 struct Ends {
     head: u8,
     len: u8,
 }
 
 /// First-in first-out buffers of flits: 1 to 56 rings, each of the same 1 to 16 places.
-#[derive(Debug, Drop)]
+#[derive(Drop)]
 pub struct Bank {
     store: Store,
     ends: [Ends; INDICES],

@@ -11,13 +11,12 @@
 //! the number of places from the length of a list: `Store::new` gives it a part of a constant list of blank
 //! flits, and only its length is read.
 
-ghost use Rattle.std.specs.Prelude.{◌≡◌, ℕ, ◌<◌, ◌≤◌, true, false, length, IfOk, slice_set, slice_index_or};
+ghost use Rattle.std.specs.Prelude.{◌≡◌, ◌<◌, ◌≤◌, true, false, length, IfOk, slice_set, slice_index_or};
 ghost use Rattle.std.specs.Mem.Slots.{slots_items, slots_filled, slots_ptr, slots_len, lease_ptr, lease_len, lease_heap};
 
 use core::slots::{Lease, Slots, release, reserve};
 use noc_packet::{Flit, INDICES, MAX_BUFFER, Memory};
 use std::alloc::Global;
-use std::fmt;
 use std::marker::{Model, Send, Sync};
 
 // A flit for the list below alone: nothing puts it into a bank.
@@ -116,12 +115,6 @@ impl Store {
         ensures filled { self.new.filled ≡ slice_set self.old.filled place false }
     {
         self.block.slots.take(place)
-    }
-}
-
-impl fmt::Debug for Store {
-    fn fmt<W: fmt::Write>(&self, f: &mut fmt::Formatter<W>) -> fmt::Result {
-        f.write_str("Store")
     }
 }
 

@@ -16,7 +16,6 @@ pub mod PlaceLemmas
 pub mod PlanLemmas
 pub mod PlannedLemmas
 pub mod PutLemmas
-pub mod QuietLemmas
 pub mod RouterLemmas
 pub mod SettleLemmas
 pub mod SiteLemmas

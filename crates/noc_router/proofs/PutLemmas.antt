@@ -1,7 +1,7 @@
 -- The beats that are still to be put.
 use Rattle.std.proofs.Common.{◌≡◌, ℕ, zero, suc, ◌<◌, ◌≤◌, Bool, true, false, List, [], ◌∷◌, get_or, set, take, Some, refl, ap, sym, ◌∙◌, arith}
 use Rattle.std.specs.Prelude.{◌&&◌, ◌||◌, not, nat_eq}
-use Rattle.std.proofs.lemmas.Bool.{eqb-true, false≢true, and_parts}
+use Rattle.std.proofs.lemmas.Bool.{eqb-true, and_parts}
 use Rattle.std.proofs.lemmas.List.{get_or-take}
 use Rattle.noc_topo.specs.Shape.{local_port}
 use Rattle.noc_packet.specs.Set.{has_bit}
@@ -14,15 +14,13 @@ use Rattle.noc_router.specs.Links.{AreLoaded, is_idle_beat}
 use Rattle.noc_alloc.specs.Places.{AreBelow}
 use Rattle.noc_router.specs.Settled.{with_credit_at, with_flit_at}
 use Rattle.noc_router.specs.View.{idle_beat}
+use Rattle.noc_router.proofs.RouterLemmas.{IsRouter-kept}
 
 pub take-set_at : {X : Type 0} (n : ℕ) (xs : List X) (i : ℕ) (y : X) → take n (set xs i y) ≡ set (take n xs) i y
 take-set_at zero xs i y = refl
 take-set_at (suc n) [] i y = refl
 take-set_at (suc n) (x ∷ xs) zero y = refl
 take-set_at (suc n) (x ∷ xs) (suc i) y = ap (λ rest. x ∷ rest) (take-set_at n xs i y)
-
-beat_with_credit : Beat → ℕ → Beat
-beat_with_credit beat vc = record beat { credit = Some vc }
 
 pub take-credit : (n port vc : ℕ) (beats new : List Beat) → new ≡ set beats port (record (get_or beats port idle_beat) { credit = Some vc }) → port < n → take n new ≡ with_credit_at port vc (take n beats)
 take-credit n port vc beats new e l =
@@ -36,23 +34,7 @@ take-flit n port vc f beats new e l =
 
 -- a router with other beats on its links
 pub relinked : (r : Inside) (l : Links) → IsRouter r → AreBelow (local_port r.shape) l.loaded → IsRouter (record r { links = l })
-relinked r l h below = record {
-  grid = h.grid;
-  node = h.node;
-  ports = h.ports;
-  some_vc = h.some_vc;
-  few_vcs = h.few_vcs;
-  channels = h.channels;
-  places = h.places;
-  leads = h.leads;
-  loaded = below;
-  sending = h.sending;
-  awaiting = h.awaiting;
-  counts = h.counts;
-  arbiter_ports = h.arbiter_ports;
-  arbiter_vcs = h.arbiter_vcs;
-  index_vcs = h.index_vcs;
-}
+relinked r l h below = IsRouter-kept r (record r { links = l }) h refl refl refl refl refl refl refl refl (λ i e. e) refl below refl refl refl refl
 
 pub below-with : (n port old new : ℕ) → ((k : ℕ) → has_bit new k ≡ (nat_eq k port || has_bit old k)) → port < n → AreBelow n old → AreBelow n new
 below-with n port old new members l below k t = at (nat_eq k port) refl
@@ -63,9 +45,6 @@ below-with n port old new members l below k t = at (nat_eq k port) refl
 
 pub below-without : (n port old new : ℕ) → ((k : ℕ) → has_bit new k ≡ (not (nat_eq k port) && has_bit old k)) → AreBelow n old → AreBelow n new
 below-without n port old new members below k t = below k (and_parts (not (nat_eq k port)) (has_bit old k) (sym (members k) ∙ t)).1
-
-pub below-none : (n new : ℕ) → ((k : ℕ) → has_bit new k ≡ false) → AreBelow n new
-below-none n new none k t = absurd (false≢true (sym (none k) ∙ t))
 
 -- the ports whose beat is not idle
 pub loaded-at : (n : ℕ) (beats : List Beat) (loaded port : ℕ) → AreLoaded 6 beats loaded → port < n → n ≤ 6 → has_bit loaded port ≡ not (is_idle_beat (get_or (take n beats) port idle_beat))

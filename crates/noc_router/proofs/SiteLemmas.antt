@@ -1,8 +1,8 @@
 -- What a cycle leaves alone, and its parts in their order.
-use Rattle.std.proofs.Common.{◌≡◌, ℕ, ◌+◌, ◌*◌, ◌<◌, ◌≤◌, Bool, true, false, List, [], ◌∷◌, length, drop, get_or, set, Option, Some, None, refl, ap, sym, ◌∙◌, arith, inl, inr, subst}
+use Rattle.std.proofs.Common.{◌≡◌, ℕ, ◌+◌, ◌*◌, ◌<◌, ◌≤◌, Bool, true, false, List, [], ◌∷◌, length, get_or, set, Option, Some, None, refl, ap, sym, ◌∙◌, arith, inl, inr, subst}
 use Rattle.std.specs.Prelude.{◌⊎◌, ◌&&◌, find, nat_lt, nat_le, if◌then◌else◌}
 use Rattle.std.proofs.lemmas.Bool.{cases_eq}
-use Rattle.std.proofs.lemmas.List.{length-set, get_or-set_same, get_or-set_other, ext_get_or, get_or-replicate, length-replicate, length-take, at_drop_more, drop_all}
+use Rattle.std.proofs.lemmas.List.{length-set, get_or-set_same, get_or-set_other, ext_get_or, get_or-replicate, length-replicate, length-take}
 use Rattle.noc_topo.specs.Words.{below, tabulate, map_indexed}
 use Rattle.noc_topo.specs.Shape.{local_port}
 use Rattle.noc_packet.specs.declared.packet.Packet.{Packet}
@@ -121,14 +121,6 @@ committed-is d v = ap (closed_with (arbiters_after d.round v.arbiters)) (settled
 -- the findings after a commit are those of the plan
 pub committed-shown : (d : Decisions) (v : View) → record (view_after_commit d v) { findings = d.findings } ≡ view_after_commit d v
 committed-shown d v = ap (λ (x : View). record x { findings = d.findings }) (committed-parts d v) ∙ sym (committed-parts d v)
-
--- ---- a take at each port
-pub taken-more : (relation : Routes) (port : ℕ) (beats : List Beat) (none : Beat) (v : View) (all : View) → port < length beats
-    → view_after_takes_from relation port (drop port beats) v ≡ all → view_after_takes_from relation (port + 1) (drop (port + 1) beats) (view_after_take relation port (get_or beats port none) v) ≡ all
-taken-more relation port beats none v all l so_far = sym (at_drop_more (λ bs. view_after_takes_from relation port bs v) beats port none l) ∙ so_far
-
-pub taken-all : (relation : Routes) (port : ℕ) (beats : List Beat) (v : View) (all : View) → length beats ≤ port → view_after_takes_from relation port (drop port beats) v ≡ all → v ≡ all
-taken-all relation port beats v all l so_far = ap (λ bs. view_after_takes_from relation port bs v) (sym (drop_all port beats l)) ∙ so_far
 
 -- ---- a put at each port
 -- the beats before this port are put, the others are not

@@ -1,7 +1,7 @@
 -- The pick of an input port from a set of ready channels.
-use Rattle.std.proofs.Common.{◌≡◌, ℕ, ◌+◌, ◌*◌, ◌<◌, ◌≤◌, true, List, length, get_or, Option, None, ap, sym, ◌∙◌, inl, inr}
-use Rattle.std.specs.Prelude.{◌⊎◌, ◌&&◌, nat_lt, is_some}
-use Rattle.std.proofs.lemmas.Bool.{cases_lt, false≢true, lt-ltb, le-ltb}
+use Rattle.std.proofs.Common.{◌≡◌, ℕ, ◌+◌, ◌*◌, ◌<◌, List, length, get_or, Option, None, ap, sym, ◌∙◌}
+use Rattle.std.specs.Prelude.{◌&&◌, nat_lt, is_some}
+use Rattle.std.proofs.lemmas.Bool.{lt-ltb}
 use Rattle.std.proofs.lemmas.List.{get_or_read}
 use Rattle.noc_packet.specs.Set.{has_bit}
 use Rattle.noc_alloc.specs.Arbiter.{RoundRobin, first_in_turn, pointers_of}
@@ -30,11 +30,3 @@ pub pick_from-asked : (asked : List (Option ℕ)) (vcs : ℕ) (pointers : List �
     → pick_from ready vcs pointers port ≡ pick_of asked vcs pointers port
 pick_from-asked asked vcs pointers ready port members =
     first_in_turn-same vcs (get_or pointers port 0) (λ v. has_bit ready (port * vcs + v)) (λ v. is_some (get_or asked (port * vcs + v) None)) (λ v u. members (port * vcs + v))
-
--- no member of a part is past it
-pub part-below : (vcs first filled part : ℕ) → ((k : ℕ) → has_bit part k ≡ (nat_lt k vcs && has_bit filled (first + k))) → (k : ℕ) → has_bit part k ≡ true → k < vcs
-part-below vcs first filled part some k e = at (cases_lt k vcs)
-  where
-    at : (k < vcs) ⊎ (vcs ≤ k) → k < vcs
-    at (inl l) = l
-    at (inr u) = absurd (false≢true (sym (some k ∙ ap (λ b. b && has_bit filled (first + k)) (le-ltb k vcs u)) ∙ e))

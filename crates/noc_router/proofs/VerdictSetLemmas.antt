@@ -240,13 +240,6 @@ pub plan-granted : (p : Inside) (o : PlanContents) (k : ℕ) → plan_contents_i
 plan-granted p o k view is =
     sym (granted-by p.verdicts k) ∙ test-at p.requests.size is_granted p.verdicts k refl granted_event (is.events k) ∙ ap (λ (x : PlanContents). is_granted (get_or x.verdicts k Empty)) view
 
--- the verdict of a plan on one of its channels
-pub plan-verdict : (p : Inside) (o : PlanContents) (i : ℕ) → plan_contents_in p ≡ o → i < length o.verdicts → (i < p.requests.size) × (get_or o.verdicts i Empty ≡ verdict_by p.verdicts i)
-plan-verdict p o i view l =
-    let same : length o.verdicts ≡ p.requests.size = sym (ap (λ (x : PlanContents). length x.verdicts) view) ∙ length-tabulate p.requests.size (verdict_by p.verdicts) in
-    let within : i < p.requests.size = omega arith in
-    (within, sym (ap (λ (x : PlanContents). get_or x.verdicts i Empty) view) ∙ get_or-tabulate p.requests.size i (verdict_by p.verdicts) Empty within)
-
 -- ---- the verdict on a channel
 -- the first verdict of a channel in this state, whose buffer may be empty, and which its port may have picked
 abbrev first_in : Bool → Bool → Bool → Bool → Bool → Bool → Bool → Bool → Bool → Verdict

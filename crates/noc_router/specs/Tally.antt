@@ -1,7 +1,6 @@
 -- What a router counts of its input channels, and what it finds of them.
-use Rattle.std.specs.Prelude.{◌≡◌, ℕ, zero, suc, ◌+◌, ◌-◌, ◌^◌, ◌<◌, ◌≤◌, Bool, true, false, not, List, [], ◌∷◌, sum, length, replicate, slice_index, slice_index_or, slice_set}
+use Rattle.std.specs.Prelude.{◌≡◌, ℕ, ◌-◌, ◌^◌, ◌<◌, ◌≤◌, Bool, true, false, not, List, [], ◌∷◌, sum, length, replicate, slice_index_or}
 use Rattle.noc_packet.specs.Set.{has_bit}
-use Rattle.noc_topo.specs.Words.{map_indexed}
 use Rattle.noc_ring.specs.Buffers.{buffer_at}
 use Rattle.noc_router.specs.Found.{empty_finding}
 use Rattle.noc_router.specs.declared.verdict.Verdict.{Verdict}
@@ -11,7 +10,6 @@ use Rattle.noc_router.specs.declared.verdict.Finding.{Finding}
 use Rattle.noc_alloc.specs.Places.{AreBelow}
 use Rattle.noc_router.specs.Settled.{planned_verdict}
 use Rattle.noc_router.specs.Sound.{nth_input, is_occupied}
-use Rattle.noc_router.specs.Verdict.{column}
 use Rattle.noc_router.specs.View.{PlanContents}
 
 -- the finding of channel i

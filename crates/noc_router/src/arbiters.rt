@@ -5,11 +5,11 @@
 //! chooses between two sets, the requests at or after its pointer and all requests, and then looks for the
 //! least member, so it looks once.
 
-ghost use Rattle.std.specs.Prelude.{◌≡◌, ℕ, ◌*◌, ◌<◌, ◌≤◌, All, IfOk, IfSome, List, Option, None, is_some, length, slice_index_or, vec_len};
+ghost use Rattle.std.specs.Prelude.{◌≡◌, ℕ, ◌*◌, ◌<◌, ◌≤◌, All, IfOk, IfSome, List, Option, None, is_some, slice_index_or, vec_len};
 ghost use Rattle.noc_packet.specs.Set.{has_bit};
 ghost use Rattle.noc_packet.specs.declared.limits.TheConstants.{INDICES};
 ghost use Rattle.noc_alloc.specs.Allocation.{pick_of};
-ghost use Rattle.noc_alloc.specs.Arbiter.{RoundRobin, pointers_of};
+ghost use Rattle.noc_alloc.specs.Arbiter.{pointers_of};
 ghost use Rattle.noc_router.specs.Verdict.{opening_arbiters};
 
 use noc_alloc::Arbiter;
@@ -58,7 +58,7 @@ impl Arbiters {
         ensures vc { IfSome result (λ vc. vc < self.now.vcs) }
         ensures pick { (asked : List (Option ℕ)) → ((k : ℕ) → has_bit ready k ≡ is_some (slice_index_or asked k None)) → result ≡ pick_of asked self.now.vcs (pointers_of (arbiter_states_in self.now).inputs) port }
     {
-        pick_channel(ready, self.vcs, &self.inputs, port)
+        self.inputs[port].pick(ready.part(port * self.vcs, self.vcs))
     }
 
     // The pointers of an input port and an output port go on past the virtual channel and the input port that won.
@@ -71,16 +71,4 @@ impl Arbiters {
         self.inputs[port].advance(Some(vc));
         self.outputs[output].advance(Some(port));
     }
-}
-
-// The one of its `vcs` virtual channels that are ready which an input port picks. Input port `port` has the input channels
-// from `port * vcs` on.
-fn pick_channel(ready: ChannelSet, vcs: usize, inputs: &[Arbiter], port: usize) -> Option<usize>
-    requires few { length inputs.now * vcs ≤ INDICES }
-    requires port { port < length inputs.now }
-    requires sizes { All (λ (t : RoundRobin). t.size ≡ vcs) inputs.now }
-    ensures vc { IfSome result (λ vc. vc < vcs) }
-    ensures pick { (asked : List (Option ℕ)) → ((k : ℕ) → has_bit ready k ≡ is_some (slice_index_or asked k None)) → result ≡ pick_of asked vcs (pointers_of inputs.now) port }
-{
-    inputs[port].pick(ready.part(port * vcs, vcs))
 }

@@ -1,7 +1,7 @@
 //! The packets that end at a node.
 
 ghost use Rattle.std.specs.Prelude.{◌≡◌, IfOk, if◌then◌else◌, None, map, vec_len};
-ghost use Rattle.std.specs.List.{zip, list_any};
+ghost use Rattle.std.specs.List.{zip};
 ghost use Rattle.std.specs.List.Sorted.{IsStrictlyIncreasing};
 ghost use Rattle.noc_router.specs.Arrivals.{is_expected_in, arrivals_after, noted_arrival};
 

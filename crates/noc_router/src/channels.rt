@@ -6,14 +6,14 @@
 //! (`specs/Sound.antt`). What stays as it is, is not written: where a flit that is no tail leaves, the sets of
 //! idle and of owning channels are left alone.
 
-ghost use Rattle.std.specs.Prelude.{◌≡◌, ◌≢◌, ℕ, ◌≤◌, ◌<◌, ◌-◌, ◌++◌, ◌&&◌, find, true, false, None, IfOk, IfSome, is_some, length, nat_lt, not, ◌⊎◌, Some, slice_get, slice_index_or, slice_set, unwrap_or, vec_len, if◌then◌else◌, replicate};
+ghost use Rattle.std.specs.Prelude.{◌≡◌, ◌≢◌, ℕ, ◌≤◌, ◌<◌, ◌-◌, ◌++◌, ◌&&◌, true, false, None, IfOk, IfSome, length, nat_lt, not, Some, slice_get, slice_index_or, vec_len, if◌then◌else◌, replicate};
 ghost use Rattle.noc_topo.specs.Shape.{nodes as nodes_of, ports as ports_of};
 ghost use Rattle.noc_topo.specs.Words.{below};
 ghost use Rattle.noc_packet.specs.Set.{has_bit};
 ghost use Rattle.noc_packet.specs.declared.limits.TheConstants.{INDICES};
-ghost use Rattle.noc_ring.specs.Buffers.{empty_buffers, buffer_at, buffers_after_pop};
-ghost use Rattle.noc_vc.specs.Input.{idle_input, is_idle_phase, is_waiting, is_empty, fits, input_after_route, input_after_grant, input_after_send};
-ghost use Rattle.noc_vc.specs.Output.{ejection_output, link_output, is_free, is_owned, has_credit, credit_fits, output_after_credit, output_after_hold, output_after_spend};
+ghost use Rattle.noc_ring.specs.Buffers.{buffer_at};
+ghost use Rattle.noc_vc.specs.Input.{is_idle_phase, is_empty, fits};
+ghost use Rattle.noc_vc.specs.Output.{ejection_output, link_output, is_free, is_owned, has_credit, credit_fits, output_after_spend};
 ghost use Rattle.noc_alloc.specs.Places.{AreBelow};
 ghost use Rattle.noc_router.specs.Members.{is_within};
 ghost use Rattle.noc_router.specs.Sound.{nth_input, nth_output, is_occupied, CanHold, CanInject, CanRoute, CanSend, KeepsAwaiting, AreSound, AreStanding, asked_in, finding_with};
@@ -56,7 +56,7 @@ pub(crate) struct Channels {
     idle: ChannelSet,
     // All channels.
     every: ChannelSet,
-    bank: Bank,
+    pub(crate) bank: Bank,
     inputs: Vec<InputChannel>,
     outputs: Vec<OutputChannel>,
     ghost few: { size ≤ INDICES },
@@ -208,7 +208,7 @@ impl Channels {
         ensures within { IfSome result (λ output. output < self.now.size) }
     {
         match self.inputs[index].state() {
-            InputState::Waiting(set) => self.least_idle(set),
+            InputState::Waiting(set) => set.least_common(&self.idle),
             _ => None,
         }
     }
@@ -238,28 +238,12 @@ impl Channels {
         }
     }
 
-    // The least of the idle output channels in a set.
-    pub(crate) fn least_idle(&self, set: ChannelSet) -> Option<usize>
-        ensures value { result ≡ find (λ o. has_bit set o && is_free (nth_output self.now.outputs.items o).holder) (below self.now.size) }
-        ensures within { IfSome result (λ output. output < self.now.size) }
-    {
-        set.least_common(&self.idle)
-    }
-
     // Whether the buffer of an input channel has room for a flit.
     pub(crate) fn has_room(&self, index: usize) -> bool
         requires { index < self.now.size }
         ensures { result ≡ nat_lt (length (buffer_at self.now.bank index)) self.now.bank.capacity }
     {
         !self.bank.is_full(index)
-    }
-
-    // The first flit in the buffer of an input channel.
-    pub(crate) fn front(&self, index: usize) -> Option<Flit>
-        requires { index < self.now.size }
-        ensures { result ≡ slice_get (buffer_at self.now.bank index) 0 }
-    {
-        self.bank.front(index)
     }
 
     // The head in the buffer of an idle input channel gets its set of output channels.

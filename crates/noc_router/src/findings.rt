@@ -43,9 +43,14 @@ impl Findings {
     pub(crate) fn new(alloc: Global, size: usize) -> Result<Findings, Memory>
         ensures { IfOk result (λ findings. findings ≡ replicate size empty_finding) }
     {
+        let empty = Finding {
+            verdict: Verdict::Empty,
+            packet: None,
+            out: None,
+        };
         Ok(Findings {
             shown: ChannelSet::empty(),
-            findings: vec![in alloc; Finding::empty(); size]?,
+            findings: vec![in alloc; empty; size]?,
         })
     }
 

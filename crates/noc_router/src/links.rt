@@ -14,7 +14,7 @@ use noc_topo::LINKS;
 pub(crate) struct Links {
     beats: [Beat; LINKS],
     // The ports whose beat is not idle.
-    loaded: ChannelSet,
+    pub(crate) loaded: ChannelSet,
     ghost marked: { AreLoaded LINKS beats loaded },
 }
 
@@ -58,13 +58,6 @@ impl Links {
     {
         self.loaded = self.loaded.with(port);
         self.beats[port].credit = Some(vc);
-    }
-
-    // The ports whose beat is not idle.
-    pub(crate) fn loaded(&self) -> ChannelSet
-        ensures { result ≡ self.now.loaded }
-    {
-        self.loaded
     }
 
     // The beat of a port, which leaves an idle one.

@@ -16,7 +16,6 @@ ghost use Rattle.noc_router.specs.Verdict.{is_event, is_granted, is_moved};
 
 use crate::arbiters::Arbiters;
 use crate::requests::Requests;
-use crate::verdict::Verdict;
 use crate::verdict_sets::VerdictSets;
 use noc_packet::{ChannelSet, Memory};
 use noc_route::Relation;
@@ -64,14 +63,15 @@ impl Plan {
         requires { IsDecidedFor arbiters.old.ports arbiters.old.vcs self.now }
         ensures { turns_in arbiters.new ≡ record (turns_in arbiters.old) { states = channels_past self.now.round (arbiter_states_in arbiters.old) } }
     {
-        self.requests.advance(arbiters);
+        self.requests.channels.advance(&mut arbiters.channels);
     }
 
     // The input channels whose verdict takes effect.
     pub(crate) fn events(&self) -> ChannelSet
         ensures { (k : ℕ) → has_bit result k ≡ is_event (slice_index_or self.now.verdicts k Empty) }
     {
-        self.verdicts.events()
+        let sets = &self.verdicts;
+        sets.moved.either(sets.granted.either(sets.routed))
     }
 
     // Whether the verdict on an input channel is Moved.
@@ -90,21 +90,13 @@ impl Plan {
         !self.verdicts.moved.contains(index) && self.verdicts.granted.contains(index)
     }
 
-    // The verdict on an input channel.
-    pub(crate) fn verdict(&self, index: usize) -> Verdict
-        requires { index < length self.now.verdicts }
-        ensures { result ≡ slice_index_or self.now.verdicts index Empty }
-    {
-        self.verdicts.verdict(index)
-    }
-
     // The output channel that an input channel asks for.
     pub(crate) fn ask(&self, index: usize) -> Option<usize>
         requires { index < INDICES }
         ensures value { result ≡ slice_index_or self.now.asks index None }
         ensures within { IfSome result (λ output. output < length self.now.asks) }
     {
-        self.requests.ask(index)
+        self.requests.channels.asked(index)
     }
 
     // The set for the head of an input channel.

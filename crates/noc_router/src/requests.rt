@@ -3,12 +3,12 @@
 //! Input channels ask for output channels. Input ports, each with the channel that it has picked, ask for output
 //! ports.
 
-ghost use Rattle.std.specs.Prelude.{◌≡◌, ℕ, ◌*◌, ◌/◌, ◌%◌, ◌<◌, ◌≤◌, ◌&&◌, IfSome, Some, None, is_some, length, slice_index_or, slice_set};
+ghost use Rattle.std.specs.Prelude.{◌≡◌, ℕ, ◌*◌, ◌/◌, ◌%◌, ◌<◌, ◌≤◌, ◌&&◌, Some, None, length, slice_index_or, slice_set};
 ghost use Rattle.noc_topo.specs.Words.{is_some_of};
 ghost use Rattle.noc_packet.specs.Set.{has_bit};
 ghost use Rattle.noc_packet.specs.declared.limits.TheConstants.{INDICES, MAX_PORTS};
 ghost use Rattle.noc_alloc.specs.Places.{AreBelow};
-ghost use Rattle.noc_alloc.specs.Requests.{AllBelow, is_given};
+ghost use Rattle.noc_alloc.specs.Requests.{AllBelow};
 
 use crate::arbiters::Arbiters;
 use noc_alloc::{Allocation, Places};
@@ -23,11 +23,11 @@ pub(crate) struct Requests {
     routed: ChannelSet,
     routes: [ChannelSet; INDICES],
     // The output channels, to input channels.
-    channels: Allocation,
+    pub(crate) channels: Allocation,
     // By input port, the virtual channel that it has picked.
-    picks: Places,
+    pub(crate) picks: Places,
     // The output ports, to input ports.
-    switch: Allocation,
+    pub(crate) switch: Allocation,
     ghost few_ports: { ports ≤ MAX_PORTS },
     ghost few: { size ≤ INDICES },
     ghost room: { length routes ≡ INDICES },
@@ -40,7 +40,7 @@ pub(crate) struct Requests {
 }
 
 impl Requests {
-    ghost use Rattle.noc_router.specs.Asked.{AreOfOneSize, arbiter_states_in, channels_past, grants_on, lists_in, no_requests, round_in, routes_in, turns_in, wins_on};
+    ghost use Rattle.noc_router.specs.Asked.{AreOfOneSize, arbiter_states_in, grants_on, lists_in, no_requests, routes_in, wins_on};
 
     // No requests, for routers without channels.
     pub(crate) fn new() -> Requests {
@@ -106,50 +106,8 @@ impl Requests {
         self.switch.grant(&arbiters.outputs);
     }
 
-    // The pointers of the output channels go on past the input channels that they were granted to.
-    pub(crate) fn advance(&self, arbiters: &mut Arbiters)
-        requires { AreOfOneSize arbiters.old self.now }
-        ensures { turns_in arbiters.new ≡ record (turns_in arbiters.old) { states = channels_past (round_in self.now) (arbiter_states_in arbiters.old) } }
-    {
-        self.channels.advance(&mut arbiters.channels);
-    }
-
-    // The input channels that ask for an output channel.
-    pub(crate) fn asking(&self) -> ChannelSet
-        ensures { (k : ℕ) → has_bit result k ≡ is_some (slice_index_or self.now.channels.asks k None) }
-    {
-        self.channels.asking()
-    }
-
-    // The input channels that get the output channel that they ask for.
-    pub(crate) fn granted(&self) -> ChannelSet
-        ensures { (k : ℕ) → has_bit result k ≡ is_given self.now.channels.grants (slice_index_or self.now.channels.asks k None) k }
-    {
-        self.channels.granted()
-    }
-
-    // The input channels that are picked, of input ports with so many virtual channels.
-    pub(crate) fn picked(&self, vcs: usize) -> ChannelSet
-        requires some { 0 < vcs }
-        requires size { self.now.ports * vcs ≡ self.now.size }
-        requires picks { AllBelow vcs self.now.picks }
-        ensures { (k : ℕ) → has_bit result k ≡ is_some_of (slice_index_or self.now.picks (k / vcs) None) (k % vcs) }
-    {
-        self.picked_by(self.picks.filled(), vcs)
-    }
-
-    // The input channels that are picked by an input port that gets the output port that it asks for.
-    pub(crate) fn moved(&self, vcs: usize) -> ChannelSet
-        requires some { 0 < vcs }
-        requires size { self.now.ports * vcs ≡ self.now.size }
-        requires picks { AllBelow vcs self.now.picks }
-        ensures { (k : ℕ) → has_bit result k ≡ (is_given self.now.switch.grants (slice_index_or self.now.switch.asks (k / vcs) None) (k / vcs) && is_some_of (slice_index_or self.now.picks (k / vcs) None) (k % vcs)) }
-    {
-        self.picked_by(self.switch.granted(), vcs)
-    }
-
     // The input channels that these input ports have picked.
-    fn picked_by(&self, ports: ChannelSet, vcs: usize) -> ChannelSet
+    pub(crate) fn picked_by(&self, ports: ChannelSet, vcs: usize) -> ChannelSet
         requires some { 0 < vcs }
         requires size { self.now.ports * vcs ≡ self.now.size }
         requires picks { AllBelow vcs self.now.picks }
@@ -176,14 +134,5 @@ impl Requests {
         } else {
             ChannelSet::empty()
         }
-    }
-
-    // The output channel that a waiting input channel asks for.
-    pub(crate) fn ask(&self, index: usize) -> Option<usize>
-        requires { index < INDICES }
-        ensures value { result ≡ slice_index_or self.now.channels.asks index None }
-        ensures within { IfSome result (λ output. output < self.now.size) }
-    {
-        self.channels.asked(index)
     }
 }

@@ -1,17 +1,13 @@
 //! The router.
 
 ghost use Rattle.std.specs.List.Sorted.{IsStrictlyIncreasing};
-ghost use Rattle.std.specs.Prelude.{◌≡◌, ◌+◌, ◌-◌, ◌*◌, ◌<◌, ◌≤◌, All, IfOk, IfSome, Some, map, true, ◌⊎◌, length, ℕ, Bool, not, ◌&&◌, None, replicate, slice_index_or, [], false, if◌then◌else◌};
+ghost use Rattle.std.specs.Prelude.{◌≡◌, ◌+◌, ◌-◌, ◌*◌, ◌<◌, ◌≤◌, All, IfOk, IfSome, Some, true, ◌⊎◌, length, ℕ, not, ◌&&◌, None, replicate, slice_index_or, [], false, if◌then◌else◌};
 ghost use Rattle.noc_topo.specs.Shape.{IsGrid, nodes as nodes_of, ports as ports_of, local_port, neighbour as neighbour_of};
 ghost use Rattle.noc_topo.specs.Words.{tabulate};
-ghost use Rattle.noc_alloc.specs.Places.{AreBelow};
-ghost use Rattle.noc_vc.specs.Input.{is_active, is_empty};
-ghost use Rattle.noc_vc.specs.Output.{has_credit};
+ghost use Rattle.noc_vc.specs.Input.{is_empty};
 ghost use Rattle.noc_router.specs.Arrivals.{noted_arrival};
-ghost use Rattle.noc_router.specs.Asked.{channels_past, lists_in, round_in, routes_in};
-ghost use Rattle.noc_router.specs.Decided.{IsDecidedFor};
+ghost use Rattle.noc_router.specs.Asked.{lists_in, round_in, routes_in};
 ghost use Rattle.noc_router.specs.Finish.{view_after_finish};
-ghost use Rattle.noc_router.specs.Found.{empty_finding};
 ghost use Rattle.noc_router.specs.Injection.{next_vc, vacant_vc};
 ghost use Rattle.noc_router.specs.Links.{is_idle_beat};
 ghost use Rattle.noc_alloc.specs.Requests.{AllBelow};
@@ -23,10 +19,8 @@ ghost use Rattle.noc_packet.specs.Set.{has_bit};
 ghost use Rattle.noc_packet.specs.declared.limits.TheConstants.{INDICES};
 ghost use Rattle.noc_router.specs.Start.{IsNumberedPacket};
 ghost use Rattle.noc_router.specs.Still.{IsHeldBefore, takes_effect, view_after_waiting};
-ghost use Rattle.noc_router.specs.Tally.{finding_at};
 ghost use Rattle.noc_router.specs.Verdict.{arbiters_after, asks_of, is_event};
-ghost use Rattle.noc_router.specs.View.{IsRelationOf, local_channel, size_of, view_buffer, opening_view, with_flit, with_credit, view_after_take, view_after_takes, view_after_inject, decisions_of, plan_contents, view_after_commit, beat_to_put, view_after_put, idle_beats, local_step, finding_of, route_for, route_of, view_claim, view_output, view_round, view_stands, first_flit, view_input, port_and_vc, with_arrival, counts_after};
-ghost use Rattle.noc_router.specs.declared.verdict.Verdict.TheVariants.{Empty};
+ghost use Rattle.noc_router.specs.View.{IsRelationOf, local_channel, size_of, view_buffer, opening_view, with_flit, with_credit, view_after_take, view_after_takes, view_after_inject, decisions_of, plan_contents, view_after_commit, beat_to_put, view_after_put, idle_beats, local_step, route_for, route_of, view_stands, first_flit, view_input, with_arrival};
 
 use crate::arbiters::Arbiters;
 use crate::arrivals::Arrivals;
@@ -210,7 +204,7 @@ impl Router {
         ensures room { IfSome result (λ vc. length (view_buffer self.now (local_channel self.now.site vc)) < self.now.site.places) }
         ensures next { IfSome result (λ vc. is_empty (view_buffer self.now (local_channel self.now.site vc)) ≡ true ⊎ is_awaiting self.now.inputs (local_channel self.now.site vc) ≡ true) }
     {
-        match self.source.channel() {
+        match self.source.vc {
             Some(vc) => {
                 let room = self.channels.has_room((self.ports - 1) * self.vcs + vc);
                 if room { Some(vc) } else { None }
@@ -261,15 +255,22 @@ impl Router {
         }
     }
 
-    // The set for the head in the buffer of an input channel.
+    // The set for the head in the buffer of an input channel: none where its class or destination does not exist.
     fn route_for(&self, relation: &Relation, index: usize) -> ChannelSet
         requires relation { IsRelationOf relation.now self.now }
         requires index { index < size_of self.now.site }
         ensures { result ≡ route_for relation.now self.now index (first_flit self.now index) }
     {
-        match self.channels.front(index) {
-            Some(flit) => self.set_for(relation, index, &flit),
-            None => ChannelSet::empty(),
+        let Some(flit) = self.channels.bank.front(index) else {
+            return ChannelSet::empty();
+        };
+        let class = usize::from(flit.class);
+        let destination = usize::from(flit.dst);
+        if class < relation.classes() && destination < relation.shape().nodes() {
+            let (port, vc) = self.indices.place(index);
+            relation.permitted(class, self.node, port, vc, destination)
+        } else {
+            ChannelSet::empty()
         }
     }
 
@@ -325,10 +326,10 @@ impl Router {
         requires requests { AreAsked self.now requests.now }
         ensures { AreVerdictsOf self.now (round_in requests.now) result }
     {
-        let asking = requests.asking();
-        let granted = requests.granted();
-        let picked = requests.picked(self.vcs);
-        let moved = requests.moved(self.vcs);
+        let asking = requests.channels.asking();
+        let granted = requests.channels.granted();
+        let picked = requests.picked_by(requests.picks.filled(), self.vcs);
+        let moved = requests.picked_by(requests.switch.granted(), self.vcs);
         VerdictSets {
             moved,
             granted,
@@ -342,28 +343,12 @@ impl Router {
         }
     }
 
-    // The output channels that the relation permits to a head: none where its class or destination does not exist.
-    fn set_for(&self, relation: &Relation, index: usize, flit: &Flit) -> ChannelSet
-        requires relation { IsRelationOf relation.now self.now }
-        requires index { index < size_of self.now.site }
-        ensures { result ≡ route_for relation.now self.now index (Some flit.now) }
-    {
-        let class = usize::from(flit.class);
-        let destination = usize::from(flit.dst);
-        if class < relation.classes() && destination < relation.shape().nodes() {
-            let (port, vc) = self.indices.place(index);
-            relation.permitted(class, self.node, port, vc, destination)
-        } else {
-            ChannelSet::empty()
-        }
-    }
-
     /// Lets the verdicts of the plan of this state take effect, and keeps its findings.
     pub fn commit(&mut self, plan: &Plan)
         requires { AreContentsFor plan.now self.old }
         ensures { (relation : Routes) → plan.now ≡ plan_contents relation self.old → self.new ≡ view_after_commit (decisions_of relation self.old) self.old }
     {
-        self.show(plan);
+        self.tally.show(&self.channels, &self.indices, plan);
         self.take_effect(plan);
     }
 
@@ -389,7 +374,9 @@ impl Router {
         ensures { self.new ≡ record (view_after_commit (decisions_of relation.now self.old) self.old) { findings = self.old.findings } }
     {
         if self.holds_nothing() {
-            self.idle_cycle();
+            self.tally.count_empty(1);
+            self.links.clear();
+            self.end_cycle();
         } else {
             self.plan(relation, plan);
             self.take_effect(plan);
@@ -415,7 +402,7 @@ impl Router {
         ensures due { IfSome result (λ due. IsHeldBefore (due + 1) self.now → ⊥) }
     {
         let due = self.source.next_due()?;
-        match self.source.channel() {
+        match self.source.vc {
             Some(vc) => {
                 let room = self.channels.has_room((self.ports - 1) * self.vcs + vc);
                 if room { Some(0) } else { None }
@@ -448,15 +435,6 @@ impl Router {
         self.channels.occupied().is_empty()
     }
 
-    // A cycle in which no input channel holds anything.
-    fn idle_cycle(&mut self)
-        requires vacant { (i : ℕ) → i < size_of self.old.site → is_occupied (view_input self.old i) (view_buffer self.old i) ≡ false }
-        ensures { (relation : Routes) → self.new ≡ record (view_after_commit (decisions_of relation self.old) self.old) { findings = self.old.findings } }
-    {
-        self.count_empty();
-        self.end_cycle();
-    }
-
     // The verdicts of the plan of this state take effect; the findings stay.
     fn take_effect(&mut self, plan: &Plan)
         requires { AreContentsFor plan.now self.old }
@@ -464,16 +442,8 @@ impl Router {
     {
         self.count(plan);
         self.apply_verdicts(plan);
-        self.advance_channel_pointers(plan);
+        plan.advance(&mut self.arbiters);
         self.end_cycle();
-    }
-
-    // The findings are those of this plan.
-    fn show(&mut self, plan: &Plan)
-        requires { AreContentsFor plan.now self.old }
-        ensures { self.new ≡ record self.old { findings = (decisions_by plan.now self.old).findings } }
-    {
-        self.tally.show(&self.channels, &self.indices, plan);
     }
 
     // The verdicts are counted, and every beat is idle again.
@@ -483,22 +453,6 @@ impl Router {
     {
         self.tally.count(plan);
         self.links.clear();
-    }
-
-    // Every input channel is counted as empty, and every beat is idle again.
-    fn count_empty(&mut self)
-        ensures { self.new ≡ record self.old { counts = map (counts_after Empty) self.old.counts; to_put = idle_beats self.old.site } }
-    {
-        self.tally.count_empty(1);
-        self.links.clear();
-    }
-
-    // The pointers of the output channels go on past the input channels that they were granted to.
-    fn advance_channel_pointers(&mut self, plan: &Plan)
-        requires { IsDecidedFor (ports_of self.old.site.grid) self.old.site.vcs plan.now }
-        ensures { self.new ≡ record self.old { arbiters = channels_past plan.now.round self.old.arbiters } }
-    {
-        plan.advance(&mut self.arbiters);
     }
 
     // The cycle ends.
@@ -631,7 +585,7 @@ impl Router {
         ensures within { (port : ℕ) → has_bit result port ≡ true → port < local_port self.now.site.grid }
         ensures each { (port : ℕ) → port < local_port self.now.site.grid → has_bit result port ≡ not (is_idle_beat (beat_to_put self.now port)) }
     {
-        self.links.loaded()
+        self.links.loaded
     }
 
     /// One whole cycle: the beats that came, one for each link port, and the beats that go out.

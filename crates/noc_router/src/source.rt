@@ -14,7 +14,7 @@ pub(crate) struct Source {
     front: Option<(u32, Packet)>,
     // The index of its next flit, and the local virtual channel of the flits after its head.
     index: u32,
-    vc: Option<usize>,
+    pub(crate) vc: Option<usize>,
     // All packets, of which the first `begun` are done or in front.
     packets: Vec<(u32, Packet)>,
     begun: usize,
@@ -56,13 +56,6 @@ impl Source {
     {
         let (number, packet) = self.front?;
         Some(flit_of(&packet, number as usize, self.index as usize))
-    }
-
-    // The local virtual channel of the packet in front, once its head has gone.
-    pub(crate) fn channel(&self) -> Option<usize>
-        ensures { result ≡ self.now.vc }
-    {
-        self.vc
     }
 
     // Whether the packet in front is due by this cycle.

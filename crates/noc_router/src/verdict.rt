@@ -1,8 +1,5 @@
 //! The ten verdicts, and what a router finds of an input channel.
 
-ghost use Rattle.std.specs.Prelude.{◌≡◌};
-ghost use Rattle.noc_router.specs.Verdict.{is_event};
-
 /// How many verdicts there are.
 pub const VERDICTS: usize = 10;
 
@@ -48,27 +45,4 @@ pub enum Findings {
     Record,
     /// Its findings stay as they were.
     Leave,
-}
-
-impl Finding {
-    ghost use Rattle.std.specs.Prelude.{◌≡◌};
-    ghost use Rattle.noc_router.specs.Found.{empty_finding};
-
-    /// What is found of a channel that holds nothing.
-    pub(crate) fn empty() -> Finding
-        ensures { result ≡ empty_finding }
-    {
-        Finding {
-            verdict: Verdict::Empty,
-            packet: None,
-            out: None,
-        }
-    }
-}
-
-// Whether a verdict takes effect: a route, a grant or a move.
-pub(crate) fn is_event(verdict: Verdict) -> bool
-    ensures { result ≡ is_event verdict }
-{
-    matches!(verdict, Verdict::Routed | Verdict::Granted | Verdict::Moved)
 }

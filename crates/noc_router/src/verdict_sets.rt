@@ -1,12 +1,11 @@
 //! The verdicts of one router as sets of input channels.
 
 ghost use Rattle.std.specs.Prelude.{◌≡◌, ℕ, ◌+◌, ◌<◌, ◌≤◌, ◌==◌, length};
-ghost use Rattle.noc_packet.specs.Set.{has_bit};
 ghost use Rattle.noc_counts.specs.Counts.{one_at, one_if};
-ghost use Rattle.noc_router.specs.Verdict.{column, is_event};
+ghost use Rattle.noc_router.specs.Verdict.{column};
 
 use crate::verdict::{VERDICTS, Verdict};
-use noc_packet::{ChannelSet, INDICES};
+use noc_packet::ChannelSet;
 
 /// How many verdicts there are but Empty.
 pub(crate) const OTHERS: usize = VERDICTS - 1;
@@ -83,40 +82,5 @@ impl VerdictSets {
             (self.lost_input, Verdict::LostInput),
             (self.lost_switch, Verdict::LostSwitch),
         ]
-    }
-
-    // The channels whose verdict takes effect.
-    pub(crate) fn events(&self) -> ChannelSet
-        ensures { (k : ℕ) → has_bit result k ≡ is_event (verdict_by self.now k) }
-    {
-        self.moved.either(self.granted).either(self.routed)
-    }
-
-    // The verdict of a channel.
-    pub(crate) fn verdict(&self, index: usize) -> Verdict
-        requires { index < INDICES }
-        ensures { result ≡ verdict_by self.now index }
-    {
-        if self.moved.contains(index) {
-            Verdict::Moved
-        } else if self.granted.contains(index) {
-            Verdict::Granted
-        } else if self.routed.contains(index) {
-            Verdict::Routed
-        } else if self.no_flit.contains(index) {
-            Verdict::NoFlit
-        } else if self.no_idle_channel.contains(index) {
-            Verdict::NoIdleChannel
-        } else if self.lost_channel.contains(index) {
-            Verdict::LostChannel
-        } else if self.no_credit.contains(index) {
-            Verdict::NoCredit
-        } else if self.lost_input.contains(index) {
-            Verdict::LostInput
-        } else if self.lost_switch.contains(index) {
-            Verdict::LostSwitch
-        } else {
-            Verdict::Empty
-        }
     }
 }

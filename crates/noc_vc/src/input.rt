@@ -70,17 +70,6 @@ fn may_begin(relation: &Relation, router: usize, port: usize, vc: usize, flit: &
         && !relation.permitted(class, router, port, vc, dst).is_empty()
 }
 
-// Whether a flit is the one that is awaited.
-fn is_awaited(flit: &Flit, awaited: &Awaited) -> bool
-    ensures { result ≡ is_awaited flit.now (Some awaited.now) }
-{
-    flit.packet == awaited.packet
-        && flit.index as u16 == awaited.index
-        && flit.dst == awaited.dst
-        && flit.class == awaited.class
-        && (flit.index as u32) < MAX_LENGTH
-}
-
 // The flit behind a flit in its packet; None behind the tail.
 fn next_of(flit: &Flit) -> Option<Awaited>
     ensures { result ≡ next_of flit.now }
@@ -145,7 +134,13 @@ impl InputChannel {
             return bank.len(ring) == 0 && may_begin(relation, router, port, vc, flit);
         }
         match &self.awaited {
-            Some(awaited) => is_awaited(flit, awaited),
+            Some(awaited) => {
+                flit.packet == awaited.packet
+                    && flit.index as u16 == awaited.index
+                    && flit.dst == awaited.dst
+                    && flit.class == awaited.class
+                    && (flit.index as u32) < MAX_LENGTH
+            }
             None => false,
         }
     }

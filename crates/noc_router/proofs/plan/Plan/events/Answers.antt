@@ -1,10 +1,14 @@
-use Rattle.std.proofs.Common.{◌∙◌, ap, get_or}
+use Rattle.std.proofs.Common.{◌∙◌, ap, get_or, sym}
+use Rattle.std.specs.Prelude.{◌||◌}
+use Rattle.noc_packet.specs.Set.{has_bit}
 use Rattle.noc_router.specs.Verdict.{is_event}
 use Rattle.noc_router.specs.View.{PlanContents}
 use Rattle.noc_router.specs.declared.verdict.Verdict.TheVariants.{Empty}
-use Rattle.noc_router.proofs.VerdictSetLemmas.{event-at}
+use Rattle.noc_router.proofs.VerdictSetLemmas.{event-at, event-by}
 use Rattle.noc_router.proofs.plan.Plan.events.Goals as goal
 
 pub returns : goal.returns
 returns c = λ k.
-    c.events.ensures k ∙ event-at c.self.inside.requests.size c.self.inside.verdicts k (c.self.invariant.events k) ∙ ap (λ (x : PlanContents). is_event (get_or x.verdicts k Empty)) c.self.view_is
+    let sets = c.self.inside.verdicts in
+    c.either-2.ensures k ∙ ap (λ b. has_bit sets.moved k || b) (c.either.ensures k) ∙ sym (event-by sets k)
+    ∙ event-at c.self.inside.requests.size sets k (c.self.invariant.events k) ∙ ap (λ (x : PlanContents). is_event (get_or x.verdicts k Empty)) c.self.view_is

@@ -1,7 +1,9 @@
-use Rattle.std.proofs.Common.{◌*◌, ap, arith, length, replicate, rules, sym, ◌∙◌}
+use Rattle.std.proofs.Common.{◌*◌, ap, arith, length, replicate, sym, ◌∙◌}
 use Rattle.std.proofs.lemmas.Bool.{false≢true}
 use Rattle.std.proofs.lemmas.List.{length-replicate}
-use Rattle.noc_topo.specs.Shape.{Grid}
+use Rattle.noc_topo.specs.Shape.{Grid, nodes}
+use Rattle.noc_router.specs.Asked.{Turns}
+use Rattle.noc_router.specs.Parts.{ChannelStates}
 use Rattle.noc_router.specs.Tally.{TallyContents}
 use Rattle.noc_router.specs.View.{opening_view}
 use Rattle.noc_router.proofs.OpeningLemmas.{opening-is}
@@ -9,20 +11,20 @@ use Rattle.noc_router.proofs.router.Router.new.Goals as goal
 
 pub invariant_of-result : goal.invariant_of-result
 invariant_of-result c = record {
-  grid = search (rules, arith);
-  node = search (rules, arith);
-  ports = search (rules, arith);
-  some_vc = search (rules, arith);
-  few_vcs = search (rules, arith);
-  channels = search (rules, arith);
-  places = search (rules, arith);
+  grid = c.ports-ports.ensures.grid;
+  node = omega (arith, ap nodes c.shape.ensures.value);
+  ports = c.ports-ports.ensures.value;
+  some_vc = omega arith;
+  few_vcs = omega arith;
+  channels = ap (λ (s : ChannelStates). s.size) c.in_ok-channels.ensures;
+  places = ap (λ (s : ChannelStates). s.bank.capacity) c.in_ok-channels.ensures;
   leads = c.new-6.ensures;
   loaded = λ k e. absurd (false≢true (sym (c.new-7.ensures.loaded k) ∙ e));
-  sending = search (rules, arith);
-  awaiting = search (rules, arith);
+  sending = λ vc e. absurd (cc (c.new-5.ensures.vc));
+  awaiting = λ vc e. absurd (cc (c.new-5.ensures.vc));
   counts = ap (λ (t : TallyContents). length t.counts) c.in_ok-tally.ensures ∙ length-replicate (c.ports-ports.result * c.vcs-vcs.result) (replicate 10 0);
-  arbiter_ports = search (rules, arith);
-  arbiter_vcs = search (rules, arith);
+  arbiter_ports = ap (λ (t : Turns). t.ports) c.in_ok-arbiters.ensures;
+  arbiter_vcs = ap (λ (t : Turns). t.vcs) c.in_ok-arbiters.ensures;
   index_vcs = c.new-8.ensures;
 }
 

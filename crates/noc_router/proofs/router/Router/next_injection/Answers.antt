@@ -28,7 +28,7 @@ returns-then-room-clause-due c = λ held.
     sym (c.has_room-room.ensures ∙ ap (λ k. nat_lt (length (buffer_at bank k)) bank.capacity) (local-index r c.in-Some.vc c.self.invariant)
     ∙ ap (nat_lt (length (view_buffer (view_of r) (local_channel (view_of r).site c.in-Some.vc)))) c.self.invariant.places) in
     goes (view_of r) c.args.self.now 0 c.self.view_is
-    (goes-begun r c.in_ok-due.due c.self.invariant (sym c.next_due.ensures ∙ c.in_ok-due.was) c.in-Some.vc c.has_room-room.result (sym c.channel.ensures ∙ c.in-Some.is) room c.if-room.true 0)
+    (goes-begun r c.in_ok-due.due c.self.invariant (sym c.next_due.ensures ∙ c.in_ok-due.was) c.in-Some.vc c.has_room-room.result c.in-Some.is room c.if-room.true 0)
     (held 0 (omega arith))
 
 pub returns-else-room-clause-before : goal.returns-else-room-clause-before
@@ -39,20 +39,20 @@ returns-else-room-clause-before c = λ end before n l.
     sym (c.has_room-room.ensures ∙ ap (λ k. nat_lt (length (buffer_at bank k)) bank.capacity) (local-index r c.in-Some.vc c.self.invariant)
     ∙ ap (nat_lt (length (view_buffer (view_of r) (local_channel (view_of r).site c.in-Some.vc)))) c.self.invariant.places) in
     stays (view_of r) c.args.self.now n c.self.view_is
-    (held-begun r c.in_ok-due.due c.self.invariant (sym c.next_due.ensures ∙ c.in_ok-due.was) c.in-Some.vc c.has_room-room.result (sym c.channel.ensures ∙ c.in-Some.is) room c.if-room.false n)
+    (held-begun r c.in_ok-due.due c.self.invariant (sym c.next_due.ensures ∙ c.in_ok-due.was) c.in-Some.vc c.has_room-room.result c.in-Some.is room c.if-room.false n)
 
 pub returns-in-None-clause-before : goal.returns-in-None-clause-before
 returns-in-None-clause-before c = λ end before n l.
     let r = c.self.inside in
     stays (view_of r) c.args.self.now n c.self.view_is
-    (held-early r c.in_ok-due.due c.self.invariant (sym c.next_due.ensures ∙ c.in_ok-due.was) (sym c.channel.ensures ∙ c.in-None.is) n (omega arith))
+    (held-early r c.in_ok-due.due c.self.invariant (sym c.next_due.ensures ∙ c.in_ok-due.was) c.in-None.is n (omega arith))
 
 pub returns-in-None-clause-due : goal.returns-in-None-clause-due
 returns-in-None-clause-due c = λ held.
     let r = c.self.inside in
     let vacant = some-value c.vacant_channel.result (sym c.is_some.ensures ∙ c.if-is_some.true) in
     goes (view_of r) c.args.self.now c.in_ok-due.due c.self.view_is
-    (goes-due r c.in_ok-due.due c.self.invariant (sym c.next_due.ensures ∙ c.in_ok-due.was) (sym c.channel.ensures ∙ c.in-None.is) vacant.0
+    (goes-due r c.in_ok-due.due c.self.invariant (sym c.next_due.ensures ∙ c.in_ok-due.was) c.in-None.is vacant.0
     (ap vacant_vc c.self.view_is ∙ sym c.vacant_channel.ensures.value ∙ vacant.1))
     (held c.in_ok-due.due (omega arith))
 
@@ -60,5 +60,5 @@ pub returns-in-None-2-clause-before : goal.returns-in-None-2-clause-before
 returns-in-None-2-clause-before c = λ end before n l.
     let r = c.self.inside in
     stays (view_of r) c.args.self.now n c.self.view_is
-    (held-crowded r c.in_ok-due.due c.self.invariant (sym c.next_due.ensures ∙ c.in_ok-due.was) (sym c.channel.ensures ∙ c.in-None.is)
+    (held-crowded r c.in_ok-due.due c.self.invariant (sym c.next_due.ensures ∙ c.in_ok-due.was) c.in-None.is
     (ap vacant_vc c.self.view_is ∙ sym c.vacant_channel.ensures.value ∙ no-value c.vacant_channel.result (sym c.is_some.ensures ∙ c.if-is_some.false)) n)

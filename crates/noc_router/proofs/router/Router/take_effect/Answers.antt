@@ -1,11 +1,13 @@
-use Rattle.std.proofs.Common.{◌≡◌, ap, sym, ◌∙◌, subst}
+use Rattle.std.proofs.Common.{◌≡◌, ap, refl, sym, ◌∙◌, subst}
 use Rattle.noc_topo.specs.Shape.{ports}
-use Rattle.noc_router.specs.Asked.{channels_past}
+use Rattle.noc_router.specs.Asked.{Turns, channels_past}
 use Rattle.noc_router.specs.Decided.{IsDecidedFor}
+use Rattle.noc_router.specs.Inside.{view_of}
 use Rattle.noc_router.specs.Settled.{AreContentsFor, decisions_by, view_after_verdicts}
 use Rattle.noc_router.specs.Verdict.{arbiters_after}
 use Rattle.noc_router.specs.View.{Site, View, view_after_commit}
 use Rattle.noc_router.proofs.OutcomeLemmas.{decisions-are, outcome-decided, outcome-tallied}
+use Rattle.noc_router.proofs.RouterLemmas.{IsRouter-kept}
 use Rattle.noc_router.proofs.SiteLemmas.{closed_with, committed-is, settled-site}
 use Rattle.noc_router.proofs.router.Router.take_effect.Goals as goal
 
@@ -16,12 +18,22 @@ apply_verdicts-requires-clause-plan c =
     let P : View → Type 0 = λ x. AreContentsFor p x in
     subst P (sym c.count.ensures) (outcome-tallied p (decisions_by p v) v c.requires)
 
-pub advance_channel_pointers-requires : goal.advance_channel_pointers-requires
-advance_channel_pointers-requires c =
-    let site : c.apply_verdicts.new.self.site ≡ c.args.self.now.site =
-    ap (λ (v : View). v.site) c.apply_verdicts.ensures ∙ settled-site (decisions_by c.args.plan.now c.count.new.self) c.count.new.self ∙ ap (λ (v : View). v.site) c.count.ensures in
-    let P : Site → Type 0 = λ s. IsDecidedFor (ports s.grid) s.vcs c.args.plan.now in
-    subst P (sym site) (outcome-decided c.args.plan.now c.args.self.now c.requires)
+pub advance-requires : goal.advance-requires
+advance-requires c =
+    let p = c.args.plan.now in
+    let v = c.args.self.now in
+    let r = c.self.inside in
+    let site : c.apply_verdicts.new.self.site ≡ v.site =
+    ap (λ (w : View). w.site) c.apply_verdicts.ensures ∙ settled-site (decisions_by p c.count.new.self) c.count.new.self ∙ ap (λ (w : View). w.site) c.count.ensures in
+    let ports_are : r.arbiters.ports ≡ ports v.site.grid = c.self.invariant.arbiter_ports ∙ c.self.invariant.ports ∙ ap (λ (w : View). ports w.site.grid) c.self.view_is ∙ ap (λ (s : Site). ports s.grid) site in
+    let vcs_are : r.arbiters.vcs ≡ v.site.vcs = c.self.invariant.arbiter_vcs ∙ ap (λ (w : View). w.site.vcs) c.self.view_is ∙ ap (λ (s : Site). s.vcs) site in
+    subst (λ n. IsDecidedFor n r.arbiters.vcs p) (sym ports_are) (subst (λ n. IsDecidedFor (ports v.site.grid) n p) (sym vcs_are) (outcome-decided p v c.requires))
+
+pub invariant_of-self : goal.invariant_of-self
+invariant_of-self c =
+    let r = c.self.inside in
+    let turns = c.advance.ensures in
+    IsRouter-kept r (record r { arbiters = c.advance.new.arbiters }) c.self.invariant refl refl refl refl refl refl refl refl (λ i h. h) refl c.self.invariant.loaded refl (ap (λ (t : Turns). t.ports) turns) (ap (λ (t : Turns). t.vcs) turns) refl
 
 pub returns : goal.returns
 returns c = λ relation is.
@@ -29,7 +41,7 @@ returns c = λ relation is.
     let v = c.args.self.now in
     let d = decisions_by p v in
     c.end_cycle.ensures
-    ∙ ap (λ (x : View). closed_with x.arbiters x) c.advance_channel_pointers.ensures
+    ∙ ap (λ (x : View). closed_with x.arbiters x) (ap (λ (t : Turns). record (view_of c.self.inside) { arbiters = t.states }) c.advance.ensures ∙ ap (λ (x : View). record x { arbiters = channels_past d.round x.arbiters }) c.self.view_is)
     ∙ ap (λ (x : View). closed_with (channels_past d.round x.arbiters) x)
     (c.apply_verdicts.ensures ∙ ap (λ (x : View). record (view_after_verdicts (decisions_by p x) x) { arbiters = record (arbiters_after p.round x.arbiters) { channels = x.arbiters.channels } }) c.count.ensures)
     ∙ committed-is d v

@@ -1,4 +1,4 @@
-use Rattle.std.proofs.Common.{◌≡◌, ℕ, ◌/◌, ◌%◌, ◌<◌, true, None, get_or, length, refl, ap, arith, subst, sym, ◌∙◌}
+use Rattle.std.proofs.Common.{◌≡◌, ℕ, ◌/◌, ◌%◌, ◌<◌, true, Option, Some, None, get_or, length, refl, ap, arith, subst, sym, ◌∙◌}
 use Rattle.std.specs.Prelude.{◌&&◌, is_some}
 use Rattle.noc_topo.specs.Words.{is_some_of}
 use Rattle.noc_packet.specs.Set.{has_bit}
@@ -13,15 +13,20 @@ use Rattle.noc_router.proofs.SwitchLemmas.{picked-moves, picked-ready, picks-bel
 use Rattle.noc_router.proofs.VerdictSetLemmas.{AreVerdicts, among-both, apart-on, event-below, given-below, member-passes, verdict-on}
 use Rattle.noc_router.proofs.router.Router.verdicts.Goals as goal
 
-pub picked-picked-requires-clause-picks : goal.picked-picked-requires-clause-picks
-picked-picked-requires-clause-picks c =
+pub picked_by-picked-requires-clause-picks : goal.picked_by-picked-requires-clause-picks
+picked_by-picked-requires-clause-picks c =
     let vcs : c.self.inside.vcs ≡ c.args.self.now.site.vcs = ap (λ (w : View). w.site.vcs) c.self.view_is in
     subst (λ n. AllBelow n c.args.requests.now.picks) (sym vcs) (picks-below c.args.self.now c.args.requests.now.picks c.requires.requests.picks)
 
-pub moved-moved-requires-clause-picks : goal.moved-moved-requires-clause-picks
-moved-moved-requires-clause-picks c =
+pub picked_by-moved-requires-clause-picks : goal.picked_by-moved-requires-clause-picks
+picked_by-moved-requires-clause-picks c =
     let vcs : c.self.inside.vcs ≡ c.args.self.now.site.vcs = ap (λ (w : View). w.site.vcs) c.self.view_is in
     subst (λ n. AllBelow n c.args.requests.now.picks) (sym vcs) (picks-below c.args.self.now c.args.requests.now.picks c.requires.requests.picks)
+
+-- what is picked at all is there
+some-is : (o : Option ℕ) (x : ℕ) → (is_some o && is_some_of o x) ≡ is_some_of o x
+some-is None x = refl
+some-is (Some y) x = refl
 
 pub returns : goal.returns
 returns c =
@@ -29,13 +34,17 @@ returns c =
     let r = c.args.requests.now in
     let s = c.args.standing.now in
     let round = round_in r in
-    let picked = c.picked-picked.result in
-    let moved = c.moved-moved.result in
+    let picked = c.picked_by-picked.result in
+    let moved = c.picked_by-moved.result in
     let vcs : c.self.inside.vcs ≡ v.site.vcs = ap (λ (w : View). w.site.vcs) c.self.view_is in
     let ready : AreReady v s.ready = record { below = c.requires.standing.ready_below; each = c.requires.standing.ready } in
-    let draws : (k : ℕ) → has_bit picked k ≡ is_some_of (get_or r.picks (k / v.site.vcs) None) (k % v.site.vcs) = λ k. c.picked-picked.ensures k ∙ ap (λ n. is_some_of (get_or r.picks (k / n) None) (k % n)) vcs in
+    let draws : (k : ℕ) → has_bit picked k ≡ is_some_of (get_or r.picks (k / v.site.vcs) None) (k % v.site.vcs) = λ k.
+    let pick = get_or r.picks (k / c.self.inside.vcs) None in
+    c.picked_by-picked.ensures k ∙ ap (λ b. b && is_some_of pick (k % c.self.inside.vcs)) (c.filled.ensures.members (k / c.self.inside.vcs)) ∙ some-is pick (k % c.self.inside.vcs)
+    ∙ ap (λ n. is_some_of (get_or r.picks (k / n) None) (k % n)) vcs in
     let moves : (k : ℕ) → has_bit moved k ≡ (has_bit picked k && is_won_from v round k (view_input v k).phase) = λ k.
-    c.moved-moved.ensures k ∙ ap (λ n. is_given r.switch.grants (get_or r.switch.asks (k / n) None) (k / n) && is_some_of (get_or r.picks (k / n) None) (k % n)) vcs
+    c.picked_by-moved.ensures k ∙ ap (λ b. b && is_some_of (get_or r.picks (k / c.self.inside.vcs) None) (k % c.self.inside.vcs)) (c.granted.ensures (k / c.self.inside.vcs))
+    ∙ ap (λ n. is_given r.switch.grants (get_or r.switch.asks (k / n) None) (k / n) && is_some_of (get_or r.picks (k / n) None) (k % n)) vcs
     ∙ picked-moves v s.ready k r.picks r.switch.asks r.switch.grants ready c.requires.requests.picks c.requires.requests.ways ∙ ap (λ b. b && is_won_from v round k (view_input v k).phase) (sym (draws k)) in
     let among : AreAmong s.ready picked = λ k e. picked-ready v s.ready k r.picks ready c.requires.requests.picks (sym (draws k) ∙ e) in
     let ask : (k : ℕ) → k < size_of v.site → get_or r.channels.asks k None ≡ ask_of (view_claim v k) = λ k l. ask_of-stand v r.channels.asks k c.requires.requests.asks l in

@@ -1,1 +1,0 @@
--- Lists in which nobody is named, and the least member of a set.
