@@ -242,14 +242,14 @@ no_router k sound r past = slice_get_past k.posts r (omega (arith, sound.count))
 pub record IsLinkOf (k : CoreState) (r port : ℕ) : Type 0 where
   pub linked : is_linked k.net r port ≡ true
   pub router : r < nodes k.net.relation.grid
-  pub port : port < local_port k.net.relation.grid
+  pub below : port < local_port k.net.relation.grid
   pub few : port < 6
 
 pub link_there : (k own : CoreState) → own ≡ k → IsInStep CYCLE_LIMIT own → (r port : ℕ) → true ≡ (is_linked k.net r port && is_some (post_at k r)) → IsLinkOf own r port
 link_there k own same sound r port linked =
     let there = and_parts (is_linked own.net r port) (is_some (post_at own r)) (ap (λ (c : CoreState). is_linked c.net r port && is_some (post_at c r)) same ∙ sym linked) in
     let within = linked_port own.net r port there.0 in
-    record { linked = there.0; router = router_exists own sound r there.1; port = within; few = omega (arith, few_links own sound) }
+    record { linked = there.0; router = router_exists own sound r there.1; below = within; few = omega (arith, few_links own sound) }
 
 -- what is ready at a router that is there
 pub ready_there : (k : CoreState) (r port : ℕ) (may : Post → Bool) (post : Post) → is_linked k.net r port ≡ true → post_at k r ≡ Some post

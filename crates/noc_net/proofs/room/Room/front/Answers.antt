@@ -24,7 +24,7 @@ loop-port-preserved c =
       before = each_more (λ port. front_of (get_or (wires_in room) port [])) c.loop-port.beats c.loop-port.port c.unwrap_or.result idle_beat
           (omega (arith, c.loop-port.invariant.count, c.loop-port-test.true, c.requires)) c.loop-port.invariant.before
           (c.unwrap_or.ensures
-          ∙ ap₂ unwrap_or (c.pop.ensures.beat ∙ ap (λ (beats : List Beat). slice_get beats 0) (sym (get_or-map wire_beats room.wires c.loop-port.port _ [] within))) c.idle-in-loop-port.ensures);
+          ∙ ap₂ unwrap_or (c.pop.ensures.beat ∙ ap (λ (beats : List Beat). slice_get beats 0) (sym (get_or-map wire_beats room.wires c.loop-port.port _ [] within))) c.idle.ensures);
       behind = λ port l.
           let n : port ≢ c.loop-port.port = omega arith in
           get_or-set_other c.loop-port.beats c.loop-port.port port c.unwrap_or.result idle_beat n ∙ c.loop-port.invariant.behind port (omega arith);
