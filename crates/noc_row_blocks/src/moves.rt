@@ -7,7 +7,7 @@ ghost use Rattle.noc_row_blocks.specs.Moves.{HasJoined, TurnsOn, dry_by, has_fre
 ghost use Rattle.noc_row_words.specs.Rows.{word};
 ghost use Rattle.noc_row_blocks.specs.Stages.{HasMoved};
 ghost use Rattle.noc_row_blocks.specs.Switched.{HasCarried, HaveCarried, IsOne};
-ghost use Rattle.noc_row_words.specs.Turns.{first_bit, in_turn};
+ghost use Rattle.noc_row_words.specs.Turns.{first_bit};
 ghost use Rattle.noc_row_words.specs.Wires.{HasCleared, HasMarked, in_row};
 
 use noc_row_words::block::Block;
@@ -137,16 +137,9 @@ fn select(picked: &Row, to_port: &Row, turn: &Row, selected: &mut Row, moved: &m
 pub(crate) fn first_in_turn(requests: u32, turn: u32) -> u32
     ensures { result ≡ first_bit requests turn }
 {
-    least_bit(in_turn(requests, turn))
-}
-
-// Those at or after the pointer, or where there are none all.
-#[inline(always)]
-fn in_turn(requests: u32, turn: u32) -> u32
-    ensures { result ≡ in_turn requests turn }
-{
     let high = requests & turn;
-    if high == 0 { requests } else { high }
+    let first = if high == 0 { requests } else { high };
+    least_bit(first)
 }
 
 // A set where another has a member, and else none.
