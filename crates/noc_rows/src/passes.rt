@@ -4,7 +4,7 @@ ghost use Rattle.std.specs.Prelude.{◌≡◌, ℕ, ◌^◌, ◌<◌, length, sl
 ghost use Rattle.noc_packet.specs.Set.{has_bit};
 ghost use Rattle.noc_row_blocks.specs.Decided.{HasDecided};
 ghost use Rattle.noc_row_words.specs.Rows.{word};
-ghost use Rattle.noc_row_blocks.specs.Stages.{AreWoken, HaveConcluded, HaveDecided, HaveFrozen, is_busy, next_of, woken};
+ghost use Rattle.noc_row_blocks.specs.Stages.{AreWoken, HaveConcluded, HaveDecided, HaveFrozen, next_of, woken};
 ghost use Rattle.noc_row_words.specs.Wires.{inbox_at, room_of};
 
 use noc_route::Relation;
@@ -24,18 +24,11 @@ pub(crate) fn wake_all(cycle: u32, busy: &[bool], blocks: &mut [Block]) -> u32
 {
     let mut next = NEVER;
     for number in 0..blocks.len() {
-        let busy_now = may_come(busy, number);
+        let busy_now = number < busy.len() && busy[number];
         let block = &mut blocks[number];
         next = next.min(wake_one(cycle, busy_now, block));
     }
     next
-}
-
-// Whether there may be anything on the wires to a block.
-fn may_come(busy: &[bool], number: usize) -> bool
-    ensures { result ≡ is_busy busy.now number }
-{
-    number < busy.len() && busy[number]
 }
 
 // A block is awake or asleep in this cycle. The answer is when something is to happen in it.
