@@ -2,12 +2,8 @@
 use Rattle.std.proofs.Common.{◌≡◌, ◌≢◌, ℕ, zero, suc, ◌+◌, ◌<◌, ◌≤◌, Bool, true, false, not, ◌&&◌, ◌||◌, List, [], ◌∷◌, ◌++◌, length, map, get_or, set, take, replicate, Option, Some, None, is_some, is_none, refl, ap, sym, ◌∙◌, ⊎_elim, arith}
 use Rattle.std.specs.Prelude.{if◌then◌else◌}
 use Rattle.std.proofs.lemmas.Bool.{cases_eq}
-use Rattle.std.proofs.lemmas.List.{ext_get_or, get_or-map, get_or-set_same, get_or-set_other, get_or-take, length-map, take_all}
-use Rattle.std.proofs.lemmas.List.Folds.{list_all_at, list_all_more}
+use Rattle.std.proofs.lemmas.List.{ext_get_or, get_or-map, get_or-set_same, get_or-set_other, get_or-take, length-map}
 use Rattle.std.specs.Bool.{then_some}
-use Rattle.std.specs.List.{list_all}
-use Rattle.noc_topo.specs.Words.{below}
-use Rattle.noc_topo.proofs.WordLemmas.{length-below, get_or-below}
 use lib.Seq.{map-set}
 use Rattle.noc_packet.specs.declared.packet.Beat.{Beat}
 use Rattle.noc_net.specs.declared.wire.Wire.{Wire}
@@ -46,23 +42,6 @@ each_more f ys i y e within before here k l =
     (λ (same : k ≡ i). ap (λ j. get_or (set ys i y) j e) same ∙ get_or-set_same ys i y e within ∙ here ∙ ap f (sym same))
     (λ (n : k ≢ i). get_or-set_other ys i k y e n ∙ before k (omega arith))
     (cases_eq k i)
-
--- ---- a test at each port
-
-pub all_none : (test : ℕ → Bool) (n : ℕ) → list_all test (take 0 (below n)) ≡ true
-all_none test n = refl
-
-pub all_more : (test : ℕ → Bool) (n k : ℕ) → k < n → list_all test (take k (below n)) ≡ true → test k ≡ true → list_all test (take (k + 1) (below n)) ≡ true
-all_more test n k l before here =
-    list_all_more test (below n) k 0 (let c = length-below n in omega arith)
-    ∙ ap (λ b. b && test (get_or (below n) k 0)) before
-    ∙ ap test (get_or-below n k 0 l) ∙ here
-
-pub all_end : (test : ℕ → Bool) (n k : ℕ) → n ≤ k → list_all test (take k (below n)) ≡ true → list_all test (below n) ≡ true
-all_end test n k l before = ap (list_all test) (sym (take_all k (below n) (let c = length-below n in omega arith))) ∙ before
-
-pub one_fails : (test : ℕ → Bool) (n k : ℕ) → k < n → test k ≡ false → list_all test (below n) ≡ false
-one_fails test n k l here = list_all_at test (below n) k 0 (let c = length-below n in omega arith) (ap test (get_or-below n k 0 l) ∙ here)
 
 -- a beat lacks at a port where there is a link and none is there
 pub lacks_one : (linked : Bool) (beat : Option Beat) → (not linked || is_some beat) ≡ not (is_none beat && linked)

@@ -1,5 +1,5 @@
 -- What the fields of a core say of it.
-use Rattle.std.proofs.Common.{◌≡◌, ℕ, zero, suc, ◌<◌, ◌≤◌, Bool, true, false, ◌&&◌, List, [], ◌∷◌, length, get_or, set, take, slice_get, Option, Some, None, is_some, vec_len, refl, ap, sym, subst, ◌∙◌, ⊎_elim, arith}
+use Rattle.std.proofs.Common.{◌≡◌, ℕ, zero, suc, ◌<◌, ◌≤◌, Bool, true, false, ◌&&◌, List, [], ◌∷◌, length, get_or, set, take, slice_get, Option, Some, None, is_some, vec_len, option_map, unwrap_or, refl, ap, sym, subst, ◌∙◌, ⊎_elim, arith}
 use Rattle.std.specs.Vec.{with_item}
 use Rattle.std.proofs.lemmas.Bool.{and_parts, cases_lt, false≢true}
 use Rattle.std.proofs.lemmas.Option.{same_Some, slice_get_past, slice_get-get_or, get_or_from_slice_get}
@@ -18,7 +18,7 @@ use Rattle.noc_theory.specs.declared.event.Event.TheVariants.{Take, Decide, Put}
 use Rattle.noc_theory.specs.declared.limits.TheConstants.{CYCLE_LIMIT}
 use Rattle.noc_net.specs.declared.parts.Parts.{Parts}
 use Rattle.noc_net.specs.declared.room.Room.{Room}
-use Rattle.noc_theory.specs.Core.{CoreState, Post, are_between, resting_post, beat_to_send, changed_at, happens, has_beat, holds_at, onto_wire, putting, receiving, is_linked, is_ready, may_decide, may_put, may_take, post_at, with_post}
+use Rattle.noc_theory.specs.Core.{CoreState, Post, are_between, resting_post, beat_to_send, changed_at, happens, has_beat, holds_at, onto_wire, putting, receiving, is_linked, is_ready, may_decide, may_put, may_take, post_at, steps_at, with_post}
 use Rattle.noc_theory.specs.InStep.{AreWithin, IsInStep, cycle_of, lockstep_core, lockstep_wires}
 use Rattle.noc_theory.specs.Halves.{beat_at}
 use Rattle.noc_theory.specs.Lockstep.{lockstep_at, site_at}
@@ -28,7 +28,7 @@ use Rattle.noc_net.specs.Parts.{AreParts, run_in, setup_in}
 use Rattle.noc_net.specs.Room.{front_of, opened_post, opening_wires, post_of, posts_of, rests_at, wires_in}
 use Rattle.noc_net.specs.Stored.{core_in}
 use Rattle.noc_theory.proofs.runs.CoreLemmas.{get_some, happens_in_step, kept_wire, router_there, router_within}
-use Rattle.noc_theory.proofs.runs.EventLemmas.{finished-wires, put_post}
+use Rattle.noc_theory.proofs.runs.EventLemmas.{finished-wires, linked_port, put_post}
 use Rattle.noc_theory.proofs.runs.LimitLemmas.{happens-within}
 use Rattle.noc_theory.proofs.runs.OrderLemmas.{between-cycle, here_between, room_for_beat, wire_there}
 use Rattle.noc_net.proofs.PartsLemmas.{views-in_step, wires-in_step}
@@ -146,20 +146,25 @@ router_changed parts r seen view old room f read read_room is =
 
 -- ---- a router and its room as they are read
 
-pub read_post : (parts : Parts) (r : ℕ) (post : Post) (view : View) (room : Room) → post_at (core_in parts) r ≡ Some post
-    → slice_get parts.routers.items r ≡ Some view → slice_get parts.room.items r ≡ Some room → post ≡ post_of (local_port parts.relation.grid) view room
-read_post parts r post view room at p q =
-    same_Some post (post_of (local_port parts.relation.grid) view room) (sym at ∙ post_there (local_port parts.relation.grid) parts.routers.items parts.room.items r view room p q)
+-- a router that is there stands at its node, and its post is what was read
+pub record IsReadAt (parts : Parts) (r : ℕ) (post : Post) (view : View) (room : Room) : Type 0 where
+  pub router : r < nodes parts.relation.grid
+  pub site : view.site ≡ site_at (setup_in parts) r
+  pub is : post ≡ post_of (local_port parts.relation.grid) view room
 
-pub read_router : (parts : Parts) → IsInStep CYCLE_LIMIT (core_in parts) → vec_len parts.routers ≡ nodes parts.relation.grid → (r : ℕ) (post : Post) → post_at (core_in parts) r ≡ Some post
-    → (view : View) → view ≡ get_or parts.routers.items r view → slice_get parts.routers.items r ≡ Some view
-read_router parts sound count r post at view read =
-    read_there parts.routers.items r view (let l = router_within CYCLE_LIMIT (core_in parts) sound r post at in omega (arith, parts.routers.ok.0)) read
-
-pub read_room : (parts : Parts) → IsInStep CYCLE_LIMIT (core_in parts) → vec_len parts.room ≡ nodes parts.relation.grid → (r : ℕ) (post : Post) → post_at (core_in parts) r ≡ Some post
-    → (room : Room) → room ≡ get_or parts.room.items r room → slice_get parts.room.items r ≡ Some room
-read_room parts sound count r post at room read =
-    read_there parts.room.items r room (let l = router_within CYCLE_LIMIT (core_in parts) sound r post at in omega (arith, parts.room.ok.0)) read
+pub read_at : (parts : Parts) → IsInStep CYCLE_LIMIT (core_in parts) → vec_len parts.routers ≡ nodes parts.relation.grid → vec_len parts.room ≡ nodes parts.relation.grid
+    → (r : ℕ) (post : Post) → post_at (core_in parts) r ≡ Some post → (view : View) → view ≡ get_or parts.routers.items r view → (room : Room) → room ≡ get_or parts.room.items r room
+    → IsReadAt parts r post view room
+read_at parts sound routers rooms r post at view read room read_room =
+    let l = router_within CYCLE_LIMIT (core_in parts) sound r post at in
+    let at_router = read_there parts.routers.items r view (omega (arith, parts.routers.ok.0)) read in
+    let at_room = read_there parts.room.items r room (omega (arith, parts.room.ok.0)) read_room in
+    record {
+      router = l;
+      site = router_site parts sound r view room at_router at_room;
+      is = same_Some post (post_of (local_port parts.relation.grid) view room)
+          (sym at ∙ post_there (local_port parts.relation.grid) parts.routers.items parts.room.items r view room at_router at_room);
+    }
 
 -- a beat was put
 pub put_changed : (parts : Parts) (r port node entry : ℕ) (beat : Beat) (old room other new : Room) → neighbour parts.relation.grid r port ≡ Some (node, entry)
@@ -221,13 +226,36 @@ post_of_router parts sound routers rooms r l view read =
     let room = get_some parts.room.items r (omega (arith, parts.room.ok.0)) in
     (room.0, post_there (local_port parts.relation.grid) parts.routers.items parts.room.items r view room.0 (read_there parts.routers.items r view (omega (arith, parts.routers.ok.0)) read) room.1)
 
+-- its cycle is read there
+pub steps_there : (parts : Parts) → IsInStep CYCLE_LIMIT (core_in parts) → vec_len parts.routers ≡ nodes parts.relation.grid → vec_len parts.room ≡ nodes parts.relation.grid
+    → (r : ℕ) → r < nodes parts.relation.grid → (room : Room) → room ≡ get_or parts.room.items r room → room.steps ≡ steps_at (core_in parts) r
+steps_there parts sound routers rooms r l room read =
+    sym (ap (λ (o : Option Post). unwrap_or (option_map (λ (post : Post). post.steps) o) 0) (post_of_room parts sound routers rooms r l room read).1)
+
 pub router_exists : (k : CoreState) → IsInStep CYCLE_LIMIT k → (r : ℕ) → is_some (post_at k r) ≡ true → r < nodes k.net.relation.grid
 router_exists k sound r e = let post = some-value (post_at k r) e in router_within CYCLE_LIMIT k sound r post.0 post.1
 
 pub no_router : (k : CoreState) → IsInStep CYCLE_LIMIT k → (r : ℕ) → nodes k.net.relation.grid ≤ r → post_at k r ≡ None
 no_router k sound r past = slice_get_past k.posts r (omega (arith, sound.count))
 
+-- a link of a router that is there, of which a core is asked as it is seen
+pub record IsLinkOf (k : CoreState) (r port : ℕ) : Type 0 where
+  pub linked : is_linked k.net r port ≡ true
+  pub router : r < nodes k.net.relation.grid
+  pub below : port < local_port k.net.relation.grid
+  pub few : port < 6
+
+pub link_there : (k own : CoreState) → own ≡ k → IsInStep CYCLE_LIMIT own → (r port : ℕ) → true ≡ (is_linked k.net r port && is_some (post_at k r)) → IsLinkOf own r port
+link_there k own same sound r port linked =
+    let there = and_parts (is_linked own.net r port) (is_some (post_at own r)) (ap (λ (c : CoreState). is_linked c.net r port && is_some (post_at c r)) same ∙ sym linked) in
+    let within = linked_port own.net r port there.0 in
+    record { linked = there.0; router = router_exists own sound r there.1; below = within; few = omega (arith, few_links own sound) }
+
 -- what is ready at a router that is there
+pub ready_there : (k : CoreState) (r port : ℕ) (may : Post → Bool) (post : Post) → is_linked k.net r port ≡ true → post_at k r ≡ Some post
+    → may post ≡ (is_linked k.net r port && holds_at may (post_at k r))
+ready_there k r port may post linked at = sym (ap (λ b. b && holds_at may (post_at k r)) linked ∙ ap (holds_at may) at)
+
 pub unready : (linked : Bool) (may : Post → Bool) (post : Option Post) → (linked && is_some post) ≡ false → false ≡ (linked && holds_at may post)
 unready false may post e = refl
 unready true may None e = refl
@@ -278,6 +306,13 @@ all_rest size n net (view ∷ views) [] e = absurd (omega (arith, e))
 all_rest size n net (view ∷ views) (room ∷ rooms) e =
     let same : length views ≡ length rooms = omega (arith, e) in
     ap (λ b. rests_at size n room && b) (all_rest size n net views rooms same)
+
+-- it is asked of the rooms
+pub told_rest : (parts : Parts) → vec_len parts.routers ≡ nodes parts.relation.grid → vec_len parts.room ≡ nodes parts.relation.grid
+    → (size n : ℕ) (rooms : List Room) → size ≡ local_port parts.relation.grid → rooms ≡ parts.room.items → list_all (rests_at size n) rooms ≡ are_between (core_in parts) n
+told_rest parts routers room size n rooms links items =
+    ap (list_all (rests_at size n)) items ∙ ap (λ m. list_all (rests_at m n) parts.room.items) links
+    ∙ sym (all_rest (local_port parts.relation.grid) n (setup_in parts) parts.routers.items parts.room.items (omega (arith, routers, room, parts.routers.ok.0, parts.room.ok.0)))
 
 front_there : (net : Setup) (n r port : ℕ) (linked : Bool) → is_linked net r port ≡ linked
     → front_of (if linked then beat_at (lockstep_at net n).wires r port ∷ [] else []) ≡ beat_at (lockstep_at net n).wires r port

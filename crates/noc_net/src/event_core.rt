@@ -1,9 +1,8 @@
 //! The event core.
 
-ghost use Rattle.std.specs.Prelude.{◌≡◌, ℕ, [], take, slice_index_or, ◌<◌, ◌≤◌, ◌&&◌, IfErr, IfOk, IfSome, None, Some, true, is_ok, is_some, length};
+ghost use Rattle.std.specs.Prelude.{◌≡◌, ℕ, [], take, slice_index_or, ◌<◌, ◌≤◌, ◌&&◌, IfErr, IfOk, Some, true, is_ok, is_some, length};
 ghost use Rattle.std.specs.List.{list_all, slice_get};
-ghost use Rattle.noc_topo.specs.Shape.{local_port, neighbour as neighbour_of, nodes as nodes_of, ports as ports_of};
-ghost use Rattle.noc_topo.specs.Words.{map_indexed};
+ghost use Rattle.noc_topo.specs.Shape.{local_port, nodes as nodes_of, ports as ports_of};
 ghost use Rattle.noc_router.specs.View.{IsRelationOf, View};
 ghost use Rattle.noc_theory.specs.Core.{after_event, are_between, deciding, happens, is_linked, is_ready, opening_core, post_at, steps_at, view_of_post, wire_at};
 ghost use Rattle.noc_theory.specs.Halves.{beat_at};
@@ -82,40 +81,17 @@ impl Core {
         ensures { result ≡ is_ready CYCLE_LIMIT self.now event }
     {
         match event {
-            Event::Take(router, port) => self.may_take(router, port),
-            Event::Decide(router) => self.may_decide(router),
-            Event::Put(router, port) => self.may_put(router, port),
+            Event::Take(router, port) => {
+                self.is_linked(router, port) && self.parts.room[router].may_take(port)
+            }
+            Event::Decide(router) => {
+                router < self.parts.routers.len()
+                    && self.parts.room[router].may_decide(&self.parts.routers[router], self.links())
+            }
+            Event::Put(router, port) => {
+                self.is_linked(router, port) && self.parts.room[router].may_put(port)
+            }
         }
-    }
-
-    // Whether a router can take a beat at a port.
-    fn may_take(&self, router: usize, port: usize) -> bool
-        ensures { result ≡ is_ready CYCLE_LIMIT self.now (Event.Take router port) }
-    {
-        if !self.is_linked(router, port) {
-            return false;
-        }
-        self.parts.room[router].may_take(port)
-    }
-
-    // Whether a router can make its cycle.
-    fn may_decide(&self, router: usize) -> bool
-        ensures { result ≡ is_ready CYCLE_LIMIT self.now (Event.Decide router) }
-    {
-        if router >= self.parts.routers.len() {
-            return false;
-        }
-        self.parts.room[router].may_decide(&self.parts.routers[router], self.links())
-    }
-
-    // Whether a router can put a beat at a port.
-    fn may_put(&self, router: usize, port: usize) -> bool
-        ensures { result ≡ is_ready CYCLE_LIMIT self.now (Event.Put router port) }
-    {
-        if !self.is_linked(router, port) {
-            return false;
-        }
-        self.parts.room[router].may_put(port)
     }
 
     // Whether a router exists and has a link at a port.
@@ -178,7 +154,7 @@ impl Core {
         ensures value { result ≡ steps_at self.now router }
         ensures within { result ≤ CYCLE_LIMIT }
     {
-        self.parts.room[router].steps()
+        self.parts.room[router].steps
     }
 
     /// How many beats are on the wire that arrives at a port: none where there is no link.
@@ -212,7 +188,7 @@ impl Core {
         ensures refused { IfErr result (λ core. core ≡ self) }
     {
         let links = self.links();
-        let count = self.parts.room[0].steps();
+        let count = self.parts.room[0].steps;
         if !all_rest_at(links, count, &self.parts.room) {
             return Err(self);
         }
@@ -254,7 +230,7 @@ fn decide(relation: &Relation, plan: &mut Plan, router: &mut Router, room: &mut 
     router.step(
         relation,
         plan,
-        room.steps(),
+        room.steps,
         &taken[..links],
         &mut sent[..links],
     );

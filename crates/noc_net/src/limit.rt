@@ -1,9 +1,8 @@
 //! By when all packets of a network have to be out, and whether they are.
 
-ghost use Rattle.std.specs.Prelude.{◌≡◌, ℕ, ◌+◌, ◌*◌, ◌<◌, ◌≤◌, length, true};
+ghost use Rattle.std.specs.Prelude.{◌≡◌, ℕ, ◌+◌, ◌*◌, ◌≤◌, true};
 ghost use Rattle.noc_route.specs.Ranks.{IsRankedBy, Ranking};
-ghost use Rattle.noc_theory.specs.Good.{IsGoodSetup};
-ghost use Rattle.noc_theory.specs.Network.{packet_at, state_at};
+ghost use Rattle.noc_theory.specs.Network.{state_at};
 ghost use Rattle.noc_theory.specs.Progress.{budget, hops};
 ghost use Rattle.noc_net.specs.Limit.{are_all_out, IsLastDue, IsLimit};
 
@@ -40,30 +39,20 @@ impl Network {
         u64::from(last)
     }
 
-    // How many events it takes to bring every packet out.
+    // How many events it takes to bring every packet out: of each flit an injection, a move at each router, and a landing and a
+    // credit for each hop; and of each head to be routed and granted at each router.
     fn budget(&self) -> u64
         ensures value { result ≡ budget self.now.net }
         ensures few { result ≤ MAX_PACKETS * MAX_EVENTS }
     {
+        let shape = self.relation().shape();
         let mut events = 0u64;
         for number in 0..self.packets() {
-            events += self.events_of(number);
+            let packet = self.packet(number);
+            let hops = shape.distance(packet.source as usize, packet.destination as usize) as u64;
+            events += u64::from(packet.length) * (3 * hops + 2) + 2 * (hops + 1);
         }
         events
-    }
-
-    // How many events it takes to bring a packet out: of each flit an injection, a move at each router, and a landing and a credit
-    // for each hop; and of the head to be routed and granted at each router.
-    fn events_of(&self, number: usize) -> u64
-        requires number { number < length self.now.net.packets }
-        requires good { IsGoodSetup self.now.net }
-        ensures value { result ≡ (packet_at self.now.net number).length * (3 * hops self.now.net number + 2) + 2 * (hops self.now.net number + 1) }
-        ensures few { result ≤ MAX_EVENTS }
-    {
-        let packet = self.packet(number);
-        let shape = self.relation().shape();
-        let hops = shape.distance(packet.source as usize, packet.destination as usize) as u64;
-        u64::from(packet.length) * (3 * hops + 2) + 2 * (hops + 1)
     }
 
     /// Whether the tail of every packet is out: where the relation is ranked, at the limit at the latest.

@@ -23,13 +23,13 @@ ghost use Rattle.noc_net.specs.Parts.{AreParts, run_in};
 ghost use Rattle.noc_net.specs.Limit.{IsLimit};
 
 use crate::fault::NetFault;
-use crate::packets::{ends_at, first_fault, starts_at};
+use crate::packets::{ends_at, first_fault};
 use crate::parts::Parts;
 use crate::room::Room;
 use noc_packet::{Beat, MAX_BUFFER, MAX_PACKETS, Memory, Packet};
 use noc_route::Relation;
 use noc_router::{Finding, Plan, Router, VERDICTS};
-use noc_rows::Rows;
+use noc_rows::{Rows, starts_at};
 use noc_theory::CYCLE_LIMIT;
 use noc_topo::LINKS;
 use std::alloc::Global;
@@ -217,18 +217,9 @@ impl Network {
         ensures ranked { (ranks : Ranking) → IsRankedBy self.now.net.relation ranks → result ≡ false }
     {
         match self.count.checked_sub(1) {
-            Some(last) => self.is_stuck_since(last),
+            Some(last) => self.last_event() != Some(last) && self.is_waiting_by(last),
             None => false,
         }
-    }
-
-    // Whether the last cycle, which is this one, was pending and had no event.
-    fn is_stuck_since(&self, last: u64) -> bool
-        requires good { IsGoodSetup self.now.net }
-        requires last { last + 1 ≡ self.now.count }
-        ensures { result ≡ is_stuck self.now.net self.now.count }
-    {
-        self.last_event() != Some(last) && self.is_waiting_by(last)
     }
 
     /// The cycle in which the tail of a packet was out: one below the limit where the relation is ranked and the limit is reached.
@@ -272,7 +263,11 @@ impl Network {
     pub fn misfits(&self) -> u64
         ensures { result ≡ 0 }
     {
-        self.parts.misfits()
+        let mut misfits = 0u64;
+        for router in &self.parts.routers {
+            misfits = misfits.saturating_add(router.misfits());
+        }
+        misfits
     }
 
     /// The packet with this number.
@@ -318,8 +313,8 @@ fn new_state(
 {
     let nodes = relation.shape().nodes();
     let plan = Plan::new(alloc, relation)?;
-    let beats = new_beats(alloc, nodes)?;
-    let room = new_room(alloc, nodes)?;
+    let beats = vec![in alloc; [Beat::idle(); LINKS]; nodes]?;
+    let room = vec![in alloc; Room::new(0); nodes]?;
     let routers = new_routers(alloc, relation, places, packets)?;
     Ok((routers, plan, beats, room))
 }
@@ -345,19 +340,4 @@ fn new_routers(
         routers.push(Router::new(alloc, relation, node, places, starts, ends)?)?;
     }
     Ok(routers)
-}
-
-// An idle beat on every wire.
-fn new_beats(alloc: Global, nodes: usize) -> Result<Vec<[Beat; LINKS]>, Memory>
-    ensures count { IfOk result (λ beats. vec_len beats ≡ nodes) }
-    ensures idle { IfOk result (λ beats. All IsSilent beats.items) }
-{
-    Ok(vec![in alloc; [Beat::idle(); LINKS]; nodes]?)
-}
-
-// The storage of a core.
-fn new_room(alloc: Global, nodes: usize) -> Result<Vec<Room>, Memory>
-    ensures { IfOk result (λ room. vec_len room ≡ nodes) }
-{
-    Ok(vec![in alloc; Room::new(0); nodes]?)
 }

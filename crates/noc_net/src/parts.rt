@@ -1,12 +1,12 @@
 //! A network taken apart: its routers, how they run, and what they answer.
 
-ghost use Rattle.std.specs.Prelude.{◌≡◌, ◌+◌, ◌*◌, ◌<◌, ◌≤◌, All, length};
+ghost use Rattle.std.specs.Prelude.{◌≡◌, ◌+◌, ◌*◌, ◌<◌, ◌≤◌, length};
 ghost use Rattle.noc_topo.specs.Shape.{nodes as nodes_of, ports as ports_of};
 ghost use Rattle.noc_theory.specs.Lockstep.{counts_before, findings_before};
 ghost use Rattle.noc_theory.specs.Network.{arrival_in, state_at};
 ghost use Rattle.noc_theory.specs.Progress.{last_event_before};
 ghost use Rattle.noc_net.specs.Parts.{AreParts, run_in, setup_in};
-ghost use Rattle.noc_net.specs.Latest.{later_of, latest_of};
+ghost use Rattle.noc_net.specs.Latest.{later_of};
 
 use crate::cycles::run_all;
 use crate::room::Room;
@@ -65,7 +65,11 @@ impl Parts {
         requires { AreParts self.now }
         ensures { result ≡ last_event_before (setup_in self.now) self.now.count }
     {
-        latest_event(&self.routers)
+        let mut last = None;
+        for router in &self.routers {
+            last = later(last, router.last_event());
+        }
+        last
     }
 
     // The cycle in which the tail of a packet was out.
@@ -96,25 +100,6 @@ impl Parts {
     {
         self.routers[router].findings()
     }
-
-    // How many flits and credits did not fit, in all routers: none ever does.
-    pub(crate) fn misfits(&self) -> u64
-        requires { AreParts self.now }
-        ensures { result ≡ 0 }
-    {
-        total_misfits(&self.routers)
-    }
-}
-
-// The last cycle with an event, in any of these routers.
-fn latest_event(routers: &[Router]) -> Option<u64>
-    ensures { result ≡ latest_of routers.now }
-{
-    let mut last = None;
-    for router in routers {
-        last = later(last, router.last_event());
-    }
-    last
 }
 
 // The later of two cycles, where there are any.
@@ -126,16 +111,4 @@ fn later(first: Option<u64>, second: Option<u64>) -> Option<u64>
         (Some(_), None) => first,
         (Some(a), Some(b)) => { if a < b { second } else { first } }
     }
-}
-
-// The misfits of these routers, which have none.
-fn total_misfits(routers: &[Router]) -> u64
-    requires { All (λ v. v.misfits ≡ 0) routers.now }
-    ensures { result ≡ 0 }
-{
-    let mut misfits = 0u64;
-    for router in routers {
-        misfits = misfits.saturating_add(router.misfits());
-    }
-    misfits
 }

@@ -1,9 +1,9 @@
 //! What a core keeps of one router.
 
-ghost use Rattle.std.specs.Prelude.{◌≡◌, ℕ, ◌<◌, ◌≤◌, ◌&&◌, ◌++◌, ◌∷◌, [], None, false, is_none, is_some, length, map, replicate, slice_index_or, take, true, unwrap_or};
-ghost use Rattle.noc_topo.specs.Shape.{local_port, neighbour as neighbour_of};
-ghost use Rattle.noc_router.specs.View.{View, idle_beat, local_step};
-ghost use Rattle.noc_theory.specs.Core.{all_have, post_after_last_put, is_between, may_decide, may_put, may_take, none_has, putting, receiving, taking, wire_of};
+ghost use Rattle.std.specs.Prelude.{◌≡◌, ℕ, ◌<◌, ◌≤◌, ◌&&◌, [], None, false, length, map, replicate, slice_index_or, take, true, unwrap_or};
+ghost use Rattle.noc_topo.specs.Shape.{local_port};
+ghost use Rattle.noc_router.specs.View.{View, idle_beat};
+ghost use Rattle.noc_theory.specs.Core.{all_have, post_after_last_put, may_decide, may_put, may_take, none_has, putting, receiving, taking};
 ghost use Rattle.noc_theory.specs.Network.{Setup};
 ghost use Rattle.noc_net.specs.Room.{front_of, opened_post, post_of, rests_at, unput_for, wires_in};
 
@@ -16,7 +16,8 @@ use noc_topo::LINKS;
 /// The storage of a core for one router: the wires that arrive there, and what the router has done of its cycle.
 #[derive(Clone, Copy)]
 pub struct Room {
-    steps: u64,
+    // The cycle that the router is in, or that it makes next.
+    pub(crate) steps: u64,
     decided: bool,
     wires: [Wire; LINKS],
     // The beats that were taken in this cycle, and those that are still to be put.
@@ -49,13 +50,6 @@ impl Room {
             room.wires[port] = Wire::opened(router.neighbour(port).is_some(), beats[port]);
         }
         room
-    }
-
-    // The cycle that the router is in, or that it makes next.
-    pub(crate) fn steps(&self) -> u64
-        ensures { result ≡ self.now.steps }
-    {
-        self.steps
     }
 
     // How many beats are on the wire that arrives at a port.
@@ -100,20 +94,11 @@ impl Room {
         ensures { (net : Setup) → net.relation.grid ≡ router.now.site.grid → result ≡ all_have net router.now.site.node (take links self.now.taken) }
     {
         for port in 0..links {
-            if self.lacks(router, port) {
+            if self.taken[port].is_none() & router.neighbour(port).is_some() {
                 return false;
             }
         }
         true
-    }
-
-    // Whether a link port has a link at which no beat is taken yet.
-    fn lacks(&self, router: &Router, port: usize) -> bool
-        requires port { port < local_port router.now.site.grid }
-        requires few { port < LINKS }
-        ensures { result ≡ (is_none (slice_index_or self.now.taken port None) && is_some (neighbour_of router.now.site.grid router.now.site.node port)) }
-    {
-        self.taken[port].is_none() && router.neighbour(port).is_some()
     }
 
     // The beats that were taken, idle ones where there are none.
@@ -202,7 +187,8 @@ impl Room {
     {
         let mut beats = [Beat::idle(); LINKS];
         for port in 0..links {
-            beats[port] = self.wires[port].oldest();
+            let mut wire = self.wires[port];
+            beats[port] = wire.pop().unwrap_or(Beat::idle());
         }
         beats
     }

@@ -1,7 +1,7 @@
 //! A router takes what came to it.
 
 ghost use Rattle.std.specs.Prelude.{◌≡◌};
-ghost use Rattle.noc_router.specs.Links.{AreLoaded, is_idle_beat};
+ghost use Rattle.noc_router.specs.Links.{AreLoaded};
 ghost use Rattle.noc_router.specs.View.{IsRelationOf, view_after_takes};
 ghost use Rattle.noc_theory.specs.Halves.{IsLinked, IsSilent, incoming};
 
@@ -31,16 +31,9 @@ pub(crate) fn arrived(beats: &[Beat; LINKS]) -> ChannelSet
 {
     let mut ports = ChannelSet::empty();
     for port in 0..LINKS {
-        if !is_idle(&beats[port]) {
+        if beats[port].flit.is_some() | beats[port].credit.is_some() {
             ports = ports.with(port);
         }
     }
     ports
-}
-
-// Whether a beat carries nothing.
-fn is_idle(beat: &Beat) -> bool
-    ensures { result ≡ is_idle_beat beat.now }
-{
-    beat.flit.is_none() & beat.credit.is_none()
 }

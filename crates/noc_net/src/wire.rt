@@ -2,7 +2,7 @@
 
 ghost use Rattle.std.specs.Prelude.{◌≡◌, ◌<◌, ◌++◌, ◌∷◌, [], drop, if◌then◌else◌, length};
 ghost use Rattle.std.specs.List.{slice_get};
-ghost use Rattle.noc_net.specs.Room.{front_of, wire_beats};
+ghost use Rattle.noc_net.specs.Room.{wire_beats};
 
 use noc_packet::Beat;
 
@@ -48,16 +48,6 @@ impl Wire {
                 *self = Wire::One(second);
                 Some(first)
             }
-        }
-    }
-
-    // The oldest beat, or an idle one.
-    pub(crate) fn oldest(&self) -> Beat
-        ensures { result ≡ front_of (wire_beats self.now) }
-    {
-        match self {
-            Wire::Empty => Beat::idle(),
-            Wire::One(first) | Wire::Two(first, _) => *first,
         }
     }
 

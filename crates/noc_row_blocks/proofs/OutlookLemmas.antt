@@ -36,14 +36,6 @@ some-next test held w j is here =
     neither true b = refl
     neither false b = refl
 
--- whether there is one, by what is held
-pub some-all : (test : ℕ → Bool) (held : ℕ) → nat_eq held 0 ≡ not (is_some_below test 32) → not (nat_eq held 0) ≡ is_some_below test 32
-some-all test held is = ap not is ∙ twice (is_some_below test 32)
-  where
-    twice : (b : Bool) → not (not b) ≡ b
-    twice true = refl
-    twice false = refl
-
 pub least-none : (number : ℕ → ℕ) → 4294967295 ≡ least_below number 0
 unfolding least_below
 least-none number = refl

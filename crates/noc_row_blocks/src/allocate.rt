@@ -1,13 +1,13 @@
 //! Output channels are granted to waiting input channels.
 
-ghost use Rattle.std.specs.Prelude.{◌≡◌, ◌≢◌, ℕ, ◌^◌, ◌<◌, true, false, nat_eq, slice_index, if◌then◌else◌};
+ghost use Rattle.std.specs.Prelude.{◌≡◌, ◌≢◌, ℕ, ◌^◌, ◌<◌, true, false, slice_index};
 ghost use Rattle.std.specs.Int.{trailing_zeros, w32};
 ghost use Rattle.noc_packet.specs.Set.{has_bit};
 ghost use Rattle.noc_row_words.specs.Grants.{AreAsks, HasAllocated, HasBound, HasGranted, KeepsMoves, KeepsPlaces, leads_by, leads_to};
 ghost use Rattle.noc_row_words.specs.Rows.{allocation_at, marks_at, of_router};
 ghost use Rattle.noc_row_words.specs.Turns.{first_bit, in_turn, mask_past};
 
-use crate::moves::first_in_turn;
+use crate::moves::{first_in_turn, where_some};
 use noc_row_words::column::Lanes;
 use noc_row_words::cycle::DecidedRows;
 use noc_row_words::frame::Frame;
@@ -109,14 +109,6 @@ fn ask(
         inputs,
         wanted,
     }
-}
-
-// A set where another has a member, and else none.
-#[inline(always)]
-fn where_some(other: u32, set: u32) -> u32
-    ensures { result ≡ (if nat_eq other 0 then 0 else set) }
-{
-    if other == 0 { 0 } else { set }
 }
 
 // Each channel that is asked for is granted. The answer is the input channels that have one.

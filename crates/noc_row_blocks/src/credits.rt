@@ -1,6 +1,6 @@
 //! The credits that have come are counted.
 
-ghost use Rattle.std.specs.Prelude.{◌≡◌, ◌<◌, ◌&&◌, ℕ, not, nat_eq};
+ghost use Rattle.std.specs.Prelude.{◌≡◌, ◌<◌, ℕ, not, nat_eq};
 ghost use Rattle.noc_packet.specs.Set.{has_bit};
 ghost use Rattle.noc_row_words.specs.Passes.{HasSupplied, lane_raised, lane_returned, owner_in, with_credits};
 ghost use Rattle.noc_row_words.specs.Rows.{column_at, column_of, planes_of, returned_at, word};

@@ -1,6 +1,6 @@
 //! Packets begin and are injected, in the routers of a block.
 
-ghost use Rattle.std.specs.Prelude.{◌≡◌, ◌<◌, ℕ, not, nat_eq, if◌then◌else◌};
+ghost use Rattle.std.specs.Prelude.{◌≡◌, ◌<◌, ℕ, not, nat_eq};
 ghost use Rattle.noc_packet.specs.Set.{has_bit};
 ghost use Rattle.noc_row_words.specs.Passes.{begun_arrived, begun_column, injecting_after};
 ghost use Rattle.noc_row_words.specs.Rows.{arrived_at, column_at, word};
@@ -61,17 +61,9 @@ pub(crate) fn inject_all(
         let lane = least(rest);
         let source = sources.at(lane);
         inbox.push(room, lane * 32 + least(injected[lane]), source.word);
-        let after = injecting_then(source.left, injecting[lane]);
+        let after = if source.left == 1 { 0 } else { injecting[lane] };
         put(injecting, lane, after);
         sources.put(lane, source.sent(starts));
         rest &= rest - 1;
     }
-}
-
-// The channel from which a packet is injected, once a flit is injected where so many are left with it.
-#[inline(always)]
-fn injecting_then(left: u32, injecting: u32) -> u32
-    ensures { result ≡ (if nat_eq left 1 then 0 else injecting) }
-{
-    if left == 1 { 0 } else { injecting }
 }

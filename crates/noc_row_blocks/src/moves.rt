@@ -1,19 +1,19 @@
 //! The switch, and the flits that move through it.
 
-ghost use Rattle.std.specs.Prelude.{◌≡◌, ◌≢◌, ℕ, ◌+◌, ◌/◌, ◌<◌, ◌≤◌, ◌&&◌, ◌||◌, [], bit_and, bit_or, length, not, nat_eq, slice_index, slice_index_or, if◌then◌else◌};
+ghost use Rattle.std.specs.Prelude.{◌≡◌, ◌≢◌, ℕ, ◌+◌, ◌/◌, ◌<◌, ◌&&◌, ◌||◌, [], bit_and, bit_or, length, not, nat_eq, slice_index, slice_index_or, if◌then◌else◌};
 ghost use Rattle.noc_packet.specs.Set.{has_bit};
 ghost use Rattle.noc_row_words.specs.Bits.{less};
-ghost use Rattle.noc_row_blocks.specs.Moves.{HasJoined, TurnsOn, channel_word, dry_by, has_freed, has_gone, has_left, of_one, ports_of, rest_from, selected_in, some_below, taken_in, turn_in, turned_by, union_from};
+ghost use Rattle.noc_row_blocks.specs.Moves.{HasJoined, TurnsOn, dry_by, has_freed, has_gone, has_left, of_one, ports_of, rest_from, selected_in, some_below, taken_in, turn_in, turned_by, union_from};
 ghost use Rattle.noc_row_words.specs.Rows.{word};
 ghost use Rattle.noc_row_blocks.specs.Stages.{HasMoved};
 ghost use Rattle.noc_row_blocks.specs.Switched.{HasCarried, HaveCarried, IsOne};
-ghost use Rattle.noc_row_words.specs.Turns.{first_bit, in_turn};
+ghost use Rattle.noc_row_words.specs.Turns.{first_bit};
 ghost use Rattle.noc_row_words.specs.Wires.{HasCleared, HasMarked, in_row};
 
 use noc_row_words::block::Block;
 use noc_row_words::cycle::{DecidedRows, StandingRows};
 use noc_row_words::frame::Frame;
-use noc_row_words::lanes::{CHANNELS, ROUTERS, Row, alone_if, least, least_bit, put};
+use noc_row_words::lanes::{ROUTERS, Row, alone_if, least, least_bit, put};
 use noc_row_words::marks::Marks;
 use noc_row_words::wires::{Tails, Wires, arrive, clear, give_back, mark, send};
 
@@ -137,24 +137,17 @@ fn select(picked: &Row, to_port: &Row, turn: &Row, selected: &mut Row, moved: &m
 pub(crate) fn first_in_turn(requests: u32, turn: u32) -> u32
     ensures { result ≡ first_bit requests turn }
 {
-    least_bit(in_turn(requests, turn))
-}
-
-// Those at or after the pointer, or where there are none all.
-#[inline(always)]
-fn in_turn(requests: u32, turn: u32) -> u32
-    ensures { result ≡ in_turn requests turn }
-{
     let high = requests & turn;
-    if high == 0 { requests } else { high }
+    let first = if high == 0 { requests } else { high };
+    least_bit(first)
 }
 
-// The input channel, where it takes the last credit of this output channel.
+// A set where another has a member, and else none.
 #[inline(always)]
-fn dry(single: u32, used: u32, bit: u32) -> u32
-    ensures { result ≡ (if nat_eq (bit_and single used) 0 then 0 else bit) }
+pub(crate) fn where_some(other: u32, set: u32) -> u32
+    ensures { result ≡ (if nat_eq other 0 then 0 else set) }
 {
-    if single & used == 0 { 0 } else { bit }
+    if other == 0 { 0 } else { set }
 }
 
 // The flit of each of these lanes leaves its ring, and goes to the other end of the link. The pointer of the port goes
@@ -187,7 +180,7 @@ fn carry_all(
         let channel = lane * 32 + input;
         let used = marks.taken[channel];
         let all = out[lane] | used;
-        let left = supplied[lane] & !dry(single[lane], used, bit);
+        let left = supplied[lane] & !where_some(single[lane] & used, bit);
         put(&mut marks.port_turn[port], lane, after[input]);
         put(out, lane, all);
         put(supplied, lane, left);

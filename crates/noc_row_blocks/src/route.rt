@@ -1,10 +1,8 @@
 //! Heads are routed.
 
-ghost use Rattle.std.specs.Prelude.{◌≡◌, ◌≢◌, ℕ, ◌+◌, ◌*◌, ◌^◌, ◌<◌, ◌≤◌, ◌&&◌, true, false, nat_eq, slice_index};
+ghost use Rattle.std.specs.Prelude.{◌≡◌, ◌≢◌, ℕ, ◌+◌, ◌*◌, ◌^◌, ◌<◌, ◌≤◌, ◌&&◌, true, false, nat_eq};
 ghost use Rattle.noc_packet.specs.Set.{has_bit};
-ghost use Rattle.noc_packet.specs.declared.packet.Flit.{Flit};
 ghost use Rattle.noc_route.specs.Routes.{set_at, width};
-ghost use Rattle.noc_row_words.specs.FlitWords.{FitsWord, flit_word};
 ghost use Rattle.noc_row_words.specs.Grants.{KeepsPlaces};
 ghost use Rattle.noc_row_blocks.specs.Routed.{HasRouted, HasRoutes, ring_at, routing_at, sets_by};
 ghost use Rattle.noc_row_words.specs.Rows.{marks_at, word};
@@ -80,23 +78,15 @@ fn route(
         let input = least(rest);
         let channel = lane * 32 + input;
         let word = inbox.first(room, channel, marks.first[channel]);
-        let set = set_of(relation, frame, node, input, word);
+        let port = usize::from(frame.port_of[input]);
+        let vc = usize::from(frame.vc_of[input]);
+        let set = set_for(relation, node, port, vc, class(word), destination(word));
         marks.set[channel] = set;
         marks.packet[channel] = number(word);
         all |= set;
         rest &= rest - 1;
     }
     put(wanted, lane, all);
-}
-
-// The channels that the packet of a flit may take.
-fn set_of(relation: &Relation, frame: &Frame, node: usize, input: usize, word: u64) -> u32
-    requires input { input < 32 }
-    ensures { width relation.now.grid relation.now.vcs ≤ 31 → (f : Flit) → FitsWord f → word ≡ flit_word f → result ≡ sets_by relation.now frame.now node input f }
-{
-    let port = usize::from(frame.port_of[input]);
-    let vc = usize::from(frame.vc_of[input]);
-    set_for(relation, node, port, vc, class(word), destination(word))
 }
 
 // The channels that a packet of this class may take, which came by this port and virtual channel; none where there is

@@ -3,7 +3,7 @@ use Rattle.std.proofs.Common.{◌≡◌, ℕ, suc, ◌+◌, ◌-◌, ◌*◌, �
 use Rattle.std.specs.Prelude.{nat_eq, nat_lt, ◌⊎◌, ◌&&◌, not, if◌then◌else◌}
 use Rattle.std.specs.Int.{bit_at, bit_not, trailing_zeros}
 use Rattle.std.proofs.lemmas.Bool.{eq-eqb, ne_eqb, cases_eq, cases_lt, false≢true, lt-ltb, le-ltb}
-use Rattle.std.proofs.lemmas.Nat.{or_lt, xor_lt, shr-shr, shr_le, and_le_l, shr_split, pow_pos, mod_below}
+use Rattle.std.proofs.lemmas.Nat.{or_lt, xor_lt, shr-shr, and_le_l, shr_split, pow_pos, mod_below}
 use Rattle.std.proofs.lemmas.Nat.Bits.{bit_at-zero, bit_at_xor, bit_at_above, same_from_bits, bit_at-trailing_zeros, bit_at_not, bit_at_ones, bit_at_cat_low, bit_at_cat_high, bit_at-suc}
 use Rattle.noc_packet.specs.Set.{has_bit, IsLeast}
 use Rattle.noc_packet.proofs.SetLemmas.{has_bit-one, has_bit-none, bit_at-true, bit_at-false, has_bit-above, has_bit-zero, both_members}
@@ -64,9 +64,6 @@ down_members a n k = has_bit-at (shr-shr a n k)
 
 pub up_fits : (a n : ℕ) → up_by a n < 2 ^ 32
 up_fits a n = omega arith
-
-pub down_fits : (a n : ℕ) → a < 2 ^ 32 → down_by a n < 2 ^ 32
-down_fits a n fits = omega (arith, shr_le a n)
 
 -- a member is n higher, where that is still in the word
 pub up_members : (a n k : ℕ) → n ≤ k → k < 32 → has_bit (up_by a n) k ≡ has_bit a (k - n)

@@ -1,25 +1,18 @@
 -- Flits come, and are injected.
-use Rattle.std.proofs.Common.{◌≡◌, ℕ, ◌+◌, ◌^◌, ◌<◌, Bool, true, false, List, [], ◌∷◌, length, Option, Some, None, refl, ap, sym, ◌∙◌, arith, bit_or, length-append}
-use Rattle.std.specs.Prelude.{◌&&◌, ◌||◌, not, is_some, nat_eq, nat_lt}
+use Rattle.std.proofs.Common.{◌≡◌, ℕ, ◌+◌, ◌<◌, Bool, true, false, List, [], ◌∷◌, length, Option, Some, None, refl, ap, sym, ◌∙◌, arith, bit_or, length-append}
+use Rattle.std.specs.Prelude.{◌&&◌, ◌||◌, not, is_some, nat_lt}
 use Rattle.std.proofs.lemmas.Bool.{lt-ltb, le-ltb}
 use Rattle.noc_packet.specs.Set.{has_bit}
 use Rattle.noc_packet.specs.declared.packet.Flit.{Flit}
 use Rattle.noc_packet.proofs.SetLemmas.{both_members, either_members}
-use Rattle.noc_vc.specs.Input.{Input, is_active, is_waiting, is_empty}
+use Rattle.noc_vc.specs.Input.{Input, is_empty}
 use Rattle.noc_counts.specs.Counts.{one_if}
-use Rattle.noc_row_words.specs.Planes.{plane_number, any_from, wrong_from, words_of}
+use Rattle.noc_row_words.specs.Planes.{plane_number, any_from}
 use Rattle.noc_row_words.specs.Taken.{with_one, landed_by}
-use Rattle.noc_row_words.specs.Column.{Column, AreWords, ShowsInput}
-use Rattle.noc_row_words.specs.Passes.{lane_injected, lane_landed, lane_filled, lane_free, with_flits}
+use Rattle.noc_row_words.specs.Column.{Column, AreWords}
+use Rattle.noc_row_words.specs.Passes.{lane_free}
 use Rattle.noc_row_words.proofs.BitLemmas.{or_fits, not_members}
-use Rattle.noc_row_words.proofs.PlaneLemmas.{raised-number, filled-members, wrong-members, any-fits}
-
--- the channels that get a flit
-pub landed-members : (count : ℕ) (c : Column) (places came i : ℕ) → AreWords count c → i < 32 → places < 2 ^ count
-    → has_bit (lane_landed (words_of count places) came c) i ≡ (has_bit came i || (has_bit c.injecting i && not (nat_eq (plane_number c.len i) places)))
-landed-members count c places came i words l room =
-    either_members came (lane_injected (words_of count places) c) i
-    ∙ ap (λ b. has_bit came i || b) (both_members c.injecting (wrong_from 0 c.len (words_of count places)) i ∙ ap (λ b. has_bit c.injecting i && b) (wrong-members c.len count places i words.len_bits l room))
+use Rattle.noc_row_words.proofs.PlaneLemmas.{filled-members, any-fits}
 
 pub with-one-length : (flits : List Flit) (f : Option Flit) → length (with_one flits f) ≡ length flits + one_if (is_some f)
 with-one-length flits None = omega arith
@@ -41,29 +34,6 @@ with-one-empty (g ∷ flits) (Some f) = refl
 pub phase-kept : (input : Input) (f : Option Flit) → (landed_by input f).phase ≡ input.phase
 phase-kept input None = refl
 phase-kept input (Some f) = refl
-
--- an input channel after a flit has come to it or was injected, or none was
-pub landed-shows : (count : ℕ) (c : Column) (places came i : ℕ) (flits : List Flit) (input : Input) (f : Option Flit) → AreWords count c → came < 2 ^ 32
-    → has_bit (lane_landed (words_of count places) came c) i ≡ is_some f → length flits + one_if (is_some f) < 2 ^ count
-    → ShowsInput c i flits input → ShowsInput (with_flits (words_of count places) came c) i (with_one flits f) (landed_by input f)
-landed-shows count c places came i flits input f words small here room shows =
-    let more : one_if (has_bit (lane_landed (words_of count places) came c) i) ≡ one_if (is_some f) = ap one_if here in
-    let was : plane_number c.len i ≡ length flits = shows.len in
-    record {
-      waiting = shows.waiting ∙ ap is_waiting (sym (phase-kept input f));
-      active = shows.active ∙ ap is_active (sym (phase-kept input f));
-      len = raised-number c.len (lane_landed (words_of count places) came c) i (rw words.len_bits (omega arith)) ∙ omega (arith, with-one-length flits f);
-    }
-
--- whether a buffer holds a flit, once one has landed
-pub landed-fills : (count : ℕ) (c : Column) (places came i : ℕ) (flits : List Flit) (input : Input) (f : Option Flit)
-    → has_bit (lane_landed (words_of count places) came c) i ≡ is_some f → ShowsInput c i flits input
-    → has_bit (lane_filled (words_of count places) came c) i ≡ not (is_empty (with_one flits f))
-landed-fills count c places came i flits input f here shows =
-    either_members (any_from 0 c.len) (lane_landed (words_of count places) came c) i
-    ∙ ap (λ b. b || has_bit (lane_landed (words_of count places) came c) i) (filled-members c.len i ∙ ap (nat_lt 0) shows.len ∙ empty-length flits)
-    ∙ ap (λ b. not (is_empty flits) || b) here
-    ∙ sym (with-one-empty flits f)
 
 -- the local channels that hold nothing
 pub free-members : (count : ℕ) (c : Column) (local i : ℕ) → AreWords count c → i < 32

@@ -1,7 +1,7 @@
 -- The parts of a flit in its word.
-use Rattle.std.proofs.Common.{◌≡◌, ℕ, ◌+◌, ◌*◌, ◌/◌, ◌%◌, ◌^◌, ◌<◌, Bool, true, false, refl, ap, ◌∙◌, arith, bit_and, bit_or}
+use Rattle.std.proofs.Common.{◌≡◌, ◌+◌, ◌*◌, ◌/◌, ◌^◌, ◌<◌, Bool, true, false, refl, ap, ◌∙◌, arith, bit_and}
 use Rattle.std.specs.Prelude.{if◌then◌else◌}
-use Rattle.std.proofs.lemmas.Nat.{and_mask, or_shifted, or_comm}
+use Rattle.std.proofs.lemmas.Nat.{and_mask}
 use Rattle.noc_packet.specs.declared.packet.Flit.{Flit}
 use Rattle.noc_counts.specs.Counts.{one_if}
 use Rattle.noc_row_words.specs.FlitWords.{flit_word, FitsWord}
@@ -30,16 +30,3 @@ module _ (f : Flit) (fits : FitsWord f) where
 
   pub class-is : bit_and (flit_word f / 2 ^ 48) 3 ≡ f.class
   class-is = ap (λ w. bit_and (w / 2 ^ 48) 3) (word-parts f) ∙ and_mask _ 2 ∙ omega (arith, fits, mark-below f.last)
-
--- the word of the parts, one by one
-pub joined-is : (packet index last dst class : ℕ) → packet < 2 ^ 32 → index < 2 ^ 7 → last < 2 → dst < 2 ^ 8 → class < 2 ^ 2
-    → bit_or (bit_or (bit_or packet (last * 2 ^ 39 % 2 ^ 64)) (dst * 2 ^ 40 % 2 ^ 64)) (class * 2 ^ 48 % 2 ^ 64) ≡ packet + last * 2 ^ 39 + dst * 2 ^ 40 + class * 2 ^ 48
-joined-is packet index last dst class fp fi fl fd fc =
-    let el : last * 2 ^ 39 % 2 ^ 64 ≡ last * 2 ^ 39 = omega arith in
-    let ed : dst * 2 ^ 40 % 2 ^ 64 ≡ dst * 2 ^ 40 = omega arith in
-    let ec : class * 2 ^ 48 % 2 ^ 64 ≡ class * 2 ^ 48 = omega arith in
-    let a : bit_or packet (last * 2 ^ 39) ≡ last * 2 ^ 39 + packet = or_comm packet (last * 2 ^ 39) ∙ or_shifted last 39 packet (omega arith) in
-    let b : bit_or (last * 2 ^ 39 + packet) (dst * 2 ^ 40) ≡ dst * 2 ^ 40 + (last * 2 ^ 39 + packet) = or_comm (last * 2 ^ 39 + packet) (dst * 2 ^ 40) ∙ or_shifted dst 40 (last * 2 ^ 39 + packet) (omega arith) in
-    let c : bit_or (dst * 2 ^ 40 + (last * 2 ^ 39 + packet)) (class * 2 ^ 48) ≡ class * 2 ^ 48 + (dst * 2 ^ 40 + (last * 2 ^ 39 + packet)) =
-    or_comm (dst * 2 ^ 40 + (last * 2 ^ 39 + packet)) (class * 2 ^ 48) ∙ or_shifted class 48 (dst * 2 ^ 40 + (last * 2 ^ 39 + packet)) (omega arith) in
-    rw (el, ed, ec, a, b, c) (omega arith)

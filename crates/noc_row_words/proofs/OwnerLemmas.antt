@@ -4,7 +4,7 @@ use Rattle.std.specs.Prelude.{◌⊎◌, ◌&&◌, ◌||◌, not, nat_eq}
 use Rattle.std.proofs.lemmas.Bool.{cases_eq, eq-eqb, ne_eqb, eqb-true, false≢true, true≢false}
 use Rattle.noc_packet.specs.Set.{has_bit, IsLeast}
 use Rattle.noc_packet.proofs.SetLemmas.{has_bit-zero, either_members, same_set}
-use Rattle.noc_row_words.specs.Passes.{AreOwners, HasSupplied}
+use Rattle.noc_row_words.specs.Passes.{HasSupplied}
 use Rattle.noc_row_words.proofs.EachLemmas.{IsEach, each-all, left-members}
 use Rattle.noc_row_words.proofs.PassLemmas.{power-members}
 use Rattle.noc_row_words.proofs.WordLemmas.{power-is}
@@ -16,13 +16,6 @@ pub record AreOwnersBut (set : ℕ) (owner : ℕ → ℕ) (up rest : ℕ) : Type
   pub some : (i : ℕ) → has_bit up i ≡ true → (o : ℕ) × (has_bit set o ≡ true) × (owner o ≡ i)
 
 module _ (set : ℕ) (owner : ℕ → ℕ) where
-  pub owners-none : AreOwnersBut set owner 0 set
-  owners-none = record {
-    part = λ o e. e;
-    each = λ o a b. absurd (true≢false (sym a ∙ b));
-    some = λ i e. absurd (true≢false (sym e ∙ has_bit-zero i));
-  }
-
   -- the owner of the least that is left
   pub owners-next : (up rest t i : ℕ) → 0 < rest → rest < 2 ^ 32 → IsLeast (has_bit rest) (Some t) → AreOwnersBut set owner up rest → owner t ≡ i → i < 32
       → AreOwnersBut set owner (bit_or up (1 * 2 ^ i % 2 ^ 32)) (bit_and rest (rest - 1))
@@ -59,9 +52,6 @@ module _ (set : ℕ) (owner : ℕ → ℕ) where
       from j false e h =
           let same : j ≡ i = eqb-true j i (sym (ap (λ x. x || nat_eq j i) e) ∙ sym (members j) ∙ h) in
           (t, are.part t least.0, is ∙ sym same)
-
-  pub owners-all : (up : ℕ) → AreOwnersBut set owner up 0 → AreOwners set owner up
-  owners-all up are = record { each = λ o e. are.each o e (has_bit-zero o); some = are.some }
 
 pub or-zero : (a : ℕ) → bit_or a 0 ≡ a
 or-zero a = same_set (bit_or a 0) a (λ k. either_members a 0 k ∙ ap (λ b. has_bit a k || b) (has_bit-zero k) ∙ or-false (has_bit a k))

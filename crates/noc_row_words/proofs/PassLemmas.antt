@@ -5,7 +5,7 @@ use Rattle.std.proofs.lemmas.Bool.{cases_eq, cases_lt, lt-ltb, le-ltb, eq-eqb, n
 use Rattle.std.specs.Int.{bit_at}
 use Rattle.std.proofs.lemmas.Nat.Bits.{bit_at-pow_same, bit_at-pow_other}
 use Rattle.noc_packet.specs.Set.{has_bit}
-use Rattle.noc_packet.proofs.SetLemmas.{either_members, has_bit-none, has_bit-one, has_bit-zero}
+use Rattle.noc_packet.proofs.SetLemmas.{either_members, has_bit-none, has_bit-one}
 use Rattle.noc_row_words.specs.declared.lanes.TheConstants.{ALONE}
 
 -- the lanes below j are done, and the others are as they were
@@ -36,9 +36,6 @@ or-false true = refl
 or-false false = refl
 
 module _ (test : ℕ → Bool) where
-  pub lanes-none : AreLanes test 0 0
-  lanes-none = record { each = λ k. has_bit-zero k ∙ ap (λ b. b && test k) (sym (le-ltb k 0 (omega arith))) }
-
   pub lanes-next : (set bit j : ℕ) → AreLanes test set j → ((k : ℕ) → has_bit bit k ≡ (nat_eq k j && test j)) → AreLanes test (bit_or set bit) (j + 1)
   lanes-next set bit j lanes is = record { each = λ k. at k (cases_eq k j) }
     where
@@ -56,9 +53,6 @@ module _ (test : ℕ → Bool) where
           ∙ ap₂ (λ a b. a || b) (lanes.each k) (is k ∙ ap (λ b. b && test j) (ne_eqb k j other))
           ∙ or-false (nat_lt k j && test k)
           ∙ ap (λ b. b && test k) (kept k other)
-
-  pub lanes-all : (set : ℕ) → AreLanes test set 32 → (k : ℕ) → k < 32 → has_bit set k ≡ test k
-  lanes-all set lanes k l = lanes.each k ∙ ap (λ b. b && test k) (lt-ltb k 32 l)
 
 -- a set of one member
 pub power-members : (j k : ℕ) → has_bit (2 ^ j) k ≡ nat_eq k j

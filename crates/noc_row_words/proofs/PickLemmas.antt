@@ -254,9 +254,6 @@ module _ (n : ℕ) (f : Fields) (is : IsFields n f) where
       → has_bit (lane_pick f ready in_hi) (p * f.width + c) ≡ is_some_of (first_in_turn f.width pointer (asks_at ready p)) c
   pick-members ready in_hi p pointer c l u pl shows v = at (cases_lt 0 (field f.width (bit_and ready in_hi) p)) (cases_lt 0 (field f.width ready p))
     where
-      hi_fits : bit_and ready in_hi < 2 ^ (n * f.width)
-      hi_fits = omega (arith, and_le_l ready in_hi)
-
       word_of_field : (word : ℕ) → field f.width word p < 2 ^ 32
       word_of_field word =
           let narrow : f.width ≤ n * f.width = one-field n p f.width u in

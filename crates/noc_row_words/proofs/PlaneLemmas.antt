@@ -32,13 +32,6 @@ raised-is (plane ∷ planes) set x =
     twice p q c low new and old plane set e r l =
         let m : q * c ≡ 2 * (p * c) = ap (λ z. z * c) e ∙ omega arith in omega arith
 
-carry_none : (n p a c s : ℕ) → n + p * one_if (nat_eq c 1) ≡ a + s → a + s < p → one_if (nat_eq c 1) ≡ 0
-carry_none n p a c s e l = at (nat_eq c 1) e
-  where
-    at : (b : Bool) → n + p * one_if b ≡ a + s → one_if b ≡ 0
-    at true h = absurd (omega arith)
-    at false h = refl
-
 -- where the planes can hold it
 pub raised-number : (planes : List ℕ) (set x : ℕ) → plane_number planes x + one_if (has_bit set x) < 2 ^ length planes
     → plane_number (raised_by planes set) x ≡ plane_number planes x + one_if (has_bit set x)
@@ -212,7 +205,3 @@ any-fits planes fits = any-fits-from 0 planes (omega arith) fits
 pub more-fits : (planes : List ℕ) → ArePlanes planes → more_than_one planes < 2 ^ 32
 more-fits [] fits = omega arith
 more-fits (plane ∷ planes) fits = any-fits planes fits.1
-
-pub one-room : (b : Bool) (n m : ℕ) → n < m → n + one_if b ≤ m
-one-room true n m l = omega arith
-one-room false n m l = omega arith

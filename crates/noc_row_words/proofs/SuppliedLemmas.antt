@@ -1,29 +1,12 @@
 -- Which input channels are supplied after a cycle.
-use Rattle.std.proofs.Common.{◌≡◌, ℕ, ◌-◌, ◌^◌, ◌<◌, ◌≤◌, Bool, true, false, Option, Some, None, IfSome, refl, ap, sym, ◌∙◌, arith, inl, inr, w32}
+use Rattle.std.proofs.Common.{◌≡◌, ℕ, ◌-◌, ◌<◌, ◌≤◌, Bool, true, false, Option, Some, None, IfSome, refl, ap, sym, ◌∙◌, arith, inl, inr}
 use Rattle.std.specs.Prelude.{◌⊎◌, ◌&&◌, ◌||◌, not, nat_lt}
-use Rattle.std.specs.Int.{bit_not}
 use Rattle.std.proofs.lemmas.Bool.{cases_lt, lt-ltb, le-ltb}
-use Rattle.noc_packet.specs.Set.{has_bit}
-use Rattle.noc_packet.proofs.SetLemmas.{both_members}
 use Rattle.noc_vc.specs.Output.{Output, has_credit, output_after_spend}
 use Rattle.noc_vc.specs.declared.input.InputState.{InputState}
 use Rattle.noc_vc.specs.declared.input.InputState.TheVariants.{Idle, Waiting, Active}
 use Rattle.noc_router.specs.Sound.{is_supplied}
 use Rattle.noc_router.specs.View.{View, view_output}
-use Rattle.noc_row_words.specs.Planes.{plane_number, raised_by, more_than_one}
-use Rattle.noc_row_words.specs.Column.{Column, AreWords}
-use Rattle.noc_row_words.specs.Passes.{lane_single}
-use Rattle.noc_row_words.proofs.BitLemmas.{not_members}
-use Rattle.noc_row_words.proofs.PlaneLemmas.{more-members, more-fits, raised-fits}
-
--- the link channels with one credit at most, once the credits have come
-pub single-members : (count : ℕ) (c : Column) (links came o : ℕ) → AreWords count c → came < 2 ^ 32 → o < 32
-    → has_bit (lane_single links came c) o ≡ (not (nat_lt 1 (plane_number (raised_by c.credit came) o)) && has_bit links o)
-single-members count c links came o words small l =
-    both_members (bit_not w32 (more_than_one (raised_by c.credit came))) links o
-    ∙ ap (λ b. b && has_bit links o)
-    (not_members (more_than_one (raised_by c.credit came)) o (more-fits (raised_by c.credit came) (raised-fits c.credit came words.credit small)) l
-    ∙ ap not (more-members (raised_by c.credit came) o))
 
 -- what becomes of an input channel: its flit moves to an output channel that it owns, it is granted one, or it loses none
 pub data Turn (v w : View) (before after : InputState) : Type 0 where

@@ -1,6 +1,6 @@
 //! The state of the routers of a block, and what they work out in a cycle.
 
-ghost use Rattle.std.specs.Prelude.{◌≡◌, ◌≢◌, ◌<◌, ℕ, slice_index_or};
+ghost use Rattle.std.specs.Prelude.{◌≡◌, ◌≢◌, ◌<◌, ℕ};
 
 use crate::column::Lanes;
 use crate::cycle::{ArrivedRows, DecidedRows, ReturnedRows, StandingRows};
@@ -97,18 +97,8 @@ impl Sources {
         put(&mut self.due, lane, source.due);
         put(&mut self.left, lane, source.left);
         put(&mut self.queue, lane, source.queue);
-        put_flit(&mut self.word, lane, source.word);
+        self.word[lane] = source.word;
     }
-}
-
-// Writes the flit of one router.
-#[inline(always)]
-fn put_flit(words: &mut [u64; ROUTERS], lane: usize, word: u64)
-    requires { lane < 32 }
-    ensures here { slice_index_or words.new lane 0 ≡ word }
-    ensures others { (k : ℕ) → k ≢ lane → slice_index_or words.new k 0 ≡ slice_index_or words.old k 0 }
-{
-    words[lane] = word;
 }
 
 /// The lanes of a block in which something is to be done one by one in this cycle.

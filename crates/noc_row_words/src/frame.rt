@@ -1,14 +1,9 @@
 //! What is the same for all routers of a network.
 
-ghost use Rattle.std.specs.Prelude.{◌≡◌, ◌≢◌, ℕ, ◌+◌, ◌-◌, ◌*◌, ◌/◌, ◌^◌, ◌<◌, ◌≤◌, ◌&&◌, IfSome, is_some, nat_le, nat_lt};
+ghost use Rattle.std.specs.Prelude.{◌≡◌, ◌≢◌, ℕ, ◌-◌, ◌*◌, ◌/◌, ◌^◌, ◌<◌, ◌&&◌, IfSome, is_some, nat_le, nat_lt};
 ghost use Rattle.noc_packet.specs.Set.{has_bit};
 ghost use Rattle.noc_row_words.specs.Frames.{IsFrameOf, IsPlaced, IsPlacedAs};
-ghost use Rattle.noc_route.specs.Routes.{IsRelation};
-ghost use Rattle.noc_topo.specs.Shape.{local_port, nodes as nodes_of, ports as ports_of};
-ghost use Rattle.noc_row_words.specs.Fields.{IsFields};
-ghost use Rattle.noc_row_words.specs.Opening.{AreSides};
-ghost use Rattle.noc_row_words.specs.Planes.{words_of};
-ghost use Rattle.noc_row_words.specs.Rows.{planes_of};
+ghost use Rattle.noc_topo.specs.Shape.{ports as ports_of};
 
 use crate::fields::Fields;
 use crate::numbers::Numbers;

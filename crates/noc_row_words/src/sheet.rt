@@ -7,9 +7,9 @@ ghost use Rattle.noc_row_words.specs.Rows.{column_at, standing_at, verdicts_at, 
 ghost use Rattle.noc_row_words.specs.Still.{HasWaited};
 ghost use Rattle.noc_row_words.specs.Tallied.{CountsAreBelow, counters_at, cycles_of, last_verdicts, no_counts, sheet_counts, with_recent, with_verdicts, with_waits};
 
-use crate::column::{Lane, Lanes};
+use crate::column::Lanes;
 use crate::counter::{Counter, one_if_member};
-use crate::cycle::{DecidedRows, Standing, StandingRows};
+use crate::cycle::{DecidedRows, StandingRows};
 use crate::lanes::{ROUTERS, Row, put};
 use crate::waits::Waits;
 

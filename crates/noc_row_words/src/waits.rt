@@ -1,9 +1,6 @@
 //! What is counted of channels that wait, of many cycles at once.
 
-ghost use Rattle.std.specs.Prelude.{◌≡◌, ◌+◌, ◌*◌, ◌/◌, ◌%◌, ◌^◌, ◌<◌, ℕ, slice_index};
-ghost use Rattle.noc_packet.specs.Set.{has_bit};
-ghost use Rattle.noc_counts.specs.Counts.{one_if};
-ghost use Rattle.noc_row_words.specs.Rows.{word};
+ghost use Rattle.std.specs.Prelude.{◌≡◌, ◌+◌, ◌/◌, ◌%◌, ◌^◌, ◌<◌};
 ghost use Rattle.noc_row_words.specs.Tallied.{CountsAreBelow, HaveRisen, with_waits};
 
 use crate::counter::one_if_member;

@@ -48,16 +48,6 @@ impl Inbox {
         self.next[channel] = next.wrapping_add(1);
         self.words[at] = word;
     }
-
-    // A flit is at the end of the ring of a channel, and on the wire to it.
-    #[inline(always)]
-    fn send(&mut self, room: Room, channel: usize, word: u64)
-        requires { channel < 1024 }
-        ensures { HasSent (room_of room) self.old self.new channel word }
-    {
-        self.push(room, channel, word);
-        mark(&mut self.flits, channel);
-    }
 }
 
 /// A row has this channel too.
@@ -134,7 +124,10 @@ pub fn send(room: Room, inboxes: &mut [Inbox], target: u32, word: u64)
 {
     let block = (target / 1024) as usize;
     if block < inboxes.len() {
-        inboxes[block].send(room, (target % 1024) as usize, word);
+        let channel = (target % 1024) as usize;
+        let inbox = &mut inboxes[block];
+        inbox.push(room, channel, word);
+        mark(&mut inbox.flits, channel);
     }
 }
 

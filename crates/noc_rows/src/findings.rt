@@ -2,7 +2,7 @@
 //!
 //! The packet and the output channel are noted while the blocks are frozen, the verdict once they have decided.
 
-ghost use Rattle.std.specs.Prelude.{◌≡◌, ℕ, ◌+◌, ◌*◌, ◌<◌, ◌≤◌, true, false, length};
+ghost use Rattle.std.specs.Prelude.{◌≡◌, ℕ, ◌+◌, ◌*◌, ◌<◌, ◌≤◌, true, length};
 ghost use Rattle.noc_packet.specs.Set.{has_bit};
 ghost use Rattle.noc_router.specs.Found.{empty_finding};
 ghost use Rattle.noc_router.specs.declared.verdict.Verdict.TheVariants.{Empty};
@@ -159,16 +159,7 @@ fn has(row: &Row, channel: usize) -> bool
     requires { channel < 1024 }
     ensures { result ≡ in_row row.now channel }
 {
-    is_member(row[channel / ROUTERS], channel % ROUTERS)
-}
-
-// Whether a set has a channel.
-#[inline(always)]
-fn is_member(set: u32, channel: usize) -> bool
-    requires { channel < 32 }
-    ensures { result ≡ has_bit set channel }
-{
-    set >> channel as u32 & 1 == 1
+    row[channel / ROUTERS] >> (channel % ROUTERS) as u32 & 1 == 1
 }
 
 // The verdict of each input channel, in blocks that have decided.

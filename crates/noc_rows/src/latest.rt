@@ -1,6 +1,5 @@
 //! The last event of all routers.
 
-ghost use Rattle.std.specs.Prelude.{◌≡◌};
 ghost use Rattle.noc_rows.specs.Readers.{IsGreatestIn, IsLatest};
 
 use noc_row_words::block::Block;

@@ -13,4 +13,5 @@ mod passes;
 mod rows;
 mod still;
 
+pub use lists::starts_at;
 pub use rows::Rows;

@@ -4,7 +4,7 @@ ghost use Rattle.std.specs.Prelude.{◌≡◌, ℕ, ◌^◌, ◌<◌, length, sl
 ghost use Rattle.noc_packet.specs.Set.{has_bit};
 ghost use Rattle.noc_row_blocks.specs.Decided.{HasDecided};
 ghost use Rattle.noc_row_words.specs.Rows.{word};
-ghost use Rattle.noc_row_blocks.specs.Stages.{AreWoken, HasConcluded, HasFrozen, HaveConcluded, HaveDecided, HaveFrozen, is_busy, next_of, woken};
+ghost use Rattle.noc_row_blocks.specs.Stages.{AreWoken, HaveConcluded, HaveDecided, HaveFrozen, next_of, woken};
 ghost use Rattle.noc_row_words.specs.Wires.{inbox_at, room_of};
 
 use noc_route::Relation;
@@ -24,18 +24,11 @@ pub(crate) fn wake_all(cycle: u32, busy: &[bool], blocks: &mut [Block]) -> u32
 {
     let mut next = NEVER;
     for number in 0..blocks.len() {
-        let busy_now = may_come(busy, number);
+        let busy_now = number < busy.len() && busy[number];
         let block = &mut blocks[number];
         next = next.min(wake_one(cycle, busy_now, block));
     }
     next
-}
-
-// Whether there may be anything on the wires to a block.
-fn may_come(busy: &[bool], number: usize) -> bool
-    ensures { result ≡ is_busy busy.now number }
-{
-    number < busy.len() && busy[number]
 }
 
 // A block is awake or asleep in this cycle. The answer is when something is to happen in it.
@@ -68,25 +61,11 @@ pub(crate) fn arrive_all(
 {
     for number in 0..blocks.len() {
         if number < inboxes.len() && blocks[number].awake {
-            let inbox = &mut inboxes[number];
-            freeze_one(frame, cycle, starts, room, inbox, &mut blocks[number]);
+            let block = &mut blocks[number];
+            arrive_one(frame, cycle, starts, room, &mut inboxes[number], block);
+            stand_one(frame, block);
         }
     }
-}
-
-// Beats are taken and flits are injected in one block, and it is known where its channels stand.
-fn freeze_one(
-    frame: &Frame,
-    cycle: u32,
-    starts: &[Start],
-    room: Room,
-    inbox: &mut Inbox,
-    block: &mut Block,
-)
-    ensures { HasFrozen frame.now cycle (room_of room) starts.now block.old block.new inbox.old inbox.new }
-{
-    arrive_one(frame, cycle, starts, room, inbox, block);
-    stand_one(frame, block);
 }
 
 // One block after the other decides: channels are granted, heads are routed, and flits move.
@@ -150,20 +129,12 @@ pub(crate) fn conclude_all(
     let mut near = 0u32;
     for number in 0..blocks.len() {
         if number < sheets.len() && blocks[number].awake {
-            let sheet = &mut sheets[number];
-            near |= settle_one(frame, cycle, &mut blocks[number], sheet);
+            let block = &mut blocks[number];
+            conclude_one(frame, cycle, block, &mut sheets[number]);
+            near |= near_to(block);
         }
     }
     near
-}
-
-// What has happened in one block is counted, and takes effect.
-fn settle_one(frame: &Frame, cycle: u32, block: &mut Block, sheet: &mut Sheet) -> u32
-    ensures block { HasConcluded frame.now cycle block.old block.new sheet.old sheet.new }
-    ensures near { block.new.moves ≡ true → result ≡ block.new.near }
-{
-    conclude_one(frame, cycle, block, sheet);
-    near_to(block)
 }
 
 // The blocks to which something of a block may be on its way.
@@ -177,14 +148,7 @@ fn near_to(block: &Block) -> u32
 pub(crate) fn note_busy(near: u32, busy: &mut [bool])
     ensures { (b : ℕ) → b < length busy.old → b < 32 → slice_get busy.new b ≡ Some (has_bit near b) }
 {
-    for number in 0..busy.len() {
-        busy[number] = is_near(near, number);
+    for number in 0..busy.len().min(32) {
+        busy[number] = near >> number as u32 & 1 == 1;
     }
-}
-
-// Whether a block is in a set of blocks.
-fn is_near(near: u32, number: usize) -> bool
-    ensures { number < 32 → result ≡ has_bit near number }
-{
-    number < 32 && near >> number as u32 & 1 == 1
 }

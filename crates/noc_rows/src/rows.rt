@@ -1,7 +1,7 @@
 //! A network in rows.
 
 ghost use Rattle.std.specs.Prelude.{◌≡◌, ◌+◌, ◌^◌, ◌<◌, ◌≤◌, ℕ, length, slice_index_or};
-ghost use Rattle.noc_row_words.specs.Tallied.{CountsAreBelow, counts_by, ten_counts};
+ghost use Rattle.noc_row_words.specs.Tallied.{CountsAreBelow, ten_counts};
 
 use crate::findings::{EMPTY, note_claims, note_verdicts};
 use crate::latest::latest;
@@ -48,7 +48,7 @@ impl Rows {
     ghost use Rattle.noc_rows.specs.Readers.{are_all_out};
     ghost use Rattle.noc_rows.specs.Steps.{HasArrivedRows, HasConcludedRows, HasDecidedRows};
     ghost use Rattle.noc_row_words.specs.Still.{HaveCounted};
-    ghost use Rattle.noc_rows.specs.Whole.{HasPlaces, IsRows, IsWoken, ShowsNetwork};
+    ghost use Rattle.noc_rows.specs.Whole.{HasPlaces, IsRows, ShowsNetwork};
     ghost use Rattle.noc_theory.specs.declared.limits.TheConstants.{CYCLE_LIMIT};
 
     /// The network of a relation, `places` (1 to 16 flits) in each buffer and these packets, before its first cycle.
@@ -100,7 +100,18 @@ impl Rows {
         ensures { (net : Setup) (n : ℕ) → IsGoodSetup net → net.relation ≡ relation.now → n < CYCLE_LIMIT → IsRows net n self.old → HasPlaces net self.old → ShowsNetwork net (n + 1) self.new }
     {
         wake_all(self.cycle, &self.wires.busy, &mut self.blocks);
-        self.find(relation);
+        self.arrive();
+        let wires = &self.wires;
+        note_claims(
+            &self.frame,
+            wires.room,
+            &wires.inboxes,
+            &self.blocks,
+            &mut self.found,
+        );
+        self.decide(relation);
+        note_verdicts(&self.blocks, &mut self.found);
+        self.conclude();
     }
 
     // Runs one cycle, or as many of these as nothing happens in. The answer is how many it has run.
@@ -117,38 +128,11 @@ impl Rows {
             self.cycle = self.cycle.saturating_add(idle);
             idle
         } else {
-            self.step(relation);
+            self.arrive();
+            self.decide(relation);
+            self.conclude();
             1 + self.wait(most - 1)
         }
-    }
-
-    // Runs one cycle of the blocks that are awake.
-    fn step(&mut self, relation: &Relation)
-        ensures rows { (net : Setup) (n : ℕ) → IsGoodSetup net → net.relation ≡ relation.now → n < CYCLE_LIMIT → IsWoken net n self.old → IsRows net (n + 1) self.new }
-        ensures counted { HaveCounted self.new.blocks.items self.old.sheets.items self.new.sheets.items }
-        ensures found { self.new.found ≡ self.old.found }
-    {
-        self.arrive();
-        self.decide(relation);
-        self.conclude();
-    }
-
-    // Runs one cycle of the blocks that are awake, and notes what each router finds in it.
-    fn find(&mut self, relation: &Relation)
-        ensures { (net : Setup) (n : ℕ) → IsGoodSetup net → net.relation ≡ relation.now → n < CYCLE_LIMIT → IsWoken net n self.old → HasPlaces net self.old → ShowsNetwork net (n + 1) self.new }
-    {
-        self.arrive();
-        let wires = &self.wires;
-        note_claims(
-            &self.frame,
-            wires.room,
-            &wires.inboxes,
-            &self.blocks,
-            &mut self.found,
-        );
-        self.decide(relation);
-        note_verdicts(&self.blocks, &mut self.found);
-        self.conclude();
     }
 
     // The blocks that are awake take beats and inject, and it is known where their channels stand.
@@ -241,13 +225,9 @@ impl Rows {
         if number >= self.sheets.len() || number >= self.blocks.len() {
             return [0; 10];
         }
-        counts_in(
-            self.cycle,
-            &self.sheets[number],
-            &self.blocks[number].tallies,
-            lane,
-            channel,
-        )
+        let counts = self.sheets[number].totals(lane, channel);
+        let tallies = &self.blocks[number].tallies;
+        with_tallies(self.cycle, counts, tallies, lane * 32 + channel)
     }
 
     /// What a router found in the last cycle that has run: of each input channel, by port and virtual channel. Nothing
@@ -276,26 +256,6 @@ impl Rows {
             Some(u64::from(last - 1))
         }
     }
-}
-
-// The counts of a channel of a router of a block, of all ten verdicts.
-fn counts_in(
-    cycles: u32,
-    sheet: &Sheet,
-    tallies: &Tallies,
-    lane: usize,
-    channel: usize,
-) -> [u64; 10]
-    requires lane { lane < 32 }
-    requires channel { channel < 32 }
-    ensures { result ≡ counts_by cycles sheet.now tallies.now lane channel }
-{
-    with_tallies(
-        cycles,
-        sheet.totals(lane, channel),
-        tallies,
-        lane * 32 + channel,
-    )
 }
 
 // The counts of a channel of all ten verdicts: with those that are counted one by one, and Empty in the cycles that

@@ -165,10 +165,6 @@ module _ (net : Setup) (frame : Frame) (n room : ℕ) (starts : List Start) (old
   sources-kept = ap (λ (x : Block). source_at x.sources k) concludes.rest ∙ ap (λ (x : Block). source_at x.sources k) moves.rest
       ∙ ap (λ (x : Block). source_at x.sources k) keeps.rest
 
-  -- nothing moves in it
-  pub blank-moves : word moved.decided.moved k ≡ 0
-  blank-moves = none_moved
-
   -- it is blank after the cycle, where nothing comes to it
   pub lane-blank : (inbox : Inbox) → word inbox.flits k ≡ 0 → word inbox.credits k ≡ 0
       → IsBlank (column_at new.lanes k) (source_at new.sources k) (word inbox.flits k) (word inbox.credits k) (word new.last_event k)

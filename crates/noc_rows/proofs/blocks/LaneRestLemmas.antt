@@ -1,10 +1,9 @@
 -- A lane of a block that sleeps through a cycle, or up to one: it shows its router as long as it does.
-use Rattle.std.proofs.Common.{◌≡◌, ℕ, zero, suc, ◌*◌, ◌/◌, ◌%◌, ◌<◌, ◌≤◌, Bool, true, false, List, map, Option, None, refl, ap, ap₂, sym, ◌∙◌, subst, arith, inl, inr, bit_or}
+use Rattle.std.proofs.Common.{◌≡◌, ℕ, zero, suc, ◌/◌, ◌%◌, ◌<◌, ◌≤◌, Bool, true, false, List, map, Option, None, refl, ap, ap₂, sym, ◌∙◌, subst, arith, inl, inr, bit_or}
 use Rattle.std.specs.Prelude.{◌⊎◌, ◌&&◌, ◌||◌, not, nat_eq, min, slice_index, slice_index_or}
 use Rattle.std.proofs.lemmas.Bool.{cases_eq, false≢true, ne_eqb, true≢false}
 use Rattle.noc_topo.specs.Words.{is_some_of}
 use Rattle.noc_topo.specs.Shape.{nodes}
-use Rattle.noc_packet.specs.Set.{has_bit}
 use Rattle.noc_packet.specs.declared.packet.Flit.{Flit}
 use Rattle.noc_packet.proofs.SetLemmas.{has_bit-zero}
 use Rattle.noc_vc.specs.Input.{is_idle_phase}
@@ -19,23 +18,18 @@ use Rattle.noc_theory.specs.Lockstep.{beats_at, beats_in, view_at}
 use Rattle.noc_theory.specs.Network.{Setup, state_at}
 use Rattle.noc_row_words.specs.Column.{ShowsWires, place_of}
 use Rattle.noc_row_words.specs.FlitWords.{flit_word}
-use Rattle.noc_row_words.specs.Frames.{IsFrameOf}
 use Rattle.noc_rows.specs.InRows.{ShowsRouter}
 use Rattle.noc_row_blocks.specs.Moves.{union_from}
-use Rattle.noc_rows.specs.Opened.{HasLinksOf}
 use Rattle.noc_row_blocks.specs.Outlook.{holding_in, least_below, is_some_below}
 use Rattle.noc_row_words.specs.Rows.{column_at, word}
 use Rattle.noc_row_words.specs.Taken.{with_one}
 use Rattle.noc_rows.specs.Whole.{lane_words}
 use Rattle.noc_row_words.specs.Wires.{ring_in}
 use Rattle.noc_row_words.specs.declared.block.Block.{Block}
-use Rattle.noc_row_words.specs.declared.frame.Frame.{Frame}
 use Rattle.noc_row_words.specs.declared.sheet.Sheet.{Sheet}
 use Rattle.noc_row_words.specs.declared.starts.Start.{Start}
 use Rattle.noc_row_words.specs.declared.wires.Inbox.{Inbox}
 use Rattle.noc_rows.proofs.wiring.FrozenWireLemmas.{frozen_of}
-use Rattle.noc_rows.proofs.blocks.LaneNextLemmas.{SendsBy}
-use Rattle.noc_rows.proofs.routers.LeadLemmas.{back-leads}
 use Rattle.noc_rows.proofs.network.NetworkLemmas.{beats}
 use Rattle.noc_rows.proofs.routers.SleepLemmas.{IsAsleep, all-silent, asleep-held}
 use Rattle.noc_rows.proofs.routers.StayLemmas.{all-stay, asleep-shown, router-stays, silent-flit, silent-shown}
@@ -158,21 +152,3 @@ module _ (net : Setup) (setup : IsGoodSetup net) (n r : ℕ) (l : r < nodes net.
   -- nothing moves
   pub rests-moves : AreMoved (frozen_of net n r) 0
   rests-moves = subst (λ (v : View). AreMoved v 0) (sym frozen-is) (none-moves (record (view_at net n r) { given = n }) asleep.idle)
-
-  -- the ports of a router that rests select nothing
-  pub rests-sends : (frame : Frame) → IsFrameOf net.relation net.places frame → (spare : ℕ) → nodes net.relation.grid * 32 ≤ spare
-      → HasLinksOf net.relation frame spare block r k
-      → (ports : ℕ) (target : ℕ → ℕ)
-      → SendsBy net n r ports (λ q. 0) (λ i. ring_in room inbox (place_of k i) (slice_index block.marks.first (place_of k i))) target
-      (λ i. slice_index block.marks.back (place_of k i))
-  rests-sends frame is_frame spare far linked ports target = record {
-    moves = subst (AreMoved (frozen_of net n r)) (sym (no-union ports)) rests-moves;
-    below = λ i e. absurd (none i e);
-    apart = λ i q s lq ls e f. absurd (false≢true (sym (has_bit-zero i) ∙ e));
-    targets = λ i o u e phase. absurd (none i e);
-    backs = λ i u. back-leads net setup frame is_frame.few is_frame.channels spare far block r k linked i u;
-    firsts = λ i e. absurd (none i e);
-  }
-    where
-      none : (i : ℕ) → has_bit (union_from 0 ports (λ q. 0)) i ≡ true → ⊥
-      none i e = false≢true (sym (ap (λ w. has_bit w i) (no-union ports) ∙ has_bit-zero i) ∙ e)

@@ -1,6 +1,8 @@
 -- Rows after one cycle, and after cycles in which nothing happens.
 use Rattle.std.proofs.Common.{◌≡◌, ℕ, zero, suc, ◌+◌, ◌<◌, ◌≤◌, Bool, true, false, List, length, Some, refl, ap, sym, ◌∙◌, subst, arith, slice_get, Vec, Global}
 use Rattle.std.specs.Prelude.{◌||◌, if◌then◌else◌, slice_index}
+use Rattle.std.specs.Vec.{with_items}
+use Rattle.std.proofs.lemmas.List.{with_items_is}
 use Rattle.std.proofs.lemmas.Option.{get_or_from_slice_get, same_Some, slice_get_within}
 use Rattle.noc_topo.specs.Shape.{nodes}
 use Rattle.noc_packet.specs.Set.{has_bit}
@@ -25,6 +27,16 @@ use Rattle.noc_rows.proofs.blocks.BlockShowLemmas.{ShowsInbox}
 use Rattle.noc_rows.proofs.blocks.NextBlockLemmas.{DecidesLanes, Rests, blocks-next}
 
 -- ---- rows in which it is known who is awake
+
+-- it is known of the blocks that were written back
+pub now-woken : (net : Setup) (n next : ℕ) (rows : Rows) → IsRows net n rows → (busy : List Bool) (blocks woke : List Block) → busy ≡ rows.wires.busy.items → blocks ≡ rows.blocks.items
+    → AreWoken rows.cycle next busy blocks woke → AreWoken n next rows.wires.busy.items rows.blocks.items (with_items rows.blocks woke).items
+now-woken net n next rows is busy blocks woke same_busy same_blocks wakes =
+    let now : AreWoken n next rows.wires.busy.items rows.blocks.items woke =
+    subst (λ cycle. AreWoken cycle next rows.wires.busy.items rows.blocks.items woke) is.cycle
+    (subst (λ flags. AreWoken rows.cycle next flags rows.blocks.items woke) same_busy
+    (subst (λ was. AreWoken rows.cycle next busy was woke) same_blocks wakes)) in
+    subst (λ xs. AreWoken n next rows.wires.busy.items rows.blocks.items xs) (sym (with_items_is rows.blocks woke (omega (arith, now.many, rows.blocks.ok.0)))) now
 
 module _ (net : Setup) (n next : ℕ) (rows : Rows) (is : IsRows net n rows) (woke : List Block) (wakes : AreWoken n next rows.wires.busy.items rows.blocks.items woke) where
   -- the block before

@@ -120,10 +120,6 @@ pub record ShowsMoves (net : Setup) (n : ℕ) (old new : Rows) (step : IsStep ne
   pub quiet : (b : ℕ) → b < length new.blocks.items → has_bit step.near b ≡ false → IsQuiet (inbox_at step.end.inboxes.items b)
 
 module _ (net : Setup) (setup : IsGoodSetup net) (n : ℕ) (few : n < CYCLE_LIMIT) (old new : Rows) (woken : IsWoken net n old) where
-  -- by the rows before it was known who is awake
-  abbrev woke_rows : Rows
-  woke_rows = record woken.before { blocks = old.blocks }
-
   step-from : (step : IsStep net n (record woken.before { blocks = old.blocks }) new) → ShowsMoves net n (record woken.before { blocks = old.blocks }) new step → IsRows net (suc n) new
   step-from step moves =
       step-rows net setup n few woken.next woken.before woken.shows old.blocks.items woken.wakes step.frozen step.moved new.blocks.items step.start.inboxes.items step.start step.end new.sheets.items step.near

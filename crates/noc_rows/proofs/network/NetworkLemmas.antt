@@ -22,7 +22,7 @@ use Rattle.noc_theory.specs.Seen.{IsSeen}
 use Rattle.noc_row_words.specs.Column.{IsTidy}
 use Rattle.noc_row_words.specs.Taken.{HasSize, HasTaken, flit_from, credit_from}
 use Rattle.noc_rows.proofs.routers.CommittedLemmas.{beats-fit}
-use Rattle.noc_rows.proofs.network.PointerLemmas.{AreArbiters, arbiters-start, arbiters-frozen_at}
+use Rattle.noc_rows.proofs.network.PointerLemmas.{AreArbiters, arbiters-frozen_at}
 use Rattle.noc_rows.proofs.network.SteadyLemmas.{IsSteady, steady-start, steady-frozen, owed-at}
 use Rattle.noc_rows.proofs.network.TidyLemmas.{tidy, has-size, full}
 
@@ -68,12 +68,6 @@ module _ (net : Setup) (setup : IsGoodSetup net) where
 
     pub start-size : HasSize (view_at net n r)
     start-size = has-size net good (state_at net n) (steady-state n) r l (view_at net n r) (view_at-seen net n r)
-
-    pub start-full : (o : ℕ) → o < size_of (view_at net n r).site → is_free (view_output (view_at net n r) o).holder ≡ true → IfSome (view_output (view_at net n r) o).credit (λ k. k ≡ (view_at net n r).site.places)
-    start-full = full net good (state_at net n) (steady-state n) r l (view_at net n r) (view_at-seen net n r)
-
-    pub start-arbiters : AreArbiters (ports net.relation.grid) net.relation.vcs (view_at net n r).arbiters
-    start-arbiters = subst (λ (a : ArbiterStates). AreArbiters (ports net.relation.grid) net.relation.vcs a) (sym (view_at-seen net n r).arbiters) (arbiters-start net good.relation.table.some_vcs n r l)
 
     -- ---- the frozen view
 

@@ -1,6 +1,6 @@
 -- A view that shows a steady state is tidy.
 use Rattle.std.proofs.Common.{◌≡◌, ℕ, zero, suc, ◌*◌, ◌/◌, ◌<◌, ◌≤◌, Bool, true, false, cond, List, [], ◌∷◌, map, length, Option, Some, None, IfSome, refl, ap, sym, ◌∙◌, inl, inr, subst, arith, div-lt_iff_lt-mul}
-use Rattle.std.specs.Prelude.{find, option_map, slice_get, unwrap_or, ◌⊎◌, ◌&&◌, ◌||◌, nat_lt, is_some}
+use Rattle.std.specs.Prelude.{find, option_map, unwrap_or, ◌⊎◌, ◌&&◌, ◌||◌, nat_lt, is_some}
 use Rattle.std.proofs.lemmas.Bool.{false≢true, lt-ltb, le-ltb, eqb-true, eq-eqb}
 use Rattle.std.proofs.lemmas.List.{length-map}
 use Rattle.std.proofs.lemmas.Nat.{div-add-mod'}
@@ -18,7 +18,7 @@ use Rattle.noc_vc.specs.declared.output.OutputState.{OutputState}
 use Rattle.noc_vc.specs.declared.output.OutputState.TheVariants.{Idle as Free, Owned, Draining}
 use Rattle.noc_counts.specs.Counts.{one_if}
 use Rattle.noc_router.specs.Sound.{owns, is_owned_from}
-use Rattle.noc_router.specs.View.{Site, View, size_of, first_flit, view_buffer, view_input, view_output}
+use Rattle.noc_router.specs.View.{Site, View, size_of, view_buffer, view_output}
 use Rattle.noc_theory.specs.Lockstep.{has_come, seen_flits, seen_input, seen_output, seen_phase_with, seen_holder, seen_source, goes_on_by}
 use Rattle.noc_theory.specs.Network.{Setup, State, Located, Place, Source, On, In, Out, size, arriving, leaving, packet_at, place_of_flit, tail_place, is_on, is_in, is_past, owner_of, next_channel, has_channel, count_in, count_on, credit_of, buffer_of}
 use Rattle.noc_theory.specs.Progress.{head_place}
@@ -359,11 +359,3 @@ module _ (net : Setup) (good : IsGood net) (S : State) (x : IsSteady net good S)
       named = λ i o p h k e.
           ap (λ (y : Input). y.packet) (seen.input i (within i h)) ∙ named-at i o p (within o k) (ap (λ (y : Output). y.holder) (sym (seen.output o (within o k))) ∙ e);
     }
-
--- the packet of an idle channel is that of its first flit, and it has none where it has no flit
-pub idle-packet : (v : View) → IsTidy v → (i : ℕ) → i < size_of v.site → is_idle_phase (view_input v i).phase ≡ true → (view_input v i).packet ≡ option_map (λ (f : Flit). f.packet) (first_flit v i)
-idle-packet v is i l idle = at (view_buffer v i) refl
-  where
-    at : (flits : List Flit) → view_buffer v i ≡ flits → (view_input v i).packet ≡ option_map (λ (f : Flit). f.packet) (first_flit v i)
-    at [] e = is.vacant i l idle e ∙ sym (ap (λ (xs : List Flit). option_map (λ (f : Flit). f.packet) (slice_get xs 0)) e)
-    at (f ∷ rest) e = is.firsts i f rest l e ∙ sym (ap (λ (xs : List Flit). option_map (λ (f : Flit). f.packet) (slice_get xs 0)) e)

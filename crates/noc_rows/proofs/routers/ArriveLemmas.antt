@@ -1,23 +1,23 @@
 -- Beats are taken and a flit is injected: the words of a lane show the view after it.
 use Rattle.std.proofs.Common.{◌≡◌, ℕ, ◌+◌, ◌/◌, ◌%◌, ◌^◌, ◌<◌, ◌≤◌, Bool, true, length, Option, Some, None, IfSome, ap, sym, ◌∙◌, subst, arith, inl, inr, bit_or}
-use Rattle.std.specs.Prelude.{is_some, nat_lt, not}
+use Rattle.std.specs.Prelude.{is_some, nat_lt}
 use Rattle.std.proofs.lemmas.Bool.{false≢true, and_parts, ltb-true, lt-ltb}
 use Rattle.noc_packet.specs.Set.{has_bit}
 use Rattle.noc_packet.specs.declared.packet.Flit.{Flit}
 use Rattle.noc_route.specs.Routes.{Routes}
-use Rattle.noc_vc.specs.Input.{Input, is_empty, is_expected, fits}
+use Rattle.noc_vc.specs.Input.{Input, is_expected, fits}
 use Rattle.noc_vc.specs.Output.{Output, credit_fits, credit_fits_at}
 use Rattle.noc_vc.specs.declared.output.OutputState.TheVariants.{Owned}
 use Rattle.noc_counts.specs.Counts.{one_if}
 use Rattle.noc_router.specs.Sound.{is_supplied}
 use Rattle.noc_router.specs.View.{View, size_of, view_buffer, view_input, view_output}
 use Rattle.noc_row_words.specs.Planes.{words_of}
-use Rattle.noc_row_words.specs.Taken.{with_one, landed_by, HasTaken}
+use Rattle.noc_row_words.specs.Taken.{landed_by, HasTaken}
 use Rattle.noc_rows.specs.Injected.{injected_to, HasInjected}
-use Rattle.noc_row_words.specs.Column.{Column, RouterMarks, AreWords, ShowsOutput, ShowsInput, ShowsChannels, IsTidy, is_draining}
-use Rattle.noc_row_words.specs.Passes.{lane_raised, lane_landed, lane_filled, with_credits, with_flits, AreOwners}
+use Rattle.noc_row_words.specs.Column.{Column, RouterMarks, AreWords, ShowsOutput, ShowsChannels, IsTidy, is_draining}
+use Rattle.noc_row_words.specs.Passes.{lane_raised, lane_landed, with_credits, AreOwners}
 use Rattle.noc_row_words.proofs.CreditLemmas.{credited-shows, supplied-shows}
-use Rattle.noc_row_words.proofs.FlitLemmas.{landed-shows, landed-fills, phase-kept}
+use Rattle.noc_row_words.proofs.FlitLemmas.{phase-kept}
 use Rattle.noc_row_words.proofs.TakenLemmas.{IsEither}
 
 -- a word of credits, by the channels to which one comes
@@ -77,27 +77,9 @@ module _ (relation : Routes) (count : ℕ) (c : Column) (m : RouterMarks) (v w :
     within : (i : ℕ) → i < size_of v.site → i < size_of w.site
     within i l = rw same_site l
 
-    buffer-is : (i : ℕ) → i < size_of v.site → view_buffer x i ≡ with_one (view_buffer v i) (flits i)
-    buffer-is i l = at (one i l)
-      where
-        at : IsEither None (flit i) (injected_to w new i) (flits i) → view_buffer x i ≡ with_one (view_buffer v i) (flits i)
-        at (inl y) = injected.buffer i (within i l) ∙ ap (λ xs. with_one xs (injected_to w new i)) (taken.buffer i l ∙ ap (with_one (view_buffer v i)) y.0) ∙ ap (with_one (view_buffer v i)) (sym y.1)
-        at (inr y) = injected.buffer i (within i l) ∙ ap (with_one (view_buffer w i)) y.0 ∙ taken.buffer i l ∙ ap (with_one (view_buffer v i)) (sym y.1)
-
     input-is : (i : ℕ) → i < size_of v.site → view_input x i ≡ landed_by (view_input v i) (flits i)
     input-is i l = at (one i l)
       where
         at : IsEither None (flit i) (injected_to w new i) (flits i) → view_input x i ≡ landed_by (view_input v i) (flits i)
         at (inl y) = injected.input i (within i l) ∙ ap (λ (z : Input). landed_by z (injected_to w new i)) (taken.input i l ∙ ap (landed_by (view_input v i)) y.0) ∙ ap (landed_by (view_input v i)) (sym y.1)
         at (inr y) = injected.input i (within i l) ∙ ap (landed_by (view_input w i)) y.0 ∙ taken.input i l ∙ ap (landed_by (view_input v i)) (sym y.1)
-
-    pub inputs-arrived : (i : ℕ) → i < size_of v.site → ShowsInput (with_flits (words_of count v.site.places) came c) i (view_buffer x i) (view_input x i)
-    inputs-arrived i l =
-        subst (λ xs. ShowsInput (with_flits (words_of count v.site.places) came c) i xs (view_input x i)) (sym (buffer-is i l))
-        (subst (λ (y : Input). ShowsInput (with_flits (words_of count v.site.places) came c) i (with_one (view_buffer v i) (flits i)) y) (sym (input-is i l))
-        (landed-shows count c v.site.places came i (view_buffer v i) (view_input v i) (flits i) words came_fits (is i l) (let le = left i l in omega arith) (shows.inputs i l)))
-
-    -- whether each input channel holds a flit, once flits have come
-    pub filled-arrived : (i : ℕ) → i < size_of v.site → has_bit (lane_filled (words_of count v.site.places) came c) i ≡ not (is_empty (view_buffer x i))
-    filled-arrived i l =
-        landed-fills count c v.site.places came i (view_buffer v i) (view_input v i) (flits i) (is i l) (shows.inputs i l) ∙ ap (λ xs. not (is_empty xs)) (sym (buffer-is i l))

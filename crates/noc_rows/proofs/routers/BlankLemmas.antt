@@ -13,7 +13,6 @@ use Rattle.noc_row_words.specs.Column.{Column}
 use Rattle.noc_row_words.specs.Fields.{lane_least, lane_pick, lane_some, lane_whole}
 use Rattle.noc_row_words.specs.declared.fields.Fields.{Fields}
 use Rattle.noc_row_blocks.specs.Moves.{of_one, rest_from, selected_by, union_from}
-use Rattle.noc_row_words.specs.Opening.{empty_column}
 use Rattle.noc_row_words.specs.Passes.{Effects, injecting_after, lane_asks, lane_free, lane_injected, lane_landed, lane_picked, lane_raised, lane_ready, lane_standing, settled_lane, with_first}
 use Rattle.noc_row_words.specs.Planes.{any_from, lowered_by, raised_by, wrong_from}
 use Rattle.noc_row_words.specs.Rows.{column_at, event_in, word}
@@ -30,21 +29,6 @@ use Rattle.noc_row_words.specs.declared.cycle.StandingRows.{StandingRows}
 use Rattle.noc_row_words.specs.declared.starts.Start.{Start}
 use Rattle.noc_row_words.specs.declared.starts.TheConstants.{NEVER}
 use Rattle.noc_row_words.specs.declared.wires.Inbox.{Inbox}
-
--- the words of an empty router, whose source has no packet
-pub blank-empty : (links local : ℕ) (places : List ℕ) (s : Source) → s.due ≡ NEVER → IsBlank (empty_column links local places) s 0 0 0
-blank-empty links local places s never = record {
-  waiting = refl;
-  active = refl;
-  len = (refl, (refl, (refl, (refl, (refl, tt)))));
-  supplied = refl;
-  wanted = refl;
-  injecting = refl;
-  due = never;
-  flits = refl;
-  credits = refl;
-  last_event = refl;
-}
 
 -- ---- words without a member
 less-none : (a b : ℕ) → a ≡ 0 → less a b ≡ 0
@@ -200,22 +184,6 @@ none-rest base zero words none = none
 none-rest base (suc n) words none = less-none (rest_from base n words) (words n) (none-rest base n words none)
 
 -- ---- the words take effect
-
--- none is wanted and none supplied
-pub blank-decided : (c : Column) (s : Source) (flits credits last wanted supplied : ℕ) → wanted ≡ 0 → supplied ≡ 0
-    → IsBlank c s flits credits last → IsBlank (record c { wanted = wanted; supplied = supplied }) s flits credits last
-blank-decided c s flits credits last wanted supplied e f is = record {
-  waiting = is.waiting;
-  active = is.active;
-  len = is.len;
-  supplied = f;
-  wanted = e;
-  injecting = is.injecting;
-  due = is.due;
-  flits = is.flits;
-  credits = is.credits;
-  last_event = is.last_event;
-}
 
 -- nothing takes effect
 pub blank-settles : (f : Fields) (links local : ℕ) (e : Effects) (c : Column) (s : Source) (flits credits last : ℕ) → e.heads ≡ 0 → e.granted ≡ 0 → e.moved ≡ 0

@@ -1,9 +1,8 @@
 -- A router in which nothing is held, to which nothing comes, and whose next packet is not due: it stays as it is.
 use Rattle.std.proofs.Common.{◌≡◌, ℕ, suc, ◌+◌, ◌-◌, ◌*◌, ◌<◌, ◌≤◌, true, false, cond, List, [], ◌∷◌, map, Option, Some, None, refl, ap, sym, ◌∙◌, inl, inr, subst, arith}
-use Rattle.std.specs.Prelude.{◌⊎◌, ◌&&◌, not, nat_le, nat_lt, if◌then◌else◌}
-use Rattle.std.specs.List.{All}
+use Rattle.std.specs.Prelude.{◌⊎◌, ◌&&◌, not, if◌then◌else◌}
 use Rattle.std.proofs.lemmas.Bool.{false≢true, le-ltb, lt-leb, or_left, or_cases}
-use Rattle.noc_topo.specs.Words.{Has, tabulate, map_indexed}
+use Rattle.noc_topo.specs.Words.{Has}
 use Rattle.noc_topo.specs.Shape.{nodes, distance}
 use Rattle.noc_packet.specs.Packet.{flit_at}
 use Rattle.noc_packet.specs.declared.packet.Packet.{Packet}
@@ -16,7 +15,7 @@ use Rattle.noc_vc.specs.declared.input.InputState.TheVariants.{Idle}
 use Rattle.noc_router.specs.Sound.{is_occupied}
 use Rattle.noc_router.specs.Still.{IsHeldBefore, takes_effect, view_after_waiting}
 use Rattle.noc_router.specs.declared.verdict.Verdict.TheVariants.{Empty}
-use Rattle.noc_router.specs.View.{Site, View, size_of, view_buffer, view_input, idle_beat, idle_beats, view_after_take, view_after_takes_from, view_after_takes, with_flit, with_credit, view_after_inject_from, view_after_inject, decisions_of, view_after_commit, counts_after, local_step}
+use Rattle.noc_router.specs.View.{Site, View, size_of, view_buffer, view_input, idle_beats, view_after_take, view_after_takes_from, view_after_takes, with_flit, with_credit, view_after_inject_from, view_after_inject, decisions_of, view_after_commit, counts_after, local_step}
 use Rattle.noc_router.proofs.VacantLemmas.{vacant-committed, no_event}
 use Rattle.noc_theory.specs.declared.limits.TheConstants.{CYCLE_LIMIT}
 use Rattle.noc_theory.specs.Good.{IsGoodSetup, IsValid}

@@ -1,5 +1,5 @@
 -- How many cycles are like the one before them, and what is counted in them.
-use Rattle.std.proofs.Common.{◌≡◌, ◌≢◌, ℕ, ◌+◌, ◌-◌, ◌^◌, ◌<◌, ◌≤◌, Bool, true, false, List, length, get_or, set, Some, refl, ap, sym, ◌∙◌, subst, arith, inl, inr, length-set}
+use Rattle.std.proofs.Common.{◌≡◌, ◌≢◌, ℕ, ◌+◌, ◌^◌, ◌<◌, ◌≤◌, Bool, true, false, List, length, get_or, set, Some, refl, ap, sym, ◌∙◌, subst, arith, inl, inr, length-set}
 use Rattle.std.specs.Prelude.{◌⊎◌, min, slice_get}
 use Rattle.std.proofs.lemmas.Bool.{cases_eq, cases_lt, true≢false}
 use Rattle.std.proofs.lemmas.Option.{same_Some, slice_get-get_or, slice_get_within}
@@ -8,7 +8,7 @@ use Rattle.noc_row_words.specs.Rows.{word}
 use Rattle.noc_row_words.specs.Tallied.{cycles_of, last_verdicts, sheet_counts, with_verdicts}
 use Rattle.noc_rows.specs.Readers.{IsGreatestIn}
 use Rattle.noc_row_blocks.specs.Stages.{HaveConcluded}
-use Rattle.noc_row_words.specs.Still.{HadEvent, HasWaited, HaveCounted, HaveWaited, IsNextDue, IsNextDueIn, IsStillFor, WereQuiet}
+use Rattle.noc_row_words.specs.Still.{HasWaited, HaveCounted, HaveWaited, IsNextDue, IsNextDueIn}
 use Rattle.noc_row_words.specs.declared.block.Block.{Block}
 use Rattle.noc_row_words.specs.declared.frame.Frame.{Frame}
 use Rattle.noc_row_words.specs.declared.sheet.Sheet.{Sheet}
@@ -119,42 +119,7 @@ quiet-more n cycle blocks greatest d within is less so_far b k block l e low = a
         subst (λ (x : Block). word x.last_event k < cycle) same (let u = is.bound k low in omega (arith, u, less))
     at (inr o) = so_far b k block (omega (arith, l, o)) e low
 
-pub some-event : (n cycle : ℕ) (blocks : List Block) (greatest : ℕ) (d : Block) → n < length blocks → IsGreatestIn (get_or blocks n d).last_event greatest → cycle ≤ greatest → HadEvent cycle blocks
-some-event n cycle blocks greatest d within is from = at is.one
-  where
-    here : slice_get blocks n ≡ Some (get_or blocks n d)
-    here = slice_get-get_or blocks n d within
-
-    at : (greatest ≡ 0) ⊎ ((k : ℕ) × (k < 32) × (word (get_or blocks n d).last_event k ≡ greatest)) → HadEvent cycle blocks
-    at (inl none) = (n, 0, get_or blocks n d, here, omega arith, omega (arith, none, from))
-    at (inr x) = let same = x.2 in (n, x.0, get_or blocks n d, here, x.1, omega (arith, same, from))
-
 -- ---- for how many cycles
-pub none-still : (cycle : ℕ) (blocks : List Block) → IsStillFor cycle 0 blocks
-none-still cycle blocks = record { events = λ l. absurd (omega (arith, l)); due = λ b k block e low u. omega (arith, u) }
-
-pub event-moves : (cycle times : ℕ) (blocks : List Block) → HadEvent cycle blocks → IsStillFor cycle times blocks → times ≤ 0
-event-moves cycle times blocks had still = at (cases_lt 0 times)
-  where
-    at : (0 < times) ⊎ (times ≤ 0) → times ≤ 0
-    at (inl some) = let less = still.events some had.0 had.1 had.2 had.3 had.4 in let from = had.5 in absurd (omega (arith, less, from))
-    at (inr none) = none
-
-pub still-times : (cycle next most : ℕ) (blocks : List Block) → WereQuiet cycle blocks → IsNextDue cycle blocks next → IsStillFor cycle (min (next - cycle) most) blocks
-still-times cycle next most blocks quiet least = record {
-  events = λ l. quiet;
-  due = λ b k block e low u. let less = least.bound b k block e low u in omega (arith, less, u);
-}
-
-pub still-most : (cycle next most times : ℕ) (blocks : List Block) → IsNextDue cycle blocks next → times ≤ most → cycle + times < 2 ^ 32 → IsStillFor cycle times blocks
-    → times ≤ min (next - cycle) most
-still-most cycle next most times blocks least within few still = at least.one
-  where
-    at : (next ≡ NEVER)
-        ⊎ ((b : ℕ) × (k : ℕ) × (block : Block) × (slice_get blocks b ≡ Some block) × (k < 32) × (cycle ≤ word block.sources.due k) × (word block.sources.due k ≡ next))
-        → times ≤ min (next - cycle) most
-    at (inl never) = omega (arith, never, within, few)
-    at (inr x) = let due = still.due x.0 x.1 x.2 x.3 x.4 x.5 in let same = x.6 in omega (arith, due, same, within)
 
 -- ---- the sheets
 

@@ -7,7 +7,7 @@ use Rattle.noc_topo.specs.Words.{tabulate, is_some_of}
 use Rattle.noc_topo.specs.Shape.{nodes, local_port, neighbour}
 use Rattle.noc_topo.proofs.WordLemmas.{get_or-tabulate}
 use Rattle.noc_packet.specs.declared.packet.Beat.{Beat}
-use Rattle.noc_router.specs.View.{Site, View, Decisions, idle_beat, beat_out}
+use Rattle.noc_router.specs.View.{Site, idle_beat}
 use Rattle.noc_theory.specs.Network.{Setup}
 use Rattle.noc_theory.specs.Lockstep.{beat_from, beats_at, wires_after_puts}
 use Rattle.noc_row_words.specs.Column.{Leads, LeadsToPlace, place_of}
@@ -58,10 +58,6 @@ module _ (net : Setup) (sent : List (List Beat)) (r : ℕ) (router : r < nodes n
       credit-at vcs 0 (beats_at (wires_after_puts net sent) r) o (omega arith)
       ∙ ap (λ n. is_some_of (slice_index_or (beats_at (wires_after_puts net sent) r) n idle_beat).credit (o % vcs)) (let z : o / vcs - 0 ≡ o / vcs = omega arith in z)
       ∙ ap (λ (b : Beat). is_some_of b.credit (o % vcs)) (exchanged-at (o / vcs) l)
-
--- the beat that a router has put for a port
-pub beat-put : (sent : List (List Beat)) (count to port : ℕ) (d : Decisions) (v : View) → beats_at sent to ≡ tabulate count (beat_out d v) → port < count → beat_from sent (Some (to, port)) ≡ beat_out d v port
-beat-put sent count to port d v put l = ap (λ (xs : List Beat). get_or xs port idle_beat) put ∙ get_or-tabulate count port (beat_out d v) idle_beat l
 
 -- ---- places
 -- the place at the other end of a link

@@ -29,11 +29,11 @@ returns c = λ net same.
     let beats_in : take n c.beats_taken-taken.result ≡ taken =
     ap (take n) c.beats_taken-taken.ensures ∙ take_of_map n (λ beat. unwrap_or beat idle_beat) room.taken ∙ ap (λ k. map (λ beat. unwrap_or beat idle_beat) (take k room.taken)) count in
     let view : c.step.new.self ≡ (local_step net.relation router taken room.steps).0 =
-    c.step.ensures.view ∙ ap (λ (beats : List Beat). (local_step relation router beats c.steps.result).0) beats_in
-    ∙ ap (λ k. (local_step relation router taken k).0) c.steps.ensures ∙ ap (λ (g : Routes). (local_step g router taken room.steps).0) (sym same) in
+    c.step.ensures.view ∙ ap (λ (beats : List Beat). (local_step relation router beats room.steps).0) beats_in
+    ∙ ap (λ (g : Routes). (local_step g router taken room.steps).0) (sym same) in
     let beats_out : c.step.new.beats_out ≡ (local_step net.relation router taken room.steps).1 =
-    c.step.ensures.beats ∙ ap (λ (beats : List Beat). (local_step relation router beats c.steps.result).1) beats_in
-    ∙ ap (λ k. (local_step relation router taken k).1) c.steps.ensures ∙ ap (λ (g : Routes). (local_step g router taken room.steps).1) (sym same) in
+    c.step.ensures.beats ∙ ap (λ (beats : List Beat). (local_step relation router beats room.steps).1) beats_in
+    ∙ ap (λ (g : Routes). (local_step g router taken room.steps).1) (sym same) in
     let rest = drop n (replicate 6 c.idle-sent.result) in
     let whole : length c.step.new.beats_out ≡ c.ports-links.result - 1 = omega (arith, c.step.auto.beats_out, length-take-le n (replicate 6 c.idle-sent.result) (omega (arith, c.ports-links.ensures.few))) in
     ap (λ k. post_of k c.step.new.self c.decide.new.self) (sym count)

@@ -61,7 +61,7 @@ loop-rest-preserved c =
       turns = λ q k other. ap (λ (r : List ℕ). word r k) (get_or-set_other marks.port_turn port q c.put.new.row [] other) ∙ inv.turns q k other;
       out = each-next ℕ _ _ _ _ _ rest t some fits least inv.out (c.put-in-loop-rest.ensures.here ∙ ap₂ (λ a b. bit_or a b) (inv.out.left t least.0) used) c.put-in-loop-rest.ensures.others;
       supplied = each-next ℕ _ _ _ _ _ rest t some fits least inv.supplied
-          (c.put-in-loop-rest-2.ensures.here ∙ ap₂ (λ a b. less a b) (inv.supplied.left t least.0) (c.dry.ensures ∙ ap (λ u. if nat_eq (bit_and (word c.args.single.now t) u) 0 then 0 else sel) used)) c.put-in-loop-rest-2.ensures.others;
+          (c.put-in-loop-rest-2.ensures.here ∙ ap₂ (λ a b. less a b) (inv.supplied.left t least.0) (c.where_some.ensures ∙ ap (λ u. if nat_eq (bit_and (word c.args.single.now t) u) 0 then 0 else sel) used)) c.put-in-loop-rest-2.ensures.others;
       carried = carrying-next (word c.args.selected.now) c.loop-rest.rest c.least-lane.result c.least-input.result some fits least c.least-lane.ensures.within c.least-input.ensures.within (c.requires.one c.least-lane.result c.least-lane.ensures.within) first.0
           c.args.number c.args.port c.args.marks.now (record c.loop-rest.marks { port_turn = c.args.marks.now.port_turn }) _ c.args.wires.now c.loop-rest.wires _ c.args.moving inv.carried
           (record {

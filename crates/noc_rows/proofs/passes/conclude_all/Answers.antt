@@ -12,10 +12,10 @@ loop-number-preserved c =
     elim c.if-number-sheets.branch [
       | then-number-sheets+then-blocks-number w ↦
           (subst (λ near. HaveConcludedTo (c.loop-number.number + 1) c.args.frame.now c.args.cycle near c.args.blocks.now c.if-number-sheets.blocks c.args.sheets.now c.if-number-sheets.sheets) (sym w.near-is)
-          (subst (λ blocks. HaveConcludedTo (c.loop-number.number + 1) c.args.frame.now c.args.cycle (bit_or c.loop-number.near w.settle_one-near.result) c.args.blocks.now blocks c.args.sheets.now c.if-number-sheets.sheets) (sym w.blocks-is)
-          (subst (λ sheets. HaveConcludedTo (c.loop-number.number + 1) c.args.frame.now c.args.cycle (bit_or c.loop-number.near w.settle_one-near.result) c.args.blocks.now (set c.loop-number.blocks c.loop-number.number w.settle_one-near.new.block) c.args.sheets.now sheets) (sym w.sheets-is)
+          (subst (λ blocks. HaveConcludedTo (c.loop-number.number + 1) c.args.frame.now c.args.cycle (bit_or c.loop-number.near w.near_to-near.result) c.args.blocks.now blocks c.args.sheets.now c.if-number-sheets.sheets) (sym w.blocks-is)
+          (subst (λ sheets. HaveConcludedTo (c.loop-number.number + 1) c.args.frame.now c.args.cycle (bit_or c.loop-number.near w.near_to-near.result) c.args.blocks.now (set c.loop-number.blocks c.loop-number.number w.conclude_one.new.block) c.args.sheets.now sheets) (sym w.sheets-is)
           (concluded-more c.loop-number.number c.args.frame.now c.args.cycle c.loop-number.near c.args.blocks.now c.loop-number.blocks c.args.sheets.now c.loop-number.sheets so_far
-          (omega arith) _ w.settle_one-near.new.block w.settle_one-near.new.sheet _ w.settle_one-near.result (omega (arith, w.if-number-sheets.true)) w.if-blocks-number.true w.settle_one-near.ensures.block w.settle_one-near.ensures.near))))
+          (omega arith) _ w.conclude_one.new.block w.conclude_one.new.sheet _ w.near_to-near.result (omega (arith, w.if-number-sheets.true)) w.if-blocks-number.true w.conclude_one.ensures w.near_to-near.ensures))))
       | else-number-sheets w ↦
           (subst (λ near. HaveConcludedTo (c.loop-number.number + 1) c.args.frame.now c.args.cycle near c.args.blocks.now c.if-number-sheets.blocks c.args.sheets.now c.if-number-sheets.sheets) (sym w.near-is)
           (subst (λ blocks. HaveConcludedTo (c.loop-number.number + 1) c.args.frame.now c.args.cycle c.loop-number.near c.args.blocks.now blocks c.args.sheets.now c.if-number-sheets.sheets) (sym w.blocks-is)

@@ -29,12 +29,11 @@ invariant_of-self c =
     let event = Take c.args.router c.args.port in
     let ready = ready_here c.args.self.now own event c.self.view_is c.requires in
     let link = linked_port own.net c.args.router c.args.port (ready_take own c.args.router c.args.port ready).0 in
+    let changed = room_changed parts c.args.router c.index_mut.result.now c.take.new.self (taking c.args.port) c.index_mut.ensures.value (λ v. c.take.ensures (local_port parts.relation.grid) v link) in
     record {
       good = c.self.invariant.good;
-      in_step = in_step_after own _ event c.self.invariant.in_step ready
-          (room_changed parts c.args.router c.index_mut.result.now c.take.new.self (taking c.args.port) c.index_mut.ensures.value (λ v. c.take.ensures (local_port parts.relation.grid) v link));
-      within = within_after own _ event c.self.invariant.in_step c.self.invariant.within ready
-          (room_changed parts c.args.router c.index_mut.result.now c.take.new.self (taking c.args.port) c.index_mut.ensures.value (λ v. c.take.ensures (local_port parts.relation.grid) v link));
+      in_step = in_step_after own _ event c.self.invariant.in_step ready changed;
+      within = within_after own _ event c.self.invariant.in_step c.self.invariant.within ready changed;
       routers = c.self.invariant.routers;
       beats = c.self.invariant.beats;
       room = c.self.invariant.room;

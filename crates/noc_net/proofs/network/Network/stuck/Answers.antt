@@ -1,12 +1,40 @@
-use Rattle.std.proofs.Common.{◌∙◌, subst}
+use Rattle.std.proofs.Common.{◌≡◌, ℕ, suc, ◌+◌, Bool, Option, Some, None, refl, ap, sym, ◌∙◌, arith, subst}
+use Rattle.std.specs.Prelude.{◌&&◌, nat_eq, not}
+use Rattle.std.specs.Option.{option_eq}
+use Rattle.noc_topo.specs.Words.{is_some_of}
 use Rattle.noc_theory.specs.Good.{IsGoodSetup}
-use Rattle.noc_theory.specs.Network.{Run}
+use Rattle.noc_theory.specs.Network.{Run, Setup, state_at}
+use Rattle.noc_theory.specs.Progress.{is_pending, is_stuck, last_event_before}
 use Rattle.noc_theory.proofs.budget.ProgressTheoremLemmas.{not-stuck}
+use Rattle.noc_theory.proofs.budget.StuckLemmas.{stuck-after}
 use Rattle.noc_net.proofs.network.Network.stuck.Goals as goal
 
-pub is_stuck_since-requires-clause-good : goal.is_stuck_since-requires-clause-good
-is_stuck_since-requires-clause-good c = subst (λ (u : Run). IsGoodSetup u.net) c.self.view_is c.self.invariant.parts.good
+test-is : (o : Option ℕ) (last : ℕ) → option_eq nat_eq o (Some last) ≡ is_some_of o last
+test-is None last = refl
+test-is (Some n) last = refl
 
-pub returns-in-Some-clause-ranked : goal.returns-in-Some-clause-ranked
-returns-in-Some-clause-ranked c = λ ranks ranked.
-    c.is_stuck_since.ensures ∙ not-stuck c.args.self.now.net (subst (λ (u : Run). IsGoodSetup u.net) c.self.view_is c.self.invariant.parts.good) ranks ranked c.args.self.now.count
+-- at the count behind the last cycle, by its last event
+since : (net : Setup) → IsGoodSetup net → (last count : ℕ) → last + 1 ≡ count → (event : Option ℕ) → event ≡ last_event_before net count
+    → (test : Bool) → test ≡ not (option_eq nat_eq event (Some last)) → (test && is_pending net last (state_at net count)) ≡ is_stuck net count
+since net good last count e event is test tested =
+    let s : suc last ≡ count = omega arith in
+    ap (λ b. b && is_pending net last (state_at net count)) (tested ∙ ap not (test-is event last) ∙ ap (λ (o : Option ℕ). not (is_some_of o last)) is)
+    ∙ ap (λ n. not (is_some_of (last_event_before net n) last) && is_pending net last (state_at net n)) (sym s) ∙ stuck-after net good last ∙ ap (is_stuck net) s
+
+pub returns-then-ne-clause-value : goal.returns-then-ne-clause-value
+returns-then-ne-clause-value c =
+    let u = c.args.self.now in
+    let good : IsGoodSetup u.net = subst (λ (u : Run). IsGoodSetup u.net) c.self.view_is c.self.invariant.parts.good in
+    c.is_waiting_by.ensures ∙ ap (λ b. b && is_pending u.net c.in-Some.last (state_at u.net u.count)) (sym c.if-ne.true)
+    ∙ since u.net good c.in-Some.last u.count (omega (arith, ap (λ (u : Run). u.count) c.self.view_is)) c.last_event.result c.last_event.ensures c.ne.result c.ne.ensures
+
+pub returns-else-ne-clause-value : goal.returns-else-ne-clause-value
+returns-else-ne-clause-value c =
+    let u = c.args.self.now in
+    let good : IsGoodSetup u.net = subst (λ (u : Run). IsGoodSetup u.net) c.self.view_is c.self.invariant.parts.good in
+    c.if-ne.false ∙ ap (λ b. b && is_pending u.net c.in-Some.last (state_at u.net u.count)) (sym c.if-ne.false)
+    ∙ since u.net good c.in-Some.last u.count (omega (arith, ap (λ (u : Run). u.count) c.self.view_is)) c.last_event.result c.last_event.ensures c.ne.result c.ne.ensures
+
+pub returns-then-ne-clause-ranked : goal.returns-then-ne-clause-ranked
+returns-then-ne-clause-ranked c = λ ranks ranked.
+    returns-then-ne-clause-value c ∙ not-stuck c.args.self.now.net (subst (λ (u : Run). IsGoodSetup u.net) c.self.view_is c.self.invariant.parts.good) ranks ranked c.args.self.now.count

@@ -1,4 +1,4 @@
-use Rattle.std.proofs.Common.{◌≡◌, ◌≢◌, ◌<◌, ◌≤◌, [], get_or, length, take, replicate, refl, ap, sym, ◌∙◌, ⊎_elim, arith, length-set, length-take-le}
+use Rattle.std.proofs.Common.{◌≡◌, ◌≢◌, ◌<◌, ◌≤◌, List, [], get_or, length, slice_get, take, replicate, unwrap_or, refl, ap, ap₂, sym, ◌∙◌, ⊎_elim, arith, length-set, length-take-le}
 use Rattle.std.proofs.lemmas.Bool.{cases_lt}
 use Rattle.std.proofs.lemmas.List.{get_or-map, get_or-set_other, get_or-take, get_or_past, length-map}
 use Rattle.noc_packet.specs.declared.packet.Beat.{Beat}
@@ -20,13 +20,14 @@ loop-port-preserved c =
     let room = c.args.self.now in
     let within : c.loop-port.port < length c.args.self.now.wires = omega (arith, c.loop-port-test.true, c.requires) in
     record {
-      count = length-set c.loop-port.beats c.loop-port.port c.oldest.result ∙ c.loop-port.invariant.count;
-      before = each_more (λ port. front_of (get_or (wires_in room) port [])) c.loop-port.beats c.loop-port.port c.oldest.result idle_beat
+      count = length-set c.loop-port.beats c.loop-port.port c.unwrap_or.result ∙ c.loop-port.invariant.count;
+      before = each_more (λ port. front_of (get_or (wires_in room) port [])) c.loop-port.beats c.loop-port.port c.unwrap_or.result idle_beat
           (omega (arith, c.loop-port.invariant.count, c.loop-port-test.true, c.requires)) c.loop-port.invariant.before
-          (c.oldest.ensures ∙ ap front_of (sym (get_or-map wire_beats room.wires c.loop-port.port _ [] within)));
+          (c.unwrap_or.ensures
+          ∙ ap₂ unwrap_or (c.pop.ensures.beat ∙ ap (λ (beats : List Beat). slice_get beats 0) (sym (get_or-map wire_beats room.wires c.loop-port.port _ [] within))) c.idle.ensures);
       behind = λ port l.
           let n : port ≢ c.loop-port.port = omega arith in
-          get_or-set_other c.loop-port.beats c.loop-port.port port c.oldest.result idle_beat n ∙ c.loop-port.invariant.behind port (omega arith);
+          get_or-set_other c.loop-port.beats c.loop-port.port port c.unwrap_or.result idle_beat n ∙ c.loop-port.invariant.behind port (omega arith);
     }
 
 pub returns : goal.returns

@@ -1,5 +1,5 @@
 use Rattle.std.proofs.Common.{◌≡◌}
-use Rattle.noc_net.proofs.parts.total_misfits.Given as goal
+use Rattle.noc_net.proofs.network.Network.misfits.Given as goal
 
 -- no router so far has a misfit
 abbrev pub invariant-loop-router : goal.invariant-loop-router
