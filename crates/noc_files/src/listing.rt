@@ -2,9 +2,7 @@
 
 ghost use Rattle.std.specs.Prelude.{◌≡◌, ◌+◌, ◌<◌, ◌≤◌, ◌++◌, [], true, ℕ, List, Option, length, IfSome};
 ghost use Rattle.std.proofs.Props.{props};
-ghost use Rattle.std.specs.List.{flat_map};
 ghost use Rattle.noc_topo.specs.Shape.{Grid, nodes, ports};
-ghost use Rattle.noc_topo.specs.Words.{below};
 ghost use Rattle.noc_files.specs.Channels.{AreInputs, is_input, lines_listed, lines_of_port, lines_of_router, page_router, router_pages};
 ghost use Rattle.noc_packet.specs.declared.limits.TheConstants.{MAX_CHANNELS as CHANNELS, MAX_PORTS as PORTS};
 ghost use Rattle.noc_files.specs.Writing.{Wrote};

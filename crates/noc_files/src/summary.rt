@@ -1,6 +1,6 @@
 //! The summary report (docs/FORMATS.md).
 
-ghost use Rattle.std.specs.Prelude.{◌+◌, ◌*◌, ◌^◌, ◌<◌, ◌≤◌, ◌++◌, [], ◌∷◌, length, nat_le, sum, true, ◌≡◌, ℕ, List, Some, None};
+ghost use Rattle.std.specs.Prelude.{◌+◌, ◌*◌, ◌^◌, ◌<◌, ◌≤◌, ◌++◌, [], length, nat_le, sum, true, ◌≡◌, ℕ, List, Some, None};
 ghost use Rattle.std.specs.List.{flat_map, list_all};
 ghost use Rattle.noc_topo.specs.Shape.{nodes, ports};
 ghost use Rattle.noc_files.specs.Channels.{over_port, over_router};

@@ -1,9 +1,7 @@
 //! The trace: what each input channel did in each cycle of a span (docs/FORMATS.md).
 
 ghost use Rattle.std.specs.Prelude.{◌≡◌, ℕ, ◌+◌, ◌*◌, ◌/◌, ◌%◌, ◌-◌, ◌^◌, ◌<◌, ◌≤◌, ◌++◌, [], ◌∷◌, IfOk, IfSome, List, None, Option, Some, codes, decimal, false, if◌then◌else◌, is_some, length, map, option_and_then, option_map, replicate, slice_get, true};
-ghost use Rattle.std.specs.List.{flat_map};
 ghost use Rattle.noc_topo.specs.Shape.{nodes, ports};
-ghost use Rattle.noc_topo.specs.Words.{below};
 ghost use Rattle.noc_packet.specs.Set.{has_bit};
 ghost use Rattle.noc_route.specs.Routes.{Routes as RoutesValue};
 ghost use Rattle.noc_router.specs.Found.{empty_finding};
@@ -14,7 +12,7 @@ ghost use Rattle.noc_files.specs.Channels.{AreInputs};
 ghost use Rattle.noc_files.specs.Findings.{found_line};
 ghost use Rattle.noc_files.specs.Ports.{name_of_port};
 ghost use Rattle.noc_files.specs.Stalls.{channel_counts};
-ghost use Rattle.noc_files.specs.Trace.{AreRows, cycle_text, has_below, finds_empty, is_asking, is_same, kept_at, kept_line, member_text, nothing_found, over_traced, permitted_text, permitted_to, said_by_both, set_text, traced_finding, told_counts, told_text, trace_header, trace_line, trace_text, traced_line, way_text, when_text, whole};
+ghost use Rattle.noc_files.specs.Trace.{AreRows, has_below, finds_empty, is_asking, is_same, kept_at, kept_line, member_text, nothing_found, over_traced, permitted_text, permitted_to, said_by_both, set_text, traced_finding, told_counts, told_text, trace_line, trace_text, traced_line, way_text, when_text, whole};
 ghost use Rattle.noc_files.specs.Word.{AreWords, word_text};
 ghost use Rattle.noc_files.specs.Writing.{Puts, Wrote, comma, taken, text_of_pieces, line_end};
 ghost use Rattle.noc_files.specs.declared.page.TheConstants.{PAGE};
