@@ -44,7 +44,7 @@ module _ {P : Type 0} (read : ℕ → Fields → Result P InputFault) (Writes : 
             bad = rest.bad;
             others = rest.others;
             values = p ∷ rest.values;
-            parts = ap (λ (t : List Fields). fields ∷ t) rest.parts;
+            parts = ap (λ (t : List Fields). fields ∷ t) {y = rest.good ++ rest.bad ∷ rest.others} rest.parts;
             writes = (to row fields p is, rest.writes);
             fault_is = subst (λ n. IsRowFault n rest.bad fault) (omega arith) rest.fault_is;
           }

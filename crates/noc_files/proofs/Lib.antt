@@ -27,3 +27,4 @@ pub mod TraceCycleLemmas
 pub mod TraceLemmas
 pub mod ListLemmas
 pub mod PageLemmas
+pub mod WordLemmas

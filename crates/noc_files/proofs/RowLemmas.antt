@@ -53,9 +53,6 @@ rests_step st.AfterCr c = rests_if (c == 10) (st.StartRecord, act.Skip) (start_r
 
 -- ---- a record takes a byte at least, and leaves the machine between records
 
-some_is : (x y : Read) → Some x ≡ Some y → x ≡ y
-some_is x y e = same_Some x y e
-
 took_none : (b : Bool) (x p : Read) → cond b (Some x) None ≡ Some p → (b ≡ true) × (x ≡ p)
 took_none true x p e = (refl, same_Some x p e)
 took_none false x p e = absurd (none-some p e)

@@ -17,6 +17,7 @@ use Rattle.noc_files.specs.Ports.{IsPortName, name_of_port, port_at}
 use Rattle.noc_files.specs.Plain.{row_line}
 use Rattle.noc_files.specs.Rows.{Fields, HasNumeral, IsNumeral, number_at, number_of, text_rows}
 use Rattle.noc_files.specs.Sheet.{IsSheet, IsSheetFault, sheet}
+use Rattle.noc_files.specs.Writing.{number_or}
 
 abbrev pub rank_header : Fields
 rank_header = codes "router" ∷ codes "port" ∷ codes "vc" ∷ codes "rank" ∷ []
@@ -97,8 +98,7 @@ rank_rows k = flat_map (router_rows k) (below (nodes k.grid))
 
 -- a rank, or the word where there is none
 abbrev pub rank_text : Option ℕ → List ℕ
-rank_text None = adaptive
-rank_text (Some n) = decimal n
+rank_text rank = number_or rank adaptive
 
 -- the fields of a row: a router, the name of a port, a channel and a rank
 abbrev pub rank_fields : Grid → RankRow → Fields

@@ -8,8 +8,6 @@ use Rattle.std.specs.Str.Parse.{digits_value}
 use Rattle.csv.specs.Machine.{ends_at_end}
 use Rattle.csv.specs.Records.{field_at}
 use Rattle.csv.specs.Reading.{Ready, default_config, is_flexible, reader_config, reader_state, reader_trim, records, records_from, source_of, strip_bom}
-use Rattle.csv.specs.declared.error.ErrorKind.{ErrorKind}
-use Rattle.csv.specs.declared.error.ErrorKind.TheVariants as kind
 use Rattle.csv.specs.declared.parser.State.{State}
 use Rattle.csv.specs.declared.reader.Reader.{Reader}
 use Rattle.csv.specs.declared.reader.Trim.TheVariants as trim
@@ -42,12 +40,6 @@ pub record IsBetweenRows (r : Reader (Bor (List ℕ))) : Type 0 where
   pub between : ends_at_end (reader_state r) ≡ false
   pub bytes : List ℕ
   pub source : source_of (λ s. Some s.now) r ≡ Some bytes
-
--- memory was refused, or the source failed
-abbrev pub IsReadRefusal : ErrorKind → Type 0
-IsReadRefusal kind.OutOfMemory = Unit {0}
-IsReadRefusal (kind.Io e) = Unit {0}
-IsReadRefusal _ = ⊥
 
 -- 1 to 10 decimal digits with a value below 2 ^ 32
 abbrev pub is_number : List ℕ → Bool

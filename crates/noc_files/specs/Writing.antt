@@ -29,7 +29,11 @@ comma = codes ","
 abbrev pub line_end : List ℕ
 line_end = codes "\n"
 
+-- a number, or a text where there is none
+abbrev pub number_or : Option ℕ → List ℕ → List ℕ
+number_or None none = none
+number_or (Some n) none = decimal n
+
 -- a number, or a dash
 abbrev pub dash_or : Option ℕ → List ℕ
-dash_or None = codes "-"
-dash_or (Some n) = decimal n
+dash_or n = number_or n (codes "-")

@@ -130,13 +130,6 @@ fn kind_in(table: &Table) -> Result<Kind, InputFault>
     }
 }
 
-#[tactic(auto, unfolding(crate::specs::Configuration::rule_setting))]
-fn rule_in(table: &Table) -> Result<RuleName, InputFault>
-    ensures { result ≡ rule_setting (table_view table.now) }
-{
-    RuleName::named(word(table, Key::Rule)?).ok_or(InputFault::BadValue(Key::Rule))
-}
-
 // Whether each value is an integer.
 fn are_integers(values: &[Value]) -> bool
     ensures { result ≡ list_all (λ v. is_some (as_integer (view v))) values.now }
@@ -179,7 +172,7 @@ fn radix_in(alloc: Global, table: &Table) -> Result<Vec<usize>, InputFault>
 }
 
 // The configuration of a table that has no other keys.
-#[tactic(auto, unfolding(crate::specs::Configuration::config_at))]
+#[tactic(auto, unfolding(crate::specs::Configuration::config_at, crate::specs::Configuration::rule_setting))]
 fn config_in(alloc: Global, table: &Table) -> Result<Config, InputFault>
     ensures value { Gives settings result (config_at (table_view table.now)) }
     ensures limits { IfOk result KeepsLimits }
@@ -189,7 +182,7 @@ fn config_in(alloc: Global, table: &Table) -> Result<Config, InputFault>
     let channels = number(table, Key::Channels, 1, MAX_CHANNELS as u64)?;
     let buffer = number(table, Key::Buffer, 1, MAX_BUFFER as u64)?;
     let classes = number(table, Key::Classes, 1, MAX_CLASSES as u64)?;
-    let rule = rule_in(table)?;
+    let rule = RuleName::named(word(table, Key::Rule)?).ok_or(InputFault::BadValue(Key::Rule))?;
     let cycles = number(table, Key::Cycles, 1, MAX_CYCLES)?;
     Ok(Config {
         kind,

@@ -30,16 +30,3 @@ fn is_input_place(shape: &Shape, place: usize) -> bool
     let port = place % MAX_PORTS;
     port < shape.ports() && has_inputs(shape, place / MAX_PORTS, port)
 }
-
-/// Whether a port is an input port, by the input ports of its shape.
-#[inline]
-pub(crate) fn has_input(shape: &Shape, inputs: &Inputs, router: usize, port: usize) -> bool
-    requires inputs { AreInputs shape.now inputs.now }
-    requires router { router < nodes shape.now }
-    requires port { port < ports shape.now }
-    ensures { result ≡ is_input shape.now router port }
-{
-    // (the counts say that the place is within the table)
-    prove!(router < shape.nodes() && port < shape.ports());
-    inputs[router * MAX_PORTS + port]
-}

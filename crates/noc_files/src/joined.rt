@@ -3,28 +3,20 @@
 ghost use Rattle.std.specs.Prelude.{◌≡◌, ◌+◌, ◌≤◌, ◌<◌, ℕ, true, false, length, take, drop, MatchOption};
 ghost use Rattle.noc_files.specs.Joined.{SplitsAt, line_at, line_len};
 
-// How long the line of dashes is that begins a text, if one does.
-fn line_of_dashes(text: &[u8]) -> usize
-    ensures value { result ≡ line_len text.now }
-    ensures within { result ≤ length text.now }
-{
-    if text.starts_with(b"---\n") {
-        4
-    } else if text.starts_with(b"---\r\n") {
-        5
-    } else {
-        0
-    }
-}
-
 // How long the line of dashes is that begins at this place, if one does.
 fn dashes_at(text: &[u8], at: usize) -> usize
     requires { at ≤ length text.now }
     ensures value { result ≡ line_at text.now at }
     ensures within { at + result ≤ length text.now }
 {
-    if at == 0 || text[at - 1] == b'\n' {
-        line_of_dashes(&text[at..])
+    if at != 0 && text[at - 1] != b'\n' {
+        return 0;
+    }
+    let line = &text[at..];
+    if line.starts_with(b"---\n") {
+        4
+    } else if line.starts_with(b"---\r\n") {
+        5
     } else {
         0
     }

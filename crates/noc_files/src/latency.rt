@@ -1,7 +1,8 @@
 //! The latency report (docs/FORMATS.md).
 
-ghost use Rattle.std.specs.Prelude.{◌≡◌, length};
-ghost use Rattle.noc_files.specs.Latency.{latency_line, latency_text, packet_latency, packet_line};
+ghost use Rattle.std.specs.Prelude.{◌≡◌, ◌<◌, length};
+ghost use Rattle.noc_files.specs.Latency.{latency_line, latency_text};
+ghost use Rattle.noc_files.specs.Summary.{latency_at};
 ghost use Rattle.noc_files.specs.Writing.{Wrote};
 
 use crate::page::Page;
@@ -9,33 +10,17 @@ use crate::pages::{Pages, write_pages};
 use crate::sink::Sink;
 use crate::writing::WriteFault;
 use noc_net::Network;
-use noc_packet::Packet;
 
-// How many cycles lie between a packet's due time and the cycle in which its tail is out.
-pub(crate) fn latency_of(packet: &Packet, out: Option<u64>) -> Option<u64>
-    ensures { result ≡ packet_latency packet.now out }
+// How many cycles lie between the due time of the packet with this number and the cycle in which its tail is out.
+#[tactic(auto, unfolding(crate::specs::Summary::latency_at))]
+pub(crate) fn latency(network: &Network, number: usize) -> Option<u64>
+    requires { number < length network.now.net.packets }
+    ensures { result ≡ latency_at network.now number }
 {
-    match out {
-        Some(cycle) => Some(cycle.saturating_sub(u64::from(packet.due))),
+    match network.arrival(number) {
+        Some(cycle) => Some(cycle.saturating_sub(u64::from(network.packet(number).due))),
         None => None,
     }
-}
-
-// Fills a page with the line of the packet with this number, whose tail is out in this cycle.
-fn fill_line(number: usize, packet: &Packet, out: Option<u64>, page: &mut Page)
-    ensures { page.new ≡ packet_line number packet.now out }
-{
-    page.clear();
-    page.add_column(number as u64);
-    page.add_column(u64::from(packet.source));
-    page.add_column(u64::from(packet.destination));
-    page.add_column(u64::from(packet.class));
-    page.add_column(u64::from(packet.length));
-    page.add_column(u64::from(packet.due));
-    page.add_or_dash(out);
-    page.add_byte(b',');
-    page.add_or_dash(latency_of(packet, out));
-    page.add_byte(b'\n');
 }
 
 // The lines of a latency report, a page for each packet.
@@ -53,10 +38,19 @@ impl<'a> Pages for LatencyLines<'a> {
         self.network.packets()
     }
 
-    #[tactic(auto, unfolding(crate::specs::Latency::latency_line))]
     fn fill(&self, number: usize, page: &mut Page) {
         let packet = self.network.packet(number);
-        fill_line(number, &packet, self.network.arrival(number), page);
+        page.clear();
+        page.add_column(number as u64);
+        page.add_column(u64::from(packet.source));
+        page.add_column(u64::from(packet.destination));
+        page.add_column(u64::from(packet.class));
+        page.add_column(u64::from(packet.length));
+        page.add_column(u64::from(packet.due));
+        page.add_or(self.network.arrival(number), "-");
+        page.add_byte(b',');
+        page.add_or(latency(self.network, number), "-");
+        page.add_byte(b'\n');
     }
 }
 

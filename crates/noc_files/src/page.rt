@@ -2,7 +2,7 @@
 
 ghost use Rattle.std.specs.Prelude.{◌≡◌, ◌+◌, ◌<◌, ◌≤◌, ◌++◌, [], ◌∷◌, ℕ, List, decimal, length, take};
 ghost use Rattle.noc_files.specs.Word.{word_text};
-ghost use Rattle.noc_files.specs.Writing.{comma, dash_or};
+ghost use Rattle.noc_files.specs.Writing.{comma, number_or};
 ghost use Rattle.noc_files.specs.declared.word.TheConstants.{WORD};
 
 use crate::word::{WORD, Word};
@@ -119,16 +119,17 @@ impl Page {
         self.add_byte(b',');
     }
 
-    /// Adds a number in decimal, or a dash where there is none.
+    /// Adds a number in decimal, or a text where there is none.
     #[inline(always)]
-    pub(crate) fn add_or_dash(&mut self, number: Option<u64>)
-        requires { length self.old + NUMBER ≤ PAGE }
-        ensures added { self.new ≡ self.old ++ dash_or number }
+    pub(crate) fn add_or(&mut self, number: Option<u64>, none: &str)
+        requires room { length self.old + NUMBER ≤ PAGE }
+        requires none { length none.now ≤ NUMBER }
+        ensures added { self.new ≡ self.old ++ number_or number none.now }
         ensures short { length self.new ≤ length self.old + NUMBER }
     {
         match number {
             Some(number) => self.add_number(number),
-            None => self.add_byte(b'-'),
+            None => self.add(none),
         }
     }
 

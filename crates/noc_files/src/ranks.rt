@@ -1,27 +1,23 @@
 //! Rank files (docs/FORMATS.md).
 
-ghost use Rattle.std.specs.Prelude.{◌≡◌, ◌↔◌, ◌+◌, ◌^◌, ◌<◌, ◌≤◌, ◌++◌, true, ℕ, List, Ok, Err, IfOk, IsSome, length};
+ghost use Rattle.std.specs.Prelude.{◌≡◌, ◌↔◌, ◌^◌, ◌<◌, ◌≤◌, true, ℕ, List, Ok, Err, IfOk, IsSome};
 ghost use Rattle.std.specs.List.{flat_map};
 ghost use Rattle.csv.specs.Records.{fields_of};
-ghost use Rattle.noc_packet.specs.declared.limits.TheConstants.{MAX_CHANNELS as FEW};
 ghost use Rattle.noc_route.specs.Ranks.{is_channel, Ranking};
 ghost use Rattle.noc_rank.specs.Ranking.{IsRanking};
 ghost use Rattle.noc_rank.specs.declared.rows.RankRow.{RankRow as RowValue};
 ghost use Rattle.noc_topo.specs.Shape.{Grid, IsGrid, local_port, neighbour, nodes};
 ghost use Rattle.noc_topo.specs.Words.{below};
 ghost use Rattle.noc_files.specs.declared.fault.InputFault.{InputFault as Fault};
-ghost use Rattle.noc_files.specs.Channels.{AreInputs};
 ghost use Rattle.noc_files.specs.Gives.{Gives};
 ghost use Rattle.noc_files.specs.Plain.{row_line};
-ghost use Rattle.noc_files.specs.Ranks.{rank_header, rank_field, rank_line, rank_of, rank_row, rank_row_of, rank_rows, rank_text, ranks_of, ranks_text, port_rows, router_rows, IsRankFile, IsRankFileFault, ListsRanks};
+ghost use Rattle.noc_files.specs.Ranks.{rank_header, rank_line, rank_of, rank_row, rank_row_of, rank_rows, ranks_of, ranks_text, port_rows, router_rows, IsRankFile, IsRankFileFault, ListsRanks};
 ghost use Rattle.noc_files.specs.Writing.{Wrote};
-ghost use Rattle.noc_files.specs.declared.listing.TheConstants.{LONGEST_LINE};
-ghost use Rattle.noc_files.specs.declared.page.TheConstants.{PAGE};
 
 use crate::fault::InputFault;
-use crate::inputs::{Inputs, inputs_of};
-use crate::listing::{Lines, write_lines};
-use crate::page::{NUMBER, Page};
+use crate::inputs::inputs_of;
+use crate::listing::{Lines, Listing, write_lines};
+use crate::page::Page;
 use crate::ports::known_name;
 use crate::rows::{number, number_in, port_in};
 use crate::sheet::read_sheet;
@@ -49,15 +45,6 @@ fn rank(field: &[u8]) -> Option<Option<usize>>
     }
 }
 
-// The rank in a column of a row.
-fn rank_in(row: &ByteRecord, index: usize, column: usize) -> Result<Option<usize>, InputFault>
-    ensures { result ≡ rank_field index column (fields_of row.now) }
-{
-    row.get(column)
-        .and_then(rank)
-        .ok_or(InputFault::BadNumber { row: index, column })
-}
-
 // The channel and the rank that a row of fields says.
 #[tactic(auto, unfolding(crate::specs::Ranks::rank_row_of))]
 fn rank_row_in(shape: &Shape, row: &ByteRecord, index: usize) -> Result<RankRow, InputFault>
@@ -69,7 +56,11 @@ fn rank_row_in(shape: &Shape, row: &ByteRecord, index: usize) -> Result<RankRow,
     let router = number_in(row, index, 0)?;
     let port = port_in(shape, row, index, 1)?;
     let vc = number_in(row, index, 2)?;
-    let rank = rank_in(row, index, 3)?;
+    let fault = InputFault::BadNumber {
+        row: index,
+        column: 3,
+    };
+    let rank = row.get(3).and_then(rank).ok_or(fault)?;
     Ok(RankRow {
         router: router as usize,
         port,
@@ -109,44 +100,12 @@ pub fn written_ranks_are_read_back()
     ensures { (k : Ranking) → IsRanking k → k.vcs ≤ MAX_CHANNELS → (ranks_of k.grid (ranks_text k) ≡ Ok (rank_rows k)) × ListsRanks k (rank_rows k) }
 {}
 
-// Adds a rank, or the word where there is none.
-fn add_rank(rank: Option<usize>, page: &mut Page)
-    requires room { length page.old + NUMBER ≤ PAGE }
-    ensures added { page.new ≡ page.old ++ rank_text rank }
-    ensures short { length page.new ≤ length page.old + NUMBER }
-{
-    match rank {
-        Some(rank) => page.add_number(rank as u64),
-        None => page.add(ADAPTIVE),
-    }
-}
-
-// Adds the line of a row, whose port the shape has.
-fn add_row(shape: &Shape, row: &RankRow, page: &mut Page)
-    requires port { row.now.port < local_port shape.now }
-    requires room { length page.old + LONGEST_LINE ≤ PAGE }
-    ensures added { page.new ≡ page.old ++ rank_line shape.now row.now }
-    ensures short { length page.new ≤ length page.old + LONGEST_LINE }
-{
-    page.add_column(row.router as u64);
-    page.add(known_name(shape, row.port));
-    page.add_byte(b',');
-    page.add_column(row.vc as u64);
-    add_rank(row.rank, page);
-    page.add_byte(b'\n');
-}
-
-// Some ranks with their shape and how many channels each link has.
+// Some ranks with their shape.
 #[derive(Drop)]
 struct Listed<'a> {
     ranks: &'a Ranks,
     shape: &'a Shape,
-    vcs: usize,
-    inputs: Inputs,
-    ghost known: { AreInputs shape.now inputs },
     ghost same: { ranks.now.grid ≡ shape.now },
-    ghost count: { ranks.now.vcs ≡ vcs },
-    ghost few: { vcs ≤ FEW },
 }
 
 impl<'a> Lines for Listed<'a> {
@@ -158,34 +117,14 @@ impl<'a> Lines for Listed<'a> {
 
     ghost said = { λ s router port vc. rank_line s.ranks.now.grid (rank_row s.ranks.now router port vc) };
 
-    fn shape(&self) -> &Shape {
-        self.shape
-    }
-
-    fn listed(&self) -> usize {
-        self.shape.ports() - 1
-    }
-
-    fn inputs(&self) -> &Inputs {
-        &self.inputs
-    }
-
-    fn vcs(&self) -> usize {
-        self.vcs
-    }
-
     fn add_line(&self, router: usize, port: usize, vc: usize, page: &mut Page) {
-        let rank = match self.ranks.rank(router, port, vc) {
-            Some(rank) => Some(rank as usize),
-            None => None,
-        };
-        let row = RankRow {
-            router,
-            port,
-            vc,
-            rank,
-        };
-        add_row(self.shape, &row, page);
+        page.add_column(router as u64);
+        page.add(known_name(self.shape, port));
+        page.add_byte(b',');
+        page.add_column(vc as u64);
+        let rank = self.ranks.rank(router, port, vc).map(u64::from);
+        page.add_or(rank, ADAPTIVE);
+        page.add_byte(b'\n');
     }
 }
 
@@ -203,11 +142,15 @@ pub fn write_ranks<W: Sink>(
     requires few { vcs ≤ MAX_CHANNELS }
     ensures { Wrote W.contents W.has_failed sink.old sink.new (ranks_text ranks.now) result }
 {
-    let listed = Listed {
-        ranks,
+    let lines = Listed { ranks, shape };
+    let inputs = inputs_of(shape);
+    let listing = Listing {
+        lines: &lines,
         shape,
+        inputs: &inputs,
+        listed: shape.ports() - 1,
         vcs,
-        inputs: inputs_of(shape),
+        router: None,
     };
-    write_lines("router,port,vc,rank\n", &listed, None, sink)
+    write_lines("router,port,vc,rank\n", &listing, sink)
 }

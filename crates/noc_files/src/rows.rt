@@ -5,12 +5,12 @@ ghost use Rattle.std.specs.Prelude.{ℕ, List, ◌≡◌, ◌∷◌, [], true, f
 ghost use Rattle.std.specs.Cmp.Lexicographic.{pointwise};
 ghost use Rattle.std.specs.Str.{bytes_eq};
 ghost use Rattle.csv.specs.Records.{fields_of};
-ghost use Rattle.csv.specs.Reading.{AreRecords, default_config, error_kind, strip_bom};
+ghost use Rattle.csv.specs.Reading.{AreRecords, default_config, strip_bom};
 ghost use Rattle.noc_files.specs.declared.fault.InputFault.TheVariants.{Memory};
 ghost use Rattle.noc_topo.specs.Words.{Each};
 ghost use Rattle.noc_files.specs.Plain.{IsPlainRow, plain_text};
 ghost use Rattle.noc_files.specs.Ports.{port_at};
-ghost use Rattle.noc_files.specs.Rows.{Fields, IsBetweenRows, IsReadRefusal, number_of, number_at, rows_left, text_rows};
+ghost use Rattle.noc_files.specs.Rows.{Fields, IsBetweenRows, number_of, number_at, rows_left, text_rows};
 
 use crate::fault::InputFault;
 use crate::ports::port_named;
@@ -29,18 +29,7 @@ pub(crate) fn rows(alloc: Global, text: &[u8]) -> Reader<&[u8]>
         .from_reader(alloc, text)
 }
 
-// The fault of a reader that could not read a row of any length. A slice never fails, so memory was refused.
-fn refusal(error: csv::Error) -> InputFault
-    requires { IsReadRefusal (error_kind error) }
-    ensures { result ≡ Memory }
-{
-    match error.into_kind() {
-        ErrorKind::OutOfMemory | ErrorKind::Io(_) => InputFault::Memory,
-        _ => unreachable!(),
-    }
-}
-
-// Reads the next row into `row`, if there is one.
+// Reads the next row into `row`, if there is one. Rows have any length and a slice never fails, so memory was refused where none is read.
 pub(crate) fn next_row(reader: &mut Reader<&[u8]>, row: &mut ByteRecord) -> Result<bool, InputFault>
     requires { IsBetweenRows reader.old }
     ensures ready { IfOk result (λ found. found ≡ true → IsBetweenRows reader.new) }
@@ -50,7 +39,10 @@ pub(crate) fn next_row(reader: &mut Reader<&[u8]>, row: &mut ByteRecord) -> Resu
 {
     match reader.read_byte_record(row) {
         Ok(found) => Ok(found),
-        Err(error) => Err(refusal(error)),
+        Err(error) => match error.into_kind() {
+            ErrorKind::OutOfMemory | ErrorKind::Io(_) => Err(InputFault::Memory),
+            _ => unreachable!(),
+        },
     }
 }
 

@@ -4,21 +4,19 @@ ghost use Rattle.std.specs.Prelude.{◌≡◌, ◌+◌, ◌≤◌, ◌++◌, ℕ
 ghost use Rattle.std.specs.List.{flat_map};
 ghost use Rattle.noc_topo.specs.Shape.{ports};
 ghost use Rattle.noc_theory.specs.Network.{Run as RunValue};
-ghost use Rattle.noc_files.specs.Channels.{AreInputs};
 ghost use Rattle.noc_files.specs.Stalls.{channel_counts, channel_line, count_text, stalls_text};
 ghost use Rattle.noc_files.specs.Writing.{Wrote};
 ghost use Rattle.noc_files.specs.declared.page.TheConstants.{PAGE};
 ghost use Rattle.noc_files.specs.declared.stalls.TheConstants.{COUNTS};
 
-use crate::inputs::{Inputs, inputs_of};
-use crate::listing::{Lines, write_lines};
+use crate::inputs::inputs_of;
+use crate::listing::{Lines, Listing, write_lines};
 use crate::page::{COLUMN, Page};
 use crate::ports::known_name;
 use crate::sink::Sink;
 use crate::writing::WriteFault;
 use noc_net::Network;
 use noc_router::VERDICTS;
-use noc_topo::Shape;
 
 // The most bytes of the counts of a channel.
 const COUNTS: usize = VERDICTS * COLUMN;
@@ -35,12 +33,10 @@ fn add_counts(counts: &[u64; VERDICTS], page: &mut Page)
     }
 }
 
-// The lines of a stall report, of a network whose shape has these input ports.
+// The lines of a stall report.
 #[derive(Drop)]
 struct StallLines<'a> {
     network: &'a Network,
-    inputs: Inputs,
-    ghost known: { AreInputs network.now.net.relation.grid inputs },
 }
 
 impl<'a> Lines for StallLines<'a> {
@@ -51,22 +47,6 @@ impl<'a> Lines for StallLines<'a> {
     ghost vcs = { λ s. s.network.now.net.relation.vcs };
 
     ghost said = { λ s. channel_line s.network.now };
-
-    fn shape(&self) -> &Shape {
-        self.network.relation().shape()
-    }
-
-    fn listed(&self) -> usize {
-        self.network.relation().shape().ports()
-    }
-
-    fn inputs(&self) -> &Inputs {
-        &self.inputs
-    }
-
-    fn vcs(&self) -> usize {
-        self.network.relation().vcs()
-    }
 
     #[tactic(auto, unfolding(crate::specs::Stalls::channel_line, crate::specs::Stalls::channel_counts))]
     fn add_line(&self, router: usize, port: usize, vc: usize, page: &mut Page) {
@@ -88,9 +68,19 @@ pub fn write_stalls<W: Sink>(network: &Network, sink: &mut W) -> Result<(), Writ
 {
     let header =
         "router,port,vc,empty,routed,granted,moved,no_flit,no_idle_channel,lost_channel,no_credit,lost_input,lost_switch\n";
-    let inputs = inputs_of(network.relation().shape());
-    let lines = StallLines { network, inputs };
-    write_lines(header, &lines, None, sink)
+    let relation = network.relation();
+    let shape = relation.shape();
+    let lines = StallLines { network };
+    let inputs = inputs_of(shape);
+    let listing = Listing {
+        lines: &lines,
+        shape,
+        inputs: &inputs,
+        listed: shape.ports(),
+        vcs: relation.vcs(),
+        router: None,
+    };
+    write_lines(header, &listing, sink)
 }
 
 /// The ten counts of a line of the stall report add up to the cycles of the run.

@@ -1,15 +1,15 @@
 //! The summary report (docs/FORMATS.md).
 
-ghost use Rattle.std.specs.Prelude.{◌+◌, ◌*◌, ◌^◌, ◌<◌, ◌≤◌, ◌++◌, [], ◌∷◌, length, nat_le, sum, true, ◌≡◌, ℕ, List, Some, None};
+ghost use Rattle.std.specs.Prelude.{◌+◌, ◌*◌, ◌^◌, ◌<◌, ◌≤◌, ◌++◌, [], length, nat_le, sum, true, ◌≡◌, ℕ, List, Some, None};
 ghost use Rattle.std.specs.List.{flat_map, list_all};
 ghost use Rattle.noc_topo.specs.Shape.{nodes, ports};
 ghost use Rattle.noc_files.specs.Channels.{over_port, over_router};
-ghost use Rattle.noc_files.specs.Summary.{IsGreatest, column_entry, column_total, entry_value, greatest_of, latencies, latency_at, summary_line, summary_lines, summary_of, summary_text};
+ghost use Rattle.noc_files.specs.Summary.{IsGreatest, column_entry, column_total, entry_value, greatest_of, latencies, summary_line, summary_lines, summary_of, summary_text};
 ghost use Rattle.noc_files.specs.Writing.{Wrote, dash_or};
 ghost use Rattle.noc_files.specs.declared.page.TheConstants.{PAGE};
 ghost use Rattle.noc_files.specs.declared.summary.TheConstants.{ENTRIES, LINE, LONGEST_NAME, WIDE};
 
-use crate::latency::latency_of;
+use crate::latency::latency;
 use crate::page::Page;
 use crate::ports::has_inputs;
 use crate::sink::Sink;
@@ -51,19 +51,6 @@ struct LatencyTotals {
     greatest: Option<u64>,
 }
 
-// Adds a line of a name, and a number or a dash.
-fn add_line(name: &str, number: Option<u128>, page: &mut Page)
-    requires name { length name.now ≤ LONGEST_NAME }
-    requires room { length page.old + LINE ≤ PAGE }
-    ensures added { page.new ≡ page.old ++ summary_line (name.now, number) }
-    ensures short { length page.new ≤ length page.old + LINE }
-{
-    page.add(name);
-    page.add_byte(b' ');
-    add_number(number, page);
-    page.add_byte(b'\n');
-}
-
 // Adds a number, or a dash where there is none.
 fn add_number(number: Option<u128>, page: &mut Page)
     requires room { length page.old + WIDE ≤ PAGE }
@@ -87,7 +74,10 @@ fn fill(entries: &[(&str, Option<u128>)], page: &mut Page)
 {
     page.clear();
     for entry in entries {
-        add_line(entry.0, entry.1, page);
+        page.add(entry.0);
+        page.add_byte(b' ');
+        add_number(entry.1, page);
+        page.add_byte(b'\n');
     }
 }
 
@@ -117,16 +107,6 @@ fn fill_summary(s: &Summary, page: &mut Page)
         ("lost_switch", Some(s.totals[9])),
     ];
     fill(&entries, page);
-}
-
-// The latency of the packet with this number, if its tail is out.
-#[tactic(auto, unfolding(crate::specs::Summary::latency_at))]
-fn latency(network: &Network, number: usize) -> Option<u64>
-    requires { number < length network.now.net.packets }
-    ensures { result ≡ latency_at network.now number }
-{
-    let packet = network.packet(number);
-    latency_of(&packet, network.arrival(number))
 }
 
 // Counts the latencies of the packets whose tails are out, and finds their sum and the greatest of them.
@@ -173,22 +153,9 @@ fn port_total(network: &Network, router: usize, port: usize, column: usize) -> u
     }
     let mut total = 0u128;
     for vc in 0..network.relation().vcs() {
-        total += count_at(network, router, port, vc, column);
+        total += u128::from(network.counts(router, port, vc)[column]);
     }
     total
-}
-
-// An input channel's count in a column of the stall report.
-#[tactic(auto, unfolding(crate::specs::Summary::column_entry, crate::specs::Stalls::channel_counts))]
-fn count_at(network: &Network, router: usize, port: usize, vc: usize, column: usize) -> u128
-    requires router { router < nodes network.now.net.relation.grid }
-    requires port { port < ports network.now.net.relation.grid }
-    requires vc { vc < network.now.net.relation.vcs }
-    requires column { column < 10 }
-    ensures bound { result < 2 ^ 64 }
-    ensures value { column_entry network.now column router port vc ≡ result ∷ [] }
-{
-    u128::from(network.counts(router, port, vc)[column])
 }
 
 // The sum of a column of the stall report over the channels of a router.
@@ -249,20 +216,13 @@ fn summary_of(network: &Network) -> Summary
     }
 }
 
-// Writes a summary. It stays a call, so that its callers need no stack for a page.
-#[inline(never)]
-fn write_page<W: Sink>(s: &Summary, sink: &mut W) -> Result<(), WriteFault>
-    ensures { Wrote W.contents W.has_failed sink.old sink.new (summary_lines s.now) result }
-{
-    let mut page = Page::new();
-    fill_summary(s, &mut page);
-    put_all(sink, page.text())
-}
-
 /// Writes the summary: eighteen lines of a name and a number, over the packets and the input channels of the network.
-/// Latencies are over the packets whose tail is out.
+/// Latencies are over the packets whose tail is out. It stays a call, so that its callers need no stack for a page.
+#[inline(never)]
 pub fn write_summary<W: Sink>(network: &Network, sink: &mut W) -> Result<(), WriteFault>
     ensures { Wrote W.contents W.has_failed sink.old sink.new (summary_text network.now) result }
 {
-    write_page(&summary_of(network), sink)
+    let mut page = Page::new();
+    fill_summary(&summary_of(network), &mut page);
+    put_all(sink, page.text())
 }

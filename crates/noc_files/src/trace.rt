@@ -1,9 +1,7 @@
 //! The trace: what each input channel did in each cycle of a span (docs/FORMATS.md).
 
 ghost use Rattle.std.specs.Prelude.{◌≡◌, ℕ, ◌+◌, ◌*◌, ◌/◌, ◌%◌, ◌-◌, ◌^◌, ◌<◌, ◌≤◌, ◌++◌, [], ◌∷◌, IfOk, IfSome, List, None, Option, Some, codes, decimal, false, if◌then◌else◌, is_some, length, map, option_and_then, option_map, replicate, slice_get, true};
-ghost use Rattle.std.specs.List.{flat_map};
 ghost use Rattle.noc_topo.specs.Shape.{nodes, ports};
-ghost use Rattle.noc_topo.specs.Words.{below};
 ghost use Rattle.noc_packet.specs.Set.{has_bit};
 ghost use Rattle.noc_route.specs.Routes.{Routes as RoutesValue};
 ghost use Rattle.noc_router.specs.Found.{empty_finding};
@@ -14,7 +12,7 @@ ghost use Rattle.noc_files.specs.Channels.{AreInputs};
 ghost use Rattle.noc_files.specs.Findings.{found_line};
 ghost use Rattle.noc_files.specs.Ports.{name_of_port};
 ghost use Rattle.noc_files.specs.Stalls.{channel_counts};
-ghost use Rattle.noc_files.specs.Trace.{AreRows, cycle_text, has_below, finds_empty, is_asking, is_same, is_traced, kept_at, kept_line, member_text, nothing_found, over_traced, permitted_text, permitted_to, said_by_both, set_text, traced_finding, told_counts, told_text, trace_header, trace_line, trace_text, traced_line, way_text, when_text, whole};
+ghost use Rattle.noc_files.specs.Trace.{AreRows, has_below, finds_empty, is_asking, is_same, kept_at, kept_line, member_text, nothing_found, over_traced, permitted_text, permitted_to, said_by_both, set_text, traced_finding, told_counts, told_text, trace_line, trace_text, traced_line, way_text, when_text, whole};
 ghost use Rattle.noc_files.specs.Word.{AreWords, word_text};
 ghost use Rattle.noc_files.specs.Writing.{Puts, Wrote, comma, taken, text_of_pieces, line_end};
 ghost use Rattle.noc_files.specs.declared.page.TheConstants.{PAGE};
@@ -78,30 +76,13 @@ impl Trace {
         Ok(Trace { traced, rows })
     }
 
-    // What was told of an input channel in the cycle before.
-    fn before(&self, router: usize, index: usize) -> Option<&Finding>
-        ensures { option_map (λ finding. finding.now) result ≡ option_and_then (traced_finding self.now.0.packet) (kept_at self.now.1 router index) }
-    {
-        let found = self.rows.get(router)?.get(index)?;
-        told(self.traced.packet, found)
-    }
-
-    // What is told of it in the last cycle of a network.
-    fn now<'a>(&self, network: &'a Network, router: usize, index: usize) -> Option<&'a Finding>
-        requires { router < nodes network.now.net.relation.grid }
-        ensures { option_map (λ finding. finding.now) result ≡ option_and_then (traced_finding self.now.0.packet) (slice_get (findings_before network.now.net network.now.count router) index) }
-    {
-        let found = network.findings(router).get(index)?;
-        told(self.traced.packet, found)
-    }
-
-    // Whether nothing was told of any input channel of a router in the cycle before.
-    fn told_nothing(&self, router: usize) -> bool
-        ensures { result ≡ true → (index : ℕ) → option_and_then (traced_finding self.now.0.packet) (kept_at self.now.1 router index) ≡ None }
+    // What a router found in the cycle before, as far as it is kept.
+    fn row(&self, router: usize) -> &[Finding]
+        ensures { (index : ℕ) → slice_get result.now index ≡ kept_at self.now.1 router index }
     {
         match self.rows.get(router) {
-            Some(row) => tells_nothing(self.traced.packet, row),
-            None => true,
+            Some(row) => row,
+            None => &[],
         }
     }
 
@@ -159,21 +140,11 @@ const NOTHING: Finding = Finding {
     out: None,
 };
 
-// Whether a channel with this packet is one of those that are traced.
-fn is_traced(packet: Option<u64>, held: Option<u32>) -> bool
-    ensures { result ≡ is_traced packet held }
+// What a trace tells of one of these channels: nothing where it is Empty or not one of those that are traced.
+fn told_at(packet: Option<u64>, findings: &[Finding], index: usize) -> Option<&Finding>
+    ensures { option_map (λ finding. finding.now) result ≡ option_and_then (traced_finding packet) (slice_get findings.now index) }
 {
-    match (packet, held) {
-        (None, _) => true,
-        (Some(_), None) => false,
-        (Some(packet), Some(held)) => packet == u64::from(held),
-    }
-}
-
-// What a trace tells of a channel: nothing where it is Empty or not one of those that are traced.
-fn told(packet: Option<u64>, finding: &Finding) -> Option<&Finding>
-    ensures { option_map (λ finding. finding.now) result ≡ traced_finding packet finding.now }
-{
+    let finding = findings.get(index)?;
     if is_told(packet, finding) {
         Some(finding)
     } else {
@@ -181,11 +152,18 @@ fn told(packet: Option<u64>, finding: &Finding) -> Option<&Finding>
     }
 }
 
-// Whether anything is told of it.
+// Whether anything is told of a channel.
 fn is_told(packet: Option<u64>, finding: &Finding) -> bool
     ensures { result ≡ is_some (traced_finding packet finding.now) }
 {
-    !matches!(finding.verdict, Verdict::Empty) && is_traced(packet, finding.packet)
+    if matches!(finding.verdict, Verdict::Empty) {
+        return false;
+    }
+    match (packet, finding.packet) {
+        (None, _) => true,
+        (Some(_), None) => false,
+        (Some(packet), Some(held)) => packet == u64::from(held),
+    }
 }
 
 // Whether nothing is told of any of these channels.
@@ -301,7 +279,7 @@ fn add_member(relation: &Relation, words: &Words, index: usize, has_some: bool, 
     ensures short { length page.new ≤ length page.old + MEMBER }
 {
     add_gap(has_some, page);
-    page.add_word(words.channel(relation, index));
+    page.add_word(&words.channels[index]);
 }
 
 // Adds a space where there are some before.
@@ -364,12 +342,10 @@ fn add_told(
 #[derive(Drop)]
 struct CycleLines<'a> {
     network: &'a Network,
-    inputs: &'a Inputs,
     words: &'a Words,
     trace: &'a Trace,
     cycle: u64,
     number: Word,
-    ghost known: { AreInputs network.now.net.relation.grid inputs.now },
     ghost named: { AreWords network.now.net.relation words.now },
     ghost numbered: { word_text number ≡ decimal cycle ++ comma },
 }
@@ -383,32 +359,19 @@ impl<'a> Lines for CycleLines<'a> {
 
     ghost said = { λ s router port vc. kept_line s.network.now s.trace.now.0 s.trace.now.1 s.cycle router port vc };
 
-    fn shape(&self) -> &Shape {
-        self.network.relation().shape()
-    }
-
-    fn listed(&self) -> usize {
-        self.network.relation().shape().ports()
-    }
-
-    fn inputs(&self) -> &Inputs {
-        self.inputs
-    }
-
-    fn vcs(&self) -> usize {
-        self.network.relation().vcs()
-    }
-
     fn is_silent(&self, router: usize) -> bool {
         let trace = self.trace;
-        trace.told_nothing(router)
-            && tells_nothing(trace.traced.packet, self.network.findings(router))
+        let packet = trace.traced.packet;
+        tells_nothing(packet, trace.row(router))
+            && tells_nothing(packet, self.network.findings(router))
     }
 
     fn add_line(&self, router: usize, port: usize, vc: usize, page: &mut Page) {
         let index = port * self.network.relation().vcs() + vc;
-        let before_it = self.trace.before(router, index);
-        let now = self.trace.now(self.network, router, index);
+        let trace = self.trace;
+        let packet = trace.traced.packet;
+        let before_it = told_at(packet, trace.row(router), index);
+        let now = told_at(packet, self.network.findings(router), index);
         if is_same(before_it, now) {
             return;
         }
@@ -418,15 +381,6 @@ impl<'a> Lines for CycleLines<'a> {
         page.add_column(router as u64);
         add_told(self.network, self.words, router, port, vc, finding, page);
     }
-}
-
-// The word of a cycle, with a comma behind its number.
-fn number_word(cycle: u64, page: &mut Page) -> Word
-    ensures { word_text result ≡ decimal cycle ++ comma }
-{
-    page.clear();
-    page.add_column(cycle);
-    Word::of(page.text())
 }
 
 // Puts the lines of a trace in the last cycle of a network, and says how many bytes they have.
@@ -446,35 +400,44 @@ fn put_cycle<W: Sink>(
     ensures puts { Puts W.contents W.has_failed sink.old sink.new (over_traced network.now.net.relation trace.now.0.router (kept_line network.now trace.now.0 trace.now.1 cycle)) result }
     ensures few { taken result ≤ LONGEST_TEXT }
 {
+    page.clear();
+    page.add_column(cycle);
     let lines = CycleLines {
         network,
-        inputs,
         words,
         trace,
         cycle,
-        number: number_word(cycle, page),
+        number: Word::of(page.text()),
     };
+    let relation = network.relation();
+    let shape = relation.shape();
     let listing = Listing {
         lines: &lines,
+        shape,
+        inputs,
+        listed: shape.ports(),
+        vcs: relation.vcs(),
         router: trace.traced.router,
     };
     put_pages(&listing, page, sink)
 }
 
-// Puts the header of a trace, runs a network for so many cycles more, and puts the lines of each, which are handed on before the
-// next one. It stays a call, so that its callers need no stack for a page.
+/// Runs a network for so many cycles more, and writes the trace of them as it goes: for each cycle, each router and each of its
+/// input channels, in the order of the stall report, a line if another thing is told of the channel than was told before. In a trace
+/// of changes that is what was told in the cycle before, within the trace; in another trace nothing was. The router exists. The lines
+/// of a cycle are handed on before the next one. It stays a call, so that its callers need no stack for a page.
 #[inline(never)]
-fn put_cycles<W: Sink>(
+pub fn write_trace<W: Sink>(
     network: &mut Network,
     cycles: u64,
-    trace: &mut Trace,
+    mut trace: Trace,
     sink: &mut W,
 ) -> Result<(), WriteFault>
     requires cycles { network.old.count + cycles ≤ CYCLE_LIMIT }
-    requires router { IfSome trace.old.0.router (λ router. router < nodes network.old.net.relation.grid) }
-    requires opening { trace.old.1 ≡ nothing_found network.old.net trace.old.0.changes }
+    requires router { IfSome trace.0.router (λ router. router < nodes network.old.net.relation.grid) }
+    requires opening { trace.1 ≡ nothing_found network.old.net trace.0.changes }
     ensures run { IfOk result (λ _. network.new ≡ record network.old { count = network.old.count + cycles }) }
-    ensures text { Wrote W.contents W.has_failed sink.old sink.new (trace_header ++ flat_map (λ k. cycle_text network.old.net trace.old.0 network.old.count (network.old.count + k)) (below cycles)) result }
+    ensures text { Wrote W.contents W.has_failed sink.old sink.new (trace_text (record network.old { count = network.old.count + cycles }) network.old.count trace.0) result }
 {
     let header = "cycle,router,port,vc,verdict,packet,out,permitted\n";
     put_all(sink, header.as_bytes())?;
@@ -489,7 +452,7 @@ fn put_cycles<W: Sink>(
             network,
             &inputs,
             &words,
-            trace,
+            &trace,
             first + turn,
             &mut page,
             sink,
@@ -501,24 +464,6 @@ fn put_cycles<W: Sink>(
         trace.keep(network);
     }
     Ok(())
-}
-
-/// Runs a network for so many cycles more, and writes the trace of them as it goes: for each cycle, each router and each of its
-/// input channels, in the order of the stall report, a line if another thing is told of the channel than was told before. In a trace
-/// of changes that is what was told in the cycle before, within the trace; in another trace nothing was. The router exists.
-pub fn write_trace<W: Sink>(
-    network: &mut Network,
-    cycles: u64,
-    mut trace: Trace,
-    sink: &mut W,
-) -> Result<(), WriteFault>
-    requires cycles { network.old.count + cycles ≤ CYCLE_LIMIT }
-    requires router { IfSome trace.0.router (λ router. router < nodes network.old.net.relation.grid) }
-    requires opening { trace.1 ≡ nothing_found network.old.net trace.0.changes }
-    ensures run { IfOk result (λ _. network.new ≡ record network.old { count = network.old.count + cycles }) }
-    ensures text { Wrote W.contents W.has_failed sink.old sink.new (trace_text (record network.old { count = network.old.count + cycles }) network.old.count trace.0) result }
-{
-    put_cycles(network, cycles, &mut trace, sink)
 }
 
 /// A line of a trace is what `explain` says of the channel in that cycle, with the cycle and the router before it and what was

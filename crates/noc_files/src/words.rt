@@ -1,18 +1,16 @@
 //! The texts that are the same in many lines on the channels of a network, each made once.
 
-ghost use Rattle.std.specs.Prelude.{◌≡◌, ℕ, ◌+◌, ◌*◌, ◌/◌, ◌%◌, ◌<◌, ◌≤◌, ◌++◌, [], ◌∷◌, List, Some, codes, decimal, length, option_map, slice_get};
+ghost use Rattle.std.specs.Prelude.{◌≡◌, ◌+◌, ◌<◌, ◌≤◌, ◌++◌, [], ◌∷◌, Some, length, option_map, slice_get};
 ghost use Rattle.noc_topo.specs.Shape.{ports};
-ghost use Rattle.noc_packet.specs.declared.limits.TheConstants.{INDICES, MAX_CHANNELS};
+ghost use Rattle.noc_packet.specs.declared.limits.TheConstants.{MAX_CHANNELS};
 ghost use Rattle.noc_router.specs.Verdict.{column};
 ghost use Rattle.noc_router.specs.declared.verdict.Verdict.{Verdict as VerdictValue};
 ghost use Rattle.noc_files.specs.Findings.{out_name, verdict_text, verdict_word};
-ghost use Rattle.noc_files.specs.Word.{AreWords, HasTexts, channel_text, input_text, output_text, word_text};
-ghost use Rattle.noc_files.specs.Ports.{name_of_port};
-ghost use Rattle.noc_files.specs.Writing.{comma, text_of_pieces};
+ghost use Rattle.noc_files.specs.Word.{AreWords, HasTexts, channel_name, channel_text, word_text};
+ghost use Rattle.noc_files.specs.Writing.{comma};
 ghost use Rattle.noc_files.specs.declared.page.TheConstants.{PAGE};
 ghost use Rattle.noc_files.specs.declared.words.TheConstants.{LONGEST_VERDICT};
 
-use crate::findings::{add_out, verdict_name};
 use crate::page::{COLUMN, Page};
 use crate::ports::port_name;
 use crate::word::{EMPTY, WORD, Word};
@@ -25,7 +23,7 @@ use noc_topo::Shape;
 pub(crate) const LONGEST_VERDICT: usize = 2 * WORD + COLUMN;
 
 /// The words of a relation: for each port and number its input channel and its output channel, for each index its output
-/// channel, and for each verdict its name.
+/// channel, and for each verdict its name between two commas.
 #[derive(Drop)]
 pub(crate) struct Words {
     pub(crate) inputs: [Word; INDICES],
@@ -43,22 +41,11 @@ impl Words {
         let mut page = Page::new();
         let shape = relation.shape();
         Words {
-            inputs: table_of(&InputTexts { shape }, &mut page),
-            outputs: table_of(&OutputTexts { shape }, &mut page),
-            channels: table_of(&ChannelTexts { relation }, &mut page),
-            verdicts: verdict_words(&mut page),
+            inputs: table_of(shape, MAX_CHANNELS, b',', &mut page),
+            outputs: table_of(shape, MAX_CHANNELS, b'.', &mut page),
+            channels: table_of(shape, relation.vcs(), b'.', &mut page),
+            verdicts: verdict_words(),
         }
-    }
-
-    /// The word of an output channel of the relation.
-    #[inline]
-    pub(crate) fn channel(&self, relation: &Relation, index: usize) -> &Word
-        requires words { AreWords relation.now self.now }
-        requires index { index < INDICES }
-        requires port { index / relation.now.vcs < ports relation.now.grid }
-        ensures { word_text result.now ≡ text_of_pieces (name_of_port relation.now.grid (index / relation.now.vcs) ∷ codes "." ∷ decimal (index % relation.now.vcs) ∷ []) }
-    {
-        &self.channels[index]
     }
 
     /// Adds an input channel by its port and its number, its verdict and its packet.
@@ -78,30 +65,19 @@ impl Words {
         ensures added { page.new ≡ page.old ++ verdict_text relation.now.grid port vc finding.now }
         ensures short { length page.new ≤ length page.old + LONGEST_VERDICT }
     {
-        page.add_word(self.input(relation, port, vc));
+        // (the count says that the place is within the table)
+        prove!(port < relation.shape().ports());
+        page.add_word(&self.inputs[port * MAX_CHANNELS + vc]);
         page.add_word(self.verdict(relation, finding.verdict));
-        page.add_or_dash(finding.packet.map(u64::from));
+        page.add_or(finding.packet.map(u64::from), "-");
         page.add_byte(b',');
     }
 
-    // The word of an input channel, with a comma behind its port and its number.
-    #[inline]
-    fn input(&self, relation: &Relation, port: usize, vc: usize) -> &Word
-        requires words { AreWords relation.now self.now }
-        requires port { port < ports relation.now.grid }
-        requires vc { vc < MAX_CHANNELS }
-        ensures { word_text result.now ≡ input_text relation.now.grid (port * MAX_CHANNELS + vc) }
-    {
-        // (the count says that the place is within the table)
-        prove!(port < relation.shape().ports());
-        &self.inputs[port * MAX_CHANNELS + vc]
-    }
-
-    // The word of a verdict, with a comma behind its name.
+    // The word of a verdict, between two commas.
     #[inline]
     fn verdict(&self, relation: &Relation, verdict: Verdict) -> &Word
         requires words { AreWords relation.now self.now }
-        ensures { word_text result.now ≡ verdict_word verdict ++ comma }
+        ensures { word_text result.now ≡ comma ++ verdict_word verdict ++ comma }
     {
         &self.verdicts[verdict as usize]
     }
@@ -116,129 +92,53 @@ impl Words {
     {
         match out {
             Some((port, vc)) if port < MAX_PORTS && vc < MAX_CHANNELS => {
-                page.add_word(self.output(relation, port, vc));
+                page.add_word(&self.outputs[port * MAX_CHANNELS + vc]);
             }
-            Some((port, vc)) => add_out(relation.shape(), port, vc, page),
+            Some((port, vc)) => add_channel(relation.shape(), port, b'.', vc, page),
             None => page.add_byte(b'-'),
         }
     }
-
-    // The word of an output channel.
-    #[inline]
-    fn output(&self, relation: &Relation, port: usize, vc: usize) -> &Word
-        requires words { AreWords relation.now self.now }
-        requires port { port < MAX_PORTS }
-        requires vc { vc < MAX_CHANNELS }
-        ensures { word_text result.now ≡ out_name relation.now.grid (Some (port, vc)) }
-    {
-        &self.outputs[port * MAX_CHANNELS + vc]
-    }
 }
 
-// A text for each place of a table.
-trait Texts {
-    // The text of a place.
-    ghost text: { Self → ℕ → List ℕ };
-
-    // Adds it.
-    fn add(&self, place: usize, page: &mut Page)
-        requires place { place < INDICES }
-        requires room { length page.old + WORD ≤ PAGE }
-        ensures added { page.new ≡ page.old ++ text self.now place }
-        ensures short { length page.new ≤ length page.old + WORD };
-}
-
-// The word of a place.
-fn word_of<T: Texts>(texts: &T, place: usize, page: &mut Page) -> Word
-    requires { place < INDICES }
-    ensures { word_text result ≡ T.text texts.now place }
-{
-    page.clear();
-    texts.add(place, page);
-    Word::of(page.text())
-}
-
-// The words of all places.
-fn table_of<T: Texts>(texts: &T, page: &mut Page) -> [Word; INDICES]
-    ensures { HasTexts (T.text texts.now) result }
+// The channels of a shape by their places, so many places to a port: the port, a byte and the number.
+fn table_of(shape: &Shape, width: usize, between: u8, page: &mut Page) -> [Word; INDICES]
+    requires { 1 ≤ width }
+    ensures { HasTexts (channel_text shape.now width (between ∷ [])) result }
 {
     let mut table = [EMPTY; INDICES];
     for place in 0..INDICES {
-        table[place] = word_of(texts, place, page);
+        page.clear();
+        add_channel(shape, place / width, between, place % width, page);
+        table[place] = Word::of(page.text());
     }
     table
 }
 
-// The input channels, eight places to a port.
-#[derive(Drop)]
-struct InputTexts<'a> {
-    shape: &'a Shape,
+// Adds a channel: the name of its port, a byte and its number.
+fn add_channel(shape: &Shape, port: usize, between: u8, vc: usize, page: &mut Page)
+    requires room { length page.old + WORD ≤ PAGE }
+    ensures added { page.new ≡ page.old ++ channel_name shape.now (between ∷ []) port vc }
+    ensures short { length page.new ≤ length page.old + WORD }
+{
+    page.add(port_name(shape, port).unwrap_or("-"));
+    page.add_byte(between);
+    page.add_number(vc as u64);
 }
 
-impl<'a> Texts for InputTexts<'a> {
-    ghost text = { λ s. input_text s.shape.now };
-
-    fn add(&self, place: usize, page: &mut Page) {
-        page.add(port_name(self.shape, place / MAX_CHANNELS).unwrap_or("-"));
-        page.add_byte(b',');
-        page.add_column((place % MAX_CHANNELS) as u64);
-    }
-}
-
-// The output channels, eight places to a port.
-#[derive(Drop)]
-struct OutputTexts<'a> {
-    shape: &'a Shape,
-}
-
-impl<'a> Texts for OutputTexts<'a> {
-    ghost text = { λ s. output_text s.shape.now };
-
-    fn add(&self, place: usize, page: &mut Page) {
-        add_out(self.shape, place / MAX_CHANNELS, place % MAX_CHANNELS, page);
-    }
-}
-
-// The output channels by their indices.
-#[derive(Drop)]
-struct ChannelTexts<'a> {
-    relation: &'a Relation,
-}
-
-impl<'a> Texts for ChannelTexts<'a> {
-    ghost text = { λ s. channel_text s.relation.now };
-
-    fn add(&self, place: usize, page: &mut Page) {
-        let relation = self.relation;
-        let vcs = relation.vcs();
-        add_out(relation.shape(), place / vcs, place % vcs, page);
-    }
-}
-
-// The words of all verdicts.
-fn verdict_words(page: &mut Page) -> [Word; VERDICTS]
-    ensures { (verdict : VerdictValue) → option_map word_text (slice_get result (column verdict)) ≡ Some (verdict_word verdict ++ comma) }
+// The words of all verdicts, each between two commas.
+fn verdict_words() -> [Word; VERDICTS]
+    ensures { (verdict : VerdictValue) → option_map word_text (slice_get result (column verdict)) ≡ Some (comma ++ verdict_word verdict ++ comma) }
 {
     [
-        verdict_word_of(Verdict::Empty, page),
-        verdict_word_of(Verdict::Routed, page),
-        verdict_word_of(Verdict::Granted, page),
-        verdict_word_of(Verdict::Moved, page),
-        verdict_word_of(Verdict::NoFlit, page),
-        verdict_word_of(Verdict::NoIdleChannel, page),
-        verdict_word_of(Verdict::LostChannel, page),
-        verdict_word_of(Verdict::NoCredit, page),
-        verdict_word_of(Verdict::LostInput, page),
-        verdict_word_of(Verdict::LostSwitch, page),
+        Word::of(b",Empty,"),
+        Word::of(b",Routed,"),
+        Word::of(b",Granted,"),
+        Word::of(b",Moved,"),
+        Word::of(b",NoFlit,"),
+        Word::of(b",NoIdleChannel,"),
+        Word::of(b",LostChannel,"),
+        Word::of(b",NoCredit,"),
+        Word::of(b",LostInput,"),
+        Word::of(b",LostSwitch,"),
     ]
-}
-
-// The word of a verdict.
-fn verdict_word_of(verdict: Verdict, page: &mut Page) -> Word
-    ensures { word_text result ≡ verdict_word verdict ++ comma }
-{
-    page.clear();
-    page.add(verdict_name(verdict));
-    page.add_byte(b',');
-    Word::of(page.text())
 }

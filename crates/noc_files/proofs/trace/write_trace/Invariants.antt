@@ -4,7 +4,7 @@ use Rattle.noc_topo.specs.Words.{below}
 use Rattle.noc_files.specs.Trace.{cycle_text, trace_header}
 use Rattle.noc_files.specs.declared.pages.TheConstants.{LONGEST_TEXT}
 use Rattle.noc_files.proofs.TraceCycleLemmas.{IsKept}
-use Rattle.noc_files.proofs.trace.put_cycles.Given as goal
+use Rattle.noc_files.proofs.trace.write_trace.Given as goal
 
 abbrev pub invariant-loop-turn : goal.invariant-loop-turn
 invariant-loop-turn g l = record {
