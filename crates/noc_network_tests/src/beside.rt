@@ -12,6 +12,7 @@ use noc_rows::Rows;
 use noc_topo::Kind;
 use std::alloc::Global;
 use std::ops::Range;
+use std::process::Abort;
 use std::test::Fail;
 
 // Whether two networks run alike, of which the first has rows.
@@ -86,26 +87,45 @@ fn run_one(
     Ok(Some(run_alike(&mut rows, &mut routers)))
 }
 
-// Shapes by their numbers, from one up to another, with how many networks of each are run, and how many run alike at least.
-#[test]
-fn networks_of_every_shape_run_in_rows_as_in_routers(rt: HostRuntime) -> Result<(), Fail> {
-    for (first, end, turns, least) in [
-        (0, 2, 60, 60),
-        (2, 4, 60, 60),
-        (4, 6, 60, 65),
-        (6, 8, 25, 26),
-        (8, 9, 20, 15),
-        (9, 10, 20, 11),
-        (10, 11, 50, 24),
-        (11, 12, 30, 15),
-        (12, 13, 20, 11),
-        (13, 14, 30, 14),
-    ] {
-        let tally = run_all(rt.alloc(), first..end, turns)?;
+// Shapes by their numbers, from one up to another: so many networks of each are run, and at least `least` of all run alike.
+fn assert_alike(
+    rt: &(impl AllocGlobal + Abort),
+    groups: &[(usize, usize, usize, usize)],
+) -> Result<(), Fail> {
+    for (first, end, turns, least) in groups {
+        let tally = run_all(rt.alloc(), *first..*end, *turns)?;
         assert_eq!(rt; tally.unlike, None);
-        assert!(rt; tally.alike >= least);
+        assert!(rt; tally.alike >= *least);
     }
     Ok(())
+}
+
+#[test]
+fn lines_and_rings_run_in_rows_as_in_routers(rt: HostRuntime) -> Result<(), Fail> {
+    assert_alike(&rt, &[(0, 2, 60, 60), (2, 4, 60, 60)])
+}
+
+#[test]
+fn planes_of_up_to_twelve_run_in_rows_as_in_routers(rt: HostRuntime) -> Result<(), Fail> {
+    assert_alike(&rt, &[(4, 6, 60, 65), (6, 8, 25, 26)])
+}
+
+#[test]
+fn planes_of_more_than_32_run_in_rows_as_in_routers(rt: HostRuntime) -> Result<(), Fail> {
+    assert_alike(&rt, &[(8, 9, 20, 15), (9, 10, 20, 11)])
+}
+
+#[test]
+fn three_dimensions_run_in_rows_as_in_routers(rt: HostRuntime) -> Result<(), Fail> {
+    assert_alike(
+        &rt,
+        &[
+            (10, 11, 50, 24),
+            (11, 12, 30, 15),
+            (12, 13, 20, 11),
+            (13, 14, 30, 14),
+        ],
+    )
 }
 
 #[test]
