@@ -5,16 +5,20 @@ use std::io;
 use std::io::{ErrorKind, Read};
 use std::test::Fail;
 
-// Gives the bytes of a text one for each read, and says how often it was read.
+// Gives the bytes of a text one for each read, and says how often it was read. One of its reads fails, if it comes so far.
 #[derive(Drop)]
 struct Drip<'a> {
     rest: &'a [u8],
     reads: usize,
+    fails_at: usize,
 }
 
 impl Read for Drip<'_> {
     fn read(&mut self, buf: &mut [u8]) -> io::Result<usize> {
         self.reads = self.reads.saturating_add(1);
+        if self.reads == self.fails_at {
+            return Err(io::Error::from(ErrorKind::Interrupted));
+        }
         if self.rest.is_empty() || buf.is_empty() {
             return Ok(0);
         }
@@ -24,42 +28,12 @@ impl Read for Drip<'_> {
     }
 }
 
-// Fails at one of its reads, and gives a byte at each other one.
-#[derive(Drop)]
-struct Failing {
-    reads: usize,
-    fails_at: usize,
-}
-
-impl Read for Failing {
-    fn read(&mut self, buf: &mut [u8]) -> io::Result<usize> {
-        self.reads = self.reads.saturating_add(1);
-        if self.reads == self.fails_at {
-            return Err(io::Error::from(ErrorKind::Interrupted));
-        }
-        if buf.is_empty() {
-            return Ok(0);
-        }
-        buf[0] = b'x';
-        Ok(1)
-    }
-}
-
-// Fills whatever it is given, and never ends.
-#[derive(Drop)]
-struct Endless;
-
-impl Read for Endless {
-    fn read(&mut self, buf: &mut [u8]) -> io::Result<usize> {
-        Ok(buf.len())
-    }
-}
-
 #[test]
 fn bytes_one_by_one_up_to_the_limit(rt: HostRuntime) -> Result<(), Fail> {
     let mut reader = Drip {
         rest: b"0123456789",
         reads: 0,
+        fails_at: usize::MAX,
     };
     let bytes = read_all(rt.alloc(), &mut reader, 10)?;
     assert_eq!(rt; bytes.as_slice(), b"0123456789".as_slice());
@@ -72,6 +46,7 @@ fn one_byte_above_the_limit(rt: HostRuntime) {
     let mut reader = Drip {
         rest: b"0123456789a",
         reads: 0,
+        fails_at: usize::MAX,
     };
     assert_eq!(rt;
         read_all(rt.alloc(), &mut reader, 10).err(),
@@ -81,6 +56,7 @@ fn one_byte_above_the_limit(rt: HostRuntime) {
     let mut none = Drip {
         rest: b"",
         reads: 0,
+        fails_at: usize::MAX,
     };
     assert!(rt; read_all(rt.alloc(), &mut none, 0).is_ok());
     assert!(rt; none.reads == 1);
@@ -89,7 +65,11 @@ fn one_byte_above_the_limit(rt: HostRuntime) {
 #[test]
 fn a_reader_that_fails_is_read_no_more(rt: HostRuntime) {
     for fails_at in 1..12usize {
-        let mut reader = Failing { reads: 0, fails_at };
+        let mut reader = Drip {
+            rest: b"0123456789a",
+            reads: 0,
+            fails_at,
+        };
         assert_eq!(rt;
             read_all(rt.alloc(), &mut reader, 10).err(),
             Some(InputFault::ReadFailed)
@@ -102,7 +82,7 @@ fn a_reader_that_fails_is_read_no_more(rt: HostRuntime) {
 fn a_reader_without_an_end(rt: HostRuntime) {
     for limit in [10, 10_000] {
         assert_eq!(rt;
-            read_all(rt.alloc(), &mut Endless, limit).err(),
+            read_all(rt.alloc(), &mut io::repeat(b'x'), limit).err(),
             Some(InputFault::TooLong)
         );
     }

@@ -13,16 +13,11 @@ use std::test::Fail;
 
 const HEADER: &[u8] = b"router,port,vc,rank\n";
 
-// How many rows a text has.
-fn count(alloc: Global, shape: &Shape, text: &[u8]) -> Result<usize, InputFault> {
-    let rows = read_ranks(alloc, shape, text)?;
+// How many rows a text of a header and the lines below it has.
+fn count(alloc: Global, shape: &Shape, header: &[u8], lines: &[u8]) -> Result<usize, InputFault> {
+    let text = below(alloc, header, lines)?;
+    let rows = read_ranks(alloc, shape, &text)?;
     Ok(rows.len())
-}
-
-// How many rows the header with these lines below it has.
-fn count_below(alloc: Global, shape: &Shape, lines: &[u8]) -> Result<usize, InputFault> {
-    let text = below(alloc, HEADER, lines)?;
-    count(alloc, shape, &text)
 }
 
 // The rank file of some ranks.
@@ -91,7 +86,7 @@ fn rank_files_of_every_written_form(rt: HostRuntime) -> Result<(), Fail> {
             2,
         ),
     ] {
-        assert_eq!(rt; count(a, &line, text), Ok(rows));
+        assert_eq!(rt; count(a, &line, text, b""), Ok(rows));
     }
     Ok(())
 }
@@ -108,14 +103,14 @@ fn rank_files_with_another_header_or_count(rt: HostRuntime) -> Result<(), Fail> 
         b"router,port,vc,rank,\n".as_slice(),
         b"router,vc,port,rank\n".as_slice(),
     ] {
-        assert_eq!(rt; count(a, &line, text), Err(InputFault::BadHeader));
+        assert_eq!(rt; count(a, &line, text, b""), Err(InputFault::BadHeader));
     }
     for (lines, row) in [
         (b"0,+0,0\n".as_slice(), 0),
         (b"0,+0,0,1\n0,+0,0,1,\n".as_slice(), 1),
     ] {
         assert_eq!(rt;
-            count_below(a, &line, lines),
+            count(a, &line, HEADER, lines),
             Err(InputFault::BadCount { row })
         );
     }
@@ -168,7 +163,7 @@ fn rank_files_with_bad_fields(rt: HostRuntime) -> Result<(), Fail> {
             InputFault::BadNumber { row: 0, column: 3 },
         ),
     ] {
-        assert_eq!(rt; count_below(a, &line, lines), Err(fault));
+        assert_eq!(rt; count(a, &line, HEADER, lines), Err(fault));
     }
     Ok(())
 }

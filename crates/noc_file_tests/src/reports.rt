@@ -1,7 +1,8 @@
 //! Reports of worked networks, byte by byte.
 
-use crate::texts::{assert_latency, assert_stalls};
-use noc_files::{Out, read_table, write_findings, write_summary};
+use crate::texts::{assert_report, report_of};
+use noc_commands::Report;
+use noc_files::{Out, read_table, write_findings};
 use noc_fixtures::{
     dateline_ring, line_of_three, line_of_two, network, packet, relation, stuck_ring,
 };
@@ -10,18 +11,6 @@ use noc_route::Rule;
 use noc_topo::{Kind, Shape};
 use std::process::Abort;
 use std::test::Fail;
-
-// The summary of a network.
-fn summary(rt: &(impl AllocGlobal + Abort), network: &Network) -> Vec<u8> {
-    let mut out = Out::new(Vec::new(rt.alloc()));
-    assert_eq!(rt; write_summary(network, &mut out), Ok(()));
-    out.into_inner()
-}
-
-// The summary of a network is this text.
-fn assert_summary(rt: &(impl AllocGlobal + Abort), network: &Network, report: &[u8]) {
-    assert_eq!(rt; summary(rt, network).as_slice(), report);
-}
 
 // The findings of a router that exists are this text.
 fn assert_findings(
@@ -42,7 +31,7 @@ fn a_network_without_packets(rt: HostRuntime) -> Result<(), Fail> {
     let mut network = line_of_two(rt.alloc(), 2, &[])?;
     network.run(1);
     let report = b"packet,source,destination,class,length,due,out,latency\n";
-    assert_latency(&rt, &network, report);
+    assert_report(&rt, &network, Report::Latency, report);
     let report =
         b"router,port,vc,empty,routed,granted,moved,no_flit,no_idle_channel,lost_channel,no_credit,lost_input,lost_switch
 0,+0,0,1,0,0,0,0,0,0,0,0,0
@@ -50,7 +39,7 @@ fn a_network_without_packets(rt: HostRuntime) -> Result<(), Fail> {
 1,-0,0,1,0,0,0,0,0,0,0,0,0
 1,local,0,1,0,0,0,0,0,0,0,0,0
 ";
-    assert_stalls(&rt, &network, report);
+    assert_report(&rt, &network, Report::Stalls, report);
     let report = b"cycles 1
 packets 0
 delivered 0
@@ -70,7 +59,7 @@ no_credit 0
 lost_input 0
 lost_switch 0
 ";
-    assert_summary(&rt, &network, report);
+    assert_report(&rt, &network, Report::Summary, report);
     Ok(())
 }
 
@@ -80,7 +69,7 @@ fn a_packet_over_one_link(rt: HostRuntime) -> Result<(), Fail> {
     let mut network = line_of_two(rt.alloc(), 2, &[packet(0, 1, 1, 0)])?;
     network.run(8);
     let report = b"packet,source,destination,class,length,due,out,latency\n0,0,1,0,1,0,5,5\n";
-    assert_latency(&rt, &network, report);
+    assert_report(&rt, &network, Report::Latency, report);
     let report = b"cycles 8
 packets 1
 delivered 1
@@ -100,7 +89,7 @@ no_credit 0
 lost_input 0
 lost_switch 0
 ";
-    assert_summary(&rt, &network, report);
+    assert_report(&rt, &network, Report::Summary, report);
     Ok(())
 }
 
@@ -113,7 +102,7 @@ fn two_packets_to_one_node(rt: HostRuntime) -> Result<(), Fail> {
 0,0,2,0,1,0,10,10
 1,1,2,0,1,0,5,5
 ";
-    assert_latency(&rt, &network, report);
+    assert_report(&rt, &network, Report::Latency, report);
     let report =
         b"router,port,vc,empty,routed,granted,moved,no_flit,no_idle_channel,lost_channel,no_credit,lost_input,lost_switch
 0,+0,0,20,0,0,0,0,0,0,0,0,0
@@ -124,7 +113,7 @@ fn two_packets_to_one_node(rt: HostRuntime) -> Result<(), Fail> {
 2,-0,0,14,2,2,2,0,0,0,0,0,0
 2,local,0,20,0,0,0,0,0,0,0,0,0
 ";
-    assert_stalls(&rt, &network, report);
+    assert_report(&rt, &network, Report::Stalls, report);
     Ok(())
 }
 
@@ -139,7 +128,7 @@ fn packets_that_never_come_out(rt: HostRuntime) -> Result<(), Fail> {
 2,2,0,0,4,0,-,-
 3,3,1,0,4,0,-,-
 ";
-    assert_latency(&rt, &network, report);
+    assert_report(&rt, &network, Report::Latency, report);
     let report =
         b"router,port,vc,empty,routed,granted,moved,no_flit,no_idle_channel,lost_channel,no_credit,lost_input,lost_switch
 0,+0,0,20,0,0,0,0,0,0,0,0,0
@@ -155,7 +144,7 @@ fn packets_that_never_come_out(rt: HostRuntime) -> Result<(), Fail> {
 3,-0,0,3,1,0,0,0,16,0,0,0,0
 3,local,0,0,1,1,1,0,0,0,17,0,0
 ";
-    assert_stalls(&rt, &network, report);
+    assert_report(&rt, &network, Report::Stalls, report);
     let report = b"cycles 20
 packets 4
 delivered 0
@@ -175,7 +164,7 @@ no_credit 68
 lost_input 0
 lost_switch 0
 ";
-    assert_summary(&rt, &network, report);
+    assert_report(&rt, &network, Report::Summary, report);
     Ok(())
 }
 
@@ -193,7 +182,8 @@ latency_max 44
 last_event 45
 misfits 0
 ";
-    assert!(rt; summary(&rt, &network).as_slice().starts_with(top));
+    let summary = report_of(&rt, &network, Report::Summary);
+    assert!(rt; summary.as_slice().starts_with(top));
     Ok(())
 }
 

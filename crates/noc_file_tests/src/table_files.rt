@@ -9,16 +9,11 @@ use std::test::Fail;
 
 const HEADER: &[u8] = b"class,router,in_port,in_vc,dst,out_port,out_vc\n";
 
-// How many rows a text has.
-fn count(alloc: Global, shape: &Shape, text: &[u8]) -> Result<usize, InputFault> {
-    let rows = read_table(alloc, shape, text)?;
+// How many rows a text of a header and the lines below it has.
+fn count(alloc: Global, shape: &Shape, header: &[u8], lines: &[u8]) -> Result<usize, InputFault> {
+    let text = below(alloc, header, lines)?;
+    let rows = read_table(alloc, shape, &text)?;
     Ok(rows.len())
-}
-
-// How many rows the header with these lines below it has.
-fn count_below(alloc: Global, shape: &Shape, lines: &[u8]) -> Result<usize, InputFault> {
-    let text = below(alloc, HEADER, lines)?;
-    count(alloc, shape, &text)
 }
 
 #[test]
@@ -83,17 +78,17 @@ fn tables_with_another_header_or_count(rt: HostRuntime) -> Result<(), Fail> {
         b"class,router,in_port,in_vc,dst,out_port\n".as_slice(),
         b"source,destination,class,length,due\n".as_slice(),
     ] {
-        assert_eq!(rt; count(a, &shape, text), Err(InputFault::BadHeader));
+        assert_eq!(rt; count(a, &shape, text, b""), Err(InputFault::BadHeader));
     }
     assert_eq!(rt;
-        count_below(a, &shape, b"0,0,local,0,1,+0\n"),
+        count(a, &shape, HEADER, b"0,0,local,0,1,+0\n"),
         Err(InputFault::BadCount { row: 0 })
     );
     for text in [
         b"class,router,in_port,in_vc,dst,out_port,out_vc\r\n\r\n0,0,\"-1\",0,1,local,0".as_slice(),
         b"\xEF\xBB\xBF\"class\",router,in_port,in_vc,dst,out_port,out_vc\n0,0,-1,0000000000,1,local,0\n".as_slice(),
     ] {
-        assert_eq!(rt; count(a, &shape, text), Ok(1));
+        assert_eq!(rt; count(a, &shape, text, b""), Ok(1));
     }
     Ok(())
 }
@@ -136,7 +131,7 @@ fn tables_with_bad_fields(rt: HostRuntime) -> Result<(), Fail> {
             InputFault::BadNumber { row: 0, column: 4 },
         ),
     ] {
-        assert_eq!(rt; count_below(a, &shape, lines), Err(fault));
+        assert_eq!(rt; count(a, &shape, HEADER, lines), Err(fault));
     }
     Ok(())
 }

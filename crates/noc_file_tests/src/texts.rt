@@ -1,22 +1,30 @@
 //! Reports as texts, and texts that are put together.
 
-use noc_files::{Out, write_latency, write_stalls};
+use noc_commands::Report;
+use noc_files::{Out, write_report};
 use noc_net::Network;
 use std::alloc::{AllocError, Global};
 use std::process::Abort;
 
-// The stall report of a network is this text.
-pub(crate) fn assert_stalls(rt: &(impl AllocGlobal + Abort), network: &Network, report: &[u8]) {
+// A report of a network.
+pub(crate) fn report_of(
+    rt: &(impl AllocGlobal + Abort),
+    network: &Network,
+    report: Report,
+) -> Vec<u8> {
     let mut out = Out::new(Vec::new(rt.alloc()));
-    assert_eq!(rt; write_stalls(network, &mut out), Ok(()));
-    assert_eq!(rt; out.into_inner().as_slice(), report);
+    assert_eq!(rt; write_report(network, report, &mut out), Ok(()));
+    out.into_inner()
 }
 
-// The latency report of a network is this text.
-pub(crate) fn assert_latency(rt: &(impl AllocGlobal + Abort), network: &Network, report: &[u8]) {
-    let mut out = Out::new(Vec::new(rt.alloc()));
-    assert_eq!(rt; write_latency(network, &mut out), Ok(()));
-    assert_eq!(rt; out.into_inner().as_slice(), report);
+// A report of a network is this text.
+pub(crate) fn assert_report(
+    rt: &(impl AllocGlobal + Abort),
+    network: &Network,
+    report: Report,
+    text: &[u8],
+) {
+    assert_eq!(rt; report_of(rt, network, report).as_slice(), text);
 }
 
 // A text of a header and the lines below it.

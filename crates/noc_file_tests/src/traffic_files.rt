@@ -8,16 +8,11 @@ use std::test::Fail;
 
 const HEADER: &[u8] = b"source,destination,class,length,due\n";
 
-// How many packets a text has.
-fn count(alloc: Global, text: &[u8]) -> Result<usize, InputFault> {
-    let packets = read_traffic(alloc, text)?;
+// How many packets a text of a header and the lines below it has.
+fn count(alloc: Global, header: &[u8], lines: &[u8]) -> Result<usize, InputFault> {
+    let text = below(alloc, header, lines)?;
+    let packets = read_traffic(alloc, &text)?;
     Ok(packets.len())
-}
-
-// How many packets the header with these lines below it has.
-fn count_below(alloc: Global, lines: &[u8]) -> Result<usize, InputFault> {
-    let text = below(alloc, HEADER, lines)?;
-    count(alloc, &text)
 }
 
 #[test]
@@ -53,7 +48,7 @@ fn headers(rt: HostRuntime) -> Result<(), Fail> {
         b"\n\r\nsource,destination,class,length,due\n\n".as_slice(),
         b"\"source\",destination,class,length,\"due\"\n".as_slice(),
     ] {
-        assert_eq!(rt; count(a, text), Ok(0));
+        assert_eq!(rt; count(a, text, b""), Ok(0));
     }
     for text in [
         b"".as_slice(),
@@ -66,7 +61,7 @@ fn headers(rt: HostRuntime) -> Result<(), Fail> {
         b"destination,source,class,length,due\n".as_slice(),
         b"0,1,0,1,0\n".as_slice(),
     ] {
-        assert_eq!(rt; count(a, text), Err(InputFault::BadHeader));
+        assert_eq!(rt; count(a, text, b""), Err(InputFault::BadHeader));
     }
     Ok(())
 }
@@ -83,13 +78,13 @@ fn rows_of_every_written_form(rt: HostRuntime) -> Result<(), Fail> {
         b"0000000000,4294967295,0,1,0\n".as_slice(),
         b"0,1,0,1,\"0".as_slice(),
     ] {
-        assert_eq!(rt; count_below(a, lines), Ok(1));
+        assert_eq!(rt; count(a, HEADER, lines), Ok(1));
     }
     for text in [
         b"source,destination,class,length,due\r\n0,1,0,1,0\r\n".as_slice(),
         b"source,destination,class,length,due\r0,1,0,1,0\r".as_slice(),
     ] {
-        assert_eq!(rt; count(a, text), Ok(1));
+        assert_eq!(rt; count(a, text, b""), Ok(1));
     }
     Ok(())
 }
@@ -98,7 +93,7 @@ fn rows_of_every_written_form(rt: HostRuntime) -> Result<(), Fail> {
 fn rows_with_another_number_of_fields(rt: HostRuntime) -> Result<(), Fail> {
     let a = rt.alloc();
     assert_eq!(rt;
-        count_below(a, b"0,1,0,1,0\n0,1,0\n"),
+        count(a, HEADER, b"0,1,0,1,0\n0,1,0\n"),
         Err(InputFault::BadCount { row: 1 })
     );
     for lines in [
@@ -106,7 +101,10 @@ fn rows_with_another_number_of_fields(rt: HostRuntime) -> Result<(), Fail> {
         b"0,1,0,1,0,\n".as_slice(),
         b"x\n0,1,0,1,0\n".as_slice(),
     ] {
-        assert_eq!(rt; count_below(a, lines), Err(InputFault::BadCount { row: 0 }));
+        assert_eq!(rt;
+            count(a, HEADER, lines),
+            Err(InputFault::BadCount { row: 0 })
+        );
     }
     Ok(())
 }
@@ -121,7 +119,7 @@ fn fields_with_other_bytes_than_digits(rt: HostRuntime) -> Result<(), Fail> {
         (b"0,1,0,1, 1\n".as_slice(), 0, 4),
     ] {
         assert_eq!(rt;
-            count_below(a, lines),
+            count(a, HEADER, lines),
             Err(InputFault::BadNumber { row, column })
         );
     }
@@ -141,7 +139,7 @@ fn fields_with_too_many_digits_or_none(rt: HostRuntime) -> Result<(), Fail> {
         (b"0,\"1\n\",0,1,0\n".as_slice(), 0, 1),
     ] {
         assert_eq!(rt;
-            count_below(a, lines),
+            count(a, HEADER, lines),
             Err(InputFault::BadNumber { row, column })
         );
     }

@@ -1,6 +1,6 @@
 //! Networks before their first cycle, with packets of one class.
 
-ghost use Rattle.std.specs.Prelude.{◌≡◌, ◌<◌, ◌≤◌, IfOk};
+ghost use Rattle.std.specs.Prelude.{◌≡◌, ◌<◌, ◌≤◌, ◌∷◌, [], IfOk, false};
 ghost use Rattle.noc_packet.specs.declared.limits.TheConstants.{MAX_BUFFER};
 
 use noc_net::Network;
@@ -55,9 +55,11 @@ pub fn network(
 pub fn line_of_two(alloc: Global, places: usize, packets: &[Packet]) -> Result<Network, Fail>
     requires some_place { 0 < places }
     requires places { places ≤ MAX_BUFFER }
-    ensures { IfOk result (λ n. n.count ≡ 0) }
+    ensures grid { IfOk result (λ n. n.net.relation.grid ≡ record { wraps = false; radix = 2 ∷ [] }) }
+    ensures count { IfOk result (λ n. n.count ≡ 0) }
 {
-    let line = relation(alloc, Kind::Mesh, &[2], 1, Rule::Dor)?;
+    let shape = Shape::new(Kind::Mesh, &[2])?;
+    let line = Relation::build(alloc, &shape, 1, 1, Rule::Dor)?;
     network(alloc, line, places, packets)
 }
 

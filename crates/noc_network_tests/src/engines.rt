@@ -1,10 +1,9 @@
 //! The same network by rows and by its routers: these run where its channels do not fit into the words of rows, and where
 //! it was put together from parts.
 
-ghost use Rattle.std.specs.Prelude.{◌≡◌, ◌+◌, ◌≤◌, IfOk};
-ghost use Rattle.noc_theory.specs.declared.limits.TheConstants.{CYCLE_LIMIT as cycle_limit};
+ghost use Rattle.std.specs.Prelude.{◌≡◌, IfOk};
 
-use crate::same::same;
+use crate::same::{same, same_after};
 use noc_fixtures::{arrival, network, packet, relation};
 use noc_net::Network;
 use noc_packet::Packet;
@@ -21,21 +20,17 @@ fn cube(alloc: Global, vcs: usize, packets: &[Packet]) -> Result<Network, Fail>
     network(alloc, cube, 16, packets)
 }
 
-// When two packets that never meet are out of the cube, and whether that is all.
-fn lone_packets(alloc: Global, vcs: usize) -> Result<(Option<u64>, Option<u64>, bool), Fail> {
-    let mut network = cube(alloc, vcs, &[packet(0, 7, 4, 0), packet(7, 1, 1, 50)])?;
-    network.run(80);
-    Ok((
-        arrival(&network, 0),
-        arrival(&network, 1),
-        network.all_out(),
-    ))
-}
-
+// Two packets that never meet.
 #[test]
 fn lone_packets_take_as_long_by_rows_as_by_routers(rt: HostRuntime) -> Result<(), Fail> {
     for vcs in [4usize, 8] {
-        assert_eq!(rt; lone_packets(rt.alloc(), vcs)?, (Some(14), Some(58), true));
+        let mut network = cube(rt.alloc(), vcs, &[packet(0, 7, 4, 0), packet(7, 1, 1, 50)])?;
+        network.run(80);
+        assert_eq!(rt;
+            [arrival(&network, 0), arrival(&network, 1)],
+            [Some(14), Some(58)]
+        );
+        assert!(rt; network.all_out());
     }
     Ok(())
 }
@@ -56,18 +51,6 @@ fn crossing(alloc: Global) -> Result<Network, Fail>
         packet(3, 4, 5, 100),
     ];
     cube(alloc, 4, &packets)
-}
-
-// Whether two networks read the same after so many more cycles.
-fn same_after(one: &mut Network, other: &mut Network, cycles: u64) -> bool
-    requires one { one.old.count + cycles ≤ cycle_limit }
-    requires other { other.old.count + cycles ≤ cycle_limit }
-    ensures one { one.new.count ≡ one.old.count + cycles }
-    ensures other { other.new.count ≡ other.old.count + cycles }
-{
-    one.run(cycles);
-    other.run(cycles);
-    same(one, other)
 }
 
 #[test]

@@ -2,10 +2,8 @@
 
 ghost use Rattle.std.specs.Prelude.{◌≡◌, ◌∷◌, [], IfOk, false};
 
-use noc_fixtures::{arrival, line_of_three, network};
+use noc_fixtures::{arrival, line_of_three, line_of_two};
 use noc_net::{Core, Event, Network};
-use noc_route::{Relation, Rule};
-use noc_topo::{Kind, Shape};
 use std::alloc::Global;
 use std::test::Fail;
 
@@ -59,15 +57,6 @@ fn cycles_from_the_last_router_to_the_first(rt: HostRuntime) -> Result<(), Fail>
     Ok(())
 }
 
-// The core of a line of two routers without packets.
-fn two_routers(alloc: Global) -> Result<Core, Fail>
-    ensures { IfOk result (λ core. core.net.relation.grid ≡ record { wraps = false; radix = 2 ∷ [] }) }
-{
-    let shape = Shape::new(Kind::Mesh, &[2])?;
-    let relation = Relation::build(alloc, &shape, 1, 1, Rule::Dor)?;
-    Ok(Core::new(network(alloc, relation, 2, &[])?))
-}
-
 // Whether each event is ready or not, as it should be.
 fn agree(core: &mut Core, answers: &[(Event, bool)]) -> bool
     ensures { core.new.net ≡ core.old.net }
@@ -94,7 +83,7 @@ fn stand(core: &Core) -> [u64; 4]
 
 #[test]
 fn a_router_waits_for_its_neighbour(rt: HostRuntime) -> Result<(), Fail> {
-    let mut core = two_routers(rt.alloc())?;
+    let mut core = Core::new(line_of_two(rt.alloc(), 2, &[])?);
     let first = [
         (Event::Take(0, 0), true),
         (Event::Take(0, 0), false),
@@ -129,7 +118,7 @@ fn a_router_waits_for_its_neighbour(rt: HostRuntime) -> Result<(), Fail> {
 
 #[test]
 fn nothing_is_found_before_a_decide(rt: HostRuntime) -> Result<(), Fail> {
-    let mut core = two_routers(rt.alloc())?;
+    let mut core = Core::new(line_of_two(rt.alloc(), 2, &[])?);
     assert!(rt; core.findings(0).is_empty());
     assert!(rt;
         agree(

@@ -1,6 +1,6 @@
 //! One router alone, over beats whose outcome is worked out by hand.
 
-ghost use Rattle.std.specs.Prelude.{◌≡◌, ◌<◌, ◌≤◌, All, IfOk};
+ghost use Rattle.std.specs.Prelude.{◌≡◌, ◌<◌, ◌≤◌, All};
 ghost use Rattle.noc_topo.specs.Shape.{local_port};
 ghost use Rattle.noc_router.specs.Start.{IsNumberedPacket};
 ghost use Rattle.noc_router.specs.View.{IsRelationOf};
@@ -14,16 +14,6 @@ use noc_topo::Kind;
 use std::alloc::Global;
 use std::process::Abort;
 use std::test::Fail;
-
-// Dimension order on a line of two routers, in one class.
-fn line_of_two(rt: &impl Abort, alloc: Global, vcs: usize) -> Result<Relation, Fail>
-    ensures links { IfOk result (λ r. local_port r.grid ≡ 2) }
-    ensures vcs { IfOk result (λ r. r.vcs ≡ vcs) }
-{
-    let line = relation(alloc, Kind::Mesh, &[2], vcs, Rule::Dor)?;
-    assert!(rt; line.shape().ports() == 3);
-    Ok(line)
-}
 
 // Router 0 of a network, with the packets that start there.
 fn first_router(
@@ -42,14 +32,6 @@ fn first_router(
     match Router::new(alloc, relation, 0, places, starts, Vec::new(alloc)) {
         Ok(router) => router,
         Err(_) => panic!(rt; "no router"),
-    }
-}
-
-// A plan for the routers of a network.
-fn plan_for(rt: &impl Abort, alloc: Global, relation: &Relation) -> Plan {
-    match Plan::new(alloc, relation) {
-        Ok(plan) => plan,
-        Err(_) => panic!(rt; "no plan"),
     }
 }
 
@@ -95,13 +77,16 @@ const STRAY: Flit = Flit {
 #[test]
 fn two_packets_of_one_node_start_in_two_cycles(rt: HostRuntime) -> Result<(), Fail> {
     let alloc = rt.alloc();
-    let relation = line_of_two(&rt, alloc, 2)?;
+    let line = relation(alloc, Kind::Mesh, &[2], 2, Rule::Dor)?;
+    assert!(rt; line.shape().ports() == 3);
     let Ok(starts) = vec![in alloc; (0, SHORT), (1, SHORT)] else {
         panic!(&rt; "no list");
     };
-    let mut router = first_router(&rt, alloc, &relation, 2, starts);
-    let mut plan = plan_for(&rt, alloc, &relation);
-    run_idle(&mut router, &relation, &mut plan, 12);
+    let mut router = first_router(&rt, alloc, &line, 2, starts);
+    let Ok(mut plan) = Plan::new(alloc, &line) else {
+        panic!(&rt; "no plan");
+    };
+    run_idle(&mut router, &line, &mut plan, 12);
     for vc in 0..2usize {
         assert_eq!(rt; router.counts(2, vc), [9, 1, 1, 1, 0, 0, 0, 0, 0, 0]);
     }
@@ -111,21 +96,24 @@ fn two_packets_of_one_node_start_in_two_cycles(rt: HostRuntime) -> Result<(), Fa
 #[test]
 fn each_half_of_a_beat_that_does_not_fit_is_one_misfit(rt: HostRuntime) -> Result<(), Fail> {
     let alloc = rt.alloc();
-    let relation = line_of_two(&rt, alloc, 1)?;
-    let mut router = first_router(&rt, alloc, &relation, 1, Vec::new(alloc));
-    let mut plan = plan_for(&rt, alloc, &relation);
+    let line = relation(alloc, Kind::Mesh, &[2], 1, Rule::Dor)?;
+    assert!(rt; line.shape().ports() == 3);
+    let mut router = first_router(&rt, alloc, &line, 1, Vec::new(alloc));
+    let Ok(mut plan) = Plan::new(alloc, &line) else {
+        panic!(&rt; "no plan");
+    };
     let beat = Beat {
         flit: Some((0, STRAY)),
         credit: Some(0),
     };
-    cycle(&mut router, &relation, &mut plan, 0, beat);
+    cycle(&mut router, &line, &mut plan, 0, beat);
     assert!(rt; router.misfits() == 2);
     assert!(rt; are_empty(router.findings()));
     let beat = Beat {
         flit: Some((1, STRAY)),
         credit: None,
     };
-    cycle(&mut router, &relation, &mut plan, 1, beat);
+    cycle(&mut router, &line, &mut plan, 1, beat);
     assert!(rt; router.misfits() == 3);
     Ok(())
 }

@@ -44,35 +44,8 @@ fn answer<R: Threads + Sync>(
     rows: &[RankRow],
 ) -> Result<Result<Accepted, RankFault>, Fail> {
     let dor = relation(alloc, kind, &[nodes], vcs, Rule::Dor)?;
-    Ok(answer_to(rt, alloc, &dor, rows))
-}
-
-// What the check answers of a relation with ranks by these rows, or why they are no ranks.
-fn answer_to<R: Threads + Sync>(
-    rt: &R,
-    alloc: Global,
-    relation: &Relation,
-    rows: &[RankRow],
-) -> Result<Accepted, RankFault> {
-    let ranks = Ranks::from_rows(alloc, relation.shape(), relation.vcs(), rows)?;
-    check(rt, alloc, relation, &ranks)
-}
-
-// What the check answers of a relation with the ranks by formula of its rule, or why there are none.
-fn answer_by_formula<R: Threads + Sync>(
-    rt: &R,
-    alloc: Global,
-    relation: &Relation,
-    rule: &Rule,
-) -> Result<Accepted, RankFault> {
-    let ranks = Ranks::generated(
-        alloc,
-        relation.shape(),
-        relation.vcs(),
-        relation.classes(),
-        rule,
-    )?;
-    check(rt, alloc, relation, &ranks)
+    let ranks = Ranks::from_rows(alloc, dor.shape(), vcs, rows)?;
+    Ok(check(rt, alloc, &dor, &ranks))
 }
 
 // The ranks of link channels, which exist, by router, port and virtual channel.
@@ -87,26 +60,10 @@ fn assert_ranks(
     requires vcs { ranks.now.vcs ≡ vcs }
 {
     for (router, port, vc, rank) in wanted {
-        assert_eq!(rt; rank_at(rt, shape, vcs, ranks, *router, *port, *vc), *rank);
+        assert!(rt; *router < shape.nodes() && *port < shape.ports() - 1 && *vc < vcs);
+        assert!(rt; shape.neighbour(*router, *port).is_some());
+        assert_eq!(rt; ranks.rank(*router, *port, *vc), *rank);
     }
-}
-
-// The rank of a link channel, which exists.
-fn rank_at(
-    rt: &impl Abort,
-    shape: &Shape,
-    vcs: usize,
-    ranks: &Ranks,
-    router: usize,
-    port: usize,
-    vc: usize,
-) -> Option<u32>
-    requires grid { ranks.now.grid ≡ shape.now }
-    requires vcs { ranks.now.vcs ≡ vcs }
-{
-    assert!(rt; router < shape.nodes() && port < shape.ports() - 1 && vc < vcs);
-    assert!(rt; shape.neighbour(router, port).is_some());
-    ranks.rank(router, port, vc)
 }
 
 #[test]
@@ -224,29 +181,25 @@ fn ranks_by_formula(rt: HostRuntime) -> Result<(), Fail> {
 #[test]
 fn dateline_rises_round_a_circle(rt: HostRuntime) -> Result<(), Fail> {
     let circle = Shape::new(Kind::Torus, &[4])?;
+    let ranks = Ranks::generated(rt.alloc(), &circle, 2, 1, &Rule::Dateline)?;
     assert_ranks(
         &rt,
         &circle,
         2,
-        &Ranks::generated(rt.alloc(), &circle, 2, 1, &Rule::Dateline)?,
+        &ranks,
         &[(3, 0, 0, Some(4)), (0, 0, 1, Some(5))],
     );
-    let dateline = relation(rt.alloc(), Kind::Torus, &[4], 2, Rule::Dateline)?;
-    assert_eq!(rt;
-        answer_by_formula(&rt, rt.alloc(), &dateline, &Rule::Dateline),
-        Ok(Accepted)
-    );
+    let dateline = Relation::build(rt.alloc(), &circle, 2, 1, Rule::Dateline)?;
+    assert_eq!(rt; check(&rt, rt.alloc(), &dateline, &ranks), Ok(Accepted));
     Ok(())
 }
 
 #[test]
 fn a_mesh_of_256_with_four_channels_and_classes(rt: HostRuntime) -> Result<(), Fail> {
     let mesh = Shape::new(Kind::Mesh, &[16, 16])?;
+    let ranks = Ranks::generated(rt.alloc(), &mesh, 4, 4, &Rule::Dor)?;
     let dor = Relation::build(rt.alloc(), &mesh, 4, 4, Rule::Dor)?;
-    assert_eq!(rt;
-        answer_by_formula(&rt, rt.alloc(), &dor, &Rule::Dor),
-        Ok(Accepted)
-    );
+    assert_eq!(rt; check(&rt, rt.alloc(), &dor, &ranks), Ok(Accepted));
     Ok(())
 }
 

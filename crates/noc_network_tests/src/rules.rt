@@ -52,7 +52,7 @@ pub fn relation_of(
     }
 }
 
-/// A relation by rows: of each set of another relation the first channel, and of the others some.
+// A relation by rows: of each set of another relation the first channel, and of the others some.
 fn by_rows(
     alloc: Global,
     shape: &Shape,
@@ -68,7 +68,7 @@ fn by_rows(
     Relation::build(alloc, shape, vcs, classes, Rule::Rows(rows))
 }
 
-/// Some rows of a relation, of each entry the first.
+// Some rows of a relation, of each entry the first.
 fn some_rows(
     alloc: Global,
     relation: &Relation,
@@ -89,7 +89,7 @@ fn some_rows(
     Ok(rows)
 }
 
-/// Some rows of one entry.
+// Some rows of one entry.
 fn push_rows(
     relation: &Relation,
     entry: usize,

@@ -1,5 +1,8 @@
 //! Whether two networks read the same.
 
+ghost use Rattle.std.specs.Prelude.{◌≡◌, ◌+◌, ◌≤◌};
+ghost use Rattle.noc_theory.specs.declared.limits.TheConstants.{CYCLE_LIMIT as cycle_limit};
+
 use noc_fixtures::{arrival, counts};
 use noc_net::Network;
 use noc_router::{Finding, Verdict};
@@ -13,6 +16,18 @@ pub(crate) fn same(one: &Network, other: &Network) -> bool {
         && one.misfits() == other.misfits()
         && same_arrivals(one, other)
         && same_routers(one, other)
+}
+
+// Whether two networks read the same after so many more cycles.
+pub(crate) fn same_after(one: &mut Network, other: &mut Network, cycles: u64) -> bool
+    requires one { one.old.count + cycles ≤ cycle_limit }
+    requires other { other.old.count + cycles ≤ cycle_limit }
+    ensures one { one.new.count ≡ one.old.count + cycles }
+    ensures other { other.new.count ≡ other.old.count + cycles }
+{
+    one.run(cycles);
+    other.run(cycles);
+    same(one, other)
 }
 
 // Whether as many packets are out in the same cycles.

@@ -1,28 +1,23 @@
 //! Rounds of arbiters and allocators that were worked out by hand.
 
+ghost use Rattle.std.specs.Prelude.{◌≡◌, length};
+
 use noc_alloc::{Arbiter, advance_channels, advance_switch, allocate_channels, allocate_switch};
 use noc_packet::ChannelSet;
-use std::alloc::Global;
 use std::test::Fail;
 
 // What three arbiters, or three requests, have or get.
 type Three = [Option<usize>; 3];
 
-// The pointers of the first three arbiters.
-fn pointers(arbiters: &[Arbiter]) -> Three {
+// The pointers of three arbiters.
+fn pointers(arbiters: &[Arbiter]) -> Three
+    requires { length arbiters.now ≡ 3 }
+{
     [
-        pointer(arbiters, 0),
-        pointer(arbiters, 1),
-        pointer(arbiters, 2),
+        Some(arbiters[0].pointer()),
+        Some(arbiters[1].pointer()),
+        Some(arbiters[2].pointer()),
     ]
-}
-
-// The pointer of an arbiter, if there is one.
-fn pointer(arbiters: &[Arbiter], index: usize) -> Option<usize> {
-    match arbiters.get(index) {
-        Some(arbiter) => Some(arbiter.pointer()),
-        None => None,
-    }
 }
 
 #[test]
@@ -52,20 +47,16 @@ fn the_largest_arbiter_begins_again_at_0(rt: HostRuntime) {
     );
 }
 
-// The grants of three channels in one round, and the pointers of their arbiters after it.
-fn channel_round(alloc: Global) -> Result<[Three; 2], Fail> {
+// Three channels: the grants of a round, and the pointers of their arbiters after it.
+#[test]
+fn a_channel_that_two_ask_for_goes_round(rt: HostRuntime) -> Result<(), Fail> {
     let asks = [None, Some(1), None, Some(1), Some(0)];
-    let mut arbiters = vec![in alloc; Arbiter::new(5); 3]?;
+    let mut arbiters = vec![in rt.alloc(); Arbiter::new(5); 3]?;
     let mut grants = [None; 3];
     allocate_channels(&asks, &arbiters, &mut grants);
     advance_channels(&grants, &mut arbiters);
-    Ok([grants, pointers(&arbiters)])
-}
-
-#[test]
-fn a_channel_that_two_ask_for_goes_round(rt: HostRuntime) -> Result<(), Fail> {
     assert_eq!(rt;
-        channel_round(rt.alloc())?,
+        [grants, pointers(&arbiters)],
         [[Some(4), Some(1), None], [Some(0), Some(2), Some(0)]]
     );
     Ok(())
@@ -73,23 +64,19 @@ fn a_channel_that_two_ask_for_goes_round(rt: HostRuntime) -> Result<(), Fail> {
 
 // Three ports of two virtual channels: (0, 0) and (1, 0) go to output port 2, and (0, 1) to output port 1. The pointers of the outputs
 // before the round, the picks, the wins, and the pointers of the inputs and of the outputs after it.
-fn switch_round(alloc: Global) -> Result<[Three; 5], Fail> {
+#[test]
+fn an_input_port_that_loses_the_switch_keeps_its_turn(rt: HostRuntime) -> Result<(), Fail> {
     let ready = [Some(2), Some(1), Some(2), None, None, None];
-    let mut outputs = vec![in alloc; Arbiter::new(3); 3]?;
+    let mut inputs = vec![in rt.alloc(); Arbiter::new(2); 3]?;
+    let mut outputs = vec![in rt.alloc(); Arbiter::new(3); 3]?;
     outputs[2].advance(Some(0));
     let before = pointers(&outputs);
-    let mut inputs = vec![in alloc; Arbiter::new(2); 3]?;
     let mut picks = [None; 3];
     let mut wins = [None; 3];
     allocate_switch(&ready, 2, &inputs, &outputs, &mut picks, &mut wins);
     advance_switch(&picks, &wins, &mut inputs, &mut outputs);
-    Ok([before, picks, wins, pointers(&inputs), pointers(&outputs)])
-}
-
-#[test]
-fn an_input_port_that_loses_the_switch_keeps_its_turn(rt: HostRuntime) -> Result<(), Fail> {
     assert_eq!(rt;
-        switch_round(rt.alloc())?,
+        [before, picks, wins, pointers(&inputs), pointers(&outputs)],
         [
             [Some(0), Some(0), Some(1)],
             [Some(0), Some(0), None],

@@ -78,11 +78,6 @@ fn flit(index: u8) -> Flit {
     }
 }
 
-// The set of the one output channel to which the packet may go.
-fn onward() -> ChannelSet {
-    ChannelSet::empty().with(2)
-}
-
 // Whether a flit lands on the channel that arrives at router 1 from router 0.
 fn land(
     channel: &mut InputChannel,
@@ -98,7 +93,7 @@ fn land(
     channel.land(bank, 0, relation, 1, 1, 0, flit(index))
 }
 
-// Routes the packet of a channel, if it is idle and has one.
+// Routes the packet of a channel to output channel 2 alone, if it is idle and has one.
 fn route(channel: &mut InputChannel) -> bool {
     let InputState::Idle = channel.state() else {
         return false;
@@ -106,7 +101,7 @@ fn route(channel: &mut InputChannel) -> bool {
     if channel.packet().is_none() {
         return false;
     }
-    channel.route(onward());
+    channel.route(ChannelSet::empty().with(2));
     true
 }
 
@@ -210,7 +205,7 @@ fn an_input_channel_is_free_behind_its_tail(rt: HostRuntime) -> Result<(), Fail>
             (channel.state(), channel.packet())
         ],
         [
-            (InputState::Waiting(onward()), Some(7)),
+            (InputState::Waiting(ChannelSet::empty().with(2)), Some(7)),
             (InputState::Active(2), Some(7)),
             (InputState::Active(2), Some(7)),
             (InputState::Idle, None),

@@ -11,16 +11,14 @@ const THREE_FLITS: Packet = Packet {
     due: 1_000_000,
 };
 
-// A flit of a packet to node 255 in class 3.
-fn flit(packet: u32, index: u8, last: bool) -> Flit {
-    Flit {
-        packet,
-        index,
-        last,
-        dst: 255,
-        class: 3,
-    }
-}
+// Its first flit, where its number is 19,999.
+const HEAD: Flit = Flit {
+    packet: 19_999,
+    index: 0,
+    last: false,
+    dst: 255,
+    class: 3,
+};
 
 #[test]
 fn a_packet_has_a_head_a_body_and_a_tail(rt: HostRuntime) {
@@ -32,9 +30,13 @@ fn a_packet_has_a_head_a_body_and_a_tail(rt: HostRuntime) {
     assert_eq!(rt;
         flits,
         [
-            flit(19_999, 0, false),
-            flit(19_999, 1, false),
-            flit(19_999, 2, true),
+            HEAD,
+            Flit { index: 1, ..HEAD },
+            Flit {
+                index: 2,
+                last: true,
+                ..HEAD
+            },
         ]
     );
 }
@@ -45,7 +47,12 @@ fn the_one_flit_of_a_short_packet_is_head_and_tail(rt: HostRuntime) {
         length: 1,
         ..THREE_FLITS
     };
-    assert_eq!(rt; flit_of(&short, 0, 0), flit(0, 0, true));
+    let only = Flit {
+        packet: 0,
+        last: true,
+        ..HEAD
+    };
+    assert_eq!(rt; flit_of(&short, 0, 0), only);
 }
 
 #[test]
@@ -101,16 +108,13 @@ fn the_least_index_of_two_sets_is_in_both(rt: HostRuntime) {
     );
 }
 
-fn refused() -> Result<u8, AllocError> {
-    Err(AllocError)
-}
-
-fn passed_on() -> Result<u8, Memory> {
-    let byte = refused()?;
+// What a call that allocates answers, in a function with its own error.
+fn passed_on(answer: Result<u8, AllocError>) -> Result<u8, Memory> {
+    let byte = answer?;
     Ok(byte)
 }
 
 #[test]
 fn refused_memory_is_passed_on(rt: HostRuntime) {
-    assert_eq!(rt; passed_on(), Err(Memory));
+    assert_eq!(rt; passed_on(Err(AllocError)), Err(Memory));
 }

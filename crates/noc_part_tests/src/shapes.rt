@@ -1,31 +1,7 @@
 //! Shapes: links that lead round, borders, and faults in their order.
 
 use noc_topo::{Kind, Shape, ShapeFault};
-use std::process::Abort;
-
-// A shape that exists.
-fn shape(rt: &impl Abort, kind: Kind, radix: &[usize]) -> Shape {
-    match Shape::new(kind, radix) {
-        Ok(shape) => shape,
-        Err(_) => panic!(rt; "no shape"),
-    }
-}
-
-// How many nodes, ports and dimensions a shape has, and the radix of its first two dimensions, 1 where there is no second one.
-fn numbers(shape: &Shape) -> [usize; 5] {
-    let second = if shape.dimensions() > 1 {
-        shape.radix(1)
-    } else {
-        1
-    };
-    [
-        shape.nodes(),
-        shape.ports(),
-        shape.dimensions(),
-        shape.radix(0),
-        second,
-    ]
-}
+use std::test::Fail;
 
 // Where a port of a node leads, if both exist.
 fn leads(shape: &Shape, node: usize, port: usize) -> Option<(usize, usize)> {
@@ -37,10 +13,12 @@ fn leads(shape: &Shape, node: usize, port: usize) -> Option<(usize, usize)> {
 }
 
 #[test]
-fn torus_of_two_by_three_leads_round(rt: HostRuntime) {
-    let torus = shape(&rt, Kind::Torus, &[2, 3]);
+fn torus_of_two_by_three_leads_round(rt: HostRuntime) -> Result<(), Fail> {
+    let torus = Shape::new(Kind::Torus, &[2, 3])?;
     assert!(rt; torus.kind() == Kind::Torus);
-    assert_eq!(rt; numbers(&torus), [6, 5, 2, 2, 3]);
+    assert!(rt; torus.dimensions() == 2);
+    assert!(rt; torus.nodes() == 6);
+    assert_eq!(rt; [torus.ports(), torus.radix(0), torus.radix(1)], [5, 2, 3]);
     assert_eq!(rt;
         [
             leads(&torus, 5, 0),
@@ -50,13 +28,13 @@ fn torus_of_two_by_three_leads_round(rt: HostRuntime) {
         ],
         [Some((4, 1)), Some((4, 0)), Some((1, 3)), None]
     );
-    assert!(rt; torus.nodes() == 6);
     assert!(rt; torus.distance(0, 5) == 2);
+    Ok(())
 }
 
 #[test]
-fn mesh_of_four_by_three_has_borders(rt: HostRuntime) {
-    let mesh = shape(&rt, Kind::Mesh, &[4, 3]);
+fn mesh_of_four_by_three_has_borders(rt: HostRuntime) -> Result<(), Fail> {
+    let mesh = Shape::new(Kind::Mesh, &[4, 3])?;
     assert!(rt; mesh.kind() == Kind::Mesh);
     assert!(rt; mesh.nodes() == 12);
     assert_eq!(rt;
@@ -65,6 +43,7 @@ fn mesh_of_four_by_three_has_borders(rt: HostRuntime) {
     );
     assert!(rt; mesh.coordinates(11) == [3, 2, 0]);
     assert!(rt; mesh.distance(0, 11) == 5);
+    Ok(())
 }
 
 #[test]

@@ -41,20 +41,11 @@ impl Gate for Closing {
     }
 }
 
-// The gate that workers 0 and 1 pass in cycle 1 only when both have come to it.
+// The gate that workers 0 and 1 pass in cycle 1 only when both have come to it. Each raises its flag.
 #[derive(Drop)]
 pub(crate) struct Meeting {
-    first: AtomicBool,
-    second: AtomicBool,
-}
-
-impl Meeting {
-    pub(crate) fn new() -> Self {
-        Meeting {
-            first: AtomicBool::new(false),
-            second: AtomicBool::new(false),
-        }
-    }
+    pub(crate) first: AtomicBool,
+    pub(crate) second: AtomicBool,
 }
 
 impl Gate for Meeting {
@@ -80,18 +71,10 @@ impl Gate for Meeting {
     }
 }
 
-// The gate that worker 2 passes in cycle 0 only when worker 0 has come to cycle 2.
+// The gate that worker 2 passes in cycle 0 only when worker 0 has come to cycle 2, and has raised the flag.
 #[derive(Drop)]
 pub(crate) struct HeadStart {
-    ahead: AtomicBool,
-}
-
-impl HeadStart {
-    pub(crate) fn new() -> Self {
-        HeadStart {
-            ahead: AtomicBool::new(false),
-        }
-    }
+    pub(crate) ahead: AtomicBool,
 }
 
 impl Gate for HeadStart {

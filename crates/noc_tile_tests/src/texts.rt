@@ -43,11 +43,6 @@ pub(crate) fn stalls(rt: &(impl AllocGlobal + Abort), network: &Network) -> Vec<
     out.into_inner()
 }
 
-// The stall report of a network is this text.
-pub(crate) fn assert_stalls(rt: &(impl AllocGlobal + Abort), network: &Network, report: &[u8]) {
-    assert_eq!(rt; stalls(rt, network).as_slice(), report);
-}
-
 // The latency report of a network is this text.
 pub(crate) fn assert_latency(rt: &(impl AllocGlobal + Abort), network: &Network, report: &[u8]) {
     let mut out = Out::new(Vec::new(rt.alloc()));
@@ -59,9 +54,9 @@ pub(crate) fn assert_latency(rt: &(impl AllocGlobal + Abort), network: &Network,
 pub(crate) fn assert_reports(
     rt: &(impl AllocGlobal + Abort),
     network: Network,
-    stalls: &[u8],
-    latency: &[u8],
+    stall_report: &[u8],
+    latency_report: &[u8],
 ) {
-    assert_stalls(rt, &network, stalls);
-    assert_latency(rt, &network, latency);
+    assert_eq!(rt; stalls(rt, &network).as_slice(), stall_report);
+    assert_latency(rt, &network, latency_report);
 }
