@@ -1,7 +1,7 @@
 //! Requests: commands with the texts of their files.
 
 ghost use Rattle.std.specs.Prelude.{◌≡◌};
-ghost use Rattle.noc_answers.specs.Asked.{files_of, given_text, lent_files, lent_text, owned_text, parts};
+ghost use Rattle.noc_answers.specs.Asked.{files_of, given_text, lent_files, lent_text, owned_text};
 
 use noc_commands::Command;
 use noc_files::InputFault;
@@ -62,18 +62,5 @@ fn traffic_bytes(text: &Option<Text>) -> Bytes<'_>
     match text {
         Some(text) => bytes_of(text),
         None => Err(InputFault::ReadFailed),
-    }
-}
-
-// The two texts of a joined text.
-pub(crate) fn parts<'a>(config: &'a [u8], traffic: &'a [u8]) -> Files<'a>
-    ensures { lent_files result ≡ parts config.entry.now traffic.entry.now }
-{
-    Files {
-        config: Ok(config),
-        table: None,
-        ranks: None,
-        traffic: Ok(traffic),
-        command: Command::Joined,
     }
 }

@@ -173,7 +173,7 @@ impl Shape {
         place[dimension] = axis::moved(
             self.wraps,
             self.sizes[dimension],
-            axis::leads_up(port),
+            port % 2 == 0,
             place[dimension],
         )?;
         Some((axis::join(&self.sizes, &place), axis::other_end(port)))
