@@ -8,5 +8,5 @@ returns-in_err-ranks-clause-fault g c =
     let p = err_from_is_err_and c.from_residual.result c.from_residual.ensures.1 in
     rw (p.1, p.2, c.in-Some.is) c.in_err-ranks.ensures.fault
 
-pub returns-in-Err-clause-fault : goal.returns-in-Err-clause-fault
-returns-in-Err-clause-fault g c = rw c.in-Some.is (refl, rw c.shape.ensures.value (bad_ranks c.in_ok-ranks.ensures.ranks c.in-Err.ensures.err))
+pub returns-clause-fault : goal.returns-clause-fault
+returns-clause-fault g c = rw c.in-Some.is (refl, rw c.shape.ensures.value (bad_ranks c.in_ok-ranks.ensures.ranks c.in-Err.ensures.err))

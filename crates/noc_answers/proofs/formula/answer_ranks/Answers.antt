@@ -5,6 +5,7 @@ use Rattle.noc_answers.specs.Asked.{lent_files}
 use Rattle.noc_answers.specs.Settings.{SettingsFault}
 use Rattle.noc_answers.specs.Answer.{TextsFault, in_formula, in_settings, ranks}
 use Rattle.noc_answers.specs.Ending.{at_fault}
+use Rattle.noc_rank.specs.declared.fault.RankFault.TheVariants.{NoGenerated}
 use Rattle.noc_rank.specs.Formulas.{IsFaultOfFormula, IsGenerated}
 use Rattle.noc_answers.proofs.EndingLemmas.{answered, refuses_more}
 use Rattle.noc_answers.proofs.formula.answer_ranks.Goals as goal
@@ -17,13 +18,13 @@ returns-in_err-config g c =
 
 pub returns-in_default : goal.returns-in_default
 returns-in_default g c =
-    at_fault refl (refl, rw c.shape-shape.ensures.value (in_formula c.requires c.in_ok-config.ensures.relation (rw (← c.in_default.ensures) refl)))
+    at_fault refl (refl, rw c.shape-shape.ensures.value (in_formula {f = NoGenerated} c.requires c.in_ok-config.ensures.relation (rw (← c.in_default.ensures) refl)))
 
 pub returns-in-Err : goal.returns-in-Err
 returns-in-Err g c = at_fault refl (
   refl,
   rw c.shape-shape.ensures.value
-      (in_formula c.requires c.in_ok-config.ensures.relation
+      (in_formula {f = c.in-Err.fault} c.requires c.in_ok-config.ensures.relation
       (rw (← c.in-Some.ensures) (subst (λ g. IsFaultOfFormula g c.in_ok-config.config.channels c.in_ok-config.config.classes c.in-Some.rule c.in-Err.fault) c.shape-shape.ensures.value c.in-Err.ensures.err))),
 )
 
