@@ -23,13 +23,13 @@ returns-in-Some-clause-refused g c = λ ranked. absurd (ranked-no_fall c.args.re
 pub returns-in-Some-first_bare-clause-refused : goal.returns-in-Some-first_bare-clause-refused
 returns-in-Some-first_bare-clause-refused g c = λ ranked. absurd (ranked-not_bare c.args.relation.now c.args.ranks.now ranked _ c.in-Some-first_bare.ensures.bare)
 
-pub returns-in-None-first_descent-clause-ok : goal.returns-in-None-first_descent-clause-ok
-returns-in-None-first_descent-clause-ok g c =
+pub returns-in-None-2-clause-ok : goal.returns-in-None-2-clause-ok
+returns-in-None-2-clause-ok g c =
     let routes = c.args.relation.now in
     let k = c.args.ranks.now in
     let B : Option Entry → Type 0 = λ o. MatchOption o (HasEscapes routes k) (IsFirstBare routes k) in
     let D : Option Descent → Type 0 = λ o. MatchOption o (HasNoDescent routes k) (λ d. IsFirstDescent routes k d.from d.to d.rank d.next) in
-    escape-over routes k c.requires.shape c.requires.vcs c.is_full.ensures.built (subst B c.in_default.is c.first_bare.ensures) (subst D c.in-None.is c.in_ok-first_descent.ensures)
+    escape-over routes k c.requires.shape c.requires.vcs c.is_full.ensures.built (subst B c.in_default.is c.first_bare.ensures) (subst D c.in-None-2.is c.in_ok-first_descent.ensures)
 
 pub returns-in-Some-2-clause-refused : goal.returns-in-Some-2-clause-refused
 returns-in-Some-2-clause-refused g c = λ ranked.

@@ -1,4 +1,4 @@
-use Rattle.std.proofs.Common.{◌≡◌, ◌*◌, ◌∙◌, ap, subst, sym, arith}
+use Rattle.std.proofs.Common.{◌≡◌, ◌+◌, ◌*◌, ◌∙◌, ap, subst, sym, arith}
 use Rattle.noc_topo.specs.Shape.{local_port, distance}
 use Rattle.noc_rank.specs.LeastAhead.{outputs}
 use Rattle.noc_rank.specs.Filled.{IsFilled}
@@ -30,7 +30,7 @@ returns c =
     let d = distance routes.grid c.args.router s.dst in
     let at = (goal.at.returns c).After-distance in
     let count : c.link_ports.result * c.vcs.result ≡ outputs routes
-    = ap (λ x. x * c.vcs.result) (c.link_ports.ensures.value ∙ ap local_port c.shape-link_ports.ensures.value) ∙ ap (λ x. local_port routes.grid * x) c.vcs.ensures.value in
+    = ap (λ x. x * c.vcs.result) (c.link_ports.ensures.value ∙ ap local_port c.shape-2.ensures.value) ∙ ap (λ x. local_port routes.grid * x) c.vcs.ensures.value in
     let last : c.loop-input.input ≡ outputs routes = omega (arith, count, c.loop-input-test.false, c.loop-input.auto.input-end) in
     subst (λ x. IsFilled s x (c.args.router + 1) 0 least) (sym (here at) ∙ c.if-distance.false)
     (least-next_router s c.vcs.ensures.built d c.args.router least (subst (λ i. IsFilled s d c.args.router i least) last c.loop-input.invariant))
