@@ -85,9 +85,7 @@ impl Way {
     {
         match rule {
             Rule::Dor | Rule::Dateline => self.towards == Some(port),
-            Rule::WestFirst => {
-                self.nearer[port] && (port == 1 || self.here[0] <= self.there[0])
-            }
+            Rule::WestFirst => { self.nearer[port] && (port == 1 || self.here[0] <= self.there[0]) }
             Rule::Adaptive => self.nearer[port],
             Rule::Rows(_) => false,
         }
