@@ -53,7 +53,9 @@ fn joined(
             Ok(first)
         }
         (Err(StartFault::Memory), _) | (_, Err(StartFault::Memory)) => Err(StartFault::Memory),
-        (Err(StartFault::NoWorker), _) | (_, Err(StartFault::NoWorker)) => Err(StartFault::NoWorker),
+        (Err(StartFault::NoWorker), _) | (_, Err(StartFault::NoWorker)) => Err(
+            StartFault::NoWorker,
+        ),
     }
 }
 
