@@ -91,9 +91,9 @@ pub fn request_of<F: Fn(&str) -> Text>(words: &Words<'_>, read: F) -> Request
 {
     Request {
         config: read(words.config),
-        table: words.table.map(|name: &str| -> Text { read(name) }),
-        ranks: words.ranks.map(|name: &str| -> Text { read(name) }),
-        traffic: words.traffic.map(|name: &str| -> Text { read(name) }),
+        table: words.table.map(&read),
+        ranks: words.ranks.map(&read),
+        traffic: words.traffic.map(&read),
         command: words.command,
     }
 }
