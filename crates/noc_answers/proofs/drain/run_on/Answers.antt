@@ -1,4 +1,4 @@
-use Rattle.std.proofs.Common.{◌≡◌, ◌-◌, ◌<◌, ◌≤◌, ◌∙◌, ap, arith, inl, inr, min, sym}
+use Rattle.std.proofs.Common.{◌-◌, ◌<◌, ◌≤◌, ◌∙◌, ap, arith, inl, inr, min, sym}
 use Rattle.noc_theory.specs.Network.{Run}
 use Rattle.noc_answers.proofs.DrainLemmas.{goes-on, goes-to}
 use Rattle.noc_answers.proofs.drain.run_on.Goals as goal
