@@ -6,7 +6,7 @@ ghost use Rattle.noc_files.specs.Gives.{Gives};
 ghost use Rattle.noc_files.specs.Table.{table_of};
 ghost use Rattle.noc_answers.specs.Ending.{Refuses};
 ghost use Rattle.noc_answers.specs.Asked.{lent_files, lent_text, read_by};
-ghost use Rattle.noc_answers.specs.Options.{cycle_fault, early_fault, first_cycle, is_bad_span, last_cycle, late_fault, packet_option_fault, router_fault, table_fault};
+ghost use Rattle.noc_answers.specs.Options.{cycle_fault, early_fault, last_cycle, late_fault, packet_option_fault, router_fault, table_fault};
 ghost use Rattle.noc_answers.specs.Settings.{AsksForRelation, AsksForShape, IsRuleOf, RefusesTable, SettingsFault};
 
 use crate::request::{Bytes, Files};
@@ -89,7 +89,7 @@ fn cycle_fault(command: Command, cycles: u64) -> Option<OptionFault>
     match command {
         Command::Explain { cycle, .. } if cycles <= cycle => Some(OptionFault::BadCycle),
         Command::Trace { from, to, .. } => {
-            let (first, last) = (first_cycle(from), last_cycle(to, cycles));
+            let (first, last) = (from.unwrap_or(0), last_cycle(to, cycles));
             if cycles <= first || cycles <= last || last < first {
                 Some(OptionFault::BadCycle)
             } else {
@@ -98,13 +98,6 @@ fn cycle_fault(command: Command, cycles: u64) -> Option<OptionFault>
         }
         _ => None,
     }
-}
-
-// The first cycle of a trace.
-pub(crate) fn first_cycle(from: Option<u64>) -> u64
-    ensures { result ≡ first_cycle from }
-{
-    from.unwrap_or(0)
 }
 
 // The last cycle of a trace, of a run of so many.
