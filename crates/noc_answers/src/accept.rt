@@ -72,22 +72,9 @@ fn accept_if_given(
     ensures accepted { OnOk result (IfSome (option_map lent_text text.entry) (Accepts relation.now)) }
     ensures fault { IfErr result (Refuses (λ f. IsSomeAnd (option_map lent_text text.entry) (λ t. RanksFault relation.now t f))) }
 {
-    match text {
-        Some(text) => accept(rt, alloc, text, relation),
-        None => Ok(()),
-    }
-}
-
-// Whether the ranks of a rank file rise along a relation.
-fn accept(
-    rt: &(impl Threads + Sync),
-    alloc: Global,
-    text: Bytes<'_>,
-    relation: &Relation,
-) -> Result<(), Fault>
-    ensures accepted { OnOk result (Accepts relation.now (lent_text text.entry)) }
-    ensures fault { IfErr result (Refuses (RanksFault relation.now (lent_text text.entry))) }
-{
+    let Some(text) = text else {
+        return Ok(());
+    };
     let ranks = ranks_of(alloc, text, relation)?;
     match check(rt, alloc, relation, &ranks) {
         Ok(_) => Ok(()),

@@ -11,7 +11,7 @@ ghost use Rattle.noc_commands.specs.Workers.{HasWorkers, workers_of};
 use crate::accept::answer_check;
 use crate::explain::explain;
 use crate::formula::answer_ranks;
-use crate::request::{Files, Request, files_of, parts};
+use crate::request::{Files, Request, files_of};
 use crate::run::{run, run_by_workers};
 use crate::trace::trace;
 use noc_commands::{Command, Report};
@@ -81,7 +81,13 @@ fn read_request(request: &Request) -> Result<Files<'_>, Fault>
         Err(fault) => return Err(Fault::Joined(*fault)),
     };
     match split_joined(text) {
-        Some((config, traffic)) => Ok(parts(config, traffic)),
+        Some((config, traffic)) => Ok(Files {
+            config: Ok(config),
+            table: None,
+            ranks: None,
+            traffic: Ok(traffic),
+            command: Command::Joined,
+        }),
         None => Err(Fault::Joined(InputFault::NoSplit)),
     }
 }

@@ -1,22 +1,19 @@
 //! Writing the ranks by formula of a routing rule.
 
-ghost use Rattle.std.specs.Prelude.{◌≡◌, IfErr, IfOk};
-ghost use Rattle.noc_files.specs.Configuration.{settings};
+ghost use Rattle.std.specs.Prelude.{◌≡◌};
 ghost use Rattle.noc_answers.specs.Asked.{lent_files};
 ghost use Rattle.noc_answers.specs.Answer.{IsAnswered};
-ghost use Rattle.noc_answers.specs.Formula.{HasRanks, IsFormulaFault};
 
 use crate::ending::ended;
 use crate::request::Files;
 use crate::settings::relation_of;
 use noc_commands::Command;
 use noc_faults::{Fault, Status};
-use noc_files::{Config, Sink, write_ranks};
+use noc_files::{Sink, write_ranks};
 use noc_rank::{RankFault, Ranks};
-use noc_topo::Shape;
 use std::alloc::Global;
 
-// Writes the ranks by formula of the rule, once its relation could be made.
+// Writes the ranks by formula of the rule, once its relation could be made. A table has none.
 pub(crate) fn answer_ranks<W: Sink>(
     alloc: Global,
     files: &Files<'_>,
@@ -27,7 +24,10 @@ pub(crate) fn answer_ranks<W: Sink>(
 {
     let (config, relation) = relation_of(alloc, files)?;
     let shape = relation.shape();
-    let ranks = match ranks_by_formula(alloc, &config, shape) {
+    let Some(rule) = config.rule.rule() else {
+        return Err(Fault::Rank(RankFault::NoGenerated, *shape));
+    };
+    let ranks = match Ranks::generated(alloc, shape, config.channels, config.classes, &rule) {
         Ok(ranks) => ranks,
         Err(fault) => return Err(Fault::Rank(fault, *shape)),
     };
@@ -35,15 +35,4 @@ pub(crate) fn answer_ranks<W: Sink>(
         write_ranks(&ranks, shape, config.channels, sink),
         Status::Done,
     )
-}
-
-// The ranks by formula of a configuration's rule. A table has none.
-fn ranks_by_formula(alloc: Global, config: &Config, shape: &Shape) -> Result<Ranks, RankFault>
-    ensures ranks { IfOk result (HasRanks (settings config.now) shape.now) }
-    ensures fault { IfErr result (IsFormulaFault (settings config.now) shape.now) }
-{
-    match config.rule.rule() {
-        Some(rule) => Ranks::generated(alloc, shape, config.channels, config.classes, &rule),
-        None => Err(RankFault::NoGenerated),
-    }
 }

@@ -1,7 +1,7 @@
 //! Requests: commands with the texts of their files.
 
 ghost use Rattle.std.specs.Prelude.{◌≡◌};
-ghost use Rattle.noc_answers.specs.Asked.{files_of, given_text, lent_files, lent_text, owned_text, parts};
+ghost use Rattle.noc_answers.specs.Asked.{files_of, lent_files, lent_text, owned_text};
 
 use noc_commands::Command;
 use noc_files::InputFault;
@@ -32,15 +32,19 @@ pub(crate) struct Files<'a> {
     pub(crate) command: Command,
 }
 
-// The texts of a request as they stand.
+// The texts of a request as they stand. A traffic text that is not given is not read.
 pub(crate) fn files_of(request: &Request) -> Files<'_>
     ensures { lent_files result ≡ files_of request.now }
 {
+    let traffic = match &request.traffic {
+        Some(text) => bytes_of(text),
+        None => Err(InputFault::ReadFailed),
+    };
     Files {
         config: bytes_of(&request.config),
         table: request.table.as_ref().map(bytes_of),
         ranks: request.ranks.as_ref().map(bytes_of),
-        traffic: traffic_bytes(&request.traffic),
+        traffic,
         command: request.command,
     }
 }
@@ -52,28 +56,5 @@ pub(crate) fn bytes_of(text: &Text) -> Bytes<'_>
     match text {
         Ok(bytes) => Ok(bytes.as_slice()),
         Err(fault) => Err(*fault),
-    }
-}
-
-// The bytes of a traffic text. One that is not given is not read.
-fn traffic_bytes(text: &Option<Text>) -> Bytes<'_>
-    ensures { lent_text result ≡ given_text text.now }
-{
-    match text {
-        Some(text) => bytes_of(text),
-        None => Err(InputFault::ReadFailed),
-    }
-}
-
-// The two texts of a joined text.
-pub(crate) fn parts<'a>(config: &'a [u8], traffic: &'a [u8]) -> Files<'a>
-    ensures { lent_files result ≡ parts config.entry.now traffic.entry.now }
-{
-    Files {
-        config: Ok(config),
-        table: None,
-        ranks: None,
-        traffic: Ok(traffic),
-        command: Command::Joined,
     }
 }

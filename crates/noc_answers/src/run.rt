@@ -12,7 +12,7 @@ ghost use Rattle.noc_answers.specs.Run.{IsNetworkOf, Opens, PacketsFault, runs_u
 ghost use Rattle.noc_tiles.specs.declared.limits.TheConstants.{MAX_WORKERS};
 
 use crate::accept::checked_relation;
-use crate::drain::{run_to_end, run_to_end_by_workers};
+use crate::drain::{run_on, run_stretches};
 use crate::ending::{ended, ending};
 use crate::request::{Bytes, Files};
 use noc_commands::Report;
@@ -39,12 +39,14 @@ pub(crate) fn run<W: Sink>(
     ensures { IsAnswered W.contents W.has_failed sink.old sink.new (lent_files files.now) result }
 {
     let (mut network, cycles) = opening_network(rt, alloc, files)?;
-    run_to_end(&mut network, cycles, drain);
+    network.run(cycles);
+    run_on(&mut network, drain);
     ended(write_report(&network, report, sink), ending(&network))
 }
 
 // Runs the network by two or more workers for its cycles, and writes a report; ranks are checked before, if there are any.
-// Only a network that does not fit rows is run in threads.
+// Only a network that does not fit rows is run in threads. What is left to drain is run by the caller alone: to start threads
+// for each look whether every packet is out takes longer.
 pub(crate) fn run_by_workers<R: Threads + Wait + Sync, W: Sink>(
     rt: &R,
     alloc: Global,
@@ -61,8 +63,11 @@ pub(crate) fn run_by_workers<R: Threads + Wait + Sync, W: Sink>(
     ensures { IsAnswered W.contents W.has_failed sink.old sink.new (lent_files files.now) result }
 {
     let (network, cycles) = opening_network(rt, alloc, files)?;
-    match run_to_end_by_workers(rt, alloc, network, cycles, workers, drain) {
-        Ok(network) => ended(write_report(&network, report, sink), ending(&network)),
+    match run_stretches(rt, alloc, network, cycles, workers) {
+        Ok(mut network) => {
+            run_on(&mut network, drain);
+            ended(write_report(&network, report, sink), ending(&network))
+        }
         Err(fault) => Err(Fault::Run(fault)),
     }
 }

@@ -6,7 +6,7 @@ ghost use Rattle.noc_files.specs.Gives.{Gives};
 ghost use Rattle.noc_files.specs.Table.{table_of};
 ghost use Rattle.noc_answers.specs.Ending.{Refuses};
 ghost use Rattle.noc_answers.specs.Asked.{lent_files, lent_text, read_by};
-ghost use Rattle.noc_answers.specs.Options.{cycle_fault, early_fault, first_cycle, is_bad_span, last_cycle, late_fault, packet_option_fault, router_fault, table_fault};
+ghost use Rattle.noc_answers.specs.Options.{cycle_fault, early_fault, last_cycle, late_fault, packet_option_fault, router_fault, table_fault};
 ghost use Rattle.noc_answers.specs.Settings.{AsksForRelation, AsksForShape, IsRuleOf, RefusesTable, SettingsFault};
 
 use crate::request::{Bytes, Files};
@@ -70,25 +70,15 @@ fn config_in(alloc: Global, text: Bytes<'_>) -> Result<Config, InputFault>
     read_config(alloc, text?)
 }
 
-// The first fault of the options that is looked for before the shape.
+// The first fault of the options that is looked for before the shape: a table file beside another rule, or none beside the
+// rule `table`; then a cycle or a span that is not of the run.
 fn early_fault(command: Command, has_table: bool, config: &Config) -> Option<OptionFault>
     ensures { result ≡ early_fault command has_table (settings config.now) }
 {
-    match table_fault(config.rule, has_table) {
-        Some(fault) => Some(fault),
-        None => cycle_fault(command, config.cycles),
-    }
-}
-
-// The fault of a table file beside another rule, or of none beside the rule `table`.
-fn table_fault(name: RuleName, has_table: bool) -> Option<OptionFault>
-    ensures { result ≡ table_fault name has_table }
-{
-    match (name, has_table) {
-        (RuleName::Table, true) => None,
+    match (config.rule, has_table) {
         (RuleName::Table, false) => Some(OptionFault::NoTable),
+        (RuleName::Table, true) | (_, false) => cycle_fault(command, config.cycles),
         (_, true) => Some(OptionFault::SpareTable),
-        (_, false) => None,
     }
 }
 
@@ -98,26 +88,16 @@ fn cycle_fault(command: Command, cycles: u64) -> Option<OptionFault>
 {
     match command {
         Command::Explain { cycle, .. } if cycles <= cycle => Some(OptionFault::BadCycle),
-        Command::Trace { from, to, .. }
-            if is_bad_span(first_cycle(from), last_cycle(to, cycles), cycles) => {
-            Some(OptionFault::BadCycle)
+        Command::Trace { from, to, .. } => {
+            let (first, last) = (from.unwrap_or(0), last_cycle(to, cycles));
+            if cycles <= first || cycles <= last || last < first {
+                Some(OptionFault::BadCycle)
+            } else {
+                None
+            }
         }
         _ => None,
     }
-}
-
-// Whether a span has a cycle that a run of so many does not have, or ends before it begins.
-fn is_bad_span(first: u64, last: u64, cycles: u64) -> bool
-    ensures { result ≡ is_bad_span first last cycles }
-{
-    cycles <= first || cycles <= last || last < first
-}
-
-// The first cycle of a trace.
-pub(crate) fn first_cycle(from: Option<u64>) -> u64
-    ensures { result ≡ first_cycle from }
-{
-    from.unwrap_or(0)
 }
 
 // The last cycle of a trace, of a run of so many.

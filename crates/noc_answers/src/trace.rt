@@ -11,7 +11,7 @@ ghost use Rattle.noc_answers.specs.Run.{Opens};
 use crate::ending::ended;
 use crate::request::Files;
 use crate::run::opening_network;
-use crate::settings::{first_cycle, last_cycle, packet_fault};
+use crate::settings::{last_cycle, packet_fault};
 use noc_faults::{Fault, Status};
 use noc_files::{Sink, Trace, Traced, write_trace};
 use noc_net::{NetFault, Network};
@@ -33,7 +33,7 @@ pub(crate) fn trace<W: Sink>(
 {
     let (mut network, cycles) = opening_network(rt, alloc, files)?;
     let trace = trace_for(alloc, files, &network, traced)?;
-    let first = first_cycle(from);
+    let first = from.unwrap_or(0);
     let end = last_cycle(to, cycles) + 1;
     let span = end - first;
     network.run(first);

@@ -2,7 +2,7 @@
 
 ghost use Rattle.std.specs.Prelude.{◌≡◌, ◌≤◌, codes, length};
 ghost use Rattle.noc_files.specs.Writing.{Wrote};
-ghost use Rattle.noc_faults.specs.Line.{channel_details, descent_details, entry_details, fall_details, hop_details, input_details, input_title, line_of, line_with, net_details, net_title, option_title, port_word, rank_details, rank_title, route_details, route_title, run_title, shape_title, value_of, word_of};
+ghost use Rattle.noc_faults.specs.Line.{channel_details, descent_details, entry_details, fall_details, hop_details, input_details, input_title, line_of, line_with, net_details, net_title, option_title, rank_details, rank_title, route_details, route_title, run_title, shape_title, value_of, word_of};
 
 use crate::fault::{Fault, OptionFault};
 use arrayvec::ArrayString;
@@ -62,7 +62,11 @@ impl Detail {
     {
         match self {
             Detail::Key(key) => key.name(),
-            Detail::Port(shape, port) | Detail::Out(shape, port) => port_text(&shape, port, buffer),
+            // (the number of a port, where the shape has no such port)
+            Detail::Port(shape, port) | Detail::Out(shape, port) => match port_name(&shape, port) {
+                Some(name) => name,
+                None => buffer.format(port),
+            },
             Detail::Row(number)
             | Detail::Column(number)
             | Detail::Class(number)
@@ -130,17 +134,6 @@ fn line_with(family: &str, title: &str, details: &[Detail]) -> Line
     }
     line.push_str("\n");
     line
-}
-
-// The name of a port, or its number where the shape has no such port.
-fn port_text<'a>(shape: &Shape, port: usize, buffer: &'a mut Buffer) -> &'a str
-    ensures text { result.now ≡ port_word shape.now port }
-    ensures short { length result.now ≤ 20 }
-{
-    match port_name(shape, port) {
-        Some(name) => name,
-        None => buffer.format(port),
-    }
 }
 
 // A fault of a text.

@@ -1,39 +1,12 @@
 //! A writer that counts what the device below it takes.
 
-ghost use Rattle.std.specs.Prelude.{◌≡◌};
-
 use std::io::{self, Write};
 
 // A writer, and how many bytes it has taken.
 #[derive(Drop)]
 pub(crate) struct Counted<W> {
-    writer: W,
-    taken: u64,
-}
-
-impl<W> Counted<W> {
-    // This writer, which has taken nothing yet.
-    pub(crate) fn new(writer: W) -> Counted<W>
-        ensures writer { result.writer ≡ writer }
-        ensures taken { result.taken ≡ 0 }
-    {
-        Counted { writer, taken: 0 }
-    }
-
-    // Gives the writer back.
-    pub(crate) fn into_inner(self) -> W
-        ensures { result ≡ self.writer }
-    {
-        let Counted { writer, taken: _ } = self;
-        writer
-    }
-
-    // How many bytes it has taken.
-    pub(crate) fn taken(&self) -> u64
-        ensures { result ≡ self.now.taken }
-    {
-        self.taken
-    }
+    pub(crate) writer: W,
+    pub(crate) taken: u64,
 }
 
 impl<W: Write> Write for Counted<W> {

@@ -27,7 +27,11 @@ pub fn write_answer<R: Threads + Wait + Sync, W: Write + Drop>(
     requires { HasWorkers request.now.command }
     ensures { Ends (workers_of request.now.command) (IsOnDevice W.contents device result.1) (IsUntouched device result.1) (Asks request.now) (ToldFault request.now) result.0 }
 {
-    let writer = match BufWriter::new(alloc, Counted::new(device)) {
+    let counted = Counted {
+        writer: device,
+        taken: 0,
+    };
+    let writer = match BufWriter::new(alloc, counted) {
         Ok(writer) => writer,
         Err(_) => return (Err(Fault::Config(InputFault::Memory)), None),
     };
@@ -37,7 +41,7 @@ pub fn write_answer<R: Threads + Wait + Sync, W: Write + Drop>(
     let ended = finished(answered, &mut writer);
     // What a fault left in the buffer goes nowhere.
     let (counted, _) = writer.into_parts();
-    (ended, Some(counted.into_inner()))
+    (ended, Some(counted.writer))
 }
 
 // How an answer ends: a whole one goes out to its last byte, and a fault of writing has the number that was counted below the buffer.
@@ -52,7 +56,7 @@ fn finished<W: Write + Drop>(
     match answered {
         Ok(status) if writer.flush().is_ok() => Ok(status),
         Ok(_) | Err(Fault::Write(_)) => Err(Fault::Write(WriteFault {
-            written: writer.get_ref().taken(),
+            written: writer.get_ref().taken,
         })),
         Err(fault) => Err(fault),
     }

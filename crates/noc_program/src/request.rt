@@ -37,11 +37,22 @@ pub(crate) fn parse_request(
 {
     let words = all_words(rt)?;
     if words.len() <= 1 {
-        let text = read_all(rt.alloc(), &mut rt.reader(), INPUT_LIMIT);
-        return Ok(joined(text));
+        return Ok(Request {
+            config: read_all(rt.alloc(), &mut rt.reader(), INPUT_LIMIT),
+            table: None,
+            ranks: None,
+            traffic: None,
+            command: Command::Joined,
+        });
     }
+    let file_text = |name: &str| -> Text {
+        match File::open(rt, name) {
+            Ok(mut file) => read_all(rt.alloc(), &mut file, INPUT_LIMIT),
+            Err(_) => Err(InputFault::ReadFailed),
+        }
+    };
     match read_words(rt.alloc(), &words) {
-        Ok(words) => Ok(request_of(&words, |name: &str| -> Text { file_text(rt, name) })),
+        Ok(words) => Ok(request_of(&words, file_text)),
         Err(error) if error.kind() == ErrorKind::OutOfMemory => Err(Refusal::Memory),
         Err(error) => Err(Refusal::Words(error)),
     }
@@ -69,20 +80,6 @@ fn wrong_word(rt: &impl Env) -> Option<usize> {
     None
 }
 
-// The request for the latency report of a joined text.
-fn joined(text: Text) -> Request
-    ensures config { result.config ≡ text }
-    ensures command { result.command ≡ Command.Joined }
-{
-    Request {
-        config: text,
-        table: None,
-        ranks: None,
-        traffic: None,
-        command: Command::Joined,
-    }
-}
-
 /// The request of the words, with what `read` gives for the files that they name.
 pub fn request_of<F: Fn(&str) -> Text>(words: &Words<'_>, read: F) -> Request
     requires { F.IsAlwaysCallable read }
@@ -94,17 +91,9 @@ pub fn request_of<F: Fn(&str) -> Text>(words: &Words<'_>, read: F) -> Request
 {
     Request {
         config: read(words.config),
-        table: words.table.map(|name: &str| -> Text { read(name) }),
-        ranks: words.ranks.map(|name: &str| -> Text { read(name) }),
-        traffic: words.traffic.map(|name: &str| -> Text { read(name) }),
+        table: words.table.map(&read),
+        ranks: words.ranks.map(&read),
+        traffic: words.traffic.map(&read),
         command: words.command,
-    }
-}
-
-// The bytes of a file.
-fn file_text(rt: &(impl Files + AllocGlobal), name: &str) -> Text {
-    match File::open(rt, name) {
-        Ok(mut file) => read_all(rt.alloc(), &mut file, INPUT_LIMIT),
-        Err(_) => Err(InputFault::ReadFailed),
     }
 }

@@ -52,7 +52,10 @@ pub fn check(
 {
     let ranked = Ranked { relation, ranks };
     if is_full(&ranked) {
-        return check_steps(rt, &ranked);
+        return match first_fall(rt, &ranked) {
+            None => Ok(Accepted),
+            Some(fall) => Err(fall.fault()),
+        };
     }
     if let Some(entry) = first_bare(rt, &ranked) {
         return Err(RankFault::NoEscape(entry));
@@ -91,18 +94,4 @@ fn is_adaptive(ranked: &Ranked, router: usize, port: usize, vc: usize) -> bool
         port,
         vc,
     ) && rank_at(ranked.ranks, router, port, vc).is_none()
-}
-
-// Where each link channel has a rank, whether ranks rise with each step.
-fn check_steps(rt: &(impl Threads + Sync), ranked: &Ranked) -> Result<Accepted, RankFault>
-    requires full { let k = ranked.now.ranks.now in AreAllRanked k.grid k.vcs (rank_at k) }
-    requires built { IsRelation ranked.now.relation.now }
-    ensures ok { OnOk result (IsRankedBy ranked.now.relation.now ranked.now.ranks.now) }
-    ensures err { IfErr result (IsFaultOfCheck ranked.now.relation.now ranked.now.ranks.now) }
-    ensures accepted { IsRankedBy ranked.now.relation.now ranked.now.ranks.now → IsOk result }
-{
-    match first_fall(rt, ranked) {
-        None => Ok(Accepted),
-        Some(fall) => Err(fall.fault()),
-    }
 }

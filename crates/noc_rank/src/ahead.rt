@@ -59,27 +59,19 @@ impl<'a> Search<'a> {
         ensures { IsFilled self.now (distance + 1) 0 0 least.new }
     {
         for router in 0..self.relation.shape().nodes() {
-            self.fill_if_at(least, distance, router);
+            self.fill_router(least, distance, router);
         }
     }
 
     // Fills in the channels that arrive at this router, if it is so far from the destination.
-    fn fill_if_at(&self, least: &mut [Option<u32>], distance: usize, router: usize)
+    fn fill_router(&self, least: &mut [Option<u32>], distance: usize, router: usize)
         requires router { router < nodes self.now.relation.now.grid }
         requires before { IsFilled self.now distance router 0 least.old }
         ensures { IsFilled self.now distance (router + 1) 0 least.new }
     {
-        if self.relation.shape().distance(router, self.dst) == distance {
-            self.fill_router(least, router);
+        if self.relation.shape().distance(router, self.dst) != distance {
+            return;
         }
-    }
-
-    // Fills in the channels that arrive at this router.
-    fn fill_router(&self, least: &mut [Option<u32>], router: usize)
-        requires router { router < nodes self.now.relation.now.grid }
-        requires before { IsFilled self.now (distance self.now.relation.now.grid router self.now.dst) router 0 least.old }
-        ensures { IsFilled self.now (distance self.now.relation.now.grid router self.now.dst) (router + 1) 0 least.new }
-    {
         for input in 0..link_ports(self.relation.shape()) * self.relation.vcs() {
             self.fill_input(least, router, input);
         }

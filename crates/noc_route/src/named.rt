@@ -4,7 +4,7 @@ ghost use Rattle.std.specs.Prelude.{◌≡◌, ℕ, ◌/◌, ◌%◌, ◌<◌, �
 ghost use Rattle.noc_packet.specs.Set.{has_bit};
 ghost use Rattle.noc_topo.specs.Shape.{Grid, nodes, coordinates, three_coordinates};
 ghost use Rattle.noc_route.specs.Entered.{parts_of, IsWay};
-ghost use Rattle.noc_route.specs.Relation.{is_led, dor_port, is_nearer, takes_port, takes_of_class, place_in_class, is_escape_taken, dateline_class, is_west_first};
+ghost use Rattle.noc_route.specs.Relation.{is_led, dor_port, is_nearer, takes_port, takes_of_class, place_in_class, is_escape_taken, dateline_class};
 ghost use Rattle.noc_route.specs.Routes.{width};
 
 use crate::map::Map;
@@ -85,7 +85,7 @@ impl Way {
     {
         match rule {
             Rule::Dor | Rule::Dateline => self.towards == Some(port),
-            Rule::WestFirst => self.nearer[port] && self.is_west_first(port),
+            Rule::WestFirst => { self.nearer[port] && (port == 1 || self.here[0] <= self.there[0]) }
             Rule::Adaptive => self.nearer[port],
             Rule::Rows(_) => false,
         }
@@ -133,13 +133,6 @@ impl Way {
         let t = self.there[port / 2];
         let crosses = if port % 2 == 0 { t < x } else { x < t };
         if crosses { 0 } else { 1 }
-    }
-
-    // Whether west first takes a port, if it comes nearer.
-    fn is_west_first(&self, port: usize) -> bool
-        ensures { result ≡ is_west_first self.now.here self.now.there port }
-    {
-        port == 1 || self.here[0] <= self.there[0]
     }
 }
 

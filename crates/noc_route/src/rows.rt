@@ -2,7 +2,6 @@
 
 ghost use Rattle.std.specs.Prelude.{◌≡◌, ◌<◌, IfNone, IfSome, All, None};
 ghost use Rattle.noc_topo.specs.Shape.{nodes};
-ghost use Rattle.noc_route.specs.Order.{row_before};
 ghost use Rattle.noc_route.specs.Relation.{IsFirstFault, earlier_fault, row_fault, is_real_row, is_open};
 
 use crate::map::Map;
@@ -70,19 +69,12 @@ pub(crate) fn first_fault(map: &Map, rows: &[RouteRow]) -> Option<RouteFault>
 fn earlier_fault(map: &Map, row: &RouteRow, other: Option<RouteRow>) -> Option<RouteRow>
     ensures { result ≡ earlier_fault map.now.frame.shape map.now.frame.vcs map.now.frame.classes row.now other }
 {
-    if row_fault(map, row).is_some() && is_before(row, &other) {
-        Some(*row)
-    } else {
-        other
+    if row_fault(map, row).is_none() {
+        return other;
     }
-}
-
-// Whether a row comes before another, if there is one.
-fn is_before(row: &RouteRow, other: &Option<RouteRow>) -> bool
-    ensures { result ≡ row_before row.now other.now }
-{
     match other {
-        None => true,
-        Some(other) => row.numbers() < other.numbers(),
+        Some(first) if row.numbers() < first.numbers() => Some(*row),
+        Some(_) => other,
+        None => Some(*row),
     }
 }

@@ -1,7 +1,7 @@
 -- All tiles of a network, and the network again.
 use Rattle.std.specs.Prelude.{ℕ, Bool, true, false, ◌≡◌, ◌⊎◌, ◌+◌, ◌-◌, ◌*◌, ◌^◌, ◌<◌, ◌≤◌, List, [], ◌∷◌, ◌++◌, take, drop, map, length, get_or, Option, Some, None, vec_len, if◌then◌else◌}
 use Rattle.std.specs.List.{flat_map}
-use Rattle.noc_topo.specs.Shape.{IsGrid, nodes, ports, neighbour}
+use Rattle.noc_topo.specs.Shape.{IsGrid, nodes, neighbour}
 use Rattle.noc_packet.specs.declared.packet.Beat.{Beat}
 use Rattle.noc_router.specs.View.{View, idle_beat}
 use Rattle.noc_theory.specs.Good.{IsGoodSetup}

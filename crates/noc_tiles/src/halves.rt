@@ -1,6 +1,6 @@
 //! The tiles in threads of their own.
 
-ghost use Rattle.std.specs.Prelude.{◌≡◌, ◌⊎◌, ◌++◌, IfErr, IfOk, IsOkAnd, ◌<◌, ◌≤◌, vec_len};
+ghost use Rattle.std.specs.Prelude.{◌≡◌, ◌++◌, IfErr, IfOk, IsOkAnd, ◌<◌, ◌≤◌, vec_len};
 ghost use Rattle.std.specs.Thread.{IsSync};
 ghost use Rattle.noc_tiles.specs.Faults.{fault_number};
 ghost use Rattle.noc_tiles.specs.Tiles.{AllCanRun, AllEnded};
@@ -37,17 +37,6 @@ fn run_last<G: Gate>(
     tiles
 }
 
-// The fault with the lower number.
-fn lower_fault(first: StartFault, second: StartFault) -> StartFault
-    ensures one { (result ≡ first) ⊎ (result ≡ second) }
-    ensures least { (fault_number result ≤ fault_number first) × (fault_number result ≤ fault_number second) }
-{
-    match (first, second) {
-        (StartFault::Memory, _) | (_, StartFault::Memory) => StartFault::Memory,
-        (StartFault::NoWorker, StartFault::NoWorker) => StartFault::NoWorker,
-    }
-}
-
 // Both lists in one, or the fault with the lower number.
 fn joined(
     first: Result<Vec<Tile>, StartFault>,
@@ -63,9 +52,10 @@ fn joined(
             }
             Ok(first)
         }
-        (Err(first), Err(second)) => Err(lower_fault(first, second)),
-        (Err(fault), Ok(_)) => Err(fault),
-        (Ok(_), Err(fault)) => Err(fault),
+        (Err(StartFault::Memory), _) | (_, Err(StartFault::Memory)) => Err(StartFault::Memory),
+        (Err(StartFault::NoWorker), _) | (_, Err(StartFault::NoWorker)) => Err(
+            StartFault::NoWorker,
+        ),
     }
 }
 

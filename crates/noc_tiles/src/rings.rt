@@ -52,20 +52,6 @@ fn new_ring(
     ))
 }
 
-// Whether the wire that arrives at a port comes from another tile.
-fn comes_from_other(sharing: &Sharing, router: usize, port: usize) -> bool
-    requires { router < nodes_of sharing.now.shape.now }
-    ensures { IsFalse result → (from : ℕ × ℕ) → neighbour_of sharing.now.shape.now router port ≡ Some from → AreTogether (nodes_of sharing.now.shape.now) sharing.now.workers router from.0 }
-{
-    if port >= sharing.shape.ports() {
-        return false;
-    }
-    match sharing.shape.neighbour(router, port) {
-        Some((from, _)) => !sharing.are_together(router, from),
-        None => false,
-    }
-}
-
 // The two ends of a ring on a wire between two tiles, with the beat that is in flight. Other wires have none.
 fn slot(
     alloc: Global,
@@ -77,11 +63,16 @@ fn slot(
     requires { router < nodes_of sharing.now.shape.now }
     ensures { IfOk result (λ s. IsSlot sharing.now.shape.now sharing.now.workers router port beat (option_map inlet s.0) (option_map outlet s.1)) }
 {
-    if !comes_from_other(sharing, router, port) {
+    if port >= sharing.shape.ports() {
         return Ok((None, None));
     }
-    let (one, other) = new_ring(alloc, router, port, beat)?;
-    Ok((Some(one), Some(other)))
+    match sharing.shape.neighbour(router, port) {
+        Some((from, _)) if !sharing.are_together(router, from) => {
+            let (one, other) = new_ring(alloc, router, port, beat)?;
+            Ok((Some(one), Some(other)))
+        }
+        _ => Ok((None, None)),
+    }
 }
 
 /// A ring on each wire between two tiles, with the beat that is in flight.

@@ -2,7 +2,6 @@
 
 ghost use Rattle.std.specs.Prelude.{ℕ, List, ◌≡◌, ◌+◌, ◌<◌, ◌↔◌, true, false, vec_len, IsTrue, IsFalse};
 ghost use Rattle.noc_packet.specs.declared.packet.Beat.{Beat as beat_value};
-ghost use Rattle.noc_router.specs.declared.verdict.Findings.TheVariants.{Record};
 ghost use Rattle.noc_tiles.specs.Inner.{AreInner};
 ghost use Rattle.noc_tiles.specs.Phases.{KeepsTile};
 ghost use Rattle.noc_tiles.specs.TileStep.{arrival_places};
@@ -48,18 +47,6 @@ fn cycle(
     true
 }
 
-// What is found is recorded in the last of so many cycles alone, since nobody reads what is found before.
-fn findings_in(cycle: u64, cycles: u64) -> Findings
-    requires { cycle < cycles }
-    ensures { cycle + 1 ≡ cycles → result ≡ Record }
-{
-    if cycle + 1 == cycles {
-        Findings::Record
-    } else {
-        Findings::Leave
-    }
-}
-
 /// Runs a tile's cycles as the beats come. Before each one the gate is asked, with the network's count; where it does not let
 /// the worker pass, the flag is raised: so a run that is whole had no cycle in which the gate was shut to the worker.
 pub fn run_tile<G: Gate>(
@@ -86,7 +73,12 @@ pub fn run_tile<G: Gate>(
             tile.outcome = Outcome::Closed;
             return tile;
         }
-        let findings = findings_in(c, tile.cycles);
+        // (nobody reads what is found before the last cycle)
+        let findings = if c + 1 == tile.cycles {
+            Findings::Record
+        } else {
+            Findings::Leave
+        };
         if !cycle(rt, relation, inner, &mut tile, now, findings, stop) {
             tile.outcome = Outcome::Stopped;
             return tile;

@@ -3,7 +3,7 @@
 ghost use Rattle.std.specs.Prelude.{◌≡◌, ℕ, ◌<◌, ◌≤◌, IfSome, length, slice_index, EachIndex};
 ghost use Rattle.std.specs.List.{list_all};
 ghost use Rattle.noc_topo.specs.Filled.{three_sizes};
-ghost use Rattle.noc_topo.specs.Shape.{is_radix, product, coordinates, node_at, moved_in, distance_in, is_plus, opposite};
+ghost use Rattle.noc_topo.specs.Shape.{is_radix, product, coordinates, node_at, moved_in, distance_in, opposite};
 ghost use Rattle.noc_topo.specs.declared.limits.TheConstants.{MAX_DIMENSIONS};
 
 use crate::limits::MAX_RADIX;
@@ -64,13 +64,6 @@ pub(crate) fn moved(wraps: bool, size: usize, up: bool, x: usize) -> Option<usiz
         return Some(x - 1);
     }
     if wraps { Some(size - 1) } else { None }
-}
-
-// Whether a link port leads up in its dimension.
-pub(crate) fn leads_up(port: usize) -> bool
-    ensures { result ≡ is_plus port }
-{
-    port % 2 == 0
 }
 
 // The port at the other end of a link.

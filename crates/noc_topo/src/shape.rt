@@ -47,16 +47,6 @@ impl Model for Shape {
     ghost inverse = { shape_with };
 }
 
-// Whether the ends of a dimension are joined.
-fn are_joined(kind: Kind) -> bool
-    ensures { result ≡ wraps_of kind }
-{
-    match kind {
-        Kind::Mesh => false,
-        Kind::Torus => true,
-    }
-}
-
 impl Shape {
     /// The shape of these sizes, lowest dimension first, or the first fault in the order
     /// `BadDimensions`, `BadRadix`, `TooManyNodes`.
@@ -75,7 +65,7 @@ impl Shape {
             return Err(ShapeFault::TooManyNodes);
         }
         Ok(Shape {
-            wraps: are_joined(kind),
+            wraps: kind == Kind::Torus,
             sizes,
             count: radix.len(),
         })
@@ -173,7 +163,7 @@ impl Shape {
         place[dimension] = axis::moved(
             self.wraps,
             self.sizes[dimension],
-            axis::leads_up(port),
+            port % 2 == 0,
             place[dimension],
         )?;
         Some((axis::join(&self.sizes, &place), axis::other_end(port)))

@@ -133,8 +133,17 @@ fn command_of(name: &str, matches: &ArgMatches<'_>) -> Option<Command>
             report: report_of(matches),
             drain: matches.get_flag("drain"),
         }),
-        "explain" => Some(explain_of(matches)),
-        "trace" => Some(trace_of(matches)),
+        "explain" => Some(Command::Explain {
+            cycle: matches.get_one::<u64>("cycle").unwrap_or(0),
+            router: matches.get_one::<usize>("router").unwrap_or(0),
+        }),
+        "trace" => Some(Command::Trace {
+            from: matches.get_one::<u64>("from"),
+            to: matches.get_one::<u64>("to"),
+            router: matches.get_one::<usize>("router"),
+            packet: matches.get_one::<u64>("packet"),
+            changes: matches.get_flag("changes"),
+        }),
         "check" => Some(Command::Check),
         "ranks" => Some(Command::Ranks),
         _ => None,
@@ -171,31 +180,6 @@ fn report_of(matches: &ArgMatches<'_>) -> Report
     match matches.get_str("report") {
         Some(word) => Report::named(word).unwrap_or(Report::Latency),
         None => Report::Latency,
-    }
-}
-
-// The cycle and the router that are to be explained.
-fn explain_of(matches: &ArgMatches<'_>) -> Command
-    ensures workers { HasWorkers result }
-    ensures said { IsCommand (found_of matches.now) (codes "explain") result }
-{
-    Command::Explain {
-        cycle: matches.get_one::<u64>("cycle").unwrap_or(0),
-        router: matches.get_one::<usize>("router").unwrap_or(0),
-    }
-}
-
-// The span that is to be traced, and of what.
-fn trace_of(matches: &ArgMatches<'_>) -> Command
-    ensures workers { HasWorkers result }
-    ensures said { IsCommand (found_of matches.now) (codes "trace") result }
-{
-    Command::Trace {
-        from: matches.get_one::<u64>("from"),
-        to: matches.get_one::<u64>("to"),
-        router: matches.get_one::<usize>("router"),
-        packet: matches.get_one::<u64>("packet"),
-        changes: matches.get_flag("changes"),
     }
 }
 

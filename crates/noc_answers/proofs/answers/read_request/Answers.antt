@@ -14,7 +14,7 @@ returns-in-Err-clause-fault c = (refl, unread (ap is_joined c.in-Joined.is) (ap 
 pub returns-in-Some-clause-files : goal.returns-in-Some-clause-files
 returns-in-Some-clause-files c =
     let text : owned_text c.args.request.now.config ≡ Ok c.as_slice-text.result.now = (let e : owned_text c.args.request.now.config ≡ Ok c.in-Ok.text.items = ap owned_text c.in-Ok.is in let v = c.as_slice-text.ensures.value in cc) in
-    rw c.parts.ensures (as_joined (ap is_joined c.in-Joined.is) text c.in-Some.ensures.1)
+    as_joined (ap is_joined c.in-Joined.is) text c.in-Some.ensures.1
 
 pub returns-in-None-clause-fault : goal.returns-in-None-clause-fault
 returns-in-None-clause-fault c =

@@ -1,18 +1,26 @@
-use Rattle.std.proofs.Common.{ap, ◌∙◌}
+use Rattle.std.proofs.Common.{◌-◌, ◌<◌, ◌≤◌, ◌∙◌, ap, arith, inl, inr, min, sym}
 use Rattle.noc_theory.specs.Network.{Run}
 use Rattle.noc_answers.proofs.DrainLemmas.{goes-on, goes-to}
 use Rattle.noc_answers.proofs.drain.run_on.Goals as goal
 
-pub loop-cycles-preserved : goal.loop-cycles-preserved
-loop-cycles-preserved c =
-    let first = c.args.network.now in
-    let now = c.loop-cycles.network in
-    let some = c.in-Some.ensures.some in
+pub loop-network-preserved : goal.loop-network-preserved
+loop-network-preserved c =
+    let now = c.loop-network.network in
+    let so_far = c.loop-network.invariant in
+    let early : now.count < c.limit-limit.result = omega (arith, c.count.ensures.value, c.loop-network-test.true) in
+    let piece = c.min-cycles.ensures ∙ ap (λ n. min 64 (c.limit-limit.result - n)) c.count-in-loop-network.ensures.value in
     record {
-      net = ap (λ (u : Run). u.net) c.run.ensures.value ∙ c.loop-cycles.invariant.net;
-      on = goes-on first now c.limit-limit.result c.loop-cycles.invariant.net c.loop-cycles.invariant.on c.run.new.self c.in-Some.cycles some.0 some.1 some.2 c.run.ensures.value;
+      net = ap (λ (u : Run). u.net) c.run.ensures.value ∙ so_far.net;
+      on = goes-on c.args.network.now now c.limit-limit.result so_far.net so_far.on c.run.new.self c.min-cycles.result early (sym c.all_out.ensures.value ∙ c.if-not-all_out.true) piece c.run.ensures.value;
     }
 
-pub returns-clause-end : goal.returns-clause-end
-returns-clause-end c =
-    goes-to c.args.network.now c.loop-cycles.network c.limit-limit.result c.loop-cycles.invariant.net c.loop-cycles.invariant.on c.limit-limit.ensures.value c.in_default.ensures.none
+pub returns-else-not-all_out-clause-end : goal.returns-else-not-all_out-clause-end
+returns-else-not-all_out-clause-end c =
+    rw c.if-not-drain.false
+    (goes-to c.args.network.now c.loop-network.network c.limit-limit.result c.loop-network.invariant.net c.loop-network.invariant.on c.limit-limit.ensures.value (inr (sym c.all_out.ensures.value ∙ c.if-not-all_out.false)))
+
+pub returns-after-loop-network-clause-end : goal.returns-after-loop-network-clause-end
+returns-after-loop-network-clause-end c =
+    let late : c.limit-limit.result ≤ c.loop-network.network.count = omega (arith, c.count.ensures.value, c.loop-network-test.false) in
+    rw c.if-not-drain.false
+    (goes-to c.args.network.now c.loop-network.network c.limit-limit.result c.loop-network.invariant.net c.loop-network.invariant.on c.limit-limit.ensures.value (inl late))

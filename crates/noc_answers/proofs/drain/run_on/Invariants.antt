@@ -3,11 +3,11 @@ use Rattle.noc_answers.specs.Drain.{DrainsBy}
 use Rattle.noc_answers.proofs.drain.run_on.Given as goal
 
 -- where the run drains from here, it drains from where it began
-abbrev pub invariant-loop-cycles : goal.invariant-loop-cycles
-invariant-loop-cycles l = record {
+abbrev pub invariant-loop-network : goal.invariant-loop-network
+invariant-loop-network l = record {
   net : l.network.net ≡ l.initial.network.net;
   on : (end : ℕ) → DrainsBy l.initial.network.net l.limit l.network.count end → DrainsBy l.initial.network.net l.limit l.initial.network.count end;
 }
 
-abbrev pub decreases-loop-cycles : goal.decreases-loop-cycles
-decreases-loop-cycles l = l.limit - l.network.count
+abbrev pub decreases-loop-network : goal.decreases-loop-network
+decreases-loop-network l = l.limit - l.network.count

@@ -1,7 +1,9 @@
-use Rattle.std.proofs.Common.{refl, rules}
+use Rattle.std.proofs.Common.{◌≡◌, ◌+◌, ◌∙◌, ap, arith, refl, rules, subst}
 use Rattle.std.proofs.lemmas.Result.{err_from_is_err_and}
+use Rattle.noc_theory.specs.Network.{Run}
 use Rattle.noc_answers.specs.Asked.{lent_files}
 use Rattle.noc_answers.specs.Answer.{a_report}
+use Rattle.noc_answers.specs.Drain.{RunsTo}
 use Rattle.noc_answers.specs.Ending.{at_fault}
 use Rattle.noc_answers.specs.Run.{AsksForRun, ending}
 use Rattle.noc_answers.proofs.EndingLemmas.{answered}
@@ -19,9 +21,12 @@ returns-in_err-network g c =
 pub returns : goal.returns
 returns g c =
     let a = lent_files c.args.files.now in
-    let net = c.run_to_end.new.network in
+    let net = c.run_on.new.network in
     let opened = c.in_ok-network.ensures.network in
+    let added : c.run.new.self.count ≡ c.in_ok-network.network.count + c.in_ok-network.cycles = ap (λ (u : Run). u.count) c.run.ensures.value in
+    let count : c.run.new.self.count ≡ c.in_ok-network.cycles = omega (arith, added, c.in_ok-network.ensures.opening) in
     let asks : AsksForRun a net =
-    ran-report a c.args.report c.args.drain c.in_ok-network.network net opened.0 c.in_ok-network.cycles c.requires.report c.requires.drain opened.1 c.run_to_end.ensures.net c.run_to_end.ensures.end in
+    ran-report a c.args.report c.args.drain c.in_ok-network.network net opened.0 c.in_ok-network.cycles c.requires.report c.requires.drain opened.1
+    (c.run_on.ensures.net ∙ ap (λ (u : Run). u.net) c.run.ensures.value) (subst (λ n. RunsTo c.args.drain net.net n net.count) count c.run_on.ensures.end) in
     answered g.W.Sink.contents g.W.Sink.has_failed c.args.sink.now c.write_report.new.sink a _ (ending net) c.write_report.result c.ended.result
     (a_report c.requires.report asks) c.write_report.ensures (rw (← c.ending.ensures) c.ended.ensures)

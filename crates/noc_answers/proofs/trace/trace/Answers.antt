@@ -37,20 +37,20 @@ pub overflow_sub-span : goal.overflow_sub-span
 overflow_sub-span g c =
     let opened = c.in_ok-network.ensures in
     let l = traced-span (lent_files c.args.files.now) _ opened.network.0 c.args.from c.args.to c.args.traced c.in_ok-network.cycles c.requires opened.network.1 in
-    omega (arith, l.order, c.last_cycle-end.ensures, c.first_cycle-first.ensures)
+    omega (arith, l.order, c.last_cycle-end.ensures, c.unwrap_or-first.ensures)
 
 pub run-requires : goal.run-requires
 run-requires g c =
     let opened = c.in_ok-network.ensures in
     let l = traced-span (lent_files c.args.files.now) _ opened.network.0 c.args.from c.args.to c.args.traced c.in_ok-network.cycles c.requires opened.network.1 in
-    omega (arith, l.order, l.inside, c.first_cycle-first.ensures, opened.opening, opened.cycles)
+    omega (arith, l.order, l.inside, c.unwrap_or-first.ensures, opened.opening, opened.cycles)
 
 pub write_trace-requires-clause-cycles : goal.write_trace-requires-clause-cycles
 write_trace-requires-clause-cycles g c =
     let opened = c.in_ok-network.ensures in
     let l = traced-span (lent_files c.args.files.now) _ opened.network.0 c.args.from c.args.to c.args.traced c.in_ok-network.cycles c.requires opened.network.1 in
-    let count : c.run.new.self.count ≡ c.in_ok-network.network.count + c.first_cycle-first.result = ap (λ (u : Run). u.count) c.run.ensures.value in
-    omega (arith, l.order, l.inside, count, c.first_cycle-first.ensures, c.last_cycle-end.ensures, opened.opening, opened.cycles)
+    let count : c.run.new.self.count ≡ c.in_ok-network.network.count + c.unwrap_or-first.result = ap (λ (u : Run). u.count) c.run.ensures.value in
+    omega (arith, l.order, l.inside, count, c.unwrap_or-first.ensures, c.last_cycle-end.ensures, opened.opening, opened.cycles)
 
 pub write_trace-requires-clause-router : goal.write_trace-requires-clause-router
 write_trace-requires-clause-router g c =
@@ -67,12 +67,12 @@ returns g c =
     let opened = c.in_ok-network.ensures in
     let opens = opened.network.0 in
     let u = c.run.new.self in
-    let run : Run = record u { count = u.count + (c.last_cycle-end.result + 1 - c.first_cycle-first.result) } in
+    let run : Run = record u { count = u.count + (c.last_cycle-end.result + 1 - c.unwrap_or-first.result) } in
     let l = traced-span a _ opens c.args.from c.args.to c.args.traced c.in_ok-network.cycles c.requires opened.network.1 in
     let same : u.net ≡ before.net = ap (λ (x : Run). x.net) c.run.ensures.value in
-    let count : u.count ≡ before.count + c.first_cycle-first.result = ap (λ (x : Run). x.count) c.run.ensures.value in
-    let first : u.count ≡ first_cycle c.args.from = omega (arith, count, opened.opening, c.first_cycle-first.ensures) in
-    let last : run.count ≡ last_cycle c.args.to c.in_ok-network.cycles + 1 = omega (arith, l.order, count, opened.opening, c.first_cycle-first.ensures, c.last_cycle-end.ensures) in
+    let count : u.count ≡ before.count + c.unwrap_or-first.result = ap (λ (x : Run). x.count) c.run.ensures.value in
+    let first : u.count ≡ first_cycle c.args.from = omega (arith, count, opened.opening, c.unwrap_or-first.ensures) in
+    let last : run.count ≡ last_cycle c.args.to c.in_ok-network.cycles + 1 = omega (arith, l.order, count, opened.opening, c.unwrap_or-first.ensures, c.last_cycle-end.ensures) in
     let end = subst (λ n. run.count ≡ last_cycle c.args.to n + 1) opened.network.1 last in
     let ends = subst (λ x. RunsTo (runs_until_out x) before.net (cycles_asked x opens.settings) run.count) (sym c.requires) end in
     let packet = subst (λ (n : Setup). packet_option_fault a.command (length n.packets) ≡ None) (sym same) c.in_ok-trace.ensures.packet in

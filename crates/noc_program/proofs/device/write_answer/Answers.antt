@@ -13,12 +13,12 @@ pub returns : goal.returns
 returns g c =
     let contents = g.W.Write.contents in
     let start = ap (λ s. s.0) c.new-out.ensures in
-    let opened = ap (λ d. d.writer) c.in-Ok.ensures.inner ∙ c.new.ensures.writer in
-    let given : c.into_inner.result ≡ (writer_inner c.finished-ended.new.writer).writer = c.into_inner.ensures ∙ ap (λ d. d.writer) c.into_parts-counted.ensures.inner in
-    told contents (λ s. writer_contents (λ d. contents d.writer) s.0) (λ s. s.1) (workers_of c.args.request.now.command) _ c.args.request.now c.args.device c.into_inner.result
+    let opened = ap (λ d. d.writer) c.in-Ok.ensures.inner in
+    let given : c.into_parts-counted.result.0.writer ≡ (writer_inner c.finished-ended.new.writer).writer = ap (λ d. d.writer) c.into_parts-counted.ensures.inner in
+    told contents (λ s. writer_contents (λ d. contents d.writer) s.0) (λ s. s.1) (workers_of c.args.request.now.command) _ c.args.request.now c.args.device c.into_parts-counted.result.0.writer
     (writer_buffer c.finished-ended.new.writer) c.new-out.result c.answer-answered.new.sink c.answer-answered.result c.finished-ended.result
     c.answer-answered.ensures.ends c.finished-ended.ensures.ends
     (ap (λ w. writer_contents (λ d. contents d.writer) w) start ∙ ap₂ append_known (ap contents opened) c.in-Ok.ensures.empty)
-    (subst (λ w. Keeps (writer_contents (λ d. contents d.writer) w) (append_known (contents c.into_inner.result) (writer_buffer c.finished-ended.new.writer))) c.into_inner-writer.ensures
+    (subst (λ w. Keeps (writer_contents (λ d. contents d.writer) w) (append_known (contents c.into_parts-counted.result.0.writer) (writer_buffer c.finished-ended.new.writer))) c.into_inner-writer.ensures
     (subst (λ d. Keeps (writer_contents (λ d. contents d.writer) c.into_inner-writer.result) (append_known (contents d) (writer_buffer c.finished-ended.new.writer))) (sym given) c.finished-ended.ensures.bytes))
-    (λ failed same. given ∙ ap (λ d. d.writer) (ap writer_inner (c.finished-ended.ensures.still failed ∙ c.into_inner-writer.ensures ∙ ap (λ s. s.0) same ∙ start) ∙ c.in-Ok.ensures.inner) ∙ c.new.ensures.writer)
+    (λ failed same. given ∙ ap (λ d. d.writer) (ap writer_inner (c.finished-ended.ensures.still failed ∙ c.into_inner-writer.ensures ∙ ap (λ s. s.0) same ∙ start) ∙ c.in-Ok.ensures.inner))

@@ -1,4 +1,4 @@
-use Rattle.std.proofs.Common.{rules, arith, ℕ, ◌≡◌, ◌+◌, ◌<◌, true, false, Result, Ok, Err, IfErr, IfOk, IsOk, ap, sym, ◌∙◌, refl}
+use Rattle.std.proofs.Common.{rules, arith, ℕ, ◌≡◌, ◌+◌, ◌<◌, false, Result, Ok, Err, IfErr, IfOk, IsOk, ap, sym, ◌∙◌, refl}
 use Rattle.std.proofs.lemmas.Bool.{false≢true}
 use Rattle.noc_tiles.specs.declared.fault.RunFault.{RunFault}
 use Rattle.noc_tiles.specs.declared.fault.RunFault.TheVariants.{LostWorker}

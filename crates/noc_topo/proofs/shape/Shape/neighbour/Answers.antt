@@ -12,7 +12,7 @@ moved-requires c =
 pub returns-in_err-place-clause-value : goal.returns-in_err-place-clause-value
 returns-in_err-place-clause-value c =
     let none : moved_in c.self.inside.wraps (get_or c.self.inside.sizes (c.args.port / 2) 0) (is_plus c.args.port) (get_or (coordinates c.self.inside.sizes c.args.node) (c.args.port / 2) 0) ≡ None
-    = rw (← c.split-place.ensures, ← c.leads_up.ensures) (sym c.moved.ensures.value ∙ c.in_err-place.was) in
+    = rw (← c.split-place.ensures) (sym c.moved.ensures.value ∙ c.in_err-place.was) in
     c.from_residual.ensures ∙ stepped-none c.self.inside _ c.self.view_is c.self.invariant c.args.node c.args.port (omega arith) none
 
 pub join-requires-clause-sizes : goal.join-requires-clause-sizes
@@ -26,7 +26,7 @@ join-requires-clause-place c =
 found : (c : goal.After-other_end) → Some (c.join.result, c.other_end.result) ≡ neighbour c.args.self.now c.args.node c.args.port
 found c =
     let some : moved_in c.self.inside.wraps (get_or c.self.inside.sizes (c.args.port / 2) 0) (is_plus c.args.port) (get_or (coordinates c.self.inside.sizes c.args.node) (c.args.port / 2) 0) ≡ Some c.in_ok-place.field-0
-    = rw (← c.split-place.ensures, ← c.leads_up.ensures) (sym c.moved.ensures.value ∙ c.in_ok-place.was) in
+    = rw (← c.split-place.ensures) (sym c.moved.ensures.value ∙ c.in_ok-place.was) in
     rw (c.join.ensures, c.other_end.ensures, c.split-place.ensures) (stepped-some c.self.inside _ c.self.view_is c.self.invariant c.args.node c.args.port c.in_ok-place.field-0 (omega arith) some)
 
 pub returns-clause-value : goal.returns-clause-value

@@ -1,6 +1,6 @@
-use Rattle.std.proofs.Common.{◌≡◌, ◌≤◌, true, length, sym, ◌∙◌, ap, arith}
+use Rattle.std.proofs.Common.{◌≡◌, ◌≤◌, true, length, sym, ◌∙◌, ap, arith, rules}
 use Rattle.std.specs.List.{list_all}
-use Rattle.noc_topo.specs.Shape.{is_radix, product}
+use Rattle.noc_topo.specs.Shape.{is_radix, product, wraps_of}
 use Rattle.noc_topo.proofs.ShapeLemmas.{filled-sizes, length-filled, product-filled, take-filled, shape_of-ok, shape_of-many, IsSound-filled}
 use Rattle.noc_topo.proofs.shape.Shape.new.Goals as goal
 
@@ -25,7 +25,7 @@ invariant_of-result c =
     let some : 1 ≤ length c.args.radix.now = grind arith in
     let sizes : list_all is_radix c.args.radix.now ≡ true = cc in
     let nodes : c.volume.result ≡ product c.args.radix.now = c.volume.ensures ∙ ap product c.filled_sizes-sizes.ensures ∙ product-filled c.args.radix.now some few in
-    rw c.filled_sizes-sizes.ensures (IsSound-filled c.are_joined.result c.args.radix.now some few sizes (omega (arith, nodes)))
+    rw c.filled_sizes-sizes.ensures (IsSound-filled c.eq.result c.args.radix.now some few sizes (omega (arith, nodes)))
 
 pub returns-clause-value : goal.returns-clause-value
 returns-clause-value c =
@@ -33,7 +33,8 @@ returns-clause-value c =
     let some : 1 ≤ length c.args.radix.now = grind arith in
     let sizes : list_all is_radix c.args.radix.now ≡ true = cc in
     let nodes : c.volume.result ≡ product c.args.radix.now = c.volume.ensures ∙ ap product c.filled_sizes-sizes.ensures ∙ product-filled c.args.radix.now some few in
-    rw (c.filled_sizes-sizes.ensures, take-filled c.args.radix.now some few, c.are_joined.ensures)
+    let wraps : c.eq.result ≡ wraps_of c.args.kind = search rules in
+    rw (c.filled_sizes-sizes.ensures, take-filled c.args.radix.now some few, wraps)
     (sym (shape_of-ok c.args.kind c.args.radix.now some few sizes (omega (arith, nodes))))
 
 pub returns-clause-grid : goal.returns-clause-grid
@@ -42,4 +43,4 @@ returns-clause-grid c =
     let some : 1 ≤ length c.args.radix.now = grind arith in
     let sizes : list_all is_radix c.args.radix.now ≡ true = cc in
     let nodes : c.volume.result ≡ product c.args.radix.now = c.volume.ensures ∙ ap product c.filled_sizes-sizes.ensures ∙ product-filled c.args.radix.now some few in
-    rw c.filled_sizes-sizes.ensures (IsSound-filled c.are_joined.result c.args.radix.now some few sizes (omega (arith, nodes))).shape
+    rw c.filled_sizes-sizes.ensures (IsSound-filled c.eq.result c.args.radix.now some few sizes (omega (arith, nodes))).shape
