@@ -144,7 +144,7 @@ fn near_to(block: &Block) -> u32
     if block.moves { block.near } else { 0 }
 }
 
-// The blocks to which something may be on its way are busy.
+// Of the first 32 blocks, those to which something may be on its way are busy.
 pub(crate) fn note_busy(near: u32, busy: &mut [bool])
     ensures { (b : ℕ) → b < length busy.old → b < 32 → slice_get busy.new b ≡ Some (has_bit near b) }
 {
