@@ -62,7 +62,7 @@ impl Detail {
     {
         match self {
             Detail::Key(key) => key.name(),
-            // (the number of a port, where the shape has no such port)
+            // A port that the shape does not have is told by its number.
             Detail::Port(shape, port) | Detail::Out(shape, port) => match port_name(&shape, port) {
                 Some(name) => name,
                 None => buffer.format(port),

@@ -73,7 +73,7 @@ pub fn run_tile<G: Gate>(
             tile.outcome = Outcome::Closed;
             return tile;
         }
-        // (nobody reads what is found before the last cycle)
+        // Nobody reads what is found before the last cycle.
         let findings = if c + 1 == tile.cycles {
             Findings::Record
         } else {

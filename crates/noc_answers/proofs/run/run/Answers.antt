@@ -23,10 +23,12 @@ returns g c =
     let a = lent_files c.args.files.now in
     let net = c.run_on.new.network in
     let opened = c.in_ok-network.ensures.network in
-    let added : c.run.new.self.count ≡ c.in_ok-network.network.count + c.in_ok-network.cycles = ap (λ (u : Run). u.count) c.run.ensures.value in
+    let before = c.in_ok-network.network in
+    let after : Run = record before { count = before.count + c.in_ok-network.cycles } in
+    let added : c.run.new.self.count ≡ after.count = ap (λ (u : Run). u.count) {y = after} c.run.ensures.value in
     let count : c.run.new.self.count ≡ c.in_ok-network.cycles = omega (arith, added, c.in_ok-network.ensures.opening) in
     let asks : AsksForRun a net =
-    ran-report a c.args.report c.args.drain c.in_ok-network.network net opened.0 c.in_ok-network.cycles c.requires.report c.requires.drain opened.1
-    (c.run_on.ensures.net ∙ ap (λ (u : Run). u.net) c.run.ensures.value) (subst (λ n. RunsTo c.args.drain net.net n net.count) count c.run_on.ensures.end) in
+    ran-report a c.args.report c.args.drain before net opened.0 c.in_ok-network.cycles c.requires.report c.requires.drain opened.1
+    (c.run_on.ensures.net ∙ ap (λ (u : Run). u.net) {y = after} c.run.ensures.value) (subst (λ n. RunsTo c.args.drain net.net n net.count) count c.run_on.ensures.end) in
     answered g.W.Sink.contents g.W.Sink.has_failed c.args.sink.now c.write_report.new.sink a _ (ending net) c.write_report.result c.ended.result
     (a_report c.requires.report asks) c.write_report.ensures (rw (← c.ending.ensures) c.ended.ensures)
