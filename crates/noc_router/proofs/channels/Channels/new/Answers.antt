@@ -1,7 +1,7 @@
-use Rattle.std.proofs.Common.{◌≡◌, ◌-◌, ◌++◌, List, ap, arith, length-append, replicate, ◌∙◌, length}
+use Rattle.std.proofs.Common.{◌≡◌, ◌-◌, List, ap, arith, length-append, replicate, ◌∙◌, length}
 use Rattle.std.proofs.lemmas.Grind.{common_steps}
 use Rattle.std.proofs.lemmas.List.{length-replicate}
-use Rattle.noc_ring.specs.Buffers.{Buffers, empty_buffers}
+use Rattle.noc_ring.specs.Buffers.{Buffers}
 use Rattle.noc_vc.specs.Input.{Input, idle_input}
 use Rattle.noc_vc.specs.Output.{Output, ejection_output, link_output}
 use Rattle.noc_router.specs.Parts.{opening_states}
