@@ -46,3 +46,6 @@ loop-port-preserved c =
 
 pub returns : goal.returns
 returns c = λ k. picks-last c.args.vcs c.args.ports c.args.self.now.picks c.loop-port.rest c.loop-port.picked (none_left _ c.in_default.ensures.least) c.loop-port.invariant.picks k
+
+pub get-requires : goal.get-requires
+get-requires c = c.in-Some.ensures.within

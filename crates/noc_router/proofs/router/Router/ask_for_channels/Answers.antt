@@ -6,7 +6,24 @@ use Rattle.noc_router.proofs.FilledLemmas.{filled-last, filled-next, filled-skip
 use Rattle.noc_router.proofs.MemberLemmas.{without-member}
 use Rattle.noc_alloc.proofs.RequestLemmas.{least_member, none_left}
 use Rattle.noc_router.proofs.StandLemmas.{asked-view, asks_of-stands}
+use Rattle.noc_router.proofs.WholeLemmas.{size_view}
 use Rattle.noc_router.proofs.router.Router.ask_for_channels.Goals as goal
+
+pub asked-requires : goal.asked-requires
+asked-requires c =
+    let v = c.args.self.now in
+    let l : c.in-Some.index < size_of v.site = c.requires.waiting.below c.in-Some.index (c.loop-index.invariant.among c.in-Some.index (least_member _ _ c.in-Some.ensures.least)) in
+    omega (arith, l, size_view c.self.inside v c.self.view_is c.self.invariant, c.self.invariant.channels)
+
+pub ask_for_channel-requires : goal.ask_for_channel-requires
+ask_for_channel-requires c =
+    let v = c.args.self.now in
+    let l : c.in-Some.index < size_of v.site = c.requires.waiting.below c.in-Some.index (c.loop-index.invariant.among c.in-Some.index (least_member _ _ c.in-Some.ensures.least)) in
+    let size : c.loop-index.requests.size ≡ size_of v.site = ap (λ (x : RequestLists). x.size) c.loop-index.invariant.lists ∙ c.requires.size.size in
+    record {
+      input = omega (arith, l, size);
+      output = omega (arith, size, c.in-Some-asked.ensures.within, size_view c.self.inside v c.self.view_is c.self.invariant, c.self.invariant.channels);
+    }
 
 pub loop-index-preserved-in-Some-asked : goal.loop-index-preserved-in-Some-asked
 loop-index-preserved-in-Some-asked c =

@@ -1,5 +1,9 @@
-use Rattle.std.proofs.Common.{ap, sym, ◌∙◌, arith}
+use Rattle.std.proofs.Common.{◌≡◌, ◌-◌, ◌<◌, [], true, ap, length, slice_index_or, subst, sym, ◌∙◌, arith}
+use Rattle.std.specs.Prelude.{◌⊎◌}
+use Rattle.noc_vc.specs.Input.{is_empty}
+use Rattle.noc_alloc.proofs.SwitchLemmas.{in_ready}
 use Rattle.noc_router.specs.Inside.{view_of}
+use Rattle.noc_router.specs.Sound.{is_awaiting}
 use Rattle.noc_router.specs.View.{View, view_after_inject}
 use Rattle.noc_router.proofs.InjectLemmas.{injected-nothing, queue-nothing, stays-view, goes-view}
 use Rattle.noc_router.proofs.RouterLemmas.{local-index}
@@ -23,3 +27,14 @@ returns c =
     (sym c.next_flit.ensures ∙ c.in-Some-next_flit.is) (sym c.next_channel.ensures.value ∙ c.in-Some.is) (local-index r c.in-Some.vc c.self.invariant)
     c.inject.ensures c.sent.ensures.queue c.sent.ensures.sending
     ∙ ap (λ (v : View). view_after_inject c.args.cycle v) c.self.view_is
+
+pub inject-requires : goal.inject-requires
+inject-requires c =
+    let r = c.self.inside in
+    let rings = r.channels.bank.rings in
+    let at = sym (local-index r c.in-Some.vc c.self.invariant) in
+    record {
+      exists = omega (arith, in_ready r.ports r.vcs (r.ports - 1) c.in-Some.vc (omega arith) c.in-Some.ensures.within, c.self.invariant.channels);
+      room = subst (λ i. length (slice_index_or rings i []) < r.channels.bank.capacity) at (omega (arith, c.in-Some.ensures.room, c.self.invariant.places));
+      next = subst (λ i. (is_empty (slice_index_or rings i []) ≡ true) ⊎ (is_awaiting r.channels.inputs.items i ≡ true)) at c.in-Some.ensures.next;
+    }

@@ -1,10 +1,24 @@
-use Rattle.std.proofs.Common.{◌≡◌, ◌<◌, true, ap, ◌∙◌, arith, rules}
+use Rattle.std.proofs.Common.{◌≡◌, ◌<◌, ◌/◌, ◌%◌, ℕ, true, ap, ◌∙◌, arith}
+use Rattle.std.proofs.lemmas.Bool.{lt-ltb}
 use Rattle.noc_topo.specs.Shape.{ports}
 use Rattle.noc_router.specs.Parts.{ChannelStates}
-use Rattle.noc_router.specs.View.{Site, View}
+use Rattle.noc_router.specs.Inside.{IsRouter, view_of}
+use Rattle.noc_router.specs.View.{Site, View, size_of}
+use Rattle.noc_router.specs.declared.router.Router.TheInside.{Inside}
 use Rattle.noc_router.proofs.RouterLemmas.{IsRouter-channels}
 use Rattle.noc_router.proofs.SiteLemmas.{put-site}
+use Rattle.noc_router.proofs.StandLemmas.{port-below}
+use Rattle.noc_router.proofs.WholeLemmas.{size_view}
 use Rattle.noc_router.proofs.router.Router.move_flit.Goals as goal
+
+-- the port of a channel is one of the router's
+placed : (r : Inside) (v : View) (i : ℕ) (p : ℕ × ℕ) → view_of r ≡ v → IsRouter r → i < size_of v.site → p ≡ (i / r.indices.vcs, i % r.indices.vcs) → p.0 < ports r.shape
+placed r v i p view is l at =
+    let within : i < r.channels.size = omega (arith, l, size_view r v view is, is.channels) in
+    omega (arith, port-below r i is (lt-ltb i r.channels.size within), ap (λ (q : ℕ × ℕ). q.0) at, is.ports)
+
+pub put_credit-requires-clause-port : goal.put_credit-requires-clause-port
+put_credit-requires-clause-port c = placed c.self.inside c.args.self.now c.args.index c.place-port.result c.self.view_is c.self.invariant c.requires.input c.place-port.ensures
 
 pub invariant_of-self : goal.invariant_of-self
 invariant_of-self c = IsRouter-channels c.self.inside c.send-flit.new.self true c.self.invariant (ap (λ (s : ChannelStates). s.size) c.send-flit.ensures.states) (ap (λ (s : ChannelStates). s.bank.capacity) c.send-flit.ensures.states) c.send-flit.ensures.awaits
@@ -13,12 +27,12 @@ pub advance_switch_pointers-requires-clause-port : goal.advance_switch_pointers-
 advance_switch_pointers-requires-clause-port c =
     let of = λ (v : View). ports v.site.grid in
     let same : ports c.self-2.inside.shape ≡ ports c.self.inside.shape = ap of c.self-2.view_is ∙ ap of c.put_flit.ensures ∙ ap (λ (s : Site). ports s.grid) (put-site c.place-output.result.0 c.place-output.result.1 c.send-flit.result c.put_credit.new.self) ∙ ap of c.put_credit.ensures in
-    let few : c.place-port.result.0 < ports c.self.inside.shape = search (rules, arith) in
+    let few = placed c.self.inside c.args.self.now c.args.index c.place-port.result c.self.view_is c.self.invariant c.requires.input c.place-port.ensures in
     omega (arith, few, same, c.self-2.invariant.arbiter_ports, c.self-2.invariant.ports)
 
 pub advance_switch_pointers-requires-clause-output : goal.advance_switch_pointers-requires-clause-output
 advance_switch_pointers-requires-clause-output c =
     let of = λ (v : View). ports v.site.grid in
     let same : ports c.self-2.inside.shape ≡ ports c.self.inside.shape = ap of c.self-2.view_is ∙ ap of c.put_flit.ensures ∙ ap (λ (s : Site). ports s.grid) (put-site c.place-output.result.0 c.place-output.result.1 c.send-flit.result c.put_credit.new.self) ∙ ap of c.put_credit.ensures in
-    let few : c.place-output.result.0 < ports c.self.inside.shape = search (rules, arith) in
+    let few = placed c.self.inside c.args.self.now c.args.next c.place-output.result c.self.view_is c.self.invariant c.requires.output c.place-output.ensures in
     omega (arith, few, same, c.self-2.invariant.arbiter_ports, c.self-2.invariant.ports)

@@ -1,6 +1,8 @@
-use Rattle.std.proofs.Common.{◌+◌, ◌*◌, ◌<◌, Some, ap, refl, rules, subst, sym, ◌∙◌}
+use Rattle.std.proofs.Common.{◌+◌, ◌*◌, ◌<◌, Some, ap, arith, refl, rules, subst, sym, ◌∙◌}
 use Rattle.std.specs.Prelude.{is_some}
 use Rattle.std.proofs.lemmas.Bool.{lt-ltb}
+use Rattle.noc_topo.specs.Shape.{local_port}
+use Rattle.noc_alloc.proofs.SwitchLemmas.{in_ready}
 use Rattle.noc_router.specs.View.{View, with_credit}
 use Rattle.noc_router.proofs.TakeLemmas.{credited-view, with_credit-fits}
 use Rattle.noc_router.specs.Inside.{IsRouter, view_of}
@@ -33,3 +35,9 @@ returns-then-credit_back c =
     (lt-ltb c.args.vc r.vcs c.if-vc-self.true)
     (sym c.if-credit_back.ensures.fits))
     ∙ ap (λ (v : View). with_credit c.args.port (Some c.args.vc) v) c.self.view_is
+
+pub credit_back-requires : goal.credit_back-requires
+credit_back-requires c =
+    let r = c.self.inside in
+    let port : c.args.port < r.ports = omega (arith, ap (λ (v : View). local_port v.site.grid) c.self.view_is, c.self.invariant.ports) in
+    omega (arith, in_ready r.ports r.vcs c.args.port c.args.vc port c.if-vc-self.true, c.self.invariant.channels)

@@ -1,0 +1,23 @@
+use Rattle.std.proofs.Common.{◌≡◌, ◌<◌, ℕ, ap, arith, subst, sym, ◌∙◌}
+use Rattle.std.proofs.lemmas.Bool.{lt-ltb}
+use Rattle.noc_topo.specs.Shape.{Grid, nodes, ports}
+use Rattle.noc_router.specs.View.{View}
+use Rattle.noc_router.proofs.StandLemmas.{port-below}
+use Rattle.noc_router.proofs.WholeLemmas.{size_view}
+use Rattle.noc_router.proofs.router.Router.route_for.Goals as goal
+
+pub permitted-requires : goal.permitted-requires
+permitted-requires c =
+    let r = c.self.inside in
+    let h = c.self.invariant in
+    let g = c.args.relation.now in
+    let shape : r.shape ≡ g.grid = ap (λ (v : View). v.site.grid) c.self.view_is ∙ sym c.requires.relation.grid in
+    let vcs : r.indices.vcs ≡ g.vcs = h.index_vcs ∙ ap (λ (v : View). v.site.vcs) c.self.view_is ∙ sym c.requires.relation.vcs in
+    let within : c.args.index < r.channels.size = omega (arith, c.requires.index, size_view r c.args.self.now c.self.view_is h, h.channels) in
+    record {
+      class = omega arith;
+      router = subst (λ (s : Grid). r.node < nodes s) shape h.node;
+      in_port = omega (arith, port-below r c.args.index h (lt-ltb _ _ within), ap (λ (p : ℕ × ℕ). p.0) c.place-port.ensures, ap ports shape);
+      in_vc = omega (arith, ap (λ (p : ℕ × ℕ). p.1) c.place-port.ensures);
+      dst = omega (arith, ap nodes c.shape.ensures.value);
+    }
