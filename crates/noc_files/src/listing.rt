@@ -52,7 +52,8 @@ pub(crate) trait Lines {
         ensures short { length page.new ≤ length page.old + LONGEST_LINE };
 }
 
-// The lines on one router or on all, a page for each router: on so many of the channels of so many of its first ports.
+// The lines on one router or on all, a page for each router. They are on the first `listed` ports of a router, and on the first
+// `vcs` channels of each.
 #[derive(Drop)]
 pub(crate) struct Listing<'a, L: Lines> {
     pub(crate) lines: &'a L,
