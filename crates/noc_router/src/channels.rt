@@ -16,7 +16,7 @@ ghost use Rattle.noc_vc.specs.Input.{is_idle_phase, is_empty, fits};
 ghost use Rattle.noc_vc.specs.Output.{ejection_output, link_output, is_free, is_owned, has_credit, credit_fits, output_after_spend};
 ghost use Rattle.noc_alloc.specs.Places.{AreBelow};
 ghost use Rattle.noc_router.specs.Members.{is_within};
-ghost use Rattle.noc_router.specs.Sound.{nth_input, nth_output, is_occupied, CanHold, CanInject, CanRoute, CanSend, KeepsAwaiting, AreSound, AreStanding, asked_in, finding_with};
+ghost use Rattle.noc_router.specs.Sound.{nth_input, nth_output, is_occupied, CanHold, CanInject, CanRoute, CanSend, KeepsAwaiting, AreSizes, AreSound, AreStanding, asked_in, finding_with};
 
 use crate::indices::Indices;
 use crate::plan::Plan;
@@ -79,11 +79,7 @@ impl Channels {
         links: usize,
         places: usize,
     ) -> Result<Channels, Memory>
-        requires some { 0 < size }
-        requires few { size ≤ INDICES }
-        requires links { links ≤ size }
-        requires some_place { 0 < places }
-        requires places { places ≤ MAX_BUFFER }
+        requires { AreSizes size links places }
         ensures { IfOk result (λ channels. states_in channels ≡ opening_states size links places) }
     {
         let bank = Bank::new(alloc, size, places)?;
@@ -362,9 +358,7 @@ fn idle_outputs(
     links: usize,
     places: usize,
 ) -> Result<Vec<OutputChannel>, Memory>
-    requires links { links ≤ size }
-    requires some_place { 0 < places }
-    requires places { places ≤ MAX_BUFFER }
+    requires { AreSizes size links places }
     ensures { IfOk result (λ outputs. outputs.items ≡ replicate links (link_output places) ++ replicate (size - links) ejection_output) }
 {
     let mut outputs = Vec::new(alloc);
