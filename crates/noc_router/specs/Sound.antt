@@ -1,5 +1,5 @@
 -- What is true of the channels of one router: what its sets of channels have, and which input channel owns which output channel.
-use Rattle.std.specs.Prelude.{◌≡◌, ℕ, ◌<◌, ◌≤◌, ◌/◌, ◌%◌, ◌⊎◌, Bool, true, false, ◌&&◌, not, length, List, [], ◌∷◌, find, Option, Some, None, is_some, option_map, nat_eq, slice_index_or, if◌then◌else◌}
+use Rattle.std.specs.Prelude.{◌≡◌, ◌≢◌, ℕ, ◌<◌, ◌≤◌, ◌/◌, ◌%◌, ◌⊎◌, Bool, true, false, ◌&&◌, not, length, List, [], ◌∷◌, find, Option, Some, None, is_some, option_map, nat_eq, slice_index_or, if◌then◌else◌}
 use Rattle.noc_topo.specs.Words.{below}
 use Rattle.noc_packet.specs.Set.{has_bit}
 use Rattle.noc_packet.specs.declared.packet.Flit.{Flit}
@@ -23,6 +23,11 @@ pub record AreSizes (size links places : ℕ) : Type 0 where
   pub few_links : links ≤ size
   pub some_place : 0 < places
   pub few_places : places ≤ MAX_BUFFER
+
+-- a set of channels after a change: it has channel i as is said, and every other one as before
+pub record IsMarked (before after i : ℕ) (here : Bool) : Type 0 where
+  pub at : has_bit after i ≡ here
+  pub others : (k : ℕ) → k ≢ i → has_bit after k ≡ has_bit before k
 
 -- the input channel with this index, an idle one where it does not exist
 abbrev pub nth_input : List Input → ℕ → Input
