@@ -20,7 +20,7 @@ use Rattle.noc_vc.specs.declared.output.OutputState.TheVariants.{Idle as Free, O
 use Rattle.noc_router.specs.declared.channels.Standing.{Standing}
 use Rattle.noc_alloc.specs.Places.{AreBelow}
 use Rattle.noc_router.specs.Members.{is_within}
-use Rattle.noc_router.specs.Sound.{KeepsAwaiting, is_awaiting, is_occupied, is_supplied, owns, is_owned_from, is_worm, is_worm_of, AreSound, AreStanding, Sets}
+use Rattle.noc_router.specs.Sound.{IsMarked, KeepsAwaiting, is_awaiting, is_occupied, is_supplied, owns, is_owned_from, is_worm, is_worm_of, AreSound, AreStanding, Sets}
 
 -- ---- an element of a list is replaced
 
@@ -34,11 +34,6 @@ each-set P xs i y d l here other k = at (cases_eq k i)
     at (inr n) = rw (get_or-set_other xs i k y d n) (other k n)
 
 -- ---- a set of channels changes
-
--- a set that holds i as is said, and every other number as before
-pub record IsMarked (before after i : ℕ) (here : Bool) : Type 0 where
-  pub at : has_bit after i ≡ here
-  pub others : (k : ℕ) → k ≢ i → has_bit after k ≡ has_bit before k
 
 -- one member more
 pub marked-with : (before after i : ℕ) → ((k : ℕ) → has_bit after k ≡ (nat_eq k i || has_bit before k)) → IsMarked before after i true

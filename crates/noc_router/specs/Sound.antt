@@ -1,8 +1,9 @@
 -- What is true of the channels of one router: what its sets of channels have, and which input channel owns which output channel.
-use Rattle.std.specs.Prelude.{◌≡◌, ℕ, ◌<◌, ◌/◌, ◌%◌, ◌⊎◌, Bool, true, false, ◌&&◌, not, length, List, [], ◌∷◌, find, Option, Some, None, is_some, option_map, nat_eq, slice_index_or, if◌then◌else◌}
+use Rattle.std.specs.Prelude.{◌≡◌, ◌≢◌, ℕ, ◌<◌, ◌≤◌, ◌/◌, ◌%◌, ◌⊎◌, Bool, true, false, ◌&&◌, not, length, List, [], ◌∷◌, find, Option, Some, None, is_some, option_map, nat_eq, slice_index_or, if◌then◌else◌}
 use Rattle.noc_topo.specs.Words.{below}
 use Rattle.noc_packet.specs.Set.{has_bit}
 use Rattle.noc_packet.specs.declared.packet.Flit.{Flit}
+use Rattle.noc_packet.specs.declared.limits.TheConstants.{INDICES, MAX_BUFFER}
 use Rattle.noc_vc.specs.Input.{Input, idle_input, is_active, is_idle_phase, is_empty, is_waiting}
 use Rattle.noc_vc.specs.Output.{Output, ejection_output, has_credit, is_free}
 use Rattle.noc_vc.specs.declared.input.InputState.{InputState}
@@ -14,6 +15,19 @@ use Rattle.noc_router.specs.Members.{is_within}
 use Rattle.noc_router.specs.declared.channels.Standing.{Standing}
 use Rattle.noc_router.specs.declared.verdict.Verdict.{Verdict}
 use Rattle.noc_router.specs.declared.verdict.Finding.{Finding}
+
+-- the sizes of one router's channels: how many there are, how many of their output channels go on links, and the places in each buffer
+pub record AreSizes (size links places : ℕ) : Type 0 where
+  pub some : 0 < size
+  pub few : size ≤ INDICES
+  pub few_links : links ≤ size
+  pub some_place : 0 < places
+  pub few_places : places ≤ MAX_BUFFER
+
+-- a set of channels after a change: it has channel i as is said, and every other one as before
+pub record IsMarked (before after i : ℕ) (here : Bool) : Type 0 where
+  pub at : has_bit after i ≡ here
+  pub others : (k : ℕ) → k ≢ i → has_bit after k ≡ has_bit before k
 
 -- the input channel with this index, an idle one where it does not exist
 abbrev pub nth_input : List Input → ℕ → Input

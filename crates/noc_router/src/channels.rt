@@ -6,7 +6,7 @@
 //! (`specs/Sound.antt`). What stays as it is, is not written: where a flit that is no tail leaves, the sets of
 //! idle and of owning channels are left alone.
 
-ghost use Rattle.std.specs.Prelude.{◌≡◌, ◌≢◌, ℕ, ◌≤◌, ◌<◌, ◌-◌, ◌++◌, ◌&&◌, true, false, None, IfOk, IfSome, length, nat_lt, not, Some, slice_get, slice_index_or, vec_len, if◌then◌else◌, replicate};
+ghost use Rattle.std.specs.Prelude.{◌≡◌, ℕ, ◌≤◌, ◌<◌, ◌-◌, ◌++◌, ◌&&◌, true, false, None, IfOk, IfSome, length, nat_lt, not, Some, slice_get, slice_index_or, vec_len, if◌then◌else◌, replicate};
 ghost use Rattle.noc_topo.specs.Shape.{nodes as nodes_of, ports as ports_of};
 ghost use Rattle.noc_topo.specs.Words.{below};
 ghost use Rattle.noc_packet.specs.Set.{has_bit};
@@ -16,12 +16,12 @@ ghost use Rattle.noc_vc.specs.Input.{is_idle_phase, is_empty, fits};
 ghost use Rattle.noc_vc.specs.Output.{ejection_output, link_output, is_free, is_owned, has_credit, credit_fits, output_after_spend};
 ghost use Rattle.noc_alloc.specs.Places.{AreBelow};
 ghost use Rattle.noc_router.specs.Members.{is_within};
-ghost use Rattle.noc_router.specs.Sound.{nth_input, nth_output, is_occupied, CanHold, CanInject, CanRoute, CanSend, KeepsAwaiting, AreSound, AreStanding, asked_in, finding_with};
+ghost use Rattle.noc_router.specs.Sound.{nth_input, nth_output, is_occupied, CanHold, CanInject, CanRoute, CanSend, IsMarked, KeepsAwaiting, AreSizes, AreSound, AreStanding, asked_in, finding_with};
 
 use crate::indices::Indices;
 use crate::plan::Plan;
 use crate::verdict::{Finding, Verdict};
-use noc_packet::{ChannelSet, Flit, MAX_BUFFER, Memory};
+use noc_packet::{ChannelSet, Flit, Memory};
 use noc_ring::Bank;
 use noc_route::Relation;
 use noc_vc::{InputChannel, InputState, Misfit, OutputChannel, OutputState};
@@ -79,11 +79,7 @@ impl Channels {
         links: usize,
         places: usize,
     ) -> Result<Channels, Memory>
-        requires some { 0 < size }
-        requires few { size ≤ INDICES }
-        requires links { links ≤ size }
-        requires some_place { 0 < places }
-        requires places { places ≤ MAX_BUFFER }
+        requires { AreSizes size links places }
         ensures { IfOk result (λ channels. states_in channels ≡ opening_states size links places) }
     {
         let bank = Bank::new(alloc, size, places)?;
@@ -331,10 +327,8 @@ fn let_go(
     requires input { input < INDICES }
     requires still { last ≡ false → has_bit idle.old output ≡ is_idle }
     requires owner { has_bit active.old input ≡ true }
-    ensures idle { has_bit idle.new output ≡ is_idle }
-    ensures active { has_bit active.new input ≡ not last }
-    ensures outputs { (k : ℕ) → k ≢ output → has_bit idle.new k ≡ has_bit idle.old k }
-    ensures inputs { (k : ℕ) → k ≢ input → has_bit active.new k ≡ has_bit active.old k }
+    ensures idle { IsMarked idle.old idle.new output is_idle }
+    ensures active { IsMarked active.old active.new input (not last) }
 {
     if last {
         *idle = marked(*idle, output, is_idle);
@@ -345,8 +339,7 @@ fn let_go(
 // A set with this index or without it, as is said.
 pub(crate) fn marked(set: ChannelSet, index: usize, is_member: bool) -> ChannelSet
     requires { index < INDICES }
-    ensures here { has_bit result index ≡ is_member }
-    ensures others { (k : ℕ) → k ≢ index → has_bit result k ≡ has_bit set k }
+    ensures { IsMarked set result index is_member }
 {
     if is_member {
         set.with(index)
@@ -362,9 +355,7 @@ fn idle_outputs(
     links: usize,
     places: usize,
 ) -> Result<Vec<OutputChannel>, Memory>
-    requires links { links ≤ size }
-    requires some_place { 0 < places }
-    requires places { places ≤ MAX_BUFFER }
+    requires { AreSizes size links places }
     ensures { IfOk result (λ outputs. outputs.items ≡ replicate links (link_output places) ++ replicate (size - links) ejection_output) }
 {
     let mut outputs = Vec::new(alloc);

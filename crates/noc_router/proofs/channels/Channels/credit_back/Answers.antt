@@ -1,7 +1,8 @@
 use Rattle.std.proofs.Common.{◌<◌, arith, ap, sym, subst, ◌∙◌}
 use Rattle.std.specs.Prelude.{not, if◌then◌else◌}
 use Rattle.noc_vc.specs.Output.{is_free, is_owned, output_after_credit}
-use Rattle.noc_router.proofs.ChannelLemmas.{IsMarked, AreSound-drained, AreSound-returned, AreSound-same, AreSound-supplied, marked-with, owner-small, read-at}
+use Rattle.noc_router.specs.Sound.{IsMarked}
+use Rattle.noc_router.proofs.ChannelLemmas.{AreSound-drained, AreSound-returned, AreSound-same, AreSound-supplied, marked-with, owner-small, read-at}
 use Rattle.noc_router.proofs.channels.Channels.credit_back.Goals as goal
 
 pub invariant_of-self-clause-sound : goal.invariant_of-self-clause-sound

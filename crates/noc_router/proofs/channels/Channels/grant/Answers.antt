@@ -9,7 +9,7 @@ invariant_of-self-clause-sound c =
     AreSound-granted s.size _ _ s.bank s.inputs.items s.outputs.items c.args.index c.args.next _ _ _ c.index_mut-output.result.now _
     s.sound (omega arith) (omega arith) (omega arith) c.requires.input c.requires.output
     refl (marked-without _ _ _ c.without-self-2.ensures.members) (marked-with _ _ _ c.with-self.ensures.members)
-    (record { at = c.marked-self.ensures.here ∙ c.ne.ensures ∙ has_credit-count c.credit.result ∙ ap has_credit_at c.credit.ensures.value; others = c.marked-self.ensures.others })
+    (record { at = c.marked-self.ensures.at ∙ c.ne.ensures ∙ has_credit-count c.credit.result ∙ ap has_credit_at c.credit.ensures.value; others = c.marked-self.ensures.others })
     (marked-without _ _ _ c.without-self.ensures.members)
     (read-at s.inputs.items c.args.index _ _ (omega arith) c.index_mut-input.ensures.value) c.grant.ensures c.requires.waits
     c.hold.ensures c.requires.free

@@ -35,11 +35,11 @@ invariant_of-self-clause-sound c =
     ] in
     AreSound-sent s.size _ _ s.bank c.send-flit.new.bank s.inputs.items s.outputs.items c.args.index c.args.next _ _ _ _ c.send-flit.result
     s.sound (omega arith) (omega arith) (omega arith) c.requires.input c.requires.output
-    (record { at = c.marked-self.ensures.here ∙ ap (nat_lt 0) c.len.ensures.count ∙ filled-count _; others = c.marked-self.ensures.others })
+    (record { at = c.marked-self.ensures.at ∙ ap (nat_lt 0) c.len.ensures.count ∙ filled-count _; others = c.marked-self.ensures.others })
     refl
-    (record { at = c.let_go.ensures.active; others = c.let_go.ensures.inputs })
-    (record { at = c.marked-self-2.ensures.here ∙ supplied; others = c.marked-self-2.ensures.others })
-    (record { at = c.let_go.ensures.idle ∙ c.is_idle.ensures; others = c.let_go.ensures.outputs })
+    c.let_go.ensures.active
+    (record { at = c.marked-self-2.ensures.at ∙ supplied; others = c.marked-self-2.ensures.others })
+    (record { at = c.let_go.ensures.idle.at ∙ c.is_idle.ensures; others = c.let_go.ensures.idle.others })
     c.send-flit.ensures.first c.send-flit.ensures.bank
     (read-at s.inputs.items c.args.index _ _ (omega arith) c.index_mut.ensures.value) c.send-flit.ensures.channel c.requires.owned
     (read-at s.outputs.items c.args.next _ _ (omega arith) c.index_mut-output.ensures.value) c.spend.ensures
