@@ -1,8 +1,5 @@
 -- What the readers of rows answer.
-use Rattle.std.specs.Prelude.{◌≡◌, ◌⊎◌, ℕ, ◌<◌, ◌≤◌, Bool, List, Some, is_some, length, slice_get}
-use Rattle.std.specs.List.{list_all}
-use Rattle.noc_topo.specs.Words.{below}
-use Rattle.noc_theory.specs.Network.{Setup, State, arrival_in}
+use Rattle.std.specs.Prelude.{◌≡◌, ◌⊎◌, ℕ, ◌<◌, ◌≤◌, List, Some, slice_get}
 use Rattle.noc_row_words.specs.Rows.{word}
 use Rattle.noc_row_words.specs.declared.block.Block.{Block}
 use Rattle.noc_rows.specs.declared.rows.Rows.{Rows}
@@ -10,10 +7,6 @@ use Rattle.noc_rows.specs.declared.rows.Rows.{Rows}
 -- how many cycles rows have run
 abbrev pub count_of : Rows → ℕ
 count_of rows = rows.cycle
-
--- the tail of every packet is out
-abbrev pub are_all_out : Setup → State → Bool
-are_all_out net S = list_all (λ p. is_some (arrival_in net S p)) (below (length net.packets))
 
 -- the greatest word of a row
 pub record IsGreatestIn (row : List ℕ) (last : ℕ) : Type 0 where

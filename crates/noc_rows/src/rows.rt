@@ -45,7 +45,6 @@ impl Rows {
     ghost use Rattle.noc_theory.specs.Network.{Setup, arrival_in, state_at};
     ghost use Rattle.noc_theory.specs.Progress.{last_event_before};
     ghost use Rattle.noc_topo.specs.Shape.{nodes as nodes_of, ports as ports_of};
-    ghost use Rattle.noc_rows.specs.Readers.{are_all_out};
     ghost use Rattle.noc_rows.specs.Steps.{HasArrivedRows, HasConcludedRows, HasDecidedRows};
     ghost use Rattle.noc_row_words.specs.Still.{HaveCounted};
     ghost use Rattle.noc_rows.specs.Whole.{HasPlaces, IsRows, ShowsNetwork};
@@ -199,20 +198,6 @@ impl Rows {
         } else {
             None
         }
-    }
-
-    /// Whether the tail of every packet is out.
-    pub fn all_out(&self) -> bool
-        ensures { (net : Setup) (n : ℕ) → IsRows net n self.now → result ≡ are_all_out net (state_at net n) }
-    {
-        // (the last packets are mostly the last ones that are out)
-        let places = self.wires.arrivals.len();
-        for past in 1..places {
-            if self.wires.arrivals[places - 1 - past] == NEVER {
-                return false;
-            }
-        }
-        true
     }
 
     /// How often an input channel of a router had each verdict, in the order of the stall report.

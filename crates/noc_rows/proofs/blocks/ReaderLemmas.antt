@@ -1,16 +1,12 @@
 -- What rows show, as their readers have it.
-use Rattle.std.proofs.Common.{◌≡◌, ◌≢◌, ℕ, ◌+◌, ◌-◌, ◌*◌, ◌/◌, ◌%◌, ◌^◌, ◌<◌, ◌≤◌, Bool, true, false, List, [], length, get_or, Option, Some, None, refl, ap, ap₂, sym, ◌∙◌, subst, inl, inr, arith, slice_get, max}
-use Rattle.std.specs.Prelude.{◌⊎◌, is_some, nat_eq, slice_index, slice_index_or, if◌then◌else◌}
-use Rattle.std.specs.List.{list_all}
+use Rattle.std.proofs.Common.{◌≡◌, ◌≢◌, ℕ, ◌+◌, ◌-◌, ◌*◌, ◌/◌, ◌%◌, ◌^◌, ◌<◌, ◌≤◌, List, [], length, get_or, Option, Some, None, refl, ap, ap₂, sym, ◌∙◌, subst, inl, inr, arith, slice_get, max}
+use Rattle.std.specs.Prelude.{◌⊎◌, nat_eq, slice_index, slice_index_or, if◌then◌else◌}
 use Rattle.std.proofs.lemmas.Bool.{cases_eq, cases_lt, eq-eqb, ne_eqb}
-use Rattle.std.proofs.lemmas.List.Folds.{list_all_at}
-use Rattle.std.proofs.lemmas.List.Sums.{list_all-from_AllPass}
 use Rattle.std.proofs.Math.Nat.{mul_comm}
 use Rattle.std.proofs.lemmas.Nat.{div-add-mod', mul-add-lt}
 use Rattle.std.proofs.lemmas.Option.{slice_get-get_or, slice_get_within, same_Some}
 use Rattle.noc_topo.specs.Shape.{nodes, ports}
-use Rattle.noc_topo.specs.Words.{below}
-use Rattle.noc_topo.proofs.WordLemmas.{get_or-below, get_or-tabulate, length-below}
+use Rattle.noc_topo.proofs.WordLemmas.{get_or-tabulate}
 use Rattle.noc_router.specs.View.{Site, size_of}
 use Rattle.noc_theory.specs.Good.{IsGoodSetup}
 use Rattle.noc_theory.specs.Lockstep.{counts_before, last_event_at, view_at, view_in}
@@ -19,7 +15,7 @@ use Rattle.noc_theory.specs.Progress.{last_event_before}
 use Rattle.noc_theory.proofs.runs.CoreLemmas.{get_some}
 use Rattle.noc_theory.proofs.join.LastEventLemmas.{last-is}
 use Rattle.noc_theory.proofs.join.ViewLemmas.{view_at-seen}
-use Rattle.noc_rows.specs.Readers.{IsGreatestIn, IsLatest, are_all_out}
+use Rattle.noc_rows.specs.Readers.{IsGreatestIn, IsLatest}
 use Rattle.noc_row_words.specs.Rows.{word}
 use Rattle.noc_row_words.specs.Tallied.{ShowsCounts, ShowsLastEvent, counts_by}
 use Rattle.noc_rows.specs.Whole.{IsRows, ShowsArrival, ShowsBlock}
@@ -45,32 +41,6 @@ arrival-shown word (Some cycle) shows =
 pub arrival-is : (net : Setup) (n : ℕ) (rows : Rows) → IsRows net n rows → (p : ℕ) → p < length net.packets
     → arrival_of (slice_index rows.wires.arrivals.items p) ≡ arrival_in net (state_at net n) p
 arrival-is net n rows is p l = arrival-shown (slice_index rows.wires.arrivals.items p) (arrival_in net (state_at net n) p) (is.arrivals p l)
-
--- all packets are out, or one is not
-pub all-out : (net : Setup) (n : ℕ) (rows : Rows) → IsRows net n rows
-    → ((p : ℕ) → p + 1 < length rows.wires.arrivals.items → slice_index rows.wires.arrivals.items p ≢ NEVER) → true ≡ are_all_out net (state_at net n)
-all-out net n rows is each = sym (all-below (λ p. is_some (arrival_in net (state_at net n) p)) (length net.packets) out)
-  where
-    out : (p : ℕ) → p < length net.packets → is_some (arrival_in net (state_at net n) p) ≡ true
-    out p l =
-        let many = is.arrivals_are in
-        ap is_some (sym (arrival-is net n rows is p l))
-        ∙ ap (λ b. is_some (if b then None else Some (slice_index rows.wires.arrivals.items p))) (ne_eqb (slice_index rows.wires.arrivals.items p) NEVER (each p (omega (arith, l, many))))
-
-    all-below : (test : ℕ → Bool) (m : ℕ) → ((p : ℕ) → p < m → test p ≡ true) → list_all test (below m) ≡ true
-    all-below test m pass =
-        list_all-from_AllPass test (below m)
-        (λ k d l. let low : k < m = (let c = length-below m in omega (arith, l, c)) in ap test (get_or-below m k d low) ∙ pass k low)
-
-pub one-left : (net : Setup) (n : ℕ) (rows : Rows) → IsRows net n rows → (p : ℕ) → p + 1 < length rows.wires.arrivals.items
-    → slice_index rows.wires.arrivals.items p ≡ NEVER → false ≡ are_all_out net (state_at net n)
-one-left net n rows is p l none =
-    let many = is.arrivals_are in
-    let low : p < length net.packets = omega (arith, l, many) in
-    let left : is_some (arrival_in net (state_at net n) p) ≡ false
-    = ap is_some (sym (arrival-is net n rows is p low)) ∙ ap (λ b. is_some (if b then None else Some (slice_index rows.wires.arrivals.items p))) (eq-eqb (slice_index rows.wires.arrivals.items p) NEVER none) in
-    sym (list_all_at (λ q. is_some (arrival_in net (state_at net n) q)) (below (length net.packets)) p 0 (let c = length-below (length net.packets) in omega (arith, low, c))
-    (ap (λ q. is_some (arrival_in net (state_at net n) q)) (get_or-below (length net.packets) p 0 low) ∙ left))
 
 -- ---- the block of a router
 
