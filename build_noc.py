@@ -32,13 +32,11 @@ PROGRAMS = {"noc": [], "noc_avx2": ["--cpu", "x86-64-v3"]}
 DISK, MEMORY = 2 << 30, 2 << 30
 # So many seconds to spare are a step of priority less.
 STEP = 15
-# The seconds that each crate took beside the others on four processors, once. Only their shares count.
+# The seconds that each crate takes by itself on four processors, measured once. Only their shares count.
 SECONDS = {
-    "noc_topo": 30, "noc_packet": 10, "noc_ring": 30, "noc_route": 50, "noc_rank": 150, "noc_alloc": 20, "noc_vc": 45,
-    "noc_counts": 20,
-    "noc_router": 200, "noc_theory": 65, "noc_row_words": 85, "noc_row_blocks": 70, "noc_rows": 80, "noc_net": 180,
-    "noc_files": 360, "noc_tiles": 380, "noc_commands": 15, "noc_words": 240, "noc_faults": 60, "noc_answers": 250,
-    "noc_program": 120, "noc": 240,
+    "noc_topo": 15, "noc_packet": 10, "noc_ring": 20, "noc_route": 50, "noc_rank": 90, "noc_alloc": 20, "noc_vc": 25, "noc_counts": 20,
+    "noc_router": 110, "noc_theory": 50, "noc_row_words": 60, "noc_row_blocks": 45, "noc_rows": 45, "noc_net": 75, "noc_files": 120,
+    "noc_tiles": 90, "noc_commands": 10, "noc_words": 70, "noc_faults": 30, "noc_answers": 50, "noc_program": 45, "noc": 85,
 }
 
 
