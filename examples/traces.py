@@ -207,12 +207,12 @@ class Shared:
     """A trace. A long one is shared by several noc, each of which traces a part of the span; they run from now on, and no longer than
     this object is used. What a noc refuses, the first one refuses too: so the others say nothing."""
 
-    def __init__(self, run, first, last, beside=1, errors=True, **options):
-        """The trace of a span, beside so many traces in all; with options of noc."""
-        number = max(1, min(MOST_PARTS, run.free // beside)) if run.is_long(last + 1 - first) else 1
+    def __init__(self, run, first, last, processors, **options):
+        """The trace of a span, by so many processors; with options of noc."""
+        number = max(1, min(MOST_PARTS, processors)) if run.is_long(last + 1 - first) else 1
         self.parts = []
         for begin, end in parts_of(first, last + 1, number):
-            noc = run.start_trace(errors and begin == first, first=begin, last=end - 1, **options)
+            noc = run.start_trace(errors=begin == first, first=begin, last=end - 1, **options)
             self.parts.append((begin, Beside(noc)))
 
     def findings(self):
@@ -419,11 +419,11 @@ class Life:
         return found
 
 
-def life_of(run, packet, last=None, beside=1):
-    """The life of a packet that is due within the run, up to a last cycle; by a trace that is one of so many side by side."""
+def life_of(run, packet, last=None):
+    """The life of a packet that is due within the run, up to a last cycle."""
     last = run.network.cycles - 1 if last is None else last
     # (a trace of changes takes longer)
-    with Shared(run, packet.due, last, beside, packet=packet.number) as trace:
+    with Shared(run, packet.due, last, run.free, packet=packet.number) as trace:
         stays = stays_of(trace.findings(), packet)
     came_in = stays[0].first if stays else last + 1
     queue = [Stay(packet.source, QUEUE, [Bar(packet.due, came_in, QUEUE)])] if packet.due < came_in else []

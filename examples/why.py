@@ -13,9 +13,9 @@ step before: then these packets wait for one another. Where a packet may go by s
 leads to a packet that moves in the fewest steps.
 
 CONFIG, TRAFFIC and F are files, one of them '-' for standard input. With CYCLE the network is run once, by 'noc trace', and once
-more where only that tells whether the packet is out: at the same time, where a run takes long. A life takes two runs side by side,
-one for the packet and one for its source, and then one for each other router where it waited long, up to that wait. Each of these is
-shared by several noc where it is long and processors are free. Python 3.11 or later; nothing else is needed.
+more where only that tells whether the packet is out: at the same time, where a run takes long. A life takes a run for the packet, and
+then one for each router where it waited long, up to that wait, side by side. A run that takes long is shared by several noc, as far as
+processors are free. Python 3.11 or later; nothing else is needed.
 """
 import argparse
 from collections import Counter
@@ -420,35 +420,34 @@ def begin(cycle):
     return max(0, cycle - BEFORE)
 
 
-def waits_in_words(run, life, source):
-    """The longest waits; with a trace of the source of the packet, which is read as far as they are there, and one beside it for each
-    other router."""
+def waits_in_words(run, life):
+    """The longest waits; with a trace of each router where they were, side by side. The longest one has the processors that are left."""
     waits = longest_waits(life)
     at = {wait.router: [other for other in waits if other.router == wait.router] for wait in waits}
-    there = at.pop(life.packet.source, [])
+    spans = {router: (begin(min(wait.cycles[0] for wait in here)), max(wait.cycles[-1] for wait in here)) for router, here in at.items()}
+    longest = max(spans, key=lambda router: spans[router][1] - spans[router][0], default=None)
+    held = []
     with ExitStack() as stack:
-        spans = [(begin(min(wait.cycles[0] for wait in here)), max(wait.cycles[-1] for wait in here)) for here in at.values()]
-        traces = [stack.enter_context(Shared(run, *span, len(at), router=router, changes=True)) for router, span in zip(at, spans)]
-        port = "local" if all(wait.channel == QUEUE for wait in there) else None
-        held = holders_at(run, source.changes(port), there) if there else []
-        source.end()
-        for trace, here in zip(traces, at.values()):
-            held += holders_at(run, trace.changes(), here)
+        traces = {}
+        for router, span in spans.items():
+            processors = run.free + 1 - len(spans) if router == longest else 1
+            traces[router] = stack.enter_context(Shared(run, *span, processors, router=router, changes=True))
+        for router, here in at.items():
+            port = "local" if all(wait.channel == QUEUE for wait in here) else None
+            held += holders_at(run, traces[router].changes(port), here)
     return [wait.line(count) for wait, count in sorted(held, key=lambda pair: waits.index(pair[0]))]
 
 
 def life_lines(run, packet):
     """The life in words, a line as soon as it is known."""
-    last = run.network.cycles - 1
-    with Shared(run, begin(packet.due), last, beside=2, errors=False, router=packet.source, changes=True) as source:
-        life = life_of(run, packet, beside=2)
-        yield title(run, life)
-        for stay in life.stays:
-            counts = "" if stay.channel == QUEUE else f": {listed(stay.counts())}"
-            yield f"{place_name(stay)}, {stretch(stay.first, stay.end - 1)}{counts}."
-        foremost = Counter(bar.verdict for _, bar in life.foremost())
-        yield f"Its foremost flit, in {cycles_in_words(foremost.total())}: {listed(foremost)}."
-        yield from waits_in_words(run, life, source)
+    life = life_of(run, packet)
+    yield title(run, life)
+    for stay in life.stays:
+        counts = "" if stay.channel == QUEUE else f": {listed(stay.counts())}"
+        yield f"{place_name(stay)}, {stretch(stay.first, stay.end - 1)}{counts}."
+    foremost = Counter(bar.verdict for _, bar in life.foremost())
+    yield f"Its foremost flit, in {cycles_in_words(foremost.total())}: {listed(foremost)}."
+    yield from waits_in_words(run, life)
 
 
 def may_be_out(run, packet, cycle):
