@@ -223,15 +223,12 @@ class Shared:
         """The findings of a trace of changes, of one port or of all, as if one noc had made it."""
         return joined((first, part.findings(port)) for first, part in self.parts)
 
-    def end(self):
-        for _, part in self.parts:
-            part.end()
-
     def __enter__(self):
         return self
 
     def __exit__(self, *_):
-        self.end()
+        for _, part in self.parts:
+            part.end()
 
 
 class Outs:
