@@ -4,7 +4,7 @@ use Rattle.std.specs.Prelude.{filter, IfSome, nat_le, ◌⊎◌, ◌&&◌}
 use Rattle.std.specs.List.{range_with_len}
 use Rattle.std.proofs.lemmas.Bool.{cases_eq, le-leb, lt-leb, cases_lt, false≢true, leb-true, and_parts}
 use Rattle.std.proofs.Math.Nat.{mod-eq_of_lt, add-mod_right}
-use Rattle.noc_topo.specs.Words.{below, least_by, lesser_by}
+use Rattle.noc_topo.specs.Lists.{below, least_by, lesser_by}
 use Rattle.noc_packet.specs.Set.{has_bit, has_from, in_both, IsLeast}
 use Rattle.noc_alloc.specs.Arbiter.{distance_in_turn, first_in_turn}
 
@@ -102,13 +102,13 @@ module _ (key : ℕ → ℕ) (asks : ℕ → Bool) where
           one (inr s) = let r = rest y (s.1 ∙ ap Some (sym s.2 ∙ is)) in (r.0, omega arith, omega arith)
 
 -- the distance in turn, at and past the pointer, and before it
-turn-at : (n p x : ℕ) → p ≤ x → x < n → distance_in_turn n p x ≡ x - p
-turn-at n p x l u =
+distance-at : (n p x : ℕ) → p ≤ x → x < n → distance_in_turn n p x ≡ x - p
+distance-at n p x l u =
     let e : x + (n - p) ≡ (x - p) + n = omega arith in
     rw e (add-mod_right (x - p) n ∙ mod-eq_of_lt (omega arith))
 
-turn-before : (n p x : ℕ) → x < p → x < n → distance_in_turn n p x ≡ x + (n - p)
-turn-before n p x l u = mod-eq_of_lt (omega arith)
+distance-before : (n p x : ℕ) → x < p → x < n → distance_in_turn n p x ≡ x + (n - p)
+distance-before n p x l u = mod-eq_of_lt (omega arith)
 
 unfolds : (n p : ℕ) (asks : ℕ → Bool) → first_in_turn n p asks ≡ least_in (distance_in_turn n p) asks 0 n
 unfolding least_in first_in_turn below
@@ -122,12 +122,12 @@ first_in_turn-at n p x asks l u t free =
     unfolds n p asks
     ∙ least_in-is (distance_in_turn n p) asks x n 0 (omega arith) (omega arith) t
     (λ y _ below_n ty other.
-    rw (turn-at n p x l u) (farther y below_n ty other (cases_lt y p) (cases_lt y x)))
+    rw (distance-at n p x l u) (farther y below_n ty other (cases_lt y p) (cases_lt y x)))
   where
     farther : (y : ℕ) → y < 0 + n → asks y ≡ true → y ≢ x → (y < p) ⊎ (p ≤ y) → (y < x) ⊎ (x ≤ y) → x - p < distance_in_turn n p y
-    farther y below_n ty other (inl before) _ = rw (turn-before n p y before (omega arith)) (omega arith)
+    farther y below_n ty other (inl before) _ = rw (distance-before n p y before (omega arith)) (omega arith)
     farther y below_n ty other (inr after) (inl lower) = absurd (false≢true (sym (free y after lower) ∙ ty))
-    farther y below_n ty other (inr after) (inr higher) = rw (turn-at n p y after (omega arith)) (omega arith)
+    farther y below_n ty other (inr after) (inr higher) = rw (distance-at n p y after (omega arith)) (omega arith)
 
 -- none asks from the pointer on, and this is the first before it
 pub first_in_turn-before : (n p x : ℕ) (asks : ℕ → Bool) → x < p → p ≤ n → asks x ≡ true
@@ -138,11 +138,11 @@ first_in_turn-before n p x asks l u t free lower =
     unfolds n p asks
     ∙ least_in-is (distance_in_turn n p) asks x n 0 (omega arith) (omega arith) t
     (λ y _ below_n ty other.
-    rw (turn-before n p x l (omega arith)) (farther y below_n ty other (cases_lt y p) (cases_lt y x)))
+    rw (distance-before n p x l (omega arith)) (farther y below_n ty other (cases_lt y p) (cases_lt y x)))
   where
     farther : (y : ℕ) → y < 0 + n → asks y ≡ true → y ≢ x → (y < p) ⊎ (p ≤ y) → (y < x) ⊎ (x ≤ y) → x + (n - p) < distance_in_turn n p y
     farther y below_n ty other (inl before) (inl less) = absurd (false≢true (sym (lower y less) ∙ ty))
-    farther y below_n ty other (inl before) (inr more) = rw (turn-before n p y before (omega arith)) (omega arith)
+    farther y below_n ty other (inl before) (inr more) = rw (distance-before n p y before (omega arith)) (omega arith)
     farther y below_n ty other (inr after) _ = absurd (false≢true (sym (free y after (omega arith)) ∙ ty))
 
 pub first_in_turn-none : (n p : ℕ) (asks : ℕ → Bool) → ((y : ℕ) → y < n → asks y ≡ false) → first_in_turn n p asks ≡ None
@@ -188,10 +188,10 @@ nearest-held n p k x asks u side h = (h.0, omega (arith, h.1), (λ y l ty other.
     nearer-than : (p ≤ x) ⊎ (k < p) → distance_in_turn n p x < distance_in_turn n p k
     nearer-than (inl after) =
         let lx : x < k = h.1 in
-        rw (turn-at n p x after (omega arith), turn-at n p k (omega arith) u) (omega arith)
+        rw (distance-at n p x after (omega arith), distance-at n p k (omega arith) u) (omega arith)
     nearer-than (inr before) =
         let lx : x < k = h.1 in
-        rw (turn-before n p x (omega arith) (omega arith), turn-before n p k before u) (omega arith)
+        rw (distance-before n p x (omega arith) (omega arith), distance-before n p k before u) (omega arith)
 
     at : (y : ℕ) → y < k + 1 → asks y ≡ true → y ≢ x → (y ≡ k) ⊎ (y ≡ k → ⊥) → distance_in_turn n p x < distance_in_turn n p y
     at y l ty other (inl same) = subst (λ z. distance_in_turn n p x < distance_in_turn n p z) (sym same) (nearer-than side)
@@ -204,7 +204,7 @@ nearest-next n p k x asks u before after e h = (e, omega arith, (λ y l ty other
     nearer-than : distance_in_turn n p k < distance_in_turn n p x
     nearer-than =
         let lx : x < k = h.1 in
-        rw (turn-at n p k after u, turn-before n p x before (omega arith)) (omega arith)
+        rw (distance-at n p k after u, distance-before n p x before (omega arith)) (omega arith)
 
     at : (y : ℕ) → y < k + 1 → asks y ≡ true → y ≢ k → (y ≡ x) ⊎ (y ≡ x → ⊥) → distance_in_turn n p k < distance_in_turn n p y
     at y l ty other (inl same) = subst (λ z. distance_in_turn n p k < distance_in_turn n p z) (sym same) nearer-than

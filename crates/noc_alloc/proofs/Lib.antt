@@ -3,6 +3,6 @@ pub mod ArbiterLemmas
 pub mod AskingLemmas
 pub mod SwitchLemmas
 pub mod OfferLemmas
-pub mod PlaceLemmas
+pub mod SparseLemmas
 pub mod RequestLemmas
-pub mod RoundRows
+pub mod RoundExamples

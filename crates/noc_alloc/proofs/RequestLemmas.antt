@@ -31,7 +31,7 @@ nobody_below n x e = cc
 pub below-from : (n : ℕ) (xs : List (Option ℕ)) → ((k : ℕ) (d : Option ℕ) → k < length xs → IfSome (get_or xs k d) (λ i. i < n)) → AllBelow n xs
 below-from n xs each k d l x e = subst (λ o. IfSome o (λ i. i < n)) e (each k d l)
 
--- whoever is named at a place is below n
+-- whoever is named at an index is below n
 pub below-at : (n : ℕ) (xs : List (Option ℕ)) (k : ℕ) → AllBelow n xs → (x : ℕ) → get_or xs k None ≡ Some x → x < n
 below-at n xs k all x e = at (cases_lt k (length xs))
   where

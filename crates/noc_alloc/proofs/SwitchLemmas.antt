@@ -4,11 +4,11 @@ use Rattle.std.specs.Prelude.{All, IfSome, ◌⊎◌, ◌||◌, nat_lt, if◌the
 use Rattle.std.proofs.lemmas.Bool.{cases_eq, cases_lt, false≢true, or_cases, lt-ltb, le-ltb}
 use Rattle.std.proofs.lemmas.Nat.{mul-add-lt}
 use Rattle.std.proofs.lemmas.List.{get_or-map}
-use Rattle.noc_topo.specs.Words.{is_some_of, tabulate}
+use Rattle.noc_topo.specs.Lists.{is_some_of, tabulate}
 use Rattle.noc_alloc.specs.Arbiter.{RoundRobin, first_in_turn, arbiter_after, arbiter_at, pointers_of}
 use Rattle.noc_alloc.specs.Allocation.{picked_port, winner_of, has_won, winning_pick, moving_pick, arbiters_after_winners, is_won_by, pick_won}
 use Rattle.noc_alloc.specs.Steps.{arbiters_after_winner}
-use Rattle.noc_topo.proofs.WordLemmas.{map_indexed-from_each, length-map_indexed, get_or-map_indexed, get_or-tabulate, length-tabulate}
+use Rattle.noc_topo.proofs.ListLemmas.{map_indexed-from_each, length-map_indexed, get_or-map_indexed, get_or-tabulate, length-tabulate}
 use Rattle.noc_alloc.proofs.WordLemmas.{is_some_of-true, is_some_of-some, is_some_of-none, is_some_of-other}
 use Rattle.noc_alloc.proofs.ArbiterLemmas.{first_in_turn-picks}
 
@@ -24,8 +24,8 @@ first_in_turn-below n p asks = at (first_in_turn n p asks) refl
     at None e = tt
     at (Some y) e = (first_in_turn-picks n p y asks e).1
 
-pub pointer-at : (turns : List RoundRobin) (o : ℕ) → o < length turns → get_or (pointers_of turns) o 0 ≡ (arbiter_at turns o).pointer
-pointer-at turns o l = get_or-map (λ (t : RoundRobin). t.pointer) turns o (record { size = 0; pointer = 0 }) 0 l
+pub pointer-at : (arbiters : List RoundRobin) (o : ℕ) → o < length arbiters → get_or (pointers_of arbiters) o 0 ≡ (arbiter_at arbiters o).pointer
+pointer-at arbiters o l = get_or-map (λ (t : RoundRobin). t.pointer) arbiters o (record { size = 0; pointer = 0 }) 0 l
 
 -- every winner is below the number of requesters
 pub tabulate-inside : (n m : ℕ) (f : ℕ → Option ℕ) (xs : List (Option ℕ)) → ((k : ℕ) → IfSome (f k) (λ y. y < m)) → xs ≡ tabulate n f → All (λ x. IfSome x (λ y. y < m)) xs
@@ -34,36 +34,36 @@ tabulate-inside n m f xs inside is k d l =
     subst (λ o. IfSome o (λ y. y < m)) (sym (ap (λ ys. get_or ys k d) is ∙ get_or-tabulate n k f d (omega arith))) (inside k)
 
 -- ---- pointers
--- to turn twice to one winner is to turn once
-pub turned-again : (t : RoundRobin) (b : Bool) (w : Option ℕ) → arbiter_after (arbiter_after t (if b then w else None)) w ≡ arbiter_after t w
-turned-again t true None = refl
-turned-again t true (Some x) = refl
-turned-again t false None = refl
-turned-again t false (Some x) = refl
+-- to advance past one winner twice is to advance once
+pub advanced-again : (t : RoundRobin) (b : Bool) (w : Option ℕ) → arbiter_after (arbiter_after t (if b then w else None)) w ≡ arbiter_after t w
+advanced-again t true None = refl
+advanced-again t true (Some x) = refl
+advanced-again t false None = refl
+advanced-again t false (Some x) = refl
 
 pub has_won-more : (wins : List (Option ℕ)) (i port : ℕ) → i < length wins → has_won (take (i + 1) wins) port ≡ (has_won (take i wins) port || is_some_of (get_or wins i None) port)
 has_won-more [] i port l = absurd (omega arith)
-has_won-more (w ∷ ws) zero port l = turn (is_some_of w port)
+has_won-more (w ∷ ws) zero port l = regrouped (is_some_of w port)
   where
-    turn : (b : Bool) → (b || false) ≡ (false || b)
-    turn true = refl
-    turn false = refl
+    regrouped : (b : Bool) → (b || false) ≡ (false || b)
+    regrouped true = refl
+    regrouped false = refl
 has_won-more (w ∷ ws) (suc i) port l =
     rw (let e : suc i + 1 ≡ suc (i + 1) = omega arith in e)
-    (ap (λ b. is_some_of w port || b) (has_won-more ws i port (omega arith)) ∙ turn (is_some_of w port) (has_won (take i ws) port) (is_some_of (get_or ws i None) port))
+    (ap (λ b. is_some_of w port || b) (has_won-more ws i port (omega arith)) ∙ regrouped (is_some_of w port) (has_won (take i ws) port) (is_some_of (get_or ws i None) port))
   where
-    turn : (a b c : Bool) → (a || (b || c)) ≡ ((a || b) || c)
-    turn true b c = refl
-    turn false b c = refl
+    regrouped : (a b c : Bool) → (a || (b || c)) ≡ ((a || b) || c)
+    regrouped true b c = refl
+    regrouped false b c = refl
 
 -- the arbiters of the input ports, where the output ports below i have been looked at
-abbrev pub AllTurned : List RoundRobin → List (Option ℕ) → List (Option ℕ) → ℕ → List RoundRobin → Type 0
-AllTurned before picks wins i after = (k : ℕ) → k < length before → arbiter_at after k ≡ arbiter_after (arbiter_at before k) (winning_pick picks (take i wins) k)
+abbrev pub AllAdvanced : List RoundRobin → List (Option ℕ) → List (Option ℕ) → ℕ → List RoundRobin → Type 0
+AllAdvanced before picks wins i after = (k : ℕ) → k < length before → arbiter_at after k ≡ arbiter_after (arbiter_at before k) (winning_pick picks (take i wins) k)
 
-pub turned-more : (before after : List RoundRobin) (picks wins : List (Option ℕ)) (i : ℕ) (r : Option ℕ) → get_or wins i None ≡ r → i < length wins → length after ≡ length before
+pub advanced-more : (before after : List RoundRobin) (picks wins : List (Option ℕ)) (i : ℕ) (r : Option ℕ) → get_or wins i None ≡ r → i < length wins → length after ≡ length before
     → IfSome r (λ q. q < length before)
-    → AllTurned before picks wins i after → AllTurned before picks wins (i + 1) (arbiters_after_winner r picks after)
-turned-more before after picks wins i None e l same inside h k u =
+    → AllAdvanced before picks wins i after → AllAdvanced before picks wins (i + 1) (arbiters_after_winner r picks after)
+advanced-more before after picks wins i None e l same inside h k u =
     h k u
     ∙ ap (λ b. arbiter_after (arbiter_at before k) (if b then get_or picks k None else None))
     (sym (has_won-more wins i k l ∙ ap (λ b. has_won (take i wins) k || b) (is_some_of-none (get_or wins i None) k e) ∙ or_false (has_won (take i wins) k)))
@@ -71,7 +71,7 @@ turned-more before after picks wins i None e l same inside h k u =
     or_false : (b : Bool) → (b || false) ≡ b
     or_false true = refl
     or_false false = refl
-turned-more before after picks wins i (Some q) e l same inside h k u = at (cases_eq k q)
+advanced-more before after picks wins i (Some q) e l same inside h k u = at (cases_eq k q)
   where
     or_false : (b : Bool) → (b || false) ≡ b
     or_false true = refl
@@ -87,7 +87,7 @@ turned-more before after picks wins i (Some q) e l same inside h k u = at (cases
         ap (arbiter_at (set after q (arbiter_after (arbiter_at after q) (get_or picks q None)))) is
         ∙ get_or-set_same after q (arbiter_after (arbiter_at after q) (get_or picks q None)) (record { size = 0; pointer = 0 }) (omega arith)
         ∙ ap (λ (t : RoundRobin). arbiter_after t (get_or picks q None)) (h q inside)
-        ∙ turned-again (arbiter_at before q) (has_won (take i wins) q) (get_or picks q None)
+        ∙ advanced-again (arbiter_at before q) (has_won (take i wins) q) (get_or picks q None)
         ∙ ap (λ b. arbiter_after (arbiter_at before q) (if b then get_or picks q None else None)) (sym won)
         ∙ ap (λ j. arbiter_after (arbiter_at before j) (winning_pick picks (take (i + 1) wins) j)) (sym is)
     at (inr other) =
@@ -96,14 +96,14 @@ turned-more before after picks wins i (Some q) e l same inside h k u = at (cases
         ∙ ap (λ b. arbiter_after (arbiter_at before k) (if b then get_or picks k None else None))
         (sym (has_won-more wins i k l ∙ ap (λ b. has_won (take i wins) k || b) (is_some_of-other (get_or wins i None) k q e (λ same_port. other (sym same_port))) ∙ or_false (has_won (take i wins) k)))
 
--- the arbiters below i have turned
-abbrev pub AreTurnedBelow : List RoundRobin → List (Option ℕ) → ℕ → List RoundRobin → Type 0
-AreTurnedBelow before wins i after = (k : ℕ) → arbiter_at after k ≡ (if nat_lt k i then arbiter_after (arbiter_at before k) (get_or wins k None) else arbiter_at before k)
+-- the arbiters below i have advanced
+abbrev pub AreAdvancedBelow : List RoundRobin → List (Option ℕ) → ℕ → List RoundRobin → Type 0
+AreAdvancedBelow before wins i after = (k : ℕ) → arbiter_at after k ≡ (if nat_lt k i then arbiter_after (arbiter_at before k) (get_or wins k None) else arbiter_at before k)
 
 -- one arbiter more has gone on
-pub turned_below-more : (before after : List RoundRobin) (wins : List (Option ℕ)) (i : ℕ) (new : RoundRobin) → i < length after → new ≡ arbiter_after (arbiter_at before i) (get_or wins i None)
-    → AreTurnedBelow before wins i after → AreTurnedBelow before wins (i + 1) (set after i new)
-turned_below-more before after wins i new l is so_far k = at (cases_eq k i) (cases_lt k i)
+pub advanced_below-more : (before after : List RoundRobin) (wins : List (Option ℕ)) (i : ℕ) (new : RoundRobin) → i < length after → new ≡ arbiter_after (arbiter_at before i) (get_or wins i None)
+    → AreAdvancedBelow before wins i after → AreAdvancedBelow before wins (i + 1) (set after i new)
+advanced_below-more before after wins i new l is so_far k = at (cases_eq k i) (cases_lt k i)
   where
     at : (k ≡ i) ⊎ (k ≡ i → ⊥) → (k < i) ⊎ (i ≤ k) → arbiter_at (set after i new) k ≡ (if nat_lt k (i + 1) then arbiter_after (arbiter_at before k) (get_or wins k None) else arbiter_at before k)
     at (inl same) _ =
@@ -118,15 +118,15 @@ turned_below-more before after wins i new l is so_far k = at (cases_eq k i) (cas
         ∙ ap (λ b. if b then arbiter_after (arbiter_at before k) (get_or wins k None) else arbiter_at before k) (le-ltb k i more ∙ sym (le-ltb k (i + 1) (omega arith)))
 
 -- all arbiters have gone on
-pub turned_below-all : (before after : List RoundRobin) (wins : List (Option ℕ)) (i : ℕ) → length before ≤ i → length after ≡ length before
-    → AreTurnedBelow before wins i after → after ≡ arbiters_after_winners (λ k. get_or wins k None) before
-turned_below-all before after wins i all same turns =
+pub advanced_below-all : (before after : List RoundRobin) (wins : List (Option ℕ)) (i : ℕ) → length before ≤ i → length after ≡ length before
+    → AreAdvancedBelow before wins i after → after ≡ arbiters_after_winners (λ k. get_or wins k None) before
+advanced_below-all before after wins i all same advanced =
     map_indexed-from_each (λ k (t : RoundRobin). arbiter_after t (get_or wins k None)) before after (record { size = 0; pointer = 0 }) (record { size = 0; pointer = 0 }) same
-    (λ k l. turns k ∙ ap (λ b. if b then arbiter_after (arbiter_at before k) (get_or wins k None) else arbiter_at before k) (lt-ltb k i (omega arith)))
+    (λ k l. advanced k ∙ ap (λ b. if b then arbiter_after (arbiter_at before k) (get_or wins k None) else arbiter_at before k) (lt-ltb k i (omega arith)))
 
--- an arbiter that turns is over as many as before
-pub turned_by-sizes : (winner : ℕ → Option ℕ) (before after : List RoundRobin) (n : ℕ) → after ≡ arbiters_after_winners winner before → All (λ (t : RoundRobin). t.size ≡ n) before → All (λ (t : RoundRobin). t.size ≡ n) after
-turned_by-sizes winner before after n is sizes k d l =
+-- an arbiter that advances is over as many as before
+pub advanced_by-sizes : (winner : ℕ → Option ℕ) (before after : List RoundRobin) (n : ℕ) → after ≡ arbiters_after_winners winner before → All (λ (t : RoundRobin). t.size ≡ n) before → All (λ (t : RoundRobin). t.size ≡ n) after
+advanced_by-sizes winner before after n is sizes k d l =
     let f : ℕ → RoundRobin → RoundRobin = λ i t. arbiter_after t (winner i) in
     let u : k < length before = omega (arith, ap (λ (ts : List RoundRobin). length ts) is, length-map_indexed f before) in
     ap (λ (ts : List RoundRobin). (get_or ts k d).size) is ∙ ap (λ (t : RoundRobin). t.size) (get_or-map_indexed f before k d d u) ∙ sizes k d u
@@ -177,16 +177,16 @@ won-is_pick_won ready vcs ports n picks ps port = at (picked_port ready vcs pick
         off true won = absurd (false≢true (sym t ∙ has_won-from (tabulate n (winner_of ready vcs ports picks ps)) port o (is_some_of-true (get_or (tabulate n (winner_of ready vcs ports picks ps)) o None) port won)))
 
 -- two rules that name the same winners move the same pointers
-turned_by-same : (f g : ℕ → Option ℕ) (turns : List RoundRobin) → ((i : ℕ) → f i ≡ g i) → arbiters_after_winners f turns ≡ arbiters_after_winners g turns
-turned_by-same f g turns same =
-    map_indexed-from_each (λ i (t : RoundRobin). arbiter_after t (g i)) turns (arbiters_after_winners f turns) (record { size = 0; pointer = 0 }) (record { size = 0; pointer = 0 })
-    (length-map_indexed (λ i (t : RoundRobin). arbiter_after t (f i)) turns)
-    (λ i l. get_or-map_indexed (λ i (t : RoundRobin). arbiter_after t (f i)) turns i (record { size = 0; pointer = 0 }) (record { size = 0; pointer = 0 }) l ∙ ap (arbiter_after (arbiter_at turns i)) (same i))
+advanced_by-same : (f g : ℕ → Option ℕ) (arbiters : List RoundRobin) → ((i : ℕ) → f i ≡ g i) → arbiters_after_winners f arbiters ≡ arbiters_after_winners g arbiters
+advanced_by-same f g arbiters same =
+    map_indexed-from_each (λ i (t : RoundRobin). arbiter_after t (g i)) arbiters (arbiters_after_winners f arbiters) (record { size = 0; pointer = 0 }) (record { size = 0; pointer = 0 })
+    (length-map_indexed (λ i (t : RoundRobin). arbiter_after t (f i)) arbiters)
+    (λ i l. get_or-map_indexed (λ i (t : RoundRobin). arbiter_after t (f i)) arbiters i (record { size = 0; pointer = 0 }) (record { size = 0; pointer = 0 }) l ∙ ap (arbiter_after (arbiter_at arbiters i)) (same i))
 
-pub moved-by_requests : (ready : List (Option ℕ)) (vcs ports : ℕ) (ps : List ℕ) (picks wins : List (Option ℕ)) (turns : List RoundRobin)
-    → wins ≡ tabulate (length wins) (winner_of ready vcs ports picks ps) → arbiters_after_winners (winning_pick picks wins) turns ≡ arbiters_after_winners (moving_pick ready vcs picks wins) turns
-moved-by_requests ready vcs ports ps picks wins turns is =
-    turned_by-same (winning_pick picks wins) (moving_pick ready vcs picks wins) turns
+pub moved-by_requests : (ready : List (Option ℕ)) (vcs ports : ℕ) (ps : List ℕ) (picks wins : List (Option ℕ)) (arbiters : List RoundRobin)
+    → wins ≡ tabulate (length wins) (winner_of ready vcs ports picks ps) → arbiters_after_winners (winning_pick picks wins) arbiters ≡ arbiters_after_winners (moving_pick ready vcs picks wins) arbiters
+moved-by_requests ready vcs ports ps picks wins arbiters is =
+    advanced_by-same (winning_pick picks wins) (moving_pick ready vcs picks wins) arbiters
     (λ port. ap (λ b. if b then get_or picks port None else None)
     (let P : List (Option ℕ) → Type 0 = λ ws. has_won ws port ≡ pick_won ready vcs picks ws port in
     subst P (sym is) (won-is_pick_won ready vcs ports (length wins) picks ps port)))

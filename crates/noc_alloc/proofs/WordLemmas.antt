@@ -1,7 +1,7 @@
 -- Words on lists and options.
 use Rattle.std.proofs.Common.{◌≡◌, ◌≢◌, ℕ, true, false, Option, Some, None, refl, ap, ◌∙◌}
 use Rattle.std.proofs.lemmas.Bool.{eq-eqb, ne_eqb, eqb-true, false≢true}
-use Rattle.noc_topo.specs.Words.{is_some_of}
+use Rattle.noc_topo.specs.Lists.{is_some_of}
 
 pub is_some_of-true : (o : Option ℕ) (x : ℕ) → is_some_of o x ≡ true → o ≡ Some x
 is_some_of-true None x e = absurd (false≢true e)

@@ -1,6 +1,6 @@
 -- The allocation of output channels and of the switch of one router, on lists of requests and pointers.
 use Rattle.std.specs.Prelude.{◌≡◌, ℕ, length, ◌+◌, ◌*◌, Bool, false, ◌||◌, List, [], ◌∷◌, Option, Some, None, slice_index, slice_index_or, is_some, option_and_then, if◌then◌else◌}
-use Rattle.noc_topo.specs.Words.{is_some_of, tabulate, map_indexed}
+use Rattle.noc_topo.specs.Lists.{is_some_of, tabulate, map_indexed}
 use Rattle.noc_alloc.specs.Arbiter.{RoundRobin, first_in_turn, arbiter_after}
 
 -- asks: for each input channel, the output channel that it asks for. The input channel that output channel o goes to
@@ -47,4 +47,4 @@ moving_pick ready vcs picks wins port = if pick_won ready vcs picks wins port th
 
 -- each arbiter after its winner
 abbrev pub arbiters_after_winners : (ℕ → Option ℕ) → List RoundRobin → List RoundRobin
-arbiters_after_winners winner turns = map_indexed (λ i (t : RoundRobin). arbiter_after t (winner i)) turns
+arbiters_after_winners winner arbiters = map_indexed (λ i (t : RoundRobin). arbiter_after t (winner i)) arbiters

@@ -1,6 +1,6 @@
 -- Round-robin arbiters.
 use Rattle.std.specs.Prelude.{ℕ, ◌+◌, ◌-◌, ◌%◌, ◌||◌, Bool, List, map, filter, Option, Some, None, nat_le, nat_lt, slice_index_or, if◌then◌else◌}
-use Rattle.noc_topo.specs.Words.{below, least_by}
+use Rattle.noc_topo.specs.Lists.{below, least_by}
 
 -- an arbiter: how many requesters it is over, and the one that comes first
 pub record RoundRobin : Type 0 where
@@ -31,8 +31,8 @@ arbiter_after t winner = record { size = t.size; pointer = pointer_after t.size 
 
 -- the pointers of some arbiters
 abbrev pub pointers_of : List RoundRobin → List ℕ
-pointers_of turns = map (λ (t : RoundRobin). t.pointer) turns
+pointers_of arbiters = map (λ (t : RoundRobin). t.pointer) arbiters
 
 -- the arbiter with this index
 abbrev pub arbiter_at : List RoundRobin → ℕ → RoundRobin
-arbiter_at turns i = slice_index_or turns i (record { size = 0; pointer = 0 })
+arbiter_at arbiters i = slice_index_or arbiters i (record { size = 0; pointer = 0 })

@@ -3,22 +3,22 @@
 //! The loops visit only requesters that ask, and resources that are granted.
 
 ghost use Rattle.std.specs.Prelude.{◌≡◌, ℕ, ◌<◌, ◌≤◌, All, IfSome, Some, None, is_some, length, replicate, slice_index_or, slice_set};
-ghost use Rattle.noc_topo.specs.Words.{tabulate};
+ghost use Rattle.noc_topo.specs.Lists.{tabulate};
 ghost use Rattle.noc_packet.specs.Set.{has_bit};
 ghost use Rattle.noc_alloc.specs.Allocation.{arbiters_after_winners, grant_of};
 ghost use Rattle.noc_alloc.specs.Arbiter.{RoundRobin, arbiter_at, pointers_of};
 ghost use Rattle.noc_alloc.specs.Requests.{AllBelow, is_given, unasked};
 
 use crate::arbiter::Arbiter;
-use crate::places::Places;
+use crate::sparse::Sparse;
 use noc_packet::{ChannelSet, INDICES};
 use std::marker::Model;
 
 /// What at most 56 requesters ask for, of at most 56 resources, and who gets it.
 #[derive(Drop)]
 pub struct Allocation {
-    asks: Places,
-    grants: Places,
+    asks: Sparse,
+    grants: Sparse,
 }
 
 impl Model for Allocation {
@@ -37,8 +37,8 @@ impl Allocation {
         ensures { result ≡ unasked 0 0 }
     {
         Allocation {
-            asks: Places::new(),
-            grants: Places::new(),
+            asks: Sparse::new(),
+            grants: Sparse::new(),
         }
     }
 
@@ -131,7 +131,7 @@ impl Allocation {
 }
 
 // Each resource that is asked for goes to the requester that its arbiter puts first. None goes to anybody before.
-fn grant_each(asks: &Places, arbiters: &[Arbiter], grants: &mut Places)
+fn grant_each(asks: &Sparse, arbiters: &[Arbiter], grants: &mut Sparse)
     requires none { grants.old ≡ replicate (length arbiters.now) None }
     requires few { length arbiters.now ≤ INDICES }
     requires sizes { All (λ (t : RoundRobin). t.size ≡ length asks.now) arbiters.now }

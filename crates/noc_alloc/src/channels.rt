@@ -1,7 +1,7 @@
 //! The allocation of output channels (Dally and Towles, chapter 19).
 
 ghost use Rattle.std.specs.Prelude.{◌≡◌, ℕ, ◌<◌, length, All, IfSome, slice_index_or, None};
-ghost use Rattle.noc_topo.specs.Words.{tabulate};
+ghost use Rattle.noc_topo.specs.Lists.{tabulate};
 ghost use Rattle.noc_alloc.specs.Arbiter.{RoundRobin, pointers_of, arbiter_at};
 ghost use Rattle.noc_alloc.specs.Allocation.{grant_of, arbiters_after_winners};
 ghost use Rattle.noc_alloc.specs.Steps.{firsts_after_request};

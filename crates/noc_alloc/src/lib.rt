@@ -4,11 +4,11 @@
 mod allocation;
 mod arbiter;
 mod channels;
-mod places;
+mod sparse;
 mod switch;
 
 pub use allocation::Allocation;
 pub use arbiter::Arbiter;
 pub use channels::{advance_channels, allocate_channels};
-pub use places::Places;
+pub use sparse::Sparse;
 pub use switch::{advance_switch, allocate_switch};

@@ -1,7 +1,7 @@
 //! The allocation of the switch, input ports first (Dally and Towles, chapter 19).
 
 ghost use Rattle.std.specs.Prelude.{◌≡◌, ℕ, ◌+◌, ◌*◌, ◌<◌, ◌≤◌, List, Option, length, All, IfSome, is_some, slice_index_or, None};
-ghost use Rattle.noc_topo.specs.Words.{tabulate};
+ghost use Rattle.noc_topo.specs.Lists.{tabulate};
 ghost use Rattle.noc_alloc.specs.Arbiter.{RoundRobin, first_in_turn, pointers_of, arbiter_at};
 ghost use Rattle.noc_alloc.specs.Allocation.{pick_of, winner_of, winning_pick, moving_pick, arbiters_after_winners, AreWins};
 ghost use Rattle.noc_alloc.specs.Steps.{arbiters_after_winner};

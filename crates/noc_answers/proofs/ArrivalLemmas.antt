@@ -3,8 +3,8 @@ use Rattle.std.proofs.Common.{◌≡◌, ℕ, ◌-◌, ◌<◌, ◌++◌, Bool, 
 use Rattle.std.specs.Prelude.{decimal}
 use Rattle.std.proofs.lemmas.Bool.{false≢true}
 use Rattle.std.proofs.lemmas.List.Folds.{list_all_at}
-use Rattle.noc_topo.specs.Words.{below}
-use Rattle.noc_topo.proofs.WordLemmas.{get_or-below, length-below}
+use Rattle.noc_topo.specs.Lists.{below}
+use Rattle.noc_topo.proofs.ListLemmas.{get_or-below, length-below}
 use Rattle.noc_net.specs.Limit.{are_all_out}
 use Rattle.noc_theory.specs.Network.{Run, arrival_in, packet_at, state_at}
 use Rattle.noc_files.specs.Latency.{latency_line, packet_line, packet_start}

@@ -10,7 +10,7 @@ pub not_joined : (x : Command) → (x ≡ command.Joined → ⊥) → is_joined 
 not_joined command.Joined other = absurd (other refl)
 not_joined (command.Run workers report drain) other = refl
 not_joined (command.Explain cycle router) other = refl
-not_joined (command.Trace from to router packet changes) other = refl
+not_joined (command.Trace from to router packet verdicts changes) other = refl
 not_joined command.Check other = refl
 not_joined command.Ranks other = refl
 

@@ -1,11 +1,13 @@
 -- Where a run ends that drains, piece by piece.
-use Rattle.std.proofs.Common.{◌≡◌, ℕ, zero, suc, ◌+◌, ◌-◌, ◌<◌, ◌≤◌, Bool, true, false, min, refl, ap, sym, ◌∙◌, subst, arith, inl, inr}
+use Rattle.std.proofs.Common.{◌≡◌, ℕ, zero, suc, ◌+◌, ◌-◌, ◌*◌, ◌<◌, ◌≤◌, Bool, true, false, length, max, min, refl, ap, sym, ◌∙◌, subst, arith, inl, inr}
 use Rattle.std.specs.Prelude.{◌⊎◌}
 use Rattle.std.proofs.lemmas.Bool.{cases_lt, cases_order, false≢true}
 use Rattle.noc_route.specs.Ranks.{IsRankedBy, Ranking}
 use Rattle.noc_theory.specs.Good.{IsGoodSetup}
-use Rattle.noc_net.specs.Limit.{IsLimit}
-use Rattle.noc_theory.specs.Network.{Run, Setup}
+use Rattle.noc_net.specs.Limit.{are_all_out, IsLimit}
+use Rattle.noc_theory.specs.Network.{Run, Setup, packet_at, state_at}
+use Rattle.noc_theory.specs.Progress.{NoneDue, events}
+use Rattle.noc_theory.proofs.budget.UnchangedLemmas.{state-until}
 use Rattle.noc_net.proofs.LimitLemmas.{all-out, limit-once, limit-some}
 use Rattle.noc_answers.specs.Drain.{DrainsAt, DrainsBy, RunsTo, at_limit, at_once, is_out_at, look, once_out}
 
@@ -52,6 +54,21 @@ module _ (net : Setup) (limit : ℕ) where
       out : (j : ℕ) → look n j < limit → is_out_at net (look n j) ≡ false
       out zero l = (let first : look n 0 ≡ n = omega arith in ap (is_out_at net) first ∙ here)
       out (suc j) l = (let same = later n e j next in ap (is_out_at net) (sym same) ∙ none j (subst (λ x. x < limit) (sym same) l))
+
+  -- the same, where the next piece ends at a later look, and not every packet is out at the looks before
+  pub drains-over : (k n e end : ℕ) → n < limit → ((j : ℕ) → j ≤ k → is_out_at net (look n j) ≡ false) → e ≡ n + min ((k + 1) * 64) (limit - n) → DrainsBy net limit e end → DrainsBy net limit n end
+  drains-over zero n e end early none is rest = drains-on n e end early (let first : n ≡ look n 0 = omega arith in ap (is_out_at net) first ∙ none 0 (omega arith)) (omega (arith, is)) rest
+  drains-over (suc k) n e end early none is rest =
+      let next : n + 64 ≡ look n 1 = omega arith in
+      at (cases_lt (n + 64) limit)
+      (λ more. drains-over k (n + 64) e end more (λ j l. ap (is_out_at net) (later n (n + 64) j next) ∙ none (suc j) (omega arith)) (omega (arith, is)) rest)
+    where
+      here : is_out_at net n ≡ false
+      here = let first : n ≡ look n 0 = omega arith in ap (is_out_at net) first ∙ none 0 (omega arith)
+
+      at : (n + 64 < limit) ⊎ (limit ≤ n + 64) → (n + 64 < limit → DrainsBy net limit (n + 64) end) → DrainsBy net limit n end
+      at (inl more) further = drains-on n (n + 64) end early here (omega arith) (further more)
+      at (inr last) further = drains-on n e end early here (omega (arith, is)) rest
 
   -- a run that drains has one end
   pub drains-once : (n d e : ℕ) → DrainsBy net limit n d → DrainsBy net limit n e → d ≡ e
@@ -115,13 +132,15 @@ abbrev pub GoesOn : Run → ℕ → ℕ → Type 0
 GoesOn first limit count = (end : ℕ) → DrainsBy first.net limit count end → DrainsBy first.net limit first.count end
 
 module _ (first now : Run) (limit : ℕ) (same : now.net ≡ first.net) (goes : GoesOn first limit now.count) where
-  -- after a piece more
-  pub goes-on : (next : Run) (cycles : ℕ) → now.count < limit → is_out_at now.net now.count ≡ false → cycles ≡ min 64 (limit - now.count) → next ≡ record now { count = now.count + cycles }
-      → GoesOn first limit next.count
-  goes-on next cycles early here piece ran = λ end rest.
+  -- after a piece more, over looks at which the state is as it is now
+  pub goes-on : (next : Run) (quiet ahead cycles : ℕ) → now.count < limit → is_out_at now.net now.count ≡ false → ((k : ℕ) → k ≤ quiet → state_at now.net (now.count + k) ≡ state_at now.net now.count)
+      → (k : ℕ) × (ahead ≡ (k + 1) * 64) × (k * 64 < max quiet 1) → cycles ≡ min ahead (limit - now.count) → next ≡ record now { count = now.count + cycles } → GoesOn first limit next.count
+  goes-on next quiet ahead cycles early here unchanged step piece ran = λ end rest.
       let count : next.count ≡ now.count + cycles = ap (λ (u : Run). u.count) ran in
       goes end
-      (drains-on first.net limit now.count next.count end early (ap (λ net. is_out_at net now.count) (sym same) ∙ here) (omega (arith, count, piece)) rest)
+      (drains-over first.net limit step.0 now.count next.count end early
+      (λ j l. ap (λ net. is_out_at net (look now.count j)) (sym same) ∙ ap (are_all_out now.net) (unchanged (j * 64) (omega (arith, step.2, l))) ∙ here)
+      (omega (arith, count, piece, step.1)) rest)
 
   -- at its end
   pub goes-to : IsLimit first.net limit → (limit ≤ now.count) ⊎ (is_out_at now.net now.count ≡ true) → DrainsAt now.net first.count now.count
@@ -131,3 +150,19 @@ module _ (first now : Run) (limit : ℕ) (same : now.net ≡ first.net) (goes : 
       moved : (limit ≤ now.count) ⊎ (is_out_at now.net now.count ≡ true) → (limit ≤ now.count) ⊎ (is_out_at first.net now.count ≡ true)
       moved (inl late) = inl late
       moved (inr out) = inr (ap (λ net. is_out_at net now.count) (sym same) ∙ out)
+
+-- ---- cycles that leave the state as it is
+
+-- none of the first packets becomes due in so many cycles from a count on
+abbrev pub NoneDueOf : Setup → ℕ → ℕ → ℕ → Type 0
+NoneDueOf net first count cycles = (p : ℕ) → p < first → count ≤ (packet_at net p).due → count + cycles ≤ (packet_at net p).due
+
+-- after a cycle without an event
+pub unchanged-for : (net : Setup) → IsGoodSetup net → (n count cycles : ℕ) → count ≡ n + 1 → events net n (state_at net n) ≡ 0 → NoneDueOf net (length net.packets) count cycles
+    → (k : ℕ) → k ≤ cycles → state_at net (count + k) ≡ state_at net count
+unchanged-for net made n count cycles is quiet none k l =
+    let there : count + k ≡ suc (n + k) = omega (arith, is) in
+    let here : count ≡ suc n = omega (arith, is) in
+    let undue : NoneDue net n (n + k) = λ p low late. let far = none p low (omega (arith, is, late)) in omega (arith, is, far) in
+    ap (state_at net) there ∙ state-until net made n quiet (n + k) (omega arith) undue
+    ∙ sym (ap (state_at net) here ∙ state-until net made n quiet n (omega arith) (λ p low late. late))

@@ -36,7 +36,7 @@ abbrev pub kind : Command → ℕ
 kind command.Joined = 0
 kind (command.Run workers report drain) = 0
 kind (command.Explain cycle router) = 1
-kind (command.Trace from to router packet changes) = 4
+kind (command.Trace from to router packet verdicts changes) = 4
 kind command.Check = 2
 kind command.Ranks = 3
 
@@ -44,7 +44,7 @@ pub reports : (x : Command) (report : Report) → report_of x ≡ Some report �
 reports command.Joined report h = refl
 reports (command.Run workers other drain) report h = refl
 reports (command.Explain cycle router) report h = cc
-reports (command.Trace from to router packet changes) report h = cc
+reports (command.Trace from to router packet verdicts changes) report h = cc
 reports command.Check report h = cc
 reports command.Ranks report h = cc
 
@@ -65,7 +65,7 @@ pub has_packet : (x : Command) (packets : ℕ) (f : OptionFault) → packet_opti
 has_packet command.Joined packets f h = cc
 has_packet (command.Run workers report drain) packets f h = cc
 has_packet (command.Explain cycle router) packets f h = cc
-has_packet (command.Trace from to router packet changes) packets f h = refl
+has_packet (command.Trace from to router packet verdicts changes) packets f h = refl
 has_packet command.Check packets f h = cc
 has_packet command.Ranks packets f h = cc
 
@@ -73,7 +73,7 @@ pub has_no_packet : (x : Command) (packets : ℕ) → (kind x ≡ 4 → ⊥) →
 has_no_packet command.Joined packets other = refl
 has_no_packet (command.Run workers report drain) packets other = refl
 has_no_packet (command.Explain cycle router) packets other = refl
-has_no_packet (command.Trace from to router packet changes) packets other = absurd (other refl)
+has_no_packet (command.Trace from to router packet verdicts changes) packets other = absurd (other refl)
 has_no_packet command.Check packets other = refl
 has_no_packet command.Ranks packets other = refl
 
@@ -83,10 +83,10 @@ module _ (a : Asked) where
   same_net : (x y : Routes) (s t : Settings) (m n : Setup) → x ≡ y → s ≡ t → IsNetworkOf x s.buffer a.traffic m → IsNetworkOf y t.buffer a.traffic n → m ≡ n
   same_net x y s t m n routes settings h u =
       let relation : m.relation ≡ n.relation = h.relation ∙ routes ∙ sym u.relation in
-      let places : m.places ≡ n.places = h.places_are ∙ ap (λ (z : Settings). z.buffer) settings ∙ sym u.places_are in
+      let depth : m.depth ≡ n.depth = h.depth_is ∙ ap (λ (z : Settings). z.buffer) settings ∙ sym u.depth_is in
       let both : Ok m.packets ≡ Ok n.packets = sym h.packets ∙ u.packets in
       let packets : m.packets ≡ n.packets = cc in
-      λ i. record { relation = relation i; places = places i; packets = packets i }
+      λ i. record { relation = relation i; depth = depth i; packets = packets i }
 
   one_run : (u v : Run) → AsksForRun a u → AsksForRun a v → u ≡ v
   one_run u v x y =
@@ -130,8 +130,9 @@ module _ (a : Asked) where
       let from : m ≡ n = cc in
       let router : t.router ≡ w.router = cc in
       let packet : t.packet ≡ w.packet = cc in
+      let verdicts : t.verdicts ≡ w.verdicts = cc in
       let changes : t.changes ≡ w.changes = cc in
-      let traced : t ≡ w = λ i. record { router = router i; packet = packet i; changes = changes i } in
+      let traced : t ≡ w = λ i. record { router = router i; packet = packet i; verdicts = verdicts i; changes = changes i } in
       (ap (λ z. trace_text u (first_cycle z) t) from ∙ ap (trace_text u (first_cycle n)) traced ∙ ap (λ z. trace_text z (first_cycle n) w) (one_run u v x y), refl)
   one_text text other status end (accepted e x) (accepted d y) = (refl, refl)
   one_text text other status end (ranks {s = s} {routes = m} {ranking = k} e x h) (ranks {s = t} {routes = n} {ranking = j} d y u) =

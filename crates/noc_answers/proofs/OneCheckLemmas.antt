@@ -14,7 +14,7 @@ use Rattle.noc_rank.specs.Faults.{HasEscapes, IsBare, IsDescent, IsFaultOfCheck,
 use Rattle.noc_rank.specs.Rising.{IsFall, IsFirstFall}
 use Rattle.noc_rank.specs.declared.fault.RankFault.{RankFault}
 use Rattle.noc_rank.specs.declared.fault.RankFault.TheVariants.{NoGenerated, NotRising, NotRisingTo, NoEscape, Memory, UnknownChannel, DoubleChannel, BadRank, MissingChannel}
-use Rattle.noc_rank.specs.declared.place.LinkChannel.{LinkChannel}
+use Rattle.noc_rank.specs.declared.channel.LinkChannel.{LinkChannel}
 
 -- what a fault other than of memory says of ranks
 data CheckSays (routes : Routes) (k : Ranking) (f : RankFault) : Type 0 where
@@ -42,7 +42,7 @@ no_fall routes k step a b ranked fall =
 
 no_bare : (routes : Routes) (k : Ranking) (e : Entry) → IsRankedBy routes k → IsBare routes k e → ⊥
 no_bare routes k e ranked here =
-    let found = ranked.escape e.class e.dst here.from here.next e.router e.in_port here.permitted here.place here.away in
+    let found = ranked.escape e.class e.dst here.from here.next e.router e.in_port here.permitted here.input here.away in
     let never : None ≡ Some found.2 = sym (here.none found.0 found.1 found.3) ∙ found.4 in
     cc never
 

@@ -54,13 +54,13 @@ unchecked-ranks (command.Run workers report drain) given e = absurd (omega (arit
 unchecked-ranks (command.Explain cycle router) given e = absurd (omega (arith, e))
 unchecked-ranks command.Check given e = absurd (omega (arith, e))
 unchecked-ranks command.Ranks given e = refl
-unchecked-ranks (command.Trace from to router packet changes) given e = absurd (omega (arith, e))
+unchecked-ranks (command.Trace from to router packet verdicts changes) given e = absurd (omega (arith, e))
 
 unchecked-trace : (x : Command) (given : Option TextValue) → kind x ≡ 4 → checked_by x given ≡ None
 unchecked-trace command.Joined given e = absurd (omega (arith, e))
 unchecked-trace (command.Run workers report drain) given e = absurd (omega (arith, e))
 unchecked-trace (command.Explain cycle router) given e = absurd (omega (arith, e))
-unchecked-trace (command.Trace from to router packet changes) given e = refl
+unchecked-trace (command.Trace from to router packet verdicts changes) given e = refl
 unchecked-trace command.Check given e = absurd (omega (arith, e))
 unchecked-trace command.Ranks given e = absurd (omega (arith, e))
 
@@ -68,7 +68,7 @@ still-check : (x : Command) → kind x ≡ 2 → runs x ≡ false
 still-check command.Joined e = absurd (omega (arith, e))
 still-check (command.Run workers report drain) e = absurd (omega (arith, e))
 still-check (command.Explain cycle router) e = absurd (omega (arith, e))
-still-check (command.Trace from to router packet changes) e = absurd (omega (arith, e))
+still-check (command.Trace from to router packet verdicts changes) e = absurd (omega (arith, e))
 still-check command.Check e = refl
 still-check command.Ranks e = absurd (omega (arith, e))
 
@@ -76,7 +76,7 @@ still-ranks : (x : Command) → kind x ≡ 3 → runs x ≡ false
 still-ranks command.Joined e = absurd (omega (arith, e))
 still-ranks (command.Run workers report drain) e = absurd (omega (arith, e))
 still-ranks (command.Explain cycle router) e = absurd (omega (arith, e))
-still-ranks (command.Trace from to router packet changes) e = absurd (omega (arith, e))
+still-ranks (command.Trace from to router packet verdicts changes) e = absurd (omega (arith, e))
 still-ranks command.Check e = absurd (omega (arith, e))
 still-ranks command.Ranks e = refl
 
@@ -137,9 +137,9 @@ unmade : (routes : Routes) (packets : List Packet) (f : NetFault) → f ≢ net.
 unmade routes packets f p (inl e) = e
 unmade routes packets f p (inr m) = absurd (p m.0)
 
-network_none : (routes : Routes) (places : ℕ) (traffic : TextValue) (net : Setup) (f : Fault) → is_memory f ≡ false → IsNetworkOf routes places traffic net → PacketsFault routes traffic f → ⊥
-network_none routes places traffic net f p h (bad_traffic {f = i} e) = (let never : Ok net.packets ≡ Err i = sym h.packets ∙ e (traffic_not_memory i p) in cc never)
-network_none routes places traffic net f p h (bad_network {packets = ps} {f = i} e bad) =
+network_none : (routes : Routes) (depth : ℕ) (traffic : TextValue) (net : Setup) (f : Fault) → is_memory f ≡ false → IsNetworkOf routes depth traffic net → PacketsFault routes traffic f → ⊥
+network_none routes depth traffic net f p h (bad_traffic {f = i} e) = (let never : Ok net.packets ≡ Err i = sym h.packets ∙ e (traffic_not_memory i p) in cc never)
+network_none routes depth traffic net f p h (bad_network {packets = ps} {f = i} e bad) =
     let both : Ok net.packets ≡ Ok ps = sym h.packets ∙ e in
     let same : net.packets ≡ ps = cc in
     let never : None ≡ Some i = sym h.sound ∙ ap (fault_of routes) same ∙ unmade routes ps i (network_not_memory i p) bad in

@@ -5,7 +5,7 @@ use Rattle.std.proofs.lemmas.Bool.{cases_order, false≢true}
 use Rattle.std.proofs.lemmas.List.{ext_get_or}
 use Rattle.noc_topo.specs.Shape.{Grid, nodes, local_port}
 use Rattle.noc_route.specs.Order.{numbers_before}
-use Rattle.noc_route.specs.Ranks.{Ranking, is_place, rank_count, rank_at}
+use Rattle.noc_route.specs.Ranks.{Ranking, is_port_channel, rank_count, rank_at}
 use Rattle.noc_route.specs.declared.rule.Rule.{Rule}
 use Rattle.noc_route.proofs.OneFaultLemmas.{one_place}
 use Rattle.noc_rank.specs.Formulas.{IsGenerated, IsFaultOfFormula}
@@ -14,7 +14,7 @@ use Rattle.noc_rank.specs.Rows.{AreGood, IsFirstRowFault, IsFirstMissing, IsFaul
 use Rattle.noc_rank.specs.declared.fault.RankFault.{RankFault}
 use Rattle.noc_rank.specs.declared.fault.RankFault.TheVariants.{NoGenerated, NotRising, NotRisingTo, NoEscape, Memory, UnknownChannel, DoubleChannel, BadRank, MissingChannel}
 use Rattle.noc_rank.specs.declared.rows.RankRow.{RankRow}
-use Rattle.noc_rank.proofs.PlaceLemmas.{place-again, is_place-decoded, vcs-some}
+use Rattle.noc_rank.proofs.IndexLemmas.{rank_index-again, is_port_channel-decoded, vcs-some}
 
 -- ---- rankings
 
@@ -29,8 +29,8 @@ rank-place g vcs ranks j h l =
     let within : j < rank_count g vcs = omega (arith, l, h.long) in
     let some : 0 < vcs = vcs-some (nodes g * local_port g) vcs j within in
     let ports : 0 < local_port g = omega (arith, h.grid.some_dimensions) in
-    let there : is_place g vcs (j / vcs / local_port g) (j / vcs % local_port g) (j % vcs) ≡ true = is_place-decoded g vcs j some ports within in
-    sym (rw there (ap (λ x. get_or ranks x None) (place-again g vcs j some ports)))
+    let there : is_port_channel g vcs (j / vcs / local_port g) (j / vcs % local_port g) (j % vcs) ≡ true = is_port_channel-decoded g vcs j some ports within in
+    sym (rw there (ap (λ x. get_or ranks x None) (rank_index-again g vcs j some ports)))
 
 same-ranks : (g : Grid) (vcs : ℕ) (xs ys : List (Option ℕ)) → IsRanking (ranking_with g vcs xs) → IsRanking (ranking_with g vcs ys)
     → ((r p v : ℕ) → rank_at (ranking_with g vcs xs) r p v ≡ rank_at (ranking_with g vcs ys) r p v) → xs ≡ ys

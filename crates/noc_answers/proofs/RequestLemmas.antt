@@ -23,7 +23,7 @@ pub runs-report : (x : Command) (report : Report) → report_of x ≡ Some repor
 runs-report command.Joined report h = refl
 runs-report (command.Run workers other drain) report h = refl
 runs-report (command.Explain cycle router) report h = refl
-runs-report (command.Trace from to router packet changes) report h = refl
+runs-report (command.Trace from to router packet verdicts changes) report h = refl
 runs-report command.Check report h = cc
 runs-report command.Ranks report h = cc
 
@@ -32,7 +32,7 @@ cycles-report : (x : Command) (report : Report) (s : Settings) → report_of x �
 cycles-report command.Joined report s h = refl
 cycles-report (command.Run workers other drain) report s h = refl
 cycles-report (command.Explain cycle router) report s h = cc
-cycles-report (command.Trace from to router packet changes) report s h = cc
+cycles-report (command.Trace from to router packet verdicts changes) report s h = cc
 cycles-report command.Check report s h = cc
 cycles-report command.Ranks report s h = cc
 
@@ -63,7 +63,7 @@ one-worker : (x : Command) → is_joined x ≡ true → 1 ≡ workers_of x
 one-worker command.Joined h = refl
 one-worker (command.Run workers report drain) h = absurd (false≢true h)
 one-worker (command.Explain cycle router) h = refl
-one-worker (command.Trace from to router packet changes) h = refl
+one-worker (command.Trace from to router packet verdicts changes) h = refl
 one-worker command.Check h = refl
 one-worker command.Ranks h = refl
 

@@ -5,7 +5,7 @@ use Rattle.std.specs.declared.alloc.Global.{Global}
 use Rattle.noc_files.specs.Gives.{◌>>=◌, result_map}
 use Rattle.noc_files.specs.Joined.{SplitsAt}
 use Rattle.noc_files.specs.declared.fault.InputFault.{InputFault}
-use Rattle.noc_files.specs.declared.fault.InputFault.TheVariants.{Memory, ReadFailed}
+use Rattle.noc_files.specs.declared.fault.InputFault.TheVariants.{Memory}
 use Rattle.noc_commands.specs.declared.command.Command.{Command}
 use Rattle.noc_commands.specs.declared.command.Command.TheVariants.{Joined}
 use Rattle.noc_answers.specs.declared.request.Files.{Files}
@@ -38,11 +38,6 @@ owned_text text = result_map (λ v. v.items) text
 abbrev pub lent_text : Result (Bor (List ℕ)) InputFault → TextValue
 lent_text text = result_map (λ b. b.now) text
 
--- a text that may be given, which is not read where it is not
-abbrev pub given_text : Option (Result (Vec ℕ Global) InputFault) → TextValue
-given_text None = Err ReadFailed
-given_text (Some text) = owned_text text
-
 -- files as the code hands them on
 abbrev pub lent_files : Files → Asked
 lent_files files =
@@ -51,7 +46,7 @@ lent_files files =
 -- the files of a request as they stand
 abbrev pub files_of : Request → Asked
 files_of r =
-    record { config = owned_text r.config; table = option_map owned_text r.table; ranks = option_map owned_text r.ranks; traffic = given_text r.traffic; command = r.command }
+    record { config = owned_text r.config; table = option_map owned_text r.table; ranks = option_map owned_text r.ranks; traffic = owned_text r.traffic; command = r.command }
 
 -- the two texts of a joined text
 abbrev pub parts : List ℕ → List ℕ → Asked

@@ -20,7 +20,7 @@ table_fault name has_table = if has_table && not (is_table name) then Some Spare
 
 -- the command that traces this in the cycles between these
 abbrev pub trace_of : Option ℕ → Option ℕ → Traced → Command
-trace_of from to traced = Trace from to traced.router traced.packet traced.changes
+trace_of from to traced = Trace from to traced.router traced.packet traced.verdicts traced.changes
 
 -- the cycles between which a trace is: from the first to the last of the configuration, where they are not given
 abbrev pub first_cycle : Option ℕ → ℕ
@@ -36,7 +36,7 @@ is_bad_span first last cycles = nat_le cycles first || nat_le cycles last || nat
 -- a cycle to be explained, or a span to be traced, that the run does not have
 abbrev pub cycle_fault : Command → ℕ → Option OptionFault
 cycle_fault (Explain cycle router) cycles = if nat_le cycles cycle then Some BadCycle else None
-cycle_fault (Trace from to router packet changes) cycles = if is_bad_span (first_cycle from) (last_cycle to cycles) cycles then Some BadCycle else None
+cycle_fault (Trace from to router packet verdicts changes) cycles = if is_bad_span (first_cycle from) (last_cycle to cycles) cycles then Some BadCycle else None
 cycle_fault _ cycles = None
 
 abbrev pub or_option_fault : Option OptionFault → Option OptionFault → Option OptionFault
@@ -56,7 +56,7 @@ router_fault g (Some router) = if nat_le (nodes g) router then Some BadRouter el
 abbrev pub late_fault : Command → Grid → Option OptionFault
 late_fault (Run workers report drain) g = if nat_lt (nodes g) workers then Some BadWorkers else None
 late_fault (Explain cycle router) g = router_fault g (Some router)
-late_fault (Trace from to router packet changes) g = router_fault g router
+late_fault (Trace from to router packet verdicts changes) g = router_fault g router
 late_fault _ g = None
 
 -- a packet to be traced that is not among so many
@@ -66,5 +66,5 @@ number_fault packets (Some packet) = if nat_le packets packet then Some BadPacke
 
 -- the fault of the options that is looked for once the packets are known
 abbrev pub packet_option_fault : Command → ℕ → Option OptionFault
-packet_option_fault (Trace from to router packet changes) packets = number_fault packets packet
+packet_option_fault (Trace from to router packet verdicts changes) packets = number_fault packets packet
 packet_option_fault _ packets = None

@@ -33,7 +33,7 @@ report_of _ = None
 -- how many cycles are run at least: those of the configuration, or up to the one that is to be explained, or traced last
 abbrev pub cycles_asked : Command → Settings → ℕ
 cycles_asked (command.Explain cycle router) s = cycle + 1
-cycles_asked (command.Trace from to router packet changes) s = last_cycle to s.cycles + 1
+cycles_asked (command.Trace from to router packet verdicts changes) s = last_cycle to s.cycles + 1
 cycles_asked _ s = s.cycles
 
 -- whether a command runs on until every packet is out
@@ -41,10 +41,10 @@ abbrev pub runs_until_out : Command → Bool
 runs_until_out (command.Run workers report drain) = drain
 runs_until_out _ = false
 
--- the network of a relation, of buffers with these places, and of a traffic text
-pub record IsNetworkOf (routes : Routes) (places : ℕ) (traffic : TextValue) (net : Setup) : Type 0 where
+-- the network of a relation, of buffers of this depth, and of a traffic text
+pub record IsNetworkOf (routes : Routes) (depth : ℕ) (traffic : TextValue) (net : Setup) : Type 0 where
   pub relation : net.relation ≡ routes
-  pub places_are : net.places ≡ places
+  pub depth_is : net.depth ≡ depth
   pub packets : read_by traffic_of traffic ≡ Ok net.packets
   pub sound : fault_of routes net.packets ≡ None
   pub good : IsGoodSetup net

@@ -27,8 +27,8 @@ use std::thread::Threads;
 ///
 /// A `run` with a rank file that ends without a fault is done, and never stuck. Where it is to drain, every packet has arrived.
 ///
-/// A `run` by two or more workers starts threads only where the network does not fit rows (`Network::fits_rows`). Workers change
-/// no report.
+/// A `run` by two or more workers starts threads only where the network does not run by rows (`Network::runs_by_rows`). Workers
+/// change no report.
 pub fn answer<R: Threads + Wait + Sync, W: Sink>(
     rt: &R,
     alloc: Global,
@@ -114,11 +114,13 @@ fn answer_files<W: Sink>(
             to,
             router,
             packet,
+            verdicts,
             changes,
         } => {
             let traced = Traced {
                 router,
                 packet,
+                verdicts,
                 changes,
             };
             trace(rt, alloc, files, from, to, traced, sink)

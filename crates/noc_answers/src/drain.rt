@@ -1,8 +1,10 @@
 //! Running a network for its cycles, and on until every packet is out.
 
-ghost use Rattle.std.specs.Prelude.{◌≡◌, ◌≢◌, ◌+◌, ◌<◌, ◌≤◌, IfErr, IfOk};
+ghost use Rattle.std.specs.Prelude.{◌≡◌, ◌≢◌, ℕ, ◌+◌, ◌*◌, ◌<◌, ◌≤◌, max, true, IfErr, IfOk};
 ghost use Rattle.noc_tiles.specs.declared.fault.RunFault.TheVariants.{LostWorker};
 ghost use Rattle.noc_answers.specs.Drain.{RunsTo};
+ghost use Rattle.noc_theory.specs.Network.{state_at};
+ghost use Rattle.noc_theory.specs.Progress.{events};
 ghost use Rattle.noc_theory.specs.declared.limits.TheConstants.{CYCLE_LIMIT};
 ghost use Rattle.noc_tiles.specs.declared.limits.TheConstants.{MAX_WORKERS};
 
@@ -31,9 +33,53 @@ pub(crate) fn run_on(network: &mut Network, drain: bool)
     }
     let limit = network.limit();
     while network.count() < limit && !network.all_out() {
-        let cycles = DRAIN_CHECK_INTERVAL.min(limit - network.count());
+        let left = limit - network.count();
+        let quiet = unchanged_cycles(network, left);
+        let cycles = to_next_look(quiet).min(left);
         network.run(cycles);
     }
+}
+
+// How many of the next cycles, at most `most`, are known to leave the state as it is: after a cycle
+// without an event those before a packet becomes due, and else none.
+fn unchanged_cycles(network: &Network, most: u64) -> u64
+    ensures within { result ≤ most }
+    ensures same { (k : ℕ) → k ≤ result → state_at network.now.net (network.now.count + k)
+        ≡ state_at network.now.net network.now.count }
+{
+    if !was_quiet(network) {
+        return 0;
+    }
+    let count = network.count();
+    let mut quiet = most;
+    for number in 0..network.packets() {
+        let due = u64::from(network.packet(number).due);
+        if count <= due {
+            quiet = quiet.min(due - count);
+        }
+    }
+    quiet
+}
+
+// Whether the last cycle had no event.
+fn was_quiet(network: &Network) -> bool
+    ensures { result ≡ true → (n : ℕ) × (network.now.count ≡ n + 1)
+        × (events network.now.net n (state_at network.now.net n) ≡ 0) }
+{
+    match network.count().checked_sub(1) {
+        Some(last) => network.last_event() != Some(last),
+        None => false,
+    }
+}
+
+// How many cycles it is to the first of the later looks that is at least so many cycles away.
+fn to_next_look(cycles: u64) -> u64
+    requires { cycles ≤ CYCLE_LIMIT }
+    ensures look { (k : ℕ) × (result ≡ (k + 1) * DRAIN_CHECK_INTERVAL)
+        × (k * DRAIN_CHECK_INTERVAL < max cycles 1) }
+    ensures enough { cycles ≤ result }
+{
+    cycles.max(1).next_multiple_of(DRAIN_CHECK_INTERVAL)
 }
 
 // Runs so many cycles of a network by two or more workers, stretch by stretch.
@@ -58,8 +104,8 @@ pub(crate) fn run_stretches<R: Threads + Wait + Sync>(
     Ok(network)
 }
 
-// Runs a stretch of cycles by workers. The caller runs it alone, and no thread is started, where the network fits rows, since
-// one thread runs rows faster than several run routers, and where nothing happened in the last cycle, since its time jumps.
+// Runs a stretch of cycles by workers. The caller runs it alone, and no thread is started, where the network runs by rows,
+// since one thread runs rows faster than several run routers, and where nothing happened in the last cycle, since its time jumps.
 fn run_stretch<R: Threads + Wait + Sync>(
     rt: &R,
     alloc: Global,
@@ -72,8 +118,7 @@ fn run_stretch<R: Threads + Wait + Sync>(
     ensures net { IfOk result (λ n. n ≡ record network { count = network.count + cycles }) }
     ensures lost { IfErr result (λ e. e ≢ LostWorker) }
 {
-    let count = network.count();
-    if network.fits_rows() || (0 < count && network.last_event() != Some(count - 1)) {
+    if network.runs_by_rows() || was_quiet(&network) {
         network.run(cycles);
         Ok(network)
     } else {

@@ -12,13 +12,14 @@ pub type Text = Result<Vec<u8>, InputFault>;
 // The bytes of one file, lent, or the fault of reading it.
 pub(crate) type Bytes<'a> = Result<&'a [u8], InputFault>;
 
-/// A command with the texts of its files: the configuration, or a joined text; a routing table; ranks; traffic.
+/// A command with the texts of its files: the configuration, or a joined text; a routing table; ranks; traffic. A command that looks
+/// at no traffic takes any text there.
 #[derive(Drop)]
 pub struct Request {
     pub config: Text,
     pub table: Option<Text>,
     pub ranks: Option<Text>,
-    pub traffic: Option<Text>,
+    pub traffic: Text,
     pub command: Command,
 }
 
@@ -32,19 +33,15 @@ pub(crate) struct Files<'a> {
     pub(crate) command: Command,
 }
 
-// The texts of a request as they stand. A traffic text that is not given is not read.
+// The texts of a request as they stand.
 pub(crate) fn files_of(request: &Request) -> Files<'_>
     ensures { lent_files result ≡ files_of request.now }
 {
-    let traffic = match &request.traffic {
-        Some(text) => bytes_of(text),
-        None => Err(InputFault::ReadFailed),
-    };
     Files {
         config: bytes_of(&request.config),
         table: request.table.as_ref().map(bytes_of),
         ranks: request.ranks.as_ref().map(bytes_of),
-        traffic,
+        traffic: bytes_of(&request.traffic),
         command: request.command,
     }
 }

@@ -89,24 +89,24 @@ pub(crate) fn opening_network(
     Ok((network, config.cycles))
 }
 
-// The network of a relation and a traffic text, before its first cycle, with `places` (1 to 16 flits) in each buffer.
+// The network of a relation and a traffic text, before its first cycle, with buffers of `depth` (1 to 16) flits.
 fn network_of(
     alloc: Global,
     relation: Relation,
-    places: usize,
+    depth: usize,
     traffic: Bytes<'_>,
 ) -> Result<Network, Fault>
-    requires some_place { 0 < places }
-    requires places { places ≤ MAX_BUFFER }
+    requires some_depth { 0 < depth }
+    requires depth { depth ≤ MAX_BUFFER }
     ensures opening { IfOk result (λ n. n.count ≡ 0) }
-    ensures network { IfOk result (λ n. IsNetworkOf relation places (lent_text traffic.entry) n.net) }
+    ensures network { IfOk result (λ n. IsNetworkOf relation depth (lent_text traffic.entry) n.net) }
     ensures fault { IfErr result (Refuses (PacketsFault relation (lent_text traffic.entry))) }
 {
     let packets = match packets_in(alloc, traffic) {
         Ok(packets) => packets,
         Err(fault) => return Err(Fault::Traffic(fault)),
     };
-    match Network::new(alloc, relation, places, packets) {
+    match Network::new(alloc, relation, depth, packets) {
         Ok(network) => Ok(network),
         Err(fault) => Err(Fault::Network(fault)),
     }

@@ -1,12 +1,13 @@
 //! The commands of the program.
 
 use crate::report::Report;
+use crate::verdicts::VerdictSet;
 
 /// The most workers of a run, which noc_tiles has too.
 pub const MAX_WORKERS: usize = 16;
 
 /// What is asked for.
-#[derive(Clone, Copy)]
+#[derive(Clone, Copy, Debug, PartialEq, Eq)]
 pub enum Command {
     /// The latency report of a joined text.
     Joined,
@@ -32,6 +33,8 @@ pub enum Command {
         router: Option<usize>,
         /// Those that hold this packet, or all.
         packet: Option<u64>,
+        /// The lines with these verdicts, or all.
+        verdicts: Option<VerdictSet>,
         /// Only what is another thing than was told of the channel in the cycle before.
         changes: bool,
     },

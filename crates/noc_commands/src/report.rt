@@ -4,7 +4,7 @@ ghost use Rattle.std.specs.Prelude.{◌≡◌, ◌≢◌, All, IfNone, IfSome};
 ghost use Rattle.noc_commands.specs.Reports.{report_words, word_of};
 
 /// The reports of a run.
-#[derive(Clone, Copy)]
+#[derive(Clone, Copy, Debug, PartialEq, Eq)]
 pub enum Report {
     /// Sums over all packets and channels.
     Summary,

@@ -5,9 +5,11 @@ use Rattle.std.specs.List.{sum_by}
 use Rattle.std.proofs.lemmas.List.{get_or-set_same, get_or_read}
 use Rattle.std.proofs.lemmas.List.Sums.{sum_by_more}
 use Rattle.noc_packet.specs.Set.{has_bit}
-use Rattle.noc_counts.specs.Counts.{one_at, one_if}
+use Rattle.noc_counts.specs.Counts.{one_at}
+use Rattle.noc_topo.specs.Lists.{one_if}
 use Rattle.noc_counts.specs.Digits.{added_at}
 use Rattle.noc_counts.specs.declared.digit.Digit.{Digit}
+use Rattle.noc_topo.proofs.ListLemmas.{one-small}
 
 -- a set that is read
 pub one-read : (sets : List ℕ) (j set k : ℕ) → j < length sets → set ≡ get_or sets j set → one_at sets j k ≡ one_if (has_bit (get_or sets j set) k)
@@ -16,11 +18,6 @@ one-read sets j set k l is = ap (λ s. one_if (has_bit s k)) (sym (get_or_read s
 -- a set that is written
 pub one-written : (sets : List ℕ) (j new k : ℕ) → j < length sets → one_at (set sets j new) j k ≡ one_if (has_bit new k)
 one-written sets j new k l = ap (λ s. one_if (has_bit s k)) (get_or-set_same sets j new 0 l)
-
--- at most one
-pub one-small : (b : Bool) → one_if b ≤ 1
-one-small true = omega arith
-one-small false = omega arith
 
 -- three bits added
 pub full-sum : (a b c two either one more both least most : Bool) → two ≡ (a && b) → either ≡ (a || b) → one ≡ (not two && either) → more ≡ (one && c) → both ≡ (one || c) → least ≡ (not more && both)

@@ -6,10 +6,9 @@ use Rattle.std.proofs.lemmas.Bool.{cases_eq}
 use Rattle.std.proofs.lemmas.List.{get_or-replicate, get_or-set_other, get_or-set_same, length-replicate, length-set}
 use Rattle.noc_packet.specs.Set.{has_bit}
 use Rattle.noc_packet.specs.declared.limits.TheConstants.{INDICES}
-use Rattle.noc_topo.proofs.WordLemmas.{get_or-map_indexed, length-map_indexed, map_indexed-from_each}
+use Rattle.noc_topo.proofs.ListLemmas.{get_or-map_indexed, length-map_indexed, map_indexed-from_each, one-small}
 use Rattle.noc_counts.specs.Counts.{HaveRoom, with_sets, counts_with, one_at, row_with}
 use Rattle.noc_counts.specs.Digits.{AreRows, carried_at}
-use Rattle.noc_counts.proofs.DigitLemmas.{one-small}
 
 -- ---- more in each count
 pub length-row : (f : ℕ → ℕ) (row : List ℕ) → length (row_with f row) ≡ length row

@@ -1,11 +1,7 @@
 -- In how many cycles each channel was in the set of each kind.
-use Rattle.std.specs.Prelude.{ℕ, ◌+◌, ◌*◌, ◌^◌, ◌<◌, Bool, List, [], length, slice_index, slice_index_or, if◌then◌else◌}
+use Rattle.std.specs.Prelude.{ℕ, ◌+◌, ◌*◌, ◌^◌, ◌<◌, List, [], length, slice_index, slice_index_or}
 use Rattle.noc_packet.specs.Set.{has_bit}
-use Rattle.noc_topo.specs.Words.{map_indexed}
-
--- 1 where it is true
-abbrev pub one_if : Bool → ℕ
-one_if b = if b then 1 else 0
+use Rattle.noc_topo.specs.Lists.{map_indexed, one_if}
 
 -- 1 where channel k is in the set of kind j
 abbrev pub one_at : List ℕ → ℕ → ℕ → ℕ

@@ -3,7 +3,8 @@
 ghost use Rattle.std.specs.Prelude.{◌≡◌, ℕ, ◌+◌, ◌*◌, ◌<◌, ◌≤◌};
 ghost use Rattle.noc_packet.specs.Set.{has_bit};
 ghost use Rattle.noc_packet.specs.declared.limits.TheConstants.{INDICES};
-ghost use Rattle.noc_counts.specs.Counts.{one_at, one_if};
+ghost use Rattle.noc_counts.specs.Counts.{one_at};
+ghost use Rattle.noc_topo.specs.Lists.{one_if};
 
 use noc_packet::{ChannelSet, INDICES};
 

@@ -23,7 +23,8 @@ pub(crate) struct Bits<const KINDS: usize> {
 
 impl<const KINDS: usize> Bits<KINDS> {
     ghost use Rattle.std.specs.Prelude.{sum_by, take};
-    ghost use Rattle.noc_counts.specs.Counts.{one_at, one_if};
+    ghost use Rattle.noc_counts.specs.Counts.{one_at};
+    ghost use Rattle.noc_topo.specs.Lists.{one_if};
     ghost use Rattle.noc_counts.specs.Digits.{added_at};
 
     // The sets of seven cycles and one more set are added to the numbers of one kind. The answer is the channels whose

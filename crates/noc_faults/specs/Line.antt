@@ -13,7 +13,7 @@ use Rattle.noc_net.specs.declared.fault.NetFault.TheVariants as net
 use Rattle.noc_rank.specs.Faults.{step_of}
 use Rattle.noc_rank.specs.declared.fault.RankFault.{RankFault}
 use Rattle.noc_rank.specs.declared.fault.RankFault.TheVariants as rank
-use Rattle.noc_rank.specs.declared.place.LinkChannel.{LinkChannel}
+use Rattle.noc_rank.specs.declared.channel.LinkChannel.{LinkChannel}
 use Rattle.noc_route.specs.declared.rule.Entry.{Entry}
 use Rattle.noc_route.specs.declared.rule.RouteFault.{RouteFault}
 use Rattle.noc_route.specs.declared.rule.RouteFault.TheVariants as route

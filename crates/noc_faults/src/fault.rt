@@ -11,7 +11,7 @@ use noc_tiles::RunFault;
 use noc_topo::{Shape, ShapeFault};
 
 /// A fault of the options.
-#[derive(Clone, Copy)]
+#[derive(Clone, Copy, Debug, PartialEq, Eq)]
 pub enum OptionFault {
     /// A cycle that is to be explained or traced is not one of the run, or a span ends before it begins.
     BadCycle,
@@ -28,7 +28,7 @@ pub enum OptionFault {
 }
 
 /// The first fault of a request, by family (docs/FORMATS.md, "Fault lines").
-#[derive(Clone, Copy)]
+#[derive(Clone, Copy, Debug)]
 pub enum Fault {
     Joined(InputFault),
     Config(InputFault),

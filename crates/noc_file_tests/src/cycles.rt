@@ -4,7 +4,7 @@ ghost use Rattle.std.specs.Prelude.{◌≡◌};
 
 use noc_fixtures::{line_of_two, packet};
 use noc_net::Network;
-use noc_router::Verdict;
+use noc_view::Verdict;
 use std::process::Abort;
 use std::test::Fail;
 

@@ -1,6 +1,6 @@
 //! Reports of worked networks, byte by byte.
 
-use crate::texts::{assert_report, report_of};
+use crate::texts::{LINE_OF_THREE_STALLS, assert_report, report_of};
 use noc_commands::Report;
 use noc_files::{Out, read_table, write_findings};
 use noc_fixtures::{
@@ -103,17 +103,7 @@ fn two_packets_to_one_node(rt: HostRuntime) -> Result<(), Fail> {
 1,1,2,0,1,0,5,5
 ";
     assert_report(&rt, &network, Report::Latency, report);
-    let report =
-        b"router,port,vc,empty,routed,granted,moved,no_flit,no_idle_channel,lost_channel,no_credit,lost_input,lost_switch
-0,+0,0,20,0,0,0,0,0,0,0,0,0
-0,local,0,17,1,1,1,0,0,0,0,0,0
-1,+0,0,20,0,0,0,0,0,0,0,0,0
-1,-0,0,15,1,1,1,0,2,0,0,0,0
-1,local,0,17,1,1,1,0,0,0,0,0,0
-2,-0,0,14,2,2,2,0,0,0,0,0,0
-2,local,0,20,0,0,0,0,0,0,0,0,0
-";
-    assert_report(&rt, &network, Report::Stalls, report);
+    assert_report(&rt, &network, Report::Stalls, LINE_OF_THREE_STALLS);
     Ok(())
 }
 

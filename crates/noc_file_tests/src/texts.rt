@@ -6,6 +6,18 @@ use noc_net::Network;
 use std::alloc::{AllocError, Global};
 use std::process::Abort;
 
+// The stall report of two packets to the end of a line of three nodes, after twenty cycles.
+pub(crate) const LINE_OF_THREE_STALLS: &[u8] =
+    b"router,port,vc,empty,routed,granted,moved,no_flit,no_idle_channel,lost_channel,no_credit,lost_input,lost_switch
+0,+0,0,20,0,0,0,0,0,0,0,0,0
+0,local,0,17,1,1,1,0,0,0,0,0,0
+1,+0,0,20,0,0,0,0,0,0,0,0,0
+1,-0,0,15,1,1,1,0,2,0,0,0,0
+1,local,0,17,1,1,1,0,0,0,0,0,0
+2,-0,0,14,2,2,2,0,0,0,0,0,0
+2,local,0,20,0,0,0,0,0,0,0,0,0
+";
+
 // A report of a network.
 pub(crate) fn report_of(
     rt: &(impl AllocGlobal + Abort),

@@ -7,18 +7,18 @@ use Rattle.std.specs.Option.{ok_or}
 use Rattle.std.specs.Str.{is_utf8}
 use Rattle.toml.specs.Data.{Data, Items, no_items, item, Members, as_array, as_integer, as_str, array, get_member, integer, string}
 use Rattle.toml.specs.Parse.{parse_document}
-use Rattle.noc_topo.specs.Words.{Each}
+use Rattle.noc_topo.specs.Lists.{Each}
 use Rattle.noc_topo.specs.declared.shape.Kind.{Kind}
-use Rattle.noc_route.specs.Names.{rule_of, rule_word}
+use Rattle.noc_route.specs.Names.{rule_of, rule_name}
 use Rattle.noc_route.specs.declared.rule.RuleName.{RuleName}
-use Rattle.noc_route.proofs.NameLemmas.{rule-of_word}
+use Rattle.noc_route.proofs.NameLemmas.{rule-of_name}
 use Rattle.noc_files.specs.declared.fault.InputFault.{InputFault}
 use Rattle.noc_files.specs.declared.fault.InputFault.TheVariants.{BadToml, BadValue, MissingKey, UnknownKey, WrongType}
 use Rattle.noc_files.specs.declared.fault.Key.{Key}
 use Rattle.noc_files.specs.declared.fault.Key.TheVariants as key
 use Rattle.noc_files.specs.declared.configuration.TheConstants.{MAX_CYCLES}
 use Rattle.noc_packet.specs.declared.limits.TheConstants.{MAX_BUFFER, MAX_CHANNELS, MAX_CLASSES}
-use Rattle.noc_files.specs.Configuration.{AreIntegers, HasAllowed, HasBadKey, HasValue, IsAllowed, IsConfigurationFault, IsDocument, IsIntegerIn, IsKeyFault, IsNoDocument, IsOfType, Settings, all_integers, all_known, config_at, config_of, document_of, integers, kind_at, kind_of, kind_word, lengths_of, number_in, radix_at, rule_setting, typed_at, within}
+use Rattle.noc_files.specs.Configuration.{AreIntegers, HasAllowed, HasBadKey, HasValue, IsAllowed, IsConfigurationFault, IsDocument, IsIntegerIn, IsKeyFault, IsNoDocument, IsOfType, Settings, all_integers, all_known, config_at, config_of, document_of, integers, kind_at, kind_of, kind_name, lengths_of, number_in, radix_at, rule_setting, typed_at, within}
 use Rattle.noc_files.specs.Gives.{◌>>=◌}
 use Rattle.noc_files.specs.Keys.{key_name}
 use Rattle.noc_files.proofs.ConfigurationLemmas.{are_keys, are_lengths, array_is, document_is, integer_is, is_kind, is_within, keys_are, kind_at_is, number_is, radix_is, rule_at_is, string_is, typed_is}
@@ -59,7 +59,7 @@ kind_fault ms fault e =
             value = string found.0;
             there = typed_is as_str string string_is key.Kind ms found.0 found.1;
             of_type = (found.0, refl);
-            not_allowed = λ h. let same : found.0 ≡ kind_word h.0 = cc in none-some h.0 (sym none.0 ∙ ap kind_of same ∙ is_kind h.0);
+            not_allowed = λ h. let same : found.0 ≡ kind_name h.0 = cc in none-some h.0 (sym none.0 ∙ ap kind_of same ∙ is_kind h.0);
             fault_is = none.1;
           }))
     ]
@@ -74,7 +74,7 @@ rule_fault ms fault e =
             value = string found.0;
             there = typed_is as_str string string_is key.Rule ms found.0 found.1;
             of_type = (found.0, refl);
-            not_allowed = λ h. let same : found.0 ≡ rule_word h.0 = cc in none-some h.0 (sym none.0 ∙ ap rule_of same ∙ rule-of_word h.0);
+            not_allowed = λ h. let same : found.0 ≡ rule_name h.0 = cc in none-some h.0 (sym none.0 ∙ ap rule_of same ∙ rule-of_name h.0);
             fault_is = none.1;
           }))
     ]
@@ -139,10 +139,10 @@ radix_fault ms fault e =
 -- ---- a key without a fault
 
 kind_good : (ms : Members) (k : Kind) → kind_at ms ≡ Ok k → HasAllowed ms key.Kind
-kind_good ms k e = (string (kind_word k), kind_at_is ms k e, (k, refl))
+kind_good ms k e = (string (kind_name k), kind_at_is ms k e, (k, refl))
 
 rule_good : (ms : Members) (r : RuleName) → rule_setting ms ≡ Ok r → HasAllowed ms key.Rule
-rule_good ms r e = (string (rule_word r), rule_at_is ms r e, (r, refl))
+rule_good ms r e = (string (rule_name r), rule_at_is ms r e, (r, refl))
 
 radix_good : (ms : Members) (ns : List ℕ) → radix_at ms ≡ Ok ns → HasAllowed ms key.Radix
 radix_good ms ns e = let sizes = radix_is ms ns e in (array (integers ns), sizes.0, (ns, refl, sizes.1))
@@ -157,12 +157,12 @@ lengths_are_integers [] = tt
 lengths_are_integers (n ∷ ns) = ((pos n, refl), lengths_are_integers ns)
 
 allowed_of_type : (k : Key) (d : Data) → IsAllowed k d → IsOfType k d
-allowed_of_type key.Kind d h = (kind_word h.0, h.1)
+allowed_of_type key.Kind d h = (kind_name h.0, h.1)
 allowed_of_type key.Radix d h = (integers h.0, h.1, lengths_are_integers h.0)
 allowed_of_type key.Channels d h = (pos h.0, h.1)
 allowed_of_type key.Buffer d h = (pos h.0, h.1)
 allowed_of_type key.Classes d h = (pos h.0, h.1)
-allowed_of_type key.Rule d h = (rule_word h.0, h.1)
+allowed_of_type key.Rule d h = (rule_name h.0, h.1)
 allowed_of_type key.Cycles d h = (pos h.0, h.1)
 
 same_value : (ms : Members) (k : Key) (a b : Data) → HasValue ms k a → HasValue ms k b → a ≡ b

@@ -9,17 +9,17 @@ use Rattle.std.specs.Option.{ok_or}
 use Rattle.std.specs.Str.{IsUtf8, bytes_eq, is_utf8}
 use Rattle.toml.specs.Data.{Data, Items, no_items, item, Members, no_members, member, as_array, as_integer, as_str, array, get_member, integer, string}
 use Rattle.toml.specs.Parse.{parse_document}
-use Rattle.noc_topo.specs.Words.{Each}
+use Rattle.noc_topo.specs.Lists.{Each}
 use Rattle.noc_topo.specs.declared.shape.Kind.{Kind}
 use Rattle.noc_topo.specs.declared.shape.Kind.TheVariants.{Mesh, Torus}
-use Rattle.noc_route.specs.Names.{rule_of, rule_word}
+use Rattle.noc_route.specs.Names.{rule_of, rule_name}
 use Rattle.noc_route.specs.declared.rule.RuleName.{RuleName}
-use Rattle.noc_route.proofs.NameLemmas.{word-of_rule, rule-of_word}
+use Rattle.noc_route.proofs.NameLemmas.{name-of_rule, rule-of_name}
 use Rattle.noc_files.specs.declared.fault.InputFault.{InputFault}
 use Rattle.noc_files.specs.declared.fault.InputFault.TheVariants.{BadToml, BadValue, MissingKey, UnknownKey, WrongType}
 use Rattle.noc_files.specs.declared.fault.Key.{Key}
 use Rattle.noc_files.specs.declared.fault.Key.TheVariants as key
-use Rattle.noc_files.specs.Configuration.{HasKnownKeys, HasNumber, HasValue, IsConfiguration, Settings, all_integers, all_known, config_at, config_of, document_of, integers, is_key, kind_at, kind_of, kind_word, lengths_of, number_in, radix_at, rule_setting, typed_at, within}
+use Rattle.noc_files.specs.Configuration.{HasKnownKeys, HasNumber, HasValue, IsConfiguration, Settings, all_integers, all_known, config_at, config_of, document_of, integers, is_key, kind_at, kind_of, kind_name, lengths_of, number_in, radix_at, rule_setting, typed_at, within}
 use Rattle.noc_files.specs.declared.configuration.TheConstants.{MAX_CYCLES}
 use Rattle.noc_packet.specs.declared.limits.TheConstants.{MAX_BUFFER, MAX_CHANNELS, MAX_CLASSES}
 use Rattle.noc_files.specs.Keys.{key_name}
@@ -50,15 +50,15 @@ typed_is as_type of_type back k ms x e =
 
 -- ---- words
 
-kind_is : (w : List ℕ) (k : Kind) → kind_of w ≡ Some k → w ≡ kind_word k
+kind_is : (w : List ℕ) (k : Kind) → kind_of w ≡ Some k → w ≡ kind_name k
 kind_is w k e = by (bytes_eq w (codes "mesh")) refl (bytes_eq w (codes "torus")) refl
   where
-    by : (a : Bool) → bytes_eq w (codes "mesh") ≡ a → (b : Bool) → bytes_eq w (codes "torus") ≡ b → w ≡ kind_word k
+    by : (a : Bool) → bytes_eq w (codes "mesh") ≡ a → (b : Bool) → bytes_eq w (codes "torus") ≡ b → w ≡ kind_name k
     by true is b other = let one : Some Mesh ≡ Some k = rw is at e in rw (← same_Some Mesh k one) (same_text w (codes "mesh") (sym is))
     by false not_so true is = let one : Some Torus ≡ Some k = rw (not_so, is) at e in rw (← same_Some Torus k one) (same_text w (codes "torus") (sym is))
     by false not_so false none = let one : None ≡ Some k = rw (not_so, none) at e in absurd (none-some k one)
 
-pub is_kind : (k : Kind) → kind_of (kind_word k) ≡ Some k
+pub is_kind : (k : Kind) → kind_of (kind_name k) ≡ Some k
 is_kind Mesh = refl
 is_kind Torus = refl
 
@@ -174,25 +174,25 @@ are_keys (member text d ms) h = rw (h.0.1, is_key_name h.0.0, are_keys ms h.1)
 
 -- ---- the whole
 
-pub kind_at_is : (ms : Members) (k : Kind) → kind_at ms ≡ Ok k → HasValue ms key.Kind (string (kind_word k))
+pub kind_at_is : (ms : Members) (k : Kind) → kind_at ms ≡ Ok k → HasValue ms key.Kind (string (kind_name k))
 unfolding kind_at
 kind_at_is ms k e =
     let first = bind_ok (typed_at as_str key.Kind ms) (λ w. ok_or (kind_of w) (BadValue key.Kind)) k e in
     rw (← kind_is first.0 k (found_in (kind_of first.0) (BadValue key.Kind) k first.2)) (typed_is as_str string string_is key.Kind ms first.0 first.1)
 
-is_kind_at : (ms : Members) (k : Kind) → HasValue ms key.Kind (string (kind_word k)) → kind_at ms ≡ Ok k
+is_kind_at : (ms : Members) (k : Kind) → HasValue ms key.Kind (string (kind_name k)) → kind_at ms ≡ Ok k
 unfolding kind_at
 is_kind_at ms k value = rw value (rw (is_kind k))
 
-pub rule_at_is : (ms : Members) (r : RuleName) → rule_setting ms ≡ Ok r → HasValue ms key.Rule (string (rule_word r))
+pub rule_at_is : (ms : Members) (r : RuleName) → rule_setting ms ≡ Ok r → HasValue ms key.Rule (string (rule_name r))
 unfolding rule_setting
 rule_at_is ms r e =
     let first = bind_ok (typed_at as_str key.Rule ms) (λ w. ok_or (rule_of w) (BadValue key.Rule)) r e in
-    rw (← word-of_rule first.0 r (found_in (rule_of first.0) (BadValue key.Rule) r first.2)) (typed_is as_str string string_is key.Rule ms first.0 first.1)
+    rw (← name-of_rule first.0 r (found_in (rule_of first.0) (BadValue key.Rule) r first.2)) (typed_is as_str string string_is key.Rule ms first.0 first.1)
 
-is_rule_at : (ms : Members) (r : RuleName) → HasValue ms key.Rule (string (rule_word r)) → rule_setting ms ≡ Ok r
+is_rule_at : (ms : Members) (r : RuleName) → HasValue ms key.Rule (string (rule_name r)) → rule_setting ms ≡ Ok r
 unfolding rule_setting
-is_rule_at ms r value = rw value (rw (rule-of_word r))
+is_rule_at ms r value = rw value (rw (rule-of_name r))
 
 pub document_is : (text : List ℕ) (ms : Members) → document_of text ≡ Ok ms → IsUtf8 text × (parse_document text ≡ Some ms)
 document_is text ms e = by (is_utf8 text) refl

@@ -1,7 +1,7 @@
 -- Before its first cycle a router has found nothing.
 use Rattle.std.proofs.Common.{◌≡◌, ℕ, Bool, true, false, List, [], ◌∷◌, ◌++◌, flat_map, refl, ap, ◌∙◌, append-nil}
 use Rattle.noc_topo.specs.Shape.{ports}
-use Rattle.noc_topo.specs.Words.{below}
+use Rattle.noc_topo.specs.Lists.{below}
 use Rattle.noc_route.specs.Routes.{Routes}
 use Rattle.noc_theory.specs.Network.{Run}
 use Rattle.noc_theory.specs.Lockstep.{findings_before}

@@ -5,7 +5,7 @@ use Rattle.std.proofs.Math.Nat.{le-max_left, le-max_right, max-eq_left, max-eq_r
 use Rattle.std.proofs.Common.{arith}
 use Rattle.std.proofs.lemmas.Bool.{cases_lt}
 use Rattle.std.proofs.lemmas.Option.{none-some, same_Some}
-use Rattle.noc_topo.specs.Words.{Each, Has}
+use Rattle.noc_topo.specs.Lists.{Each, Has}
 use Rattle.noc_files.specs.Summary.{IsGreatest, greater_of, greatest_of}
 
 above : (ns : List ℕ) (a m : ℕ) → fold greater_of (Some a) ns ≡ Some m → (a ≤ m) × Each (λ n. n ≤ m) ns

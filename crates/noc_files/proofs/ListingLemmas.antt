@@ -11,7 +11,7 @@ use Rattle.noc_route.specs.Ranks.{Ranking, is_channel}
 use Rattle.noc_rank.specs.Ranking.{IsRanking}
 use Rattle.noc_rank.specs.declared.rows.RankRow.{RankRow}
 use Rattle.noc_topo.specs.Shape.{Grid, local_port, neighbour, nodes}
-use Rattle.noc_topo.specs.Words.{below, Each, Has, Pairs}
+use Rattle.noc_topo.specs.Lists.{below, Each, Has, Pairs}
 use Rattle.noc_files.specs.Plain.{IsPlain, IsPlainRow, plain_text, row_line}
 use Rattle.noc_files.specs.Ranks.{RowIsBefore, IsRankField, IsRankOf, ListsRanks, WritesRank, adaptive, rank_header, port_rows, rank_fields, rank_line, rank_row, rank_rows, rank_text, ranks_of, ranks_text, router_rows}
 use Rattle.noc_files.proofs.BelowLemmas.{each_more, each_split, later}

@@ -1,7 +1,7 @@
 -- Texts that are put together on a page.
 use Rattle.std.proofs.Common.{◌≡◌, ◌∙◌, ℕ, ◌+◌, ◌/◌, ◌%◌, ◌^◌, ◌<◌, ◌≤◌, List, arith, decimal, [], ◌∷◌, ◌++◌, flat_map, ap, sym, append_assoc, append-nil, Option, Some, None, refl}
 use Rattle.std.proofs.lemmas.Fmt.{decimal_digit, decimal_step}
-use Rattle.noc_topo.specs.Words.{below}
+use Rattle.noc_topo.specs.Lists.{below}
 use Rattle.noc_topo.specs.Shape.{Grid}
 use Rattle.noc_files.specs.Channels.{lines_listed, lines_of_router, page_router, router_pages}
 use Rattle.noc_files.proofs.BelowLemmas.{each_more}

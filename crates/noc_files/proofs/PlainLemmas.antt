@@ -8,7 +8,7 @@ use Rattle.csv.specs.Machine.{in_field, next_record, start_field, start_record}
 use Rattle.csv.specs.Reading.{default_config, records_from, strip_bom}
 use Rattle.csv.specs.declared.parser.Action.TheVariants as act
 use Rattle.csv.specs.declared.parser.State.TheVariants as st
-use Rattle.noc_topo.specs.Words.{Each}
+use Rattle.noc_topo.specs.Lists.{Each}
 use Rattle.noc_files.specs.Plain.{IsPlain, IsPlainRow, after_commas, plain_text, row_line}
 use Rattle.noc_files.specs.Rows.{Fields, text_rows}
 

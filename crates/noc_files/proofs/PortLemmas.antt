@@ -7,7 +7,7 @@ use Rattle.std.specs.Cmp.Lexicographic.{same_text}
 use Rattle.std.specs.List.{range_with_len}
 use Rattle.std.specs.Str.{bytes_eq}
 use Rattle.noc_topo.specs.Shape.{Grid, IsGrid, is_plus, local_port, ports}
-use Rattle.noc_topo.specs.Words.{Each, below}
+use Rattle.noc_topo.specs.Lists.{Each, below}
 use Rattle.noc_files.specs.Ports.{IsPortName, name_of_port, port_named, sign_of}
 use Rattle.noc_files.specs.Plain.{IsPlain}
 use Rattle.noc_files.proofs.NumeralLemmas.{plain_decimal}

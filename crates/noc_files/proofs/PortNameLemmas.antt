@@ -5,7 +5,7 @@ use Rattle.std.proofs.lemmas.Bool.Decides.{nat_tests}
 use Rattle.std.specs.Fmt.{digits}
 use Rattle.std.specs.List.{range_with_len}
 use Rattle.noc_topo.specs.Shape.{Grid, local_port, ports}
-use Rattle.noc_topo.specs.Words.{below}
+use Rattle.noc_topo.specs.Lists.{below}
 use Rattle.std.specs.Str.{bytes_eq}
 use Rattle.noc_files.specs.Ports.{name_of_port, port_named, sign_of}
 

@@ -7,7 +7,7 @@ use Rattle.std.specs.Prelude.{is_some}
 use Rattle.noc_route.specs.Ranks.{Ranking}
 use Rattle.noc_rank.specs.declared.rows.RankRow.{RankRow}
 use Rattle.noc_topo.specs.Shape.{Grid, local_port, neighbour, nodes}
-use Rattle.noc_topo.specs.Words.{below}
+use Rattle.noc_topo.specs.Lists.{below}
 use Rattle.noc_files.specs.Channels.{lines_of_port, lines_of_router, lines_of_routers}
 use Rattle.noc_files.specs.Ports.{name_of_port}
 use Rattle.noc_files.specs.Ranks.{port_rows, rank_line, rank_row, rank_rows, rank_text, router_rows}

@@ -10,7 +10,7 @@ use Rattle.noc_files.specs.Ports.{IsPortName, port_named}
 use Rattle.noc_files.specs.Rows.{Fields, text_rows}
 use Rattle.noc_files.specs.Table.{IsTable, IsWritableRow, WritesRoute, table_header, route_fields, route_row_of, table_of, table_text}
 use Rattle.noc_files.proofs.PortLemmas.{is_port, port_is, port_plain}
-use Rattle.noc_topo.specs.Words.{Each}
+use Rattle.noc_topo.specs.Lists.{Each}
 use Rattle.std.specs.List.{AllZip}
 use Rattle.noc_files.specs.Plain.{IsPlainRow}
 use Rattle.noc_files.proofs.NumeralLemmas.{decimal_numeral, plain_decimal, some_decimal}

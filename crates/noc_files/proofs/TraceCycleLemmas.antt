@@ -7,18 +7,18 @@ use Rattle.std.proofs.lemmas.Bool.{le-ltb, lt-ltb}
 use Rattle.std.proofs.lemmas.List.{get_or-replicate, length-replicate}
 use Rattle.std.proofs.lemmas.List.Folds.{list_any-append}
 use Rattle.std.proofs.lemmas.Option.{slice_get-get_or, slice_get-map, slice_get_past, slice_get_within}
-use Rattle.noc_topo.proofs.WordLemmas.{length-tabulate}
+use Rattle.noc_topo.proofs.ListLemmas.{length-tabulate}
 use Rattle.noc_topo.specs.Shape.{Grid, nodes, ports}
-use Rattle.noc_topo.specs.Words.{below}
+use Rattle.noc_topo.specs.Lists.{below}
 use Rattle.noc_packet.specs.Set.{has_bit}
 use Rattle.noc_route.specs.Routes.{Routes}
-use Rattle.noc_route.proofs.PlaceLemmas.{flat-below}
-use Rattle.noc_router.specs.Found.{empty_finding}
-use Rattle.noc_router.specs.declared.verdict.Finding.{Finding}
+use Rattle.noc_route.proofs.EntryLemmas.{flat-below}
+use Rattle.noc_view.specs.Found.{empty_finding}
+use Rattle.noc_view.specs.declared.finding.Finding.{Finding}
 use Rattle.noc_theory.specs.Lockstep.{findings_before, findings_in_cycle, finding_in}
 use Rattle.noc_theory.specs.Network.{Run, Setup, arriving, frozen_at, size}
 use Rattle.noc_files.specs.Channels.{is_input, lines_of_port, over_router}
-use Rattle.noc_files.specs.Trace.{AreRows, cycle_text, has_below, is_same, kept_at, kept_line, line_if_new, member_text, nothing_found, over_traced, traced_finding, told_at, told_before, trace_line, traced_line}
+use Rattle.noc_files.specs.Trace.{AreRows, cycle_text, has_below, is_same, kept_at, kept_line, line_if_new, line_if_wanted, member_text, nothing_found, over_traced, traced_finding, told_at, told_before, trace_line, traced_line}
 use Rattle.noc_files.specs.declared.trace.Traced.{Traced}
 use Rattle.noc_files.proofs.BelowLemmas.{below_more, each_more, each_same}
 use Rattle.noc_files.proofs.ListLemmas.{slice_get-set_other, slice_get-set_same}
@@ -171,7 +171,7 @@ pub kept_is : (u : Run) (traced : Traced) (rows : List (List Finding)) (first n 
     → port * u.net.relation.vcs + vc < size u.net → kept_line u traced rows n r port vc ≡ traced_line u.net traced first n r port vc
 kept_is u traced rows first n r port vc count kept known inside =
     let i = port * u.net.relation.vcs + vc in
-    ap₂ (λ (before now : Option Finding). line_if_new u.net n r port vc before now) (kept.said r i known inside)
+    ap₂ (λ (before now : Option Finding). line_if_new u.net traced.verdicts n r port vc before now) (kept.said r i known inside)
     (ap (λ k. option_and_then (traced_finding traced.packet) (slice_get (findings_before u.net k r) i)) count
     ∙ ap (λ (xs : List Finding). option_and_then (traced_finding traced.packet) (slice_get xs i)) (findings-after u.net n r))
 
@@ -191,16 +191,16 @@ cycle_written u net now traced rows first n at same as_before numbered count kep
     (subst (λ (z : Setup). IfSome traced.router (λ r. r < nodes z.relation.grid)) (sym same) known)
     ∙ ap (λ (z : Setup). cycle_text z traced first n) same
 
--- the line of a channel of which another thing is told
+-- the line of a channel of which another thing is told, or none where lines with its verdict are not written
 pub line_is : (u : Run) (traced : Traced) (rows : List (List Finding)) (n r port vc i : ℕ) (before now : Option Finding) (f : Finding) → i ≡ port * u.net.relation.vcs + vc
     → before ≡ option_and_then (traced_finding traced.packet) (kept_at rows r i) → now ≡ option_and_then (traced_finding traced.packet) (slice_get (findings_before u.net u.count r) i)
-    → is_same before now ≡ false → f ≡ unwrap_or now empty_finding → trace_line u.net n r port vc f ≡ kept_line u traced rows n r port vc
+    → is_same before now ≡ false → f ≡ unwrap_or now empty_finding → line_if_wanted u.net traced.verdicts n r port vc f ≡ kept_line u traced rows n r port vc
 line_is u traced rows n r port vc i before now f place was is other shown =
-    ap (trace_line u.net n r port vc) shown ∙ sym (new_line before now other) ∙ ap₂ (λ (b a : Option Finding). line_if_new u.net n r port vc b a) was is
-    ∙ ap (λ k. line_if_new u.net n r port vc (option_and_then (traced_finding traced.packet) (kept_at rows r k)) (option_and_then (traced_finding traced.packet) (slice_get (findings_before u.net u.count r) k))) place
+    ap (line_if_wanted u.net traced.verdicts n r port vc) shown ∙ sym (new_line before now other) ∙ ap₂ (λ (b a : Option Finding). line_if_new u.net traced.verdicts n r port vc b a) was is
+    ∙ ap (λ k. line_if_new u.net traced.verdicts n r port vc (option_and_then (traced_finding traced.packet) (kept_at rows r k)) (option_and_then (traced_finding traced.packet) (slice_get (findings_before u.net u.count r) k))) place
   where
-    new_line : (b a : Option Finding) → is_same b a ≡ false → line_if_new u.net n r port vc b a ≡ trace_line u.net n r port vc (unwrap_or a empty_finding)
-    new_line b a e = ap (λ same. if same then [] else trace_line u.net n r port vc (unwrap_or a empty_finding)) e
+    new_line : (b a : Option Finding) → is_same b a ≡ false → line_if_new u.net traced.verdicts n r port vc b a ≡ line_if_wanted u.net traced.verdicts n r port vc (unwrap_or a empty_finding)
+    new_line b a e = ap (λ same. if same then [] else line_if_wanted u.net traced.verdicts n r port vc (unwrap_or a empty_finding)) e
 
 -- ---- indices that are passed by
 

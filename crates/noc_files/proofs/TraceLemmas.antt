@@ -3,16 +3,16 @@ use Rattle.std.proofs.Common.{◌≡◌, ◌∙◌, ℕ, ◌+◌, ◌*◌, ◌<�
 use Rattle.std.specs.Prelude.{◌==◌, ◌&&◌, count_by, nat_eq, option_and_then, slice_get, if◌then◌else◌}
 use Rattle.std.proofs.lemmas.Bool.{and_from, and_parts, eq-eqb, eqb-true, false≢true}
 use Rattle.std.proofs.lemmas.Option.{slice_get-get_or}
-use Rattle.noc_topo.proofs.WordLemmas.{get_or-tabulate, length-tabulate}
+use Rattle.noc_topo.proofs.ListLemmas.{get_or-tabulate, length-tabulate}
 use Rattle.noc_topo.specs.Shape.{ports}
-use Rattle.noc_topo.specs.Words.{below, tabulate}
+use Rattle.noc_topo.specs.Lists.{below, tabulate}
 use Rattle.noc_route.specs.Channel.{Channel}
 use Rattle.noc_route.specs.Routes.{Routes}
-use Rattle.noc_route.proofs.PlaceLemmas.{flat-below}
-use Rattle.noc_router.specs.Verdict.{column}
-use Rattle.noc_router.specs.declared.verdict.Finding.{Finding}
-use Rattle.noc_router.specs.declared.verdict.Verdict.{Verdict}
-use Rattle.noc_router.specs.declared.verdict.Verdict.TheVariants.{Empty, Granted, LostChannel, LostInput, LostSwitch, Moved, NoCredit, NoFlit, NoIdleChannel, Routed}
+use Rattle.noc_route.proofs.EntryLemmas.{flat-below}
+use Rattle.noc_view.specs.Verdict.{column}
+use Rattle.noc_view.specs.declared.finding.Finding.{Finding}
+use Rattle.noc_view.specs.declared.verdict.Verdict.{Verdict}
+use Rattle.noc_view.specs.declared.verdict.Verdict.TheVariants.{Empty, Granted, LostChannel, LostInput, LostSwitch, Moved, NoCredit, NoFlit, NoIdleChannel, Routed}
 use Rattle.noc_theory.specs.Lockstep.{finding_in, findings_in_cycle}
 use Rattle.noc_theory.specs.Network.{Run, Setup, arriving, frozen_at, size, verdict_in_cycle}
 use Rattle.noc_files.specs.Findings.{found_line, line_if_found, out_name, verdict_text}
@@ -40,7 +40,7 @@ trace_parts net n r port vc f =
 
 -- where all is traced, all is told but of empty channels
 told_whole : (net : Setup) (n r port vc : ℕ) (f : Finding) (v : Verdict) → f.verdict ≡ v
-    → line_if_new net n r port vc None (traced_finding None f) ≡ (if finds_empty f.verdict then [] else trace_line net n r port vc f)
+    → line_if_new net None n r port vc None (traced_finding None f) ≡ (if finds_empty f.verdict then [] else trace_line net n r port vc f)
 told_whole net n r port vc f Empty e = rw e refl
 told_whole net n r port vc f Routed e = rw e refl
 told_whole net n r port vc f Granted e = rw e refl
@@ -56,7 +56,7 @@ pub traced : (net : Setup) (first n r port vc : ℕ) (f : Finding) → slice_get
     → traced_line net whole first n r port vc
     ≡ (if finds_empty f.verdict then [] else when_text n r ++ said_by_both net.relation.grid port vc f ++ comma ++ permitted_text net.relation (permitted_to net r port vc f))
 traced net first n r port vc f found =
-    ap (λ (o : Option Finding). line_if_new net n r port vc None (option_and_then (traced_finding None) o)) found ∙ told_whole net n r port vc f f.verdict refl
+    ap (λ (o : Option Finding). line_if_new net None n r port vc None (option_and_then (traced_finding None) o)) found ∙ told_whole net n r port vc f f.verdict refl
     ∙ ap (λ (t : List ℕ). if finds_empty f.verdict then [] else t) (trace_parts net n r port vc f)
 
 -- ---- counts

@@ -8,7 +8,7 @@ use Rattle.noc_files.specs.declared.fault.InputFault.{InputFault}
 use Rattle.noc_files.specs.declared.fault.InputFault.TheVariants.{BadCount, BadNumber}
 use Rattle.noc_files.specs.Rows.{Fields, IsNumeral, number_of, text_rows}
 use Rattle.noc_files.specs.Traffic.{IsTraffic, IsWritablePacket, WritesPacket, traffic_header, packet_fields, packet_of, traffic_of, traffic_text}
-use Rattle.noc_topo.specs.Words.{Each}
+use Rattle.noc_topo.specs.Lists.{Each}
 use Rattle.std.specs.List.{AllZip}
 use Rattle.noc_files.specs.Plain.{IsPlainRow}
 use Rattle.noc_files.proofs.NumeralLemmas.{decimal_numeral, plain_decimal, some_decimal}

@@ -2,7 +2,7 @@
 use Rattle.std.specs.Prelude.{◌≡◌, ℕ, ◌+◌, ◌*◌, ◌<◌, ◌==◌, Bool, ◌||◌, List, [], Option, Some, None, is_some, slice_get, unwrap_or, if◌then◌else◌}
 use Rattle.std.specs.List.{flat_map}
 use Rattle.noc_topo.specs.Shape.{Grid, local_port, neighbour, nodes, ports}
-use Rattle.noc_topo.specs.Words.{below}
+use Rattle.noc_topo.specs.Lists.{below}
 use Rattle.noc_packet.specs.declared.limits.TheConstants.{MAX_PORTS}
 use Rattle.noc_route.specs.Routes.{Routes}
 
@@ -10,7 +10,7 @@ use Rattle.noc_route.specs.Routes.{Routes}
 abbrev pub is_input : Grid → ℕ → ℕ → Bool
 is_input g router port = port == local_port g || is_some (neighbour g router port)
 
--- a table says of each router and port, MAX_PORTS places to a router, whether it is an input port
+-- a table says of each router and port, MAX_PORTS entries to a router, whether it is an input port
 abbrev pub AreInputs : Grid → List Bool → Type 0
 AreInputs g table = (router port : ℕ) → router < nodes g → port < ports g → slice_get table (router * MAX_PORTS + port) ≡ Some (is_input g router port)
 

@@ -11,12 +11,12 @@ use Rattle.noc_files.specs.declared.fault.Key.TheVariants as key
 use Rattle.noc_files.specs.declared.configuration.Config.{Config}
 use Rattle.noc_topo.specs.declared.shape.Kind.{Kind}
 use Rattle.noc_topo.specs.declared.shape.Kind.TheVariants.{Mesh, Torus}
-use Rattle.noc_route.specs.Names.{rule_of, rule_word}
+use Rattle.noc_route.specs.Names.{rule_of, rule_name}
 use Rattle.noc_route.specs.declared.rule.RuleName.{RuleName}
 use Rattle.noc_files.specs.declared.configuration.TheConstants.{MAX_CYCLES}
 use Rattle.noc_files.specs.Gives.{◌>>=◌}
 use Rattle.noc_files.specs.Keys.{key_name}
-use Rattle.noc_topo.specs.Words.{Each}
+use Rattle.noc_topo.specs.Lists.{Each}
 use Rattle.noc_packet.specs.declared.limits.TheConstants.{MAX_BUFFER, MAX_CHANNELS, MAX_CLASSES}
 
 -- a configuration without where its radix lies in memory
@@ -112,9 +112,9 @@ config_of text = document_of text >>= λ ms. if all_known ms then config_at ms e
 
 -- ---- the same in the words of the format
 
-abbrev pub kind_word : Kind → List ℕ
-kind_word Mesh = codes "mesh"
-kind_word Torus = codes "torus"
+abbrev pub kind_name : Kind → List ℕ
+kind_name Mesh = codes "mesh"
+kind_name Torus = codes "torus"
 
 -- these numbers as the integers of an array
 abbrev pub integers : List ℕ → Items
@@ -142,13 +142,13 @@ pub record IsConfiguration (text : List ℕ) (s : Settings) : Type 0 where
   pub utf8 : IsUtf8 text
   pub parsed : parse_document text ≡ Some document
   pub known : HasKnownKeys document
-  pub kind : HasValue document key.Kind (string (kind_word s.kind))
+  pub kind : HasValue document key.Kind (string (kind_name s.kind))
   pub radix : HasValue document key.Radix (array (integers s.radix))
   pub radices : Each (λ k. k ≤ 1000) s.radix
   pub channels : HasNumber document key.Channels 1 MAX_CHANNELS s.channels
   pub buffer : HasNumber document key.Buffer 1 MAX_BUFFER s.buffer
   pub classes : HasNumber document key.Classes 1 MAX_CLASSES s.classes
-  pub rule : HasValue document key.Rule (string (rule_word s.rule))
+  pub rule : HasValue document key.Rule (string (rule_name s.rule))
   pub cycles : HasNumber document key.Cycles 1 MAX_CYCLES s.cycles
 
 -- ---- what is wrong with a configuration
@@ -177,12 +177,12 @@ IsIntegerIn low high d = (n : ℕ) × (d ≡ integer (pos n)) × (low ≤ n) × 
 
 -- a value that a key may have
 abbrev pub IsAllowed : Key → Data → Type 0
-IsAllowed key.Kind d = (k : Kind) × (d ≡ string (kind_word k))
+IsAllowed key.Kind d = (k : Kind) × (d ≡ string (kind_name k))
 IsAllowed key.Radix d = (ns : List ℕ) × (d ≡ array (integers ns)) × Each (λ n. n ≤ 1000) ns
 IsAllowed key.Channels d = IsIntegerIn 1 MAX_CHANNELS d
 IsAllowed key.Buffer d = IsIntegerIn 1 MAX_BUFFER d
 IsAllowed key.Classes d = IsIntegerIn 1 MAX_CLASSES d
-IsAllowed key.Rule d = (r : RuleName) × (d ≡ string (rule_word r))
+IsAllowed key.Rule d = (r : RuleName) × (d ≡ string (rule_name r))
 IsAllowed key.Cycles d = IsIntegerIn 1 MAX_CYCLES d
 
 -- a key that has a value that it may have

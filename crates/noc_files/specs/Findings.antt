@@ -4,9 +4,8 @@ use Rattle.noc_theory.specs.Network.{Run}
 use Rattle.noc_theory.specs.Lockstep.{findings_before}
 use Rattle.noc_topo.specs.Shape.{Grid}
 use Rattle.noc_route.specs.Routes.{Routes}
-use Rattle.noc_router.specs.declared.verdict.Finding.{Finding}
-use Rattle.noc_router.specs.declared.verdict.Verdict.{Verdict}
-use Rattle.noc_router.specs.declared.verdict.Verdict.TheVariants.{Empty, Granted, LostChannel, LostInput, LostSwitch, Moved, NoCredit, NoFlit, NoIdleChannel, Routed}
+use Rattle.noc_view.specs.declared.finding.Finding.{Finding}
+use Rattle.noc_view.specs.Names.{verdict_name}
 use Rattle.noc_files.specs.Channels.{over_router}
 use Rattle.noc_files.specs.Ports.{name_of_port, port_text}
 use Rattle.noc_files.specs.Writing.{comma, dash_or, text_of_pieces, line_end}
@@ -19,22 +18,9 @@ abbrev pub out_name : Grid → Option (ℕ × ℕ) → List ℕ
 out_name g None = codes "-"
 out_name g (Some (port, vc)) = text_of_pieces (unwrap_or (port_text g port) (codes "-") ∷ codes "." ∷ decimal vc ∷ [])
 
--- the name of a verdict
-abbrev pub verdict_word : Verdict → List ℕ
-verdict_word Empty = codes "Empty"
-verdict_word Routed = codes "Routed"
-verdict_word Granted = codes "Granted"
-verdict_word Moved = codes "Moved"
-verdict_word NoFlit = codes "NoFlit"
-verdict_word NoIdleChannel = codes "NoIdleChannel"
-verdict_word LostChannel = codes "LostChannel"
-verdict_word NoCredit = codes "NoCredit"
-verdict_word LostInput = codes "LostInput"
-verdict_word LostSwitch = codes "LostSwitch"
-
--- an input channel by its port and its number, its verdict, and its packet
+-- an input channel by its port and its VC, its verdict, and its packet
 abbrev pub verdict_text : Grid → ℕ → ℕ → Finding → List ℕ
-verdict_text g port vc f = text_of_pieces (name_of_port g port ∷ comma ∷ decimal vc ∷ comma ∷ verdict_word f.verdict ∷ comma ∷ dash_or f.packet ∷ comma ∷ [])
+verdict_text g port vc f = text_of_pieces (name_of_port g port ∷ comma ∷ decimal vc ∷ comma ∷ verdict_name f.verdict ∷ comma ∷ dash_or f.packet ∷ comma ∷ [])
 
 -- the line of an input channel: its verdict, its packet, and the output channel that the verdict speaks of
 abbrev pub finding_line : Grid → ℕ → ℕ → Finding → List ℕ

@@ -2,7 +2,7 @@
 use Rattle.std.specs.Prelude.{ℕ, ◌-◌, length, List, [], ◌∷◌, ◌++◌, Option, Some, None, decimal, codes}
 use Rattle.std.specs.List.{flat_map}
 use Rattle.noc_theory.specs.Network.{Run, arrival_in, packet_at, state_at}
-use Rattle.noc_topo.specs.Words.{below}
+use Rattle.noc_topo.specs.Lists.{below}
 use Rattle.noc_packet.specs.declared.packet.Packet.{Packet}
 use Rattle.noc_files.specs.Writing.{comma, dash_or, text_of_pieces, line_end}
 

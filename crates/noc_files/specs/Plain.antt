@@ -1,7 +1,7 @@
 -- Files of rows in their plainest form: fields without quotes, a comma between them, and a line feed after each row.
 use Rattle.std.specs.Prelude.{◌≢◌, ℕ, ◌<◌, List, [], ◌∷◌, ◌++◌, length}
 use Rattle.std.specs.List.{flat_map}
-use Rattle.noc_topo.specs.Words.{Each}
+use Rattle.noc_topo.specs.Lists.{Each}
 use Rattle.noc_files.specs.Rows.{Fields}
 use Rattle.noc_files.specs.Writing.{comma, line_end}
 

@@ -5,7 +5,7 @@ use Rattle.std.specs.Option.{ok_or}
 use Rattle.std.specs.Str.{bytes_eq}
 use Rattle.csv.specs.Records.{field_at}
 use Rattle.noc_topo.specs.Shape.{Grid, local_port, neighbour, nodes}
-use Rattle.noc_topo.specs.Words.{below, Each, Has, Pairs}
+use Rattle.noc_topo.specs.Lists.{below, Each, Has, Pairs}
 use Rattle.noc_route.specs.Ranks.{Ranking, is_channel, rank_at}
 use Rattle.noc_route.specs.Order.{numbers_before}
 use Rattle.noc_rank.specs.declared.rows.RankRow.{RankRow}
@@ -114,7 +114,7 @@ ranks_text k = row_line rank_header ++ flat_map (rank_line k.grid) (rank_rows k)
 
 -- ---- each link channel once
 
--- one row comes before another, by router, port and number
+-- one row comes before another, by router, port and VC
 abbrev pub RowIsBefore : RankRow → RankRow → Type 0
 RowIsBefore a b = numbers_before (a.router ∷ a.port ∷ a.vc ∷ []) (b.router ∷ b.port ∷ b.vc ∷ []) ≡ true
 
@@ -123,7 +123,7 @@ pub record IsRankOf (k : Ranking) (row : RankRow) : Type 0 where
   pub channel : is_channel k.grid k.vcs row.router row.port row.vc ≡ true
   pub rank : row.rank ≡ rank_at k row.router row.port row.vc
 
--- each link channel once with its rank, in rising order of router, port and number
+-- each link channel once with its rank, in rising order of router, port and VC
 pub record ListsRanks (k : Ranking) (rows : List RankRow) : Type 0 where
   pub there : (r p v : ℕ) → is_channel k.grid k.vcs r p v ≡ true → Has (rank_row k r p v) rows
   pub ranks : Each (IsRankOf k) rows

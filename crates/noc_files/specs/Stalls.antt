@@ -3,14 +3,18 @@ use Rattle.std.specs.Prelude.{ℕ, ◌+◌, ◌*◌, List, [], ◌∷◌, ◌++�
 use Rattle.std.specs.List.{flat_map}
 use Rattle.noc_theory.specs.Network.{Run}
 use Rattle.noc_theory.specs.Lockstep.{counts_before}
+use Rattle.noc_view.specs.Names.{column_name}
+use Rattle.noc_view.specs.declared.verdict.TheConstants.Verdict.{ALL}
+use Rattle.noc_view.specs.declared.verdict.Verdict.{Verdict}
 use Rattle.noc_files.specs.Channels.{over_routers}
 use Rattle.noc_files.specs.Ports.{name_of_port}
 use Rattle.noc_files.specs.Writing.{comma, text_of_pieces, line_end}
 
+-- where a channel is, and a column for each verdict
 unfoldable pub stall_header : List ℕ
-stall_header = codes "router,port,vc,empty,routed,granted,moved,no_flit,no_idle_channel,lost_channel,no_credit,lost_input,lost_switch\n"
+stall_header = (codes "router,port,vc" ++ flat_map (λ (verdict : Verdict). comma ++ column_name verdict) ALL) ++ line_end
 
--- an input channel by its router, the name of its port, and its number
+-- an input channel by its router, the name of its port, and its VC
 abbrev pub place_text : ℕ → List ℕ → ℕ → List ℕ
 place_text router port vc = text_of_pieces (decimal router ∷ comma ∷ port ∷ comma ∷ decimal vc ∷ [])
 

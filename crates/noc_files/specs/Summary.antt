@@ -1,11 +1,16 @@
 -- The summary report.
-use Rattle.std.specs.Prelude.{ℕ, ◌-◌, ◌≤◌, length, max, sum, fold, List, [], ◌∷◌, codes, Option, Some, None, unwrap_or, slice_index}
+use Rattle.std.specs.Prelude.{◌≡◌, ℕ, ◌+◌, ◌-◌, ◌*◌, ◌^◌, ◌<◌, ◌≤◌, ◌++◌, length, max, sum, fold, List, [], ◌∷◌, codes, Option, Some, None, unwrap_or, slice_index}
 use Rattle.std.specs.Borrow.{Bor}
 use Rattle.std.specs.List.{filter_map, flat_map}
-use Rattle.noc_topo.specs.Words.{below, Each, Has}
+use Rattle.noc_topo.specs.Lists.{below, tabulate, Each, Has}
+use Rattle.noc_view.specs.Names.{column_name}
+use Rattle.noc_view.specs.Verdict.{column}
+use Rattle.noc_view.specs.declared.verdict.TheConstants.{VERDICTS}
+use Rattle.noc_view.specs.declared.verdict.TheConstants.Verdict.{ALL}
+use Rattle.noc_view.specs.declared.verdict.Verdict.{Verdict}
 use Rattle.noc_theory.specs.Network.{Run, arrival_in, packet_at, state_at}
 use Rattle.noc_theory.specs.Progress.{last_event_before}
-use Rattle.noc_files.specs.Channels.{over_routers}
+use Rattle.noc_files.specs.Channels.{over_port, over_router, over_routers}
 use Rattle.noc_files.specs.Latency.{packet_latency}
 use Rattle.noc_files.specs.Stalls.{channel_counts}
 use Rattle.noc_files.specs.Writing.{dash_or, text_of_pieces, line_end}
@@ -38,9 +43,24 @@ pub record IsGreatest (ns : List ℕ) (m : ℕ) : Type 0 where
 unfoldable pub column_entry : Run → ℕ → ℕ → ℕ → ℕ → List ℕ
 column_entry u column router port vc = slice_index (channel_counts u router port vc) column ∷ []
 
--- the sum of a column of the stall report
+-- the sum of a column over the channels of an input port, of a router, and of all
+unfoldable pub port_total : Run → ℕ → ℕ → ℕ → ℕ
+port_total u router port column = sum (over_port u.net.relation router (column_entry u column router) port)
+
+unfoldable pub router_total : Run → ℕ → ℕ → ℕ
+router_total u router column = sum (over_router u.net.relation router (column_entry u column router))
+
 unfoldable pub column_total : Run → ℕ → ℕ
 column_total u column = sum (over_routers u.net.relation (column_entry u column))
+
+-- no total is above n
+abbrev pub AreUpTo : ℕ → List ℕ → Type 0
+AreUpTo n totals = (column : ℕ) → column < 10 → slice_index totals column ≤ n
+
+-- each total is more by f of its column, which is at most so many numbers of 64 bits
+pub record AreRaised (f : ℕ → ℕ) (numbers : ℕ) (old new : List ℕ) : Type 0 where
+  pub more : (column : ℕ) → column < 10 → slice_index new column ≡ slice_index old column + f column
+  pub bound : (column : ℕ) → column < 10 → f column ≤ numbers * 2 ^ 64
 
 unfoldable pub summary_of : Run → Summary
 summary_of u = record {
@@ -52,10 +72,7 @@ summary_of u = record {
   latency_max = greatest_of (latencies u);
   last_event = last_event_before u.net u.count;
   misfits = 0;
-  totals =
-      column_total u 0 ∷ column_total u 1 ∷ column_total u 2 ∷ column_total u 3 ∷ column_total u 4
-      ∷ column_total u 5 ∷ column_total u 6 ∷ column_total u 7 ∷ column_total u 8 ∷ column_total u 9
-      ∷ [];
+  totals = tabulate VERDICTS (column_total u);
 }
 
 -- ---- its text
@@ -68,7 +85,7 @@ summary_line entry = text_of_pieces (entry.0 ∷ codes " " ∷ dash_or entry.1 �
 abbrev pub entry_value : Bor (List ℕ) × Option ℕ → List ℕ × Option ℕ
 entry_value entry = (entry.0.now, entry.1)
 
--- the names of the summary, with what they say
+-- the names of the summary before those of the verdicts, with what they say
 unfoldable pub summary_entries : Summary → List (List ℕ × Option ℕ)
 summary_entries s =
     (codes "cycles", Some s.cycles)
@@ -79,21 +96,15 @@ summary_entries s =
     ∷ (codes "latency_max", s.latency_max)
     ∷ (codes "last_event", s.last_event)
     ∷ (codes "misfits", Some s.misfits)
-    ∷ (codes "empty", Some (slice_index s.totals 0))
-    ∷ (codes "routed", Some (slice_index s.totals 1))
-    ∷ (codes "granted", Some (slice_index s.totals 2))
-    ∷ (codes "moved", Some (slice_index s.totals 3))
-    ∷ (codes "no_flit", Some (slice_index s.totals 4))
-    ∷ (codes "no_idle_channel", Some (slice_index s.totals 5))
-    ∷ (codes "lost_channel", Some (slice_index s.totals 6))
-    ∷ (codes "no_credit", Some (slice_index s.totals 7))
-    ∷ (codes "lost_input", Some (slice_index s.totals 8))
-    ∷ (codes "lost_switch", Some (slice_index s.totals 9))
     ∷ []
+
+-- the line of a verdict, by the totals of all
+abbrev pub total_line : List ℕ → Verdict → List ℕ
+total_line totals verdict = summary_line (column_name verdict, Some (slice_index totals (column verdict)))
 
 -- the lines of a summary
 abbrev pub summary_lines : Summary → List ℕ
-summary_lines s = flat_map summary_line (summary_entries s)
+summary_lines s = flat_map summary_line (summary_entries s) ++ flat_map (total_line s.totals) ALL
 
 -- the report of a run
 abbrev pub summary_text : Run → List ℕ

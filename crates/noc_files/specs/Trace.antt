@@ -2,15 +2,15 @@
 use Rattle.std.specs.Prelude.{◌≡◌, ℕ, ◌+◌, ◌-◌, ◌*◌, ◌/◌, ◌%◌, ◌==◌, Bool, true, false, ◌&&◌, ◌||◌, not, List, [], ◌∷◌, ◌++◌, codes, count_by, decimal, nat_eq, Option, Some, None, option_and_then, option_map, length, replicate, slice_get, unwrap_or, nat_lt, if◌then◌else◌}
 use Rattle.std.specs.List.{flat_map, list_any}
 use Rattle.noc_topo.specs.Shape.{Grid, nodes, ports}
-use Rattle.noc_topo.specs.Words.{below, is_some_of, tabulate}
+use Rattle.noc_topo.specs.Lists.{below, is_some_of, tabulate}
 use Rattle.noc_packet.specs.Set.{has_bit}
 use Rattle.noc_packet.specs.declared.packet.Packet.{Packet}
 use Rattle.noc_route.specs.Routes.{Routes, set_at}
-use Rattle.noc_router.specs.Found.{empty_finding}
-use Rattle.noc_router.specs.Verdict.{column}
-use Rattle.noc_router.specs.declared.verdict.Finding.{Finding}
-use Rattle.noc_router.specs.declared.verdict.Verdict.{Verdict}
-use Rattle.noc_router.specs.declared.verdict.Verdict.TheVariants.{Empty, Granted, LostChannel, NoIdleChannel}
+use Rattle.noc_view.specs.Found.{empty_finding}
+use Rattle.noc_view.specs.Verdict.{column}
+use Rattle.noc_view.specs.declared.finding.Finding.{Finding}
+use Rattle.noc_view.specs.declared.verdict.Verdict.{Verdict}
+use Rattle.noc_view.specs.declared.verdict.Verdict.TheVariants.{Empty, Granted, LostChannel, NoIdleChannel}
 use Rattle.noc_theory.specs.Network.{Run, Setup, size}
 use Rattle.noc_theory.specs.Lockstep.{findings_before, findings_in_cycle}
 use Rattle.noc_files.specs.Channels.{lines_listed}
@@ -18,6 +18,8 @@ use Rattle.noc_files.specs.Findings.{out_name, verdict_text}
 use Rattle.noc_files.specs.Ports.{name_of_port}
 use Rattle.noc_files.specs.Writing.{comma, text_of_pieces, line_end}
 use Rattle.noc_files.specs.declared.trace.Traced.{Traced}
+use Rattle.noc_commands.specs.Verdicts.{is_member}
+use Rattle.noc_commands.specs.declared.verdicts.VerdictSet.{VerdictSet}
 
 unfoldable pub trace_header : List ℕ
 trace_header = codes "cycle,router,port,vc,verdict,packet,out,permitted\n"
@@ -116,9 +118,18 @@ when_text n r = text_of_pieces (decimal n ∷ comma ∷ decimal r ∷ comma ∷ 
 abbrev pub trace_line : Setup → ℕ → ℕ → ℕ → ℕ → Finding → List ℕ
 trace_line net n r port vc f = when_text n r ++ told_text net r port vc f
 
--- the line of an input channel in cycle n, if another thing is told of it than before
-abbrev pub line_if_new : Setup → ℕ → ℕ → ℕ → ℕ → Option Finding → Option Finding → List ℕ
-line_if_new net n r port vc before now = if is_same before now then [] else trace_line net n r port vc (unwrap_or now empty_finding)
+-- whether lines with a verdict are written: all are, or those with the verdicts of a set
+abbrev pub is_wanted : Option VerdictSet → Verdict → Bool
+is_wanted None verdict = true
+is_wanted (Some set) verdict = is_member set verdict
+
+-- the line of an input channel in cycle n, if lines with its verdict are written
+abbrev pub line_if_wanted : Setup → Option VerdictSet → ℕ → ℕ → ℕ → ℕ → Finding → List ℕ
+line_if_wanted net verdicts n r port vc f = if is_wanted verdicts f.verdict then trace_line net n r port vc f else []
+
+-- the same, if another thing is told of the channel than before
+abbrev pub line_if_new : Setup → Option VerdictSet → ℕ → ℕ → ℕ → ℕ → Option Finding → Option Finding → List ℕ
+line_if_new net verdicts n r port vc before now = if is_same before now then [] else line_if_wanted net verdicts n r port vc (unwrap_or now empty_finding)
 
 -- ---- the trace of a span
 
@@ -129,7 +140,7 @@ over_traced relation router said = lines_listed relation.grid (ports relation.gr
 -- the line of an input channel in cycle n of a trace that begins with cycle `first`, if it has one
 abbrev pub traced_line : Setup → Traced → ℕ → ℕ → ℕ → ℕ → ℕ → List ℕ
 traced_line net traced first n r port vc =
-    line_if_new net n r port vc (told_before net traced first n r (port * net.relation.vcs + vc)) (told_at net traced n r (port * net.relation.vcs + vc))
+    line_if_new net traced.verdicts n r port vc (told_before net traced first n r (port * net.relation.vcs + vc)) (told_at net traced n r (port * net.relation.vcs + vc))
 
 -- the lines of cycle n
 abbrev pub cycle_text : Setup → Traced → ℕ → ℕ → List ℕ
@@ -156,14 +167,14 @@ kept_at rows r i = option_and_then (λ row. slice_get row i) (slice_get rows r)
 -- the line of an input channel in the last cycle of a run, if another thing is told of it than of what is kept
 abbrev pub kept_line : Run → Traced → List (List Finding) → ℕ → ℕ → ℕ → ℕ → List ℕ
 kept_line u traced rows n r port vc =
-    line_if_new u.net n r port vc (option_and_then (traced_finding traced.packet) (kept_at rows r (port * u.net.relation.vcs + vc)))
+    line_if_new u.net traced.verdicts n r port vc (option_and_then (traced_finding traced.packet) (kept_at rows r (port * u.net.relation.vcs + vc)))
     (option_and_then (traced_finding traced.packet) (slice_get (findings_before u.net u.count r) (port * u.net.relation.vcs + vc)))
 
 -- ---- what the laws of a trace speak of
 
 -- a trace of all channels, with a line in each cycle
 abbrev pub whole : Traced
-whole = record { router = None; packet = None; changes = false }
+whole = record { router = None; packet = None; verdicts = None; changes = false }
 
 -- what a trace and `explain` both say of an input channel
 abbrev pub said_by_both : Grid → ℕ → ℕ → Finding → List ℕ

@@ -4,26 +4,26 @@ ghost use Rattle.std.specs.Prelude.{ℕ, ◌≡◌, ◌<◌};
 ghost use Rattle.noc_theory.specs.Network.{Run};
 ghost use Rattle.noc_topo.specs.Shape.{nodes, ports};
 ghost use Rattle.noc_files.specs.Findings.{finding_header, findings_text, found_line};
-ghost use Rattle.noc_files.specs.Word.{AreWords};
+ghost use Rattle.noc_files.specs.Labels.{AreLabels};
 ghost use Rattle.noc_files.specs.Writing.{Wrote};
 
 use crate::inputs::inputs_of;
+use crate::labels::Labels;
 use crate::listing::{Lines, Listing, write_lines};
 use crate::page::Page;
 use crate::sink::Sink;
-use crate::words::Words;
 use crate::writing::WriteFault;
 use noc_net::Network;
 use noc_route::Relation;
-use noc_router::Finding;
+use noc_view::Finding;
 
 // What a router found of its input channels, by their indices.
 #[derive(Drop)]
 struct Found<'a> {
     relation: &'a Relation,
     findings: &'a [Finding],
-    words: Words,
-    ghost named: { AreWords relation.now words },
+    labels: Labels,
+    ghost named: { AreLabels relation.now labels },
 }
 
 impl<'a> Lines for Found<'a> {
@@ -40,8 +40,8 @@ impl<'a> Lines for Found<'a> {
         let Some(finding) = self.findings.get(port * relation.vcs() + vc) else {
             return;
         };
-        self.words.add_verdict(relation, port, vc, finding, page);
-        self.words.add_out(relation, finding.out, page);
+        self.labels.add_verdict(relation, port, vc, finding, page);
+        self.labels.add_out(relation, finding.out, page);
         page.add_byte(b'\n');
     }
 }
@@ -63,7 +63,7 @@ pub fn write_findings<W: Sink>(
     let found = Found {
         relation,
         findings: network.findings(router),
-        words: Words::of(relation),
+        labels: Labels::of(relation),
     };
     let inputs = inputs_of(shape);
     let listing = Listing {

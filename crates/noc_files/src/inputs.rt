@@ -8,7 +8,7 @@ use crate::ports::has_inputs;
 use noc_packet::{MAX_NODES, MAX_PORTS};
 use noc_topo::Shape;
 
-/// For each router and each of its ports, `MAX_PORTS` places to a router, whether it is an input port.
+/// For each router and each of its ports, `MAX_PORTS` entries to a router, whether it is an input port.
 pub(crate) type Inputs = [bool; MAX_NODES * MAX_PORTS];
 
 /// The input ports of a shape.
@@ -16,17 +16,17 @@ pub(crate) fn inputs_of(shape: &Shape) -> Inputs
     ensures { AreInputs shape.now result }
 {
     let mut inputs = [false; MAX_NODES * MAX_PORTS];
-    for place in 0..shape.nodes() * MAX_PORTS {
-        inputs[place] = is_input_place(shape, place);
+    for index in 0..shape.nodes() * MAX_PORTS {
+        inputs[index] = has_input_at(shape, index);
     }
     inputs
 }
 
-// Whether a place is that of an input port.
-fn is_input_place(shape: &Shape, place: usize) -> bool
-    requires { place < nodes shape.now * MAX_PORTS }
-    ensures { place % MAX_PORTS < ports shape.now → result ≡ is_input shape.now (place / MAX_PORTS) (place % MAX_PORTS) }
+// Whether an index is that of an input port.
+fn has_input_at(shape: &Shape, index: usize) -> bool
+    requires { index < nodes shape.now * MAX_PORTS }
+    ensures { index % MAX_PORTS < ports shape.now → result ≡ is_input shape.now (index / MAX_PORTS) (index % MAX_PORTS) }
 {
-    let port = place % MAX_PORTS;
-    port < shape.ports() && has_inputs(shape, place / MAX_PORTS, port)
+    let port = index % MAX_PORTS;
+    port < shape.ports() && has_inputs(shape, index / MAX_PORTS, port)
 }

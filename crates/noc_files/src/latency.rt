@@ -13,12 +13,12 @@ use noc_net::Network;
 
 // How many cycles lie between the due time of the packet with this number and the cycle in which its tail is out.
 #[tactic(auto, unfolding(crate::specs::Summary::latency_at))]
-pub(crate) fn latency(network: &Network, number: usize) -> Option<u64>
-    requires { number < length network.now.net.packets }
-    ensures { result ≡ latency_at network.now number }
+pub(crate) fn latency(network: &Network, packet: usize) -> Option<u64>
+    requires { packet < length network.now.net.packets }
+    ensures { result ≡ latency_at network.now packet }
 {
-    match network.arrival(number) {
-        Some(cycle) => Some(cycle.saturating_sub(u64::from(network.packet(number).due))),
+    match network.arrival(packet) {
+        Some(cycle) => Some(cycle.saturating_sub(u64::from(network.packet(packet).due))),
         None => None,
     }
 }

@@ -6,24 +6,24 @@ mod fault;
 mod findings;
 mod inputs;
 mod joined;
+mod label;
+mod labels;
 mod latency;
 mod listing;
 mod page;
 mod pages;
 mod ports;
 mod ranks;
+mod reading;
 mod reports;
 mod rows;
 mod sheet;
 mod sink;
-mod source;
 mod stalls;
 mod summary;
 mod table;
 mod trace;
 mod traffic;
-mod word;
-mod words;
 mod writing;
 
 pub use configuration::{
@@ -39,10 +39,10 @@ pub use ranks::{
     rank_file_is_header_and_rows, rank_file_is_refused_with_its_first_fault, read_ranks,
     write_ranks, written_ranks_are_read_back,
 };
+pub use reading::read_all;
 pub use reports::write_report;
 pub use rows::{plain_rows_are_read_back, rows_are_records};
 pub use sink::{Out, Sink};
-pub use source::read_all;
 pub use stalls::{the_counts_of_a_line_add_up, write_stalls};
 pub use summary::{the_greatest_is_one_of_them, write_summary};
 pub use table::{

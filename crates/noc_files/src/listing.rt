@@ -30,7 +30,7 @@ pub(crate) trait Lines {
 
     ghost vcs: { Self → ℕ };
 
-    // The lines on the channel of a router, a port and a number.
+    // The lines on the channel of a router, a port and a VC.
     ghost said: { Self → ℕ → ℕ → ℕ → List ℕ };
 
     // Whether a look at a router shows that there are no lines on any of its channels.
@@ -81,7 +81,7 @@ impl<'a, L: Lines> Listing<'a, L> {
         ensures said { page.new ≡ page.old ++ lines_of_port (L.grid self.now.lines.now) self.now.vcs router (L.said self.now.lines.now router) port }
         ensures short { length page.new ≤ length page.old + LONGEST_PORT }
     {
-        // (the counts say that the place is within the table)
+        // (the counts say that the index is within the table)
         prove!(router < self.shape.nodes() && port < self.shape.ports());
         if !self.inputs[router * MAX_PORTS + port] {
             return;

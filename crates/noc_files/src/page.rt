@@ -1,11 +1,11 @@
 //! The lines on a router, which are put together before they go into a sink.
 
 ghost use Rattle.std.specs.Prelude.{◌≡◌, ◌+◌, ◌<◌, ◌≤◌, ◌++◌, [], ◌∷◌, ℕ, List, decimal, length, take};
-ghost use Rattle.noc_files.specs.Word.{word_text};
+ghost use Rattle.noc_files.specs.Labels.{label_text};
 ghost use Rattle.noc_files.specs.Writing.{comma, number_or};
-ghost use Rattle.noc_files.specs.declared.word.TheConstants.{WORD};
+ghost use Rattle.noc_files.specs.declared.label.TheConstants.{LABEL};
 
-use crate::word::{WORD, Word};
+use crate::label::{LABEL, Label};
 use itoa::Buffer;
 use std::marker::Model;
 
@@ -71,15 +71,15 @@ impl Page {
         self.length = end;
     }
 
-    /// Adds a word, and leaves bytes behind it that are not on the page.
+    /// Adds a label, and leaves bytes behind it that are not on the page.
     #[inline(always)]
-    pub(crate) fn add_word(&mut self, word: &Word)
-        requires { length self.old + WORD ≤ PAGE }
-        ensures added { self.new ≡ self.old ++ word_text word.now }
-        ensures short { length self.new ≤ length self.old + WORD }
+    pub(crate) fn add_label(&mut self, label: &Label)
+        requires { length self.old + LABEL ≤ PAGE }
+        ensures added { self.new ≡ self.old ++ label_text label.now }
+        ensures short { length self.new ≤ length self.old + LABEL }
     {
-        self.bytes[self.length..self.length + WORD].copy_from_slice(&word.bytes);
-        self.length += word.length;
+        self.bytes[self.length..self.length + LABEL].copy_from_slice(&label.bytes);
+        self.length += label.length;
     }
 
     /// Adds a byte.

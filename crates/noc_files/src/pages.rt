@@ -2,7 +2,7 @@
 
 ghost use Rattle.std.specs.Prelude.{◌≡◌, ◌<◌, ◌≤◌, ◌++◌, ℕ, List};
 ghost use Rattle.std.specs.List.{flat_map};
-ghost use Rattle.noc_topo.specs.Words.{below};
+ghost use Rattle.noc_topo.specs.Lists.{below};
 ghost use Rattle.noc_files.specs.Writing.{Puts, Wrote, taken};
 
 use crate::page::{PAGE, Page};

@@ -7,7 +7,7 @@ ghost use Rattle.noc_route.specs.Ranks.{is_channel, Ranking};
 ghost use Rattle.noc_rank.specs.Ranking.{IsRanking};
 ghost use Rattle.noc_rank.specs.declared.rows.RankRow.{RankRow as RowValue};
 ghost use Rattle.noc_topo.specs.Shape.{Grid, IsGrid, local_port, neighbour, nodes};
-ghost use Rattle.noc_topo.specs.Words.{below};
+ghost use Rattle.noc_topo.specs.Lists.{below};
 ghost use Rattle.noc_files.specs.declared.fault.InputFault.{InputFault as Fault};
 ghost use Rattle.noc_files.specs.Gives.{Gives};
 ghost use Rattle.noc_files.specs.Plain.{row_line};

@@ -7,7 +7,7 @@ ghost use Rattle.std.specs.Str.{bytes_eq};
 ghost use Rattle.csv.specs.Records.{fields_of};
 ghost use Rattle.csv.specs.Reading.{AreRecords, default_config, strip_bom};
 ghost use Rattle.noc_files.specs.declared.fault.InputFault.TheVariants.{Memory};
-ghost use Rattle.noc_topo.specs.Words.{Each};
+ghost use Rattle.noc_topo.specs.Lists.{Each};
 ghost use Rattle.noc_files.specs.Plain.{IsPlainRow, plain_text};
 ghost use Rattle.noc_files.specs.Ports.{port_at};
 ghost use Rattle.noc_files.specs.Rows.{Fields, IsBetweenRows, number_of, number_at, rows_left, text_rows};

@@ -23,14 +23,15 @@ pub trait Sink {
         ensures fails { has_failed self.new ≡ (has_failed self.old || (result == 0 && not (length bytes.now == 0))) }
         ensures closed { has_failed self.old ≡ true → result ≡ 0 };
 
-    /// Hands on what it has taken and kept back, or fails.
-    fn hand_on(&mut self)
-        ensures bytes { Keeps (contents self.old) (contents self.new) }
-        ensures closed { has_failed self.old ≡ true → has_failed self.new ≡ true };
-
     /// Whether it has failed.
     fn failed(&self) -> bool
         ensures { result ≡ has_failed self.now };
+
+    /// Hands on what it has taken and kept back, or fails. A sink that keeps nothing back leaves this out.
+    fn hand_on(&mut self)
+        ensures bytes { Keeps (contents self.old) (contents self.new) }
+        ensures closed { has_failed self.old ≡ true → has_failed self.new ≡ true }
+    {}
 }
 
 /// The sink over a writer. It fails where `write` or `flush` fails, or `write` takes nothing of some bytes.
@@ -87,13 +88,13 @@ impl<W: Write> Sink for Out<W> {
         }
     }
 
+    fn failed(&self) -> bool {
+        self.failed
+    }
+
     fn hand_on(&mut self) {
         if !self.failed && self.writer.flush().is_err() {
             self.failed = true;
         }
-    }
-
-    fn failed(&self) -> bool {
-        self.failed
     }
 }

@@ -4,7 +4,7 @@ ghost use Rattle.std.specs.Prelude.{◌≡◌, ◌+◌, ◌≤◌, ◌++◌, ℕ
 ghost use Rattle.std.specs.List.{flat_map};
 ghost use Rattle.noc_topo.specs.Shape.{ports};
 ghost use Rattle.noc_theory.specs.Network.{Run as RunValue};
-ghost use Rattle.noc_files.specs.Stalls.{channel_counts, channel_line, count_text, stalls_text};
+ghost use Rattle.noc_files.specs.Stalls.{channel_counts, channel_line, count_text, stall_header, stalls_text};
 ghost use Rattle.noc_files.specs.Writing.{Wrote};
 ghost use Rattle.noc_files.specs.declared.page.TheConstants.{PAGE};
 ghost use Rattle.noc_files.specs.declared.stalls.TheConstants.{COUNTS};
@@ -14,12 +14,31 @@ use crate::listing::{Lines, Listing, write_lines};
 use crate::page::{COLUMN, Page};
 use crate::ports::known_name;
 use crate::sink::Sink;
+use crate::summary::LONGEST_NAME;
 use crate::writing::WriteFault;
+use arrayvec::ArrayString;
 use noc_net::Network;
-use noc_router::VERDICTS;
+use noc_view::{VERDICTS, Verdict};
+
+// The most bytes of the header: of its first columns, and of each verdict's name behind a comma.
+const HEADER: usize = 15 + VERDICTS * (LONGEST_NAME + 1);
 
 // The most bytes of the counts of a channel.
 const COUNTS: usize = VERDICTS * COLUMN;
+
+// The header: where a channel is, and a column for each verdict.
+fn header() -> ArrayString<HEADER>
+    ensures { result.bytes ≡ stall_header }
+{
+    let mut header = ArrayString::new();
+    header.push_str("router,port,vc");
+    for index in 0..VERDICTS {
+        header.push(',');
+        header.push_str(Verdict::ALL[index].column_name());
+    }
+    header.push('\n');
+    header
+}
 
 // Adds counts, each after a comma.
 fn add_counts(counts: &[u64; VERDICTS], page: &mut Page)
@@ -62,12 +81,9 @@ impl<'a> Lines for StallLines<'a> {
 
 /// Writes the stall report: for each router, each of its input ports that is local or has a link, and each virtual
 /// channel, in rising order, in how many cycles it had each verdict.
-#[tactic(auto, unfolding(crate::specs::Stalls::stall_header))]
 pub fn write_stalls<W: Sink>(network: &Network, sink: &mut W) -> Result<(), WriteFault>
     ensures { Wrote W.contents W.has_failed sink.old sink.new (stalls_text network.now) result }
 {
-    let header =
-        "router,port,vc,empty,routed,granted,moved,no_flit,no_idle_channel,lost_channel,no_credit,lost_input,lost_switch\n";
     let relation = network.relation();
     let shape = relation.shape();
     let lines = StallLines { network };
@@ -80,7 +96,7 @@ pub fn write_stalls<W: Sink>(network: &Network, sink: &mut W) -> Result<(), Writ
         vcs: relation.vcs(),
         router: None,
     };
-    write_lines(header, &listing, sink)
+    write_lines(header().as_str(), &listing, sink)
 }
 
 /// The ten counts of a line of the stall report add up to the cycles of the run.

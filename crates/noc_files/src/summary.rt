@@ -1,13 +1,14 @@
 //! The summary report (docs/FORMATS.md).
 
-ghost use Rattle.std.specs.Prelude.{◌+◌, ◌*◌, ◌^◌, ◌<◌, ◌≤◌, ◌++◌, [], length, nat_le, sum, true, ◌≡◌, ℕ, List, Some, None};
+ghost use Rattle.std.specs.Prelude.{◌+◌, ◌*◌, ◌^◌, ◌<◌, ◌≤◌, ◌++◌, [], length, nat_le, slice_index, sum, true, ◌≡◌, ℕ, List, Some, None};
 ghost use Rattle.std.specs.List.{flat_map, list_all};
 ghost use Rattle.noc_topo.specs.Shape.{nodes, ports};
-ghost use Rattle.noc_files.specs.Channels.{over_port, over_router};
-ghost use Rattle.noc_files.specs.Summary.{IsGreatest, column_entry, column_total, entry_value, greatest_of, latencies, summary_line, summary_lines, summary_of, summary_text};
+ghost use Rattle.noc_topo.specs.Lists.{tabulate};
+ghost use Rattle.noc_view.specs.declared.verdict.TheConstants.Verdict.{ALL};
+ghost use Rattle.noc_files.specs.Summary.{AreRaised, AreUpTo, IsGreatest, column_total, entry_value, greatest_of, latencies, port_total, router_total, summary_line, summary_lines, summary_of, summary_text, total_line};
 ghost use Rattle.noc_files.specs.Writing.{Wrote, dash_or};
 ghost use Rattle.noc_files.specs.declared.page.TheConstants.{PAGE};
-ghost use Rattle.noc_files.specs.declared.summary.TheConstants.{ENTRIES, LINE, LONGEST_NAME, WIDE};
+ghost use Rattle.noc_files.specs.declared.summary.TheConstants.{LINE, LONGEST_NAME, WIDE};
 
 use crate::latency::latency;
 use crate::page::Page;
@@ -17,13 +18,10 @@ use crate::writing::{WriteFault, put_all};
 use itoa::Buffer;
 use noc_net::Network;
 use noc_packet::{INDICES, MAX_CHANNELS};
-use noc_router::VERDICTS;
-
-// The most lines of a summary.
-const ENTRIES: usize = 8 + VERDICTS;
+use noc_view::{VERDICTS, Verdict};
 
 // The most bytes of a name, of a number of 128 bits, and of a line of both.
-const LONGEST_NAME: usize = 15;
+pub(crate) const LONGEST_NAME: usize = 15;
 
 const WIDE: usize = 40;
 
@@ -66,18 +64,39 @@ fn add_number(number: Option<u128>, page: &mut Page)
     }
 }
 
-// Fills a page with lines of names and numbers.
-fn fill(entries: &[(&str, Option<u128>)], page: &mut Page)
-    requires names { list_all (λ entry. nat_le (length entry.0.now) LONGEST_NAME) entries.now ≡ true }
-    requires few { length entries.now ≤ ENTRIES }
-    ensures { page.new ≡ flat_map (λ entry. summary_line (entry_value entry)) entries.now }
+// Adds the line of a name and a number.
+fn add_line(name: &str, number: Option<u128>, page: &mut Page)
+    requires name { length name.now ≤ LONGEST_NAME }
+    requires room { length page.old + LINE ≤ PAGE }
+    ensures added { page.new ≡ page.old ++ summary_line (name.now, number) }
+    ensures short { length page.new ≤ length page.old + LINE }
 {
-    page.clear();
+    page.add(name);
+    page.add_byte(b' ');
+    add_number(number, page);
+    page.add_byte(b'\n');
+}
+
+// Adds lines of names and numbers.
+fn add_lines(entries: &[(&str, Option<u128>)], page: &mut Page)
+    requires names { list_all (λ entry. nat_le (length entry.0.now) LONGEST_NAME) entries.now ≡ true }
+    requires room { length page.old + LINE * length entries.now ≤ PAGE }
+    ensures added { page.new ≡ page.old ++ flat_map (λ entry. summary_line (entry_value entry)) entries.now }
+    ensures short { length page.new ≤ length page.old + LINE * length entries.now }
+{
     for entry in entries {
-        page.add(entry.0);
-        page.add_byte(b' ');
-        add_number(entry.1, page);
-        page.add_byte(b'\n');
+        add_line(entry.0, entry.1, page);
+    }
+}
+
+// Adds the lines of the totals.
+fn add_totals(totals: &[u128; VERDICTS], page: &mut Page)
+    requires { length page.old + LINE * VERDICTS ≤ PAGE }
+    ensures { page.new ≡ page.old ++ flat_map (total_line totals.now) ALL }
+{
+    for index in 0..VERDICTS {
+        let name = Verdict::ALL[index].column_name();
+        add_line(name, Some(totals[index]), page);
     }
 }
 
@@ -95,18 +114,10 @@ fn fill_summary(s: &Summary, page: &mut Page)
         ("latency_max", s.latency_max),
         ("last_event", s.last_event),
         ("misfits", Some(s.misfits)),
-        ("empty", Some(s.totals[0])),
-        ("routed", Some(s.totals[1])),
-        ("granted", Some(s.totals[2])),
-        ("moved", Some(s.totals[3])),
-        ("no_flit", Some(s.totals[4])),
-        ("no_idle_channel", Some(s.totals[5])),
-        ("lost_channel", Some(s.totals[6])),
-        ("no_credit", Some(s.totals[7])),
-        ("lost_input", Some(s.totals[8])),
-        ("lost_switch", Some(s.totals[9])),
     ];
-    fill(&entries, page);
+    page.clear();
+    add_lines(&entries, page);
+    add_totals(&s.totals, page);
 }
 
 // Counts the latencies of the packets whose tails are out, and finds their sum and the greatest of them.
@@ -119,8 +130,8 @@ fn latencies(network: &Network) -> LatencyTotals
     let mut count = 0usize;
     let mut sum = 0u128;
     let mut greatest: Option<u64> = None;
-    for number in 0..network.packets() {
-        if let Some(latency) = latency(network, number) {
+    for packet in 0..network.packets() {
+        if let Some(latency) = latency(network, packet) {
             count += 1;
             sum += u128::from(latency);
             greatest = Some(greatest.unwrap_or(0).max(latency));
@@ -140,49 +151,51 @@ pub fn the_greatest_is_one_of_them()
     ensures none { (ns : List ℕ) → greatest_of ns ≡ None → ns ≡ [] }
 {}
 
-// The sum of a column of the stall report over the channels of an input port.
-fn port_total(network: &Network, router: usize, port: usize, column: usize) -> u128
+// Adds the counts of a channel to totals.
+fn add(totals: &mut [u128; VERDICTS], counts: &[u64; VERDICTS])
+    requires { AreUpTo (2 ^ 127) totals.old }
+    ensures { AreRaised (slice_index counts.now) 1 totals.old totals.new }
+{
+    for column in 0..VERDICTS {
+        totals[column] += u128::from(counts[column]);
+    }
+}
+
+// Adds the counts of the channels of an input port to totals.
+fn add_port(totals: &mut [u128; VERDICTS], network: &Network, router: usize, port: usize)
     requires router { router < nodes network.now.net.relation.grid }
     requires port { port < ports network.now.net.relation.grid }
-    requires column { column < 10 }
-    ensures bound { result ≤ MAX_CHANNELS * 2 ^ 64 }
-    ensures value { result ≡ sum (over_port network.now.net.relation router (column_entry network.now column router) port) }
+    requires few { AreUpTo (2 ^ 126) totals.old }
+    ensures { AreRaised (port_total network.now router port) MAX_CHANNELS totals.old totals.new }
 {
     if !has_inputs(network.relation().shape(), router, port) {
-        return 0;
+        return;
     }
-    let mut total = 0u128;
     for vc in 0..network.relation().vcs() {
-        total += u128::from(network.counts(router, port, vc)[column]);
+        add(totals, &network.counts(router, port, vc));
     }
-    total
 }
 
-// The sum of a column of the stall report over the channels of a router.
-fn router_total(network: &Network, router: usize, column: usize) -> u128
+// Adds the counts of the channels of a router to totals.
+fn add_router(totals: &mut [u128; VERDICTS], network: &Network, router: usize)
     requires router { router < nodes network.now.net.relation.grid }
-    requires column { column < 10 }
-    ensures bound { result ≤ INDICES * 2 ^ 64 }
-    ensures value { result ≡ sum (over_router network.now.net.relation router (column_entry network.now column router)) }
+    requires few { AreUpTo (2 ^ 125) totals.old }
+    ensures { AreRaised (router_total network.now router) INDICES totals.old totals.new }
 {
-    let mut total = 0u128;
     for port in 0..network.relation().shape().ports() {
-        total += port_total(network, router, port, column);
+        add_port(totals, network, router, port);
     }
-    total
 }
 
-// The sum of a column of the stall report.
-#[tactic(auto, unfolding(crate::specs::Summary::column_total))]
-fn column_total(network: &Network, column: usize) -> u128
-    requires { column < 10 }
-    ensures { result ≡ column_total network.now column }
+// The sum of each column of the stall report.
+fn totals(network: &Network) -> [u128; VERDICTS]
+    ensures { result ≡ tabulate VERDICTS (column_total network.now) }
 {
-    let mut total = 0u128;
+    let mut totals = [0; VERDICTS];
     for router in 0..network.relation().shape().nodes() {
-        total += router_total(network, router, column);
+        add_router(&mut totals, network, router);
     }
-    total
+    totals
 }
 
 // The summary of a network.
@@ -201,18 +214,7 @@ fn summary_of(network: &Network) -> Summary
         latency_max: latencies.greatest.map(u128::from),
         last_event: network.last_event().map(u128::from),
         misfits: u128::from(network.misfits()),
-        totals: [
-            column_total(network, 0),
-            column_total(network, 1),
-            column_total(network, 2),
-            column_total(network, 3),
-            column_total(network, 4),
-            column_total(network, 5),
-            column_total(network, 6),
-            column_total(network, 7),
-            column_total(network, 8),
-            column_total(network, 9),
-        ],
+        totals: totals(network),
     }
 }
 

@@ -4,7 +4,7 @@ ghost use Rattle.std.specs.Prelude.{◌≡◌, ◌↔◌, ℕ, List, Ok, Err};
 ghost use Rattle.csv.specs.Records.{fields_of};
 ghost use Rattle.noc_route.specs.declared.rule.RouteRow.{RouteRow as Route};
 ghost use Rattle.noc_topo.specs.Shape.{Grid, IsGrid};
-ghost use Rattle.noc_topo.specs.Words.{Each};
+ghost use Rattle.noc_topo.specs.Lists.{Each};
 ghost use Rattle.noc_files.specs.declared.fault.InputFault.{InputFault as Fault};
 ghost use Rattle.noc_files.specs.Gives.{Gives};
 ghost use Rattle.noc_files.specs.Table.{route_row_of, table_of, table_text, IsTable, IsTableFault, IsWritableRow};

@@ -4,34 +4,35 @@ ghost use Rattle.std.specs.Prelude.{◌≡◌, ℕ, ◌+◌, ◌*◌, ◌/◌, �
 ghost use Rattle.noc_topo.specs.Shape.{nodes, ports};
 ghost use Rattle.noc_packet.specs.Set.{has_bit};
 ghost use Rattle.noc_route.specs.Routes.{Routes as RoutesValue};
-ghost use Rattle.noc_router.specs.Found.{empty_finding};
-ghost use Rattle.noc_router.specs.declared.verdict.Finding.{Finding as FindingValue};
+ghost use Rattle.noc_view.specs.Found.{empty_finding};
+ghost use Rattle.noc_view.specs.declared.finding.Finding.{Finding as FindingValue};
 ghost use Rattle.noc_theory.specs.Lockstep.{findings_before, findings_in_cycle};
 ghost use Rattle.noc_theory.specs.Network.{Run as RunValue, Setup as SetupValue, size};
 ghost use Rattle.noc_files.specs.Channels.{AreInputs};
 ghost use Rattle.noc_files.specs.Findings.{found_line};
 ghost use Rattle.noc_files.specs.Ports.{name_of_port};
 ghost use Rattle.noc_files.specs.Stalls.{channel_counts};
-ghost use Rattle.noc_files.specs.Trace.{AreRows, has_below, finds_empty, is_asking, is_same, kept_at, kept_line, member_text, nothing_found, over_traced, permitted_text, permitted_to, said_by_both, set_text, traced_finding, told_counts, told_text, trace_line, trace_text, traced_line, way_text, when_text, whole};
-ghost use Rattle.noc_files.specs.Word.{AreWords, word_text};
+ghost use Rattle.noc_files.specs.Trace.{AreRows, has_below, finds_empty, is_asking, is_same, is_wanted, kept_at, kept_line, member_text, nothing_found, over_traced, permitted_text, permitted_to, said_by_both, set_text, traced_finding, told_counts, told_text, trace_line, trace_text, traced_line, way_text, when_text, whole};
+ghost use Rattle.noc_files.specs.Labels.{AreLabels, label_text};
 ghost use Rattle.noc_files.specs.Writing.{Puts, Wrote, comma, taken, text_of_pieces, line_end};
 ghost use Rattle.noc_files.specs.declared.page.TheConstants.{PAGE};
 ghost use Rattle.noc_files.specs.declared.pages.TheConstants.{LONGEST_TEXT};
 ghost use Rattle.noc_files.specs.declared.trace.TheConstants.{MEMBER, SET, TOLD};
 
 use crate::inputs::{Inputs, inputs_of};
+use crate::label::{LABEL, Label};
+use crate::labels::{LONGEST_VERDICT, Labels};
 use crate::listing::{Lines, Listing};
 use crate::page::Page;
 use crate::pages::put_pages;
 use crate::sink::Sink;
-use crate::word::{WORD, Word};
-use crate::words::{LONGEST_VERDICT, Words};
 use crate::writing::{WriteFault, put_all};
+use noc_commands::VerdictSet;
 use noc_net::{CYCLE_LIMIT, Network};
 use noc_packet::{ChannelSet, INDICES, Memory};
 use noc_route::Relation;
-use noc_router::{Finding, Verdict};
 use noc_topo::Shape;
+use noc_view::{Finding, Verdict};
 use std::alloc::Global;
 use std::marker::Model;
 
@@ -42,6 +43,8 @@ pub struct Traced {
     pub router: Option<usize>,
     /// Those that hold this packet, or all.
     pub packet: Option<u64>,
+    /// The lines with these verdicts, or all.
+    pub verdicts: Option<VerdictSet>,
     /// Only what is another thing than was told of the channel in the cycle before.
     pub changes: bool,
 }
@@ -55,7 +58,7 @@ pub struct Trace {
 
 impl Model for Trace {
     ghost use Rattle.std.specs.Prelude.{List, map};
-    ghost use Rattle.noc_router.specs.declared.verdict.Finding.{Finding as FindingValue};
+    ghost use Rattle.noc_view.specs.declared.finding.Finding.{Finding as FindingValue};
     ghost use Rattle.noc_files.specs.declared.trace.Traced.{Traced as TracedValue};
 
     ghost Value = { TracedValue × List (List FindingValue) };
@@ -128,17 +131,10 @@ fn empty_rows(alloc: Global, network: &Network) -> Result<Vec<Vec<Finding>>, Mem
     let channels = relation.shape().ports() * relation.vcs();
     let mut rows = Vec::with_capacity(alloc, relation.shape().nodes())?;
     for _ in 0..relation.shape().nodes() {
-        rows.push(vec![in alloc; NOTHING; channels]?)?;
+        rows.push(vec![in alloc; Finding::EMPTY; channels]?)?;
     }
     Ok(rows)
 }
-
-// What is found of a channel that holds nothing.
-const NOTHING: Finding = Finding {
-    verdict: Verdict::Empty,
-    packet: None,
-    out: None,
-};
 
 // What a trace tells of one of these channels: nothing where it is Empty or not one of those that are traced.
 fn told_at(packet: Option<u64>, findings: &[Finding], index: usize) -> Option<&Finding>
@@ -186,6 +182,16 @@ fn is_same(before: Option<&Finding>, now: Option<&Finding>) -> bool
         (None, None) => true,
         (Some(before), Some(now)) => before == now,
         _ => false,
+    }
+}
+
+// Whether lines with a verdict are written.
+fn is_wanted(verdicts: Option<VerdictSet>, verdict: Verdict) -> bool
+    ensures { result ≡ is_wanted verdicts verdict }
+{
+    match verdicts {
+        Some(verdicts) => verdicts.contains(verdict),
+        None => true,
     }
 }
 
@@ -245,15 +251,15 @@ fn next_member(set: ChannelSet, from: usize, count: usize) -> usize
 }
 
 // The most bytes of an output channel with a space before it, of a set of them, and of what is told of an input channel.
-const MEMBER: usize = WORD + 1;
+const MEMBER: usize = LABEL + 1;
 
 const SET: usize = INDICES * MEMBER;
 
-const TOLD: usize = LONGEST_VERDICT + WORD + SET + 2;
+const TOLD: usize = LONGEST_VERDICT + LABEL + SET + 2;
 
 // Adds the output channels of a set, by rising index, with a space between.
-fn add_set(relation: &Relation, words: &Words, set: ChannelSet, page: &mut Page)
-    requires words { AreWords relation.now words.now }
+fn add_set(relation: &Relation, labels: &Labels, set: ChannelSet, page: &mut Page)
+    requires labels { AreLabels relation.now labels.now }
     requires room { length page.old + SET ≤ PAGE }
     ensures added { page.new ≡ page.old ++ set_text relation.now set }
     ensures short { length page.new ≤ length page.old + SET }
@@ -262,7 +268,7 @@ fn add_set(relation: &Relation, words: &Words, set: ChannelSet, page: &mut Page)
     let mut has_some = false;
     let mut index = next_member(set, 0, count);
     while index < count {
-        add_member(relation, words, index, has_some, page);
+        add_member(relation, labels, index, has_some, page);
         has_some = true;
         index = next_member(set, index + 1, count);
     }
@@ -270,8 +276,8 @@ fn add_set(relation: &Relation, words: &Words, set: ChannelSet, page: &mut Page)
 
 // Adds an output channel, with a space before it where there are some before.
 #[inline]
-fn add_member(relation: &Relation, words: &Words, index: usize, has_some: bool, page: &mut Page)
-    requires words { AreWords relation.now words.now }
+fn add_member(relation: &Relation, labels: &Labels, index: usize, has_some: bool, page: &mut Page)
+    requires labels { AreLabels relation.now labels.now }
     requires index { index < ports relation.now.grid * relation.now.vcs }
     requires few { index < INDICES }
     requires room { length page.old + MEMBER ≤ PAGE }
@@ -279,7 +285,7 @@ fn add_member(relation: &Relation, words: &Words, index: usize, has_some: bool, 
     ensures short { length page.new ≤ length page.old + MEMBER }
 {
     add_gap(has_some, page);
-    page.add_word(&words.channels[index]);
+    page.add_label(&labels.channels[index]);
 }
 
 // Adds a space where there are some before.
@@ -296,14 +302,14 @@ fn add_gap(has_some: bool, page: &mut Page)
 
 // Adds the output channels that were permitted, or a dash, and the end of the line.
 #[inline]
-fn add_permitted(relation: &Relation, words: &Words, set: Option<ChannelSet>, page: &mut Page)
-    requires words { AreWords relation.now words.now }
+fn add_permitted(relation: &Relation, labels: &Labels, set: Option<ChannelSet>, page: &mut Page)
+    requires labels { AreLabels relation.now labels.now }
     requires room { length page.old + SET + 1 ≤ PAGE }
     ensures added { page.new ≡ page.old ++ permitted_text relation.now set }
     ensures short { length page.new ≤ length page.old + SET + 1 }
 {
     match set {
-        Some(set) => add_set(relation, words, set, page),
+        Some(set) => add_set(relation, labels, set, page),
         None => page.add_byte(b'-'),
     }
     page.add_byte(b'\n');
@@ -313,14 +319,14 @@ fn add_permitted(relation: &Relation, words: &Words, set: Option<ChannelSet>, pa
 #[inline]
 fn add_told(
     network: &Network,
-    words: &Words,
+    labels: &Labels,
     router: usize,
     port: usize,
     vc: usize,
     finding: &Finding,
     page: &mut Page,
 )
-    requires words { AreWords network.now.net.relation words.now }
+    requires labels { AreLabels network.now.net.relation labels.now }
     requires router { router < nodes network.now.net.relation.grid }
     requires port { port < ports network.now.net.relation.grid }
     requires vc { vc < network.now.net.relation.vcs }
@@ -331,23 +337,23 @@ fn add_told(
     let relation = network.relation();
     // (the count says that there are no more than eight)
     prove!(vc < relation.vcs());
-    words.add_verdict(relation, port, vc, finding, page);
-    words.add_out(relation, finding.out, page);
+    labels.add_verdict(relation, port, vc, finding, page);
+    labels.add_out(relation, finding.out, page);
     page.add_byte(b',');
     let set = permitted_to(network, router, port, vc, finding);
-    add_permitted(relation, words, set, page);
+    add_permitted(relation, labels, set, page);
 }
 
 // The lines of a trace in the last cycle of a network, which has this number.
 #[derive(Drop)]
 struct CycleLines<'a> {
     network: &'a Network,
-    words: &'a Words,
+    labels: &'a Labels,
     trace: &'a Trace,
     cycle: u64,
-    number: Word,
-    ghost named: { AreWords network.now.net.relation words.now },
-    ghost numbered: { word_text number ≡ decimal cycle ++ comma },
+    number: Label,
+    ghost named: { AreLabels network.now.net.relation labels.now },
+    ghost numbered: { label_text number ≡ decimal cycle ++ comma },
 }
 
 impl<'a> Lines for CycleLines<'a> {
@@ -375,11 +381,14 @@ impl<'a> Lines for CycleLines<'a> {
         if is_same(before_it, now) {
             return;
         }
-        let nothing = NOTHING;
+        let nothing = Finding::EMPTY;
         let finding = now.unwrap_or(&nothing);
-        page.add_word(&self.number);
+        if !is_wanted(trace.traced.verdicts, finding.verdict) {
+            return;
+        }
+        page.add_label(&self.number);
         page.add_column(router as u64);
-        add_told(self.network, self.words, router, port, vc, finding, page);
+        add_told(self.network, self.labels, router, port, vc, finding, page);
     }
 }
 
@@ -387,14 +396,14 @@ impl<'a> Lines for CycleLines<'a> {
 fn put_cycle<W: Sink>(
     network: &Network,
     inputs: &Inputs,
-    words: &Words,
+    labels: &Labels,
     trace: &Trace,
     cycle: u64,
     page: &mut Page,
     sink: &mut W,
 ) -> Result<u64, WriteFault>
     requires inputs { AreInputs network.now.net.relation.grid inputs.now }
-    requires words { AreWords network.now.net.relation words.now }
+    requires labels { AreLabels network.now.net.relation labels.now }
     requires last { network.now.count ≡ cycle + 1 }
     requires router { IfSome trace.now.0.router (λ router. router < nodes network.now.net.relation.grid) }
     ensures puts { Puts W.contents W.has_failed sink.old sink.new (over_traced network.now.net.relation trace.now.0.router (kept_line network.now trace.now.0 trace.now.1 cycle)) result }
@@ -404,10 +413,10 @@ fn put_cycle<W: Sink>(
     page.add_column(cycle);
     let lines = CycleLines {
         network,
-        words,
+        labels,
         trace,
         cycle,
-        number: Word::of(page.text()),
+        number: Label::of(page.text()),
     };
     let relation = network.relation();
     let shape = relation.shape();
@@ -423,9 +432,10 @@ fn put_cycle<W: Sink>(
 }
 
 /// Runs a network for so many cycles more, and writes the trace of them as it goes: for each cycle, each router and each of its
-/// input channels, in the order of the stall report, a line if another thing is told of the channel than was told before. In a trace
-/// of changes that is what was told in the cycle before, within the trace; in another trace nothing was. The router exists. The lines
-/// of a cycle are handed on before the next one. It stays a call, so that its callers need no stack for a page.
+/// input channels, in the order of the stall report, a line if another thing is told of the channel than was told before, and if
+/// lines with its verdict are written. In a trace of changes, what was told before is that of the cycle before, within the trace; in
+/// another trace nothing was. The router exists. The lines of a cycle are handed on before the next one. It stays a call, so that
+/// its callers need no stack for a page.
 #[inline(never)]
 pub fn write_trace<W: Sink>(
     network: &mut Network,
@@ -444,16 +454,16 @@ pub fn write_trace<W: Sink>(
     let mut written = header.len() as u64;
     let first = network.count();
     let inputs = inputs_of(network.relation().shape());
-    let words = Words::of(network.relation());
+    let labels = Labels::of(network.relation());
     let mut page = Page::new();
-    for turn in 0..cycles {
+    for step in 0..cycles {
         network.cycle();
         match put_cycle(
             network,
             &inputs,
-            &words,
+            &labels,
             &trace,
-            first + turn,
+            first + step,
             &mut page,
             sink,
         ) {

@@ -3,7 +3,7 @@
 ghost use Rattle.std.specs.Prelude.{◌≡◌, ◌↔◌, ℕ, List, Ok, Err};
 ghost use Rattle.csv.specs.Records.{fields_of};
 ghost use Rattle.noc_packet.specs.declared.packet.Packet.{Packet as PacketValue};
-ghost use Rattle.noc_topo.specs.Words.{Each};
+ghost use Rattle.noc_topo.specs.Lists.{Each};
 ghost use Rattle.noc_files.specs.declared.fault.InputFault.{InputFault as Fault};
 ghost use Rattle.noc_files.specs.Gives.{Gives};
 ghost use Rattle.noc_files.specs.Traffic.{packet_of, traffic_of, traffic_text, IsTraffic, IsTrafficFault, IsWritablePacket};

@@ -35,32 +35,32 @@ pub fn relation(
     Ok(Relation::build(alloc, &shape, vcs, 1, rule)?)
 }
 
-/// The network of a relation with so many places in each buffer, 1 to 16.
+/// The network of a relation with buffers of this depth, 1 to 16 flits.
 pub fn network(
     alloc: Global,
     relation: Relation,
-    places: usize,
+    depth: usize,
     packets: &[Packet],
 ) -> Result<Network, Fail>
-    requires some_place { 0 < places }
-    requires places { places ≤ MAX_BUFFER }
+    requires some_depth { 0 < depth }
+    requires depth { depth ≤ MAX_BUFFER }
     ensures relation { IfOk result (λ n. n.net.relation ≡ relation) }
     ensures count { IfOk result (λ n. n.count ≡ 0) }
 {
     let packets = packets.to_vec(alloc)?;
-    Ok(Network::new(alloc, relation, places, packets)?)
+    Ok(Network::new(alloc, relation, depth, packets)?)
 }
 
-/// A line of two routers with one channel on each link, and with so many places in each buffer, 1 to 16.
-pub fn line_of_two(alloc: Global, places: usize, packets: &[Packet]) -> Result<Network, Fail>
-    requires some_place { 0 < places }
-    requires places { places ≤ MAX_BUFFER }
+/// A line of two routers with one channel on each link, and with buffers of this depth, 1 to 16 flits.
+pub fn line_of_two(alloc: Global, depth: usize, packets: &[Packet]) -> Result<Network, Fail>
+    requires some_depth { 0 < depth }
+    requires depth { depth ≤ MAX_BUFFER }
     ensures grid { IfOk result (λ n. n.net.relation.grid ≡ record { wraps = false; radix = 2 ∷ [] }) }
     ensures count { IfOk result (λ n. n.count ≡ 0) }
 {
     let shape = Shape::new(Kind::Mesh, &[2])?;
     let line = Relation::build(alloc, &shape, 1, 1, Rule::Dor)?;
-    network(alloc, line, places, packets)
+    network(alloc, line, depth, packets)
 }
 
 /// A line of three routers, in which packet 0 waits for the channel of packet 1: they are out in cycles 10 and 5.

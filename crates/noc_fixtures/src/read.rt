@@ -1,12 +1,12 @@
 //! What is read of a network by numbers that may be out of its ranges.
 
 use noc_net::Network;
-use noc_router::VERDICTS;
+use noc_view::VERDICTS;
 
 /// When a packet was out. None where it is not out or does not exist.
-pub fn arrival(network: &Network, number: usize) -> Option<u64> {
-    if number < network.packets() {
-        network.arrival(number)
+pub fn arrival(network: &Network, packet: usize) -> Option<u64> {
+    if packet < network.packets() {
+        network.arrival(packet)
     } else {
         None
     }

@@ -7,8 +7,8 @@ use Rattle.std.proofs.lemmas.List.{take_all}
 use Rattle.std.proofs.lemmas.Option.{get_or_from_slice_get, slice_get_within, slice_get-get_or, same_Some}
 use Rattle.std.proofs.lemmas.List.Folds.{list_all_more, list_all_at}
 use Rattle.std.proofs.lemmas.List.Sums.{sum_by_more}
-use Rattle.noc_topo.specs.Words.{below}
-use Rattle.noc_topo.proofs.WordLemmas.{length-below, get_or-below}
+use Rattle.noc_topo.specs.Lists.{below}
+use Rattle.noc_topo.proofs.ListLemmas.{length-below, get_or-below}
 use Rattle.noc_packet.specs.declared.packet.Packet.{Packet}
 use Rattle.noc_route.specs.Ranks.{IsRankedBy, Ranking}
 use Rattle.noc_theory.specs.Good.{IsGoodPacket, IsGoodSetup}

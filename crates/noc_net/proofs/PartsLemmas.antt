@@ -6,7 +6,7 @@ use Rattle.noc_theory.specs.declared.limits.TheConstants.{CYCLE_LIMIT}
 use Rattle.noc_theory.specs.Good.{IsGoodSetup}
 use Rattle.noc_theory.specs.Halves.{beat_at}
 use Rattle.noc_theory.specs.Lockstep.{lockstep_at}
-use Rattle.noc_router.specs.declared.verdict.Findings.TheVariants.{Record}
+use Rattle.noc_view.specs.declared.finding.Recording.TheVariants.{Record}
 use Rattle.noc_theory.specs.Unseen.{AreInStep}
 use Rattle.noc_net.specs.declared.parts.Parts.{Parts}
 use Rattle.noc_net.specs.Parts.{AreParts, setup_in}

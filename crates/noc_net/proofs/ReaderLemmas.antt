@@ -6,10 +6,10 @@ use Rattle.std.proofs.lemmas.Bool.{ltb-true, ltb-false}
 use Rattle.std.proofs.lemmas.Option.{same_Some}
 use Rattle.std.proofs.lemmas.List.{take_all}
 use Rattle.std.proofs.lemmas.List.Folds.{list_any_more, list_any_at}
-use Rattle.noc_topo.specs.Words.{Has, below, tabulate}
+use Rattle.noc_topo.specs.Lists.{Has, below, tabulate}
 use Rattle.noc_topo.specs.Shape.{nodes}
-use Rattle.noc_topo.proofs.WordLemmas.{length-below, get_or-below, length-tabulate, get_or-tabulate}
-use Rattle.noc_router.specs.View.{View}
+use Rattle.noc_topo.proofs.ListLemmas.{length-below, get_or-below, length-tabulate, get_or-tabulate}
+use Rattle.noc_view.specs.View.{View}
 use Rattle.noc_net.specs.declared.parts.Parts.{Parts}
 use Rattle.noc_net.specs.Parts.{AreParts, run_in, setup_in}
 use Rattle.noc_net.specs.Latest.{later_of, latest_of}

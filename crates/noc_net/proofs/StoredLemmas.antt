@@ -6,13 +6,13 @@ use Rattle.std.proofs.lemmas.Option.{same_Some, slice_get_past, slice_get-get_or
 use Rattle.std.specs.Prelude.{if◌then◌else◌}
 use Rattle.std.specs.List.{list_all}
 use Rattle.std.proofs.lemmas.List.{get_or-take, get_or_past, length-set, same_lists}
-use Rattle.noc_topo.specs.Words.{map_indexed, tabulate}
-use Rattle.noc_topo.proofs.WordLemmas.{get_or-map_indexed, get_or-tabulate, length-map_indexed, length-tabulate, tabulate-from_each}
+use Rattle.noc_topo.specs.Lists.{map_indexed, tabulate}
+use Rattle.noc_topo.proofs.ListLemmas.{get_or-map_indexed, get_or-tabulate, length-map_indexed, length-tabulate, tabulate-from_each}
 use Rattle.noc_topo.proofs.LinkLemmas.{link_back, nodes-some}
 use Rattle.noc_packet.specs.declared.packet.Beat.{Beat}
 use Rattle.noc_topo.specs.Shape.{local_port, neighbour, nodes}
 use Rattle.noc_route.proofs.OptionLemmas.{no-value, some-value}
-use Rattle.noc_router.specs.View.{Site, View, IsRelationOf, idle_beat}
+use Rattle.noc_view.specs.View.{Site, View, IsRelationOf, idle_beat}
 use Rattle.noc_theory.specs.declared.event.Event.{Event}
 use Rattle.noc_theory.specs.declared.event.Event.TheVariants.{Take, Decide, Put}
 use Rattle.noc_theory.specs.declared.limits.TheConstants.{CYCLE_LIMIT}

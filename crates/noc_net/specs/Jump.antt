@@ -1,10 +1,10 @@
 -- A network in which nothing happens for some cycles.
 use Rattle.std.specs.Prelude.{◌≡◌, ℕ, Bool, false, List}
 use Rattle.std.specs.List.{All, list_any}
-use Rattle.noc_topo.specs.Words.{is_some_of}
+use Rattle.noc_topo.specs.Lists.{is_some_of}
 use Rattle.noc_route.specs.Routes.{Routes}
-use Rattle.noc_router.specs.Still.{takes_effect}
-use Rattle.noc_router.specs.View.{View}
+use Rattle.noc_view.specs.Still.{takes_effect}
+use Rattle.noc_view.specs.View.{View}
 
 -- whether one of these routers had its last event in this cycle
 abbrev pub had_event_in : ℕ → List View → Bool

@@ -1,6 +1,6 @@
 -- The latest of the last events of some routers.
 use Rattle.std.specs.Prelude.{ℕ, List, fold, Option, Some, None, nat_lt, if◌then◌else◌}
-use Rattle.noc_router.specs.View.{View}
+use Rattle.noc_view.specs.View.{View}
 
 -- the later of two cycles, where there are any
 abbrev pub later_of : Option ℕ → Option ℕ → Option ℕ

@@ -1,7 +1,7 @@
 -- Whether all packets are out, and by when they have to be (docs/MODEL.md, "Events, pending, stuck").
 use Rattle.std.specs.Prelude.{◌≡◌, ◌⊎◌, ℕ, ◌+◌, ◌≤◌, Bool, List, Some, length, is_some, slice_get}
 use Rattle.std.specs.List.{list_all}
-use Rattle.noc_topo.specs.Words.{below}
+use Rattle.noc_topo.specs.Lists.{below}
 use Rattle.noc_packet.specs.declared.packet.Packet.{Packet}
 use Rattle.noc_theory.specs.Network.{Setup, State, arrival_in}
 use Rattle.noc_theory.specs.Progress.{budget}

@@ -1,7 +1,7 @@
 -- A network taken apart (docs/MODEL.md, "One router and the whole network").
 use Rattle.std.specs.Prelude.{◌≡◌, ℕ, ◌≤◌, vec_len}
 use Rattle.noc_topo.specs.Shape.{nodes}
-use Rattle.noc_topo.specs.Words.{tabulate}
+use Rattle.noc_topo.specs.Lists.{tabulate}
 use Rattle.noc_theory.specs.declared.limits.TheConstants.{CYCLE_LIMIT}
 use Rattle.noc_theory.specs.Good.{IsGoodSetup}
 use Rattle.noc_theory.specs.Halves.{beat_at}
@@ -10,7 +10,7 @@ use Rattle.noc_theory.specs.Network.{Setup, Run, state_at}
 use Rattle.noc_net.specs.declared.parts.Parts.{Parts}
 
 abbrev pub setup_in : Parts → Setup
-setup_in parts = record { relation = parts.relation; places = parts.buffer; packets = parts.packets.items }
+setup_in parts = record { relation = parts.relation; depth = parts.buffer; packets = parts.packets.items }
 
 -- the four values of the network that parts are of
 abbrev pub run_in : Parts → Run

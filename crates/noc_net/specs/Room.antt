@@ -1,9 +1,9 @@
 -- What is kept of a wire and of a router in a core.
 use Rattle.std.specs.Prelude.{ℕ, List, [], ◌∷◌, map, take, unwrap_or, slice_get, slice_index_or, Option, Some, None, is_some, if◌then◌else◌, replicate, Bool, false, not, ◌&&◌, nat_eq}
 use Rattle.noc_topo.specs.Shape.{Grid, local_port, neighbour}
-use Rattle.noc_topo.specs.Words.{map_indexed, tabulate}
+use Rattle.noc_topo.specs.Lists.{map_indexed, tabulate}
 use Rattle.noc_packet.specs.declared.packet.Beat.{Beat}
-use Rattle.noc_router.specs.View.{View, idle_beat}
+use Rattle.noc_view.specs.View.{View, idle_beat}
 use Rattle.noc_net.specs.declared.room.Room.{Room}
 use Rattle.noc_net.specs.declared.wire.Wire.{Wire}
 use Rattle.noc_net.specs.declared.wire.Wire.TheVariants.{Empty, One, Two}

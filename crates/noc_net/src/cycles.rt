@@ -2,10 +2,10 @@
 
 ghost use Rattle.std.specs.Prelude.{◌≡◌, ℕ, ◌+◌, ◌<◌, ◌≤◌, All, IfSome, Some, length, map};
 ghost use Rattle.noc_topo.specs.declared.limits.TheConstants.{MAX_NODES};
-ghost use Rattle.noc_topo.specs.Words.{map_indexed};
+ghost use Rattle.noc_topo.specs.Lists.{map_indexed};
 ghost use Rattle.noc_topo.specs.Shape.{nodes as nodes_of, neighbour as neighbour_of};
-ghost use Rattle.noc_router.specs.declared.verdict.Findings.TheVariants.{Leave, Record};
-ghost use Rattle.noc_router.specs.View.{IsRelationOf, idle_beat};
+ghost use Rattle.noc_view.specs.declared.finding.Recording.TheVariants.{Leave, Record};
+ghost use Rattle.noc_view.specs.View.{IsRelationOf, idle_beat};
 ghost use Rattle.noc_theory.specs.Halves.{ArePlaced, IsLinked, HasItsBeats, IsSilent, beat_at, view_after_decide, view_after_puts, incoming, wire_after_puts, sent_on};
 ghost use Rattle.noc_theory.specs.Lockstep.{beat_from, beats_at};
 ghost use Rattle.noc_theory.specs.Network.{Setup};
@@ -15,7 +15,7 @@ use crate::jump::jump;
 use crate::takes::take_beats;
 use noc_packet::Beat;
 use noc_route::Relation;
-use noc_router::{Findings, Plan, Router};
+use noc_router::{Plan, Recording, Router};
 use noc_topo::LINKS;
 
 // Runs the cycles from `first` to `last`. What is found is recorded in the last alone, since nobody reads what is found before.
@@ -33,7 +33,7 @@ pub(crate) fn run_all(
     ensures { (net : Setup) → net.relation ≡ relation.now → AreInStep net Leave first routers.old beats.old → AreInStep net Record (last + 1) routers.new beats.new }
 {
     skip(relation, plan, first, last, routers, beats);
-    cycle(relation, plan, last, Findings::Record, routers, beats);
+    cycle(relation, plan, last, Recording::Record, routers, beats);
 }
 
 // Runs the cycles from `first` to before `end`, and leaves the findings as they were. Those in which nothing happens are run at once.
@@ -52,7 +52,7 @@ fn skip(
 {
     let mut now = first;
     while now < end {
-        cycle(relation, plan, now, Findings::Leave, routers, beats);
+        cycle(relation, plan, now, Recording::Leave, routers, beats);
         now = jump(relation, plan, now, end, routers, beats);
     }
 }
@@ -62,16 +62,16 @@ fn cycle(
     relation: &Relation,
     plan: &mut Plan,
     cycle: u64,
-    findings: Findings,
+    recording: Recording,
     routers: &mut [Router],
     beats: &mut [[Beat; LINKS]],
 )
     requires in_step { (net : Setup) × (net.relation ≡ relation.now) × AreInStep net Leave cycle routers.old beats.old }
     requires count { length beats.old ≡ nodes_of relation.now.grid }
-    ensures in_step { (net : Setup) → net.relation ≡ relation.now → AreInStep net Leave cycle routers.old beats.old → AreInStep net findings (cycle + 1) routers.new beats.new }
+    ensures in_step { (net : Setup) → net.relation ≡ relation.now → AreInStep net Leave cycle routers.old beats.old → AreInStep net recording (cycle + 1) routers.new beats.new }
     ensures routers { All (λ v. IsRelationOf relation.now v) routers.new }
 {
-    decide_all(relation, plan, cycle, findings, routers, beats);
+    decide_all(relation, plan, cycle, recording, routers, beats);
     deliver_all(relation, routers, beats);
 }
 
@@ -80,14 +80,14 @@ fn decide_all(
     relation: &Relation,
     plan: &mut Plan,
     cycle: u64,
-    findings: Findings,
+    recording: Recording,
     routers: &mut [Router],
     beats: &mut [[Beat; LINKS]],
 )
     requires routers { All (λ v. IsRelationOf relation.now v) routers.old }
     requires beats { All (IsLinked relation.now.grid) beats.old }
     requires count { length beats.old ≡ length routers.old }
-    ensures routers { routers.new ≡ map_indexed (λ r v. view_after_decide relation.now cycle findings (incoming relation.now.grid (beats_at beats.old r)) v) routers.old }
+    ensures routers { routers.new ≡ map_indexed (λ r v. view_after_decide relation.now cycle recording (incoming relation.now.grid (beats_at beats.old r)) v) routers.old }
     ensures beats { All IsSilent beats.new }
 {
     for node in 0..routers.len() {
@@ -95,7 +95,7 @@ fn decide_all(
             relation,
             plan,
             cycle,
-            findings,
+            recording,
             &mut routers[node],
             &mut beats[node],
         );
@@ -107,17 +107,17 @@ fn decide(
     relation: &Relation,
     plan: &mut Plan,
     cycle: u64,
-    findings: Findings,
+    recording: Recording,
     router: &mut Router,
     beats: &mut [Beat; LINKS],
 )
     requires router { IsRelationOf relation.now router.old }
     requires beats { IsLinked relation.now.grid beats.old }
-    ensures router { router.new ≡ view_after_decide relation.now cycle findings (incoming relation.now.grid beats.old) router.old }
+    ensures router { router.new ≡ view_after_decide relation.now cycle recording (incoming relation.now.grid beats.old) router.old }
     ensures beats { IsSilent beats.new }
 {
     take_beats(relation, router, beats);
-    router.finish(relation, plan, cycle, findings);
+    router.finish(relation, plan, cycle, recording);
 }
 
 // Each router puts its beats on the wires that leave it, all of which are idle.
@@ -154,7 +154,7 @@ pub fn deliver(relation: &Relation, router: &mut Router, beats: &mut [[Beat; LIN
 // A beat is on the wire that arrives at this router and port, where there is a link.
 fn send(beats: &mut [[Beat; LINKS]], to: Option<(usize, usize)>, beat: Beat)
     requires few { length beats.old ≤ MAX_NODES }
-    requires within { IfSome to (λ place. (place.0 < length beats.old) × (place.1 < LINKS)) }
+    requires within { IfSome to (λ input. (input.0 < length beats.old) × (input.1 < LINKS)) }
     ensures { beats.new ≡ sent_on beats.old to beat }
 {
     if let Some((node, entry)) = to {

@@ -3,8 +3,9 @@
 ghost use Rattle.std.specs.Prelude.{◌≡◌, ℕ, [], take, slice_index_or, ◌<◌, ◌≤◌, ◌&&◌, IfErr, IfOk, Some, true, is_ok, is_some, length};
 ghost use Rattle.std.specs.List.{list_all, slice_get};
 ghost use Rattle.noc_topo.specs.Shape.{local_port, nodes as nodes_of, ports as ports_of};
-ghost use Rattle.noc_router.specs.View.{IsRelationOf, View};
+ghost use Rattle.noc_view.specs.View.{IsRelationOf, View};
 ghost use Rattle.noc_theory.specs.Core.{after_event, are_between, deciding, happens, is_linked, is_ready, opening_core, post_at, steps_at, view_of_post, wire_at};
+ghost use Rattle.noc_theory.specs.Good.{IsGoodSetup};
 ghost use Rattle.noc_theory.specs.Halves.{beat_at};
 ghost use Rattle.noc_theory.specs.Network.{Setup};
 ghost use Rattle.noc_net.specs.declared.room.Room.{Room};
@@ -148,11 +149,13 @@ impl Core {
         }
     }
 
-    /// The cycle that a router is in, or that it makes next, at most the limit; at the start the network's count.
+    /// The cycle that a router is in, or that it makes next, at most the limit; at the start the network's count. Whoever has a
+    /// core knows that its network is good, so that all laws hold of it.
     pub fn steps(&self, router: usize) -> u64
         requires { router < nodes_of self.now.net.relation.grid }
         ensures value { result ≡ steps_at self.now router }
         ensures within { result ≤ CYCLE_LIMIT }
+        ensures good { IsGoodSetup self.now.net }
     {
         self.parts.room[router].steps
     }
@@ -174,7 +177,7 @@ impl Core {
     /// found in the cycle before the core began, and nothing at count 0.
     pub fn findings(&self, router: usize) -> &[Finding]
         requires { router < nodes_of self.now.net.relation.grid }
-        ensures { (view : View) → view_of_post self.now router ≡ Some view → result.now ≡ view.findings }
+        ensures { (view : View) × (view_of_post self.now router ≡ Some view) × (result.now ≡ view.findings) }
     {
         self.parts.routers[router].findings()
     }

@@ -4,14 +4,14 @@
 //! jump is read from the state afresh, and only after a cycle without an event. So the proof owes only that a
 //! state in which nothing happens stays as it is (`proofs/runs/StillRunLemmas.antt` of noc_theory). Sources that cannot
 //! inject, for want of room or of an idle channel, do not hold time up; the next due time of the others does.
-//! `Network::cycle`, the event core and tiles do not jump: a tile does not know whether anything happens in the
-//! others.
+//! A run of one cycle (`Network::cycle`), the event core and tiles do not jump: a tile does not know whether anything
+//! happens in the others.
 
 ghost use Rattle.std.specs.Prelude.{◌≡◌, ◌↔◌, ℕ, ◌+◌, ◌-◌, ◌<◌, ◌≤◌, All, IsTrue, length, map, false};
 ghost use Rattle.noc_topo.specs.Shape.{nodes as nodes_of};
-ghost use Rattle.noc_router.specs.Still.{IsHeldBefore, view_after_waiting};
-ghost use Rattle.noc_router.specs.View.{IsRelationOf};
-ghost use Rattle.noc_router.specs.declared.verdict.Findings.TheVariants.{Leave};
+ghost use Rattle.noc_view.specs.Still.{IsHeldBefore, view_after_waiting};
+ghost use Rattle.noc_view.specs.View.{IsRelationOf};
+ghost use Rattle.noc_view.specs.declared.finding.Recording.TheVariants.{Leave};
 ghost use Rattle.noc_theory.specs.Halves.{IsSilent};
 ghost use Rattle.noc_theory.specs.Network.{Setup};
 ghost use Rattle.noc_theory.specs.Unseen.{AreInStep};

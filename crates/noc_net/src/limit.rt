@@ -33,8 +33,8 @@ impl Network {
         ensures few { result ≤ MAX_DUE }
     {
         let mut last = 0u32;
-        for number in 0..self.packets() {
-            last = last.max(self.packet(number).due);
+        for packet in 0..self.packets() {
+            last = last.max(self.packet(packet).due);
         }
         u64::from(last)
     }
@@ -47,10 +47,10 @@ impl Network {
     {
         let shape = self.relation().shape();
         let mut events = 0u64;
-        for number in 0..self.packets() {
-            let packet = self.packet(number);
-            let hops = shape.distance(packet.source as usize, packet.destination as usize) as u64;
-            events += u64::from(packet.length) * (3 * hops + 2) + 2 * (hops + 1);
+        for packet in 0..self.packets() {
+            let sent = self.packet(packet);
+            let hops = shape.distance(sent.source as usize, sent.destination as usize) as u64;
+            events += u64::from(sent.length) * (3 * hops + 2) + 2 * (hops + 1);
         }
         events
     }
@@ -60,8 +60,8 @@ impl Network {
         ensures value { result ≡ are_all_out self.now.net (state_at self.now.net self.now.count) }
         ensures ranked { (ranks : Ranking) (limit : ℕ) → IsRankedBy self.now.net.relation ranks → IsLimit self.now.net limit → limit ≤ self.now.count → result ≡ true }
     {
-        for number in 0..self.packets() {
-            if self.arrival(number).is_none() {
+        for packet in 0..self.packets() {
+            if self.arrival(packet).is_none() {
                 return false;
             }
         }

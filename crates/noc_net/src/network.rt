@@ -1,21 +1,24 @@
 //! The network.
 //!
-//! A network runs by rows (`noc_rows`) where its channels and places fit their words, and its routers stay at the
+//! A network runs by rows (`noc_rows`) where its channels and depth fit their words, and its routers stay at the
 //! count at which it was made. Where they do not fit, and after `from_parts`, its routers run. The readers ask
 //! whichever of the two has run. Nothing is carried from one to the other: `into_parts` has the routers run the
 //! cycles that the rows have run, and lets the rows go.
 
-ghost use Rattle.std.specs.Prelude.{◌≡◌, ℕ, ◌+◌, ◌*◌, ◌<◌, ◌≤◌, ◌&&◌, All, Err, IfErr, IfOk, None, Some, false, is_none, length, nat_le, vec_len};
+ghost use Rattle.std.specs.Prelude.{◌≡◌, ℕ, ◌+◌, ◌*◌, ◌<◌, ◌≤◌, ◌&&◌, All, Err, IfErr, IfOk, None, Some, false, true, is_none, length, nat_le, vec_len};
 ghost use Rattle.std.specs.List.{slice_get};
-ghost use Rattle.noc_topo.specs.Words.{tabulate};
+ghost use Rattle.noc_topo.specs.Lists.{tabulate};
 ghost use Rattle.noc_topo.specs.Shape.{nodes as nodes_of, ports as ports_of};
 ghost use Rattle.noc_route.specs.Ranks.{IsRankedBy, Ranking};
-ghost use Rattle.noc_router.specs.View.{opening_view};
+ghost use Rattle.noc_view.specs.View.{opening_view};
 ghost use Rattle.noc_net.specs.declared.fault.NetFault.TheVariants.{Memory as memory_fault};
 ghost use Rattle.noc_net.specs.declared.fault.NetFault.{NetFault as NetFaultValue};
 ghost use Rattle.noc_net.specs.Faults.{IsSendable, fault_of};
 ghost use Rattle.noc_theory.specs.Halves.{IsSilent};
-ghost use Rattle.noc_theory.specs.Lockstep.{counts_before, ends_of, findings_before, starts_of};
+ghost use Rattle.noc_theory.specs.Lockstep.{counts_before, findings_before};
+ghost use Rattle.noc_packet.specs.ByNode.{ends_of, starts_of};
+ghost use Rattle.noc_packet.specs.declared.limits.TheConstants.{MAX_BUFFER};
+ghost use Rattle.noc_router.specs.Decided.{empty_plan_contents};
 ghost use Rattle.noc_theory.specs.Good.{IsGoodSetup};
 ghost use Rattle.noc_theory.specs.Network.{arrival_in, packet_at, state_at};
 ghost use Rattle.noc_theory.specs.Progress.{is_pending, is_stuck, last_event_before};
@@ -23,24 +26,21 @@ ghost use Rattle.noc_net.specs.Parts.{AreParts, run_in};
 ghost use Rattle.noc_net.specs.Limit.{IsLimit};
 
 use crate::fault::NetFault;
-use crate::packets::{ends_at, first_fault};
+use crate::packets::first_fault;
 use crate::parts::Parts;
 use crate::room::Room;
-use noc_packet::{Beat, MAX_BUFFER, MAX_PACKETS, Memory, Packet};
+use noc_packet::{Beat, MAX_PACKETS, Memory, Packet, ends_at, starts_at};
 use noc_route::Relation;
 use noc_router::{Finding, Plan, Router, VERDICTS};
-use noc_rows::{Rows, starts_at};
+use noc_rows::Rows;
 use noc_theory::CYCLE_LIMIT;
 use noc_topo::LINKS;
 use std::alloc::Global;
 use std::marker::Model;
 
-/// The most input channels of a router, ports times virtual channels, that fit into rows.
-pub const MAX_ROW_CHANNELS: usize = 31;
-
 /// A network of routers with one wire in each direction of each link, run in lockstep.
 ///
-/// It is seen as four values: its relation, the places in each buffer, its packets, and the count of the
+/// It is seen as four values: its relation, the depth of its buffers, its packets, and the count of the
 /// cycles that it has run. What its readers answer follows from them (docs/MODEL.md).
 #[derive(Drop)]
 pub struct Network {
@@ -63,7 +63,7 @@ impl Model for Network {
 }
 
 impl Network {
-    /// A network at count 0 with `places` (1 to 16 flits) in each buffer, or the first fault: too many
+    /// A network at count 0 with buffers of `depth` (1 to 16) flits, or the first fault: too many
     /// packets; then packet by packet a node that does not exist, a packet from a node to itself, a class
     /// that does not exist, a length, a due time; then memory, where the packets have no fault.
     ///
@@ -71,12 +71,12 @@ impl Network {
     pub fn new(
         alloc: Global,
         relation: Relation,
-        places: usize,
+        depth: usize,
         packets: Vec<Packet>,
     ) -> Result<Network, NetFault>
-        requires some_place { 0 < places }
-        requires places { places ≤ MAX_BUFFER }
-        ensures made { IfOk result (λ n. n ≡ record { net = record { relation = relation; places = places; packets = packets.items }; count = 0 }) }
+        requires some_depth { 0 < depth }
+        requires depth { depth ≤ MAX_BUFFER }
+        ensures made { IfOk result (λ n. n ≡ record { net = record { relation = relation; depth = depth; packets = packets.items }; count = 0 }) }
         ensures good { IfOk result (λ n. IsGoodSetup n.net) }
         ensures fault { (e : NetFaultValue) → fault_of relation packets.items ≡ Some e → result ≡ Err e }
         ensures memory { fault_of relation packets.items ≡ None → IfErr result (λ e. e ≡ memory_fault) }
@@ -84,12 +84,12 @@ impl Network {
         if let Some(fault) = first_fault(&relation, &packets) {
             return Err(fault);
         }
-        let (routers, plan, beats, room) = new_state(alloc, &relation, places, &packets)?;
-        let rows = Rows::new(alloc, &relation, places, &packets)?;
+        let (routers, plan, beats, room) = new_state(alloc, &relation, depth, &packets)?;
+        let rows = Rows::new(alloc, &relation, depth, &packets)?;
         Ok(Network {
             parts: Parts {
                 relation,
-                buffer: places,
+                buffer: depth,
                 packets,
                 count: 0,
                 routers,
@@ -102,11 +102,13 @@ impl Network {
         })
     }
 
-    /// Takes the network apart: its routers with their findings, and its beats in flight, are those of its state at its count.
-    /// It costs as many cycles of the routers as have run by rows, since the routers run these again.
+    /// Takes the network apart: its routers with their findings, and its beats in flight, are those of its state at its count,
+    /// and its plan is one of its relation without requests. It costs as many cycles of the routers as have run by rows, since
+    /// the routers run these again.
     pub fn into_parts(self) -> Parts
         ensures network { run_in result ≡ self }
         ensures parts { AreParts result }
+        ensures plan { result.plan ≡ empty_plan_contents (ports_of result.relation.grid) result.relation.vcs }
     {
         let Network {
             mut parts,
@@ -115,6 +117,7 @@ impl Network {
         } = self;
         let behind = count - parts.count;
         parts.run(behind);
+        parts.plan.clear(&parts.relation);
         parts
     }
 
@@ -131,14 +134,12 @@ impl Network {
         }
     }
 
-    /// Whether a network of this relation and these places is made with rows (`Network::new`). One thread runs rows faster
-    /// than several run routers.
-    pub fn fits_rows(&self) -> bool
-        ensures { result ≡ (nat_le (ports_of self.now.net.relation.grid * self.now.net.relation.vcs) MAX_ROW_CHANNELS && nat_le self.now.net.places MAX_BUFFER) }
+    /// Whether it runs by rows, which one thread runs faster than several run routers: a network that was made with at most 31
+    /// input channels of a router does (`noc_rows`), and one that was put together from parts does not.
+    pub fn runs_by_rows(&self) -> bool
+        ensures { result ≡ true → ports_of self.now.net.relation.grid * self.now.net.relation.vcs ≤ 31 }
     {
-        let relation = &self.parts.relation;
-        relation.shape().ports() * relation.vcs() <= MAX_ROW_CHANNELS
-            && self.parts.buffer <= MAX_BUFFER
+        self.rows.is_some()
     }
 
     /// Runs one cycle: each router takes its beats, injects, decides and commits, and then all put. A network whose relation
@@ -185,8 +186,8 @@ impl Network {
     fn is_waiting_by(&self, cycle: u64) -> bool
         ensures { result ≡ is_pending self.now.net cycle (state_at self.now.net self.now.count) }
     {
-        for number in 0..self.packets() {
-            if self.is_waiting(number, cycle) {
+        for packet in 0..self.packets() {
+            if self.is_waiting(packet, cycle) {
                 return true;
             }
         }
@@ -194,11 +195,11 @@ impl Network {
     }
 
     // Whether a packet is due by this cycle and has its tail not out.
-    fn is_waiting(&self, number: usize, cycle: u64) -> bool
-        requires { number < length self.now.net.packets }
-        ensures { result ≡ (nat_le (packet_at self.now.net number).due cycle && is_none (arrival_in self.now.net (state_at self.now.net self.now.count) number)) }
+    fn is_waiting(&self, packet: usize, cycle: u64) -> bool
+        requires { packet < length self.now.net.packets }
+        ensures { result ≡ (nat_le (packet_at self.now.net packet).due cycle && is_none (arrival_in self.now.net (state_at self.now.net self.now.count) packet)) }
     {
-        u64::from(self.packet(number).due) <= cycle && self.arrival(number).is_none()
+        u64::from(self.packet(packet).due) <= cycle && self.arrival(packet).is_none()
     }
 
     /// The last cycle with an event, in any router.
@@ -223,14 +224,14 @@ impl Network {
     }
 
     /// The cycle in which the tail of a packet was out: one below the limit where the relation is ranked and the limit is reached.
-    pub fn arrival(&self, number: usize) -> Option<u64>
-        requires { number < length self.now.net.packets }
-        ensures value { result ≡ arrival_in self.now.net (state_at self.now.net self.now.count) number }
+    pub fn arrival(&self, packet: usize) -> Option<u64>
+        requires { packet < length self.now.net.packets }
+        ensures value { result ≡ arrival_in self.now.net (state_at self.now.net self.now.count) packet }
         ensures ranked { (ranks : Ranking) (limit : ℕ) → IsRankedBy self.now.net.relation ranks → IsLimit self.now.net limit → limit ≤ self.now.count → (cycle : ℕ) × (result ≡ Some cycle) × (cycle < limit) }
     {
         match &self.rows {
-            Some(rows) => rows.arrival(number),
-            None => self.parts.arrival(number),
+            Some(rows) => rows.arrival(packet),
+            None => self.parts.arrival(packet),
         }
     }
 
@@ -259,15 +260,15 @@ impl Network {
         }
     }
 
-    /// How many flits and credits did not fit, in all routers: none ever does.
+    /// How many flits and credits did not fit, in all routers: none ever does. Rows have none to count: a flit that comes has a
+    /// place in its buffer by the law of credits (`noc_theory::credits_are_the_places_left`).
     pub fn misfits(&self) -> u64
         ensures { result ≡ 0 }
     {
-        let mut misfits = 0u64;
-        for router in &self.parts.routers {
-            misfits = misfits.saturating_add(router.misfits());
+        match &self.rows {
+            Some(_) => 0,
+            None => self.parts.misfits(),
         }
-        misfits
     }
 
     /// The packet with this number.
@@ -299,14 +300,14 @@ impl Network {
 fn new_state(
     alloc: Global,
     relation: &Relation,
-    places: usize,
+    depth: usize,
     packets: &[Packet],
 ) -> Result<(Vec<Router>, Plan, Vec<[Beat; LINKS]>, Vec<Room>), Memory>
-    requires some_place { 0 < places }
-    requires places { places ≤ MAX_BUFFER }
+    requires some_depth { 0 < depth }
+    requires depth { depth ≤ MAX_BUFFER }
     requires few { length packets.now ≤ MAX_PACKETS }
     requires sendable { All IsSendable packets.now }
-    ensures routers { IfOk result (λ s. s.0.items ≡ tabulate (nodes_of relation.now.grid) (λ node. opening_view (record { grid = relation.now.grid; node = node; vcs = relation.now.vcs; places = places }) (starts_of packets.now node) (ends_of packets.now node))) }
+    ensures routers { IfOk result (λ s. s.0.items ≡ tabulate (nodes_of relation.now.grid) (λ node. opening_view (record { grid = relation.now.grid; node = node; vcs = relation.now.vcs; depth = depth }) (starts_of packets.now node) (ends_of packets.now node))) }
     ensures beats { IfOk result (λ s. vec_len s.2 ≡ nodes_of relation.now.grid) }
     ensures idle { IfOk result (λ s. All IsSilent s.2.items) }
     ensures room { IfOk result (λ s. vec_len s.3 ≡ nodes_of relation.now.grid) }
@@ -315,7 +316,7 @@ fn new_state(
     let plan = Plan::new(alloc, relation)?;
     let beats = vec![in alloc; [Beat::idle(); LINKS]; nodes]?;
     let room = vec![in alloc; Room::new(0); nodes]?;
-    let routers = new_routers(alloc, relation, places, packets)?;
+    let routers = new_routers(alloc, relation, depth, packets)?;
     Ok((routers, plan, beats, room))
 }
 
@@ -323,21 +324,21 @@ fn new_state(
 fn new_routers(
     alloc: Global,
     relation: &Relation,
-    places: usize,
+    depth: usize,
     packets: &[Packet],
 ) -> Result<Vec<Router>, Memory>
-    requires some_place { 0 < places }
-    requires places { places ≤ MAX_BUFFER }
+    requires some_depth { 0 < depth }
+    requires depth { depth ≤ MAX_BUFFER }
     requires few { length packets.now ≤ MAX_PACKETS }
     requires sendable { All IsSendable packets.now }
-    ensures { IfOk result (λ routers. routers.items ≡ tabulate (nodes_of relation.now.grid) (λ node. opening_view (record { grid = relation.now.grid; node = node; vcs = relation.now.vcs; places = places }) (starts_of packets.now node) (ends_of packets.now node))) }
+    ensures { IfOk result (λ routers. routers.items ≡ tabulate (nodes_of relation.now.grid) (λ node. opening_view (record { grid = relation.now.grid; node = node; vcs = relation.now.vcs; depth = depth }) (starts_of packets.now node) (ends_of packets.now node))) }
 {
     let nodes = relation.shape().nodes();
     let mut routers = Vec::with_capacity(alloc, nodes)?;
     for node in 0..nodes {
         let starts = starts_at(alloc, packets, node)?;
         let ends = ends_at(alloc, packets, node)?;
-        routers.push(Router::new(alloc, relation, node, places, starts, ends)?)?;
+        routers.push(Router::new(alloc, relation, node, depth, starts, ends)?)?;
     }
     Ok(routers)
 }

@@ -21,7 +21,7 @@ use noc_topo::LINKS;
 pub struct Parts {
     /// The routing relation.
     pub relation: Relation,
-    /// The places in each buffer, 1 to 16 flits.
+    /// The depth of each buffer, 1 to 16 flits.
     pub buffer: usize,
     /// The packets, by number.
     pub packets: Vec<Packet>,
@@ -73,12 +73,12 @@ impl Parts {
     }
 
     // The cycle in which the tail of a packet was out.
-    pub(crate) fn arrival(&self, number: usize) -> Option<u64>
+    pub(crate) fn arrival(&self, packet: usize) -> Option<u64>
         requires parts { AreParts self.now }
-        requires number { number < length self.now.packets.items }
-        ensures { result ≡ arrival_in (setup_in self.now) (state_at (setup_in self.now) self.now.count) number }
+        requires packet { packet < length self.now.packets.items }
+        ensures { result ≡ arrival_in (setup_in self.now) (state_at (setup_in self.now) self.now.count) packet }
     {
-        self.routers[self.packets[number].destination as usize].arrival(number as u32)
+        self.routers[self.packets[packet].destination as usize].arrival(packet as u32)
     }
 
     // In how many of the cycles each verdict was that of an input channel, in the order of `Verdict`.
@@ -99,6 +99,18 @@ impl Parts {
         ensures { result.now ≡ findings_before (setup_in self.now) self.now.count router }
     {
         self.routers[router].findings()
+    }
+
+    // How many flits and credits did not fit, in all routers: none ever does.
+    pub(crate) fn misfits(&self) -> u64
+        requires { AreParts self.now }
+        ensures { result ≡ 0 }
+    {
+        let mut misfits = 0u64;
+        for router in &self.routers {
+            misfits = misfits.saturating_add(router.misfits());
+        }
+        misfits
     }
 }
 

@@ -2,7 +2,7 @@
 
 ghost use Rattle.std.specs.Prelude.{◌≡◌};
 ghost use Rattle.noc_router.specs.Links.{AreLoaded};
-ghost use Rattle.noc_router.specs.View.{IsRelationOf, view_after_takes};
+ghost use Rattle.noc_view.specs.View.{IsRelationOf, view_after_takes};
 ghost use Rattle.noc_theory.specs.Halves.{IsLinked, IsSilent, incoming};
 
 use noc_packet::{Beat, ChannelSet};

@@ -27,7 +27,7 @@ fn run_alike(rows: &mut Network, routers: &mut Network) -> bool
     let third = same_after(rows, routers, 43);
     let fourth = same_after(rows, routers, 90);
     let fifth = same_after(rows, routers, 250);
-    rows.fits_rows() && first && second && third && fourth && fifth
+    rows.runs_by_rows() && first && second && third && fourth && fifth
 }
 
 // What networks came out as, one after the other.
@@ -171,11 +171,38 @@ fn a_network_that_is_partly_stuck_runs_in_rows_as_in_routers(rt: HostRuntime) ->
     Ok(())
 }
 
-// What rows of a square of four with so many channels and places count after a run of three cycles. None where it can't
+// Whether a new network of these routers and so many channels runs by rows, and whether the network
+// of its parts does.
+fn run_by_rows(alloc: Global, radix: &[usize], vcs: usize) -> Result<[bool; 2], Fail> {
+    let mesh = relation(alloc, Kind::Mesh, radix, vcs, Rule::Dor)?;
+    let made = network(alloc, mesh, 16, &[])?;
+    let by_rows = made.runs_by_rows();
+    Ok([
+        by_rows,
+        Network::from_parts(made.into_parts()).runs_by_rows(),
+    ])
+}
+
+#[test]
+fn a_network_runs_by_rows_where_its_channels_fit(rt: HostRuntime) -> Result<(), Fail> {
+    let (line, square, cube) = ([2usize], [2usize; 2], [2usize; 3]);
+    for (radix, vcs, by_rows) in [
+        (line.as_slice(), 8, true),
+        (square.as_slice(), 6, true),
+        (square.as_slice(), 7, false),
+        (cube.as_slice(), 4, true),
+        (cube.as_slice(), 5, false),
+    ] {
+        assert_eq!(rt; run_by_rows(rt.alloc(), radix, vcs)?, [by_rows, false]);
+    }
+    Ok(())
+}
+
+// What rows of a square of four with so many channels and this depth count after a run of three cycles. None where it can't
 // be in rows.
-fn count_by_rows(alloc: Global, vcs: usize, places: usize) -> Result<Option<u32>, Fail> {
+fn count_by_rows(alloc: Global, vcs: usize, depth: usize) -> Result<Option<u32>, Fail> {
     let square = relation(alloc, Kind::Mesh, &[2, 2], vcs, Rule::Dor)?;
-    let Some(mut rows) = Rows::new(alloc, &square, places, &[])? else {
+    let Some(mut rows) = Rows::new(alloc, &square, depth, &[])? else {
         return Ok(None);
     };
     rows.run(&square, 3);
@@ -184,8 +211,8 @@ fn count_by_rows(alloc: Global, vcs: usize, places: usize) -> Result<Option<u32>
 
 #[test]
 fn rows_have_31_channels_and_16_places(rt: HostRuntime) -> Result<(), Fail> {
-    for (vcs, places, count) in [(6, 16, Some(3)), (7, 16, None), (6, 17, None)] {
-        assert_eq!(rt; count_by_rows(rt.alloc(), vcs, places)?, count);
+    for (vcs, depth, count) in [(6, 16, Some(3)), (7, 16, None), (6, 17, None)] {
+        assert_eq!(rt; count_by_rows(rt.alloc(), vcs, depth)?, count);
     }
     Ok(())
 }

@@ -25,6 +25,7 @@ fn cube(alloc: Global, vcs: usize, packets: &[Packet]) -> Result<Network, Fail>
 fn lone_packets_take_as_long_by_rows_as_by_routers(rt: HostRuntime) -> Result<(), Fail> {
     for vcs in [4usize, 8] {
         let mut network = cube(rt.alloc(), vcs, &[packet(0, 7, 4, 0), packet(7, 1, 1, 50)])?;
+        assert!(rt; network.runs_by_rows() == (vcs == 4));
         network.run(80);
         assert_eq!(rt;
             [arrival(&network, 0), arrival(&network, 1)],

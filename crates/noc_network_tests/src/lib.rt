@@ -11,6 +11,8 @@ mod engines;
 #[cfg(test)]
 mod events;
 #[cfg(test)]
+mod growth;
+#[cfg(test)]
 mod jumps;
 #[cfg(test)]
 mod mixed;

@@ -30,7 +30,7 @@ pub fn network_of(
     let Ok(relation) = relation_of(alloc, &shape, vcs, turn % RULES, chance) else {
         return Ok(None);
     };
-    let places = if turn % 2 == 0 {
+    let depth = if turn % 2 == 0 {
         1 + chance.below(3) as usize
     } else {
         1 + chance.below(16) as usize
@@ -38,7 +38,7 @@ pub fn network_of(
     let load = if dense { 3 } else { chance.below(4) };
     let classes = if relation.classes() > 1 { 2 } else { 1 };
     let packets = traffic(alloc, shape.nodes() as u32, classes, load, chance)?;
-    Ok(Some(Network::new(alloc, relation, places, packets)?))
+    Ok(Some(Network::new(alloc, relation, depth, packets)?))
 }
 
 // How many packets there are, how long the longest is, and by when they are due.

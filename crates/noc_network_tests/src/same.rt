@@ -5,7 +5,7 @@ ghost use Rattle.noc_theory.specs.declared.limits.TheConstants.{CYCLE_LIMIT as c
 
 use noc_fixtures::{arrival, counts};
 use noc_net::Network;
-use noc_router::{Finding, Verdict};
+use noc_view::{Finding, Verdict};
 
 // Whether all that is read of two networks is the same.
 pub(crate) fn same(one: &Network, other: &Network) -> bool {
@@ -32,8 +32,8 @@ pub(crate) fn same_after(one: &mut Network, other: &mut Network, cycles: u64) ->
 
 // Whether as many packets are out in the same cycles.
 fn same_arrivals(one: &Network, other: &Network) -> bool {
-    for number in 0..one.packets() {
-        if arrival(one, number) != arrival(other, number) {
+    for packet in 0..one.packets() {
+        if arrival(one, packet) != arrival(other, packet) {
             return false;
         }
     }

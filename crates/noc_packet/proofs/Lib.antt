@@ -1,1 +1,2 @@
+pub mod ByNodeLemmas
 pub mod SetLemmas

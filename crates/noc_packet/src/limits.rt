@@ -18,7 +18,7 @@ pub const MAX_DUE: u32 = 1_000_000;
 /// The most virtual channels of one link.
 pub const MAX_CHANNELS: usize = 8;
 
-/// The most places, in flits, of one buffer.
+/// The greatest depth of a buffer, in flits.
 pub const MAX_BUFFER: usize = 16;
 
 /// The most message classes.

@@ -26,7 +26,7 @@ pub struct Packet {
 pub struct Flit {
     /// The number of its packet, below 20,000.
     pub packet: u32,
-    /// Its place in its packet, 0 to 63; the head is 0.
+    /// Its index in its packet, 0 to 63; the head is 0.
     pub index: u8,
     /// Whether it is the tail of its packet.
     pub last: bool,

@@ -12,13 +12,13 @@ use std::fmt::Write as _;
 use std::io::Write;
 use std::process::ExitCode;
 
-/// The exit status of words that make no sense.
-const WRONG_WORDS: u8 = 2;
+/// The exit status of arguments that make no sense.
+const WRONG_ARGS: u8 = 2;
 
-// Tells why the words make no request, and gives the exit status.
+// Tells why the arguments make no request, and gives the exit status.
 pub(crate) fn report_refusal<W: Write + Drop>(mut to: W, refusal: &Refusal) -> ExitCode
     ensures memory { refusal.now ≡ Refusal.Memory → exit_status result ≡ 6 }
-    ensures words { refusal.now ≢ Refusal.Memory → exit_status result ≡ 2 }
+    ensures args { refusal.now ≢ Refusal.Memory → exit_status result ≡ 2 }
 {
     let _ = match refusal {
         Refusal::Memory => return report_fault(to, &Fault::Config(InputFault::Memory)),
@@ -28,9 +28,9 @@ pub(crate) fn report_refusal<W: Write + Drop>(mut to: W, refusal: &Refusal) -> E
             let _ = write!(line, "error: word {number} is no text in UTF-8\n");
             to.write_all(line.as_bytes())
         }
-        Refusal::Words(error) => write!(to, "{error}"),
+        Refusal::Args(error) => write!(to, "{error}"),
     };
-    ExitCode::from(WRONG_WORDS)
+    ExitCode::from(WRONG_ARGS)
 }
 
 // Tells a fault, and gives its exit status. The line goes out in one write, so that programs side by side, with one file for

@@ -1,4 +1,4 @@
-//! What the program does, from its words to its exit status: the files that the words name, and the way of an answer out of the program.
+//! What the program does, from its arguments to its exit status: the files that the arguments name, and the way of an answer out of the program.
 #![tactic(auto)]
 
 mod counted;
@@ -6,7 +6,9 @@ mod device;
 mod faults;
 mod program;
 mod request;
+mod version;
 
 pub use device::write_answer;
 pub use program::run;
 pub use request::request_of;
+pub use version::write_version;

@@ -1,15 +1,14 @@
-//! The request that the words make, with the texts of the files that they name.
+//! The request that the arguments make, with the texts of the files that they name.
 
 ghost use Rattle.std.specs.Prelude.{◌≡◌, IfOk};
 ghost use Rattle.std.specs.Fn.{FnReturnsAt};
-ghost use Rattle.noc_commands.specs.Workers.{HasWorkers};
-ghost use Rattle.noc_program.specs.Requests.{ReadsIfNamed};
+ghost use Rattle.noc_program.specs.Requests.{AsksWithWorkers, ReadsIfNamed, ReadsOrFails};
 
 use clap::error::ErrorKind;
 use noc_answers::{Request, Text};
+use noc_cli::{Args, read_args};
 use noc_commands::Command;
 use noc_files::{InputFault, read_all};
-use noc_words::{Words, read_words};
 use std::env::FillError;
 use std::fs::{File, Files};
 use std::rt::Env;
@@ -18,32 +17,39 @@ use std::{env, io};
 /// The most bytes of one input text.
 const INPUT_LIMIT: usize = 67_108_864;
 
-// Why the words make no request.
+// What the arguments ask for.
+#[derive(Drop)]
+pub(crate) enum Asked {
+    // An answer.
+    Answer(Request),
+    // Which version of the program this is.
+    Version,
+}
+
+// Why the arguments make no request.
 #[derive(Drop)]
 pub(crate) enum Refusal {
     // Memory was refused.
     Memory,
-    // A word is no text in UTF-8: its number, the program's name being 0, where the word is not too long to be looked at.
+    // An argument is no text in UTF-8: its number, the program's name being 0, where the argument is not too long to be looked at.
     NotText(Option<usize>),
     // They make no sense, or help was asked for.
-    Words(clap::Error),
+    Args(clap::Error),
 }
 
-// What the words of the command line ask for.
-pub(crate) fn parse_request(
-    rt: &(impl Env + Files + Input + AllocGlobal),
-) -> Result<Request, Refusal>
-    ensures { IfOk result (λ request. HasWorkers request.command) }
+// What the arguments of the command line ask for.
+pub(crate) fn parse_args(rt: &(impl Env + Files + Input + AllocGlobal)) -> Result<Asked, Refusal>
+    ensures { IfOk result AsksWithWorkers }
 {
-    let words = all_words(rt)?;
-    if words.len() <= 1 {
-        return Ok(Request {
+    let args = all_args(rt)?;
+    if args.len() <= 1 {
+        return Ok(Asked::Answer(Request {
             config: read_all(rt.alloc(), &mut rt.reader(), INPUT_LIMIT),
             table: None,
             ranks: None,
-            traffic: None,
+            traffic: Err(InputFault::ReadFailed),
             command: Command::Joined,
-        });
+        }));
     }
     let file_text = |name: &str| -> Text {
         match File::open(rt, name) {
@@ -51,24 +57,25 @@ pub(crate) fn parse_request(
             Err(_) => Err(InputFault::ReadFailed),
         }
     };
-    match read_words(rt.alloc(), &words) {
-        Ok(words) => Ok(request_of(&words, file_text)),
+    match read_args(rt.alloc(), &args) {
+        Ok(args) => Ok(Asked::Answer(request_of(&args, file_text))),
+        Err(error) if error.kind() == ErrorKind::DisplayVersion => Ok(Asked::Version),
         Err(error) if error.kind() == ErrorKind::OutOfMemory => Err(Refusal::Memory),
-        Err(error) => Err(Refusal::Words(error)),
+        Err(error) => Err(Refusal::Args(error)),
     }
 }
 
-// The words of the command line, the program's name first.
-fn all_words(rt: &(impl Env + AllocGlobal)) -> Result<Vec<String>, Refusal> {
+// The arguments of the command line, the program's name first.
+fn all_args(rt: &(impl Env + AllocGlobal)) -> Result<Vec<String>, Refusal> {
     match env::args(rt) {
-        Ok(words) => words.collect(rt.alloc()).map_err(|_| Refusal::Memory),
+        Ok(args) => args.collect(rt.alloc()).map_err(|_| Refusal::Memory),
         Err(error) if error.kind() == io::ErrorKind::OutOfMemory => Err(Refusal::Memory),
-        Err(_) => Err(Refusal::NotText(wrong_word(rt))),
+        Err(_) => Err(Refusal::NotText(wrong_arg(rt))),
     }
 }
 
-// The number of the first word that is no text in UTF-8, of words of less than 4096 bytes.
-fn wrong_word(rt: &impl Env) -> Option<usize> {
+// The number of the first argument that is no text in UTF-8, of arguments of less than 4096 bytes.
+fn wrong_arg(rt: &impl Env) -> Option<usize> {
     let mut room = [0u8; 4096];
     for number in 0..usize::MAX {
         match rt.arg(number, &mut room) {
@@ -80,20 +87,20 @@ fn wrong_word(rt: &impl Env) -> Option<usize> {
     None
 }
 
-/// The request of the words, with what `read` gives for the files that they name.
-pub fn request_of<F: Fn(&str) -> Text>(words: &Words<'_>, read: F) -> Request
+/// The request of the arguments, with what `read` gives for the files that they name. Traffic that is not named is not read.
+pub fn request_of<F: Fn(&str) -> Text>(args: &Args<'_>, read: F) -> Request
     requires { F.IsAlwaysCallable read }
-    ensures command { result.command ≡ words.now.command }
-    ensures config { FnReturnsAt F.Fn read words.now.config.now result.config }
-    ensures table { ReadsIfNamed (FnReturnsAt F.Fn read) words.now.table result.table }
-    ensures ranks { ReadsIfNamed (FnReturnsAt F.Fn read) words.now.ranks result.ranks }
-    ensures traffic { ReadsIfNamed (FnReturnsAt F.Fn read) words.now.traffic result.traffic }
+    ensures command { result.command ≡ args.now.command }
+    ensures config { FnReturnsAt F.Fn read args.now.config.now result.config }
+    ensures table { ReadsIfNamed (FnReturnsAt F.Fn read) args.now.table result.table }
+    ensures ranks { ReadsIfNamed (FnReturnsAt F.Fn read) args.now.ranks result.ranks }
+    ensures traffic { ReadsOrFails (FnReturnsAt F.Fn read) args.now.traffic result.traffic }
 {
     Request {
-        config: read(words.config),
-        table: words.table.map(&read),
-        ranks: words.ranks.map(&read),
-        traffic: words.traffic.map(&read),
-        command: words.command,
+        config: read(args.config),
+        table: args.table.map(&read),
+        ranks: args.ranks.map(&read),
+        traffic: args.traffic.map_or(Err(InputFault::ReadFailed), &read),
+        command: args.command,
     }
 }

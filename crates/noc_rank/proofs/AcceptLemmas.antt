@@ -14,21 +14,21 @@ use Rattle.noc_rank.specs.NotRisingTo.{AreReal}
 use Rattle.noc_rank.specs.Faults.{IsBare, HasEscapes, IsDescent, HasNoDescent}
 use Rattle.noc_rank.specs.Ranking.{IsRanking}
 use Rattle.noc_rank.specs.Rising.{IsFall}
-use Rattle.noc_rank.specs.declared.place.LinkChannel.{LinkChannel}
+use Rattle.noc_rank.specs.declared.channel.LinkChannel.{LinkChannel}
 use Rattle.noc_rank.proofs.BareLemmas.{over-same, escape-of}
-use Rattle.noc_rank.proofs.PlaceLemmas.{is_channel-place, is_place-parts, place-below, place-router, place-port, place-vc}
+use Rattle.noc_rank.proofs.IndexLemmas.{is_channel-index, is_port_channel-parts, rank_index-below, rank_index-router, rank_index-port, rank_index-vc}
 
 -- all places are looked at
 pub full-decoded : (k : Ranking) (v p n : ℕ) → v ≡ k.vcs → p ≡ local_port k.grid → rank_count k.grid k.vcs ≤ n
     → ((i : ℕ) → i < n → is_channel k.grid k.vcs (i / v / p) (i / v % p) (i % v) ≡ true → is_some (rank_at k (i / v / p) (i / v % p) (i % v)) ≡ true) → AreAllRanked k.grid k.vcs (rank_at k)
 full-decoded k v p n a b all whole r q w e =
-    let parts = is_place-parts k.grid k.vcs r q w (is_channel-place k.grid k.vcs r q w e) in
+    let parts = is_port_channel-parts k.grid k.vcs r q w (is_channel-index k.grid k.vcs r q w e) in
     let i = rank_index k.grid k.vcs r q w in
-    let router : i / v / p ≡ r = ap (λ x. i / x / p) a ∙ ap (λ x. i / k.vcs / x) b ∙ place-router k.grid k.vcs r q w parts.1 parts.2 in
-    let port : i / v % p ≡ q = ap (λ x. i / x % p) a ∙ ap (λ x. i / k.vcs % x) b ∙ place-port k.grid k.vcs r q w parts.1 parts.2 in
-    let vc : i % v ≡ w = ap (λ x. i % x) a ∙ place-vc k.grid k.vcs r q w parts.2 in
+    let router : i / v / p ≡ r = ap (λ x. i / x / p) a ∙ ap (λ x. i / k.vcs / x) b ∙ rank_index-router k.grid k.vcs r q w parts.1 parts.2 in
+    let port : i / v % p ≡ q = ap (λ x. i / x % p) a ∙ ap (λ x. i / k.vcs % x) b ∙ rank_index-port k.grid k.vcs r q w parts.1 parts.2 in
+    let vc : i % v ≡ w = ap (λ x. i % x) a ∙ rank_index-vc k.grid k.vcs r q w parts.2 in
     let P : ℕ → ℕ → ℕ → Type 0 = λ r q w. is_channel k.grid k.vcs r q w ≡ true → is_some (rank_at k r q w) ≡ true in
-    let here : P (i / v / p) (i / v % p) (i % v) = whole i (omega (arith, all, place-below k.grid k.vcs r q w (is_channel-place k.grid k.vcs r q w e))) in
+    let here : P (i / v / p) (i / v % p) (i % v) = whole i (omega (arith, all, rank_index-below k.grid k.vcs r q w (is_channel-index k.grid k.vcs r q w e))) in
     subst (λ x. P x q w) router (subst (λ x. P (i / v / p) x w) port (subst (P (i / v / p) (i / v % p)) vc here)) e
 
 -- only link channels of the relation have ranks
@@ -56,7 +56,7 @@ escape-over routes k grid vcs built escapes none =
 
 pub ranked-not_bare : (routes : Routes) (k : Ranking) → IsRankedBy routes k → (e : Entry) → IsBare routes k e → ⊥
 ranked-not_bare routes k ranked e bare =
-    let f = ranked.escape e.class e.dst bare.from bare.next e.router e.in_port bare.permitted bare.place bare.away in
+    let f = ranked.escape e.class e.dst bare.from bare.next e.router e.in_port bare.permitted bare.input bare.away in
     none-some f.2 (sym (bare.none f.0 f.1 f.3) ∙ f.4)
 
 pub ranked-no_descent : (routes : Routes) (k : Ranking) → IsRankedBy routes k → (e o : LinkChannel) (x y : ℕ) → IsDescent routes k e o x y → ⊥

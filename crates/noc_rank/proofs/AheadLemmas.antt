@@ -10,15 +10,15 @@ use Rattle.noc_topo.specs.Shape.{Grid, IsLinkBack, nodes, local_port, neighbour,
 use Rattle.noc_topo.proofs.DistanceLemmas.{distance-bound}
 use Rattle.noc_topo.proofs.LinkLemmas.{link_back, neighbour-range}
 use Rattle.noc_route.specs.Channel.{Channel, Link}
-use Rattle.noc_route.specs.Ranks.{Ranking, LeadsTo, direct, through, is_place, rank_count, rank_index, rank_at}
+use Rattle.noc_route.specs.Ranks.{Ranking, LeadsTo, direct, through, is_port_channel, rank_count, rank_index, rank_at}
 use Rattle.noc_route.specs.Routes.{Routes, set_at, permits, IsRelation}
 use Rattle.noc_route.proofs.PermitsLemmas.{PermitsLink-from_test, permits-nearer}
-use Rattle.noc_route.proofs.PlaceLemmas.{flat-below, flat-div, flat-mod}
+use Rattle.noc_route.proofs.EntryLemmas.{flat-below, flat-div, flat-mod}
 use Rattle.noc_rank.specs.declared.ahead.Search.{Search}
 use Rattle.noc_rank.specs.LeastAhead.{IsLeastOf, lesser, over, mark_at, IsAhead, outputs, counts_for, IsValueIn, IsBefore, AreLeast, AreAllLeast}
 use Rattle.noc_rank.proofs.BareLemmas.{link-member, member-link}
 use Rattle.noc_rank.proofs.LeastLemmas.{least-same, least-none, least-either}
-use Rattle.noc_rank.proofs.PlaceLemmas.{is_place-parts, is_place-true, is_place-index, place-below, place-same, output-place}
+use Rattle.noc_rank.proofs.IndexLemmas.{is_port_channel-parts, is_port_channel-true, is_port_channel-index, rank_index-below, rank_index-same, output-place}
 
 -- ---- the members of a set
 
@@ -90,8 +90,8 @@ module _ (s : Search) (built : IsRelation s.relation.now) where
       let whole : r * local_port g * routes.vcs ≡ r * outputs routes = mul_assoc r (local_port g) routes.vcs in
       omega (arith, whole, output-place g routes.vcs r i built.table.some_vcs)
 
-  index-known : (r i : ℕ) → r < nodes g → i < outputs routes → is_place g routes.vcs r (i / routes.vcs) (i % routes.vcs) ≡ true
-  index-known r i here l = is_place-index g routes.vcs r i built.table.some_vcs here l
+  index-known : (r i : ℕ) → r < nodes g → i < outputs routes → is_port_channel g routes.vcs r (i / routes.vcs) (i % routes.vcs) ≡ true
+  index-known r i here l = is_port_channel-index g routes.vcs r i built.table.some_vcs here l
 
   index-rank : (r i : ℕ) → r < nodes g → i < outputs routes → rank_at k r (i / routes.vcs) (i % routes.vcs) ≡ get_or ranks (r * outputs routes + i) None
   index-rank r i here l = let there = index-known r i here l in rw there refl ∙ ap (λ n. get_or ranks n None) (index-place r i)
@@ -106,7 +106,7 @@ module _ (s : Search) (built : IsRelation s.relation.now) where
 
   -- a channel a, o, w that arrives at router b, where the list has the least marks ahead of all channels that arrive nearer
   module _ (a o w b q : ℕ) (sent : a < nodes g) (vc : w < routes.vcs) (link : neighbour g a o ≡ Some (b, q)) (least : List (Option ℕ))
-      (ahead : (x p v r s : ℕ) → is_place g routes.vcs x p v ≡ true → neighbour g x p ≡ Some (r, s) → distance g r t < distance g b t → IsLeastOf (Ahead x p v) (mark_at routes least x p v)) where
+      (ahead : (x p v r s : ℕ) → is_port_channel g routes.vcs x p v ≡ true → neighbour g x p ≡ Some (r, s) → distance g r t < distance g b t → IsLeastOf (Ahead x p v) (mark_at routes least x p v)) where
     abbrev bits : ℕ
     bits = set_at routes m b q w t
 
@@ -122,7 +122,7 @@ module _ (s : Search) (built : IsRelation s.relation.now) where
         let e = PermitsLink-from_test routes m (Link a o w) t x p v h in
         let hop = permits-nearer routes built m (Link a o w) t x p v h in
         let same : b ≡ x = (some_pair_parts b x q e.in_port (sym link ∙ e.arrives)).0 in
-        let known : is_place g routes.vcs x p v ≡ true = is_place-true g routes.vcs x p v (subst (λ n. n < nodes g) same here) e.port e.vc in
+        let known : is_port_channel g routes.vcs x p v ≡ true = is_port_channel-true g routes.vcs x p v (subst (λ n. n < nodes g) same here) e.port e.vc in
         let near : distance g x t ≡ distance g b t = ap (λ n. distance g n t) (sym same) in
         ahead x p v hop.to.0 hop.to.1 known hop.link (omega (arith, near, hop.nearer))
 
@@ -223,16 +223,16 @@ module _ (s : Search) (built : IsRelation s.relation.now) where
       vc : i % routes.vcs < routes.vcs
       vc = mod-lt i built.table.some_vcs
 
-      mine : is_place g routes.vcs a o (i % routes.vcs) ≡ true
-      mine = is_place-true g routes.vcs a o (i % routes.vcs) back.node (neighbour-range g b (i / routes.vcs) (Some (a, o)) built.table.grid here link).1 vc
+      mine : is_port_channel g routes.vcs a o (i % routes.vcs) ≡ true
+      mine = is_port_channel-true g routes.vcs a o (i % routes.vcs) back.node (neighbour-range g b (i / routes.vcs) (Some (a, o)) built.table.grid here link).1 vc
 
       whole : IsLeastOf (Ahead a o (i % routes.vcs)) value
       whole = step-least a o (i % routes.vcs) b (i / routes.vcs) back.node vc back.back least (λ x p v r s known to near. old.each x p v r s known to (inl near)) value new
 
       -- the channel of this input channel
-      same-channel : (x p v r s : ℕ) → is_place g routes.vcs x p v ≡ true → neighbour g x p ≡ Some (r, s) → r ≡ b → s * routes.vcs + v ≡ i → (x ≡ a) × (p ≡ o) × (v ≡ i % routes.vcs)
+      same-channel : (x p v r s : ℕ) → is_port_channel g routes.vcs x p v ≡ true → neighbour g x p ≡ Some (r, s) → r ≡ b → s * routes.vcs + v ≡ i → (x ≡ a) × (p ≡ o) × (v ≡ i % routes.vcs)
       same-channel x p v r s known to router index =
-          let parts = is_place-parts g routes.vcs x p v known in
+          let parts = is_port_channel-parts g routes.vcs x p v known in
           let there = link_back g x p r s built.table.grid parts.0 to in
           let port : s ≡ i / routes.vcs = sym (flat-div s routes.vcs v parts.2) ∙ ap (λ n. n / routes.vcs) index in
           let number : v ≡ i % routes.vcs = sym (flat-mod s routes.vcs v parts.2) ∙ ap (λ n. n % routes.vcs) index in
@@ -240,7 +240,7 @@ module _ (s : Search) (built : IsRelation s.relation.now) where
           let both = some_pair_parts x a p o (sym from ∙ link) in
           (both.0, both.1, number)
 
-      each : (x p v r s : ℕ) → is_place g routes.vcs x p v ≡ true → neighbour g x p ≡ Some (r, s) → IsBefore routes t (distance g b t) b (i + 1) r (s * routes.vcs + v)
+      each : (x p v r s : ℕ) → is_port_channel g routes.vcs x p v ≡ true → neighbour g x p ≡ Some (r, s) → IsBefore routes t (distance g b t) b (i + 1) r (s * routes.vcs + v)
           → IsLeastOf (Ahead x p v) (mark_at routes (set least (rank_index g routes.vcs a o (i % routes.vcs)) value) x p v)
       each x p v r s known to before = at (cases_eq (rank_index g routes.vcs x p v) (rank_index g routes.vcs a o (i % routes.vcs)))
         where
@@ -258,8 +258,8 @@ module _ (s : Search) (built : IsRelation s.relation.now) where
           at : (rank_index g routes.vcs x p v ≡ rank_index g routes.vcs a o (i % routes.vcs)) ⊎ (rank_index g routes.vcs x p v ≢ rank_index g routes.vcs a o (i % routes.vcs))
               → IsLeastOf (Ahead x p v) (mark_at routes (set least (rank_index g routes.vcs a o (i % routes.vcs)) value) x p v)
           at (inl e) =
-              let is = place-same g routes.vcs x p v a o (i % routes.vcs) known mine e in
-              let below : rank_index g routes.vcs a o (i % routes.vcs) < length least = omega (arith, old.long, place-below g routes.vcs a o (i % routes.vcs) mine) in
+              let is = rank_index-same g routes.vcs x p v a o (i % routes.vcs) known mine e in
+              let below : rank_index g routes.vcs a o (i % routes.vcs) < length least = omega (arith, old.long, rank_index-below g routes.vcs a o (i % routes.vcs) mine) in
               let mark : mark_at routes (set least (rank_index g routes.vcs a o (i % routes.vcs)) value) a o (i % routes.vcs) ≡ value = get_or-set_same least (rank_index g routes.vcs a o (i % routes.vcs)) value None below in
               let P : ℕ → ℕ → ℕ → Type 0 = λ x p v. IsLeastOf (Ahead x p v) (mark_at routes (set least (rank_index g routes.vcs a o (i % routes.vcs)) value) x p v) in
               let there : P a o (i % routes.vcs) = subst (IsLeastOf (Ahead a o (i % routes.vcs))) (sym mark) whole in
@@ -274,7 +274,7 @@ module _ (s : Search) (built : IsRelation s.relation.now) where
   least-onward d b i e c j least back old = record {
     long = old.long;
     each = λ x p v r s known to before.
-        let parts = is_place-parts g routes.vcs x p v known in
+        let parts = is_port_channel-parts g routes.vcs x p v known in
         let range = neighbour-range g x p (Some (r, s)) built.table.grid parts.0 to in
         let there = link_back g x p r s built.table.grid parts.0 to in
         old.each x p v r s known to (back r s v range.0 range.1 parts.2 (ap is_some there.back) before);

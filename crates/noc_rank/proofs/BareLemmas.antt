@@ -13,13 +13,13 @@ use Rattle.noc_route.specs.Ranks.{Ranking, rank_at}
 use Rattle.noc_route.specs.declared.rule.Entry.{Entry}
 use Rattle.noc_route.proofs.BuiltLemmas.{set_at-member}
 use Rattle.noc_route.proofs.PermitsLemmas.{PermitsLink-from_test, PermitsEject-from_test, permits-inject, member-permits, coming-on}
-use Rattle.noc_route.proofs.PlaceLemmas.{flat-below, flat-div, flat-mod}
+use Rattle.noc_route.proofs.EntryLemmas.{flat-below, flat-div, flat-mod}
 use Rattle.noc_route.proofs.OptionLemmas.{some-value}
 use Rattle.noc_rank.specs.LeastAhead.{over}
 use Rattle.noc_rank.specs.NoEscape.{entries, numbered_entry, IsRankedIn, IsBareSet}
 use Rattle.noc_rank.specs.Faults.{IsBare, IsFirstBare, HasEscapes}
 use Rattle.noc_rank.proofs.CheckLemmas.{IsFirstBut}
-use Rattle.noc_rank.proofs.PlaceLemmas.{flat, flat-before, div-mod}
+use Rattle.noc_rank.proofs.IndexLemmas.{flat, flat-before, div-mod}
 
 -- ---- channels and sets
 
@@ -68,7 +68,7 @@ module _ (routes : Routes) (built : IsRelation routes) where
         = ap (λ x. has_bit (set_at routes e.class e.router e.in_port x e.dst) bare.index) from.vc ∙ bare.some in
         record {
           from = from.channel;
-          place = from.arrives;
+          input = from.arrives;
           channel = from.vc;
           next = output_at routes.grid routes.vcs e.router bare.index;
           permitted = member-permits routes built e.class from.channel e.dst e.router e.in_port bare.index from.sent from.arrives member;
@@ -90,14 +90,14 @@ module _ (routes : Routes) (built : IsRelation routes) where
 
     set-from_bare : (e : Entry) → IsBare routes k e → IsBareSet routes k e
     set-from_bare e bare =
-        let some = member-at e.class bare.from e.dst bare.next e.router e.in_port e.in_vc bare.permitted bare.place bare.channel in
+        let some = member-at e.class bare.from e.dst bare.next e.router e.in_port e.in_vc bare.permitted bare.input bare.channel in
         let from = coming-on routes built e.class e.router e.in_port e.in_vc e.dst some.0 some.1 in
         record {
           away = bare.away;
           index = some.0;
           some = some.1;
           none = λ i l has.
-              let h = member-link e.class bare.from e.dst e.router e.in_port e.in_vc i (sent-of bare.next bare.permitted) bare.place bare.channel l has.member in
+              let h = member-link e.class bare.from e.dst e.router e.in_port e.in_vc i (sent-of bare.next bare.permitted) bare.input bare.channel l has.member in
               false≢true (sym (ap is_some (bare.none (i / routes.vcs) (i % routes.vcs) h)) ∙ has.ranked);
         }
       where

@@ -7,19 +7,19 @@ use Rattle.std.proofs.lemmas.Option.{none-some, same_Some}
 use Rattle.noc_topo.specs.Shape.{nodes, local_port, neighbour}
 use Rattle.noc_route.specs.Channel.{Channel, Link}
 use Rattle.noc_route.specs.Order.{numbers_before}
-use Rattle.noc_route.specs.Ranks.{Ranking, LeadsTo, direct, through, is_place, rank_count, rank_index, rank_at}
+use Rattle.noc_route.specs.Ranks.{Ranking, LeadsTo, direct, through, is_port_channel, rank_count, rank_index, rank_at}
 use Rattle.noc_route.specs.Routes.{Routes, permits, IsRelation}
 use Rattle.noc_route.proofs.BuiltLemmas.{set_at-member}
 use Rattle.noc_route.proofs.PermitsLemmas.{PermitsLink-from_test}
 use Rattle.noc_rank.specs.LeastAhead.{IsLeastOf, over, mark_at, IsAhead, AreAllLeast}
-use Rattle.noc_rank.specs.NotRisingTo.{channel_at, IsLinkPlace, AreReal, falls, mark_below, BeginsDescent, IsStartBy, IsAheadAt, IsOver}
+use Rattle.noc_rank.specs.NotRisingTo.{channel_at, IsLinkIndex, AreReal, falls, mark_below, BeginsDescent, IsStartBy, IsAheadAt, IsOver}
 use Rattle.noc_rank.specs.Faults.{IsDescent, IsFirstDescent, HasNoDescent, pair_numbers}
-use Rattle.noc_rank.specs.declared.place.LinkChannel.{LinkChannel}
+use Rattle.noc_rank.specs.declared.channel.LinkChannel.{LinkChannel}
 use Rattle.noc_rank.specs.declared.ahead.RankList.{RankList}
 use Rattle.noc_rank.specs.declared.descent.Descent.{Descent}
 use Rattle.noc_rank.proofs.LeastLemmas.{least-same, least-none, least-one}
 use Rattle.noc_rank.proofs.OverLemmas.{over-one}
-use Rattle.noc_rank.proofs.PlaceLemmas.{flat, flat-rises, flat-before, is_place-parts, is_channel-place, is_place-decoded, place-again, place-below, place-same}
+use Rattle.noc_rank.proofs.IndexLemmas.{flat, flat-rises, flat-before, is_port_channel-parts, is_channel-index, is_port_channel-decoded, rank_index-again, rank_index-below, rank_index-same}
 
 -- ---- one place of a list
 
@@ -72,22 +72,22 @@ module _ (list : RankList) (built : IsRelation list.relation.now) where
   some_ports = omega (arith, built.table.grid.some_dimensions)
 
   -- the rank at a place is that of the list
-  listed : (r p v : ℕ) → is_place routes.grid routes.vcs r p v ≡ true → rank_at k r p v ≡ get_or ranks (rank_index routes.grid routes.vcs r p v) None
+  listed : (r p v : ℕ) → is_port_channel routes.grid routes.vcs r p v ≡ true → rank_at k r p v ≡ get_or ranks (rank_index routes.grid routes.vcs r p v) None
   listed r p v known = rw known refl
 
-  real-place : (r p v n : ℕ) → rank_at k r p v ≡ Some n → is_place routes.grid routes.vcs r p v ≡ true
-  real-place r p v n e = is_channel-place routes.grid routes.vcs r p v (real r p v n e)
+  real-place : (r p v n : ℕ) → rank_at k r p v ≡ Some n → is_port_channel routes.grid routes.vcs r p v ≡ true
+  real-place r p v n e = is_channel-index routes.grid routes.vcs r p v (real r p v n e)
 
   real-link : (r p v n : ℕ) → rank_at k r p v ≡ Some n → (to : ℕ × ℕ) × (neighbour routes.grid r p ≡ Some to)
   real-link r p v n e = at (neighbour routes.grid r p) refl
     where
       at : (o : Option (ℕ × ℕ)) → neighbour routes.grid r p ≡ o → (to : ℕ × ℕ) × (neighbour routes.grid r p ≡ Some to)
       at (Some to) f = (to, f)
-      at None f = absurd (false≢true (sym (ap is_some f) ∙ (and_parts (is_place routes.grid routes.vcs r p v) _ (real r p v n e)).1))
+      at None f = absurd (false≢true (sym (ap is_some f) ∙ (and_parts (is_port_channel routes.grid routes.vcs r p v) _ (real r p v n e)).1))
 
   -- the channel at a place
-  decoded : (n : ℕ) → n < rank_count routes.grid routes.vcs → let c = channel_at routes n in (is_place routes.grid routes.vcs c.router c.port c.vc ≡ true) × (rank_index routes.grid routes.vcs c.router c.port c.vc ≡ n)
-  decoded n l = (is_place-decoded routes.grid routes.vcs n some_vcs some_ports l, place-again routes.grid routes.vcs n some_vcs some_ports)
+  decoded : (n : ℕ) → n < rank_count routes.grid routes.vcs → let c = channel_at routes n in (is_port_channel routes.grid routes.vcs c.router c.port c.vc ≡ true) × (rank_index routes.grid routes.vcs c.router c.port c.vc ≡ n)
+  decoded n l = (is_port_channel-decoded routes.grid routes.vcs n some_vcs some_ports l, rank_index-again routes.grid routes.vcs n some_vcs some_ports)
 
   -- ---- starts, for one class and one destination
 
@@ -107,7 +107,7 @@ module _ (list : RankList) (built : IsRelation list.relation.now) where
             port = c.port;
             vc = c.vc;
             known = d.0;
-            place = d.1;
+            index = d.1;
             before = f.0;
             ranked = ranked;
             after = f.1;
@@ -120,9 +120,9 @@ module _ (list : RankList) (built : IsRelation list.relation.now) where
           let link = real-link h.router h.port h.vc h.before h.ranked in
           let low = (all.each h.router h.port h.vc link.0.0 link.0.1 h.known link.1).least h.after h.ahead in
           record {
-            inside = omega (arith, long, place-below routes.grid routes.vcs h.router h.port h.vc h.known, h.place);
-            falls = falls-true (get_or ranks n None) (get_or least n None) h.before low.0 (ap (λ x. get_or ranks x None) (sym h.place) ∙ sym (listed h.router h.port h.vc h.known) ∙ h.ranked)
-                (ap (λ x. get_or least x None) (sym h.place) ∙ low.1) (omega (arith, low.2, h.falls));
+            inside = omega (arith, long, rank_index-below routes.grid routes.vcs h.router h.port h.vc h.known, h.index);
+            falls = falls-true (get_or ranks n None) (get_or least n None) h.before low.0 (ap (λ x. get_or ranks x None) (sym h.index) ∙ sym (listed h.router h.port h.vc h.known) ∙ h.ranked)
+                (ap (λ x. get_or least x None) (sym h.index) ∙ low.1) (omega (arith, low.2, h.falls));
           }
 
   -- ---- the first descent
@@ -156,7 +156,7 @@ module _ (list : RankList) (built : IsRelation list.relation.now) where
         port = e.port;
         vc = e.vc;
         known = mine;
-        place = refl;
+        index = refl;
         before = x;
         ranked = h.before_is;
         after = y;
@@ -179,27 +179,27 @@ module _ (list : RankList) (built : IsRelation list.relation.now) where
 
     -- it is the place of its channel, which has a rank
     inside : start < rank_count routes.grid routes.vcs
-    inside = let h = by.holds in omega (arith, h.place, place-below routes.grid routes.vcs h.router h.port h.vc h.known)
+    inside = let h = by.holds in omega (arith, h.index, rank_index-below routes.grid routes.vcs h.router h.port h.vc h.known)
 
-    from-place : (r p v : ℕ) → is_place routes.grid routes.vcs r p v ≡ true → rank_index routes.grid routes.vcs r p v ≡ start → (r ≡ from.router) × (p ≡ from.port) × (v ≡ from.vc)
-    from-place r p v known e = let d = decoded start inside in place-same routes.grid routes.vcs r p v from.router from.port from.vc known d.0 (e ∙ sym d.1)
+    from-place : (r p v : ℕ) → is_port_channel routes.grid routes.vcs r p v ≡ true → rank_index routes.grid routes.vcs r p v ≡ start → (r ≡ from.router) × (p ≡ from.port) × (v ≡ from.vc)
+    from-place r p v known e = let d = decoded start inside in rank_index-same routes.grid routes.vcs r p v from.router from.port from.vc known d.0 (e ∙ sym d.1)
 
     pub start-rank : (x : ℕ) × (rank_at k from.router from.port from.vc ≡ Some x) × (get_or ranks start None ≡ Some x)
     start-rank =
         let h = by.holds in
-        let is = from-place h.router h.port h.vc h.known h.place in
+        let is = from-place h.router h.port h.vc h.known h.index in
         let d = decoded start inside in
         let ranked : rank_at k from.router from.port from.vc ≡ Some h.before = ap (λ y. rank_at k y from.port from.vc) (sym is.0) ∙ ap (λ y. rank_at k h.router y from.vc) (sym is.1) ∙ ap (λ y. rank_at k h.router h.port y) (sym is.2) ∙ h.ranked in
         (h.before, ranked, ap (λ n. get_or ranks n None) (sym d.1) ∙ sym (listed from.router from.port from.vc d.0) ∙ ranked)
 
-    pub start-link : IsLinkPlace routes start
+    pub start-link : IsLinkIndex routes start
     start-link = real from.router from.port from.vc start-rank.0 start-rank.1
 
     -- the mark of a channel whose rank is no greater is its place, and others have none
     mark-of : (r p v l : ℕ) → rank_at k r p v ≡ Some l → l ≤ start-rank.0 → mark_at routes marks r p v ≡ Some (rank_index routes.grid routes.vcs r p v)
     mark-of r p v l e low =
         let known = real-place r p v l e in
-        let below : rank_index routes.grid routes.vcs r p v < length ranks = omega (arith, long, place-below routes.grid routes.vcs r p v known) in
+        let below : rank_index routes.grid routes.vcs r p v < length ranks = omega (arith, long, rank_index-below routes.grid routes.vcs r p v known) in
         let there : get_or ranks (rank_index routes.grid routes.vcs r p v) None ≡ Some l = sym (listed r p v known) ∙ e in
         let down : falls (get_or ranks start None) (get_or ranks (rank_index routes.grid routes.vcs r p v) None) ≡ true = falls-true _ _ start-rank.0 l start-rank.2 there low in
         marked (rank_index routes.grid routes.vcs r p v) below ∙ rw down refl
@@ -207,11 +207,11 @@ module _ (list : RankList) (built : IsRelation list.relation.now) where
     of-mark : (r p v l n : ℕ) → rank_at k r p v ≡ Some l → mark_at routes marks r p v ≡ Some n → (rank_index routes.grid routes.vcs r p v ≡ n) × (l ≤ start-rank.0)
     of-mark r p v l n e mark = at (falls (get_or ranks start None) (get_or ranks (rank_index routes.grid routes.vcs r p v) None)) refl
       where
-        known : is_place routes.grid routes.vcs r p v ≡ true
+        known : is_port_channel routes.grid routes.vcs r p v ≡ true
         known = real-place r p v l e
 
         below : rank_index routes.grid routes.vcs r p v < length ranks
-        below = omega (arith, long, place-below routes.grid routes.vcs r p v known)
+        below = omega (arith, long, rank_index-below routes.grid routes.vcs r p v known)
 
         there : get_or ranks (rank_index routes.grid routes.vcs r p v) None ≡ Some l
         there = sym (listed r p v known) ∙ e
@@ -240,7 +240,7 @@ module _ (list : RankList) (built : IsRelation list.relation.now) where
     pub some-end : IsLeastOf Ends None → ⊥
     some-end none =
         let h = by.holds in
-        let is = from-place h.router h.port h.vc h.known h.place in
+        let is = from-place h.router h.port h.vc h.known h.index in
         let a = h.ahead in
         let low : a.rank ≤ start-rank.0 = omega (arith, h.falls, rank-mark _ _ h.router h.port h.vc h.after a, same_Some h.before start-rank.0 (sym h.ranked ∙ ap (λ y. rank_at k y h.port h.vc) is.0 ∙ ap (λ y. rank_at k from.router y h.vc) is.1 ∙ ap (λ y. rank_at k from.router from.port y) is.2 ∙ start-rank.1)) in
         let L : ℕ → ℕ → ℕ → Type 0 = λ r p v. LeadsTo Permits (rank_at k) (by.number / nodes routes.grid) (by.number % nodes routes.grid) (Link r p v) (Link a.router a.port a.vc) in
@@ -262,14 +262,14 @@ module _ (list : RankList) (built : IsRelation list.relation.now) where
       end-is : (rank_index routes.grid routes.vcs at-end.holds.router at-end.holds.port at-end.holds.vc ≡ end) × (at-end.holds.rank ≤ start-rank.0)
       end-is = let h = at-end.holds in of-mark h.router h.port h.vc h.rank end h.ranked h.mark
 
-      end-known : is_place routes.grid routes.vcs at-end.holds.router at-end.holds.port at-end.holds.vc ≡ true
+      end-known : is_port_channel routes.grid routes.vcs at-end.holds.router at-end.holds.port at-end.holds.vc ≡ true
       end-known = let h = at-end.holds in real-place h.router h.port h.vc h.rank h.ranked
 
       pub end-inside : end < rank_count routes.grid routes.vcs
-      end-inside = let h = at-end.holds in omega (arith, end-is.0, place-below routes.grid routes.vcs h.router h.port h.vc end-known)
+      end-inside = let h = at-end.holds in omega (arith, end-is.0, rank_index-below routes.grid routes.vcs h.router h.port h.vc end-known)
 
       to-place : (at-end.holds.router ≡ to.router) × (at-end.holds.port ≡ to.port) × (at-end.holds.vc ≡ to.vc)
-      to-place = let d = decoded end end-inside in let h = at-end.holds in place-same routes.grid routes.vcs h.router h.port h.vc to.router to.port to.vc end-known d.0 (end-is.0 ∙ sym d.1)
+      to-place = let d = decoded end end-inside in let h = at-end.holds in rank_index-same routes.grid routes.vcs h.router h.port h.vc to.router to.port to.vc end-known d.0 (end-is.0 ∙ sym d.1)
 
       pub end-rank : (y : ℕ) × (rank_at k to.router to.port to.vc ≡ Some y) × (get_or ranks end None ≡ Some y) × (y ≤ start-rank.0)
       end-rank =
@@ -296,10 +296,10 @@ module _ (list : RankList) (built : IsRelation list.relation.now) where
       not-before : (a b : LinkChannel) (x y : ℕ) → IsDescent routes k a b x y → numbers_before (pair_numbers a b) (pair_numbers from to) ≡ true → ⊥
       not-before a b x y h before = at (cases_lt start (place a))
         where
-          mine : is_place routes.grid routes.vcs a.router a.port a.vc ≡ true
+          mine : is_port_channel routes.grid routes.vcs a.router a.port a.vc ≡ true
           mine = real-place a.router a.port a.vc x h.before_is
 
-          other : is_place routes.grid routes.vcs b.router b.port b.vc ≡ true
+          other : is_port_channel routes.grid routes.vcs b.router b.port b.vc ≡ true
           other = real-place b.router b.port b.vc y h.after_is
 
           early : start ≤ place a
@@ -309,16 +309,16 @@ module _ (list : RankList) (built : IsRelation list.relation.now) where
               omega (arith, same, l.2)
 
           mine-parts : (a.router < nodes routes.grid) × (a.port < local_port routes.grid) × (a.vc < routes.vcs)
-          mine-parts = is_place-parts routes.grid routes.vcs a.router a.port a.vc mine
+          mine-parts = is_port_channel-parts routes.grid routes.vcs a.router a.port a.vc mine
 
           other-parts : (b.router < nodes routes.grid) × (b.port < local_port routes.grid) × (b.vc < routes.vcs)
-          other-parts = is_place-parts routes.grid routes.vcs b.router b.port b.vc other
+          other-parts = is_port_channel-parts routes.grid routes.vcs b.router b.port b.vc other
 
           from-parts : (from.router < nodes routes.grid) × (from.port < local_port routes.grid) × (from.vc < routes.vcs)
-          from-parts = is_place-parts routes.grid routes.vcs from.router from.port from.vc (decoded start inside).0
+          from-parts = is_port_channel-parts routes.grid routes.vcs from.router from.port from.vc (decoded start inside).0
 
           to-parts : (to.router < nodes routes.grid) × (to.port < local_port routes.grid) × (to.vc < routes.vcs)
-          to-parts = is_place-parts routes.grid routes.vcs to.router to.port to.vc (decoded end end-inside).0
+          to-parts = is_port_channel-parts routes.grid routes.vcs to.router to.port to.vc (decoded end end-inside).0
 
           less : flat (place a) (nodes routes.grid ∷ local_port routes.grid ∷ routes.vcs ∷ []) (b.router ∷ b.port ∷ b.vc ∷ []) < flat start (nodes routes.grid ∷ local_port routes.grid ∷ routes.vcs ∷ []) (to.router ∷ to.port ∷ to.vc ∷ [])
           less =
@@ -368,28 +368,28 @@ module _ (list : RankList) (built : IsRelation list.relation.now) where
           subst (λ e. F e d.to d.rank d.next) (sym some.0) (subst (λ e. F from e d.rank d.next) (sym some.1) (subst (λ n. F from to n d.next) rank (subst (F from to start-rank.0) next first-descent)))
 
   pub start-inside : (start : ℕ) → IsLeastOf (IsOver routes (IsStartBy routes ranks)) (Some start) → start < length ranks
-  start-inside start first = let h = (first.met start refl).holds in omega (arith, long, h.place, place-below routes.grid routes.vcs h.router h.port h.vc h.known)
+  start-inside start first = let h = (first.met start refl).holds in omega (arith, long, h.index, rank_index-below routes.grid routes.vcs h.router h.port h.vc h.known)
 
 -- a place of a link channel is in the list
-pub link-inside : (routes : Routes) → IsRelation routes → (n : ℕ) → IsLinkPlace routes n → let c = channel_at routes n in
-    (is_place routes.grid routes.vcs c.router c.port c.vc ≡ true) × (rank_index routes.grid routes.vcs c.router c.port c.vc ≡ n) × ((to : ℕ × ℕ) × (neighbour routes.grid c.router c.port ≡ Some to))
+pub link-inside : (routes : Routes) → IsRelation routes → (n : ℕ) → IsLinkIndex routes n → let c = channel_at routes n in
+    (is_port_channel routes.grid routes.vcs c.router c.port c.vc ≡ true) × (rank_index routes.grid routes.vcs c.router c.port c.vc ≡ n) × ((to : ℕ × ℕ) × (neighbour routes.grid c.router c.port ≡ Some to))
 link-inside routes built n link =
     let c = channel_at routes n in
-    (is_channel-place routes.grid routes.vcs c.router c.port c.vc link, place-again routes.grid routes.vcs n (omega (arith, built.table.some_vcs)) (omega (arith, built.table.grid.some_dimensions)), at (neighbour routes.grid c.router c.port) refl)
+    (is_channel-index routes.grid routes.vcs c.router c.port c.vc link, rank_index-again routes.grid routes.vcs n (omega (arith, built.table.some_vcs)) (omega (arith, built.table.grid.some_dimensions)), at (neighbour routes.grid c.router c.port) refl)
   where
     at : (o : Option (ℕ × ℕ)) → neighbour routes.grid (channel_at routes n).router (channel_at routes n).port ≡ o → (to : ℕ × ℕ) × (neighbour routes.grid (channel_at routes n).router (channel_at routes n).port ≡ Some to)
     at (Some to) f = (to, f)
-    at None f = absurd (false≢true (sym (ap is_some f) ∙ (and_parts (is_place routes.grid routes.vcs (channel_at routes n).router (channel_at routes n).port (channel_at routes n).vc) _ link).1))
+    at None f = absurd (false≢true (sym (ap is_some f) ∙ (and_parts (is_port_channel routes.grid routes.vcs (channel_at routes n).router (channel_at routes n).port (channel_at routes n).vc) _ link).1))
 
-pub end-least : (routes : Routes) → IsRelation routes → (ranks marks : List (Option ℕ)) (m t start : ℕ) (least : List (Option ℕ)) → IsLinkPlace routes start → AreAllLeast routes ranks marks m t least
+pub end-least : (routes : Routes) → IsRelation routes → (ranks marks : List (Option ℕ)) (m t start : ℕ) (least : List (Option ℕ)) → IsLinkIndex routes start → AreAllLeast routes ranks marks m t least
     → IsLeastOf (IsAheadAt routes ranks marks m t start) (get_or least start None)
 end-least routes built ranks marks m t start least link all =
     let there = link-inside routes built start link in
     let c = channel_at routes start in
     subst (λ n. IsLeastOf (IsAheadAt routes ranks marks m t start) (get_or least n None)) there.1 (all.each c.router c.port c.vc there.2.0.0 there.2.0.1 there.0 there.2.1)
 
-pub end-inside_list : (routes : Routes) → IsRelation routes → (start n : ℕ) → IsLinkPlace routes start → n ≡ rank_count routes.grid routes.vcs → start < n
+pub end-inside_list : (routes : Routes) → IsRelation routes → (start n : ℕ) → IsLinkIndex routes start → n ≡ rank_count routes.grid routes.vcs → start < n
 end-inside_list routes built start n link long =
     let there = link-inside routes built start link in
     let c = channel_at routes start in
-    omega (arith, long, there.1, place-below routes.grid routes.vcs c.router c.port c.vc there.0)
+    omega (arith, long, there.1, rank_index-below routes.grid routes.vcs c.router c.port c.vc there.0)

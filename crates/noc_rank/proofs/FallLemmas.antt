@@ -14,11 +14,11 @@ use Rattle.noc_route.specs.Ranks.{Ranking, IsRising, rank_at}
 use Rattle.noc_route.specs.Routes.{Routes, is_entry, set_at, is_sent, permits, permits_at}
 use Rattle.noc_route.specs.declared.rule.RouteRow.{RouteRow}
 use Rattle.noc_route.proofs.PermitsLemmas.{PermitsLink-from_test}
-use Rattle.noc_route.proofs.PlaceLemmas.{flat-below, flat-div, flat-mod}
+use Rattle.noc_route.proofs.EntryLemmas.{flat-below, flat-div, flat-mod}
 use Rattle.noc_rank.specs.declared.rising.Fall.{Fall}
 use Rattle.noc_rank.specs.Rising.{IsFall, IsFirstFall}
 use Rattle.noc_rank.specs.NotRising.{rank_from, arrival_rank, is_not_above, falls_to, falls_from, falls_at, link_output_count, input_count, class_of, router_of, input_port_of, IsLeastBelow, HasNone, IsFirstFrom, HasNoFall, IsFirstAt}
-use Rattle.noc_rank.proofs.PlaceLemmas.{flat, flat-rises, flat-before, div-mod}
+use Rattle.noc_rank.proofs.IndexLemmas.{flat, flat-rises, flat-before, div-mod}
 
 -- ---- numbers of entries
 

@@ -10,13 +10,13 @@ use Rattle.noc_topo.proofs.LinkLemmas.{AreRadices-from_test, AreRadices-at, IsWi
 use Rattle.noc_route.specs.Relation.{is_right, escapes, is_escape}
 use Rattle.noc_route.specs.declared.rule.Rule.{Rule}
 use Rattle.noc_route.specs.declared.rule.Rule.TheVariants.{Dor, Dateline, WestFirst, Adaptive, Rows}
-use Rattle.noc_route.proofs.PlaceLemmas.{half-some, each-pushed}
-use Rattle.noc_route.specs.Ranks.{Ranking, is_place, is_channel, rank_count, rank_index, rank_at}
+use Rattle.noc_route.proofs.EntryLemmas.{half-some, each-pushed}
+use Rattle.noc_route.specs.Ranks.{Ranking, is_port_channel, is_channel, rank_count, rank_index, rank_at}
 use Rattle.noc_rank.specs.Ranking.{IsRanking}
 use Rattle.noc_rank.specs.Formulas.{has_ranks, is_numbered, formula, formula_at, hops_passed, IsGenerated}
 use Rattle.noc_rank.specs.Formulated.{IsWithin, AreByFormula, rank_in, part_by}
 use Rattle.noc_rank.specs.declared.generated.Formula.{Formula}
-use Rattle.noc_rank.proofs.PlaceLemmas.{is_place-parts, is_place-decoded, place-below, place-router, place-port, place-vc}
+use Rattle.noc_rank.proofs.IndexLemmas.{is_port_channel-parts, is_port_channel-decoded, rank_index-below, rank_index-router, rank_index-port, rank_index-vc}
 
 -- ---- what a rule with ranks has
 
@@ -91,25 +91,25 @@ by_formula-push f p n xs ys x ports old grown value within = record {
 }
 
 -- the place of a loop over all places
-pub place-known : (g : Grid) (vcs p n : ℕ) → 0 < vcs → 2 ≤ p → p ≡ local_port g → n < rank_count g vcs → n / vcs / p < nodes g
-place-known g vcs p n some ports count below =
-    let parts = is_place-parts g vcs (n / vcs / local_port g) (n / vcs % local_port g) (n % vcs) (is_place-decoded g vcs n some (omega (arith, ports, count)) below) in
+pub rank_index-known : (g : Grid) (vcs p n : ℕ) → 0 < vcs → 2 ≤ p → p ≡ local_port g → n < rank_count g vcs → n / vcs / p < nodes g
+rank_index-known g vcs p n some ports count below =
+    let parts = is_port_channel-parts g vcs (n / vcs / local_port g) (n / vcs % local_port g) (n % vcs) (is_port_channel-decoded g vcs n some (omega (arith, ports, count)) below) in
     subst (λ q. n / vcs / q < nodes g) (sym count) parts.0
 
 module _ (g : Grid) (vcs classes : ℕ) (rule : Rule) (ranks : List (Option ℕ))
     (items : (k : ℕ) → k < rank_count g vcs → get_or ranks k None ≡ formula_at g vcs classes rule (k / vcs / local_port g) (k / vcs % local_port g) (k % vcs)) where
-  at_place : (r p v : ℕ) → is_place g vcs r p v ≡ true → get_or ranks (rank_index g vcs r p v) None ≡ formula_at g vcs classes rule r p v
+  at_place : (r p v : ℕ) → is_port_channel g vcs r p v ≡ true → get_or ranks (rank_index g vcs r p v) None ≡ formula_at g vcs classes rule r p v
   at_place r p v e =
-      let parts = is_place-parts g vcs r p v e in
-      let here = items (rank_index g vcs r p v) (place-below g vcs r p v e) in
-      rw (place-router g vcs r p v parts.1 parts.2, place-port g vcs r p v parts.1 parts.2, place-vc g vcs r p v parts.2) at here
+      let parts = is_port_channel-parts g vcs r p v e in
+      let here = items (rank_index g vcs r p v) (rank_index-below g vcs r p v e) in
+      rw (rank_index-router g vcs r p v parts.1 parts.2, rank_index-port g vcs r p v parts.1 parts.2, rank_index-vc g vcs r p v parts.2) at here
 
-  at_any : (r p v : ℕ) (b : Bool) → is_place g vcs r p v ≡ b → (if b then get_or ranks (rank_index g vcs r p v) None else None) ≡ formula_at g vcs classes rule r p v
+  at_any : (r p v : ℕ) (b : Bool) → is_port_channel g vcs r p v ≡ b → (if b then get_or ranks (rank_index g vcs r p v) None else None) ≡ formula_at g vcs classes rule r p v
   at_any r p v true e = at_place r p v e
   at_any r p v false e = rw e refl
 
   pub listed-rank_at : (r p v : ℕ) → rank_at (record { grid = g; vcs = vcs; ranks = ranks }) r p v ≡ formula_at g vcs classes rule r p v
-  listed-rank_at r p v = at_any r p v (is_place g vcs r p v) refl
+  listed-rank_at r p v = at_any r p v (is_port_channel g vcs r p v) refl
 
 module _ (f : Formula) (ranks : List (Option ℕ)) (made : AreByFormula f (rank_count f.shape.now f.vcs) ranks) where
   abbrev g : Grid
@@ -127,19 +127,19 @@ module _ (f : Formula) (ranks : List (Option ℕ)) (made : AreByFormula f (rank_
     grid = sound;
     long = made.long;
     real = λ r p v n e. real_at r p v n (is_channel g f.vcs r p v) refl (sym (ranks-are r p v) ∙ e);
-    low = λ r p v n e. (within r p v n (is_place g f.vcs r p v) refl e).0;
-    high = λ r p v n e. omega (arith, (within r p v n (is_place g f.vcs r p v) refl e).1);
+    low = λ r p v n e. (within r p v n (is_port_channel g f.vcs r p v) refl e).0;
+    high = λ r p v n e. omega (arith, (within r p v n (is_port_channel g f.vcs r p v) refl e).1);
   }
     where
       real_at : (r p v n : ℕ) (b : Bool) → is_channel g f.vcs r p v ≡ b → rank_in f r p v ≡ Some n → is_channel g f.vcs r p v ≡ true
       real_at r p v n true e h = e
       real_at r p v n false e h = absurd (none-some n (sym (rw e refl) ∙ h))
 
-      within : (r p v n : ℕ) (b : Bool) → is_place g f.vcs r p v ≡ b → rank_at listed r p v ≡ Some n → IsWithin n
+      within : (r p v n : ℕ) (b : Bool) → is_port_channel g f.vcs r p v ≡ b → rank_at listed r p v ≡ Some n → IsWithin n
       within r p v n true e h =
           let there : get_or ranks (rank_index g f.vcs r p v) None ≡ Some n = sym (rw e refl) ∙ h in
           let W : Option ℕ → Type 0 = λ o. IfSome o IsWithin in
-          subst W there (made.within (rank_index g f.vcs r p v) (place-below g f.vcs r p v e))
+          subst W there (made.within (rank_index g f.vcs r p v) (rank_index-below g f.vcs r p v e))
       within r p v n false e h = absurd (none-some n (sym (rw e refl) ∙ h))
 
   pub IsGenerated-listed : IsRanking listed → IsGenerated g f.vcs f.classes f.rule.now listed

@@ -1,4 +1,4 @@
-pub mod PlaceLemmas
+pub mod IndexLemmas
 pub mod RowLemmas
 pub mod FormulaLemmas
 pub mod FallLemmas

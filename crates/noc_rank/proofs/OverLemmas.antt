@@ -5,7 +5,7 @@ use Rattle.std.specs.Prelude.{◌⊎◌}
 use Rattle.std.proofs.lemmas.Bool.{cases_lt}
 use Rattle.noc_topo.specs.Shape.{nodes}
 use Rattle.noc_route.specs.Routes.{Routes}
-use Rattle.noc_route.proofs.PlaceLemmas.{flat-below, flat-div, flat-mod, index-port, pair-second}
+use Rattle.noc_route.proofs.EntryLemmas.{flat-below, flat-div, flat-mod, index-port, pair-second}
 use Rattle.noc_rank.specs.LeastAhead.{IsLeastOf, lesser}
 use Rattle.noc_rank.specs.NotRisingTo.{IsOverFirst, IsOver}
 use Rattle.noc_rank.proofs.LeastLemmas.{least-same, least-either}

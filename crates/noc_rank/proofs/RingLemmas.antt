@@ -6,7 +6,7 @@ use Rattle.std.proofs.lemmas.Option.{same_Some}
 use Rattle.noc_topo.specs.Shape.{coordinates, neighbour}
 use Rattle.noc_route.specs.Built.{IsRelationOfRule, routing_of}
 use Rattle.noc_route.specs.Channel.{Link, Inject, arrival_of}
-use Rattle.noc_route.specs.Ranks.{AreAllRanked, IsRankedRule, Ranking, direct, is_channel, is_place, rank_at}
+use Rattle.noc_route.specs.Ranks.{AreAllRanked, IsRankedRule, Ranking, direct, is_channel, is_port_channel, rank_at}
 use Rattle.noc_route.specs.Relation.{RelationParts, IsReached, injected, led_on, rule_has, dor_port}
 use Rattle.noc_route.specs.Routes.{Routes}
 use Rattle.noc_route.specs.declared.rule.Entry.{Entry}
@@ -83,7 +83,7 @@ module _ (routes : Routes) (ranks : Ranking) (made : IsRelationOfRule ring route
         record { class = 0; router = n; in_port = 2; in_vc = 0; dst = t },
         record {
           from = Inject n 0;
-          place = ap (λ g. arrival_of g (Inject n 0)) made.grid;
+          input = ap (λ g. arrival_of g (Inject n 0)) made.grid;
           channel = refl;
           next = Link n p 0;
           permitted = (made.exact 0 (Inject n 0) t (Link n p 0)).1 (started n t a b away, has);
@@ -118,7 +118,7 @@ module _ (routes : Routes) (ranks : Ranking) (made : IsRelationOfRule ring route
   all-ranked : AreRanked 0 → AreRanked 1 → AreRanked 2 → AreRanked 3 → AreAllRanked routes.grid routes.vcs (rank_at ranks)
   all-ranked a b c d r p v is =
       let here : is_channel ring.grid 1 r p v ≡ true = sym (ap (λ g. is_channel g 1 r p v) made.grid) ∙ sym (ap (λ k. is_channel routes.grid k r p v) made.vcs) ∙ is in
-      let place = (and_parts (is_place ring.grid 1 r p v) (is_some (neighbour ring.grid r p)) here).0 in
+      let place = (and_parts (is_port_channel ring.grid 1 r p v) (is_some (neighbour ring.grid r p)) here).0 in
       let two = and_parts (nat_lt r 4 && nat_lt p 2) (nat_lt v 1) place in
       let one = and_parts (nat_lt r 4) (nat_lt p 2) two.0 in
       port-of r p v (ltb-true p 2 one.1) (ltb-true v 1 two.1) (below-four AreRanked a b c d r (ltb-true r 4 one.0))

@@ -6,16 +6,16 @@ use Rattle.std.proofs.lemmas.Bool.{leb-true, eqb-true, eq-eqb, and_parts, false�
 use Rattle.std.proofs.lemmas.List.{length-set, get_or-set_same, get_or-set_other, take_more}
 use Rattle.std.proofs.lemmas.Option.{slice_get_within, get_or_from_slice_get, same_Some, none-some}
 use Rattle.noc_topo.specs.Shape.{Grid, IsGrid, local_port}
-use Rattle.noc_topo.specs.Words.{Each}
+use Rattle.noc_topo.specs.Lists.{Each}
 use Rattle.noc_rank.specs.declared.rows.RankRow.{RankRow}
 use Rattle.noc_rank.specs.declared.rows.TheConstants.{MAX_RANK}
 use Rattle.noc_rank.specs.declared.fault.RankFault.{RankFault}
 use Rattle.noc_rank.specs.declared.fault.RankFault.TheVariants.{NoGenerated, NotRising, NotRisingTo, NoEscape, Memory, UnknownChannel, BadRank, DoubleChannel, MissingChannel}
-use Rattle.noc_route.specs.Ranks.{Ranking, is_place, is_channel, rank_count, rank_index, rank_at}
+use Rattle.noc_route.specs.Ranks.{Ranking, is_port_channel, is_channel, rank_count, rank_index, rank_at}
 use Rattle.noc_rank.specs.Ranking.{IsRanking}
 use Rattle.noc_rank.specs.Rows.{is_rank, names_channel, has_rank_row, rank_in, rank_row_fault, listed_row_fault, AreGood, IsFirstRowFault, IsFirstMissing, IsFaultOfRows, IsRankingOf}
 use Rattle.noc_rank.specs.Entered.{IsRight, AreEntered, IsWhole, IsFirstGap}
-use Rattle.noc_rank.proofs.PlaceLemmas.{is_place-parts, is_channel-place, place-below, place-vc, place-port, place-router, place-again, place-before}
+use Rattle.noc_rank.proofs.IndexLemmas.{is_port_channel-parts, is_channel-index, rank_index-below, rank_index-vc, rank_index-port, rank_index-router, rank_index-again, rank_index-before}
 
 -- ---- the fault of one row
 
@@ -82,15 +82,15 @@ rank_in-none (row ∷ rows) r p v e = at (rank_in-none rows r p v) (names_channe
     at rest false f = rw f (rest (sym (rw f) ∙ e))
 
 -- rows that name link channels name places
-pub has_row-place : (g : Grid) (vcs : ℕ) (rows : List RankRow) (r p v : ℕ) → Each (IsRight g vcs) rows → is_place g vcs r p v ≡ false → has_rank_row rows r p v ≡ false
+pub has_row-place : (g : Grid) (vcs : ℕ) (rows : List RankRow) (r p v : ℕ) → Each (IsRight g vcs) rows → is_port_channel g vcs r p v ≡ false → has_rank_row rows r p v ≡ false
 has_row-place g vcs [] r p v good e = refl
 has_row-place g vcs (row ∷ rows) r p v good e = at (has_row-place g vcs rows r p v good.1 e) (names_channel r p v row) refl
   where
     at : has_rank_row rows r p v ≡ false → (b : Bool) → names_channel r p v row ≡ b → has_rank_row (row ∷ rows) r p v ≡ false
     at rest true f =
         let parts = is_row_of-parts r p v row f in
-        let there : is_place g vcs row.router row.port row.vc ≡ true = is_channel-place g vcs row.router row.port row.vc good.0.channel in
-        let here : is_place g vcs r p v ≡ true = rw (parts.0, parts.1, parts.2) at there in
+        let there : is_port_channel g vcs row.router row.port row.vc ≡ true = is_channel-index g vcs row.router row.port row.vc good.0.channel in
+        let here : is_port_channel g vcs r p v ≡ true = rw (parts.0, parts.1, parts.2) at there in
         absurd (false≢true (sym e ∙ here))
     at rest false f = rw f rest
 
@@ -140,8 +140,8 @@ AreEntered-blank g vcs rows ranks named long all blank free = record {
   all = all;
   good = λ i row l. absurd (omega arith);
   right = none rows;
-  stored = λ r p v e. blank (rank_index g vcs r p v) (place-below g vcs r p v e) ∙ nothing rows r p v;
-  noted = λ r p v e. free (rank_index g vcs r p v) (place-below g vcs r p v e) ∙ unnamed rows r p v;
+  stored = λ r p v e. blank (rank_index g vcs r p v) (rank_index-below g vcs r p v e) ∙ nothing rows r p v;
+  noted = λ r p v e. free (rank_index g vcs r p v) (rank_index-below g vcs r p v e) ∙ unnamed rows r p v;
 }
   where
     none : (rows : List RankRow) → Each (IsRight g vcs) (take 0 rows)
@@ -161,7 +161,7 @@ pub row_fault-stored : (g : Grid) (vcs : ℕ) (rows : List RankRow) (n : ℕ) (r
     → rank_row_fault g vcs (get_or named (rank_index g vcs row.router row.port row.vc) false) n row ≡ listed_row_fault g vcs rows n row
 row_fault-stored g vcs rows n ranks named row entered =
     fault_of-same g vcs (get_or named (rank_index g vcs row.router row.port row.vc) false) (has_rank_row (take n rows) row.router row.port row.vc) n row
-    (λ channel. entered.noted row.router row.port row.vc (is_channel-place g vcs row.router row.port row.vc channel))
+    (λ channel. entered.noted row.router row.port row.vc (is_channel-index g vcs row.router row.port row.vc channel))
 
 AreGood-more : (g : Grid) (vcs : ℕ) (rows : List RankRow) (n : ℕ) (row : RankRow) → slice_get rows n ≡ Some row → listed_row_fault g vcs rows n row ≡ None → AreGood g vcs rows n → AreGood g vcs rows (n + 1)
 AreGood-more g vcs rows n row there none good i other l e = at (cases_lt i n)
@@ -173,14 +173,14 @@ AreGood-more g vcs rows n row there none good i other l e = at (cases_lt i n)
         let same : row ≡ other = same_Some row other (sym there ∙ ap (slice_get rows) last ∙ e) in
         ap (λ (k : ℕ). listed_row_fault g vcs rows k other) (sym last) ∙ ap (listed_row_fault g vcs rows n) (sym same) ∙ none
 
-place-differs : (g : Grid) (vcs r p v : ℕ) (row : RankRow) → is_place g vcs r p v ≡ true → is_place g vcs row.router row.port row.vc ≡ true → names_channel r p v row ≡ false
+rank_index-differs : (g : Grid) (vcs r p v : ℕ) (row : RankRow) → is_port_channel g vcs r p v ≡ true → is_port_channel g vcs row.router row.port row.vc ≡ true → names_channel r p v row ≡ false
     → rank_index g vcs r p v ≢ rank_index g vcs row.router row.port row.vc
-place-differs g vcs r p v row d e unlike same =
-    let here = is_place-parts g vcs r p v d in
-    let there = is_place-parts g vcs row.router row.port row.vc e in
-    let router = sym (place-router g vcs row.router row.port row.vc there.1 there.2) ∙ ap (λ k. k / vcs / local_port g) (sym same) ∙ place-router g vcs r p v here.1 here.2 in
-    let port = sym (place-port g vcs row.router row.port row.vc there.1 there.2) ∙ ap (λ k. k / vcs % local_port g) (sym same) ∙ place-port g vcs r p v here.1 here.2 in
-    let vc = sym (place-vc g vcs row.router row.port row.vc there.2) ∙ ap (λ k. k % vcs) (sym same) ∙ place-vc g vcs r p v here.2 in
+rank_index-differs g vcs r p v row d e unlike same =
+    let here = is_port_channel-parts g vcs r p v d in
+    let there = is_port_channel-parts g vcs row.router row.port row.vc e in
+    let router = sym (rank_index-router g vcs row.router row.port row.vc there.1 there.2) ∙ ap (λ k. k / vcs / local_port g) (sym same) ∙ rank_index-router g vcs r p v here.1 here.2 in
+    let port = sym (rank_index-port g vcs row.router row.port row.vc there.1 there.2) ∙ ap (λ k. k / vcs % local_port g) (sym same) ∙ rank_index-port g vcs r p v here.1 here.2 in
+    let vc = sym (rank_index-vc g vcs row.router row.port row.vc there.2) ∙ ap (λ k. k % vcs) (sym same) ∙ rank_index-vc g vcs r p v here.2 in
     false≢true (sym unlike ∙ is_row_of-true r p v row router port vc)
 
 pub AreEntered-more : (g : Grid) (vcs : ℕ) (rows : List RankRow) (n : ℕ) (ranks : List (Option ℕ)) (named : List Bool) (row : RankRow) → slice_get rows n ≡ Some row → listed_row_fault g vcs rows n row ≡ None
@@ -190,7 +190,7 @@ AreEntered-more g vcs rows n ranks named row there none entered =
     let facts = fault_of-none g vcs (has_rank_row (take n rows) row.router row.port row.vc) n row none in
     let k = rank_index g vcs row.router row.port row.vc in
     let more : take (n + 1) rows ≡ take n rows ++ row ∷ [] = take_more rows n row (slice_get_within rows n row there) ∙ ap (λ x. take n rows ++ x ∷ []) (get_or_from_slice_get rows n row row there) in
-    let known : is_place g vcs row.router row.port row.vc ≡ true = is_channel-place g vcs row.router row.port row.vc facts.0.channel in
+    let known : is_port_channel g vcs row.router row.port row.vc ≡ true = is_channel-index g vcs row.router row.port row.vc facts.0.channel in
     record {
       long = length-set ranks k row.rank ∙ entered.long;
       all = length-set named k true ∙ entered.all;
@@ -203,29 +203,29 @@ AreEntered-more g vcs rows n ranks named row there none entered =
     same_place : (r p v : ℕ) → names_channel r p v row ≡ true → rank_index g vcs r p v ≡ (rank_index g vcs row.router row.port row.vc)
     same_place r p v f = let parts = is_row_of-parts r p v row f in rw (parts.0, parts.1, parts.2) refl
 
-    stored_at : has_rank_row (take n rows) row.router row.port row.vc ≡ false → is_place g vcs row.router row.port row.vc ≡ true → (r p v : ℕ) → is_place g vcs r p v ≡ true → (b : Bool) → names_channel r p v row ≡ b
+    stored_at : has_rank_row (take n rows) row.router row.port row.vc ≡ false → is_port_channel g vcs row.router row.port row.vc ≡ true → (r p v : ℕ) → is_port_channel g vcs r p v ≡ true → (b : Bool) → names_channel r p v row ≡ b
         → get_or (set ranks (rank_index g vcs row.router row.port row.vc) row.rank) (rank_index g vcs r p v) None ≡ rank_in (take n rows ++ row ∷ []) r p v
     stored_at fresh known r p v e true f =
         let parts = is_row_of-parts r p v row f in
-        let below : (rank_index g vcs row.router row.port row.vc) < length ranks = omega (arith, entered.long, place-below g vcs row.router row.port row.vc known) in
+        let below : (rank_index g vcs row.router row.port row.vc) < length ranks = omega (arith, entered.long, rank_index-below g vcs row.router row.port row.vc known) in
         let free : has_rank_row (take n rows) r p v ≡ false = rw (parts.0, parts.1, parts.2) at fresh in
         ap (λ k. get_or (set ranks (rank_index g vcs row.router row.port row.vc) row.rank) k None) (same_place r p v f)
         ∙ get_or-set_same ranks (rank_index g vcs row.router row.port row.vc) row.rank None below
         ∙ sym (rank_in-push_same (take n rows) row r p v f free)
     stored_at fresh known r p v e false f =
-        get_or-set_other ranks (rank_index g vcs row.router row.port row.vc) (rank_index g vcs r p v) row.rank None (place-differs g vcs r p v row e known f)
+        get_or-set_other ranks (rank_index g vcs row.router row.port row.vc) (rank_index g vcs r p v) row.rank None (rank_index-differs g vcs r p v row e known f)
         ∙ entered.stored r p v e
         ∙ sym (rank_in-push_other (take n rows) row r p v f)
 
-    noted_at : is_place g vcs row.router row.port row.vc ≡ true → (r p v : ℕ) → is_place g vcs r p v ≡ true → (b : Bool) → names_channel r p v row ≡ b
+    noted_at : is_port_channel g vcs row.router row.port row.vc ≡ true → (r p v : ℕ) → is_port_channel g vcs r p v ≡ true → (b : Bool) → names_channel r p v row ≡ b
         → get_or (set named (rank_index g vcs row.router row.port row.vc) true) (rank_index g vcs r p v) false ≡ has_rank_row (take n rows ++ row ∷ []) r p v
     noted_at known r p v e true f =
-        let below : (rank_index g vcs row.router row.port row.vc) < length named = omega (arith, entered.all, place-below g vcs row.router row.port row.vc known) in
+        let below : (rank_index g vcs row.router row.port row.vc) < length named = omega (arith, entered.all, rank_index-below g vcs row.router row.port row.vc known) in
         ap (λ k. get_or (set named (rank_index g vcs row.router row.port row.vc) true) k false) (same_place r p v f)
         ∙ get_or-set_same named (rank_index g vcs row.router row.port row.vc) true false below
         ∙ sym (has_row-push_same (take n rows) row r p v f)
     noted_at known r p v e false f =
-        get_or-set_other named (rank_index g vcs row.router row.port row.vc) (rank_index g vcs r p v) true false (place-differs g vcs r p v row e known f)
+        get_or-set_other named (rank_index g vcs row.router row.port row.vc) (rank_index g vcs r p v) true false (rank_index-differs g vcs r p v row e known f)
         ∙ entered.noted r p v e
         ∙ sym (has_row-push_other (take n rows) row r p v f)
 
@@ -238,26 +238,26 @@ module _ (g : Grid) (vcs : ℕ) (rows : List RankRow) (ranks : List (Option ℕ)
   all_right : Each (IsRight g vcs) rows
   all_right = rw take-length at entered.right
 
-  all_stored : (r p v : ℕ) → is_place g vcs r p v ≡ true → get_or ranks (rank_index g vcs r p v) None ≡ rank_in rows r p v
+  all_stored : (r p v : ℕ) → is_port_channel g vcs r p v ≡ true → get_or ranks (rank_index g vcs r p v) None ≡ rank_in rows r p v
   all_stored r p v e = entered.stored r p v e ∙ ap (λ xs. rank_in xs r p v) (take-length rows)
 
-  all_noted : (r p v : ℕ) → is_place g vcs r p v ≡ true → get_or named (rank_index g vcs r p v) false ≡ has_rank_row rows r p v
+  all_noted : (r p v : ℕ) → is_port_channel g vcs r p v ≡ true → get_or named (rank_index g vcs r p v) false ≡ has_rank_row rows r p v
   all_noted r p v e = entered.noted r p v e ∙ ap (λ xs. has_rank_row xs r p v) (take-length rows)
 
   full-before : (n : ℕ) → IsWhole g vcs named n → (r p v : ℕ) → is_channel g vcs r p v ≡ true → rank_index g vcs r p v < n → has_rank_row rows r p v ≡ true
-  full-before n whole r p v e l = sym (all_noted r p v (is_channel-place g vcs r p v e)) ∙ whole r p v e l
+  full-before n whole r p v e l = sym (all_noted r p v (is_channel-index g vcs r p v e)) ∙ whole r p v e l
 
   pub IsFirstMissing-from_gap : (r p v : ℕ) → is_channel g vcs r p v ≡ true → get_or named (rank_index g vcs r p v) false ≡ false → IsWhole g vcs named (rank_index g vcs r p v) → IsFirstMissing g vcs rows r p v
   IsFirstMissing-from_gap r p v e none whole =
-      let here = is_channel-place g vcs r p v e in
+      let here = is_channel-index g vcs r p v e in
       record {
         good = all_good;
         channel = e;
         missing = sym (all_noted r p v here) ∙ none;
-        first = λ a q w f before. full-before (rank_index g vcs r p v) whole a q w f (place-before g vcs a q w r p v (is_channel-place g vcs a q w f) here before);
+        first = λ a q w f before. full-before (rank_index g vcs r p v) whole a q w f (rank_index-before g vcs a q w r p v (is_channel-index g vcs a q w f) here before);
       }
 
-  at_place : (r p v : ℕ) → (b : Bool) → is_place g vcs r p v ≡ b → (if b then get_or ranks (rank_index g vcs r p v) None else None) ≡ rank_in rows r p v
+  at_place : (r p v : ℕ) → (b : Bool) → is_port_channel g vcs r p v ≡ b → (if b then get_or ranks (rank_index g vcs r p v) None else None) ≡ rank_in rows r p v
   at_place r p v true e = all_stored r p v e
   at_place r p v false e = sym (rank_in-none rows r p v (has_row-place g vcs rows r p v all_right e))
 
@@ -266,10 +266,10 @@ module _ (g : Grid) (vcs : ℕ) (rows : List RankRow) (ranks : List (Option ℕ)
   ranking = record { grid = g; vcs = vcs; ranks = ranks }
 
   real_at : (r p v n : ℕ) → rank_at ranking r p v ≡ Some n → is_channel g vcs r p v ≡ true
-  real_at r p v n e = rank_in-real g vcs rows r p v n all_right (sym (at_place r p v (is_place g vcs r p v) refl) ∙ e)
+  real_at r p v n e = rank_in-real g vcs rows r p v n all_right (sym (at_place r p v (is_port_channel g vcs r p v) refl) ∙ e)
 
   within_at : (r p v n : ℕ) → rank_at ranking r p v ≡ Some n → (1 ≤ n) × (n ≤ MAX_RANK)
-  within_at r p v n e = rank_in-within g vcs rows r p v n all_right (sym (at_place r p v (is_place g vcs r p v) refl) ∙ e)
+  within_at r p v n e = rank_in-within g vcs rows r p v n all_right (sym (at_place r p v (is_port_channel g vcs r p v) refl) ∙ e)
 
   pub IsRanking-entered : IsGrid g → IsRanking ranking
   IsRanking-entered sound = record { grid = sound; long = entered.long; real = real_at; low = λ r p v n e. (within_at r p v n e).0; high = λ r p v n e. (within_at r p v n e).1 }
@@ -280,8 +280,8 @@ module _ (g : Grid) (vcs : ℕ) (rows : List RankRow) (ranks : List (Option ℕ)
     vcs_are = refl;
     ranking = IsRanking-entered sound;
     good = all_good;
-    full = λ r p v e. full-before (length named) whole r p v e (omega (arith, entered.all, place-below g vcs r p v (is_channel-place g vcs r p v e)));
-    ranks = λ r p v. at_place r p v (is_place g vcs r p v) refl;
+    full = λ r p v e. full-before (length named) whole r p v e (omega (arith, entered.all, rank_index-below g vcs r p v (is_channel-index g vcs r p v e)));
+    ranks = λ r p v. at_place r p v (is_port_channel g vcs r p v) refl;
   }
 
   pub IsFaultOfRows-gap : (fault : RankFault) → IsFirstGap g vcs named fault → IsFaultOfRows g vcs rows fault
@@ -315,17 +315,17 @@ IsWhole-more g vcs named n here whole r p v e l = at (cases_lt (rank_index g vcs
     at : (rank_index g vcs r p v < n) ⊎ (n ≤ rank_index g vcs r p v) → get_or named (rank_index g vcs r p v) false ≡ true
     at (inl less) = whole r p v e less
     at (inr more) =
-        let parts = is_place-parts g vcs r p v (is_channel-place g vcs r p v e) in
+        let parts = is_port_channel-parts g vcs r p v (is_channel-index g vcs r p v e) in
         let same : rank_index g vcs r p v ≡ n = omega arith in
-        let router : n / vcs / local_port g ≡ r = rw (← same) (place-router g vcs r p v parts.1 parts.2) in
-        let port : n / vcs % local_port g ≡ p = rw (← same) (place-port g vcs r p v parts.1 parts.2) in
-        let vc : n % vcs ≡ v = rw (← same) (place-vc g vcs r p v parts.2) in
+        let router : n / vcs / local_port g ≡ r = rw (← same) (rank_index-router g vcs r p v parts.1 parts.2) in
+        let port : n / vcs % local_port g ≡ p = rw (← same) (rank_index-port g vcs r p v parts.1 parts.2) in
+        let vc : n % vcs ≡ v = rw (← same) (rank_index-vc g vcs r p v parts.2) in
         rw same (here (rw (router, port, vc) e))
 
 pub IsFirstGap-here : (g : Grid) (vcs : ℕ) (named : List Bool) (n : ℕ) → 0 < vcs → 0 < local_port g → is_channel g vcs (n / vcs / local_port g) (n / vcs % local_port g) (n % vcs) ≡ true
     → get_or named n false ≡ false → IsWhole g vcs named n → IsFirstGap g vcs named (MissingChannel (n / vcs / local_port g) (n / vcs % local_port g) (n % vcs))
 IsFirstGap-here g vcs named n some ports e none whole =
-    let again : rank_index g vcs (n / vcs / local_port g) (n / vcs % local_port g) (n % vcs) ≡ n = place-again g vcs n some ports in
+    let again : rank_index g vcs (n / vcs / local_port g) (n / vcs % local_port g) (n % vcs) ≡ n = rank_index-again g vcs n some ports in
     record {
       router = n / vcs / local_port g;
       port = n / vcs % local_port g;

@@ -1,11 +1,11 @@
 -- A list of ranks while rows are entered.
 use Rattle.std.specs.Prelude.{◌≡◌, ℕ, ◌<◌, Bool, true, false, List, Option, None, length, take, slice_index_or}
 use Rattle.noc_topo.specs.Shape.{Grid}
-use Rattle.noc_topo.specs.Words.{Each}
+use Rattle.noc_topo.specs.Lists.{Each}
 use Rattle.noc_rank.specs.declared.rows.RankRow.{RankRow}
 use Rattle.noc_rank.specs.declared.fault.RankFault.{RankFault}
 use Rattle.noc_rank.specs.declared.fault.RankFault.TheVariants.{MissingChannel}
-use Rattle.noc_route.specs.Ranks.{is_place, is_channel, rank_count, rank_index}
+use Rattle.noc_route.specs.Ranks.{is_port_channel, is_channel, rank_count, rank_index}
 use Rattle.noc_rank.specs.Rows.{is_rank, has_rank_row, rank_in, AreGood}
 
 -- a row names a link channel, with a rank within the limits
@@ -19,10 +19,10 @@ pub record AreEntered (g : Grid) (vcs : ℕ) (rows : List RankRow) (n : ℕ) (ra
   pub all : length named ≡ rank_count g vcs
   pub good : AreGood g vcs rows n
   pub right : Each (IsRight g vcs) (take n rows)
-  pub stored : (r p v : ℕ) → is_place g vcs r p v ≡ true → slice_index_or ranks (rank_index g vcs r p v) None ≡ rank_in (take n rows) r p v
-  pub noted : (r p v : ℕ) → is_place g vcs r p v ≡ true → slice_index_or named (rank_index g vcs r p v) false ≡ has_rank_row (take n rows) r p v
+  pub stored : (r p v : ℕ) → is_port_channel g vcs r p v ≡ true → slice_index_or ranks (rank_index g vcs r p v) None ≡ rank_in (take n rows) r p v
+  pub noted : (r p v : ℕ) → is_port_channel g vcs r p v ≡ true → slice_index_or named (rank_index g vcs r p v) false ≡ has_rank_row (take n rows) r p v
 
--- each link channel before this place is named
+-- each link channel before this index is named
 abbrev pub IsWhole : Grid → ℕ → List Bool → ℕ → Type 0
 IsWhole g vcs named n = (r p v : ℕ) → is_channel g vcs r p v ≡ true → rank_index g vcs r p v < n → slice_index_or named (rank_index g vcs r p v) false ≡ true
 

@@ -7,14 +7,14 @@ use Rattle.noc_route.specs.Routes.{Routes, permits}
 use Rattle.noc_route.specs.declared.rule.RouteRow.{RouteRow}
 use Rattle.noc_route.specs.declared.rule.Entry.{Entry}
 use Rattle.noc_rank.specs.Rising.{IsFirstFall}
-use Rattle.noc_rank.specs.declared.place.LinkChannel.{LinkChannel}
+use Rattle.noc_rank.specs.declared.channel.LinkChannel.{LinkChannel}
 use Rattle.noc_rank.specs.declared.fault.RankFault.{RankFault}
 use Rattle.noc_rank.specs.declared.fault.RankFault.TheVariants.{NotRising, NotRisingTo, NoEscape, Memory}
 
 -- packets come to an entry, away from its destination, and no channel with a rank is permitted there
 pub record IsBare (routes : Routes) (k : Ranking) (e : Entry) : Type 0 where
   pub from : Channel
-  pub place : arrival_of routes.grid from ≡ Some (e.router, e.in_port)
+  pub input : arrival_of routes.grid from ≡ Some (e.router, e.in_port)
   pub channel : channel_vc from ≡ e.in_vc
   pub next : Channel
   pub permitted : IsTrue (permits routes e.class from e.dst next)

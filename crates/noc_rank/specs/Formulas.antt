@@ -1,7 +1,7 @@
 -- Ranks by formula.
 use Rattle.std.specs.Prelude.{◌≡◌, ℕ, ◌+◌, ◌-◌, ◌*◌, ◌/◌, Bool, true, false, ◌&&◌, not, Option, Some, None, nat_eq, slice_index, if◌then◌else◌}
 use Rattle.noc_topo.specs.Shape.{Grid, coordinates, is_plus}
-use Rattle.noc_route.specs.Relation.{is_right, resource_class, place_in_class, is_escape}
+use Rattle.noc_route.specs.Relation.{is_right, resource_class, index_in_class, is_escape}
 use Rattle.noc_route.specs.declared.rule.Rule.{Rule}
 use Rattle.noc_route.specs.declared.rule.Rule.TheVariants.{Dor, Dateline, WestFirst, Adaptive, Rows}
 use Rattle.noc_rank.specs.declared.fault.RankFault.{RankFault}
@@ -35,7 +35,7 @@ west_first_rank g r p =
 abbrev pub formula : Grid → ℕ → ℕ → Rule → ℕ → ℕ → ℕ → ℕ
 formula g vcs classes Dateline r p v = 32 * (p / 2) + resource_class vcs classes v * slice_index g.radix (p / 2) + hops_passed g r p + 1
 formula g vcs classes WestFirst r p v = west_first_rank g r p
-formula g vcs classes Adaptive r p v = 32 * (p / 2) + place_in_class vcs classes v * slice_index g.radix (p / 2) + hops_passed g r p + 1
+formula g vcs classes Adaptive r p v = 32 * (p / 2) + index_in_class vcs classes v * slice_index g.radix (p / 2) + hops_passed g r p + 1
 formula g vcs classes _ r p v = 32 * (p / 2) + hops_passed g r p + 1
 
 -- whether a rule gives this channel of a link a rank: all, but the adaptive ones

@@ -3,7 +3,7 @@ use Rattle.std.specs.Prelude.{◌≡◌, ℕ, ◌+◌, ◌*◌, ◌<◌, ◌≤�
 use Rattle.noc_packet.specs.Set.{has_bit}
 use Rattle.noc_topo.specs.Shape.{local_port, neighbour, distance}
 use Rattle.noc_route.specs.Channel.{Link}
-use Rattle.noc_route.specs.Ranks.{Ranking, LeadsTo, is_place, rank_count, rank_index, rank_at}
+use Rattle.noc_route.specs.Ranks.{Ranking, LeadsTo, is_port_channel, rank_count, rank_index, rank_at}
 use Rattle.noc_route.specs.Routes.{Routes, permits}
 
 -- the least number with this property; none where no number has it
@@ -39,9 +39,9 @@ pub record IsAhead (routes : Routes) (ranks marks : List (Option ℕ)) (m t r p 
 abbrev pub outputs : Routes → ℕ
 outputs routes = local_port routes.grid * routes.vcs
 
--- what the channel at a place counts for: its mark where it has a rank, else the least mark ahead of it
+-- what the channel with an index counts for: its mark where it has a rank, else the least mark ahead of it
 abbrev pub counts_for : List (Option ℕ) → List (Option ℕ) → List (Option ℕ) → ℕ → Option ℕ
-counts_for ranks marks least place = if is_some (slice_index_or ranks place None) then slice_index_or marks place None else slice_index_or least place None
+counts_for ranks marks least index = if is_some (slice_index_or ranks index None) then slice_index_or marks index None else slice_index_or least index None
 
 -- a channel of this set, with an index below `end`, counts for n
 pub record IsValueIn (routes : Routes) (ranks marks least : List (Option ℕ)) (r set end n : ℕ) : Type 0 where
@@ -58,11 +58,11 @@ IsBefore routes t d b i r j = (distance routes.grid r t < d) ⊎ ((distance rout
 -- the list has the least mark ahead of each channel that arrives at one of these
 pub record AreLeast (routes : Routes) (ranks marks : List (Option ℕ)) (m t d b i : ℕ) (least : List (Option ℕ)) : Type 0 where
   pub long : length least ≡ rank_count routes.grid routes.vcs
-  pub each : (a p w r q : ℕ) → is_place routes.grid routes.vcs a p w ≡ true → neighbour routes.grid a p ≡ Some (r, q) → IsBefore routes t d b i r (q * routes.vcs + w)
+  pub each : (a p w r q : ℕ) → is_port_channel routes.grid routes.vcs a p w ≡ true → neighbour routes.grid a p ≡ Some (r, q) → IsBefore routes t d b i r (q * routes.vcs + w)
       → IsLeastOf (IsAhead routes ranks marks m t a p w) (mark_at routes least a p w)
 
 -- the list has the least mark ahead of each link channel
 pub record AreAllLeast (routes : Routes) (ranks marks : List (Option ℕ)) (m t : ℕ) (least : List (Option ℕ)) : Type 0 where
   pub long : length least ≡ rank_count routes.grid routes.vcs
-  pub each : (a p w r q : ℕ) → is_place routes.grid routes.vcs a p w ≡ true → neighbour routes.grid a p ≡ Some (r, q)
+  pub each : (a p w r q : ℕ) → is_port_channel routes.grid routes.vcs a p w ≡ true → neighbour routes.grid a p ≡ Some (r, q)
       → IsLeastOf (IsAhead routes ranks marks m t a p w) (mark_at routes least a p w)

@@ -1,10 +1,10 @@
--- Descents, by places.
+-- Descents, by the indices of channels.
 use Rattle.std.specs.Prelude.{◌≡◌, ℕ, ◌*◌, ◌/◌, ◌%◌, ◌<◌, ◌≤◌, Bool, true, false, List, Option, Some, None, nat_le, slice_index_or, length, if◌then◌else◌}
 use Rattle.noc_topo.specs.Shape.{nodes, local_port}
-use Rattle.noc_route.specs.Ranks.{is_place, is_channel, rank_index, rank_at}
+use Rattle.noc_route.specs.Ranks.{is_port_channel, is_channel, rank_index, rank_at}
 use Rattle.noc_route.specs.Routes.{Routes}
 use Rattle.noc_rank.specs.LeastAhead.{over, IsAhead}
-use Rattle.noc_rank.specs.declared.place.LinkChannel.{LinkChannel}
+use Rattle.noc_rank.specs.declared.channel.LinkChannel.{LinkChannel}
 use Rattle.noc_rank.specs.declared.descent.Descent.{Descent}
 use Rattle.noc_rank.specs.declared.fault.RankFault.{RankFault}
 use Rattle.noc_rank.specs.declared.fault.RankFault.TheVariants.{NotRisingTo}
@@ -13,13 +13,13 @@ use Rattle.noc_rank.specs.declared.fault.RankFault.TheVariants.{NotRisingTo}
 abbrev pub fault_of_descent : Descent → RankFault
 fault_of_descent d = NotRisingTo d.from d.to d.rank d.next
 
--- the channel at a place
+-- the channel with an index
 abbrev pub channel_at : Routes → ℕ → LinkChannel
 channel_at routes n = record { router = n / routes.vcs / local_port routes.grid; port = n / routes.vcs % local_port routes.grid; vc = n % routes.vcs }
 
--- a place of a link channel
-abbrev pub IsLinkPlace : Routes → ℕ → Type 0
-IsLinkPlace routes n = let c = channel_at routes n in is_channel routes.grid routes.vcs c.router c.port c.vc ≡ true
+-- the index of a link channel
+abbrev pub IsLinkIndex : Routes → ℕ → Type 0
+IsLinkIndex routes n = let c = channel_at routes n in is_channel routes.grid routes.vcs c.router c.port c.vc ≡ true
 
 -- only link channels have ranks
 abbrev pub AreReal : Routes → List (Option ℕ) → Type 0
@@ -31,29 +31,29 @@ falls None ahead = false
 falls (Some rank) None = false
 falls (Some rank) (Some ahead) = nat_le ahead rank
 
--- the number of a place whose rank is no greater than that of the place `start`
+-- the index of a channel whose rank is no greater than that of the channel `start`
 abbrev pub mark_below : List (Option ℕ) → ℕ → ℕ → Option ℕ
 mark_below ranks start k = if falls (slice_index_or ranks start None) (slice_index_or ranks k None) then Some k else None
 
--- a place with a rank that is no less than the one ahead of it
+-- a channel with a rank that is no less than the one ahead of it
 pub record BeginsDescent (ranks least : List (Option ℕ)) (n : ℕ) : Type 0 where
   pub inside : n < length ranks
   pub falls : falls (slice_index_or ranks n None) (slice_index_or least n None) ≡ true
 
--- packets of class m come on from the channel at place n, on their way to t, to one of no greater rank
+-- packets of class m come on from channel n, on their way to t, to one of no greater rank
 pub record IsStartBy (routes : Routes) (ranks : List (Option ℕ)) (m t n : ℕ) : Type 0 where
   pub router : ℕ
   pub port : ℕ
   pub vc : ℕ
-  pub known : is_place routes.grid routes.vcs router port vc ≡ true
-  pub place : rank_index routes.grid routes.vcs router port vc ≡ n
+  pub known : is_port_channel routes.grid routes.vcs router port vc ≡ true
+  pub index : rank_index routes.grid routes.vcs router port vc ≡ n
   pub before : ℕ
   pub ranked : rank_at (over routes ranks) router port vc ≡ Some before
   pub after : ℕ
   pub ahead : IsAhead routes ranks ranks m t router port vc after
   pub falls : after ≤ before
 
--- packets of class m come on from the channel at place `start`, on their way to t, to one with a rank and mark n
+-- packets of class m come on from the channel `start`, on their way to t, to one with a rank and mark n
 abbrev pub IsAheadAt : Routes → List (Option ℕ) → List (Option ℕ) → ℕ → ℕ → ℕ → ℕ → Type 0
 IsAheadAt routes ranks marks m t start n = let c = channel_at routes start in IsAhead routes ranks marks m t c.router c.port c.vc n
 

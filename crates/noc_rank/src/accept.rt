@@ -13,9 +13,9 @@ ghost use Rattle.noc_rank.specs.Faults.{IsFaultOfCheck};
 ghost use Rattle.noc_rank.specs.declared.fault.RankFault.TheVariants.{Memory};
 
 use crate::bare::first_bare;
+use crate::channel::{all_ports, is_channel, link_ports};
 use crate::descent::first_descent;
 use crate::fault::RankFault;
-use crate::place::{all_ports, is_channel, link_ports};
 use crate::ranked::Ranked;
 use crate::ranks::{Ranks, rank_at};
 use crate::rising::first_fall;
@@ -74,8 +74,8 @@ fn is_full(ranked: &Ranked) -> bool
     let shape = ranked.relation.shape();
     let vcs = ranked.relation.vcs();
     let ports = link_ports(shape);
-    for place in 0..all_ports(shape) * vcs {
-        let (router, port, vc) = (place / vcs / ports, place / vcs % ports, place % vcs);
+    for index in 0..all_ports(shape) * vcs {
+        let (router, port, vc) = (index / vcs / ports, index / vcs % ports, index % vcs);
         if is_adaptive(ranked, router, port, vc) {
             return false;
         }

@@ -9,12 +9,12 @@ ghost use Rattle.noc_rank.specs.LeastAhead.{IsLeastOf, outputs, counts_for, less
 ghost use Rattle.noc_rank.specs.NotRisingTo.{AreReal};
 ghost use Rattle.noc_packet.specs.Set.{has_bit};
 
-use crate::place::{link_ports, place};
+use crate::channel::{link_ports, rank_index};
 use noc_packet::ChannelSet;
 use noc_route::Relation;
 use noc_topo::MAX_DISTANCE;
 
-// The ranks of a relation's link channels, by place.
+// The ranks of a relation's link channels, by index.
 #[derive(Drop)]
 pub(crate) struct RankList<'a> {
     pub(crate) relation: &'a Relation,
@@ -91,7 +91,7 @@ impl<'a> Search<'a> {
                 .relation
                 .permitted(self.class, router, port, vc, self.dst);
             let value = self.least_of(least, router, set);
-            least[place(self.relation.shape(), vcs, sender, out_port, vc)] = value;
+            least[rank_index(self.relation.shape(), vcs, sender, out_port, vc)] = value;
         }
     }
 
@@ -121,17 +121,17 @@ impl<'a> Search<'a> {
     ) -> Option<u32>
         requires least { length least.now ≡ length self.now.ranks.now }
         requires index { index < INDICES }
-        requires place { first + index < length least.now }
+        requires within { first + index < length least.now }
         ensures { result ≡ (if has_bit set index then counts_for self.now.ranks.now self.now.marks.now least.now (first + index) else None) }
     {
         if !set.contains(index) {
             return None;
         }
-        let place = first + index;
-        if self.ranks[place].is_some() {
-            self.marks[place]
+        let channel = first + index;
+        if self.ranks[channel].is_some() {
+            self.marks[channel]
         } else {
-            least[place]
+            least[channel]
         }
     }
 }

@@ -6,7 +6,7 @@ ghost use Rattle.noc_route.specs.Routes.{IsRelation};
 ghost use Rattle.noc_rank.specs.Faults.{HasEscapes, IsFirstBare};
 ghost use Rattle.noc_rank.specs.NoEscape.{entries, numbered_entry, IsBareSet, IsRankedIn};
 
-use crate::place::link_ports;
+use crate::channel::link_ports;
 use crate::ranked::Ranked;
 use crate::ranks::output_rank;
 use noc_packet::ChannelSet;

@@ -4,11 +4,11 @@ ghost use Rattle.std.specs.Prelude.{◌≡◌, ℕ, ◌<◌, ◌⊎◌, Some, No
 ghost use Rattle.noc_route.specs.Routes.{IsRelation};
 ghost use Rattle.noc_rank.specs.Faults.{HasNoDescent, IsFirstDescent};
 ghost use Rattle.noc_rank.specs.LeastAhead.{over, IsLeastOf};
-ghost use Rattle.noc_rank.specs.NotRisingTo.{IsOver, BeginsDescent, IsStartBy, IsAheadAt, IsLinkPlace, channel_at, falls, mark_below, fault_of_descent};
+ghost use Rattle.noc_rank.specs.NotRisingTo.{IsOver, BeginsDescent, IsStartBy, IsAheadAt, IsLinkIndex, channel_at, falls, mark_below, fault_of_descent};
 
 use crate::ahead::{RankList, Search, lesser};
+use crate::channel::{LinkChannel, all_ports, link_ports};
 use crate::fault::RankFault;
-use crate::place::{LinkChannel, all_ports, link_ports};
 use crate::ranked::Ranked;
 use crate::ranks::list;
 use noc_route::Relation;
@@ -71,7 +71,7 @@ fn descent_in(
     Ok(descent_of(list, start, end))
 }
 
-// The place of the first channel from which packets come on to one of no greater rank; `least` is room.
+// The index of the first channel from which packets come on to one of no greater rank; `least` is room.
 fn first_start(list: &RankList, least: &mut [Option<u32>]) -> Option<u32>
     requires { length least.old ≡ length list.now.ranks.now }
     ensures { IsLeastOf (IsOver list.now.relation.now (IsStartBy list.now.relation.now list.now.ranks.now)) result }
@@ -92,14 +92,14 @@ fn first_start(list: &RankList, least: &mut [Option<u32>]) -> Option<u32>
     first
 }
 
-// The first place with a rank that is no less than the one ahead of it.
+// The index of the first channel with a rank that is no less than the one ahead of it.
 fn start_in(list: &RankList, least: &[Option<u32>]) -> Option<u32>
     requires { length least.now ≡ length list.now.ranks.now }
     ensures { IsLeastOf (BeginsDescent list.now.ranks.now least.now) result }
 {
-    for place in 0..list.ranks.len() {
-        if falls(list.ranks[place], least[place]) {
-            return Some(place as u32);
+    for index in 0..list.ranks.len() {
+        if falls(list.ranks[index], least[index]) {
+            return Some(index as u32);
         }
     }
     None
@@ -112,33 +112,33 @@ fn falls(rank: Option<u32>, ahead: Option<u32>) -> bool
     matches!((rank, ahead), (Some(rank), Some(ahead)) if ahead <= rank)
 }
 
-// Marks each place whose rank is no greater than that of the place `start` with its number.
+// Marks each channel whose rank is no greater than that of the channel `start` with its index.
 fn marks_below(alloc: Global, list: &RankList, start: u32) -> Result<Vec<Option<u32>>, AllocError>
     requires { start < length list.now.ranks.now }
     ensures len { IfOk result (λ marks. vec_len marks ≡ length list.now.ranks.now) }
     ensures items { IfOk result (λ marks. (k : ℕ) → k < length list.now.ranks.now → slice_index_or marks.items k None ≡ mark_below list.now.ranks.now start k) }
 {
     let mut marks = Vec::with_capacity(alloc, list.ranks.len())?;
-    for place in 0..list.ranks.len() {
-        marks.push(mark_below(list, start, place))?;
+    for index in 0..list.ranks.len() {
+        marks.push(mark_below(list, start, index))?;
     }
     Ok(marks)
 }
 
-// The number of a place whose rank is no greater than that of the place `start`.
-fn mark_below(list: &RankList, start: u32, place: usize) -> Option<u32>
+// The index of a channel whose rank is no greater than that of the channel `start`.
+fn mark_below(list: &RankList, start: u32, index: usize) -> Option<u32>
     requires start { start < length list.now.ranks.now }
-    requires place { place < length list.now.ranks.now }
-    ensures { result ≡ mark_below list.now.ranks.now start place }
+    requires index { index < length list.now.ranks.now }
+    ensures { result ≡ mark_below list.now.ranks.now start index }
 {
-    if falls(list.ranks[start as usize], list.ranks[place]) {
-        Some(place as u32)
+    if falls(list.ranks[start as usize], list.ranks[index]) {
+        Some(index as u32)
     } else {
         None
     }
 }
 
-// The least mark to which packets come on from the channel at the place `start`; `least` is room.
+// The least mark to which packets come on from the channel `start`; `least` is room.
 fn first_end(
     list: &RankList,
     marks: &[Option<u32>],
@@ -147,7 +147,7 @@ fn first_end(
 ) -> Option<u32>
     requires marks { length marks.now ≡ length list.now.ranks.now }
     requires least { length least.old ≡ length list.now.ranks.now }
-    requires start { IsLinkPlace list.now.relation.now start }
+    requires start { IsLinkIndex list.now.relation.now start }
     ensures { let routes = list.now.relation.now in IsLeastOf (IsOver routes (λ m t n. IsAheadAt routes list.now.ranks.now marks.now m t start n)) result }
 {
     let nodes = list.relation.shape().nodes();
@@ -166,7 +166,7 @@ fn first_end(
     first
 }
 
-// The descent from one place to another, which have ranks.
+// The descent from one channel to another, which have ranks.
 fn descent_of(list: &RankList, start: u32, end: u32) -> Option<Descent>
     requires start { start < length list.now.ranks.now }
     requires end { end < length list.now.ranks.now }
@@ -183,15 +183,15 @@ fn descent_of(list: &RankList, start: u32, end: u32) -> Option<Descent>
     })
 }
 
-// The channel at a place.
-fn channel_at(relation: &Relation, place: usize) -> LinkChannel
-    ensures { result ≡ channel_at relation.now place }
+// The channel with an index.
+fn channel_at(relation: &Relation, index: usize) -> LinkChannel
+    ensures { result ≡ channel_at relation.now index }
 {
     let vcs = relation.vcs();
     let ports = link_ports(relation.shape());
     LinkChannel {
-        router: place / vcs / ports,
-        port: place / vcs % ports,
-        vc: place % vcs,
+        router: index / vcs / ports,
+        port: index / vcs % ports,
+        vc: index % vcs,
     }
 }

@@ -1,6 +1,6 @@
 //! What can be wrong with ranks.
 
-use crate::place::LinkChannel;
+use crate::channel::LinkChannel;
 use noc_route::Entry;
 use std::alloc::AllocError;
 

@@ -6,7 +6,7 @@ ghost use Rattle.noc_topo.specs.Shape.{IsGrid, nodes, dimensions, coordinates, l
 ghost use Rattle.noc_route.specs.Ranks.{rank_count};
 ghost use Rattle.noc_rank.specs.Formulas.{has_ranks, is_numbered, passed_in, west_first_rank, formula};
 
-use crate::place::{all_ports, is_channel, link_ports};
+use crate::channel::{all_ports, is_channel, link_ports};
 use noc_route::{Rule, escapes, is_right, resource_class};
 use noc_topo::{Kind, MAX_RADIX, Shape};
 use std::alloc::{AllocError, Global};
@@ -39,7 +39,7 @@ pub(crate) struct Formula<'a> {
 impl<'a> Formula<'a> {
     ghost use Rattle.noc_rank.specs.Formulated.{AreByFormula, IsWithin, rank_in, part_in};
 
-    // The ranks of all places, none where a port has no link and for adaptive channels.
+    // The ranks of all channels of link ports, none where a port has no link and for adaptive channels.
     pub(crate) fn ranks(&self, alloc: Global) -> Result<Vec<Option<u32>>, AllocError>
         ensures ranks { IfOk result (λ ranks. AreByFormula self.now (rank_count self.now.shape.now self.now.vcs) ranks.items) }
         ensures grid { IsGrid self.now.shape.now }
@@ -47,9 +47,9 @@ impl<'a> Formula<'a> {
         let ports = link_ports(self.shape);
         let count = all_ports(self.shape) * self.vcs;
         let mut ranks = Vec::with_capacity(alloc, count)?;
-        for place in 0..count {
-            let channel = place / self.vcs;
-            ranks.push(self.rank_at(channel / ports, channel % ports, place % self.vcs))?;
+        for index in 0..count {
+            let channel = index / self.vcs;
+            ranks.push(self.rank_at(channel / ports, channel % ports, index % self.vcs))?;
         }
         Ok(ranks)
     }

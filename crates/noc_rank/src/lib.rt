@@ -4,19 +4,19 @@
 mod accept;
 mod ahead;
 mod bare;
+mod channel;
 mod descent;
 mod fault;
 mod generated;
 mod laws;
-mod place;
 mod ranked;
 mod ranks;
 mod rising;
 mod rows;
 
 pub use accept::{Accepted, check};
+pub use channel::LinkChannel;
 pub use fault::RankFault;
 pub use laws::{a_ring_of_four_has_no_ranks, formula_ranks_are_accepted};
-pub use place::LinkChannel;
 pub use ranks::Ranks;
 pub use rows::RankRow;

@@ -2,14 +2,14 @@
 
 ghost use Rattle.std.specs.Prelude.{◌≡◌, ℕ, ◌+◌, ◌*◌, ◌/◌, ◌%◌, ◌<◌, ◌≤◌, IfOk, IfErr, IfSome, true};
 ghost use Rattle.noc_topo.specs.Shape.{nodes, local_port};
-ghost use Rattle.noc_route.specs.Ranks.{is_place, is_channel, rank_at};
+ghost use Rattle.noc_route.specs.Ranks.{is_port_channel, is_channel, rank_at};
 ghost use Rattle.noc_rank.specs.Ranking.{IsRanking};
 ghost use Rattle.noc_rank.specs.Formulas.{IsGenerated, IsFaultOfFormula};
 ghost use Rattle.noc_rank.specs.Rows.{IsRankingOf, IsFaultOfRows};
 
+use crate::channel::{all_ports, link_ports, rank_index};
 use crate::fault::RankFault;
 use crate::generated::{Formula, has_ranks};
-use crate::place::{all_ports, link_ports, place};
 use crate::rows::{RankRow, enter, missing};
 use noc_route::Rule;
 use noc_topo::Shape;
@@ -50,10 +50,10 @@ impl Ranks {
         ensures ok { IfOk result (IsRankingOf shape.now vcs rows.now) }
         ensures err { IfErr result (IsFaultOfRows shape.now vcs rows.now) }
     {
-        // more places than there are numbers are more than any allocator gives
-        let places = all_ports(shape).saturating_mul(vcs);
-        let mut ranks = vec![in alloc; None::<u32>; places]?;
-        let mut named = vec![in alloc; false; places]?;
+        // more channels than there are numbers are more than any allocator gives
+        let count = all_ports(shape).saturating_mul(vcs);
+        let mut ranks = vec![in alloc; None::<u32>; count]?;
+        let mut named = vec![in alloc; false; count]?;
         enter(shape, vcs, rows, &mut ranks, &mut named)?;
         match missing(shape, vcs, &named) {
             Some(fault) => Err(fault),
@@ -107,11 +107,11 @@ impl Ranks {
 
 // The rank of a channel of a link port; None of an adaptive one, and where the port has no link.
 pub(crate) fn rank_at(ranks: &Ranks, router: usize, port: usize, vc: usize) -> Option<u32>
-    requires { is_place ranks.now.grid ranks.now.vcs router port vc ≡ true }
+    requires { is_port_channel ranks.now.grid ranks.now.vcs router port vc ≡ true }
     ensures value { result ≡ rank_at ranks.now router port vc }
     ensures ranking { IsRanking ranks.now }
 {
-    ranks.ranks[place(&ranks.shape, ranks.vcs, router, port, vc)]
+    ranks.ranks[rank_index(&ranks.shape, ranks.vcs, router, port, vc)]
 }
 
 // The rank of an output channel of a router on a link port, by its index, port times channels plus channel.
@@ -124,7 +124,7 @@ pub(crate) fn output_rank(ranks: &Ranks, router: usize, index: usize) -> Option<
     ranks.ranks[router * link_ports(&ranks.shape) * ranks.vcs + index]
 }
 
-// The ranks of all places, router by router, then by link port and channel.
+// The ranks of all channels of link ports, router by router, then by link port and channel.
 pub(crate) fn list(ranks: &Ranks) -> &[Option<u32>]
     ensures value { result.now ≡ ranks.now.ranks }
     ensures ranking { IsRanking ranks.now }

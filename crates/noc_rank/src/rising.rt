@@ -7,8 +7,8 @@ ghost use Rattle.noc_route.specs.Ranks.{IsRising, rank_at};
 ghost use Rattle.noc_rank.specs.Rising.{IsFirstFall};
 ghost use Rattle.noc_rank.specs.NotRising.{fault_of_fall, arrival_rank, link_output_count, input_count, IsLeastBelow, HasNone, HasNoFall, IsFirstAt};
 
+use crate::channel::link_ports;
 use crate::fault::RankFault;
-use crate::place::link_ports;
 use crate::ranked::Ranked;
 use crate::ranks::{output_rank, rank_at};
 use noc_packet::ChannelSet;

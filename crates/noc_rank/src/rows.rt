@@ -1,18 +1,18 @@
 //! Ranks that are given row by row.
 
 ghost use Rattle.std.specs.Prelude.{◌≡◌, ℕ, ◌<◌, ◌≤◌, IfErr, IfSome, IfNone, IsOk, OnOk, OnErr, length, slice_index_or, true, false, Some};
-ghost use Rattle.noc_route.specs.Ranks.{is_place, is_channel, rank_count, rank_index};
+ghost use Rattle.noc_route.specs.Ranks.{is_port_channel, is_channel, rank_count, rank_index};
 ghost use Rattle.noc_rank.specs.Rows.{is_rank, rank_row_fault, IsFirstRowFault};
 ghost use Rattle.noc_rank.specs.Entered.{AreEntered, IsWhole, IsFirstGap};
 
+use crate::channel::{is_channel, link_ports, rank_index};
 use crate::fault::RankFault;
-use crate::place::{is_channel, link_ports, place};
 use noc_topo::Shape;
 
 // The greatest rank.
 pub(crate) const MAX_RANK: usize = 1_000_000;
 
-/// A link channel, named by the router that sends on it, its port and its number, with its rank, 1 to 1,000,000; None says
+/// A link channel, named by the router that sends on it, its port and its VC, with its rank, 1 to 1,000,000; None says
 /// that the channel is adaptive.
 #[derive(Clone, Copy, Debug, PartialEq, Eq)]
 pub struct RankRow {
@@ -40,9 +40,9 @@ pub(crate) fn enter(
         if let Some(fault) = row_fault(shape, vcs, named, number, row) {
             return Err(fault);
         }
-        let place = place(shape, vcs, row.router, row.port, row.vc);
-        ranks[place] = stored(row.rank);
-        named[place] = true;
+        let index = rank_index(shape, vcs, row.router, row.port, row.vc);
+        ranks[index] = stored(row.rank);
+        named[index] = true;
     }
     Ok(())
 }
@@ -65,7 +65,7 @@ fn row_fault(
     if !is_rank(row.rank) {
         return Some(RankFault::BadRank { row: number });
     }
-    if named[place(shape, vcs, row.router, row.port, row.vc)] {
+    if named[rank_index(shape, vcs, row.router, row.port, row.vc)] {
         return Some(RankFault::DoubleChannel { row: number });
     }
     None
@@ -99,11 +99,11 @@ pub(crate) fn missing(shape: &Shape, vcs: usize, named: &[bool]) -> Option<RankF
     ensures some { IfSome result (IsFirstGap shape.now vcs named.now) }
 {
     let ports = link_ports(shape);
-    for place in 0..named.len() {
-        let router = place / vcs / ports;
-        let port = place / vcs % ports;
-        let vc = place % vcs;
-        if !named[place] && is_channel(shape, vcs, router, port, vc) {
+    for index in 0..named.len() {
+        let router = index / vcs / ports;
+        let port = index / vcs % ports;
+        let vc = index % vcs;
+        if !named[index] && is_channel(shape, vcs, router, port, vc) {
             return Some(RankFault::MissingChannel { router, port, vc });
         }
     }

@@ -11,8 +11,8 @@ use Rattle.noc_packet.specs.declared.packet.Flit.{Flit}
 use Rattle.noc_ring.specs.declared.bank.Ends.{Ends}
 use Rattle.noc_ring.specs.Buffers.{Buffers}
 use Rattle.noc_ring.specs.Slots.{no_ends, slot_of, AreHeld}
-use Rattle.noc_ring.proofs.PlaceLemmas.{apart, next_head, rings_apart}
-use Rattle.noc_ring.proofs.RingLemmas.{IsRing, slot, place-below}
+use Rattle.noc_ring.proofs.SlotLemmas.{apart, next_head, rings_apart}
+use Rattle.noc_ring.proofs.RingLemmas.{IsRing, slot, offset-below}
 
 -- rings without flits
 pub new-held : (filled : List Bool) (c n : ℕ) (ends : List Ends) → n ≤ INDICES → ends ≡ replicate INDICES no_ends → length filled ≡ n * c → AreHeld filled c n ends
@@ -68,7 +68,7 @@ push-held {slots} {c} {many} {ends} {v} {r} filled ring held p room place =
     n = (get_or ends r no_ends).len
 
     below : p < c
-    below = place-below ring p (h + n) place
+    below = offset-below ring p (h + n) place
 
     earlier : (i : ℕ) → i < n + 1 → (i ≡ n) ⊎ (i ≡ n → ⊥) → (r * c + (h + i) % c ≡ r * c + p → ⊥) → i < n
     earlier i l (inl last) other = absurd (other (ap (λ k. r * c + (h + k) % c) last ∙ ap (λ k. r * c + k) (sym place)))

@@ -1,5 +1,5 @@
 pub mod HeldLemmas
-pub mod PlaceLemmas
+pub mod SlotLemmas
 pub mod RingLemmas
-pub mod BankRows
+pub mod BankExamples
 pub mod SendLemmas

@@ -13,7 +13,7 @@ use Rattle.noc_packet.specs.declared.packet.Flit.{Flit}
 use Rattle.noc_ring.specs.declared.bank.Ends.{Ends}
 use Rattle.noc_ring.specs.Buffers.{Buffers, buffer_at, buffers_after_push, buffers_after_pop, empty_buffers}
 use Rattle.noc_ring.specs.Slots.{blank, no_ends, flit_in, flits_in_slots, flits_of_ring, rings_of, IsBank}
-use Rattle.noc_ring.proofs.PlaceLemmas.{apart, next_head, rings_apart, in_slots}
+use Rattle.noc_ring.proofs.SlotLemmas.{apart, next_head, rings_apart, in_slots}
 
 -- two functions that agree below n give one list
 pub map-same : {X : Type 0} (d : X) (f g : ℕ → X) (a b n : ℕ) → ((i : ℕ) → i < n → f (a + i) ≡ g (b + i)) → map f (range_with_len a n) ≡ map g (range_with_len b n)
@@ -159,13 +159,13 @@ ring-known {slots} {c} {many} {ends} {v} {r} bank is l =
       few_slots = omega (arith, bank.whole);
     }
 
--- a place of the ring is one of the slots
+-- an offset of the ring is one of the slots
 pub slot : {slots : List Flit} {c many : ℕ} {ends : List Ends} {v : Buffers} {r : ℕ} → IsRing slots c many ends v r → (p : ℕ) → p < c → r * c + p < length slots
 slot {c} {many} {r} ring p u = omega (arith, ring.is_bank.whole, in_slots r many c p ring.inside u)
 
--- what a place becomes once it is wrapped
-pub place-below : {slots : List Flit} {c many : ℕ} {ends : List Ends} {v : Buffers} {r : ℕ} → IsRing slots c many ends v r → (p n : ℕ) → p ≡ n % c → p < c
-place-below {c} ring p n is = let low : n % c < c = mod_below n c ring.is_bank.some in omega arith
+-- what an offset becomes once it is wrapped
+pub offset-below : {slots : List Flit} {c many : ℕ} {ends : List Ends} {v : Buffers} {r : ℕ} → IsRing slots c many ends v r → (p n : ℕ) → p ≡ n % c → p < c
+offset-below {c} ring p n is = let low : n % c < c = mod_below n c ring.is_bank.some in omega arith
 
 -- ---- after a push and a pop
 pub pushed-is : {slots : List Flit} {c many : ℕ} {ends : List Ends} {v : Buffers} {r : ℕ} → IsRing slots c many ends v r → (p : ℕ) (flit : Flit) → (get_or ends r no_ends).len < c

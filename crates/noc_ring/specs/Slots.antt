@@ -5,7 +5,7 @@ use Rattle.noc_packet.specs.declared.limits.TheConstants.{INDICES, MAX_BUFFER}
 use Rattle.noc_packet.specs.declared.packet.Flit.{Flit}
 use Rattle.noc_ring.specs.declared.bank.Ends.{Ends}
 
--- what a block of places holds: a flit for each place, and whether the place holds it
+-- what a block of slots holds: a flit for each slot, and whether the slot holds it
 pub record Held : Type 0 where
   pub flits : List Flit
   pub filled : List Bool
@@ -16,7 +16,7 @@ blank = record { packet = 0; index = 0; last = false; dst = 0; class = 0 }
 abbrev pub no_ends : Ends
 no_ends = record { head = 0; len = 0 }
 
--- the slot of the flit that is so many places behind the head of a ring whose slots begin at `base`
+-- the slot of the flit that is so many flits behind the head of a ring whose slots begin at `base`
 abbrev pub slot_of : ℕ → ℕ → ℕ → ℕ → ℕ
 slot_of base capacity head i = base + (head + i) % capacity
 

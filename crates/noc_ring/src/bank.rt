@@ -40,15 +40,15 @@ impl Model for Bank {
     ghost invariant = { λ b. IsBank b.store.flits b.capacity b.rings b.ends × AreHeld b.store.filled b.capacity b.rings b.ends };
 }
 
-// The place in a ring, for a place that may be past the ring's end once.
-fn wrapped(place: usize, capacity: usize) -> usize
-    requires { place < capacity + capacity }
-    ensures { result ≡ place % capacity }
+// The offset in a ring, for an offset that may be past the ring's end once.
+fn wrapped(offset: usize, capacity: usize) -> usize
+    requires { offset < capacity + capacity }
+    ensures { result ≡ offset % capacity }
 {
-    if place < capacity {
-        place
+    if offset < capacity {
+        offset
     } else {
-        place - capacity
+        offset - capacity
     }
 }
 
@@ -79,7 +79,7 @@ impl Bank {
         ends[ring].len as usize
     }
 
-    /// Whether the ring has no place left.
+    /// Whether the ring has no slot left.
     pub fn is_full(&self, ring: usize) -> bool
         requires { ring < length self.now.rings }
         ensures { result ≡ nat_le self.now.capacity (length (buffer_at self.now ring)) }
@@ -108,8 +108,8 @@ impl Bank {
     {
         let capacity = self.capacity;
         let ends = self.ends[ring];
-        let place = wrapped(ends.head as usize + ends.len as usize, capacity);
-        self.store.put(ring * capacity + place, flit);
+        let offset = wrapped(ends.head as usize + ends.len as usize, capacity);
+        self.store.put(ring * capacity + offset, flit);
         self.ends[ring] = Ends {
             head: ends.head,
             len: ends.len + 1,

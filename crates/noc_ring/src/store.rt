@@ -1,14 +1,14 @@
-//! The memory of a bank: places for flits in one block, empty until a flit is put there.
+//! The memory of a bank: slots for flits in one block, empty until a flit is put there.
 //!
-//! The block is the library's own form for such memory, `Slots` and `Lease` of `core::slots`: a row of places
+//! The block is the library's own form for such memory, `Slots` and `Lease` of `core::slots`: a row of slots
 //! of which the prover knows which hold a value, and the right to free the row. A read or a take asks for a
-//! place that holds one, and neither can be copied or let go. So there is no pointer in the code. The prover
-//! refuses a read past the block or of a place that holds no pushed flit. A block that is freed twice, or
+//! slot that holds one, and neither can be copied or let go. So there is no pointer in the code. The prover
+//! refuses a read past the block or of a slot that holds no pushed flit. A block that is freed twice, or
 //! never, is refused before any proof.
 //!
 //! A struct that holds a `Slots` may go to another thread only by a proof of its author's
 //! (`proofs/SendLemmas.antt`). So one function with a proof by hand makes a `Store`, `Store::of`. `reserve` takes
-//! the number of places from the length of a list: `Store::new` gives it a part of a constant list of blank
+//! the number of slots from the length of a list: `Store::new` gives it a part of a constant list of blank
 //! flits, and only its length is read.
 
 ghost use Rattle.std.specs.Prelude.{◌≡◌, ◌<◌, ◌≤◌, true, false, length, IfOk, slice_set, slice_index_or};
@@ -28,10 +28,10 @@ const BLANK: Flit = Flit {
     class: 0,
 };
 
-// The most places of a bank.
+// The most slots of a bank.
 const MOST: usize = INDICES * MAX_BUFFER;
 
-// `reserve` takes the number of places from the length of a list, and reads nothing else of it.
+// `reserve` takes the number of slots from the length of a list, and reads nothing else of it.
 static AS_MANY: [Flit; MOST] = [BLANK; MOST];
 
 // One block of memory for flits, and the right to free it.
@@ -42,7 +42,7 @@ struct Block {
     ghost leased: { (lease_ptr lease ≡ slots_ptr slots) × (lease_len lease ≡ slots_len slots) × (lease_heap lease ≡ alloc) },
 }
 
-/// Places for flits in one block of memory, each of which is empty or holds a flit. The drop frees the block.
+/// Slots for flits in one block of memory, each of which is empty or holds a flit. The drop frees the block.
 pub(crate) struct Store {
     block: Block,
 }
@@ -74,12 +74,12 @@ impl Store {
         Store { block }
     }
 
-    /// So many empty places, at most `MOST`. The error is for want of memory alone.
+    /// So many empty slots, at most `MOST`. The error is for want of memory alone.
     pub(crate) fn new(alloc: Global, count: usize) -> Result<Store, Memory>
         requires { count ≤ MOST }
         ensures { IfOk result (λ p. (length p.flits ≡ count) × (length p.filled ≡ count)) }
     {
-        // `unsafe`, since a value in a place is forgotten when another is put there or the block goes. A flit is plain data.
+        // `unsafe`, since a value in a slot is forgotten when another is put there or the block goes. A flit is plain data.
         let (slots, lease) = unsafe { reserve(&alloc, &AS_MANY[..count])? };
         Ok(Store::of(Block {
             slots,
@@ -88,33 +88,33 @@ impl Store {
         }))
     }
 
-    /// The flit that a place holds.
-    pub(crate) fn get(&self, place: usize) -> Flit
-        requires place { place < length self.now.flits }
-        requires holds { slice_index_or self.now.filled place false ≡ true }
-        ensures { result ≡ slice_index_or self.now.flits place result }
+    /// The flit that a slot holds.
+    pub(crate) fn get(&self, slot: usize) -> Flit
+        requires slot { slot < length self.now.flits }
+        requires holds { slice_index_or self.now.filled slot false ≡ true }
+        ensures { result ≡ slice_index_or self.now.flits slot result }
     {
-        *self.block.slots.get(place)
+        *self.block.slots.get(slot)
     }
 
-    /// Puts a flit at a place.
-    pub(crate) fn put(&mut self, place: usize, flit: Flit)
-        requires { place < length self.old.flits }
-        ensures flits { self.new.flits ≡ slice_set self.old.flits place flit }
-        ensures filled { self.new.filled ≡ slice_set self.old.filled place true }
+    /// Puts a flit at a slot.
+    pub(crate) fn put(&mut self, slot: usize, flit: Flit)
+        requires { slot < length self.old.flits }
+        ensures flits { self.new.flits ≡ slice_set self.old.flits slot flit }
+        ensures filled { self.new.filled ≡ slice_set self.old.filled slot true }
     {
-        self.block.slots.put(place, flit);
+        self.block.slots.put(slot, flit);
     }
 
-    /// Takes the flit that a place holds, and leaves the place empty.
-    pub(crate) fn take(&mut self, place: usize) -> Flit
-        requires place { place < length self.old.flits }
-        requires holds { slice_index_or self.old.filled place false ≡ true }
-        ensures value { result ≡ slice_index_or self.old.flits place result }
+    /// Takes the flit that a slot holds, and leaves the slot empty.
+    pub(crate) fn take(&mut self, slot: usize) -> Flit
+        requires slot { slot < length self.old.flits }
+        requires holds { slice_index_or self.old.filled slot false ≡ true }
+        ensures value { result ≡ slice_index_or self.old.flits slot result }
         ensures flits { self.new.flits ≡ self.old.flits }
-        ensures filled { self.new.filled ≡ slice_set self.old.filled place false }
+        ensures filled { self.new.filled ≡ slice_set self.old.filled slot false }
     {
-        self.block.slots.take(place)
+        self.block.slots.take(slot)
     }
 }
 

@@ -11,9 +11,9 @@ use Rattle.noc_packet.proofs.SetLemmas.{has_bit-zero, zero_from_none}
 use Rattle.noc_route.specs.Channel.{Channel, Link, Inject, Eject, arrival_of, channel_vc}
 use Rattle.noc_route.specs.Relation.{RelationParts, leads, rule_offers, rule_has, IsReached, injected, led_on, IsPermitted}
 use Rattle.noc_route.specs.Routes.{Routes, width, pages, page_of, is_entry, set_at, permits, permits_at, is_sent, HasTableSize, IsRelation, HasLead}
-use Rattle.noc_route.specs.Trimming.{set_in, page_set, left_at, comes_in, comes_at, is_stuck_at, any_below, IsPlace, CanCome, injected as come_injected, led as come_led, ComesNearer, IsSoundOut, IsFullOut}
+use Rattle.noc_route.specs.Trimming.{set_in, page_set, left_at, comes_in, comes_at, is_stuck_at, any_below, IsPage, CanCome, injected as come_injected, led as come_led, ComesNearer, IsSoundOut, IsFullOut}
 use Rattle.noc_route.specs.Entered.{IsEntered}
-use Rattle.noc_route.proofs.PlaceLemmas.{flat-below, is_entry-true}
+use Rattle.noc_route.proofs.EntryLemmas.{flat-below, is_entry-true}
 use Rattle.noc_route.proofs.TrimLemmas.{IsSized, any_below-some, any_below-at, index-parts, port-below, CanCome-within, comes_in-sound, comes_in-full, page-dst, page-class, page-sender, page-below}
 use Rattle.noc_route.proofs.RuleLemmas.{IsWellMade, IsRight-from_test, leads-vc, leads-hop, leads-home}
 
@@ -30,13 +30,13 @@ pub sized : (g : RelationParts) (sets : List ℕ) → IsWellMade g → IsSized (
 sized g sets good = record { grid = good.grid; some_vcs = some_vcs g good }
 
 -- a member of an entered set is a channel to which the rule leads
-pub member-leads : (g : RelationParts) (sets : List ℕ) (m r t i k : ℕ) → IsEntered g (table g sets) → IsPlace (table g sets) m r t → i < width g.grid g.vcs
+pub member-leads : (g : RelationParts) (sets : List ℕ) (m r t i k : ℕ) → IsEntered g (table g sets) → IsPage (table g sets) m r t → i < width g.grid g.vcs
     → has_bit (set_in (table g sets) m r t i) k ≡ true → (k < width g.grid g.vcs) × (leads g m (r, i / g.vcs) (i % g.vcs) t (k / g.vcs) (k % g.vcs) ≡ true)
 member-leads g sets m r t i k entered place l e =
     let parts = and_parts (nat_lt k (width g.grid g.vcs)) _ (sym (entered m r t i k place l) ∙ e) in
     (ltb-true k (width g.grid g.vcs) parts.0, parts.1)
 
-pub leads-member : (g : RelationParts) (sets : List ℕ) (m r t i k : ℕ) → IsEntered g (table g sets) → IsPlace (table g sets) m r t → i < width g.grid g.vcs → k < width g.grid g.vcs
+pub leads-member : (g : RelationParts) (sets : List ℕ) (m r t i k : ℕ) → IsEntered g (table g sets) → IsPage (table g sets) m r t → i < width g.grid g.vcs → k < width g.grid g.vcs
     → leads g m (r, i / g.vcs) (i % g.vcs) t (k / g.vcs) (k % g.vcs) ≡ true → has_bit (set_in (table g sets) m r t i) k ≡ true
 leads-member g sets m r t i k entered place l within e =
     let small = lt-ltb k (width g.grid g.vcs) within in
@@ -206,11 +206,11 @@ pub record IsMade (g : RelationParts) (sets left outs : List ℕ) : Type 0 where
   pub good : IsWellMade g
   pub entered : IsEntered g (table g sets)
   pub sound : IsSoundOut (table g sets) outs
-  pub full : (m r t : ℕ) → IsPlace (table g sets) m r t → IsFullOut (table g sets) outs m r t
+  pub full : (m r t : ℕ) → IsPage (table g sets) m r t → IsFullOut (table g sets) outs m r t
   pub trimmed : (b i : ℕ) → b < pages g.grid g.classes → i < width g.grid g.vcs → page_set (table g left) b i ≡ left_at (table g sets) outs b i
 
 -- the set that is left at a place
-pub set-left : (g : RelationParts) (sets left outs : List ℕ) → IsMade g sets left outs → (m r t i : ℕ) → IsPlace (table g sets) m r t → i < width g.grid g.vcs
+pub set-left : (g : RelationParts) (sets left outs : List ℕ) → IsMade g sets left outs → (m r t i : ℕ) → IsPage (table g sets) m r t → i < width g.grid g.vcs
     → set_in (table g left) m r t i ≡ (if comes_in (table g sets) outs m r t i then set_in (table g sets) m r t i else 0)
 set-left g sets left outs made m r t i place l =
     let b = page_of g.grid g.classes m r t in
@@ -233,7 +233,7 @@ kept-set g sets left outs made m r t i come =
     set-left g sets left outs made m r t i within.0 within.1 ∙ rw yes refl
 
 -- a set with a member is one to which packets come
-pub member-come : (g : RelationParts) (sets left outs : List ℕ) → IsMade g sets left outs → (m r t i k : ℕ) → IsPlace (table g sets) m r t → i < width g.grid g.vcs
+pub member-come : (g : RelationParts) (sets left outs : List ℕ) → IsMade g sets left outs → (m r t i k : ℕ) → IsPage (table g sets) m r t → i < width g.grid g.vcs
     → has_bit (set_in (table g left) m r t i) k ≡ true → CanCome (table g sets) m t r i × (has_bit (set_in (table g sets) m r t i) k ≡ true)
 member-come g sets left outs made m r t i k place l e = at (comes_in (table g sets) outs m r t i) refl
   where
@@ -247,7 +247,7 @@ member-come g sets left outs made m r t i k place l e = at (comes_in (table g se
 
 -- an entry of a table that exists
 pub record Exists (routes : Routes) (m r p v t : ℕ) : Type 0 where
-  pub place : IsPlace routes m r t
+  pub place : IsPage routes m r t
   pub port : p < ports routes.grid
   pub vc : v < routes.vcs
 
@@ -290,7 +290,7 @@ permitted-lead g sets left outs made m c t r p q w sent e small has =
     let i = p * g.vcs + v in
     let member = set_at-member (table g left) m r p v t (q * g.vcs + w) has in
     let there = member.0 in
-    let place : IsPlace (table g sets) m r t = record { class = there.place.class; router = there.place.router; dst = there.place.dst } in
+    let place : IsPage (table g sets) m r t = record { class = there.place.class; router = there.place.router; dst = there.place.dst } in
     let within : i < width g.grid g.vcs = flat-below p (ports g.grid) v g.vcs there.port there.vc in
     let come = member-come g sets left outs made m r t i (q * g.vcs + w) place within member.1 in
     let came = CameOn-come g sets made.good made.entered m t r i come.0 in
@@ -425,7 +425,7 @@ member-at : (g : RelationParts) (sets left outs : List ℕ) → IsMade g sets le
 member-at g sets left outs made m r p v t k e =
     let member = set_at-member (table g left) m r p v t k e in
     let there = member.0 in
-    let place : IsPlace (table g sets) m r t = record { class = there.place.class; router = there.place.router; dst = there.place.dst } in
+    let place : IsPage (table g sets) m r t = record { class = there.place.class; router = there.place.router; dst = there.place.dst } in
     let within : p * g.vcs + v < width g.grid g.vcs = flat-below p (ports g.grid) v g.vcs there.port there.vc in
     let come = member-come g sets left outs made m r t (p * g.vcs + v) k place within member.1 in
     let led = member-leads g sets m r t (p * g.vcs + v) k made.entered place within come.1 in

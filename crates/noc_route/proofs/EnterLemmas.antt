@@ -9,18 +9,18 @@ use Rattle.std.proofs.Math.Bool.{or-false, or-true, and-false}
 use Rattle.noc_packet.specs.Set.{has_bit}
 use Rattle.noc_topo.specs.Shape.{Grid, nodes, ports, local_port, neighbour}
 use Rattle.noc_route.specs.Relation.{RelationParts, names_entry, is_open, is_real_row, has_route_row, rows_of, leads, is_led}
-use Rattle.noc_route.specs.Routes.{Routes, width, pages, page_of, page_class, page_router, page_dst, entry_place}
+use Rattle.noc_route.specs.Routes.{Routes, width, pages, page_of, page_class, page_router, page_dst, entry_index}
 use Rattle.noc_route.specs.Trimming.{page_set}
 use Rattle.noc_packet.proofs.SetLemmas.{has_bit-zero}
 use Rattle.noc_route.specs.Entered.{has_row_at, IsEntered}
 use Rattle.noc_route.specs.declared.rule.Rule.{Rule}
 use Rattle.noc_route.specs.declared.rule.Rule.TheVariants.{Dor, Dateline, WestFirst, Adaptive, Rows}
 use Rattle.noc_route.specs.declared.rule.RouteRow.{RouteRow}
-use Rattle.noc_route.proofs.PlaceLemmas.{flat-below}
+use Rattle.noc_route.proofs.EntryLemmas.{flat-below}
 use Rattle.noc_route.proofs.TrimLemmas.{index-parts, page-dst, page-class, page-sender, page-below}
 use Rattle.noc_route.proofs.BoolLemmas.{same_test}
 
--- ---- one set in a row of places
+-- ---- one set in a row of entries
 
 -- the places filled so far have the set, and the others what they had
 abbrev pub filled_to : List ℕ → ℕ → ℕ → ℕ → ℕ → ℕ
@@ -137,8 +137,8 @@ pub record IsWithinTable (routes : Routes) (row : RouteRow) : Type 0 where
   pub out_vc : row.out_vc < routes.vcs
 
 -- the place of a row in the table
-abbrev pub row_place : Routes → RouteRow → ℕ
-row_place routes row = entry_place routes.grid routes.vcs routes.classes row.class row.router row.in_port row.in_vc row.dst
+abbrev pub row_index : Routes → RouteRow → ℕ
+row_index routes row = entry_index routes.grid routes.vcs routes.classes row.class row.router row.in_port row.in_vc row.dst
 
 -- the number of a page, of its parts
 pub page-whole : (g : Grid) (classes b : ℕ) → page_of g classes (page_class g classes b) (page_router g classes b) (page_dst g b) ≡ b
@@ -147,7 +147,7 @@ page-whole g classes b =
 
 named-place : (routes : Routes) (b i k : ℕ) (row : RouteRow)
     → NamesIt (page_class routes.grid routes.classes b) (page_router routes.grid routes.classes b) (i / routes.vcs) (i % routes.vcs) (page_dst routes.grid b) (k / routes.vcs) (k % routes.vcs) row
-    → (b * width routes.grid routes.vcs + i ≡ row_place routes row) × (k ≡ row.out_port * routes.vcs + row.out_vc)
+    → (b * width routes.grid routes.vcs + i ≡ row_index routes row) × (k ≡ row.out_port * routes.vcs + row.out_vc)
 named-place routes b i k row h =
     let page : page_of routes.grid routes.classes row.class row.router row.dst ≡ b
     = ap (λ x. page_of routes.grid routes.classes x row.router row.dst) h.class ∙ ap (λ x. page_of routes.grid routes.classes (page_class routes.grid routes.classes b) x row.dst) h.router
@@ -157,7 +157,7 @@ named-place routes b i k row h =
     (sym (ap (λ x. x * width routes.grid routes.vcs + (row.in_port * routes.vcs + row.in_vc)) page ∙ ap (λ x. b * width routes.grid routes.vcs + x) input), sym output)
 
 place-named : (routes : Routes) (b i k : ℕ) (row : RouteRow) → IsWithinTable routes row → i < width routes.grid routes.vcs
-    → b * width routes.grid routes.vcs + i ≡ row_place routes row → k ≡ row.out_port * routes.vcs + row.out_vc
+    → b * width routes.grid routes.vcs + i ≡ row_index routes row → k ≡ row.out_port * routes.vcs + row.out_vc
     → NamesIt (page_class routes.grid routes.classes b) (page_router routes.grid routes.classes b) (i / routes.vcs) (i % routes.vcs) (page_dst routes.grid b) (k / routes.vcs) (k % routes.vcs) row
 place-named routes b i k row within l e f =
     let w = width routes.grid routes.vcs in
@@ -192,23 +192,23 @@ row_at routes b i k =
 
 pub HasRows-more : (routes : Routes) (sets : List ℕ) (rows : List RouteRow) (n : ℕ) (row : RouteRow) (value : ℕ) → length sets ≡ pages routes.grid routes.classes * width routes.grid routes.vcs
     → n < length rows → ((d : RouteRow) → get_or rows n d ≡ row) → IsWithinTable routes row
-    → ((k : ℕ) → has_bit value k ≡ (nat_eq k (row.out_port * routes.vcs + row.out_vc) || has_bit (get_or sets (row_place routes row) 0) k))
-    → HasRows routes sets rows n → HasRows routes (set sets (row_place routes row) value) rows (n + 1)
+    → ((k : ℕ) → has_bit value k ≡ (nat_eq k (row.out_port * routes.vcs + row.out_vc) || has_bit (get_or sets (row_index routes row) 0) k))
+    → HasRows routes sets rows n → HasRows routes (set sets (row_index routes row) value) rows (n + 1)
 HasRows-more routes sets rows n row value long l here within is h = λ b i k m o.
     let more : has_row_at routes (take (n + 1) rows) b i k ≡ (has_row_at routes (take n rows) b i k || row_at routes b i k row)
     = list_any_more (row_at routes b i k) rows n row l ∙ ap (λ x. has_row_at routes (take n rows) b i k || row_at routes b i k x) (here row) in
-    at b i k m o (cases_eq (b * width routes.grid routes.vcs + i) (row_place routes row)) ∙ ap (λ x. nat_lt k (width routes.grid routes.vcs) && x) (sym more)
+    at b i k m o (cases_eq (b * width routes.grid routes.vcs + i) (row_index routes row)) ∙ ap (λ x. nat_lt k (width routes.grid routes.vcs) && x) (sym more)
   where
     at : (b i k : ℕ) → b < pages routes.grid routes.classes → i < width routes.grid routes.vcs
-        → (b * width routes.grid routes.vcs + i ≡ row_place routes row) ⊎ (b * width routes.grid routes.vcs + i ≢ row_place routes row)
-        → has_bit (get_or (set sets (row_place routes row) value) (b * width routes.grid routes.vcs + i) 0) k ≡ (nat_lt k (width routes.grid routes.vcs) && (has_row_at routes (take n rows) b i k || row_at routes b i k row))
+        → (b * width routes.grid routes.vcs + i ≡ row_index routes row) ⊎ (b * width routes.grid routes.vcs + i ≢ row_index routes row)
+        → has_bit (get_or (set sets (row_index routes row) value) (b * width routes.grid routes.vcs + i) 0) k ≡ (nat_lt k (width routes.grid routes.vcs) && (has_row_at routes (take n rows) b i k || row_at routes b i k row))
     at b i k m o (inl e) =
-        let inside : row_place routes row < length sets = omega (arith, long, e, flat-below b (pages routes.grid routes.classes) i (width routes.grid routes.vcs) m o) in
+        let inside : row_index routes row < length sets = omega (arith, long, e, flat-below b (pages routes.grid routes.classes) i (width routes.grid routes.vcs) m o) in
         let same : nat_eq k (row.out_port * routes.vcs + row.out_vc) ≡ row_at routes b i k row
         = same_test _ _ (λ q. is_row_of-all _ _ _ _ _ _ _ row (place-named routes b i k row within o e (eqb-true _ _ q)))
         (λ q. eq-eqb _ _ (named-place routes b i k row (is_row_of-parts _ _ _ _ _ _ _ row q)).1) in
-        ap (λ x. has_bit x k) (ap (λ j. get_or (set sets (row_place routes row) value) j 0) e ∙ get_or-set_same sets (row_place routes row) value 0 inside) ∙ is k
-        ∙ ap (λ x. x || has_bit (get_or sets (row_place routes row) 0) k) same
+        ap (λ x. has_bit x k) (ap (λ j. get_or (set sets (row_index routes row) value) j 0) e ∙ get_or-set_same sets (row_index routes row) value 0 inside) ∙ is k
+        ∙ ap (λ x. x || has_bit (get_or sets (row_index routes row) 0) k) same
         ∙ ap (λ j. row_at routes b i k row || has_bit (get_or sets j 0) k) (sym e)
         ∙ ap (λ x. row_at routes b i k row || x) (h b i k m o)
         ∙ or_within (row_at routes b i k row) (nat_lt k (width routes.grid routes.vcs)) (has_row_at routes (take n rows) b i k)
@@ -217,7 +217,7 @@ HasRows-more routes sets rows n row value long l here within is h = λ b i k m o
         lt-ltb k _ (omega (arith, index, flat-below row.out_port (ports routes.grid) row.out_vc routes.vcs within.out_port within.out_vc)))
     at b i k m o (inr other) =
         let none : row_at routes b i k row ≡ false = not_named (row_at routes b i k row) refl in
-        ap (λ x. has_bit x k) (get_or-set_other sets (row_place routes row) (b * width routes.grid routes.vcs + i) value 0 other) ∙ h b i k m o
+        ap (λ x. has_bit x k) (get_or-set_other sets (row_index routes row) (b * width routes.grid routes.vcs + i) value 0 other) ∙ h b i k m o
         ∙ ap (λ x. nat_lt k (width routes.grid routes.vcs) && x) (sym (rw none (or-false (has_row_at routes (take n rows) b i k))))
       where
         not_named : (x : Bool) → row_at routes b i k row ≡ x → row_at routes b i k row ≡ false
@@ -291,7 +291,7 @@ leads-named g m r p v t q w none = rw (none, leads) refl
 pub leads-rows : (g : RelationParts) (rows : List RouteRow) (m r p v t q w : ℕ) → rows_of g.rule ≡ Some rows → leads g m (r, p) v t q w ≡ has_route_row rows m (r, p) v t q w
 leads-rows g rows m r p v t q w table = rw (table, leads) refl
 
--- the sets of all places, by those of all pages
+-- the sets of all entries, by those of all pages
 pub IsEntered-from_pages : (g : RelationParts) (routes : Routes)
     → ((b i k : ℕ) → b < pages routes.grid routes.classes → i < width routes.grid routes.vcs → has_bit (page_set routes b i) k
     ≡ (nat_lt k (width routes.grid routes.vcs) && leads g (page_class routes.grid routes.classes b) (page_router routes.grid routes.classes b, i / routes.vcs) (i % routes.vcs) (page_dst routes.grid b) (k / routes.vcs) (k % routes.vcs)))

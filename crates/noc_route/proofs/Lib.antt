@@ -1,4 +1,4 @@
-pub mod PlaceLemmas
+pub mod EntryLemmas
 pub mod RankLemmas
 pub mod BoolLemmas
 pub mod WayLemmas
@@ -19,4 +19,4 @@ pub mod RisingLemmas
 pub mod PinnedLemmas
 pub mod OneFaultLemmas
 pub mod AlikeLemmas
-mod RuleRows
+mod RuleExamples

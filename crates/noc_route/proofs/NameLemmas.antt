@@ -3,7 +3,7 @@ use Rattle.std.proofs.Common.{◌≡◌, ℕ, Bool, true, false, List, [], ◌�
 use Rattle.std.proofs.lemmas.Option.{none-some, same_Some}
 use Rattle.std.specs.Cmp.Lexicographic.{same_text}
 use Rattle.std.specs.Str.{bytes_eq}
-use Rattle.noc_route.specs.Names.{rule_names, rule_word, rule_of, rule_named}
+use Rattle.noc_route.specs.Names.{rule_names, rule_name, rule_of, rule_named}
 use Rattle.noc_route.specs.declared.rule.RuleName.{RuleName}
 use Rattle.noc_route.specs.declared.rule.RuleName.TheVariants as name
 
@@ -15,15 +15,15 @@ find-found test (y ∷ ys) x e = at (find-found test ys x) (test y) refl
     at more true is = let one : Some y ≡ Some x = rw is at e in ap test (sym (same_Some y x one)) ∙ is
     at more false is = more (rw is at e)
 
-pub word-of_rule : (word : List ℕ) (r : RuleName) → rule_of word ≡ Some r → word ≡ rule_word r
-word-of_rule word r e = same_text word (rule_word r) (sym (find-found (λ r. bytes_eq word (rule_word r)) rule_names r e))
+pub name-of_rule : (word : List ℕ) (r : RuleName) → rule_of word ≡ Some r → word ≡ rule_name r
+name-of_rule word r e = same_text word (rule_name r) (sym (find-found (λ r. bytes_eq word (rule_name r)) rule_names r e))
 
-pub rule-of_word : (r : RuleName) → rule_of (rule_word r) ≡ Some r
-rule-of_word name.Dor = refl
-rule-of_word name.Dateline = refl
-rule-of_word name.WestFirst = refl
-rule-of_word name.Adaptive = refl
-rule-of_word name.Table = refl
+pub rule-of_name : (r : RuleName) → rule_of (rule_name r) ≡ Some r
+rule-of_name name.Dor = refl
+rule-of_name name.Dateline = refl
+rule-of_name name.WestFirst = refl
+rule-of_name name.Adaptive = refl
+rule-of_name name.Table = refl
 
 -- only the rule `table` stands elsewhere
 pub only_table : (r : RuleName) → rule_named r ≡ None → r ≡ name.Table

@@ -16,10 +16,10 @@ use Rattle.noc_route.specs.declared.rule.RouteRow.{RouteRow}
 use Rattle.noc_route.specs.declared.rule.RouteFault.{RouteFault}
 use Rattle.noc_route.specs.declared.rule.RouteFault.TheVariants.{WrongShape, NoLink, NotMinimal, EarlyEject, LateHop, NoWay, Memory}
 use Rattle.noc_route.specs.Routes.{Routes, HasTableSize, width, pages, page_of, page_class, page_router, page_dst}
-use Rattle.noc_route.specs.Trimming.{set_in, page_set, left_at, comes_in, comes_at, is_stuck_at, entry_on_page, IsNoEarlier, IsStuckFirst, IsFirstStuck, IsPlace, CanCome, IsSoundOut, IsFullOut}
+use Rattle.noc_route.specs.Trimming.{set_in, page_set, left_at, comes_in, comes_at, is_stuck_at, entry_on_page, IsNoEarlier, IsStuckFirst, IsFirstStuck, IsPage, CanCome, IsSoundOut, IsFullOut}
 use Rattle.noc_route.specs.Entered.{IsEntered}
 use Rattle.noc_route.specs.declared.rule.Entry.{Entry}
-use Rattle.noc_route.proofs.PlaceLemmas.{flat-below, page-router}
+use Rattle.noc_route.proofs.EntryLemmas.{flat-below, page-router}
 use Rattle.noc_route.proofs.TrimLemmas.{index-parts, port-below, CanCome-within, comes_in-sound, page-dst, page-class, page-sender, page-below}
 use Rattle.noc_route.proofs.EnterLemmas.{page-whole}
 use Rattle.noc_route.proofs.RuleLemmas.{IsWellMade, IsRight-from_test, leads-vc}
@@ -64,7 +64,7 @@ empty-none g sets good entered m t r i c reached e f zero o = at o (rule_has g m
     at o false h = h
 
 -- where there is no next channel the set is empty
-none-empty : (g : RelationParts) (sets : List ℕ) → IsWellMade g → IsEntered g (table g sets) → (m t r i : ℕ) (c : Channel) → IsPlace (table g sets) m r t → i < width g.grid g.vcs → arrival_of g.grid c ≡ Some (r, i / g.vcs)
+none-empty : (g : RelationParts) (sets : List ℕ) → IsWellMade g → IsEntered g (table g sets) → (m t r i : ℕ) (c : Channel) → IsPage (table g sets) m r t → i < width g.grid g.vcs → arrival_of g.grid c ≡ Some (r, i / g.vcs)
     → channel_vc c ≡ i % g.vcs → ((o : Channel) → rule_has g m c t o ≡ false) → set_in (table g sets) m r t i ≡ 0
 none-empty g sets good entered m t r i c place l e f none = zero_from_none (set_in (table g sets) m r t i) (λ k. at k (has_bit (set_in (table g sets) m r t i) k) refl)
   where
@@ -91,7 +91,7 @@ IsNoWay-stuck g sets left outs made b i l k stuck =
     let t = page_dst g.grid b in
     let right = IsRight-from_test g.grid g.vcs g.classes g.rule made.good.right in
     let some = nodes-some g.grid made.good.grid in
-    let place : IsPlace (table g sets) m r t
+    let place : IsPage (table g sets) m r t
     = record {
       class = mod-lt (b / nodes g.grid) {m = g.classes} (omega (arith, right.some_classes));
       router = page-router b (nodes g.grid) g.classes (omega (arith, some)) right.some_classes l;
@@ -220,7 +220,7 @@ pub IsFaultOf-row : (g : RelationParts) (fault : RouteFault) → is_right g.grid
 IsFaultOf-row g fault right h = row_fault-kind g h.row fault h.faulty (record { right = right; first = h })
 
 pub IsMade-steps : (g : RelationParts) (sets left outs : List ℕ) → IsGrid g.grid → is_right g.grid g.vcs g.classes g.rule ≡ true → All (λ row. row_fault g.grid g.vcs g.classes row ≡ None) (table_rows_of g.rule)
-    → IsEntered g (table g sets) → IsSoundOut (table g sets) outs → ((m r t : ℕ) → IsPlace (table g sets) m r t → IsFullOut (table g sets) outs m r t)
+    → IsEntered g (table g sets) → IsSoundOut (table g sets) outs → ((m r t : ℕ) → IsPage (table g sets) m r t → IsFullOut (table g sets) outs m r t)
     → ((b i : ℕ) → b < pages g.grid g.classes → i < width g.grid g.vcs → page_set (table g left) b i ≡ left_at (table g sets) outs b i) → IsMade g sets left outs
 IsMade-steps g sets left outs grid right rows entered sound full trimmed =
     record { good = record { grid = grid; right = right; rows = rows }; entered = entered; sound = sound; full = full; trimmed = trimmed }

@@ -12,7 +12,7 @@ use Rattle.noc_route.specs.Built.{IsRelationOfRule}
 use Rattle.noc_route.specs.Channel.{Channel, Link, Inject, Eject, arrival_of, channel_vc}
 use Rattle.noc_route.specs.Relation.{RelationParts}
 use Rattle.noc_route.specs.Routes.{Routes, width, pages, page_class, page_router, page_dst, set_at, permits, permits_at, is_sent, HasTableSize, IsRelation}
-use Rattle.noc_route.proofs.PlaceLemmas.{page-router}
+use Rattle.noc_route.proofs.EntryLemmas.{page-router}
 use Rattle.noc_route.proofs.TrimLemmas.{index-parts, port-below}
 use Rattle.noc_route.proofs.EnterLemmas.{page-whole}
 use Rattle.noc_route.proofs.BuiltLemmas.{table, Exists, set_at-member, set_at-exists}

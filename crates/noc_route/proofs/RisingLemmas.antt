@@ -4,7 +4,7 @@ use Rattle.std.specs.Prelude.{IsTrue, is_some, ◌&&◌}
 use Rattle.std.proofs.lemmas.Bool.{lt-ltb, false≢true}
 use Rattle.noc_topo.specs.Shape.{neighbour}
 use Rattle.noc_route.specs.Channel.{Channel, Link, Inject, Eject, arrival_of}
-use Rattle.noc_route.specs.Ranks.{is_place, is_channel, LeadsTo, direct, through, IsRanked, AreAllRanked, IsRising}
+use Rattle.noc_route.specs.Ranks.{is_port_channel, is_channel, LeadsTo, direct, through, IsRanked, AreAllRanked, IsRising}
 use Rattle.noc_route.specs.Routes.{Routes, permits, IsRelation}
 use Rattle.noc_route.proofs.BuiltLemmas.{set_at-member}
 use Rattle.noc_route.proofs.PermitsLemmas.{PermitsLink-from_test, PermitsEject-from_test, permits-inject, permits-home, permits-nearer}
@@ -19,7 +19,7 @@ permits-channel routes built m c t r p v e =
     let router = lt-ltb _ _ there.place.router in
     let port = lt-ltb _ _ h.port in
     let vc = lt-ltb _ _ h.vc in
-    let place : is_place routes.grid routes.vcs r p v ≡ true = rw (router, port, vc) refl in
+    let place : is_port_channel routes.grid routes.vcs r p v ≡ true = rw (router, port, vc) refl in
     ap (λ b. b && is_some (neighbour routes.grid r p)) place ∙ ap (is_some {T = ℕ × ℕ}) hop.link
 
 module _ (routes : Routes) (ranks : ℕ → ℕ → ℕ → Option ℕ) (built : IsRelation routes) (all : AreAllRanked routes.grid routes.vcs ranks) where

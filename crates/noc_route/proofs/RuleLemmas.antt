@@ -4,7 +4,7 @@ use Rattle.std.specs.Prelude.{◌⊎◌, ◌&&◌, not, nat_eq, nat_lt, nat_le, 
 use Rattle.std.specs.List.{list_any}
 use Rattle.std.proofs.Math.Nat.{mul-le-mul_right, div-lt_iff_lt-mul}
 use Rattle.std.proofs.lemmas.Bool.{eq-eqb, eqb-true, false≢true, and_parts, or_cases, ltb-true, leb-true, le-ltb}
-use Rattle.noc_topo.specs.Words.{is_some_of}
+use Rattle.noc_topo.specs.Lists.{is_some_of}
 use Rattle.noc_topo.specs.Shape.{Grid, IsGrid, local_port, neighbour, distance, coordinates}
 use Rattle.noc_topo.proofs.DistanceLemmas.{hop-by_one}
 use Rattle.noc_packet.specs.declared.limits.TheConstants.{MAX_CHANNELS, MAX_CLASSES}

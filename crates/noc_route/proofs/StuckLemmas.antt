@@ -9,7 +9,7 @@ use Rattle.noc_route.specs.Routes.{Routes, width, pages}
 use Rattle.noc_route.specs.Trimming.{page_set, comes_at, left_at, is_stuck_at, entry_on_page, IsNoEarlier, IsStuckFirst, IsFirstStuck}
 use Rattle.noc_route.specs.declared.rule.Entry.{Entry}
 use Rattle.noc_route.proofs.OrderLemmas.{before-not-self, before-trans}
-use Rattle.noc_route.proofs.PlaceLemmas.{flat-below}
+use Rattle.noc_route.proofs.EntryLemmas.{flat-below}
 
 -- the place of the entry at n is the next one
 same_place : (w b i b' i' : ℕ) → i < w → i' < w → b' * w + i' ≡ b * w + i → (b' ≡ b) × (i' ≡ i)

@@ -12,9 +12,9 @@ use Rattle.noc_packet.proofs.SetLemmas.{has_bit-zero}
 use Rattle.noc_topo.specs.Shape.{Grid, IsGrid, nodes, ports, local_port, neighbour, distance}
 use Rattle.noc_topo.proofs.LinkLemmas.{link_back, neighbour-range}
 use Rattle.noc_route.specs.Routes.{Routes, width, pages, page_of}
-use Rattle.noc_route.specs.Trimming.{set_in, IsPlace, CanCome, injected, led, ComesNearer, CanLeave, comes_in, any_below, IsSoundOut, IsFullOut}
+use Rattle.noc_route.specs.Trimming.{set_in, IsPage, CanCome, injected, led, ComesNearer, CanLeave, comes_in, any_below, IsSoundOut, IsFullOut}
 use Rattle.noc_route.specs.Gathering.{AreOuts, AreOutsFrom, FartherFull, IsPairDone}
-use Rattle.noc_route.proofs.PlaceLemmas.{flat-below}
+use Rattle.noc_route.proofs.EntryLemmas.{flat-below}
 
 -- ---- a test of the numbers below one
 
@@ -47,7 +47,7 @@ index-parts vcs i = ap (λ x. x + i % vcs) (mul_comm (i / vcs) vcs) ∙ div-add-
 pub port-below : (g : Grid) (vcs i : ℕ) → 1 ≤ vcs → i < width g vcs → i / vcs < ports g
 port-below g vcs i some l = (div-lt_iff_lt-mul {k = vcs} {x = i} {y = ports g} (omega arith)).1 l
 
-pub CanCome-within : (routes : Routes) (m t r i : ℕ) → IsSized routes → CanCome routes m t r i → IsPlace routes m r t × (i < width routes.grid routes.vcs)
+pub CanCome-within : (routes : Routes) (m t r i : ℕ) → IsSized routes → CanCome routes m t r i → IsPage routes m r t × (i < width routes.grid routes.vcs)
 CanCome-within routes m t r i sized (injected {v = v} place away l e) =
     (place, rw e (flat-below (local_port routes.grid) (ports routes.grid) v routes.vcs (omega arith) l))
 CanCome-within routes m t r i sized (led {r = a} {i = j} {k = k} {q = q} come l has link e) =
@@ -78,7 +78,7 @@ pub comes_in-link : (routes : Routes) (outs : List ℕ) (m r t i : ℕ) → nat_
 comes_in-link routes outs m r t i e = rw e refl
 
 -- what the lists say comes in does
-pub comes_in-sound : (routes : Routes) (outs : List ℕ) (m r t i : ℕ) → IsSized routes → IsSoundOut routes outs → IsPlace routes m r t → i < width routes.grid routes.vcs
+pub comes_in-sound : (routes : Routes) (outs : List ℕ) (m r t i : ℕ) → IsSized routes → IsSoundOut routes outs → IsPage routes m r t → i < width routes.grid routes.vcs
     → comes_in routes outs m r t i ≡ true → CanCome routes m t r i
 comes_in-sound routes outs m r t i sized sound place within e = at (eqb_tells (i / routes.vcs) (local_port routes.grid))
   where
@@ -88,7 +88,7 @@ comes_in-sound routes outs m r t i sized sound place within e = at (eqb_tells (i
         let back = link_back routes.grid r (i / routes.vcs) u q sized.grid place.router link in
         let vc : i % routes.vcs < routes.vcs = mod-lt i {m = routes.vcs} (omega (arith, sized.some_vcs)) in
         let small : q * routes.vcs + i % routes.vcs < width routes.grid routes.vcs = flat-below q (ports routes.grid) (i % routes.vcs) routes.vcs (omega (arith, back.port)) vc in
-        let there : IsPlace routes m u t = record { class = place.class; router = back.node; dst = place.dst } in
+        let there : IsPage routes m u t = record { class = place.class; router = back.node; dst = place.dst } in
         let out = sound m u t (q * routes.vcs + i % routes.vcs) there small f in
         let port : (q * routes.vcs + i % routes.vcs) / routes.vcs ≡ q = div-mul-add q routes.vcs (i % routes.vcs) vc in
         let number : (q * routes.vcs + i % routes.vcs) % routes.vcs ≡ i % routes.vcs = mod-mul-add q routes.vcs (i % routes.vcs) vc in
@@ -104,7 +104,7 @@ comes_in-sound routes outs m r t i sized sound place within e = at (eqb_tells (i
 
 -- what can come in does so by the lists, where those of farther routers are full
 pub comes_in-full : (routes : Routes) (outs : List ℕ) (m r t i : ℕ) → IsSized routes → ComesNearer routes
-    → ((u : ℕ) → IsPlace routes m u t → distance routes.grid r t < distance routes.grid u t → IsFullOut routes outs m u t)
+    → ((u : ℕ) → IsPage routes m u t → distance routes.grid r t < distance routes.grid u t → IsFullOut routes outs m u t)
     → CanCome routes m t r i → comes_in routes outs m r t i ≡ true
 comes_in-full routes outs m r t i sized nearer full (injected {v = v} place away l e) =
     let home : i / routes.vcs ≡ local_port routes.grid = ap (λ x. x / routes.vcs) e ∙ div-mul-add (local_port routes.grid) routes.vcs v l in
@@ -161,7 +161,7 @@ IsGathered-more routes outs m r t n out set more reached come same either had = 
     let here : (reached && has_bit set k) ≡ F n = ap (λ b. b && has_bit set k) come ∙ ap (λ s. comes_in routes outs m r t n && has_bit s k) same in
     either k ∙ ap (λ b. b || (reached && has_bit set k)) (had k l) ∙ ap (λ b. any_below n F || b) here ∙ sym (any_below-more n F)
 
-out-sound : (routes : Routes) (outs : List ℕ) (m r t out k : ℕ) → IsSized routes → IsSoundOut routes outs → IsPlace routes m r t → IsOutOf routes outs m r t out
+out-sound : (routes : Routes) (outs : List ℕ) (m r t out k : ℕ) → IsSized routes → IsSoundOut routes outs → IsPage routes m r t → IsOutOf routes outs m r t out
     → k < width routes.grid routes.vcs → has_bit out k ≡ true → CanLeave routes m r t k
 out-sound routes outs m r t out k sized sound place is l e =
     let some = any_below-some (width routes.grid routes.vcs) (λ i. comes_in routes outs m r t i && has_bit (set_in routes m r t i) k) (sym (is k l) ∙ e) in
@@ -175,7 +175,7 @@ out-full routes outs m r t out k sized nearer full is l leave =
     is k l ∙ any_below-at (width routes.grid routes.vcs) (λ i. comes_in routes outs m r t i && has_bit (set_in routes m r t i) k) leave.input leave.within (rw (come, leave.taken) refl)
 
 -- the page is the same, and so the place, or the list is as it was
-written : (routes : Routes) (outs : List ℕ) (m r t out m' r' t' : ℕ) → IsPlace routes m r t → IsPlace routes m' r' t' → length outs ≡ pages routes.grid routes.classes
+written : (routes : Routes) (outs : List ℕ) (m r t out m' r' t' : ℕ) → IsPage routes m r t → IsPage routes m' r' t' → length outs ≡ pages routes.grid routes.classes
     → ((m' ≡ m) × (r' ≡ r) × (t' ≡ t) × (slice_index (set outs (page_of routes.grid routes.classes m r t) out) (page_of routes.grid routes.classes m' r' t') ≡ out))
     ⊎ (slice_index (set outs (page_of routes.grid routes.classes m r t) out) (page_of routes.grid routes.classes m' r' t') ≡ slice_index outs (page_of routes.grid routes.classes m' r' t'))
 written routes outs m r t out m' r' t' place other long = at (cases_eq (page_of routes.grid routes.classes m' r' t') (page_of routes.grid routes.classes m r t))
@@ -193,11 +193,11 @@ written routes outs m r t out m' r' t' place other long = at (cases_eq (page_of 
         )
     at (inr differ) = inr (get_or-set_other outs (page_of routes.grid routes.classes m r t) (page_of routes.grid routes.classes m' r' t') out 0 differ)
 
-pub IsSoundOut-set : (routes : Routes) (outs : List ℕ) (m r t out : ℕ) → IsSized routes → length outs ≡ pages routes.grid routes.classes → IsSoundOut routes outs → IsPlace routes m r t
+pub IsSoundOut-set : (routes : Routes) (outs : List ℕ) (m r t out : ℕ) → IsSized routes → length outs ≡ pages routes.grid routes.classes → IsSoundOut routes outs → IsPage routes m r t
     → IsOutOf routes outs m r t out → IsSoundOut routes (set outs (page_of routes.grid routes.classes m r t) out)
 IsSoundOut-set routes outs m r t out sized long sound place is = λ m' r' t' k other l e. at m' r' t' k other l e (written routes outs m r t out m' r' t' place other long)
   where
-    at : (m' r' t' k : ℕ) → IsPlace routes m' r' t' → k < width routes.grid routes.vcs
+    at : (m' r' t' k : ℕ) → IsPage routes m' r' t' → k < width routes.grid routes.vcs
         → has_bit (slice_index (set outs (page_of routes.grid routes.classes m r t) out) (page_of routes.grid routes.classes m' r' t')) k ≡ true
         → ((m' ≡ m) × (r' ≡ r) × (t' ≡ t) × (slice_index (set outs (page_of routes.grid routes.classes m r t) out) (page_of routes.grid routes.classes m' r' t') ≡ out))
         ⊎ (slice_index (set outs (page_of routes.grid routes.classes m r t) out) (page_of routes.grid routes.classes m' r' t') ≡ slice_index outs (page_of routes.grid routes.classes m' r' t'))
@@ -211,14 +211,14 @@ IsSoundOut-set routes outs m r t out sized long sound place is = λ m' r' t' k o
     at m' r' t' k other l e (inr kept) = sound m' r' t' k other l (sym (ap (λ s. has_bit s k) kept) ∙ e)
 
 pub IsFullOut-set_same : (routes : Routes) (outs : List ℕ) (m r t out : ℕ) → IsSized routes → length outs ≡ pages routes.grid routes.classes → ComesNearer routes → FartherFull routes outs r t
-    → IsPlace routes m r t → IsOutOf routes outs m r t out → IsFullOut routes (set outs (page_of routes.grid routes.classes m r t) out) m r t
+    → IsPage routes m r t → IsOutOf routes outs m r t out → IsFullOut routes (set outs (page_of routes.grid routes.classes m r t) out) m r t
 IsFullOut-set_same routes outs m r t out sized long nearer full place is = λ k l leave.
     let below = page-below routes.grid routes.classes m r t place.class place.router place.dst in
     ap (λ s. has_bit s k) (get_or-set_same outs (page_of routes.grid routes.classes m r t) out 0 (omega (arith, long, below)))
     ∙ out-full routes outs m r t out k sized nearer full is l leave
 
 pub IsFullOut-set : (routes : Routes) (outs : List ℕ) (m r t out m' r' t' : ℕ) → IsSized routes → length outs ≡ pages routes.grid routes.classes → ComesNearer routes → FartherFull routes outs r t
-    → IsPlace routes m r t → IsOutOf routes outs m r t out → IsPlace routes m' r' t' → IsFullOut routes outs m' r' t' → IsFullOut routes (set outs (page_of routes.grid routes.classes m r t) out) m' r' t'
+    → IsPage routes m r t → IsOutOf routes outs m r t out → IsPage routes m' r' t' → IsFullOut routes outs m' r' t' → IsFullOut routes (set outs (page_of routes.grid routes.classes m r t) out) m' r' t'
 IsFullOut-set routes outs m r t out m' r' t' sized long nearer full place is other had = λ k l leave. at k l leave (written routes outs m r t out m' r' t' place other long)
   where
     at : (k : ℕ) → k < width routes.grid routes.vcs → CanLeave routes m' r' t' k
@@ -233,11 +233,11 @@ IsFullOut-set routes outs m r t out m' r' t' sized long nearer full place is oth
         ap (λ s. has_bit s k) same.3 ∙ out-full routes outs m r t out k sized nearer full is l here
     at k l leave (inr kept) = ap (λ s. has_bit s k) kept ∙ had k l leave
 
--- ---- the loops over places
+-- ---- the loops over entries
 
 -- one more class
 pub IsPairDone-more : (routes : Routes) (before outs : List ℕ) (r t class out : ℕ) → IsSized routes → ComesNearer routes → FartherFull routes before r t
-    → IsPlace routes class r t → IsOutOf routes outs class r t out → IsPairDone routes before outs r t class
+    → IsPage routes class r t → IsOutOf routes outs class r t out → IsPairDone routes before outs r t class
     → IsPairDone routes before (set outs (page_of routes.grid routes.classes class r t) out) r t (class + 1)
 IsPairDone-more routes before outs r t class out sized nearer farther place is h =
     let full : FartherFull routes outs r t = λ m u other l. h.kept m u t other (farther m u other l) in
@@ -250,7 +250,7 @@ IsPairDone-more routes before outs r t class out sized nearer farther place is h
     long : length outs ≡ pages routes.grid routes.classes
     long = h.lists.long
 
-    at : FartherFull routes outs r t → (m : ℕ) → m < class + 1 → IsPlace routes m r t → (m < class) ⊎ (class ≤ m) → IsFullOut routes (set outs (page_of routes.grid routes.classes class r t) out) m r t
+    at : FartherFull routes outs r t → (m : ℕ) → m < class + 1 → IsPage routes m r t → (m < class) ⊎ (class ≤ m) → IsFullOut routes (set outs (page_of routes.grid routes.classes class r t) out) m r t
     at full m l other (inl b) = IsFullOut-set routes outs class r t out m r t sized long nearer full place is other (h.done m b other)
     at full m l other (inr g) =
         let last : class ≡ m = omega arith in
@@ -260,8 +260,8 @@ IsPairDone-more routes before outs r t class out sized nearer farther place is h
 -- the lists of all routers farther off are full, and of the first pairs of a router and a destination at this distance
 pub record IsRingDone (routes : Routes) (outs : List ℕ) (apart pair : ℕ) : Type 0 where
   pub lists : AreOuts routes outs
-  pub farther : (m r t : ℕ) → IsPlace routes m r t → apart < distance routes.grid r t → IsFullOut routes outs m r t
-  pub done : (m r t : ℕ) → IsPlace routes m r t → r * nodes routes.grid + t < pair → distance routes.grid r t ≡ apart → IsFullOut routes outs m r t
+  pub farther : (m r t : ℕ) → IsPage routes m r t → apart < distance routes.grid r t → IsFullOut routes outs m r t
+  pub done : (m r t : ℕ) → IsPage routes m r t → r * nodes routes.grid + t < pair → distance routes.grid r t ≡ apart → IsFullOut routes outs m r t
 
 -- the pair is the one whose number this is
 pair-parts : (g : Grid) (r t pair : ℕ) → t < nodes g → r * nodes g + t ≡ pair → (r ≡ pair / nodes g) × (t ≡ pair % nodes g)
@@ -269,8 +269,8 @@ pair-parts g r t pair l e =
     (sym (div-mul-add r (nodes g) t l) ∙ ap (λ x. x / nodes g) e, sym (mod-mul-add r (nodes g) t l) ∙ ap (λ x. x % nodes g) e)
 
 IsRingDone-next : (routes : Routes) (before outs : List ℕ) (apart pair : ℕ) → IsRingDone routes before apart pair → AreOuts routes outs
-    → ((m : ℕ) → IsPlace routes m (pair / nodes routes.grid) (pair % nodes routes.grid) → IsFullOut routes outs m (pair / nodes routes.grid) (pair % nodes routes.grid))
-    → ((m u d : ℕ) → IsPlace routes m u d → IsFullOut routes before m u d → IsFullOut routes outs m u d)
+    → ((m : ℕ) → IsPage routes m (pair / nodes routes.grid) (pair % nodes routes.grid) → IsFullOut routes outs m (pair / nodes routes.grid) (pair % nodes routes.grid))
+    → ((m u d : ℕ) → IsPage routes m u d → IsFullOut routes before m u d → IsFullOut routes outs m u d)
     → IsRingDone routes outs apart (pair + 1)
 IsRingDone-next routes before outs apart pair h sound full kept = record {
   lists = sound;
@@ -278,13 +278,13 @@ IsRingDone-next routes before outs apart pair h sound full kept = record {
   done = λ m r t place l e. at m r t place e (cases_lt (r * nodes routes.grid + t) pair) l;
 }
   where
-    at : (m r t : ℕ) → IsPlace routes m r t → distance routes.grid r t ≡ apart → (r * nodes routes.grid + t < pair) ⊎ (pair ≤ r * nodes routes.grid + t)
+    at : (m r t : ℕ) → IsPage routes m r t → distance routes.grid r t ≡ apart → (r * nodes routes.grid + t < pair) ⊎ (pair ≤ r * nodes routes.grid + t)
         → r * nodes routes.grid + t < pair + 1 → IsFullOut routes outs m r t
     at m r t place e (inl b) l = kept m r t place (h.done m r t place b e)
     at m r t place e (inr g) l =
         let same = pair-parts routes.grid r t pair place.dst (omega arith) in
-        let P : ℕ → Type 0 = λ x. IsPlace routes m x t in
-        let Q : ℕ → Type 0 = λ x. IsPlace routes m (pair / nodes routes.grid) x in
+        let P : ℕ → Type 0 = λ x. IsPage routes m x t in
+        let Q : ℕ → Type 0 = λ x. IsPage routes m (pair / nodes routes.grid) x in
         let here = subst Q same.1 (subst P same.0 place) in
         let R : ℕ → Type 0 = λ x. IsFullOut routes outs m (pair / nodes routes.grid) x in
         let S : ℕ → Type 0 = λ x. IsFullOut routes outs m x t in
@@ -293,7 +293,7 @@ IsRingDone-next routes before outs apart pair h sound full kept = record {
 pub IsRingDone-more : (routes : Routes) (before outs : List ℕ) (apart pair n : ℕ) → n ≡ nodes routes.grid → IsRingDone routes before apart pair
     → IsPairDone routes before outs (pair / n) (pair % n) routes.classes → IsRingDone routes outs apart (pair + 1)
 IsRingDone-more routes before outs apart pair n e h more =
-    let P : ℕ → Type 0 = λ n. (m : ℕ) → IsPlace routes m (pair / n) (pair % n) → IsFullOut routes outs m (pair / n) (pair % n) in
+    let P : ℕ → Type 0 = λ n. (m : ℕ) → IsPage routes m (pair / n) (pair % n) → IsFullOut routes outs m (pair / n) (pair % n) in
     IsRingDone-next routes before outs apart pair h more.lists (subst P e (λ m place. more.done m place.class place)) more.kept
 
 -- a pair at another distance is passed over
@@ -305,7 +305,7 @@ IsRingDone-passed routes outs apart pair other h = record {
   done = λ m r t place l e. at m r t place e (cases_lt (r * nodes routes.grid + t) pair) l;
 }
   where
-    at : (m r t : ℕ) → IsPlace routes m r t → distance routes.grid r t ≡ apart → (r * nodes routes.grid + t < pair) ⊎ (pair ≤ r * nodes routes.grid + t)
+    at : (m r t : ℕ) → IsPage routes m r t → distance routes.grid r t ≡ apart → (r * nodes routes.grid + t < pair) ⊎ (pair ≤ r * nodes routes.grid + t)
         → r * nodes routes.grid + t < pair + 1 → IsFullOut routes outs m r t
     at m r t place e (inl b) l = h.done m r t place b e
     at m r t place e (inr g) l =
@@ -323,7 +323,7 @@ IsRingDone-none routes outs apart h = record {
 pub IsRingDone-all : (routes : Routes) (outs : List ℕ) (apart pair : ℕ) → nodes routes.grid * nodes routes.grid ≤ pair → IsRingDone routes outs apart pair → AreOutsFrom routes apart outs
 IsRingDone-all routes outs apart pair end h = record { lists = h.lists; full = λ m r t place l. at m r t place l (cases_lt apart (distance routes.grid r t)) }
   where
-    at : (m r t : ℕ) → IsPlace routes m r t → apart ≤ distance routes.grid r t → (apart < distance routes.grid r t) ⊎ (distance routes.grid r t ≤ apart) → IsFullOut routes outs m r t
+    at : (m r t : ℕ) → IsPage routes m r t → apart ≤ distance routes.grid r t → (apart < distance routes.grid r t) ⊎ (distance routes.grid r t ≤ apart) → IsFullOut routes outs m r t
     at m r t place l (inl f) = h.farther m r t place f
     at m r t place l (inr n) = h.done m r t place (omega (arith, flat-below r (nodes routes.grid) t (nodes routes.grid) place.router place.dst)) (omega arith)
 

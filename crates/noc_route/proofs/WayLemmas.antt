@@ -41,7 +41,7 @@ real-from_none g vcs classes row f = at (is_real_row g vcs classes row) refl
     at true e = e
     at false e = let some : row_fault g vcs classes row ≡ Some (NoLink row) = rw e refl in let never : Some (NoLink row) ≡ None = sym some ∙ f in absurd (cc never)
 
--- a rule over the numbers of a frame, where these are known
-pub routing_in-frame : (f : Sizes) (g : Grid) (vcs classes : ℕ) (rule : Rule) → f.shape ≡ g → f.vcs ≡ vcs → f.classes ≡ classes → routing_in f rule ≡ routing_of g vcs classes rule
-routing_in-frame f g vcs classes rule a b c =
+-- a rule over the numbers of a sizes, where these are known
+pub routing_in-sizes : (f : Sizes) (g : Grid) (vcs classes : ℕ) (rule : Rule) → f.shape ≡ g → f.vcs ≡ vcs → f.classes ≡ classes → routing_in f rule ≡ routing_of g vcs classes rule
+routing_in-sizes f g vcs classes rule a b c =
     ap (λ x. routing_of x f.vcs f.classes rule) a ∙ ap (λ x. routing_of g x f.classes rule) b ∙ ap (λ x. routing_of g vcs x rule) c

@@ -1,7 +1,7 @@
 -- Channels, each named by the router that sends on it.
 use Rattle.std.specs.Prelude.{ℕ, ◌+◌, ◌*◌, ◌/◌, ◌%◌, Bool, true, false, ◌&&◌, Option, Some, None, option_map, nat_eq, if◌then◌else◌, List, filter_map}
 use Rattle.std.specs.List.{flat_map}
-use Rattle.noc_topo.specs.Words.{below}
+use Rattle.noc_topo.specs.Lists.{below}
 use Rattle.noc_topo.specs.Shape.{Grid, neighbour, local_port, ports, nodes}
 
 -- a virtual channel of a link (by the sending router and its port), of an injection port, or of an ejection port

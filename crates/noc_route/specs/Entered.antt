@@ -4,19 +4,19 @@ use Rattle.noc_topo.specs.Shape.{Grid, coordinates, three_coordinates}
 use Rattle.noc_packet.specs.Set.{has_bit}
 use Rattle.noc_route.specs.Relation.{RelationParts, dor_port, is_nearer, leads, has_route_row}
 use Rattle.noc_route.specs.Routes.{Routes, width, page_class, page_router, page_dst}
-use Rattle.noc_route.specs.Trimming.{set_in, IsPlace}
+use Rattle.noc_route.specs.Trimming.{set_in, IsPage}
 use Rattle.noc_route.specs.declared.sizes.Sizes.{Sizes}
 use Rattle.noc_route.specs.declared.rule.RouteRow.{RouteRow}
 use Rattle.noc_route.specs.declared.rule.Rule.{Rule}
 use Rattle.noc_route.specs.declared.named.Way.{Way}
 use Rattle.noc_route.specs.declared.routing.Routing.{Routing}
 
--- a rule over the numbers of a frame
+-- a rule over these sizes
 abbrev pub routing_in : Sizes → Rule → RelationParts
 routing_in f rule = record { grid = f.shape; vcs = f.vcs; classes = f.classes; rule = rule }
 
 abbrev pub parts_of : Routing → RelationParts
-parts_of routing = routing_in routing.map.now.frame routing.rule.now
+parts_of routing = routing_in routing.map.now.sizes routing.rule.now
 
 -- what is known of the way from router r to destination t
 pub record IsWay (g : Grid) (way : Way) (r t : ℕ) : Type 0 where
@@ -29,7 +29,7 @@ pub record IsWay (g : Grid) (way : Way) (r t : ℕ) : Type 0 where
 -- each set has the output channels to which the rule leads
 abbrev pub IsEntered : RelationParts → Routes → Type 0
 IsEntered g routes =
-    (m r t i k : ℕ) → IsPlace routes m r t → i < width routes.grid routes.vcs
+    (m r t i k : ℕ) → IsPage routes m r t → i < width routes.grid routes.vcs
     → has_bit (set_in routes m r t i) k ≡ (nat_lt k (width routes.grid routes.vcs) && leads g m (r, i / routes.vcs) (i % routes.vcs) t (k / routes.vcs) (k % routes.vcs))
 
 -- whether one of the rows names this input channel of a page and this output channel

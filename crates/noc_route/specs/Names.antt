@@ -9,17 +9,17 @@ use Rattle.noc_route.specs.declared.rule.Rule.TheVariants as rule
 abbrev pub rule_names : List RuleName
 rule_names = name.Dor ∷ name.Dateline ∷ name.WestFirst ∷ name.Adaptive ∷ name.Table ∷ []
 
--- the word of a rule
-abbrev pub rule_word : RuleName → List ℕ
-rule_word name.Dor = codes "dor"
-rule_word name.Dateline = codes "dateline"
-rule_word name.WestFirst = codes "west-first"
-rule_word name.Adaptive = codes "adaptive"
-rule_word name.Table = codes "table"
+-- the name of a rule
+abbrev pub rule_name : RuleName → List ℕ
+rule_name name.Dor = codes "dor"
+rule_name name.Dateline = codes "dateline"
+rule_name name.WestFirst = codes "west-first"
+rule_name name.Adaptive = codes "adaptive"
+rule_name name.Table = codes "table"
 
 -- the rule that a word names, if it names one
 abbrev pub rule_of : List ℕ → Option RuleName
-rule_of word = find (λ r. bytes_eq word (rule_word r)) rule_names
+rule_of word = find (λ r. bytes_eq word (rule_name r)) rule_names
 
 -- the rule of a name, but for `table`, whose rows stand elsewhere
 abbrev pub rule_named : RuleName → Option Rule

@@ -13,12 +13,12 @@ pub record Ranking : Type 0 where
   pub ranks : List (Option ℕ)
 
 -- whether the router, the link port and the channel exist, with a link at the port or without
-abbrev pub is_place : Grid → ℕ → ℕ → ℕ → ℕ → Bool
-is_place g vcs r p v = nat_lt r (nodes g) && nat_lt p (local_port g) && nat_lt v vcs
+abbrev pub is_port_channel : Grid → ℕ → ℕ → ℕ → ℕ → Bool
+is_port_channel g vcs r p v = nat_lt r (nodes g) && nat_lt p (local_port g) && nat_lt v vcs
 
 -- whether they name a link channel
 abbrev pub is_channel : Grid → ℕ → ℕ → ℕ → ℕ → Bool
-is_channel g vcs r p v = is_place g vcs r p v && is_some (neighbour g r p)
+is_channel g vcs r p v = is_port_channel g vcs r p v && is_some (neighbour g r p)
 
 abbrev pub rank_count : Grid → ℕ → ℕ
 rank_count g vcs = nodes g * local_port g * vcs
@@ -28,7 +28,7 @@ rank_index g vcs r p v = (r * local_port g + p) * vcs + v
 
 -- the rank of a link channel; none of an adaptive one, and where there is no channel
 abbrev pub rank_at : Ranking → ℕ → ℕ → ℕ → Option ℕ
-rank_at k r p v = if is_place k.grid k.vcs r p v then slice_index_or k.ranks (rank_index k.grid k.vcs r p v) None else None
+rank_at k r p v = if is_port_channel k.grid k.vcs r p v then slice_index_or k.ranks (rank_index k.grid k.vcs r p v) None else None
 
 -- what may be taken next: by a packet of a class, on a channel, bound for a node, this channel
 abbrev pub Permitting : Type 1

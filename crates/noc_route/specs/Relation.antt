@@ -1,7 +1,7 @@
 -- Routing rules, the entries that packets reach, and the routing relation.
 use Rattle.std.specs.Prelude.{◌≡◌, ◌≢◌, ℕ, ◌+◌, ◌-◌, ◌*◌, ◌/◌, ◌%◌, ◌<◌, Bool, true, false, ◌&&◌, ◌||◌, not, IsTrue, List, [], ◌∷◌, Option, Some, None, is_some, nat_eq, nat_lt, nat_le, slice_index, if◌then◌else◌, unwrap_or, All, Contains, ◌⊎◌}
 use Rattle.std.specs.List.{list_any}
-use Rattle.noc_topo.specs.Words.{is_some_of}
+use Rattle.noc_topo.specs.Lists.{is_some_of}
 use Rattle.noc_topo.specs.Shape.{Grid, coordinates, nodes, dimensions, is_plus, local_port, neighbour, distance}
 use Rattle.noc_packet.specs.declared.limits.TheConstants.{MAX_CHANNELS, MAX_CLASSES}
 use Rattle.noc_route.specs.Channel.{Channel, Link, Inject, Eject, arrival_of, channel_vc}
@@ -91,19 +91,19 @@ resource_class vcs classes v = v % (vcs / classes) / (vcs / classes / 2)
 abbrev pub dateline_class : ℕ → ℕ → ℕ → ℕ
 dateline_class port x t = if is_plus port then (if nat_lt t x then 0 else 1) else (if nat_lt x t then 0 else 1)
 
--- the place of a channel among those of its class
-abbrev pub place_in_class : ℕ → ℕ → ℕ → ℕ
-place_in_class vcs classes v = v % (vcs / classes)
+-- the index of a channel among those of its class
+abbrev pub index_in_class : ℕ → ℕ → ℕ → ℕ
+index_in_class vcs classes v = v % (vcs / classes)
 
 -- whether a channel is an escape channel of `adaptive`; its other channels are adaptive
 abbrev pub is_escape : Grid → ℕ → ℕ → ℕ → Bool
-is_escape g vcs classes v = nat_lt (place_in_class vcs classes v) (escapes g)
+is_escape g vcs classes v = nat_lt (index_in_class vcs classes v) (escapes g)
 
 -- the escape channel of dimension order: on a torus the one for the half that a dateline takes
 abbrev pub is_escape_taken : Grid → ℕ → ℕ → List ℕ → List ℕ → ℕ → ℕ → Bool
 is_escape_taken g vcs classes xs ts port v =
     is_some_of (dor_port g xs ts) port
-    && nat_eq (place_in_class vcs classes v) (if g.wraps then dateline_class port (slice_index xs (port / 2)) (slice_index ts (port / 2)) else 0)
+    && nat_eq (index_in_class vcs classes v) (if g.wraps then dateline_class port (slice_index xs (port / 2)) (slice_index ts (port / 2)) else 0)
 
 -- whether a rule by coordinates takes a channel of a port that it takes, among those of the packet's class
 abbrev pub takes_of_class : Grid → ℕ → ℕ → Rule → List ℕ → List ℕ → ℕ → ℕ → Bool
@@ -131,12 +131,12 @@ table_rows_of rule = unwrap_or (rows_of rule) []
 
 -- whether a row names this entry and this output channel
 abbrev pub names_entry : ℕ → ℕ × ℕ → ℕ → ℕ → ℕ → ℕ → RouteRow → Bool
-names_entry m place in_vc t port v row =
-    nat_eq row.class m && nat_eq row.router place.0 && nat_eq row.in_port place.1 && nat_eq row.in_vc in_vc
+names_entry m input in_vc t port v row =
+    nat_eq row.class m && nat_eq row.router input.0 && nat_eq row.in_port input.1 && nat_eq row.in_vc in_vc
     && nat_eq row.dst t && nat_eq row.out_port port && nat_eq row.out_vc v
 
 abbrev pub has_route_row : List RouteRow → ℕ → ℕ × ℕ → ℕ → ℕ → ℕ → ℕ → Bool
-has_route_row rows m place in_vc t port v = list_any (names_entry m place in_vc t port v) rows
+has_route_row rows m input in_vc t port v = list_any (names_entry m input in_vc t port v) rows
 
 -- whether a router has this port, and it is local or has a link
 abbrev pub is_open : Grid → ℕ → ℕ → Bool
@@ -181,16 +181,16 @@ is_led g m r t port v =
     else takes_port g.grid g.rule (coordinates g.grid.radix r) (coordinates g.grid.radix t) port
     && takes_channel g.grid g.vcs g.classes g.rule m (coordinates g.grid.radix r) (coordinates g.grid.radix t) port v
 
--- whether the rule leads a packet of class m, that came to this place (a router and an input port) on channel in_vc and is
+-- whether the rule leads a packet of class m, that came to this input (a router and its port) on channel in_vc and is
 -- bound for t, on to channel v of this output port
 abbrev pub leads : RelationParts → ℕ → ℕ × ℕ → ℕ → ℕ → ℕ → ℕ → Bool
-leads g m place in_vc t port v = elim (rows_of g.rule) [ Some rows ↦ has_route_row rows m place in_vc t port v | None ↦ is_led g m place.0 t port v ]
+leads g m input in_vc t port v = elim (rows_of g.rule) [ Some rows ↦ has_route_row rows m input in_vc t port v | None ↦ is_led g m input.0 t port v ]
 
 abbrev pub rule_offers : RelationParts → ℕ → Option (ℕ × ℕ) → ℕ → ℕ → Channel → Bool
 rule_offers g m None in_vc t o = false
-rule_offers g m (Some place) in_vc t (Inject n v) = false
-rule_offers g m (Some place) in_vc t (Link r p v) = nat_eq r place.0 && nat_lt p (local_port g.grid) && leads g m place in_vc t p v
-rule_offers g m (Some place) in_vc t (Eject n v) = nat_eq n place.0 && leads g m place in_vc t (local_port g.grid) v
+rule_offers g m (Some input) in_vc t (Inject n v) = false
+rule_offers g m (Some input) in_vc t (Link r p v) = nat_eq r input.0 && nat_lt p (local_port g.grid) && leads g m input in_vc t p v
+rule_offers g m (Some input) in_vc t (Eject n v) = nat_eq n input.0 && leads g m input in_vc t (local_port g.grid) v
 
 -- the rule has the class m, the channel c on which a packet is, its destination t, and the next channel o
 abbrev pub rule_has : RelationParts → ℕ → Channel → ℕ → Channel → Bool

@@ -34,9 +34,9 @@ page_dst g page = page % nodes g
 abbrev pub pages : Grid → ℕ → ℕ
 pages g classes = nodes g * classes * nodes g
 
--- the place of an entry in the table
-abbrev pub entry_place : Grid → ℕ → ℕ → ℕ → ℕ → ℕ → ℕ → ℕ → ℕ
-entry_place g vcs classes m r p v t = page_of g classes m r t * width g vcs + (p * vcs + v)
+-- the index of an entry in the table
+abbrev pub entry_index : Grid → ℕ → ℕ → ℕ → ℕ → ℕ → ℕ → ℕ → ℕ
+entry_index g vcs classes m r p v t = page_of g classes m r t * width g vcs + (p * vcs + v)
 
 -- whether the class, router, input port, channel and destination exist
 abbrev pub is_entry : Grid → ℕ → ℕ → ℕ → ℕ → ℕ → ℕ → ℕ → Bool
@@ -46,7 +46,7 @@ is_entry g vcs classes m r p v t = nat_lt m classes && nat_lt r (nodes g) && nat
 abbrev pub set_at : Routes → ℕ → ℕ → ℕ → ℕ → ℕ → ℕ
 set_at routes m r p v t =
     if is_entry routes.grid routes.vcs routes.classes m r p v t
-    then slice_index routes.sets (entry_place routes.grid routes.vcs routes.classes m r p v t)
+    then slice_index routes.sets (entry_index routes.grid routes.vcs routes.classes m r p v t)
     else 0
 
 -- the limits within which a relation is made, and the size of its table
@@ -58,14 +58,14 @@ pub record HasTableSize (routes : Routes) : Type 0 where
   pub few_classes : routes.classes ≤ MAX_CLASSES
   pub long : length routes.sets ≡ pages routes.grid routes.classes * width routes.grid routes.vcs
 
--- whether the table leads a packet that came to this place on channel in_vc on to a channel
+-- whether the table leads a packet that came to this input (a router and its port) on channel in_vc on to a channel
 abbrev pub permits_at : Routes → ℕ → Option (ℕ × ℕ) → ℕ → ℕ → Channel → Bool
 permits_at routes m None in_vc t o = false
-permits_at routes m (Some place) in_vc t (Inject n v) = false
-permits_at routes m (Some place) in_vc t (Link r p v) =
-    nat_eq r place.0 && nat_lt p (local_port routes.grid) && nat_lt v routes.vcs && has_bit (set_at routes m place.0 place.1 in_vc t) (p * routes.vcs + v)
-permits_at routes m (Some place) in_vc t (Eject n v) =
-    nat_eq n place.0 && nat_lt v routes.vcs && has_bit (set_at routes m place.0 place.1 in_vc t) (local_port routes.grid * routes.vcs + v)
+permits_at routes m (Some input) in_vc t (Inject n v) = false
+permits_at routes m (Some input) in_vc t (Link r p v) =
+    nat_eq r input.0 && nat_lt p (local_port routes.grid) && nat_lt v routes.vcs && has_bit (set_at routes m input.0 input.1 in_vc t) (p * routes.vcs + v)
+permits_at routes m (Some input) in_vc t (Eject n v) =
+    nat_eq n input.0 && nat_lt v routes.vcs && has_bit (set_at routes m input.0 input.1 in_vc t) (local_port routes.grid * routes.vcs + v)
 
 -- whether a channel on which a packet can be is sent by a router that exists
 abbrev pub is_sent : Routes → Channel → Bool

@@ -7,7 +7,7 @@ use Rattle.noc_route.specs.Order.{numbers_before, entry_numbers}
 use Rattle.noc_route.specs.declared.rule.Entry.{Entry}
 use Rattle.noc_route.specs.declared.sizes.Sizes.{Sizes}
 
--- a table over the numbers of a frame
+-- a table over these sizes
 abbrev pub routes_in : Sizes → List ℕ → Routes
 routes_in f sets = record { grid = f.shape; vcs = f.vcs; classes = f.classes; sets = sets }
 
@@ -16,7 +16,7 @@ abbrev pub set_in : Routes → ℕ → ℕ → ℕ → ℕ → ℕ
 set_in routes m r t i = slice_index routes.sets (page_of routes.grid routes.classes m r t * width routes.grid routes.vcs + i)
 
 -- a class, a router and a destination that exist
-pub record IsPlace (routes : Routes) (m r t : ℕ) : Type 0 where
+pub record IsPage (routes : Routes) (m r t : ℕ) : Type 0 where
   pub class : m < routes.classes
   pub router : r < nodes routes.grid
   pub dst : t < nodes routes.grid
@@ -24,14 +24,14 @@ pub record IsPlace (routes : Routes) (m r t : ℕ) : Type 0 where
 -- packets of class m, bound for t, can come to router r on input channel i: the least set with each injection channel away
 -- from the destination, and with each channel to which the table leads from one of them
 pub data CanCome (routes : Routes) (m t : ℕ) : ℕ → ℕ → Type 0 where
-  injected : {r i v : ℕ} → IsPlace routes m r t → t ≢ r → v < routes.vcs → i ≡ local_port routes.grid * routes.vcs + v → CanCome routes m t r i
+  injected : {r i v : ℕ} → IsPage routes m r t → t ≢ r → v < routes.vcs → i ≡ local_port routes.grid * routes.vcs + v → CanCome routes m t r i
   led : {r i k b q j : ℕ} → CanCome routes m t r i → k < width routes.grid routes.vcs → has_bit (set_in routes m r t i) k ≡ true
       → neighbour routes.grid r (k / routes.vcs) ≡ Some (b, q) → j ≡ q * routes.vcs + k % routes.vcs → CanCome routes m t b j
 
 -- each link of the table comes nearer to the destination
 abbrev pub ComesNearer : Routes → Type 0
 ComesNearer routes =
-    (m r t i k b q : ℕ) → IsPlace routes m r t → i < width routes.grid routes.vcs → k < width routes.grid routes.vcs
+    (m r t i k b q : ℕ) → IsPage routes m r t → i < width routes.grid routes.vcs → k < width routes.grid routes.vcs
     → has_bit (set_in routes m r t i) k ≡ true → neighbour routes.grid r (k / routes.vcs) ≡ Some (b, q) → distance routes.grid b t < distance routes.grid r t
 
 -- packets leave by output channel k
@@ -61,7 +61,7 @@ any_below (suc n) test = any_below n test || test n
 -- each channel of the lists is one by which packets leave
 abbrev pub IsSoundOut : Routes → List ℕ → Type 0
 IsSoundOut routes outs =
-    (m r t k : ℕ) → IsPlace routes m r t → k < width routes.grid routes.vcs → has_bit (slice_index outs (page_of routes.grid routes.classes m r t)) k ≡ true → CanLeave routes m r t k
+    (m r t k : ℕ) → IsPage routes m r t → k < width routes.grid routes.vcs → has_bit (slice_index outs (page_of routes.grid routes.classes m r t)) k ≡ true → CanLeave routes m r t k
 
 -- each channel by which packets leave a router is in its list
 abbrev pub IsFullOut : Routes → List ℕ → ℕ → ℕ → ℕ → Type 0
@@ -99,7 +99,7 @@ entry_on_page routes b i = record {
 abbrev pub IsNoEarlier : Routes → List ℕ → ℕ → ℕ → Entry → Type 0
 IsNoEarlier routes outs b i e = (is_stuck_at routes outs b i ≡ false) ⊎ (numbers_before (entry_numbers (entry_on_page routes b i)) (entry_numbers e) ≡ false)
 
--- the first entry at which packets are stuck, among the first n places of the table
+-- the first entry at which packets are stuck, among the first n entries of the table
 pub record IsStuckFirst (routes : Routes) (outs : List ℕ) (n : ℕ) (e : Entry) : Type 0 where
   pub page : ℕ
   pub input : ℕ

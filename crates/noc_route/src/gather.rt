@@ -14,10 +14,10 @@ use noc_topo::MAX_DISTANCE;
 // Writes the channels by which packets leave each router, by class and destination. A packet comes nearer with each hop,
 // so what reaches a router is known once the routers farther off are done.
 pub(crate) fn gather(map: &Map, sets: &[ChannelSet], outs: &mut [ChannelSet])
-    requires sets { IsTable map.now.frame sets.now }
-    requires nearer { ComesNearer (routes_in map.now.frame sets.now) }
-    requires outs { AreOuts (routes_in map.now.frame sets.now) outs.old }
-    ensures { AreOutsFrom (routes_in map.now.frame sets.now) 0 outs.new }
+    requires sets { IsTable map.now.sizes sets.now }
+    requires nearer { ComesNearer (routes_in map.now.sizes sets.now) }
+    requires outs { AreOuts (routes_in map.now.sizes sets.now) outs.old }
+    ensures { AreOutsFrom (routes_in map.now.sizes sets.now) 0 outs.new }
 {
     let table = Table { map, sets };
     for step in 0..MAX_DISTANCE + 1 {
@@ -30,17 +30,17 @@ pub(crate) fn gather(map: &Map, sets: &[ChannelSet], outs: &mut [ChannelSet])
 struct Table<'a> {
     map: &'a Map,
     sets: &'a [ChannelSet],
-    ghost long: { IsTable map.now.frame sets.now },
-    ghost nearer: { ComesNearer (routes_in map.now.frame sets.now) },
+    ghost long: { IsTable map.now.sizes sets.now },
+    ghost nearer: { ComesNearer (routes_in map.now.sizes sets.now) },
 }
 
 impl<'a> Table<'a> {
     // Gathers what reaches the routers at one distance from the destination, where those farther off are done.
     fn gather_at(&self, outs: &mut [ChannelSet], distance: usize)
-        requires { AreOutsFrom (routes_in self.now.map.now.frame self.now.sets.now) (distance + 1) outs.old }
-        ensures { AreOutsFrom (routes_in self.now.map.now.frame self.now.sets.now) distance outs.new }
+        requires { AreOutsFrom (routes_in self.now.map.now.sizes self.now.sets.now) (distance + 1) outs.old }
+        ensures { AreOutsFrom (routes_in self.now.map.now.sizes self.now.sets.now) distance outs.new }
     {
-        let nodes = self.map.frame.node_count;
+        let nodes = self.map.sizes.node_count;
         for pair in 0..nodes * nodes {
             if self.map.distance(pair / nodes, pair % nodes) == distance {
                 self.gather_pair(outs, pair / nodes, pair % nodes);
@@ -50,36 +50,36 @@ impl<'a> Table<'a> {
 
     // Gathers what reaches one router on its way to one destination.
     fn gather_pair(&self, outs: &mut [ChannelSet], router: usize, dst: usize)
-        requires router { router < nodes self.now.map.now.frame.shape }
-        requires dst { dst < nodes self.now.map.now.frame.shape }
-        requires outs { AreOuts (routes_in self.now.map.now.frame self.now.sets.now) outs.old }
-        requires farther { FartherFull (routes_in self.now.map.now.frame self.now.sets.now) outs.old router dst }
-        ensures { let f = self.now.map.now.frame in IsPairDone (routes_in f self.now.sets.now) outs.old outs.new router dst f.classes }
+        requires router { router < nodes self.now.map.now.sizes.shape }
+        requires dst { dst < nodes self.now.map.now.sizes.shape }
+        requires outs { AreOuts (routes_in self.now.map.now.sizes self.now.sets.now) outs.old }
+        requires farther { FartherFull (routes_in self.now.map.now.sizes self.now.sets.now) outs.old router dst }
+        ensures { let f = self.now.map.now.sizes in IsPairDone (routes_in f self.now.sets.now) outs.old outs.new router dst f.classes }
     {
-        for class in 0..self.map.frame.classes {
+        for class in 0..self.map.sizes.classes {
             let out = self.leaving(outs, class, router, dst);
-            outs[self.map.frame.page(class, router, dst)] = out;
+            outs[self.map.sizes.page(class, router, dst)] = out;
         }
     }
 
     // The channels by which packets of a class leave a router on their way to `dst`.
     fn leaving(&self, outs: &[ChannelSet], class: usize, router: usize, dst: usize) -> ChannelSet
-        requires outs { length outs.now ≡ pages self.now.map.now.frame.shape self.now.map.now.frame.classes }
-        requires class { class < self.now.map.now.frame.classes }
-        requires router { router < nodes self.now.map.now.frame.shape }
-        requires dst { dst < nodes self.now.map.now.frame.shape }
-        ensures { let routes = routes_in self.now.map.now.frame self.now.sets.now in (k : ℕ) → k < width routes.grid routes.vcs → has_bit result k ≡ any_below (width routes.grid routes.vcs) (λ i. comes_in routes outs.now class router dst i && has_bit (set_in routes class router dst i) k) }
+        requires outs { length outs.now ≡ pages self.now.map.now.sizes.shape self.now.map.now.sizes.classes }
+        requires class { class < self.now.map.now.sizes.classes }
+        requires router { router < nodes self.now.map.now.sizes.shape }
+        requires dst { dst < nodes self.now.map.now.sizes.shape }
+        ensures { let routes = routes_in self.now.map.now.sizes self.now.sets.now in (k : ℕ) → k < width routes.grid routes.vcs → has_bit result k ≡ any_below (width routes.grid routes.vcs) (λ i. comes_in routes outs.now class router dst i && has_bit (set_in routes class router dst i) k) }
     {
-        let frame = &self.map.frame;
+        let sizes = &self.map.sizes;
         let before = Departures {
             map: self.map,
             outs,
         };
-        let page = frame.page(class, router, dst);
+        let page = sizes.page(class, router, dst);
         let mut all = ChannelSet::empty();
-        for input in 0..frame.width() {
+        for input in 0..sizes.width() {
             let reached = before.reach(class, router, dst, input);
-            all = either_if(all, self.sets[frame.slot(page, input)], reached);
+            all = either_if(all, self.sets[sizes.slot(page, input)], reached);
         }
         all
     }
@@ -97,29 +97,29 @@ fn either_if(set: ChannelSet, other: ChannelSet, is_added: bool) -> ChannelSet
 pub(crate) struct Departures<'a> {
     pub(crate) map: &'a Map,
     pub(crate) outs: &'a [ChannelSet],
-    ghost long: { length outs.now ≡ pages map.now.frame.shape map.now.frame.classes },
+    ghost long: { length outs.now ≡ pages map.now.sizes.shape map.now.sizes.classes },
 }
 
 impl<'a> Departures<'a> {
     // Whether packets of a class, bound for `dst`, come to an input channel of a router.
     pub(crate) fn reach(&self, class: usize, router: usize, dst: usize, input: usize) -> bool
-        requires class { class < self.now.map.now.frame.classes }
-        requires router { router < nodes self.now.map.now.frame.shape }
-        requires dst { dst < nodes self.now.map.now.frame.shape }
-        requires input { input < width self.now.map.now.frame.shape self.now.map.now.frame.vcs }
-        ensures { (sets : List ℕ) → result ≡ comes_in (routes_in self.now.map.now.frame sets) self.now.outs.now class router dst input }
+        requires class { class < self.now.map.now.sizes.classes }
+        requires router { router < nodes self.now.map.now.sizes.shape }
+        requires dst { dst < nodes self.now.map.now.sizes.shape }
+        requires input { input < width self.now.map.now.sizes.shape self.now.map.now.sizes.vcs }
+        ensures { (sets : List ℕ) → result ≡ comes_in (routes_in self.now.map.now.sizes sets) self.now.outs.now class router dst input }
     {
-        let frame = &self.map.frame;
-        let port = input / frame.vcs;
-        if port + 1 == frame.port_count {
+        let sizes = &self.map.sizes;
+        let port = input / sizes.vcs;
+        if port + 1 == sizes.port_count {
             return router != dst;
         }
         match self.map.link(router, port) {
             None => false,
             Some((sender, out_port)) => {
-                self.outs[frame.page(class, sender, dst)].contains(frame.index(
+                self.outs[sizes.page(class, sender, dst)].contains(sizes.index(
                     out_port,
-                    input % frame.vcs,
+                    input % sizes.vcs,
                 ))
             }
         }

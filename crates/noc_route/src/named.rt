@@ -4,7 +4,7 @@ ghost use Rattle.std.specs.Prelude.{◌≡◌, ℕ, ◌/◌, ◌%◌, ◌<◌, �
 ghost use Rattle.noc_packet.specs.Set.{has_bit};
 ghost use Rattle.noc_topo.specs.Shape.{Grid, nodes, coordinates, three_coordinates};
 ghost use Rattle.noc_route.specs.Entered.{parts_of, IsWay};
-ghost use Rattle.noc_route.specs.Relation.{is_led, dor_port, is_nearer, takes_port, takes_of_class, place_in_class, is_escape_taken, dateline_class};
+ghost use Rattle.noc_route.specs.Relation.{is_led, dor_port, is_nearer, takes_port, takes_of_class, index_in_class, is_escape_taken, dateline_class};
 ghost use Rattle.noc_route.specs.Routes.{width};
 
 use crate::map::Map;
@@ -17,15 +17,15 @@ use noc_topo::{Kind, LINKS};
 // The output channels by which a rule by coordinates leads a packet of this class, at this router and bound for `dst`;
 // none by a table.
 pub(crate) fn named_set(routing: &Routing, class: usize, router: usize, dst: usize) -> ChannelSet
-    requires class { class < routing.now.map.now.frame.classes }
-    requires router { router < nodes routing.now.map.now.frame.shape }
-    requires dst { dst < nodes routing.now.map.now.frame.shape }
-    ensures { let f = routing.now.map.now.frame in (k : ℕ) → has_bit result k ≡ (nat_lt k (width f.shape f.vcs) && is_led (parts_of routing.now) class router dst (k / f.vcs) (k % f.vcs)) }
+    requires class { class < routing.now.map.now.sizes.classes }
+    requires router { router < nodes routing.now.map.now.sizes.shape }
+    requires dst { dst < nodes routing.now.map.now.sizes.shape }
+    ensures { let f = routing.now.map.now.sizes in (k : ℕ) → has_bit result k ≡ (nat_lt k (width f.shape f.vcs) && is_led (parts_of routing.now) class router dst (k / f.vcs) (k % f.vcs)) }
 {
-    let vcs = routing.map.frame.vcs;
+    let vcs = routing.map.sizes.vcs;
     let way = Way::of(routing.map, router, dst);
     let mut set = ChannelSet::empty();
-    for channel in 0..routing.map.frame.width() {
+    for channel in 0..routing.map.sizes.width() {
         if way.leads(routing, class, channel / vcs, channel % vcs) {
             set = set.with(channel);
         }
@@ -45,12 +45,12 @@ struct Way {
 
 impl Way {
     fn of(map: &Map, router: usize, dst: usize) -> Way
-        requires router { router < nodes map.now.frame.shape }
-        requires dst { dst < nodes map.now.frame.shape }
-        ensures { IsWay map.now.frame.shape result router dst }
+        requires router { router < nodes map.now.sizes.shape }
+        requires dst { dst < nodes map.now.sizes.shape }
+        ensures { IsWay map.now.sizes.shape result router dst }
     {
-        let here = map.frame.shape.coordinates(router);
-        let there = map.frame.shape.coordinates(dst);
+        let here = map.sizes.shape.coordinates(router);
+        let there = map.sizes.shape.coordinates(dst);
         Way {
             here,
             there,
@@ -62,15 +62,15 @@ impl Way {
 
     // Whether a rule leads along this port and channel.
     fn leads(&self, routing: &Routing, class: usize, port: usize, vc: usize) -> bool
-        requires { class < routing.now.map.now.frame.classes }
-        ensures { (r t : ℕ) → IsWay routing.now.map.now.frame.shape self.now r t → result ≡ is_led (parts_of routing.now) class r t port vc }
+        requires { class < routing.now.map.now.sizes.classes }
+        ensures { (r t : ℕ) → IsWay routing.now.map.now.sizes.shape self.now r t → result ≡ is_led (parts_of routing.now) class r t port vc }
     {
-        let frame = &routing.map.frame;
-        if !frame.is_in_block(class, vc) {
+        let sizes = &routing.map.sizes;
+        if !sizes.is_in_block(class, vc) {
             return false;
         }
         if self.arrived {
-            return port == frame.port_count - 1;
+            return port == sizes.port_count - 1;
         }
         if port >= LINKS {
             return false;
@@ -94,34 +94,34 @@ impl Way {
     // Whether a rule takes a channel of a port that it takes, among those of the packet's class.
     fn takes_of_class(&self, routing: &Routing, port: usize, vc: usize) -> bool
         requires { port < LINKS }
-        ensures { let f = routing.now.map.now.frame in (r t : ℕ) → IsWay f.shape self.now r t → result ≡ takes_of_class f.shape f.vcs f.classes routing.now.rule.now (coordinates f.shape.radix r) (coordinates f.shape.radix t) port vc }
+        ensures { let f = routing.now.map.now.sizes in (r t : ℕ) → IsWay f.shape self.now r t → result ≡ takes_of_class f.shape f.vcs f.classes routing.now.rule.now (coordinates f.shape.radix r) (coordinates f.shape.radix t) port vc }
     {
-        let frame = &routing.map.frame;
+        let sizes = &routing.map.sizes;
         match routing.rule {
             Rule::Dor | Rule::WestFirst | Rule::Rows(_) => true,
             Rule::Dateline => {
-                resource_class(frame.vcs, frame.classes, vc) == self.dateline_class(port)
+                resource_class(sizes.vcs, sizes.classes, vc) == self.dateline_class(port)
             }
             Rule::Adaptive => {
-                let place = vc % (frame.vcs / frame.classes);
-                place >= escapes(&frame.shape) || self.takes_escape(frame, port, place)
+                let index = vc % (sizes.vcs / sizes.classes);
+                index >= escapes(&sizes.shape) || self.takes_escape(sizes, port, index)
             }
         }
     }
 
-    // Whether an escape channel, by its place among those of its class, is taken along a port.
-    fn takes_escape(&self, frame: &Sizes, port: usize, place: usize) -> bool
+    // Whether an escape channel, by its index among those of its class, is taken along a port.
+    fn takes_escape(&self, sizes: &Sizes, port: usize, index: usize) -> bool
         requires { port < LINKS }
-        ensures { let f = frame.now in (r t v : ℕ) → IsWay f.shape self.now r t → place ≡ place_in_class f.vcs f.classes v → result ≡ is_escape_taken f.shape f.vcs f.classes (coordinates f.shape.radix r) (coordinates f.shape.radix t) port v }
+        ensures { let f = sizes.now in (r t v : ℕ) → IsWay f.shape self.now r t → index ≡ index_in_class f.vcs f.classes v → result ≡ is_escape_taken f.shape f.vcs f.classes (coordinates f.shape.radix r) (coordinates f.shape.radix t) port v }
     {
         if self.towards != Some(port) {
             return false;
         }
-        let taken = match frame.shape.kind() {
+        let taken = match sizes.shape.kind() {
             Kind::Mesh => 0,
             Kind::Torus => self.dateline_class(port),
         };
-        place == taken
+        index == taken
     }
 
     // The half of a class's channels that the next hop along a port takes.
@@ -140,7 +140,7 @@ impl Way {
 fn nearer_ports(map: &Map, here: &[usize; 3], there: &[usize; 3]) -> [bool; LINKS]
     requires here { EachIndex here.now (λ i. slice_index here.now i ≤ slice_index map.now.last i) }
     requires there { EachIndex there.now (λ i. slice_index there.now i ≤ slice_index map.now.last i) }
-    ensures { let g = map.now.frame.shape in (r t : ℕ) → here.now ≡ three_coordinates (coordinates g.radix r) → there.now ≡ three_coordinates (coordinates g.radix t) → (port : ℕ) → slice_index_or result port false ≡ is_nearer g (coordinates g.radix r) (coordinates g.radix t) port }
+    ensures { let g = map.now.sizes.shape in (r t : ℕ) → here.now ≡ three_coordinates (coordinates g.radix r) → there.now ≡ three_coordinates (coordinates g.radix t) → (port : ℕ) → slice_index_or result port false ≡ is_nearer g (coordinates g.radix r) (coordinates g.radix t) port }
 {
     let mut nearer = [false; LINKS];
     for port in 0..LINKS {
@@ -154,7 +154,7 @@ fn is_nearer(map: &Map, here: &[usize; 3], there: &[usize; 3], port: usize) -> b
     requires port { port < LINKS }
     requires here { EachIndex here.now (λ i. slice_index here.now i ≤ slice_index map.now.last i) }
     requires there { EachIndex there.now (λ i. slice_index there.now i ≤ slice_index map.now.last i) }
-    ensures { let g = map.now.frame.shape in (r t : ℕ) → here.now ≡ three_coordinates (coordinates g.radix r) → there.now ≡ three_coordinates (coordinates g.radix t) → result ≡ is_nearer g (coordinates g.radix r) (coordinates g.radix t) port }
+    ensures { let g = map.now.sizes.shape in (r t : ℕ) → here.now ≡ three_coordinates (coordinates g.radix r) → there.now ≡ three_coordinates (coordinates g.radix t) → result ≡ is_nearer g (coordinates g.radix r) (coordinates g.radix t) port }
 {
     let i = port / 2;
     if here[i] == there[i] {
@@ -171,7 +171,7 @@ fn is_nearer(map: &Map, here: &[usize; 3], there: &[usize; 3], port: usize) -> b
 fn dor_port(map: &Map, here: &[usize; 3], there: &[usize; 3]) -> Option<usize>
     requires here { EachIndex here.now (λ i. slice_index here.now i ≤ slice_index map.now.last i) }
     requires there { EachIndex there.now (λ i. slice_index there.now i ≤ slice_index map.now.last i) }
-    ensures { let g = map.now.frame.shape in (r t : ℕ) → here.now ≡ three_coordinates (coordinates g.radix r) → there.now ≡ three_coordinates (coordinates g.radix t) → result ≡ dor_port g (coordinates g.radix r) (coordinates g.radix t) }
+    ensures { let g = map.now.sizes.shape in (r t : ℕ) → here.now ≡ three_coordinates (coordinates g.radix r) → there.now ≡ three_coordinates (coordinates g.radix t) → result ≡ dor_port g (coordinates g.radix r) (coordinates g.radix t) }
 {
     for i in 0..3usize {
         if here[i] != there[i] {

@@ -25,7 +25,7 @@ use std::marker::Model;
 /// A routing relation: the output channels that each entry permits.
 #[derive(Drop)]
 pub struct Relation {
-    frame: Sizes,
+    sizes: Sizes,
     sets: Vec<ChannelSet>,
 }
 
@@ -56,16 +56,16 @@ impl Relation {
         ensures exact { let g = routing_of shape.now vcs classes rule in MatchResult result (IsRelationOfRule g) (IsFaultOf g) }
         ensures built { IfOk result IsRelation }
     {
-        let Some(frame) = Sizes::of(shape, vcs, classes, &rule) else {
+        let Some(sizes) = Sizes::of(shape, vcs, classes, &rule) else {
             return Err(RouteFault::WrongShape);
         };
-        let map = Map::new(alloc, frame)?;
+        let map = Map::new(alloc, sizes)?;
         let routing = Routing {
             map: &map,
             rule: &rule,
         };
         Ok(Relation {
-            frame,
+            sizes,
             sets: sets_of(alloc, &routing)?,
         })
     }
@@ -88,7 +88,7 @@ impl Relation {
         ensures value { result ≡ set_at self.now class router in_port in_vc dst }
         ensures built { IsRelation self.now }
     {
-        self.sets[self.frame.place(class, router, in_port, in_vc, dst)]
+        self.sets[self.sizes.entry_index(class, router, in_port, in_vc, dst)]
     }
 
     /// The shape of the network.
@@ -96,7 +96,7 @@ impl Relation {
         ensures value { result.now ≡ self.now.grid }
         ensures built { IsRelation self.now }
     {
-        &self.frame.shape
+        &self.sizes.shape
     }
 
     /// How many virtual channels a link has, 1 to 8.
@@ -104,7 +104,7 @@ impl Relation {
         ensures value { result ≡ self.now.vcs }
         ensures built { IsRelation self.now }
     {
-        self.frame.vcs
+        self.sizes.vcs
     }
 
     /// How many message classes there are, 1 to 4.
@@ -112,17 +112,17 @@ impl Relation {
         ensures value { result ≡ self.now.classes }
         ensures built { IsRelation self.now }
     {
-        self.frame.classes
+        self.sizes.classes
     }
 }
 
 // A rule's sets at the entries that packets reach, or the first fault.
 fn sets_of(alloc: Global, routing: &Routing) -> Result<Vec<ChannelSet>, RouteFault>
-    ensures { MatchResult result (λ sets. IsRelationOfRule (parts_of routing.now) (routes_in routing.now.map.now.frame sets.items)) (IsFaultOf (parts_of routing.now)) }
+    ensures { MatchResult result (λ sets. IsRelationOfRule (parts_of routing.now) (routes_in routing.now.map.now.sizes sets.items)) (IsFaultOf (parts_of routing.now)) }
 {
-    let frame = &routing.map.frame;
-    let pages = frame.pages();
-    let mut sets = vec![in alloc; ChannelSet::empty(); pages * frame.width()]?;
+    let sizes = &routing.map.sizes;
+    let pages = sizes.pages();
+    let mut sets = vec![in alloc; ChannelSet::empty(); pages * sizes.width()]?;
     let mut outs = vec![in alloc; ChannelSet::empty(); pages]?;
     fill(routing, &mut sets, &mut outs)?;
     Ok(sets)
@@ -134,9 +134,9 @@ fn fill(
     sets: &mut [ChannelSet],
     outs: &mut [ChannelSet],
 ) -> Result<(), RouteFault>
-    requires sets { IsBlank routing.now.map.now.frame sets.old }
-    requires outs { outs.old ≡ replicate (pages routing.now.map.now.frame.shape routing.now.map.now.frame.classes) 0 }
-    ensures { MatchResult result (λ _. IsRelationOfRule (parts_of routing.now) (routes_in routing.now.map.now.frame sets.new)) (IsFaultOf (parts_of routing.now)) }
+    requires sets { IsBlank routing.now.map.now.sizes sets.old }
+    requires outs { outs.old ≡ replicate (pages routing.now.map.now.sizes.shape routing.now.map.now.sizes.classes) 0 }
+    ensures { MatchResult result (λ _. IsRelationOfRule (parts_of routing.now) (routes_in routing.now.map.now.sizes sets.new)) (IsFaultOf (parts_of routing.now)) }
 {
     enter(routing, sets)?;
     gather(routing.map, sets, outs);
@@ -152,10 +152,10 @@ fn fill(
 
 // Writes a rule's sets, or answers the fault of the first bad row.
 fn enter(routing: &Routing, sets: &mut [ChannelSet]) -> Result<(), RouteFault>
-    requires { IsBlank routing.now.map.now.frame sets.old }
+    requires { IsBlank routing.now.map.now.sizes sets.old }
     ensures err { let g = parts_of routing.now in IfErr result (IsFirstFault g.grid g.vcs g.classes (table_rows_of g.rule)) }
     ensures ok { let g = parts_of routing.now in OnOk result (All (λ row. row_fault g.grid g.vcs g.classes row ≡ None) (table_rows_of g.rule)) }
-    ensures entered { OnOk result (IsEntered (parts_of routing.now) (routes_in routing.now.map.now.frame sets.new)) }
+    ensures entered { OnOk result (IsEntered (parts_of routing.now) (routes_in routing.now.map.now.sizes sets.new)) }
 {
     match routing.rule {
         Rule::Rows(rows) => {

@@ -9,7 +9,7 @@ use crate::rule::{RouteFault, RouteRow};
 
 // The first fault of a row.
 pub(crate) fn row_fault(map: &Map, row: &RouteRow) -> Option<RouteFault>
-    ensures { result ≡ row_fault map.now.frame.shape map.now.frame.vcs map.now.frame.classes row.now }
+    ensures { result ≡ row_fault map.now.sizes.shape map.now.sizes.vcs map.now.sizes.classes row.now }
 {
     if !is_real(map, row) {
         return Some(RouteFault::NoLink(*row));
@@ -30,14 +30,14 @@ pub(crate) fn row_fault(map: &Map, row: &RouteRow) -> Option<RouteFault>
 
 // Whether the class, router, ports, channels and destination of a row exist, and its ports are local or have a link.
 fn is_real(map: &Map, row: &RouteRow) -> bool
-    ensures { result ≡ is_real_row map.now.frame.shape map.now.frame.vcs map.now.frame.classes row.now }
+    ensures { result ≡ is_real_row map.now.sizes.shape map.now.sizes.vcs map.now.sizes.classes row.now }
 {
-    let frame = &map.frame;
-    let nodes = frame.node_count;
-    row.class < frame.classes
+    let sizes = &map.sizes;
+    let nodes = sizes.node_count;
+    row.class < sizes.classes
         && row.router < nodes
-        && row.in_vc < frame.vcs
-        && row.out_vc < frame.vcs
+        && row.in_vc < sizes.vcs
+        && row.out_vc < sizes.vcs
         && row.dst < nodes
         && is_port(map, row.router, row.in_port)
         && is_port(map, row.router, row.out_port)
@@ -45,18 +45,18 @@ fn is_real(map: &Map, row: &RouteRow) -> bool
 
 // Whether a router has a port, and it is local or has a link.
 fn is_port(map: &Map, router: usize, port: usize) -> bool
-    requires { router < nodes map.now.frame.shape }
-    ensures { result ≡ is_open map.now.frame.shape router port }
+    requires { router < nodes map.now.sizes.shape }
+    ensures { result ≡ is_open map.now.sizes.shape router port }
 {
-    let ports = map.frame.port_count;
+    let ports = map.sizes.port_count;
     port < ports && (port + 1 == ports || map.link(router, port).is_some())
 }
 
 // The first fault among the rows, in the order of class, router, input port and channel, destination, output port and
 // channel.
 pub(crate) fn first_fault(map: &Map, rows: &[RouteRow]) -> Option<RouteFault>
-    ensures none { IfNone result (All (λ row. row_fault map.now.frame.shape map.now.frame.vcs map.now.frame.classes row ≡ None) rows.now) }
-    ensures some { IfSome result (IsFirstFault map.now.frame.shape map.now.frame.vcs map.now.frame.classes rows.now) }
+    ensures none { IfNone result (All (λ row. row_fault map.now.sizes.shape map.now.sizes.vcs map.now.sizes.classes row ≡ None) rows.now) }
+    ensures some { IfSome result (IsFirstFault map.now.sizes.shape map.now.sizes.vcs map.now.sizes.classes rows.now) }
 {
     let mut first = None;
     for row in rows {
@@ -67,7 +67,7 @@ pub(crate) fn first_fault(map: &Map, rows: &[RouteRow]) -> Option<RouteFault>
 
 // A row, if it has a fault and comes before the other, and else the other.
 fn earlier_fault(map: &Map, row: &RouteRow, other: Option<RouteRow>) -> Option<RouteRow>
-    ensures { result ≡ earlier_fault map.now.frame.shape map.now.frame.vcs map.now.frame.classes row.now other }
+    ensures { result ≡ earlier_fault map.now.sizes.shape map.now.sizes.vcs map.now.sizes.classes row.now other }
 {
     if row_fault(map, row).is_none() {
         return other;

@@ -1,10 +1,10 @@
-//! The numbers that a routing relation is over, and the places of its table.
+//! The sizes that a routing relation is over, and the indices of its table.
 
 ghost use Rattle.std.specs.Prelude.{◌≡◌, ◌+◌, ◌*◌, ◌/◌, ◌<◌, ◌≤◌, IsTrue, IfNone, IfSome, true, false};
 ghost use Rattle.noc_packet.specs.declared.limits.TheConstants.{INDICES, MAX_CHANNELS, MAX_CLASSES, MAX_NODES, MAX_PORTS};
 ghost use Rattle.noc_topo.specs.Shape.{IsGrid, nodes, ports};
 ghost use Rattle.noc_route.specs.Relation.{is_in_block, resource_class, escapes, is_right};
-ghost use Rattle.noc_route.specs.Routes.{width, pages, page_of, entry_place, page_class, page_router, page_dst};
+ghost use Rattle.noc_route.specs.Routes.{width, pages, page_of, entry_index, page_class, page_router, page_dst};
 
 use crate::rule::Rule;
 use noc_packet::{MAX_CHANNELS, MAX_CLASSES, MAX_NODES, MAX_PORTS};
@@ -33,10 +33,10 @@ pub(crate) struct Sizes {
 }
 
 impl Sizes {
-    // The frame of these numbers, where a relation can be made of them and of this rule.
+    // These sizes, where a relation can be made of them and of this rule.
     pub(crate) fn of(shape: &Shape, vcs: usize, classes: usize, rule: &Rule) -> Option<Sizes>
         ensures none { IfNone result (is_right shape.now vcs classes rule.now ≡ false) }
-        ensures some { IfSome result (λ frame. (is_right shape.now vcs classes rule.now ≡ true) × (frame.shape ≡ shape.now) × (frame.vcs ≡ vcs) × (frame.classes ≡ classes)) }
+        ensures some { IfSome result (λ sizes. (is_right shape.now vcs classes rule.now ≡ true) × (sizes.shape ≡ shape.now) × (sizes.vcs ≡ vcs) × (sizes.classes ≡ classes)) }
     {
         if !is_right(shape, vcs, classes, rule) {
             return None;
@@ -104,7 +104,7 @@ impl Sizes {
         port * self.vcs + vc
     }
 
-    // The place in the table of an input channel of a page.
+    // The index in the table of an input channel of a page.
     pub(crate) fn slot(&self, page: usize, input: usize) -> usize
         requires page { page < pages self.now.shape self.now.classes }
         requires input { input < width self.now.shape self.now.vcs }
@@ -114,8 +114,8 @@ impl Sizes {
         page * self.width() + input
     }
 
-    // The place of an entry in the table.
-    pub(crate) fn place(
+    // The index of an entry in the table.
+    pub(crate) fn entry_index(
         &self,
         class: usize,
         router: usize,
@@ -128,7 +128,7 @@ impl Sizes {
         requires in_port { in_port < ports self.now.shape }
         requires in_vc { in_vc < self.now.vcs }
         requires dst { dst < nodes self.now.shape }
-        ensures value { result ≡ entry_place self.now.shape self.now.vcs self.now.classes class router in_port in_vc dst }
+        ensures value { result ≡ entry_index self.now.shape self.now.vcs self.now.classes class router in_port in_vc dst }
         ensures within { result < pages self.now.shape self.now.classes * width self.now.shape self.now.vcs }
     {
         self.slot(self.page(class, router, dst), self.index(in_port, in_vc))

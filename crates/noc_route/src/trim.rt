@@ -13,12 +13,12 @@ use noc_packet::ChannelSet;
 // Empties the sets of the entries that no packet reaches. Returns the first entry that is reached and has an empty set, in
 // the order of class, router, input port and channel, and destination.
 pub(crate) fn trim(leaving: &Departures, sets: &mut [ChannelSet]) -> Option<Entry>
-    requires { IsTable leaving.now.map.now.frame sets.old }
-    ensures left { let f = leaving.now.map.now.frame in (b i : ℕ) → b < pages f.shape f.classes → i < width f.shape f.vcs → page_set (routes_in f sets.new) b i ≡ left_at (routes_in f sets.old) leaving.now.outs.now b i }
-    ensures first { IsFirstStuck (routes_in leaving.now.map.now.frame sets.new) leaving.now.outs.now (length sets.old) result }
+    requires { IsTable leaving.now.map.now.sizes sets.old }
+    ensures left { let f = leaving.now.map.now.sizes in (b i : ℕ) → b < pages f.shape f.classes → i < width f.shape f.vcs → page_set (routes_in f sets.new) b i ≡ left_at (routes_in f sets.old) leaving.now.outs.now b i }
+    ensures first { IsFirstStuck (routes_in leaving.now.map.now.sizes sets.new) leaving.now.outs.now (length sets.old) result }
 {
     let mut first = None;
-    for page in 0..leaving.map.frame.pages() {
+    for page in 0..leaving.map.sizes.pages() {
         first = trim_page(leaving, sets, page, first);
     }
     first
@@ -31,18 +31,18 @@ fn trim_page(
     page: usize,
     first: Option<Entry>,
 ) -> Option<Entry>
-    requires sets { IsTable leaving.now.map.now.frame sets.old }
-    requires page { let f = leaving.now.map.now.frame in page < pages f.shape f.classes }
-    requires first { let f = leaving.now.map.now.frame in IsFirstStuck (routes_in f sets.old) leaving.now.outs.now (page * width f.shape f.vcs) first }
-    ensures left { let f = leaving.now.map.now.frame in (i : ℕ) → i < width f.shape f.vcs → page_set (routes_in f sets.new) page i ≡ left_at (routes_in f sets.old) leaving.now.outs.now page i }
-    ensures others { let f = leaving.now.map.now.frame in (b i : ℕ) → i < width f.shape f.vcs → b ≢ page → page_set (routes_in f sets.new) b i ≡ page_set (routes_in f sets.old) b i }
-    ensures first { let f = leaving.now.map.now.frame in IsFirstStuck (routes_in f sets.new) leaving.now.outs.now ((page + 1) * width f.shape f.vcs) result }
+    requires sets { IsTable leaving.now.map.now.sizes sets.old }
+    requires page { let f = leaving.now.map.now.sizes in page < pages f.shape f.classes }
+    requires first { let f = leaving.now.map.now.sizes in IsFirstStuck (routes_in f sets.old) leaving.now.outs.now (page * width f.shape f.vcs) first }
+    ensures left { let f = leaving.now.map.now.sizes in (i : ℕ) → i < width f.shape f.vcs → page_set (routes_in f sets.new) page i ≡ left_at (routes_in f sets.old) leaving.now.outs.now page i }
+    ensures others { let f = leaving.now.map.now.sizes in (b i : ℕ) → i < width f.shape f.vcs → b ≢ page → page_set (routes_in f sets.new) b i ≡ page_set (routes_in f sets.old) b i }
+    ensures first { let f = leaving.now.map.now.sizes in IsFirstStuck (routes_in f sets.new) leaving.now.outs.now ((page + 1) * width f.shape f.vcs) result }
 {
-    let frame = &leaving.map.frame;
-    let (class, router, dst) = frame.page_parts(page);
-    let vcs = frame.vcs;
+    let sizes = &leaving.map.sizes;
+    let (class, router, dst) = sizes.page_parts(page);
+    let vcs = sizes.vcs;
     let mut first = first;
-    for input in 0..frame.width() {
+    for input in 0..sizes.width() {
         let entry = Entry {
             class,
             router,
@@ -64,20 +64,20 @@ fn trim_entry(
     entry: Entry,
     first: Option<Entry>,
 ) -> Option<Entry>
-    requires sets { IsTable leaving.now.map.now.frame sets.old }
-    requires page { let f = leaving.now.map.now.frame in page < pages f.shape f.classes }
-    requires input { let f = leaving.now.map.now.frame in input < width f.shape f.vcs }
-    requires entry { entry ≡ entry_on_page (routes_in leaving.now.map.now.frame sets.old) page input }
-    requires first { let f = leaving.now.map.now.frame in IsFirstStuck (routes_in f sets.old) leaving.now.outs.now (page * width f.shape f.vcs + input) first }
-    ensures sets { let f = leaving.now.map.now.frame in sets.new ≡ (if comes_at (routes_in f sets.old) leaving.now.outs.now page input then sets.old else slice_set sets.old (page * width f.shape f.vcs + input) 0) }
-    ensures first { let f = leaving.now.map.now.frame in IsFirstStuck (routes_in f sets.new) leaving.now.outs.now (page * width f.shape f.vcs + input + 1) result }
+    requires sets { IsTable leaving.now.map.now.sizes sets.old }
+    requires page { let f = leaving.now.map.now.sizes in page < pages f.shape f.classes }
+    requires input { let f = leaving.now.map.now.sizes in input < width f.shape f.vcs }
+    requires entry { entry ≡ entry_on_page (routes_in leaving.now.map.now.sizes sets.old) page input }
+    requires first { let f = leaving.now.map.now.sizes in IsFirstStuck (routes_in f sets.old) leaving.now.outs.now (page * width f.shape f.vcs + input) first }
+    ensures sets { let f = leaving.now.map.now.sizes in sets.new ≡ (if comes_at (routes_in f sets.old) leaving.now.outs.now page input then sets.old else slice_set sets.old (page * width f.shape f.vcs + input) 0) }
+    ensures first { let f = leaving.now.map.now.sizes in IsFirstStuck (routes_in f sets.new) leaving.now.outs.now (page * width f.shape f.vcs + input + 1) result }
 {
-    let place = leaving.map.frame.slot(page, input);
+    let index = leaving.map.sizes.slot(page, input);
     if !leaving.reach(entry.class, entry.router, entry.dst, input) {
-        sets[place] = ChannelSet::empty();
+        sets[index] = ChannelSet::empty();
         return first;
     }
-    if sets[place].is_empty() {
+    if sets[index].is_empty() {
         return Some(earlier(entry, first));
     }
     first

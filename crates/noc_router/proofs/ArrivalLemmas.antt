@@ -7,11 +7,11 @@ use Rattle.std.specs.List.Sorted.{IsStrictlyIncreasing, IsBinarySearchResult}
 use Rattle.std.proofs.lemmas.Bool.{cases_eq, cases_lt, eq-eqb, ne_eqb, false≢true}
 use Rattle.std.proofs.lemmas.List.Sorted.{searched}
 use Rattle.std.proofs.Math.Bool.{or-false}
-use Rattle.noc_router.specs.Arrivals.{is_expected_in, arrivals_after, noted_arrival}
+use Rattle.noc_view.specs.Arrivals.{is_expected_in, arrivals_after, noted_arrival}
 
--- p stands at this place only
+-- p stands at this index only
 abbrev pub IsOnly : List ℕ → ℕ → ℕ → Type 0
-IsOnly es p place = (k : ℕ) → k < length es → get_or es k 0 ≡ p → k ≡ place
+IsOnly es p index = (k : ℕ) → k < length es → get_or es k 0 ≡ p → k ≡ index
 
 -- p stands nowhere
 abbrev pub IsAbsent : List ℕ → ℕ → Type 0
@@ -35,13 +35,13 @@ rises-weakly es up i j l u = at (cases_eq i j)
     at (inl same) = let h : get_or es i 0 ≡ get_or es j 0 = ap (λ k. get_or es k 0) same in omega arith
     at (inr other) = omega (arith, rises es up j i (omega arith) u)
 
-pub only-at : (es : List ℕ) (p place : ℕ) → IsStrictlyIncreasing es → place < length es → get_or es place 0 ≡ p → IsOnly es p place
-only-at es p place up l e k u h = at (cases_eq k place) (cases_lt k place)
+pub only-at : (es : List ℕ) (p index : ℕ) → IsStrictlyIncreasing es → index < length es → get_or es index 0 ≡ p → IsOnly es p index
+only-at es p index up l e k u h = at (cases_eq k index) (cases_lt k index)
   where
-    at : (k ≡ place) ⊎ (k ≡ place → ⊥) → (k < place) ⊎ (place ≤ k) → k ≡ place
+    at : (k ≡ index) ⊎ (k ≡ index → ⊥) → (k < index) ⊎ (index ≤ k) → k ≡ index
     at (inl same) _ = same
-    at (inr other) (inl less) = absurd (omega (arith, rises es up place k less l))
-    at (inr other) (inr more) = absurd (omega (arith, rises es up k place (omega arith) u))
+    at (inr other) (inl less) = absurd (omega (arith, rises es up index k less l))
+    at (inr other) (inr more) = absurd (omega (arith, rises es up k index (omega arith) u))
 
 -- nothing of p where it stands nowhere
 pub absent-expected : (es : List ℕ) (cs : List (Option ℕ)) (p : ℕ) → IsAbsent es p → is_expected_in p (zip es cs) ≡ false
@@ -62,38 +62,38 @@ absent-arrival (e ∷ es) (c ∷ cs) p h = rw (ne_eqb e p (h 0 (omega arith))) (
 rest-absent : (e : ℕ) (es : List ℕ) (p : ℕ) → IsOnly (e ∷ es) p 0 → IsAbsent es p
 rest-absent e es p only k l is = let bad : suc k ≡ 0 = only (suc k) (omega arith) is in absurd (omega arith)
 
-first-other : (e : ℕ) (es : List ℕ) (p place : ℕ) → IsOnly (e ∷ es) p (suc place) → e ≢ p
-first-other e es p place only is = let bad : 0 ≡ suc place = only 0 (omega arith) is in absurd (omega arith)
+first-other : (e : ℕ) (es : List ℕ) (p index : ℕ) → IsOnly (e ∷ es) p (suc index) → e ≢ p
+first-other e es p index only is = let bad : 0 ≡ suc index = only 0 (omega arith) is in absurd (omega arith)
 
-rest-only : (e : ℕ) (es : List ℕ) (p place : ℕ) → IsOnly (e ∷ es) p (suc place) → IsOnly es p place
-rest-only e es p place only k l is = let s : suc k ≡ suc place = only (suc k) (omega arith) is in omega arith
+rest-only : (e : ℕ) (es : List ℕ) (p index : ℕ) → IsOnly (e ∷ es) p (suc index) → IsOnly es p index
+rest-only e es p index only k l is = let s : suc k ≡ suc index = only (suc k) (omega arith) is in omega arith
 
--- where p stands at one place only
-pub found-expected : (es : List ℕ) (cs : List (Option ℕ)) (p place : ℕ) → length cs ≡ length es → place < length es → get_or es place 0 ≡ p → IsOnly es p place
-    → is_expected_in p (zip es cs) ≡ is_none (get_or cs place None)
-found-expected [] cs p place same l is only = absurd (omega arith)
-found-expected (e ∷ es) [] p place same l is only = absurd (omega arith)
+-- where p stands at one index only
+pub found-expected : (es : List ℕ) (cs : List (Option ℕ)) (p index : ℕ) → length cs ≡ length es → index < length es → get_or es index 0 ≡ p → IsOnly es p index
+    → is_expected_in p (zip es cs) ≡ is_none (get_or cs index None)
+found-expected [] cs p index same l is only = absurd (omega arith)
+found-expected (e ∷ es) [] p index same l is only = absurd (omega arith)
 found-expected (e ∷ es) (c ∷ cs) p zero same l is only =
     rw (eq-eqb e p is) (ap (λ b. is_none c || b) (absent-expected es cs p (rest-absent e es p only)) ∙ or-false (is_none c))
-found-expected (e ∷ es) (c ∷ cs) p (suc place) same l is only =
-    rw (ne_eqb e p (first-other e es p place only)) (found-expected es cs p place (omega arith) (omega arith) is (rest-only e es p place only))
+found-expected (e ∷ es) (c ∷ cs) p (suc index) same l is only =
+    rw (ne_eqb e p (first-other e es p index only)) (found-expected es cs p index (omega arith) (omega arith) is (rest-only e es p index only))
 
-pub found-noted : (es : List ℕ) (cs : List (Option ℕ)) (p place cycle : ℕ) → length cs ≡ length es → place < length es → get_or es place 0 ≡ p → IsOnly es p place
-    → zip es (set cs place (Some cycle)) ≡ arrivals_after p cycle (zip es cs)
-found-noted [] cs p place cycle same l is only = absurd (omega arith)
-found-noted (e ∷ es) [] p place cycle same l is only = absurd (omega arith)
+pub found-noted : (es : List ℕ) (cs : List (Option ℕ)) (p index cycle : ℕ) → length cs ≡ length es → index < length es → get_or es index 0 ≡ p → IsOnly es p index
+    → zip es (set cs index (Some cycle)) ≡ arrivals_after p cycle (zip es cs)
+found-noted [] cs p index cycle same l is only = absurd (omega arith)
+found-noted (e ∷ es) [] p index cycle same l is only = absurd (omega arith)
 found-noted (e ∷ es) (c ∷ cs) p zero cycle same l is only =
     rw (eq-eqb e p is) (ap (λ rest. (e, Some cycle) ∷ rest) (sym (absent-noted es cs p cycle (rest-absent e es p only))))
-found-noted (e ∷ es) (c ∷ cs) p (suc place) cycle same l is only =
-    rw (ne_eqb e p (first-other e es p place only)) (ap (λ rest. (e, c) ∷ rest) (found-noted es cs p place cycle (omega arith) (omega arith) is (rest-only e es p place only)))
+found-noted (e ∷ es) (c ∷ cs) p (suc index) cycle same l is only =
+    rw (ne_eqb e p (first-other e es p index only)) (ap (λ rest. (e, c) ∷ rest) (found-noted es cs p index cycle (omega arith) (omega arith) is (rest-only e es p index only)))
 
-pub found-arrival : (es : List ℕ) (cs : List (Option ℕ)) (p place : ℕ) → length cs ≡ length es → place < length es → get_or es place 0 ≡ p → IsOnly es p place
-    → noted_arrival p (zip es cs) ≡ get_or cs place None
-found-arrival [] cs p place same l is only = absurd (omega arith)
-found-arrival (e ∷ es) [] p place same l is only = absurd (omega arith)
+pub found-arrival : (es : List ℕ) (cs : List (Option ℕ)) (p index : ℕ) → length cs ≡ length es → index < length es → get_or es index 0 ≡ p → IsOnly es p index
+    → noted_arrival p (zip es cs) ≡ get_or cs index None
+found-arrival [] cs p index same l is only = absurd (omega arith)
+found-arrival (e ∷ es) [] p index same l is only = absurd (omega arith)
 found-arrival (e ∷ es) (c ∷ cs) p zero same l is only = rw (eq-eqb e p is) refl
-found-arrival (e ∷ es) (c ∷ cs) p (suc place) same l is only =
-    rw (ne_eqb e p (first-other e es p place only)) (found-arrival es cs p place (omega arith) (omega arith) is (rest-only e es p place only))
+found-arrival (e ∷ es) (c ∷ cs) p (suc index) same l is only =
+    rw (ne_eqb e p (first-other e es p index only)) (found-arrival es cs p index (omega arith) (omega arith) is (rest-only e es p index only))
 
 -- what an unsuccessful search says
 pub absent-from_search : (es : List ℕ) (p i : ℕ) → ((k : ℕ) → k < i → get_or es k 0 < p) → ((k : ℕ) → i ≤ k → k < length es → p < get_or es k 0) → IsAbsent es p
@@ -103,12 +103,12 @@ absent-from_search es p i low high k l is = at (cases_lt k i)
     at (inl less) = omega (arith, low k less)
     at (inr more) = omega (arith, high k more l)
 
-pub place-found : (es : List ℕ) (p place : ℕ) → IsStrictlyIncreasing es → IsBinarySearchResult (λ y. nat_cmp y p) es (Ok place) → (place < length es) × (get_or es place 0 ≡ p) × IsOnly es p place
-place-found es p place up answer =
-    let r = searched es p (Ok place) answer (rises-weakly es up) in (r.0, r.1, only-at es p place up r.0 r.1)
+pub index-found : (es : List ℕ) (p index : ℕ) → IsStrictlyIncreasing es → IsBinarySearchResult (λ y. nat_cmp y p) es (Ok index) → (index < length es) × (get_or es index 0 ≡ p) × IsOnly es p index
+index-found es p index up answer =
+    let r = searched es p (Ok index) answer (rises-weakly es up) in (r.0, r.1, only-at es p index up r.0 r.1)
 
-pub place-absent : (es : List ℕ) (p i : ℕ) → IsStrictlyIncreasing es → IsBinarySearchResult (λ y. nat_cmp y p) es (Err i) → IsAbsent es p
-place-absent es p i up answer = let r = searched es p (Err i) answer (rises-weakly es up) in absent-from_search es p i r.1 r.2
+pub index-absent : (es : List ℕ) (p i : ℕ) → IsStrictlyIncreasing es → IsBinarySearchResult (λ y. nat_cmp y p) es (Err i) → IsAbsent es p
+index-absent es p i up answer = let r = searched es p (Err i) answer (rises-weakly es up) in absent-from_search es p i r.1 r.2
 
 -- before any arrival
 pub zip-none : (es : List ℕ) (cs : List (Option ℕ)) → length cs ≡ length es → ((k : ℕ) → k < length es → get_or cs k None ≡ None) → zip es cs ≡ map (λ p. (p, None)) es

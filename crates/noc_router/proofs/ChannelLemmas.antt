@@ -17,10 +17,12 @@ use Rattle.noc_vc.specs.declared.input.InputState.{InputState}
 use Rattle.noc_vc.specs.declared.input.InputState.TheVariants.{Idle, Waiting, Active}
 use Rattle.noc_vc.specs.declared.output.OutputState.{OutputState}
 use Rattle.noc_vc.specs.declared.output.OutputState.TheVariants.{Idle as Free, Owned, Draining}
-use Rattle.noc_router.specs.declared.channels.Standing.{Standing}
-use Rattle.noc_alloc.specs.Places.{AreBelow}
+use Rattle.noc_view.specs.declared.sets.ReadySets.{ReadySets}
+use Rattle.noc_alloc.specs.Sparse.{AreBelow}
 use Rattle.noc_router.specs.Members.{is_within}
-use Rattle.noc_router.specs.Sound.{IsMarked, KeepsAwaiting, is_awaiting, is_occupied, is_supplied, owns, is_owned_from, is_worm, is_worm_of, AreSound, AreStanding, Sets}
+use Rattle.noc_router.specs.Sound.{IsMarked, KeepsAwaiting, is_awaiting, is_worm, is_worm_of, AreSound, Sets}
+use Rattle.noc_view.specs.States.{is_occupied, is_supplied, owns, is_owned_from}
+use Rattle.noc_view.specs.ReadySets.{AreReadySets}
 
 -- ---- an element of a list is replaced
 
@@ -244,8 +246,8 @@ pub read-at : {X : Type 0} (xs : List X) (i : ℕ) (x d : X) → i < length xs �
 read-at xs i x d l e = e ∙ get_or_default xs i x d l
 
 -- an input channel that fits a flit is empty or awaits one
-pub fits-next : (g : Routes) (router port vc places : ℕ) (flits : List Flit) (input : Input) (f : Flit) → true ≡ fits g router port vc places flits input f → (is_empty flits || is_some input.awaited) ≡ true
-fits-next g router port vc places flits input f e = at input.phase input.awaited (and_parts (nat_lt (length flits) places) (is_expected g router port vc flits input f input.phase) (sym e)).1
+pub fits-next : (g : Routes) (router port vc depth : ℕ) (flits : List Flit) (input : Input) (f : Flit) → true ≡ fits g router port vc depth flits input f → (is_empty flits || is_some input.awaited) ≡ true
+fits-next g router port vc depth flits input f e = at input.phase input.awaited (and_parts (nat_lt (length flits) depth) (is_expected g router port vc flits input f input.phase) (sym e)).1
   where
     first_of_two : (a b : Bool) → (a && b) ≡ true → a ≡ true
     first_of_two true b w = refl
@@ -372,14 +374,14 @@ credited-owner output k = at output.credit
     freed true = refl
     freed false = refl
 
-    held_at : (places count : ℕ) (holder : OutputState) → is_owned_from (holder_at places count holder) k ≡ is_owned_from holder k
-    held_at places count Free = refl
-    held_at places count (Owned j p) = refl
-    held_at places count Draining = freed (nat_eq count places)
+    held_at : (depth count : ℕ) (holder : OutputState) → is_owned_from (holder_at depth count holder) k ≡ is_owned_from holder k
+    held_at depth count Free = refl
+    held_at depth count (Owned j p) = refl
+    held_at depth count Draining = freed (nat_eq count depth)
 
     at : (credit : Option ℕ) → is_owned_from (output_with_credit output credit).holder k ≡ is_owned_from output.holder k
     at None = refl
-    at (Some n) = held_at output.places (n + 1) output.holder
+    at (Some n) = held_at output.depth (n + 1) output.holder
 
 -- an output channel to which a credit came has one
 credited-supplied : (output : Output) → has_credit (output_after_credit output) ≡ true
@@ -423,17 +425,17 @@ AreSound-drained size sets buffers inputs outputs o out after s outs l there is 
     (s.idle_is o l ∙ ap (λ (x : Output). is_free x.holder) (sym there) ∙ free out (ap (λ (x : Output). is_free x.holder) (sym is) ∙ ap is_free holds) ∙ sym (ap is_free holds)))
     there is (ap is_owned holds)
   where
-    free_at : (places count : ℕ) (holder : OutputState) → is_free (holder_at places count holder) ≡ false → is_free holder ≡ false
-    free_at places count Free e = e
-    free_at places count (Owned j p) e = refl
-    free_at places count Draining e = refl
+    free_at : (depth count : ℕ) (holder : OutputState) → is_free (holder_at depth count holder) ≡ false → is_free holder ≡ false
+    free_at depth count Free e = e
+    free_at depth count (Owned j p) e = refl
+    free_at depth count Draining e = refl
 
     free : (output : Output) → is_free (output_after_credit output).holder ≡ false → is_free output.holder ≡ false
     free output = at output.credit
       where
         at : (credit : Option ℕ) → is_free (output_with_credit output credit).holder ≡ false → is_free output.holder ≡ false
         at None e = e
-        at (Some n) e = free_at output.places (n + 1) output.holder e
+        at (Some n) e = free_at output.depth (n + 1) output.holder e
 
 -- the input channel from which an output channel is owned exists
 pub owner-small : (size : ℕ) (sets : Sets) (buffers : List (List Flit)) (inputs : List Input) (outputs : List Output) (o j p : ℕ) (out after : Output)
@@ -658,14 +660,14 @@ occupied-below size sets buffers inputs outputs first all s firsts alls = λ k i
     one_of P false b f g e = g e
 
 -- what the input channels can go on with
-pub AreStanding-by : (size : ℕ) (sets : Sets) (buffers : List (List Flit)) (inputs : List Input) (outputs : List Output) (sendable rest : ℕ) (t : Standing)
+pub AreReadySets-by : (size : ℕ) (sets : Sets) (buffers : List (List Flit)) (inputs : List Input) (outputs : List Output) (sendable rest : ℕ) (t : ReadySets)
     → AreSound size sets buffers inputs outputs
     → ((k : ℕ) → has_bit sendable k ≡ (has_bit sets.active k && has_bit sets.filled k)) → ((k : ℕ) → has_bit rest k ≡ (not (has_bit sets.waiting k) && has_bit sets.filled k))
     → ((k : ℕ) → has_bit t.heads k ≡ (not (has_bit sets.active k) && has_bit rest k)) → t.waiting ≡ sets.waiting
     → ((k : ℕ) → has_bit t.no_flit k ≡ (not (has_bit sets.filled k) && has_bit sets.active k))
     → ((k : ℕ) → has_bit t.no_credit k ≡ (not (has_bit sets.supplied k) && has_bit sendable k)) → ((k : ℕ) → has_bit t.ready k ≡ (has_bit sendable k && has_bit sets.supplied k))
-    → AreStanding size buffers inputs outputs t
-AreStanding-by size sets buffers inputs outputs sendable rest t s sends rests heads waits no_flit no_credit ready = record {
+    → AreReadySets size buffers inputs outputs t
+AreReadySets-by size sets buffers inputs outputs sendable rest t s sends rests heads waits no_flit no_credit ready = record {
   heads_below = λ k is. s.filled_below k (and_parts (not (has_bit sets.waiting k)) (has_bit sets.filled k) (sym (rests k) ∙ (and_parts (not (has_bit sets.active k)) (has_bit rest k) (sym (heads k) ∙ is)).1)).1;
   waiting_below = λ k is. s.waiting_below k (ap (λ set. has_bit set k) (sym waits) ∙ is);
   no_flit_below = λ k is. s.active_below k (and_parts (not (has_bit sets.filled k)) (has_bit sets.active k) (sym (no_flit k) ∙ is)).1;
@@ -722,20 +724,20 @@ AreStanding-by size sets buffers inputs outputs sendable rest t s sends rests he
 -- ---- new channels
 
 -- channels of which each is idle and empty
-pub AreSound-opening : (size links places : ℕ) (sets : Sets) (bank : Buffers) (inputs : List Input) (outputs : List Output)
+pub AreSound-opening : (size links depth : ℕ) (sets : Sets) (bank : Buffers) (inputs : List Input) (outputs : List Output)
     → links ≤ size → ((k : ℕ) → has_bit sets.filled k ≡ false) → ((k : ℕ) → has_bit sets.waiting k ≡ false) → ((k : ℕ) → has_bit sets.active k ≡ false)
     → ((k : ℕ) → has_bit sets.supplied k ≡ false) → ((k : ℕ) → has_bit sets.idle k ≡ nat_lt k size)
-    → bank ≡ empty_buffers size places → inputs ≡ replicate size idle_input
-    → outputs ≡ replicate links (link_output places) ++ replicate (size - links) ejection_output
+    → bank ≡ empty_buffers size depth → inputs ≡ replicate size idle_input
+    → outputs ≡ replicate links (link_output depth) ++ replicate (size - links) ejection_output
     → AreSound size sets bank.rings inputs outputs
-AreSound-opening size links places sets bank inputs outputs few filled waiting active supplied each rings ins outs =
+AreSound-opening size links depth sets bank inputs outputs few filled waiting active supplied each rings ins outs =
     let empty : (i : ℕ) → i < size → buffer_at bank i ≡ [] = λ i l. ap (λ (b : Buffers). buffer_at b i) rings ∙ get_or-replicate size i [] [] l in
     let input : (i : ℕ) → i < size → slice_index_or inputs i idle_input ≡ idle_input = λ i l. ap (λ (xs : List Input). slice_index_or xs i idle_input) ins ∙ get_or-replicate size i idle_input idle_input l in
-    let whole : length outputs ≡ size = ap length outs ∙ length-append (replicate links (link_output places)) (replicate (size - links) ejection_output)
-    ∙ (let a : length (replicate links (link_output places)) ≡ links = length-replicate links (link_output places) in
+    let whole : length outputs ≡ size = ap length outs ∙ length-append (replicate links (link_output depth)) (replicate (size - links) ejection_output)
+    ∙ (let a : length (replicate links (link_output depth)) ≡ links = length-replicate links (link_output depth) in
     let b : length (replicate (size - links) ejection_output) ≡ size - links = length-replicate (size - links) ejection_output in omega arith) in
-    let all : All (λ (x : Output). x.holder ≡ Free) outputs = rw outs (All-append (λ (x : Output). x.holder ≡ Free) (replicate links (link_output places)) (replicate (size - links) ejection_output)
-    (All-replicate (λ (x : Output). x.holder ≡ Free) links (link_output places) refl)
+    let all : All (λ (x : Output). x.holder ≡ Free) outputs = rw outs (All-append (λ (x : Output). x.holder ≡ Free) (replicate links (link_output depth)) (replicate (size - links) ejection_output)
+    (All-replicate (λ (x : Output). x.holder ≡ Free) links (link_output depth) refl)
     (All-replicate (λ (x : Output). x.holder ≡ Free) (size - links) ejection_output refl)) in
     let holder : (o : ℕ) → o < size → (slice_index_or outputs o ejection_output).holder ≡ Free = λ o l. all o ejection_output (omega arith) in
     record {

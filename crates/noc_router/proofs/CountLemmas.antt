@@ -3,16 +3,16 @@ use Rattle.std.proofs.Common.{◌≡◌, ℕ, zero, suc, ◌+◌, ◌-◌, ◌*�
 use Rattle.std.specs.Prelude.{◌⊎◌, nat_eq, nat_lt, slice_index, slice_set, if◌then◌else◌}
 use Rattle.std.proofs.lemmas.Bool.{cases_eq, eq-eqb, ne_eqb, ltb-true, ltb-false}
 use Rattle.std.proofs.lemmas.List.{length-set, get_or-set_same, get_or-set_other, ext_get_or, take_all}
-use Rattle.std.proofs.lemmas.List.Sums.{sum_by-set, sum_by-cons, sum_by_more, sum_by_more_le, get_or-le-sum_by}
-use Rattle.noc_topo.specs.Words.{map_indexed}
-use Rattle.noc_topo.proofs.WordLemmas.{map_indexed-from_each}
-use Rattle.noc_counts.specs.Counts.{HaveRoom, one_at, one_if, row_with, with_sets}
+use Rattle.std.proofs.lemmas.List.Sums.{sum_by-cons, sum_by_more, sum_by_more_le, get_or-le-sum_by}
+use Rattle.noc_topo.specs.Lists.{map_indexed, one_if}
+use Rattle.noc_topo.proofs.ListLemmas.{map_indexed-from_each}
+use Rattle.noc_counts.specs.Counts.{HaveRoom, one_at, row_with, with_sets}
 use Rattle.noc_counts.proofs.RiseLemmas.{counts-at, length-counts}
-use Rattle.noc_router.specs.declared.verdict.Verdict.{Verdict}
-use Rattle.noc_router.specs.declared.verdict.Verdict.TheVariants.{Empty}
+use Rattle.noc_view.specs.declared.verdict.Verdict.{Verdict}
 use Rattle.noc_router.specs.Tally.{AreCounted, counts_in}
-use Rattle.noc_router.specs.Verdict.{column}
-use Rattle.noc_router.specs.View.{counts_after, saturating_next}
+use Rattle.noc_view.specs.Verdict.{column}
+use Rattle.noc_view.specs.View.{counts_after, saturating_next}
+use Rattle.noc_view.proofs.ColumnLemmas.{sum-raised}
 
 -- ---- more in a list
 -- the counts of the nine verdicts behind Empty, with n more for the verdict with this place in the order
@@ -23,9 +23,6 @@ risen_by n (suc k) others = slice_set others k (slice_index others k + n)
 -- with one more
 abbrev pub risen_at : ℕ → List ℕ → List ℕ
 risen_at = risen_by 1
-
-pub sum-raised : (xs : List ℕ) (k : ℕ) → k < length xs → sum (set xs k (get_or xs k 0 + 1)) ≡ sum xs + 1
-sum-raised xs k l = omega (arith, sum_by-set (λ x. x) xs k (get_or xs k 0 + 1) 0 l)
 
 -- ---- sets in which each channel is in that of its verdict
 -- the counts of a channel that is in one set
@@ -95,11 +92,6 @@ counted-is cycles n v t new col small nine s fits is =
     counted-step (nat_lt cycles (2 ^ 64 - 1)) n cycles first t new (omega arith) refl (omega arith) fits is
     ∙ ap (λ k. if nat_lt cycles (2 ^ 64 - 1) then set (first ∷ t) k (get_or (first ∷ t) k 0 + 1) else (first ∷ t)) (sym col)
     ∙ ap (λ total. if nat_lt total (2 ^ 64 - 1) then set (first ∷ t) (column v) (get_or (first ∷ t) (column v) 0 + 1) else (first ∷ t)) (sym whole)
-
--- a verdict has a place below ten
-pub column-small : (v : Verdict) → column v < 10
-column-small Empty = omega arith
-column-small _ = omega arith
 
 -- the sum of the nine as far as it goes
 pub sum-next : (xs : List ℕ) (n : ℕ) → n < length xs → sum (take (n + 1) xs) ≡ sum (take n xs) + get_or xs n 0

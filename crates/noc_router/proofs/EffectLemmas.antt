@@ -6,8 +6,8 @@ use Rattle.std.proofs.lemmas.Bool.{false≢true, or_cases, or_right}
 use Rattle.std.proofs.lemmas.Nat.{mul-add-lt}
 use Rattle.std.proofs.lemmas.List.{get_or-replicate, length-replicate}
 use Rattle.std.proofs.lemmas.List.Folds.{list_any_at}
-use Rattle.noc_topo.proofs.WordLemmas.{length-tabulate, map_indexed-from_each, tabulate-from_each}
-use Rattle.noc_topo.specs.Words.{below, tabulate, map_indexed}
+use Rattle.noc_topo.proofs.ListLemmas.{length-tabulate, map_indexed-from_each, tabulate-from_each}
+use Rattle.noc_topo.specs.Lists.{below, tabulate, map_indexed}
 use Rattle.noc_topo.specs.Shape.{ports, local_port}
 use Rattle.noc_packet.specs.Set.{has_bit}
 use Rattle.noc_packet.specs.declared.packet.Flit.{Flit}
@@ -17,32 +17,19 @@ use Rattle.noc_vc.specs.Input.{Input, idle_input, is_waiting, is_empty}
 use Rattle.noc_vc.specs.Output.{Output, ejection_output, is_free, has_credit}
 use Rattle.noc_vc.specs.declared.input.InputState.{InputState}
 use Rattle.noc_router.specs.Settled.{CanGrant, CanMove, view_after_verdicts, view_after_route, granted_by, ejected_packet, moved_by, moved_in_phase, CanTakeEffect, decisions_by, effect_of}
-use Rattle.noc_router.specs.Found.{empty_finding}
-use Rattle.noc_router.specs.Tally.{finding_at}
-use Rattle.noc_router.specs.Verdict.{Waits, ask_of, out_of, is_moved, is_event}
-use Rattle.noc_router.specs.View.{View, Site, Decisions, finding_of, size_of, view_claim, view_buffer, view_input, view_output, first_flit, mover, mover_to, held_by, spent_by, flit_out, tail_packet, decided_verdict, input_after, buffer_after, output_after, beat_out, idle_beat, idle_beats, has_event, PlanContents}
-use Rattle.noc_router.specs.declared.verdict.Verdict.{Verdict}
-use Rattle.noc_router.specs.declared.verdict.Verdict.TheVariants.{Empty, Routed, Granted, Moved, NoFlit, NoIdleChannel, LostChannel, NoCredit, LostInput, LostSwitch}
-use Rattle.noc_router.specs.declared.verdict.Finding.{Finding}
-use Rattle.noc_router.proofs.FindLemmas.{find-none, find-same}
-use Rattle.noc_router.proofs.TallyLemmas.{verdict-at}
-use Rattle.noc_router.proofs.PlanLemmas.{Lists, verdict_in, holds_flit, decided-is, granted-asks, is-granted, mover-is, Moves, moves-is, claim-waits, claim-unrouted, verdict-granted, verdict-routed}
-use Rattle.noc_router.proofs.SettleLemmas.{IsSettling, IsWhole, arrival-is, arrived_by, buffer-here, credit_by, flit_by, input-here, left, left-here, left_verdict, mover_to-from, mover_to-is, not_both, port_below, sink_ends, sink_misfits, step-granted, step-plain, step-routed, flit-first, quiet-moved}
+use Rattle.noc_view.specs.Found.{empty_finding, finding_at}
+use Rattle.noc_view.specs.Verdict.{Waits, ask_of, out_of, is_moved, is_event}
+use Rattle.noc_view.specs.View.{View, Site, Decisions, finding_of, size_of, view_claim, view_buffer, view_input, view_output, first_flit, mover, mover_to, held_by, spent_by, flit_out, tail_packet, decided_verdict, input_after, buffer_after, output_after, beat_out, idle_beat, idle_beats, has_event, PlanContents}
+use Rattle.noc_view.specs.declared.verdict.Verdict.{Verdict}
+use Rattle.noc_view.specs.declared.verdict.Verdict.TheVariants.{Empty, Routed, Granted, Moved, NoFlit, NoIdleChannel, LostChannel, NoCredit, LostInput, LostSwitch}
+use Rattle.noc_view.specs.declared.finding.Finding.{Finding}
+use Rattle.noc_view.proofs.FindLemmas.{find-none, find-same}
+use Rattle.noc_view.proofs.PlanLemmas.{verdict-at, Lists, verdict_in, holds_flit, decided-is, granted-asks, is-granted, mover-is, Moves, moves-is, claim-waits, claim-unrouted, verdict-granted, verdict-routed}
+use Rattle.noc_router.proofs.SettleLemmas.{IsSettling, IsWhole, arrived_by, buffer-here, credit_by, flit_by, input-here, left, left-here, left_verdict, not_both, step-granted, step-plain, step-routed}
+use Rattle.noc_view.proofs.SinkLemmas.{arrival-is, sink_ends, sink_misfits}
+use Rattle.noc_view.proofs.MoverLemmas.{mover_to-from, mover_to-is, port_below, flit-first, quiet-moved}
 use Rattle.noc_router.proofs.MoveLemmas.{moved-parts, site-kept, step-moved}
-
--- ---- before the first channel
--- a verdict that does not take effect changes no input channel
-pub quiet-input : (d : Decisions) (v : View) (i : ℕ) (input : Input) (x : Verdict) → is_event x ≡ false → input_after d v i input x ≡ input
-quiet-input d v i input Empty e = refl
-quiet-input d v i input Routed e = absurd (false≢true (sym e))
-quiet-input d v i input Granted e = absurd (false≢true (sym e))
-quiet-input d v i input Moved e = absurd (false≢true (sym e))
-quiet-input d v i input NoFlit e = refl
-quiet-input d v i input NoIdleChannel e = refl
-quiet-input d v i input LostChannel e = refl
-quiet-input d v i input NoCredit e = refl
-quiet-input d v i input LostInput e = refl
-quiet-input d v i input LostSwitch e = refl
+use Rattle.noc_view.proofs.StillLemmas.{quiet-input}
 
 module _ (d : Decisions) (v : View) (rest : ℕ) (whole : IsWhole v) (lists : Lists d v)
     (events : (i : ℕ) → i < size_of v.site → has_bit rest i ≡ is_event (verdict_in d v i)) where

@@ -13,7 +13,7 @@ use Rattle.noc_router.specs.Inside.{IsRouter, view_of, queue_of, sending_of}
 use Rattle.noc_router.specs.Injection.{index_in, vc_from, vacant_vc, next_vc}
 use Rattle.noc_router.specs.Queue.{queue_from, sending_from, next_due_of, next_flit_of, is_next_last, is_due_by}
 use Rattle.noc_router.specs.Parts.{ChannelStates, states_after_land, states_in}
-use Rattle.noc_router.specs.View.{View, begun_on, view_buffer, local_channel, with_injected, view_after_inject_from, view_after_inject}
+use Rattle.noc_view.specs.View.{View, begun_on, view_buffer, local_channel, with_injected, view_after_inject_from, view_after_inject}
 
 -- ---- by the view
 
@@ -24,34 +24,34 @@ injected-nothing n v e = ap (λ queue. view_after_inject_from n queue v.sending 
 
 -- the front of the queue, with its next index, goes to this channel
 abbrev goes_to : Option ℕ → ℕ → ℕ → Packet → List (ℕ × Packet) → View → View
-goes_to None index number p rest v = v
-goes_to (Some vc) index number p rest v = with_injected vc index number p rest v
+goes_to None index packet p rest v = v
+goes_to (Some vc) index packet p rest v = with_injected vc index packet p rest v
 
-went : (n number : ℕ) (p : Packet) (rest : List (ℕ × Packet)) (sending : Option (ℕ × ℕ)) (v : View)
-    → view_after_inject_from n ((number, p) ∷ rest) sending v ≡ goes_to (vc_from v (nat_le p.due n) sending) (index_in sending) number p rest v
-went n number p rest (Some (vc, index)) v = at (nat_lt (length (view_buffer v (local_channel v.site vc))) v.site.places)
+went : (n packet : ℕ) (p : Packet) (rest : List (ℕ × Packet)) (sending : Option (ℕ × ℕ)) (v : View)
+    → view_after_inject_from n ((packet, p) ∷ rest) sending v ≡ goes_to (vc_from v (nat_le p.due n) sending) (index_in sending) packet p rest v
+went n packet p rest (Some (vc, index)) v = at (nat_lt (length (view_buffer v (local_channel v.site vc))) v.site.depth)
   where
-    at : (b : Bool) → (if b then with_injected vc index number p rest v else v) ≡ goes_to (if b then Some vc else None) index number p rest v
+    at : (b : Bool) → (if b then with_injected vc index packet p rest v else v) ≡ goes_to (if b then Some vc else None) index packet p rest v
     at true = refl
     at false = refl
-went n number p rest None v = at (nat_le p.due n)
+went n packet p rest None v = at (nat_le p.due n)
   where
-    begins : (vc : Option ℕ) → begun_on vc number p rest v ≡ goes_to vc 0 number p rest v
+    begins : (vc : Option ℕ) → begun_on vc packet p rest v ≡ goes_to vc 0 packet p rest v
     begins None = refl
     begins (Some vc) = refl
 
-    at : (b : Bool) → (if b then begun_on (vacant_vc v) number p rest v else v) ≡ goes_to (if b then vacant_vc v else None) 0 number p rest v
+    at : (b : Bool) → (if b then begun_on (vacant_vc v) packet p rest v else v) ≡ goes_to (if b then vacant_vc v else None) 0 packet p rest v
     at true = begins (vacant_vc v)
     at false = refl
 
 -- the front of the queue goes where it can
-pub injected-front : (n number : ℕ) (p : Packet) (rest : List (ℕ × Packet)) (v : View) (vc : Option ℕ) → v.queue ≡ (number, p) ∷ rest
-    → next_vc (record v { given = n }) ≡ vc → view_after_inject n v ≡ goes_to vc (index_in v.sending) number p rest (record v { given = n })
+pub injected-front : (n packet : ℕ) (p : Packet) (rest : List (ℕ × Packet)) (v : View) (vc : Option ℕ) → v.queue ≡ (packet, p) ∷ rest
+    → next_vc (record v { given = n }) ≡ vc → view_after_inject n v ≡ goes_to vc (index_in v.sending) packet p rest (record v { given = n })
 unfolding view_after_inject
-injected-front n number p rest v vc queue e =
+injected-front n packet p rest v vc queue e =
     ap (λ q. view_after_inject_from n q v.sending (record v { given = n })) queue
-    ∙ went n number p rest v.sending (record v { given = n })
-    ∙ ap (λ o. goes_to o (index_in v.sending) number p rest (record v { given = n }))
+    ∙ went n packet p rest v.sending (record v { given = n })
+    ∙ ap (λ o. goes_to o (index_in v.sending) packet p rest (record v { given = n }))
     (ap (λ (q : List (ℕ × Packet)). vc_from (record v { given = n }) (is_due_by (slice_get q 0) n) v.sending) (sym queue) ∙ e)
 
 -- where no local channel can take a flit, none goes
@@ -60,7 +60,7 @@ injected-stays n v none = at v.queue refl
   where
     at : (queue : List (ℕ × Packet)) → v.queue ≡ queue → view_after_inject n v ≡ record v { given = n }
     at [] whole = injected-nothing n v whole
-    at ((number, p) ∷ rest) whole = injected-front n number p rest v None whole none
+    at ((packet, p) ∷ rest) whole = injected-front n packet p rest v None whole none
 
 -- where one can, and there is a packet, one goes
 pub injected-goes : (n vc : ℕ) (v : View) → next_vc (record v { given = n }) ≡ Some vc → is_some (slice_get v.queue 0) ≡ true → view_after_inject n v ≡ record v { given = n } → ⊥
@@ -74,12 +74,12 @@ injected-goes n vc v some there stays = at v.queue refl
 
     at : (queue : List (ℕ × Packet)) → v.queue ≡ queue → ⊥
     at [] whole = absurd (false≢true (ap (λ (q : List (ℕ × Packet)). is_some (slice_get q 0)) (sym whole) ∙ there))
-    at ((number, p) ∷ rest) whole =
-        let gone : with_injected vc (index_in v.sending) number p rest (record v { given = n }) ≡ record v { given = n } = sym (injected-front n number p rest v (Some vc) whole some) ∙ stays in
-        moves (flit_at p number (index_in v.sending)).last (number, p) rest whole (ap (λ (w : View). w.queue) gone) (ap (λ (w : View). w.sending) gone)
+    at ((packet, p) ∷ rest) whole =
+        let gone : with_injected vc (index_in v.sending) packet p rest (record v { given = n }) ≡ record v { given = n } = sym (injected-front n packet p rest v (Some vc) whole some) ∙ stays in
+        moves (flit_at p packet (index_in v.sending)).last (packet, p) rest whole (ap (λ (w : View). w.queue) gone) (ap (λ (w : View). w.sending) gone)
 
 -- the source goes on, or waits for room
-pub next_vc-begun : (n vc index : ℕ) (b : Bool) (v : View) → v.sending ≡ Some (vc, index) → nat_lt (length (view_buffer v (local_channel v.site vc))) v.site.places ≡ b
+pub next_vc-begun : (n vc index : ℕ) (b : Bool) (v : View) → v.sending ≡ Some (vc, index) → nat_lt (length (view_buffer v (local_channel v.site vc))) v.site.depth ≡ b
     → next_vc (record v { given = n }) ≡ (if b then Some vc else None)
 next_vc-begun n vc index b v begun room = ap (vc_from (record v { given = n }) (is_due_by (slice_get v.queue 0) n)) begun ∙ ap (λ x. if x then Some vc else None) room
 
@@ -135,7 +135,7 @@ module _ (r : Inside) (due : ℕ) (is : IsRouter r) (e : next_due_of r.source.fr
   due-by n = ap (λ front. is_due_by front n) front-is ∙ (due_of r.source.front due e).1 n
 
   -- the packet in front has begun on this channel, and there is room or not
-  module _ (vc : ℕ) (b : Bool) (begun : r.source.vc ≡ Some vc) (room : nat_lt (length (view_buffer (view_of r) (local_channel (view_of r).site vc))) r.places ≡ b) where
+  module _ (vc : ℕ) (b : Bool) (begun : r.source.vc ≡ Some vc) (room : nat_lt (length (view_buffer (view_of r) (local_channel (view_of r).site vc))) r.depth ≡ b) where
     next-begun : (n : ℕ) → next_vc (record (view_of r) { given = n }) ≡ (if b then Some vc else None)
     next-begun n = next_vc-begun n vc r.source.index b (view_of r) (ap (λ channel. sending_from channel r.source.index) begun) room
 
@@ -176,13 +176,13 @@ goes-view r n vc i flit channels source at_head some next at states queue sendin
     by : (front : Option (ℕ × Packet)) → r.source.front ≡ front → next_flit_of front r.source.index ≡ Some flit
         → view_of (record r { cycle = n; had_event = true; source = source; channels = channels }) ≡ view_after_inject n (view_of r)
     by None there e = absurd (cc)
-    by (Some (number, p)) there e =
-        let f : Flit = flit_at p number r.source.index in
+    by (Some (packet, p)) there e =
+        let f : Flit = flit_at p packet r.source.index in
         let here : ℕ = local_channel (view_of r).site vc in
         let rest : List (ℕ × Packet) = drop r.source.begun r.source.packets.items in
         let v : View = record (view_of r) { given = n } in
         let is : flit ≡ f = cc in
-        let whole : queue_of r.source ≡ (number, p) ∷ rest = ap (λ front. queue_from front r.source.begun r.source.packets.items) there in
+        let whole : queue_of r.source ≡ (packet, p) ∷ rest = ap (λ front. queue_from front r.source.begun r.source.packets.items) there in
         let states_are : states_in channels ≡ states_after_land here f (states_in r.channels) =
         states ∙ ap (λ k. states_after_land k flit (states_in r.channels)) at ∙ ap (λ x. states_after_land here x (states_in r.channels)) is in
         let queue_is : queue_of source ≡ (if f.last then rest else queue_of r.source) =
@@ -190,8 +190,8 @@ goes-view r n vc i flit channels source at_head some next at states queue sendin
         ∙ ap (λ xs. if f.last then drop 1 xs else queue_of r.source) whole in
         let sending_is : sending_of source ≡ (if f.last then None else Some (vc, r.source.index + 1)) =
         sending ∙ ap (λ front. if is_next_last front r.source.index then None else Some (vc, r.source.index + 1)) there in
-        let view_is : view_of (record r { cycle = n; had_event = true; source = source; channels = channels }) ≡ with_injected vc r.source.index number p rest v =
+        let view_is : view_of (record r { cycle = n; had_event = true; source = source; channels = channels }) ≡ with_injected vc r.source.index packet p rest v =
         rw (ap (λ (s : ChannelStates). s.bank) states_are, ap (λ (s : ChannelStates). s.inputs) states_are, ap (λ (s : ChannelStates). s.outputs) states_are, queue_is, sending_is) in
         view_is
-        ∙ ap (λ k. with_injected vc k number p rest v) (sym (index-is r.source.vc r.source.index at_head))
-        ∙ sym (injected-front n number p rest (view_of r) (Some vc) whole next)
+        ∙ ap (λ k. with_injected vc k packet p rest v) (sym (index-is r.source.vc r.source.index at_head))
+        ∙ sym (injected-front n packet p rest (view_of r) (Some vc) whole next)

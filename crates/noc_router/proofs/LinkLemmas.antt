@@ -7,18 +7,14 @@ use Rattle.std.proofs.Math.Bool.{and_self}
 use Rattle.noc_topo.specs.Shape.{Grid, ports, local_port, neighbour}
 use Rattle.noc_packet.specs.Set.{has_bit, in_both, IsLeast}
 use Rattle.noc_packet.specs.declared.packet.Beat.{Beat}
-use Rattle.noc_packet.specs.declared.packet.Flit.{Flit}
 use Rattle.noc_route.proofs.OptionLemmas.{is_none-none}
-use Rattle.noc_router.specs.Links.{AreLoaded, is_idle_beat}
-use Rattle.noc_router.specs.View.{idle_beat}
+use Rattle.noc_router.specs.Links.{AreLoaded}
+use Rattle.noc_view.specs.View.{is_idle_beat, idle_beat}
+use Rattle.noc_view.proofs.StillLemmas.{beat_of}
 
 not_false : (b : Bool) → false ≡ not b → b ≡ true
 not_false true e = refl
 not_false false e = absurd (false≢true e)
-
--- a beat by its parts
-unfoldable pub beat_of : Option (ℕ × Flit) → Option ℕ → Beat
-beat_of flit credit = record { flit = flit; credit = credit }
 
 pub idle_beat-is : (beat : Beat) → is_idle_beat beat ≡ true → beat ≡ idle_beat
 unfolding beat_of

@@ -12,13 +12,15 @@ use Rattle.noc_packet.specs.declared.packet.Beat.{Beat}
 use Rattle.noc_vc.specs.Input.{Input, idle_input, input_after_send}
 use Rattle.noc_vc.specs.Output.{ejection_output, output_after_spend}
 use Rattle.noc_router.specs.Settled.{with_flit_at, with_credit_at, ejected_packet, moved_by}
-use Rattle.noc_router.specs.Verdict.{Holds, out_of, is_moved, is_event}
-use Rattle.noc_router.specs.View.{View, Decisions, size_of, view_buffer, view_input, view_output, first_flit, mover, mover_to, held_by, spent_by, is_tail, tail_packet, decided_verdict, input_after, buffer_after, sent_from, idle_beat}
-use Rattle.noc_router.specs.declared.verdict.Verdict.{Verdict}
-use Rattle.noc_router.specs.declared.verdict.Verdict.TheVariants.{Empty, Granted, Moved}
-use Rattle.noc_router.proofs.FindLemmas.{find-same, find-at}
-use Rattle.noc_router.proofs.PlanLemmas.{Lists, verdict_in, decided-is, mover-is, Moves, one_pick}
-use Rattle.noc_router.proofs.SettleLemmas.{IsSettling, IsWhole, arrival-is, arrived_by, below-step, buffer-here, buffers-step, credit_by, flit_by, input-here, inputs-step, left, left-gone, left-here, left-kept, left_verdict, mover_to-from, mover_to-is, not_both, not_granted, output_by, outputs-step, port_below, sink_ends, sink_misfits, verdict-gone, verdict-kept, is_moved-true}
+use Rattle.noc_view.specs.Verdict.{Holds, out_of, is_moved, is_event}
+use Rattle.noc_view.specs.View.{View, Decisions, size_of, view_buffer, view_input, view_output, first_flit, mover, mover_to, held_by, spent_by, is_tail, tail_packet, decided_verdict, input_after, buffer_after, sent_from, idle_beat}
+use Rattle.noc_view.specs.declared.verdict.Verdict.{Verdict}
+use Rattle.noc_view.specs.declared.verdict.Verdict.TheVariants.{Empty, Granted, Moved}
+use Rattle.noc_view.proofs.FindLemmas.{find-same, find-at}
+use Rattle.noc_view.proofs.PlanLemmas.{Lists, verdict_in, decided-is, mover-is, Moves, one_pick}
+use Rattle.noc_router.proofs.SettleLemmas.{IsSettling, IsWhole, arrived_by, below-step, buffer-here, buffers-step, credit_by, flit_by, input-here, inputs-step, left, left-gone, left-here, left-kept, left_verdict, not_both, not_granted, output_by, outputs-step, verdict-gone, verdict-kept}
+use Rattle.noc_view.proofs.SinkLemmas.{arrival-is, sink_ends, sink_misfits}
+use Rattle.noc_view.proofs.MoverLemmas.{mover_to-from, mover_to-is, port_below, is_moved-true}
 
 -- ---- a flit moves
 -- a list of beats with a credit at one port and a flit at one

@@ -4,8 +4,8 @@ use Rattle.std.specs.Prelude.{◌⊎◌, ◌/◌, ◌%◌, ◌&&◌, not, option
 use Rattle.std.proofs.lemmas.Bool.{cases_lt, false≢true}
 use Rattle.std.proofs.lemmas.List.{get_or_past}
 use Rattle.noc_topo.specs.Shape.{ports}
-use Rattle.noc_topo.specs.Words.{map_indexed, tabulate, is_some_of}
-use Rattle.noc_topo.proofs.WordLemmas.{get_or-map_indexed, get_or-tabulate, length-map_indexed, length-tabulate, map_indexed-from_each, tabulate-from_each}
+use Rattle.noc_topo.specs.Lists.{map_indexed, tabulate, is_some_of}
+use Rattle.noc_topo.proofs.ListLemmas.{get_or-map_indexed, get_or-tabulate, length-map_indexed, length-tabulate, map_indexed-from_each, tabulate-from_each}
 use Rattle.noc_packet.specs.Set.{has_bit}
 use Rattle.noc_route.specs.Routes.{Routes}
 use Rattle.noc_vc.specs.Input.{is_idle_phase}
@@ -13,19 +13,19 @@ use Rattle.noc_vc.specs.declared.input.InputState.{InputState}
 use Rattle.noc_vc.specs.declared.input.InputState.TheVariants.{Idle, Waiting, Active}
 use Rattle.noc_router.specs.Decided.{IsDecidedFor}
 use Rattle.noc_router.specs.Settled.{CanTakeEffect, AreContentsFor, decisions_by, effect_of, finding_by, found_with, planned_verdict, view_after_tally}
-use Rattle.noc_router.specs.Sound.{is_occupied, out_in}
-use Rattle.noc_router.specs.Found.{empty_finding}
+use Rattle.noc_view.specs.States.{is_occupied}
+use Rattle.noc_router.specs.Sound.{out_in}
+use Rattle.noc_view.specs.Found.{empty_finding}
 use Rattle.noc_router.specs.Tally.{is_empty_verdict}
-use Rattle.noc_router.specs.Verdict.{Round, Waits, Holds, ask_of, out_of, is_event, verdict_of}
-use Rattle.noc_router.specs.View.{View, PlanContents, Decisions, asked_for, claim_in, view_after_commit, counts_after, decided_verdict, finding_of, plan_contents, decisions_of, port_and_vc, route_of, size_of, view_buffer, view_claim, view_input, view_round, idle_beats}
-use Rattle.noc_router.specs.declared.verdict.Verdict.{Verdict}
-use Rattle.noc_router.specs.declared.verdict.Verdict.TheVariants.{Empty, Granted, Moved, LostChannel, LostInput, LostSwitch}
-use Rattle.noc_router.specs.declared.verdict.Finding.{Finding}
+use Rattle.noc_view.specs.Verdict.{Round, Waits, Holds, ask_of, out_of, is_event, verdict_of}
+use Rattle.noc_view.specs.View.{View, PlanContents, Decisions, asked_for, claim_in, view_after_commit, counts_after, decided_verdict, finding_of, plan_contents, decisions_of, port_and_vc, route_of, size_of, view_buffer, view_claim, view_input, view_round, idle_beats}
+use Rattle.noc_view.specs.declared.verdict.Verdict.{Verdict}
+use Rattle.noc_view.specs.declared.verdict.Verdict.TheVariants.{Empty, Granted, Moved, LostChannel, LostInput, LostSwitch}
+use Rattle.noc_view.specs.declared.finding.Finding.{Finding}
 use Rattle.noc_router.proofs.PlannedLemmas.{outcome-lengths}
-use Rattle.noc_router.proofs.PlanLemmas.{asks-at, decided-is, holds_flit, Lists, lists_of_round}
+use Rattle.noc_view.proofs.PlanLemmas.{asks-at, decided-is, holds_flit, Lists, lists_of_round, verdict-at}
 use Rattle.noc_router.proofs.SettleLemmas.{IsSettling, IsWhole}
 use Rattle.noc_router.proofs.EffectLemmas.{can_settle, settling_first, settling_more}
-use Rattle.noc_router.proofs.TallyLemmas.{verdict-at}
 
 -- ---- the decisions of an outcome
 -- the verdict of a channel is that of the outcome

@@ -5,8 +5,8 @@ use Rattle.std.proofs.lemmas.Bool.{cases_eq, cases_lt, false≢true, false_from_
 use Rattle.std.proofs.lemmas.Nat.{div-mul-add, mod-mul-add, mul-add-lt}
 use Rattle.std.proofs.lemmas.List.{length-set, get_or_past, get_or-set_same, get_or-set_other}
 use Rattle.noc_topo.specs.Shape.{ports}
-use Rattle.noc_topo.specs.Words.{below, is_some_of}
-use Rattle.noc_topo.proofs.WordLemmas.{get_or-tabulate, length-tabulate, map_indexed-from_each}
+use Rattle.noc_topo.specs.Lists.{below, is_some_of}
+use Rattle.noc_topo.proofs.ListLemmas.{get_or-tabulate, length-tabulate, map_indexed-from_each}
 use Rattle.noc_packet.specs.Set.{has_bit}
 use Rattle.noc_packet.specs.declared.packet.Flit.{Flit}
 use Rattle.noc_vc.specs.Input.{Input}
@@ -18,16 +18,17 @@ use Rattle.noc_alloc.proofs.ArbiterLemmas.{first_in_turn-picks}
 use Rattle.noc_alloc.proofs.SwitchLemmas.{won-is_pick_won}
 use Rattle.noc_alloc.proofs.WordLemmas.{is_some_of-true, is_some_of-some}
 use Rattle.noc_router.specs.declared.router.Router.TheInside.{Inside}
-use Rattle.noc_router.specs.declared.verdict.Verdict.{Verdict}
-use Rattle.noc_router.specs.declared.verdict.Verdict.TheVariants.{Empty, Routed, Granted, Moved, NoFlit, NoIdleChannel, LostChannel, NoCredit, LostInput, LostSwitch}
+use Rattle.noc_view.specs.declared.verdict.Verdict.{Verdict}
+use Rattle.noc_view.specs.declared.verdict.Verdict.TheVariants.{Empty, Routed, Granted, Moved, NoFlit, NoIdleChannel, LostChannel, NoCredit, LostInput, LostSwitch}
 use Rattle.noc_router.specs.Inside.{IsRouter, view_of}
 use Rattle.noc_router.specs.Settled.{CanGrant, CanMove, CanTakeEffect, AreContentsFor, decisions_by, effect_of, planned_verdict, granted_by, moved_by, moved_in_phase, passed_by, passed_in_phase, view_after_verdicts, states_past, switch_past, arbiters_past}
-use Rattle.noc_router.specs.Verdict.{ArbiterStates, arbiters_after, is_event, is_moved, ready_of}
-use Rattle.noc_router.specs.View.{Decisions, PlanContents, Site, View, decided_verdict, first_flit, mover, size_of, view_input, view_stands}
-use Rattle.noc_router.proofs.FindLemmas.{find-at, find-none, find-same}
+use Rattle.noc_view.specs.Verdict.{ArbiterStates, arbiters_after, is_event, is_moved, ready_of}
+use Rattle.noc_view.specs.View.{Decisions, PlanContents, Site, View, decided_verdict, first_flit, mover, size_of, view_input, view_stands}
+use Rattle.noc_view.proofs.FindLemmas.{find-at, find-none, find-same}
 use Rattle.noc_router.proofs.OutcomeLemmas.{decided-outcome, lists_of}
-use Rattle.noc_router.proofs.PlanLemmas.{Lists, Moves, decided-is, mover-is, moves-is, one_pick, verdict_in}
-use Rattle.noc_router.proofs.SettleLemmas.{IsSettling, IsWhole, buffer-here, credit_by, credit-kept, input-here, left, left-gone, left-kept, left_verdict, not_mover, port_below, flit-first, is_moved-true}
+use Rattle.noc_view.proofs.PlanLemmas.{Lists, Moves, decided-is, mover-is, moves-is, one_pick, verdict_in}
+use Rattle.noc_router.proofs.SettleLemmas.{IsSettling, IsWhole, buffer-here, credit_by, credit-kept, input-here, left, left-gone, left-kept, left_verdict, not_mover}
+use Rattle.noc_view.proofs.MoverLemmas.{port_below, flit-first, is_moved-true}
 use Rattle.noc_router.proofs.MoveLemmas.{credit-elsewhere, credit-from, flit-elsewhere, moved-parts, site-kept}
 use Rattle.noc_router.proofs.EffectLemmas.{mover_left, no_credit, settling_last}
 
@@ -50,12 +51,12 @@ each-view r v view is =
     })
 
 -- the pointers have gone on past the channels that move, but for those that are left
-pub record IsPassing (d : Decisions) (v : View) (rest : ℕ) (turns : ArbiterStates) : Type 0 where
-  pub channels : turns.channels ≡ v.arbiters.channels
-  pub n_inputs : length turns.inputs ≡ ports v.site.grid
-  pub n_outputs : length turns.outputs ≡ ports v.site.grid
-  pub inputs : (q : ℕ) → q < ports v.site.grid → arbiter_at turns.inputs q ≡ arbiter_after (arbiter_at v.arbiters.inputs q) (credit_by d v rest q)
-  pub outputs : (p : ℕ) → p < ports v.site.grid → arbiter_at turns.outputs p ≡ arbiter_after (arbiter_at v.arbiters.outputs p) (port_by v (left rest (mover v.site d.round p)))
+pub record IsPassing (d : Decisions) (v : View) (rest : ℕ) (arbiters : ArbiterStates) : Type 0 where
+  pub channels : arbiters.channels ≡ v.arbiters.channels
+  pub n_inputs : length arbiters.inputs ≡ ports v.site.grid
+  pub n_outputs : length arbiters.outputs ≡ ports v.site.grid
+  pub inputs : (q : ℕ) → q < ports v.site.grid → arbiter_at arbiters.inputs q ≡ arbiter_after (arbiter_at v.arbiters.inputs q) (credit_by d v rest q)
+  pub outputs : (p : ℕ) → p < ports v.site.grid → arbiter_at arbiters.outputs p ≡ arbiter_after (arbiter_at v.arbiters.outputs p) (port_by v (left rest (mover v.site d.round p)))
 
 -- all are left
 pub passing-first : (d : Decisions) (v : View) (rest : ℕ) → IsWhole v → Lists d v → AreEach v → ((i : ℕ) → i < size_of v.site → has_bit rest i ≡ is_event (verdict_in d v i)) → IsPassing d v rest v.arbiters
@@ -68,10 +69,10 @@ passing-first d v rest whole lists each events = record {
 }
 
 -- ---- one channel less is left
-module _ (d : Decisions) (v w : View) (rest rest' index : ℕ) (turns : ArbiterStates) (whole : IsWhole v) (lists : Lists d v)
-    (members : (k : ℕ) → has_bit rest' k ≡ (not (nat_eq k index) && has_bit rest k)) (member : has_bit rest index ≡ true) (so_far : IsSettling d v rest w) (passing : IsPassing d v rest turns) where
+module _ (d : Decisions) (v w : View) (rest rest' index : ℕ) (arbiters : ArbiterStates) (whole : IsWhole v) (lists : Lists d v)
+    (members : (k : ℕ) → has_bit rest' k ≡ (not (nat_eq k index) && has_bit rest k)) (member : has_bit rest index ≡ true) (so_far : IsSettling d v rest w) (passing : IsPassing d v rest arbiters) where
   -- which does not move
-  passing-still : is_moved (decided_verdict d index) ≡ false → IsPassing d v rest' turns
+  passing-still : is_moved (decided_verdict d index) ≡ false → IsPassing d v rest' arbiters
   passing-still still = record {
     channels = passing.channels;
     n_inputs = passing.n_inputs;
@@ -91,47 +92,47 @@ module _ (d : Decisions) (v w : View) (rest rest' index : ℕ) (turns : ArbiterS
     to_in = port_below v mv.out whole.some_vc (whole.within index mv.out (so_far.below index member) mv.phase)
 
     abbrev past : ArbiterStates
-    past = states_past (index / v.site.vcs) (index % v.site.vcs) (mv.out / v.site.vcs) turns
+    past = states_past (index / v.site.vcs) (index % v.site.vcs) (mv.out / v.site.vcs) arbiters
 
-    input-past : (q : ℕ) → q < ports v.site.grid → arbiter_at (arbiters_past (index / v.site.vcs) (index % v.site.vcs) turns.inputs) q ≡ arbiter_after (arbiter_at v.arbiters.inputs q) (credit_by d v rest' q)
+    input-past : (q : ℕ) → q < ports v.site.grid → arbiter_at (arbiters_past (index / v.site.vcs) (index % v.site.vcs) arbiters.inputs) q ≡ arbiter_after (arbiter_at v.arbiters.inputs q) (credit_by d v rest' q)
     input-past q l = at (cases_eq q (index / v.site.vcs))
       where
         new : RoundRobin
-        new = arbiter_after (arbiter_at turns.inputs (index / v.site.vcs)) (Some (index % v.site.vcs))
+        new = arbiter_after (arbiter_at arbiters.inputs (index / v.site.vcs)) (Some (index % v.site.vcs))
 
-        at : (q ≡ index / v.site.vcs) ⊎ (q ≡ index / v.site.vcs → ⊥) → arbiter_at (arbiters_past (index / v.site.vcs) (index % v.site.vcs) turns.inputs) q ≡ arbiter_after (arbiter_at v.arbiters.inputs q) (credit_by d v rest' q)
+        at : (q ≡ index / v.site.vcs) ⊎ (q ≡ index / v.site.vcs → ⊥) → arbiter_at (arbiters_past (index / v.site.vcs) (index % v.site.vcs) arbiters.inputs) q ≡ arbiter_after (arbiter_at v.arbiters.inputs q) (credit_by d v rest' q)
         at (inl same) =
-            let n : length turns.inputs ≡ ports v.site.grid = passing.n_inputs in
-            ap (arbiter_at (arbiters_past (index / v.site.vcs) (index % v.site.vcs) turns.inputs)) same
-            ∙ get_or-set_same turns.inputs (index / v.site.vcs) new (record { size = 0; pointer = 0 }) (let u = from_in in omega arith)
+            let n : length arbiters.inputs ≡ ports v.site.grid = passing.n_inputs in
+            ap (arbiter_at (arbiters_past (index / v.site.vcs) (index % v.site.vcs) arbiters.inputs)) same
+            ∙ get_or-set_same arbiters.inputs (index / v.site.vcs) new (record { size = 0; pointer = 0 }) (let u = from_in in omega arith)
             ∙ ap (λ (t : RoundRobin). arbiter_after t (Some (index % v.site.vcs))) (passing.inputs (index / v.site.vcs) from_in)
             ∙ ap (arbiter_after (arbiter_at v.arbiters.inputs (index / v.site.vcs)))
             (sym (credit-from d v w rest rest' index whole lists members member so_far f first mv e (index / v.site.vcs) (index % v.site.vcs) (mv.out / v.site.vcs) (mv.out % v.site.vcs) refl refl refl refl (index / v.site.vcs) from_in refl))
             ∙ ap (λ k. arbiter_after (arbiter_at v.arbiters.inputs k) (credit_by d v rest' k)) (sym same)
         at (inr other) =
-            get_or-set_other turns.inputs (index / v.site.vcs) q new (record { size = 0; pointer = 0 }) other
+            get_or-set_other arbiters.inputs (index / v.site.vcs) q new (record { size = 0; pointer = 0 }) other
             ∙ passing.inputs q l
             ∙ ap (arbiter_after (arbiter_at v.arbiters.inputs q))
             (sym (credit-elsewhere d v w rest rest' index whole lists members member so_far f first mv e (index / v.site.vcs) (index % v.site.vcs) (mv.out / v.site.vcs) (mv.out % v.site.vcs) refl refl refl refl q other))
 
     output-past : (p : ℕ) → p < ports v.site.grid
-        → arbiter_at (arbiters_past (mv.out / v.site.vcs) (index / v.site.vcs) turns.outputs) p ≡ arbiter_after (arbiter_at v.arbiters.outputs p) (port_by v (left rest' (mover v.site d.round p)))
+        → arbiter_at (arbiters_past (mv.out / v.site.vcs) (index / v.site.vcs) arbiters.outputs) p ≡ arbiter_after (arbiter_at v.arbiters.outputs p) (port_by v (left rest' (mover v.site d.round p)))
     output-past p l = at (cases_eq p (mv.out / v.site.vcs))
       where
         new : RoundRobin
-        new = arbiter_after (arbiter_at turns.outputs (mv.out / v.site.vcs)) (Some (index / v.site.vcs))
+        new = arbiter_after (arbiter_at arbiters.outputs (mv.out / v.site.vcs)) (Some (index / v.site.vcs))
 
         at : (p ≡ mv.out / v.site.vcs) ⊎ (p ≡ mv.out / v.site.vcs → ⊥)
-            → arbiter_at (arbiters_past (mv.out / v.site.vcs) (index / v.site.vcs) turns.outputs) p ≡ arbiter_after (arbiter_at v.arbiters.outputs p) (port_by v (left rest' (mover v.site d.round p)))
+            → arbiter_at (arbiters_past (mv.out / v.site.vcs) (index / v.site.vcs) arbiters.outputs) p ≡ arbiter_after (arbiter_at v.arbiters.outputs p) (port_by v (left rest' (mover v.site d.round p)))
         at (inl same) =
-            let n : length turns.outputs ≡ ports v.site.grid = passing.n_outputs in
-            ap (arbiter_at (arbiters_past (mv.out / v.site.vcs) (index / v.site.vcs) turns.outputs)) same
-            ∙ get_or-set_same turns.outputs (mv.out / v.site.vcs) new (record { size = 0; pointer = 0 }) (let u = to_in in omega arith)
+            let n : length arbiters.outputs ≡ ports v.site.grid = passing.n_outputs in
+            ap (arbiter_at (arbiters_past (mv.out / v.site.vcs) (index / v.site.vcs) arbiters.outputs)) same
+            ∙ get_or-set_same arbiters.outputs (mv.out / v.site.vcs) new (record { size = 0; pointer = 0 }) (let u = to_in in omega arith)
             ∙ ap (λ (t : RoundRobin). arbiter_after t (Some (index / v.site.vcs))) (passing.outputs (mv.out / v.site.vcs) to_in)
             ∙ ap (λ m. arbiter_after (arbiter_at v.arbiters.outputs (mv.out / v.site.vcs)) (port_by v m)) (sym (left-gone rest rest' index members member (mover v.site d.round (mv.out / v.site.vcs)) mv.mover))
             ∙ ap (λ k. arbiter_after (arbiter_at v.arbiters.outputs k) (port_by v (left rest' (mover v.site d.round k)))) (sym same)
         at (inr other) =
-            get_or-set_other turns.outputs (mv.out / v.site.vcs) p new (record { size = 0; pointer = 0 }) other
+            get_or-set_other arbiters.outputs (mv.out / v.site.vcs) p new (record { size = 0; pointer = 0 }) other
             ∙ passing.outputs p l
             ∙ ap (λ m. arbiter_after (arbiter_at v.arbiters.outputs p) (port_by v m))
             (sym (flit-elsewhere d v w rest rest' index whole lists members member so_far f first mv e (index / v.site.vcs) (index % v.site.vcs) (mv.out / v.site.vcs) (mv.out % v.site.vcs) refl refl refl refl p l other))
@@ -139,8 +140,8 @@ module _ (d : Decisions) (v w : View) (rest rest' index : ℕ) (turns : ArbiterS
     passing-moved : IsPassing d v rest' past
     passing-moved = record {
       channels = passing.channels;
-      n_inputs = length-set turns.inputs (index / v.site.vcs) (arbiter_after (arbiter_at turns.inputs (index / v.site.vcs)) (Some (index % v.site.vcs))) ∙ passing.n_inputs;
-      n_outputs = length-set turns.outputs (mv.out / v.site.vcs) (arbiter_after (arbiter_at turns.outputs (mv.out / v.site.vcs)) (Some (index / v.site.vcs))) ∙ passing.n_outputs;
+      n_inputs = length-set arbiters.inputs (index / v.site.vcs) (arbiter_after (arbiter_at arbiters.inputs (index / v.site.vcs)) (Some (index % v.site.vcs))) ∙ passing.n_inputs;
+      n_outputs = length-set arbiters.outputs (mv.out / v.site.vcs) (arbiter_after (arbiter_at arbiters.outputs (mv.out / v.site.vcs)) (Some (index / v.site.vcs))) ∙ passing.n_outputs;
       inputs = input-past;
       outputs = output-past;
     }
@@ -253,20 +254,20 @@ module _ (d : Decisions) (v : View) (whole : IsWhole v) (lists : Lists d v) wher
           find-none (λ k. is_moved (decided_verdict d (q * v.site.vcs + k))) v.site.vcs
           (λ k u. false_from_ne_true (is_moved (decided_verdict d (q * v.site.vcs + k))) (λ t. false≢true (sym e ∙ moved-won q k l u t)))
 
-  pub passing-last : (rest : ℕ) (turns : ArbiterStates) → AreEach v → ((k : ℕ) → has_bit rest k ≡ false) → IsPassing d v rest turns
-      → turns ≡ record (arbiters_after d.round v.arbiters) { channels = v.arbiters.channels }
-  passing-last rest turns each none passing =
+  pub passing-last : (rest : ℕ) (arbiters : ArbiterStates) → AreEach v → ((k : ℕ) → has_bit rest k ≡ false) → IsPassing d v rest arbiters
+      → arbiters ≡ record (arbiters_after d.round v.arbiters) { channels = v.arbiters.channels }
+  passing-last rest arbiters each none passing =
       let n_inputs : length v.arbiters.inputs ≡ ports v.site.grid = each.inputs in
       let n_outputs : length v.arbiters.outputs ≡ ports v.site.grid = each.outputs in
-      let inputs : turns.inputs ≡ arbiters_after_winners (winning_pick d.round.picks d.round.wins) v.arbiters.inputs =
-      map_indexed-from_each (λ q (t : RoundRobin). arbiter_after t (winning_pick d.round.picks d.round.wins q)) v.arbiters.inputs turns.inputs (record { size = 0; pointer = 0 }) (record { size = 0; pointer = 0 })
+      let inputs : arbiters.inputs ≡ arbiters_after_winners (winning_pick d.round.picks d.round.wins) v.arbiters.inputs =
+      map_indexed-from_each (λ q (t : RoundRobin). arbiter_after t (winning_pick d.round.picks d.round.wins q)) v.arbiters.inputs arbiters.inputs (record { size = 0; pointer = 0 }) (record { size = 0; pointer = 0 })
       (passing.n_inputs ∙ sym each.inputs)
       (λ q l. passing.inputs q (omega arith) ∙ ap (arbiter_after (arbiter_at v.arbiters.inputs q)) (credit-all q ∙ pick-all q (omega arith))) in
-      let outputs : turns.outputs ≡ arbiters_after_winners (λ p. get_or d.round.wins p None) v.arbiters.outputs =
-      map_indexed-from_each (λ p (t : RoundRobin). arbiter_after t (get_or d.round.wins p None)) v.arbiters.outputs turns.outputs (record { size = 0; pointer = 0 }) (record { size = 0; pointer = 0 })
+      let outputs : arbiters.outputs ≡ arbiters_after_winners (λ p. get_or d.round.wins p None) v.arbiters.outputs =
+      map_indexed-from_each (λ p (t : RoundRobin). arbiter_after t (get_or d.round.wins p None)) v.arbiters.outputs arbiters.outputs (record { size = 0; pointer = 0 }) (record { size = 0; pointer = 0 })
       (passing.n_outputs ∙ sym each.outputs)
       (λ p l. passing.outputs p (omega arith) ∙ ap (arbiter_after (arbiter_at v.arbiters.outputs p)) (ap (port_by v) (left-none (mover v.site d.round p)) ∙ winner-all p (omega arith))) in
-      ap (λ xs. with_lists xs turns.inputs turns.outputs) passing.channels ∙ ap (λ xs. with_lists v.arbiters.channels xs turns.outputs) inputs
+      ap (λ xs. with_lists xs arbiters.inputs arbiters.outputs) passing.channels ∙ ap (λ xs. with_lists v.arbiters.channels xs arbiters.outputs) inputs
       ∙ ap (λ xs. with_lists v.arbiters.channels (arbiters_after_winners (winning_pick d.round.picks d.round.wins) v.arbiters.inputs) xs) outputs
     where
       with_lists : List RoundRobin → List RoundRobin → List RoundRobin → ArbiterStates
@@ -283,57 +284,57 @@ module _ (d : Decisions) (v : View) (whole : IsWhole v) (lists : Lists d v) wher
 
 -- ---- the pointers apart from all else
 -- the view with these pointers
-abbrev pub with_turns : ArbiterStates → View → View
-with_turns turns w = record w { arbiters = turns }
+abbrev pub with_arbiters : ArbiterStates → View → View
+with_arbiters arbiters w = record w { arbiters = arbiters }
 
-granted-turns : (turns : ArbiterStates) (w : View) (i : ℕ) (ask : Option ℕ) → with_turns turns (granted_by i ask w) ≡ granted_by i ask (with_turns turns w)
-granted-turns turns w i None = refl
-granted-turns turns w i (Some o) = refl
+granted-arbiters : (arbiters : ArbiterStates) (w : View) (i : ℕ) (ask : Option ℕ) → with_arbiters arbiters (granted_by i ask w) ≡ granted_by i ask (with_arbiters arbiters w)
+granted-arbiters arbiters w i None = refl
+granted-arbiters arbiters w i (Some o) = refl
 
-moved-turns : (turns : ArbiterStates) (w : View) (i o : ℕ) (f : Option Flit) → with_turns turns (switch_past i o (moved_by i o f w)) ≡ moved_by i o f (with_turns turns w)
-moved-turns turns w i o None = refl
-moved-turns turns w i o (Some f) = ap (λ x. with_turns turns (switch_past i o x)) (moved-parts i o f w) ∙ sym (moved-parts i o f (with_turns turns w))
+moved-arbiters : (arbiters : ArbiterStates) (w : View) (i o : ℕ) (f : Option Flit) → with_arbiters arbiters (switch_past i o (moved_by i o f w)) ≡ moved_by i o f (with_arbiters arbiters w)
+moved-arbiters arbiters w i o None = refl
+moved-arbiters arbiters w i o (Some f) = ap (λ x. with_arbiters arbiters (switch_past i o x)) (moved-parts i o f w) ∙ sym (moved-parts i o f (with_arbiters arbiters w))
 
-phase-turns : (turns : ArbiterStates) (w : View) (i : ℕ) (phase : InputState) → with_turns turns (passed_in_phase i phase (moved_in_phase i phase w)) ≡ moved_in_phase i phase (with_turns turns w)
-phase-turns turns w i Idle = refl
-phase-turns turns w i (Waiting set) = refl
-phase-turns turns w i (Active o) = moved-turns turns w i o (first_flit w i)
+phase-arbiters : (arbiters : ArbiterStates) (w : View) (i : ℕ) (phase : InputState) → with_arbiters arbiters (passed_in_phase i phase (moved_in_phase i phase w)) ≡ moved_in_phase i phase (with_arbiters arbiters w)
+phase-arbiters arbiters w i Idle = refl
+phase-arbiters arbiters w i (Waiting set) = refl
+phase-arbiters arbiters w i (Active o) = moved-arbiters arbiters w i o (first_flit w i)
 
 -- a verdict has the same effect whatever they are
-pub effect-turns : (p : PlanContents) (turns : ArbiterStates) (w : View) (i : ℕ) (x : Verdict)
-    → with_turns turns (passed_by i (view_input w i).phase x (effect_of p i w x)) ≡ effect_of p i (with_turns turns w) x
-effect-turns p turns w i Routed = refl
-effect-turns p turns w i Granted = granted-turns turns w i (get_or p.asks i None)
-effect-turns p turns w i Moved = phase-turns turns w i (view_input w i).phase
-effect-turns p turns w i Empty = refl
-effect-turns p turns w i NoFlit = refl
-effect-turns p turns w i NoIdleChannel = refl
-effect-turns p turns w i LostChannel = refl
-effect-turns p turns w i NoCredit = refl
-effect-turns p turns w i LostInput = refl
-effect-turns p turns w i LostSwitch = refl
+pub effect-arbiters : (p : PlanContents) (arbiters : ArbiterStates) (w : View) (i : ℕ) (x : Verdict)
+    → with_arbiters arbiters (passed_by i (view_input w i).phase x (effect_of p i w x)) ≡ effect_of p i (with_arbiters arbiters w) x
+effect-arbiters p arbiters w i Routed = refl
+effect-arbiters p arbiters w i Granted = granted-arbiters arbiters w i (get_or p.asks i None)
+effect-arbiters p arbiters w i Moved = phase-arbiters arbiters w i (view_input w i).phase
+effect-arbiters p arbiters w i Empty = refl
+effect-arbiters p arbiters w i NoFlit = refl
+effect-arbiters p arbiters w i NoIdleChannel = refl
+effect-arbiters p arbiters w i LostChannel = refl
+effect-arbiters p arbiters w i NoCredit = refl
+effect-arbiters p arbiters w i LostInput = refl
+effect-arbiters p arbiters w i LostSwitch = refl
 
-can_grant-turns : (turns : ArbiterStates) (w : View) (i : ℕ) (ask : Option ℕ) → IfSome ask (CanGrant (with_turns turns w) i) → IfSome ask (CanGrant w i)
-can_grant-turns turns w i None can = tt
-can_grant-turns turns w i (Some o) can = record { within = can.within; waits = can.waits; free = can.free }
+can_grant-arbiters : (arbiters : ArbiterStates) (w : View) (i : ℕ) (ask : Option ℕ) → IfSome ask (CanGrant (with_arbiters arbiters w) i) → IfSome ask (CanGrant w i)
+can_grant-arbiters arbiters w i None can = tt
+can_grant-arbiters arbiters w i (Some o) can = record { within = can.within; waits = can.waits; free = can.free }
 
-can_move-turns : (turns : ArbiterStates) (w : View) (i : ℕ) (phase : InputState) → CanMove (with_turns turns w) i phase → CanMove w i phase
-can_move-turns turns w i Idle can = can
-can_move-turns turns w i (Waiting set) can = can
-can_move-turns turns w i (Active o) can = can
+can_move-arbiters : (arbiters : ArbiterStates) (w : View) (i : ℕ) (phase : InputState) → CanMove (with_arbiters arbiters w) i phase → CanMove w i phase
+can_move-arbiters arbiters w i Idle can = can
+can_move-arbiters arbiters w i (Waiting set) can = can
+can_move-arbiters arbiters w i (Active o) can = can
 
 -- a verdict can take effect whatever the pointers are
-pub can_take-turns : (p : PlanContents) (turns : ArbiterStates) (w : View) (i : ℕ) (x : Verdict) → CanTakeEffect p (with_turns turns w) i x → CanTakeEffect p w i x
-can_take-turns p turns w i Routed can = can
-can_take-turns p turns w i Granted can = can_grant-turns turns w i (get_or p.asks i None) can
-can_take-turns p turns w i Moved can = can_move-turns turns w i (view_input w i).phase can
-can_take-turns p turns w i Empty can = can
-can_take-turns p turns w i NoFlit can = can
-can_take-turns p turns w i NoIdleChannel can = can
-can_take-turns p turns w i LostChannel can = can
-can_take-turns p turns w i NoCredit can = can
-can_take-turns p turns w i LostInput can = can
-can_take-turns p turns w i LostSwitch can = can
+pub can_take-arbiters : (p : PlanContents) (arbiters : ArbiterStates) (w : View) (i : ℕ) (x : Verdict) → CanTakeEffect p (with_arbiters arbiters w) i x → CanTakeEffect p w i x
+can_take-arbiters p arbiters w i Routed can = can
+can_take-arbiters p arbiters w i Granted can = can_grant-arbiters arbiters w i (get_or p.asks i None) can
+can_take-arbiters p arbiters w i Moved can = can_move-arbiters arbiters w i (view_input w i).phase can
+can_take-arbiters p arbiters w i Empty can = can
+can_take-arbiters p arbiters w i NoFlit can = can
+can_take-arbiters p arbiters w i NoIdleChannel can = can
+can_take-arbiters p arbiters w i LostChannel can = can
+can_take-arbiters p arbiters w i NoCredit can = can
+can_take-arbiters p arbiters w i LostInput can = can
+can_take-arbiters p arbiters w i LostSwitch can = can
 
 -- ---- one verdict
 granted-keeps : (w : View) (i : ℕ) (ask : Option ℕ) → (granted_by i ask w).arbiters ≡ w.arbiters
@@ -341,14 +342,14 @@ granted-keeps w i None = refl
 granted-keeps w i (Some o) = refl
 
 module _ (p : PlanContents) (v w : View) (rest rest' index : ℕ) (whole : IsWhole v) (lists : Lists (decisions_by p v) v)
-    (members : (k : ℕ) → has_bit rest' k ≡ (not (nat_eq k index) && has_bit rest k)) (member : has_bit rest index ≡ true) (so_far : IsSettling (decisions_by p v) v rest (with_turns v.arbiters w))
+    (members : (k : ℕ) → has_bit rest' k ≡ (not (nat_eq k index) && has_bit rest k)) (member : has_bit rest index ≡ true) (so_far : IsSettling (decisions_by p v) v rest (with_arbiters v.arbiters w))
     (passing : IsPassing (decisions_by p v) v rest w.arbiters) where
   -- the pointers after it
   quiet : is_moved (decided_verdict (decisions_by p v) index) ≡ false → IsPassing (decisions_by p v) v rest' w.arbiters
-  quiet still = passing-still (decisions_by p v) v (with_turns v.arbiters w) rest rest' index w.arbiters whole lists members member so_far passing still
+  quiet still = passing-still (decisions_by p v) v (with_arbiters v.arbiters w) rest rest' index w.arbiters whole lists members member so_far passing still
 
   step : (x : Verdict) → decided_verdict (decisions_by p v) index ≡ x → IsPassing (decisions_by p v) v rest' (passed_by index (view_input w index).phase x (effect_of p index w x)).arbiters
-  step Moved e = subst (IsPassing (decisions_by p v) v rest') (sym turns-are) (passing-moved (decisions_by p v) v (with_turns v.arbiters w) rest rest' index w.arbiters whole lists members member so_far passing flit.0 flit.1 mv e)
+  step Moved e = subst (IsPassing (decisions_by p v) v rest') (sym arbiters-are) (passing-moved (decisions_by p v) v (with_arbiters v.arbiters w) rest rest' index w.arbiters whole lists members member so_far passing flit.0 flit.1 mv e)
     where
       mv : Moves (decisions_by p v) v index
       mv = moves-is (decisions_by p v) v index whole.some_vc (sym (decided-is (decisions_by p v) v index lists (so_far.below index member)) ∙ e)
@@ -357,20 +358,20 @@ module _ (p : PlanContents) (v w : View) (rest rest' index : ℕ) (whole : IsWho
       flit = flit-first v index mv.flit
 
       phase_is : (view_input w index).phase ≡ Active mv.out
-      phase_is = ap (λ (x : Input). x.phase) (input-here (decisions_by p v) v (with_turns v.arbiters w) rest rest' index whole lists members member so_far) ∙ mv.phase
+      phase_is = ap (λ (x : Input). x.phase) (input-here (decisions_by p v) v (with_arbiters v.arbiters w) rest rest' index whole lists members member so_far) ∙ mv.phase
 
       first : first_flit w index ≡ Some flit.0
-      first = ap (λ flits. slice_get flits 0) (buffer-here (decisions_by p v) v (with_turns v.arbiters w) rest rest' index whole lists members member so_far) ∙ flit.1
+      first = ap (λ flits. slice_get flits 0) (buffer-here (decisions_by p v) v (with_arbiters v.arbiters w) rest rest' index whole lists members member so_far) ∙ flit.1
 
       past_at : Site → ArbiterStates
       past_at s = states_past (index / s.vcs) (index % s.vcs) (mv.out / s.vcs) w.arbiters
 
-      turns-are : (passed_in_phase index (view_input w index).phase (moved_in_phase index (view_input w index).phase w)).arbiters ≡ past_at v.site
-      turns-are =
+      arbiters-are : (passed_in_phase index (view_input w index).phase (moved_in_phase index (view_input w index).phase w)).arbiters ≡ past_at v.site
+      arbiters-are =
           ap (λ phase. (passed_in_phase index phase (moved_in_phase index phase w)).arbiters) phase_is
           ∙ ap (λ m. (switch_past index mv.out (moved_by index mv.out m w)).arbiters) first
           ∙ ap (λ x. (switch_past index mv.out x).arbiters) (moved-parts index mv.out flit.0 w)
-          ∙ ap past_at (site-kept (decisions_by p v) v (with_turns v.arbiters w) rest so_far)
+          ∙ ap past_at (site-kept (decisions_by p v) v (with_arbiters v.arbiters w) rest so_far)
   step Granted e = subst (IsPassing (decisions_by p v) v rest') (sym (granted-keeps w index (get_or p.asks index None))) (quiet (ap is_moved e))
   step Routed e = quiet (ap is_moved e)
   step Empty e = quiet (ap is_moved e)
@@ -382,7 +383,7 @@ module _ (p : PlanContents) (v w : View) (rest rest' index : ℕ) (whole : IsWho
   step LostSwitch e = quiet (ap is_moved e)
 
 pub passing-more : (p : PlanContents) (v w : View) (rest rest' index : ℕ) (new : View) → IsWhole v → AreContentsFor p v → ((k : ℕ) → has_bit rest' k ≡ (not (nat_eq k index) && has_bit rest k)) → has_bit rest index ≡ true
-    → IsSettling (decisions_by p v) v rest (with_turns v.arbiters w) → IsPassing (decisions_by p v) v rest w.arbiters
+    → IsSettling (decisions_by p v) v rest (with_arbiters v.arbiters w) → IsPassing (decisions_by p v) v rest w.arbiters
     → new ≡ passed_by index (view_input w index).phase (planned_verdict p index) (effect_of p index w (planned_verdict p index)) → IsPassing (decisions_by p v) v rest' new.arbiters
 passing-more p v w rest rest' index new whole is members member so_far passing e =
     let P : View → Type 0 = λ x. IsPassing (decisions_by p v) v rest' x.arbiters in
@@ -398,9 +399,9 @@ passing_first p v rest whole is each events =
 
 -- where none is left, all verdicts have taken effect, and the pointers have gone on past the winners
 pub passed-all : (p : PlanContents) (v w : View) (rest : ℕ) → IsWhole v → AreEach v → AreContentsFor p v → ((k : ℕ) → has_bit rest k ≡ false)
-    → IsSettling (decisions_by p v) v rest (with_turns v.arbiters w) → IsPassing (decisions_by p v) v rest w.arbiters
+    → IsSettling (decisions_by p v) v rest (with_arbiters v.arbiters w) → IsPassing (decisions_by p v) v rest w.arbiters
     → w ≡ record (view_after_verdicts (decisions_by p v) v) { arbiters = record (arbiters_after p.round v.arbiters) { channels = v.arbiters.channels } }
 passed-all p v w rest whole each is none settling passing =
     let lists = lists_of p v is in
-    ap (λ turns. with_turns turns w) (passing-last (decisions_by p v) v whole lists rest w.arbiters each none passing)
-    ∙ ap (with_turns (record (arbiters_after p.round v.arbiters) { channels = v.arbiters.channels })) (settling_last (decisions_by p v) v (with_turns v.arbiters w) rest whole lists settling none)
+    ap (λ arbiters. with_arbiters arbiters w) (passing-last (decisions_by p v) v whole lists rest w.arbiters each none passing)
+    ∙ ap (with_arbiters (record (arbiters_after p.round v.arbiters) { channels = v.arbiters.channels })) (settling_last (decisions_by p v) v (with_arbiters v.arbiters w) rest whole lists settling none)

@@ -1,24 +1,24 @@
 -- What a router plans, put together.
 use Rattle.std.proofs.Common.{◌≡◌, ℕ, ◌*◌, ◌<◌, true, List, length, get_or, refl, replicate, Option, ap, arith, sym, ◌∙◌}
-use Rattle.noc_topo.specs.Words.{tabulate}
+use Rattle.noc_topo.specs.Lists.{tabulate}
 use Rattle.noc_topo.specs.Shape.{ports}
-use Rattle.noc_topo.proofs.WordLemmas.{length-tabulate, tabulate-from_each}
+use Rattle.noc_topo.proofs.ListLemmas.{length-tabulate, tabulate-from_each}
 use Rattle.std.proofs.lemmas.Bool.{false≢true}
 use Rattle.std.proofs.lemmas.List.{ext_get_or, get_or-replicate, length-replicate}
 use Rattle.noc_route.specs.Routes.{Routes}
 use Rattle.noc_router.specs.declared.requests.Requests.{Requests}
 use Rattle.noc_router.specs.declared.router.Router.TheInside.{Inside}
-use Rattle.noc_router.specs.declared.verdict.Verdict.{Verdict}
-use Rattle.noc_router.specs.declared.verdict.Verdict.TheVariants.{Empty}
+use Rattle.noc_view.specs.declared.verdict.Verdict.{Verdict}
+use Rattle.noc_view.specs.declared.verdict.Verdict.TheVariants.{Empty}
 use Rattle.noc_router.specs.Asked.{RequestLists, arbiter_states_in, grants_on, lists_in, no_requests, round_in, routes_in, wins_on}
 use Rattle.noc_router.specs.Decided.{IsDecidedFor, empty_plan_contents}
 use Rattle.noc_router.specs.Inside.{IsRouter, view_of}
 use Rattle.noc_alloc.proofs.OfferLemmas.{wins-granted}
-use Rattle.noc_router.specs.Standing.{AreAsked, picked_vc, picked_way}
-use Rattle.noc_router.specs.Verdict.{Round, asks_of, is_event, ready_of}
+use Rattle.noc_router.specs.Ready.{AreAsked, picked_vc, picked_way}
+use Rattle.noc_view.specs.Verdict.{Round, asks_of, is_event, ready_of}
 use Rattle.noc_alloc.specs.Arbiter.{pointers_of}
-use Rattle.noc_router.specs.View.{PlanContents, View, finding_of, plan_contents, route_of, size_of, view_round, view_stands}
-use Rattle.noc_router.proofs.StandLemmas.{asks_of-stands}
+use Rattle.noc_view.specs.View.{PlanContents, View, finding_of, plan_contents, route_of, size_of, view_round, view_stands}
+use Rattle.noc_view.proofs.StandLemmas.{asks_of-stands}
 use Rattle.noc_router.proofs.WholeLemmas.{size_view}
 
 -- the grants by the arbiters of a router are those of its view

@@ -10,10 +10,10 @@ use Rattle.noc_packet.specs.declared.packet.Flit.{Flit}
 use Rattle.noc_router.specs.declared.links.Links.{Links}
 use Rattle.noc_router.specs.declared.router.Router.TheInside.{Inside}
 use Rattle.noc_router.specs.Inside.{IsRouter}
-use Rattle.noc_router.specs.Links.{AreLoaded, is_idle_beat}
-use Rattle.noc_alloc.specs.Places.{AreBelow}
+use Rattle.noc_router.specs.Links.{AreLoaded}
+use Rattle.noc_view.specs.View.{is_idle_beat, idle_beat}
+use Rattle.noc_alloc.specs.Sparse.{AreBelow}
 use Rattle.noc_router.specs.Settled.{with_credit_at, with_flit_at}
-use Rattle.noc_router.specs.View.{idle_beat}
 use Rattle.noc_router.proofs.RouterLemmas.{IsRouter-kept}
 
 pub take-set_at : {X : Type 0} (n : ℕ) (xs : List X) (i : ℕ) (y : X) → take n (set xs i y) ≡ set (take n xs) i y

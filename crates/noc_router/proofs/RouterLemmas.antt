@@ -11,8 +11,8 @@ use Rattle.noc_router.specs.declared.links.Links.{Links}
 use Rattle.noc_router.specs.declared.router.Router.TheInside.{Inside}
 use Rattle.noc_router.specs.Inside.{IsRouter, view_of}
 use Rattle.noc_router.specs.Tally.{TallyContents}
-use Rattle.noc_router.specs.View.{local_channel}
-use Rattle.noc_alloc.specs.Places.{AreBelow}
+use Rattle.noc_view.specs.View.{local_channel}
+use Rattle.noc_alloc.specs.Sparse.{AreBelow}
 use Rattle.noc_router.specs.Parts.{ChannelStates, states_after_land, states_in}
 use Rattle.noc_router.specs.Sound.{is_awaiting, nth_input, KeepsAwaiting}
 
@@ -20,11 +20,11 @@ for_some : (P Q : ℕ → Type 0) (o : Option ℕ) → ((x : ℕ) → P x → Q 
 for_some P Q o f h = λ x e. f x (h x e)
 
 -- where the parts keep their sizes, and the input channels that await a flit still do
-pub IsRouter-kept : (r s : Inside) → IsRouter r → s.shape ≡ r.shape → s.node ≡ r.node → s.ports ≡ r.ports → s.vcs ≡ r.vcs → s.places ≡ r.places
+pub IsRouter-kept : (r s : Inside) → IsRouter r → s.shape ≡ r.shape → s.node ≡ r.node → s.ports ≡ r.ports → s.vcs ≡ r.vcs → s.depth ≡ r.depth
     → s.source.vc ≡ r.source.vc → s.channels.size ≡ r.channels.size → s.channels.bank.capacity ≡ r.channels.bank.capacity
-    → KeepsAwaiting r.channels.inputs.items s.channels.inputs.items → s.leads.places ≡ r.leads.places → AreBelow (local_port r.shape) s.links.loaded
+    → KeepsAwaiting r.channels.inputs.items s.channels.inputs.items → s.leads.neighbours ≡ r.leads.neighbours → AreBelow (local_port r.shape) s.links.loaded
     → length s.tally.counts ≡ length r.tally.counts → s.arbiters.ports ≡ r.arbiters.ports → s.arbiters.vcs ≡ r.arbiters.vcs → s.indices.vcs ≡ r.indices.vcs → IsRouter s
-IsRouter-kept r s is shape node ports_same vcs places vc size capacity keeps leads loaded counts arbiter_ports arbiter_vcs index_vcs =
+IsRouter-kept r s is shape node ports_same vcs depth vc size capacity keeps leads loaded counts arbiter_ports arbiter_vcs index_vcs =
     let all : r.ports * r.vcs ≡ s.ports * s.vcs = ap (λ n. n * r.vcs) (sym ports_same) ∙ ap (λ n. s.ports * n) (sym vcs) in
     let first : (r.ports - 1) * r.vcs ≡ (s.ports - 1) * s.vcs = ap (λ n. (n - 1) * r.vcs) (sym ports_same) ∙ ap (λ n. (s.ports - 1) * n) (sym vcs) in
     record {
@@ -34,7 +34,7 @@ IsRouter-kept r s is shape node ports_same vcs places vc size capacity keeps lea
       some_vc = rw vcs is.some_vc;
       few_vcs = rw vcs is.few_vcs;
       channels = size ∙ is.channels ∙ all;
-      places = capacity ∙ is.places ∙ sym places;
+      depth = capacity ∙ is.depth ∙ sym depth;
       leads = λ port l. ap (λ xs. slice_index_or xs port None) leads ∙ is.leads port l ∙ ap (λ g. neighbour g r.node port) (sym shape) ∙ ap (λ n. neighbour s.shape n port) (sym node);
       loaded = subst (λ (g : Grid). AreBelow (local_port g) s.links.loaded) (sym shape) loaded;
       sending = rw vc (for_some (λ v. v < r.vcs) (λ v. v < s.vcs) r.source.vc (λ v l. rw vcs l) is.sending);
@@ -73,7 +73,7 @@ IsRouter-landed r channels i flit is states link = record {
   some_vc = is.some_vc;
   few_vcs = is.few_vcs;
   channels = ap (λ (s : ChannelStates). s.size) states ∙ is.channels;
-  places = ap (λ (s : ChannelStates). s.bank.capacity) states ∙ is.places;
+  depth = ap (λ (s : ChannelStates). s.bank.capacity) states ∙ is.depth;
   leads = is.leads;
   loaded = is.loaded;
   sending = is.sending;

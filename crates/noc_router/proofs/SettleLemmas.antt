@@ -1,48 +1,28 @@
 -- The verdicts take effect one by one: what holds while some channels are left, and what a channel that sends no flit changes.
-use Rattle.std.proofs.Common.{◌≡◌, ◌≢◌, ℕ, ◌+◌, ◌*◌, ◌/◌, ◌%◌, ◌<◌, Bool, true, false, List, [], length, drop, get_or, set, Option, Some, None, refl, ap, sym, ◌∙◌, arith, inl, inr, ◌∷◌}
-use Rattle.std.specs.Prelude.{◌⊎◌, ◌&&◌, not, option_and_then, option_map, unwrap_or, nat_eq, if◌then◌else◌, find, slice_index, slice_get}
+use Rattle.std.proofs.Common.{◌≡◌, ◌≢◌, ℕ, ◌+◌, ◌*◌, ◌/◌, ◌%◌, ◌<◌, true, false, List, [], length, drop, get_or, set, Option, Some, None, refl, ap, sym, ◌∙◌, arith, inl, inr}
+use Rattle.std.specs.Prelude.{◌⊎◌, ◌&&◌, not, option_and_then, option_map, unwrap_or, nat_eq, if◌then◌else◌, find, slice_index}
 use Rattle.std.proofs.lemmas.Bool.{cases_eq, eq-eqb, ne_eqb, false≢true, and_parts}
-use Rattle.std.proofs.Math.Nat.{div-lt_iff_lt-mul}
 use Rattle.std.proofs.lemmas.List.{length-set, get_or-set_same, get_or-set_other}
-use Rattle.noc_topo.specs.Words.{below, is_some_of}
+use Rattle.noc_topo.specs.Lists.{below}
 use Rattle.noc_topo.specs.Shape.{ports, local_port}
 use Rattle.noc_packet.specs.Set.{has_bit}
 use Rattle.noc_packet.specs.declared.packet.Flit.{Flit}
 use Rattle.noc_packet.specs.declared.packet.Beat.{Beat}
-use Rattle.noc_vc.specs.Input.{Input, idle_input, input_after_route, input_after_grant, is_empty}
+use Rattle.noc_vc.specs.Input.{Input, idle_input, input_after_route, input_after_grant}
 use Rattle.noc_vc.specs.Output.{Output, ejection_output, is_free, output_after_hold}
 use Rattle.noc_vc.specs.declared.input.InputState.TheVariants.{Active}
 use Rattle.noc_vc.specs.declared.output.OutputState.{OutputState}
 use Rattle.noc_vc.specs.declared.output.OutputState.TheVariants.{Idle as Free, Owned, Draining}
-use Rattle.noc_alloc.proofs.WordLemmas.{is_some_of-true, is_some_of-some}
-use Rattle.noc_router.specs.Arrivals.{is_expected_in, arrivals_after}
 use Rattle.noc_router.specs.Settled.{view_after_route, view_after_grant}
-use Rattle.noc_router.specs.Sound.{owns, is_owned_from}
-use Rattle.noc_router.specs.Verdict.{Waits, ask_of, out_of, is_moved, is_event}
-use Rattle.noc_router.specs.View.{View, Decisions, size_of, view_claim, view_buffer, view_input, view_output, first_flit, mover, mover_to, held_by, spent_by, tail_packet, with_arrival, saturating_next, decided_verdict, input_after, buffer_after, granted_to, idle_beat}
-use Rattle.noc_router.specs.declared.verdict.Verdict.{Verdict}
-use Rattle.noc_router.specs.declared.verdict.Verdict.TheVariants.{Empty, Routed, Granted, Moved, NoFlit, NoIdleChannel, LostChannel, NoCredit, LostInput, LostSwitch}
-use Rattle.noc_router.proofs.FindLemmas.{find-same}
-use Rattle.noc_router.proofs.PlanLemmas.{Lists, verdict_in, decided-is, granted-asks, is-granted, mover-is, claim-waits, claim-holds, holds_flit}
-
--- ---- the sink
--- the arrivals and the misfits after a packet has arrived
-abbrev pub sink_ends : Option ℕ → ℕ → List (ℕ × Option ℕ) → List (ℕ × Option ℕ)
-sink_ends None given ends = ends
-sink_ends (Some p) given ends = if is_expected_in p ends then arrivals_after p given ends else ends
-
-abbrev pub sink_misfits : Option ℕ → List (ℕ × Option ℕ) → ℕ → ℕ
-sink_misfits None ends misfits = misfits
-sink_misfits (Some p) ends misfits = if is_expected_in p ends then misfits else saturating_next misfits
-
-pub arrival-is : (a : Option ℕ) (v : View) → with_arrival a v ≡ record v { ends = sink_ends a v.given v.ends; misfits = sink_misfits a v.ends v.misfits }
-arrival-is None v = refl
-arrival-is (Some p) v = at (is_expected_in p v.ends)
-  where
-    at : (b : Bool) → (if b then record v { ends = arrivals_after p v.given v.ends } else record v { misfits = saturating_next v.misfits })
-        ≡ record v { ends = (if b then arrivals_after p v.given v.ends else v.ends); misfits = (if b then v.misfits else saturating_next v.misfits) }
-    at true = refl
-    at false = refl
+use Rattle.noc_view.specs.States.{owns, is_owned_from}
+use Rattle.noc_view.specs.Verdict.{Waits, ask_of, out_of, is_moved, is_event}
+use Rattle.noc_view.specs.View.{View, Decisions, size_of, view_claim, view_buffer, view_input, view_output, first_flit, mover, mover_to, held_by, spent_by, tail_packet, decided_verdict, input_after, buffer_after, granted_to, idle_beat}
+use Rattle.noc_view.specs.declared.verdict.Verdict.{Verdict}
+use Rattle.noc_view.specs.declared.verdict.Verdict.TheVariants.{Empty, Routed, Granted, Moved}
+use Rattle.noc_view.proofs.FindLemmas.{find-same}
+use Rattle.noc_view.proofs.PlanLemmas.{Lists, verdict_in, decided-is, granted-asks, is-granted, mover-is, claim-waits, claim-holds}
+use Rattle.noc_view.proofs.SinkLemmas.{sink_ends, sink_misfits}
+use Rattle.noc_view.proofs.MoverLemmas.{port_below, mover_to-is}
 
 -- ---- what is left
 -- the verdict of channel i, where it is not left
@@ -135,30 +115,6 @@ module _ (rest rest' index : ℕ) (members : (k : ℕ) → has_bit rest' k ≡ (
       at k (inl same) =
           ap is_moved (verdict-gone d k same) ∙ ap (λ j. is_moved (decided_verdict d j)) same ∙ e
           ∙ sym (ap is_moved (ap (left_verdict d rest) same ∙ verdict-here d))
-
--- ---- who is granted, and who moves
-pub port_below : (v : View) (o : ℕ) → 0 < v.site.vcs → o < size_of v.site → o / v.site.vcs < ports v.site.grid
-port_below v o some l = (div-lt_iff_lt-mul some).1 l
-
-pub mover_to-is : (d : Decisions) (v : View) (o i : ℕ) → mover_to v d.round o ≡ Some i → (mover v.site d.round (o / v.site.vcs) ≡ Some i) × (out_of (view_claim v i) ≡ Some o)
-mover_to-is d v o i e = at (mover v.site d.round (o / v.site.vcs)) refl e
-  where
-    test : (k : ℕ) (b : Bool) → is_some_of (out_of (view_claim v k)) o ≡ b → mover v.site d.round (o / v.site.vcs) ≡ Some k → (if b then Some k else None) ≡ Some i
-        → (mover v.site d.round (o / v.site.vcs) ≡ Some i) × (out_of (view_claim v i) ≡ Some o)
-    test k true t m h =
-        let same : k ≡ i = cc in
-        (m ∙ h, ap (λ j. out_of (view_claim v j)) (sym same) ∙ is_some_of-true (out_of (view_claim v k)) o t)
-    test k false t m h = absurd (cc h)
-
-    at : (m : Option ℕ) → mover v.site d.round (o / v.site.vcs) ≡ m → option_and_then (λ k. if is_some_of (out_of (view_claim v k)) o then Some k else None) m ≡ Some i
-        → (mover v.site d.round (o / v.site.vcs) ≡ Some i) × (out_of (view_claim v i) ≡ Some o)
-    at None m h = absurd (cc h)
-    at (Some k) m h = test k (is_some_of (out_of (view_claim v k)) o) refl m h
-
-pub mover_to-from : (d : Decisions) (v : View) (o i : ℕ) → mover v.site d.round (o / v.site.vcs) ≡ Some i → out_of (view_claim v i) ≡ Some o → mover_to v d.round o ≡ Some i
-mover_to-from d v o i m t =
-    ap (λ (x : Option ℕ). option_and_then (λ k. if is_some_of (out_of (view_claim v k)) o then Some k else None) x) m
-    ∙ ap (λ b. if b then Some i else None) (is_some_of-some (out_of (view_claim v i)) o t)
 
 -- an active channel owns its output channel, which is then not free
 not_free : (i : ℕ) (h : OutputState) → is_owned_from h i ≡ true → is_free h ≡ false
@@ -374,37 +330,3 @@ module _ (d : Decisions) (v w : View) (rest rest' index : ℕ) (whole : IsWhole 
         where
           claim_is : view_claim v index ≡ Waits (Some o)
           claim_is = claim
-
--- ---- flits and verdicts
--- the first of some flits
-some_first : (flits : List Flit) → not (is_empty flits) ≡ true → (f : Flit) × (slice_get flits 0 ≡ Some f)
-some_first [] e = absurd (false≢true e)
-some_first (f ∷ rest) e = (f, refl)
-
-pub flit-first : (v : View) (i : ℕ) → holds_flit v i ≡ true → (f : Flit) × (first_flit v i ≡ Some f)
-flit-first v i e = some_first (view_buffer v i) e
-
-pub is_moved-true : (x : Verdict) → is_moved x ≡ true → x ≡ Moved
-is_moved-true Empty e = absurd (false≢true e)
-is_moved-true Routed e = absurd (false≢true e)
-is_moved-true Granted e = absurd (false≢true e)
-is_moved-true Moved e = refl
-is_moved-true NoFlit e = absurd (false≢true e)
-is_moved-true NoIdleChannel e = absurd (false≢true e)
-is_moved-true LostChannel e = absurd (false≢true e)
-is_moved-true NoCredit e = absurd (false≢true e)
-is_moved-true LostInput e = absurd (false≢true e)
-is_moved-true LostSwitch e = absurd (false≢true e)
-
--- a verdict that does not take effect moves no flit
-pub quiet-moved : (x : Verdict) → is_event x ≡ false → is_moved x ≡ false
-quiet-moved Empty e = refl
-quiet-moved Routed e = absurd (false≢true (sym e))
-quiet-moved Granted e = absurd (false≢true (sym e))
-quiet-moved Moved e = absurd (false≢true (sym e))
-quiet-moved NoFlit e = refl
-quiet-moved NoIdleChannel e = refl
-quiet-moved LostChannel e = refl
-quiet-moved NoCredit e = refl
-quiet-moved LostInput e = refl
-quiet-moved LostSwitch e = refl

@@ -5,8 +5,8 @@ use Rattle.std.proofs.lemmas.Bool.{and_parts, cases_lt}
 use Rattle.std.proofs.lemmas.Nat.{div-add-mod'}
 use Rattle.std.proofs.lemmas.List.{get_or_past}
 use Rattle.noc_topo.specs.Shape.{ports}
-use Rattle.noc_topo.specs.Words.{is_some_of, tabulate}
-use Rattle.noc_topo.proofs.WordLemmas.{get_or-tabulate, length-tabulate}
+use Rattle.noc_topo.specs.Lists.{is_some_of, tabulate}
+use Rattle.noc_topo.proofs.ListLemmas.{get_or-tabulate, length-tabulate}
 use Rattle.noc_packet.specs.Set.{has_bit}
 use Rattle.noc_vc.specs.Input.{is_active}
 use Rattle.noc_vc.specs.declared.input.InputState.TheVariants.{Active}
@@ -20,13 +20,14 @@ use Rattle.noc_alloc.proofs.WordLemmas.{is_some_of-true}
 use Rattle.noc_router.specs.declared.router.Router.TheInside.{Inside}
 use Rattle.noc_router.specs.Inside.{IsRouter, view_of}
 use Rattle.noc_router.specs.Members.{is_within}
-use Rattle.noc_router.specs.Standing.{AreReady, picked_vc, picked_way, way_in, way_of}
-use Rattle.noc_router.specs.Verdict.{ready_of}
-use Rattle.noc_router.specs.View.{View, size_of, view_input, view_stands}
+use Rattle.noc_router.specs.Ready.{AreReady, picked_vc, picked_way, way_of}
+use Rattle.noc_view.specs.States.{way_in}
+use Rattle.noc_view.specs.Verdict.{ready_of}
+use Rattle.noc_view.specs.View.{View, size_of, view_input, view_stands}
 use Rattle.noc_router.specs.Asked.{RequestLists, lists_in}
 use Rattle.noc_router.specs.declared.requests.Requests.{Requests}
 use Rattle.noc_router.proofs.FilledLemmas.{IsFilledTo, filled_to-next, filled_to-skip}
-use Rattle.noc_router.proofs.StandLemmas.{port-below}
+use Rattle.noc_router.proofs.AskedLemmas.{port-below}
 use Rattle.noc_router.proofs.WayLemmas.{ready-members, ready-way}
 
 -- ---- one pick

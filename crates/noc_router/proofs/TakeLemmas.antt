@@ -1,6 +1,6 @@
 -- A beat is taken.
-use Rattle.std.proofs.Common.{◌≡◌, ℕ, ◌+◌, ◌*◌, Bool, true, false, Some, suc, ◌<◌, List, [], ◌∷◌, ◌++◌, length, take, refl, ap, sym, ◌∙◌, arith, slice_set}
-use Rattle.std.specs.Prelude.{◌&&◌, nat_lt, slice_index_or, if◌then◌else◌}
+use Rattle.std.proofs.Common.{◌≡◌, ℕ, ◌+◌, ◌*◌, true, false, Some, suc, ◌<◌, List, [], ◌∷◌, ◌++◌, length, take, ap, sym, ◌∙◌, arith, slice_set}
+use Rattle.std.specs.Prelude.{nat_lt, slice_index_or, if◌then◌else◌}
 use Rattle.std.proofs.lemmas.List.{take_more, length-take}
 use Rattle.noc_packet.specs.declared.packet.Flit.{Flit}
 use Rattle.noc_packet.specs.declared.packet.Beat.{Beat}
@@ -12,56 +12,31 @@ use Rattle.noc_router.specs.declared.router.Router.TheInside.{Inside}
 use Rattle.noc_router.specs.Inside.{view_of}
 use Rattle.noc_router.specs.Parts.{ChannelStates, states_after_credit, states_after_land, states_in}
 use Rattle.noc_router.specs.Sound.{nth_output}
-use Rattle.noc_router.specs.View.{View, has_link, view_buffer, view_input, view_output, saturating_next, with_flit, with_landed, with_misfit, with_credit, view_after_take, view_after_takes_from}
-
--- whether a flit lands
-abbrev pub lands : Routes → ℕ → ℕ → Flit → View → Bool
-lands relation port vc f v =
-    let i = port * v.site.vcs + vc in
-    has_link v.site port && nat_lt vc v.site.vcs && fits relation v.site.node port vc v.site.places (view_buffer v i) (view_input v i) f
-
-three : (a b d : Bool) → a ≡ true → b ≡ true → d ≡ true → (a && b && d) ≡ true
-three true true true e f g = refl
-three true true false e f g = g
-three true false d e f g = f
-three false b d e f g = e
-
-not_first : (a b d : Bool) → a ≡ false → (a && b && d) ≡ false
-not_first false b d e = refl
-not_first true b d e = absurd (cc)
-
-pub not_second : (a b d : Bool) → b ≡ false → (a && b && d) ≡ false
-not_second false b d e = refl
-not_second true false d e = refl
-not_second true true d e = absurd (cc)
-
-not_third : (a b d : Bool) → d ≡ false → (a && b && d) ≡ false
-not_third false b d e = refl
-not_third true false d e = refl
-not_third true true d e = e
+use Rattle.noc_view.specs.View.{View, has_link, view_buffer, view_input, view_output, saturating_next, with_flit, with_landed, with_misfit, with_credit, view_after_take, view_after_takes_from}
+use Rattle.noc_view.proofs.LandLemmas.{lands, three, not_first, not_second, not_third}
 
 pub with_flit-lands : (relation : Routes) (port vc : ℕ) (f : Flit) (v : View) → has_link v.site port ≡ true → nat_lt vc v.site.vcs ≡ true
-    → fits relation v.site.node port vc v.site.places (view_buffer v (port * v.site.vcs + vc)) (view_input v (port * v.site.vcs + vc)) f ≡ true
+    → fits relation v.site.node port vc v.site.depth (view_buffer v (port * v.site.vcs + vc)) (view_input v (port * v.site.vcs + vc)) f ≡ true
     → with_flit relation port (Some (vc, f)) v ≡ with_landed (port * v.site.vcs + vc) f v
 with_flit-lands relation port vc f v link small fit =
     ap (λ b. if b then with_landed (port * v.site.vcs + vc) f v else with_misfit v)
-    (three (has_link v.site port) (nat_lt vc v.site.vcs) (fits relation v.site.node port vc v.site.places (view_buffer v (port * v.site.vcs + vc)) (view_input v (port * v.site.vcs + vc)) f) link small fit)
+    (three (has_link v.site port) (nat_lt vc v.site.vcs) (fits relation v.site.node port vc v.site.depth (view_buffer v (port * v.site.vcs + vc)) (view_input v (port * v.site.vcs + vc)) f) link small fit)
 
 pub with_flit-turned : (relation : Routes) (port vc : ℕ) (f : Flit) (v : View) → lands relation port vc f v ≡ false → with_flit relation port (Some (vc, f)) v ≡ with_misfit v
 with_flit-turned relation port vc f v off = ap (λ b. if b then with_landed (port * v.site.vcs + vc) f v else with_misfit v) off
 
 pub no_link : (relation : Routes) (port vc : ℕ) (f : Flit) (v : View) → has_link v.site port ≡ false → lands relation port vc f v ≡ false
 no_link relation port vc f v e =
-    not_first (has_link v.site port) (nat_lt vc v.site.vcs) (fits relation v.site.node port vc v.site.places (view_buffer v (port * v.site.vcs + vc)) (view_input v (port * v.site.vcs + vc)) f) e
+    not_first (has_link v.site port) (nat_lt vc v.site.vcs) (fits relation v.site.node port vc v.site.depth (view_buffer v (port * v.site.vcs + vc)) (view_input v (port * v.site.vcs + vc)) f) e
 
 pub no_channel : (relation : Routes) (port vc : ℕ) (f : Flit) (v : View) → nat_lt vc v.site.vcs ≡ false → lands relation port vc f v ≡ false
 no_channel relation port vc f v e =
-    not_second (has_link v.site port) (nat_lt vc v.site.vcs) (fits relation v.site.node port vc v.site.places (view_buffer v (port * v.site.vcs + vc)) (view_input v (port * v.site.vcs + vc)) f) e
+    not_second (has_link v.site port) (nat_lt vc v.site.vcs) (fits relation v.site.node port vc v.site.depth (view_buffer v (port * v.site.vcs + vc)) (view_input v (port * v.site.vcs + vc)) f) e
 
 pub no_fit : (relation : Routes) (port vc : ℕ) (f : Flit) (v : View)
-    → fits relation v.site.node port vc v.site.places (view_buffer v (port * v.site.vcs + vc)) (view_input v (port * v.site.vcs + vc)) f ≡ false → lands relation port vc f v ≡ false
+    → fits relation v.site.node port vc v.site.depth (view_buffer v (port * v.site.vcs + vc)) (view_input v (port * v.site.vcs + vc)) f ≡ false → lands relation port vc f v ≡ false
 no_fit relation port vc f v e =
-    not_third (has_link v.site port) (nat_lt vc v.site.vcs) (fits relation v.site.node port vc v.site.places (view_buffer v (port * v.site.vcs + vc)) (view_input v (port * v.site.vcs + vc)) f) e
+    not_third (has_link v.site port) (nat_lt vc v.site.vcs) (fits relation v.site.node port vc v.site.depth (view_buffer v (port * v.site.vcs + vc)) (view_input v (port * v.site.vcs + vc)) f) e
 
 -- the view once a flit has landed
 pub landed-view : (r : Inside) (channels : Channels) (i : ℕ) (f : Flit) → states_in channels ≡ states_after_land i f (states_in r.channels) → view_of (record r { channels = channels; had_event = true }) ≡ with_landed i f (view_of r)

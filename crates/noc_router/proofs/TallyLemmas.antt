@@ -1,30 +1,31 @@
 -- What a router counts of its input channels.
-use Rattle.std.proofs.Common.{◌≡◌, ℕ, ◌+◌, ◌<◌, ◌≤◌, Bool, true, false, List, [], ◌∷◌, ◌++◌, length, drop, take, get_or, set, refl, ap, sym, ◌∙◌, arith, inl, inr, replicate, Option, None}
+use Rattle.std.proofs.Common.{◌≡◌, ℕ, ◌+◌, ◌<◌, ◌≤◌, Bool, true, false, List, ◌++◌, length, drop, take, get_or, set, refl, ap, sym, ◌∙◌, arith, inl, inr, replicate, Option, None}
 use Rattle.std.specs.Prelude.{◌/◌, ◌%◌, ◌&&◌, ◌||◌, ◌⊎◌, option_map, not, nat_eq, if◌then◌else◌}
 use Rattle.std.proofs.Math.Seq.{take-append_seam}
 use Rattle.std.proofs.lemmas.Bool.{cases_eq, cases_lt, eq-eqb, ne_eqb, false≢true, and_parts}
-use Rattle.std.proofs.lemmas.List.{get_or-set_same, get_or-set_other, get_or-replicate, length-replicate, get_or-map, get_or_past}
+use Rattle.std.proofs.lemmas.List.{get_or-set_same, get_or-set_other, get_or-replicate, length-replicate, get_or_past}
 use Rattle.noc_packet.specs.Set.{has_bit}
 use Rattle.noc_packet.specs.declared.packet.Flit.{Flit}
-use Rattle.noc_topo.specs.Words.{tabulate}
-use Rattle.noc_topo.proofs.WordLemmas.{get_or-tabulate, length-tabulate}
+use Rattle.noc_topo.specs.Lists.{tabulate, one_if}
+use Rattle.noc_topo.proofs.ListLemmas.{get_or-tabulate, length-tabulate}
 use Rattle.noc_vc.specs.Input.{Input, is_empty, is_idle_phase}
 use Rattle.noc_vc.specs.declared.input.InputState.{InputState}
 use Rattle.noc_vc.specs.declared.input.InputState.TheVariants.{Idle, Waiting, Active}
 use Rattle.noc_router.specs.declared.plan.Plan.TheInside.{Inside}
 use Rattle.noc_router.specs.Planned.{IsPlan, plan_contents_in}
-use Rattle.noc_router.specs.VerdictSets.{sets_with, verdict_by, first_verdict_in}
-use Rattle.noc_router.specs.declared.verdict.Verdict.{Verdict}
-use Rattle.noc_router.specs.declared.verdict.Verdict.TheVariants.{Empty, Routed, Granted, Moved, NoFlit, NoIdleChannel, LostChannel, NoCredit, LostInput, LostSwitch}
-use Rattle.noc_router.specs.declared.verdict.Finding.{Finding}
-use Rattle.noc_counts.specs.Counts.{one_at, one_if, with_sets}
-use Rattle.noc_alloc.specs.Places.{AreBelow}
+use Rattle.noc_view.specs.VerdictSets.{sets_with, verdict_by}
+use Rattle.noc_view.specs.declared.verdict.Verdict.{Verdict}
+use Rattle.noc_view.specs.declared.verdict.Verdict.TheVariants.{Empty, Routed, Granted, Moved, NoFlit, NoIdleChannel, LostChannel, NoCredit, LostInput, LostSwitch}
+use Rattle.noc_view.specs.declared.finding.Finding.{Finding}
+use Rattle.noc_counts.specs.Counts.{with_sets}
+use Rattle.noc_alloc.specs.Sparse.{AreBelow}
 use Rattle.noc_router.specs.Settled.{finding_by, planned_verdict}
-use Rattle.noc_router.specs.Sound.{is_occupied, finding_with, nth_input, out_in}
-use Rattle.noc_router.specs.Tally.{AreCounted, AreFindings, finding_at, is_empty_verdict}
-use Rattle.noc_router.specs.Found.{empty_finding}
-use Rattle.noc_router.specs.Verdict.{column}
-use Rattle.noc_router.specs.View.{Decisions, PlanContents, decided_verdict}
+use Rattle.noc_view.specs.States.{is_occupied}
+use Rattle.noc_router.specs.Sound.{finding_with, nth_input, out_in}
+use Rattle.noc_router.specs.Tally.{AreCounted, AreFindings, is_empty_verdict}
+use Rattle.noc_view.specs.Found.{finding_at, empty_finding}
+use Rattle.noc_view.specs.Verdict.{column}
+use Rattle.noc_view.specs.View.{PlanContents}
 use Rattle.noc_router.proofs.CountLemmas.{sets-risen}
 use Rattle.noc_router.proofs.WaitLemmas.{others_with}
 
@@ -105,44 +106,45 @@ empty_is NoCredit e = absurd (false≢true (sym e))
 empty_is LostInput e = absurd (false≢true (sym e))
 empty_is LostSwitch e = absurd (false≢true (sym e))
 
--- what is found of the n channels: the verdict of each that is left is that of the first of these sets, and of each other one its verdict is noted
-pub record IsNoting (note : ℕ → Verdict → Finding) (verdict : ℕ → Verdict) (n : ℕ) (sets : List (ℕ × Verdict)) (rest : ℕ) (now : List Finding) : Type 0 where
-  pub left : (k : ℕ) → has_bit rest k ≡ true → verdict k ≡ first_verdict_in sets k
+-- what is found of the n channels: none that is left is in the sets before this one, and of each other one its verdict is noted
+pub record IsNoting (note : ℕ → Verdict → Finding) (verdict : ℕ → Verdict) (n : ℕ) (sets : List ℕ) (other rest : ℕ) (now : List Finding) : Type 0 where
+  pub left : (k : ℕ) → has_bit rest k ≡ true → (j : ℕ) → j < other → has_bit (get_or sets j 0) k ≡ false
   pub each : (k : ℕ) → k < n → has_bit rest k ≡ false → finding_at now k ≡ note k (verdict k)
 
--- one set less
-pub noting-more : (note : ℕ → Verdict → Finding) (verdict : ℕ → Verdict) (n bits : ℕ) (v : Verdict) (sets : List (ℕ × Verdict)) (before : ℕ) (was : List Finding) (rest : ℕ) (now : List Finding)
-    → IsNoting note verdict n ((bits, v) ∷ sets) before was → ((k : ℕ) → has_bit rest k ≡ (not (has_bit bits k) && has_bit before k))
+-- one set more
+pub noting-more : (note : ℕ → Verdict → Finding) (verdict : ℕ → Verdict) (n : ℕ) (sets : List ℕ) (other bits : ℕ) (v : Verdict) (before : ℕ) (was : List Finding) (rest : ℕ) (now : List Finding)
+    → bits ≡ get_or sets other 0 → IsNoting note verdict n sets other before was → ((k : ℕ) → k < n → has_bit bits k ≡ true → verdict k ≡ v)
+    → ((k : ℕ) → has_bit rest k ≡ (not (has_bit bits k) && has_bit before k))
     → ((k : ℕ) → k < n → finding_at now k ≡ (if has_bit before k && has_bit bits k then note k v else finding_at was k))
-    → IsNoting note verdict n sets rest now
-noting-more note verdict n bits v sets before was rest now noting members noted = record {
-  left = λ k e. first k (has_bit bits k) (sym (members k) ∙ e) (noting.left k (and_parts (not (has_bit bits k)) (has_bit before k) (sym (members k) ∙ e)).1);
+    → IsNoting note verdict n sets (other + 1) rest now
+noting-more note verdict n sets other bits v before was rest now same noting has members noted = record {
+  left = λ k e. let in_both = and_parts (not (has_bit bits k)) (has_bit before k) (sym (members k) ∙ e) in
+      λ j l. elim (cases_eq j other) [
+        | inl at ↦ ap (λ i. has_bit (get_or sets i 0) k) at ∙ ap (λ s. has_bit s k) (sym same) ∙ absent (has_bit bits k) in_both.0
+        | inr before_it ↦ noting.left k in_both.1 j (omega (arith, l, before_it))
+      ];
   each = λ k l off. noted k l ∙ cases k l (has_bit before k) (has_bit bits k) refl refl (sym (members k) ∙ off);
 }
   where
-    first : (k : ℕ) (b : Bool) → (not b && has_bit before k) ≡ true → verdict k ≡ (if b then v else first_verdict_in sets k) → verdict k ≡ first_verdict_in sets k
-    first k true e h = absurd (false≢true e)
-    first k false e h = h
+    absent : (b : Bool) → not b ≡ true → b ≡ false
+    absent true e = sym e
+    absent false e = refl
 
     cases : (k : ℕ) → k < n → (a b : Bool) → has_bit before k ≡ a → has_bit bits k ≡ b → (not b && a) ≡ false → (if a && b then note k v else finding_at was k) ≡ note k (verdict k)
-    cases k l true true ea eb off = ap (note k) (sym (noting.left k ea ∙ ap (λ c. if c then v else first_verdict_in sets k) eb))
+    cases k l true true ea eb off = ap (note k) (sym (has k l eb))
     cases k l true false ea eb off = absurd (false≢true (sym off))
     cases k l false b ea eb off = noting.each k l ea
 
 -- no set is left, and those that are left are Empty
-pub noting-last : (note : ℕ → Verdict → Finding) (verdict : ℕ → Verdict) (n rest : ℕ) (was now : List Finding) → IsNoting note verdict n [] rest was
+pub noting-last : (note : ℕ → Verdict → Finding) (verdict : ℕ → Verdict) (n : ℕ) (sets : List ℕ) (rest : ℕ) (was now : List Finding) → IsNoting note verdict n sets 9 rest was
+    → ((k : ℕ) → k < n → ((j : ℕ) → j < 9 → has_bit (get_or sets j 0) k ≡ false) → verdict k ≡ Empty)
     → ((k : ℕ) → k < n → finding_at now k ≡ (if has_bit rest k && has_bit rest k then note k Empty else finding_at was k))
     → (k : ℕ) → k < n → finding_at now k ≡ note k (verdict k)
-noting-last note verdict n rest was now noting noted k l = noted k l ∙ at (has_bit rest k) refl
+noting-last note verdict n sets rest was now noting empty noted k l = noted k l ∙ at (has_bit rest k) refl
   where
     at : (b : Bool) → has_bit rest k ≡ b → (if b && b then note k Empty else finding_at was k) ≡ note k (verdict k)
-    at true e = ap (note k) (sym (noting.left k e))
+    at true e = ap (note k) (sym (empty k l (noting.left k e)))
     at false e = noting.each k l e
-
--- ---- the verdicts of a plan
--- the verdict of a decision is that of its finding
-pub verdict-at : (d : Decisions) (i : ℕ) → i < length d.findings → decided_verdict d i ≡ (finding_at d.findings i).verdict
-verdict-at d i l = get_or-map (λ (finding : Finding). finding.verdict) d.findings i empty_finding Empty l
 
 -- the verdict on a channel, by the sets of the plan
 pub plan_verdict : (p : Inside) (q : PlanContents) (n k : ℕ) → plan_contents_in p ≡ q → length q.verdicts ≡ n → k < n → planned_verdict q k ≡ verdict_by p.verdicts k
@@ -158,16 +160,16 @@ plan_apart p q n k e plan long l =
 
 -- by sets in which each channel is in that of its verdict
 pub plan-each : (p : Inside) (q : PlanContents) (n : ℕ) (sets : List ℕ) → plan_contents_in p ≡ q → IsPlan p → length q.verdicts ≡ n
-    → ((j k : ℕ) → sets_with p.verdicts k ≤ 1 → j < 9 → one_at sets j k ≡ one_if (nat_eq (column (verdict_by p.verdicts k)) (j + 1)))
-    → (j k : ℕ) → k < n → j < 9 → one_at sets j k ≡ one_if (nat_eq (column (planned_verdict q k)) (j + 1))
+    → ((j k : ℕ) → sets_with p.verdicts k ≤ 1 → j < 9 → has_bit (get_or sets j 0) k ≡ nat_eq (column (verdict_by p.verdicts k)) (j + 1))
+    → (j k : ℕ) → k < n → j < 9 → has_bit (get_or sets j 0) k ≡ nat_eq (column (planned_verdict q k)) (j + 1)
 plan-each p q n sets e plan long each j k l few =
-    each j k (plan_apart p q n k e plan long l) few ∙ ap (λ (v : Verdict). one_if (nat_eq (column v) (j + 1))) (sym (plan_verdict p q n k e long l))
+    each j k (plan_apart p q n k e plan long l) few ∙ ap (λ (v : Verdict). nat_eq (column v) (j + 1)) (sym (plan_verdict p q n k e long l))
 
 -- the nine counts after so many cycles with this plan
 pub plan-risen : (m : ℕ) (p : Inside) (q : PlanContents) (sets : List ℕ) (cycles : ℕ) (others : List (List ℕ)) → plan_contents_in p ≡ q → IsPlan p → AreCounted cycles others → length q.verdicts ≡ length others
-    → ((j k : ℕ) → sets_with p.verdicts k ≤ 1 → j < 9 → one_at sets j k ≡ one_if (nat_eq (column (verdict_by p.verdicts k)) (j + 1)))
+    → ((j k : ℕ) → sets_with p.verdicts k ≤ 1 → j < 9 → has_bit (get_or sets j 0) k ≡ nat_eq (column (verdict_by p.verdicts k)) (j + 1))
     → with_sets m sets others ≡ others_with m (planned_verdict q) others
-plan-risen m p q sets cycles others e plan counted long each = sets-risen m (λ k. column (planned_verdict q k)) sets others counted.nine (λ j k l few. plan-each p q (length others) sets e plan long each j k l few)
+plan-risen m p q sets cycles others e plan counted long each = sets-risen m (λ k. column (planned_verdict q k)) sets others counted.nine (λ j k l few. ap one_if (plan-each p q (length others) sets e plan long each j k l few))
 
 -- what is found of a channel without a packet that asks for nothing
 pub vacant-found : (vcs : ℕ) (input : Input) (flits : List Flit) (ask : Option ℕ) → is_occupied input flits ≡ false → input.packet ≡ None → finding_with vcs input Empty ask ≡ empty_finding

@@ -4,15 +4,16 @@ use Rattle.std.specs.Prelude.{◌⊎◌, min, nat_lt, if◌then◌else◌}
 use Rattle.std.proofs.lemmas.Bool.{cases_lt, ltb-true, ltb-false}
 use Rattle.std.proofs.lemmas.List.{length-set, get_or-set_same, get_or-replicate, length-replicate, get_or-map, length-map, set-get_or, set-set, set_past}
 use Rattle.std.proofs.lemmas.List.Sums.{sum_by-set}
-use Rattle.noc_router.specs.declared.verdict.Verdict.{Verdict}
-use Rattle.noc_router.specs.declared.verdict.Finding.{Finding}
-use Rattle.noc_router.specs.Still.{counted_times}
+use Rattle.noc_view.specs.declared.verdict.Verdict.{Verdict}
+use Rattle.noc_view.specs.declared.finding.Finding.{Finding}
+use Rattle.noc_view.specs.Still.{counted_times}
 use Rattle.noc_router.specs.Tally.{AreCounted, IsTally, counts_in}
-use Rattle.noc_router.specs.Verdict.{column}
-use Rattle.noc_router.specs.View.{counts_after, saturating_next}
-use Rattle.noc_topo.specs.Words.{map_indexed}
-use Rattle.noc_topo.proofs.WordLemmas.{get_or-map_indexed, length-map_indexed, map_indexed-from_each}
-use Rattle.noc_router.proofs.CountLemmas.{column-small, counted-is, risen_at, risen_by}
+use Rattle.noc_view.specs.Verdict.{column}
+use Rattle.noc_view.specs.View.{counts_after, saturating_next}
+use Rattle.noc_topo.specs.Lists.{map_indexed}
+use Rattle.noc_topo.proofs.ListLemmas.{get_or-map_indexed, length-map_indexed, map_indexed-from_each}
+use Rattle.noc_view.proofs.ColumnLemmas.{column-small}
+use Rattle.noc_router.proofs.CountLemmas.{counted-is, risen_at, risen_by}
 
 -- ---- the nine counts behind Empty
 risen_by-none : (n : ℕ) (xs : List ℕ) → risen_by 0 n xs ≡ xs

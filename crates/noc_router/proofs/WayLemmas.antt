@@ -3,17 +3,17 @@ use Rattle.std.proofs.Common.{◌≡◌, ℕ, ◌/◌, ◌<◌, ◌≤◌, Bool,
 use Rattle.std.specs.Prelude.{◌&&◌, ◌⊎◌, is_some, not}
 use Rattle.std.proofs.lemmas.Bool.{cases_lt, false≢true}
 use Rattle.std.proofs.lemmas.List.{get_or_past}
-use Rattle.noc_topo.proofs.WordLemmas.{get_or-tabulate, length-tabulate}
+use Rattle.noc_topo.proofs.ListLemmas.{get_or-tabulate, length-tabulate}
 use Rattle.noc_packet.specs.Set.{has_bit}
 use Rattle.noc_vc.specs.Input.{is_active, is_empty}
 use Rattle.noc_vc.specs.Output.{has_credit}
 use Rattle.noc_vc.specs.declared.input.InputState.{InputState}
 use Rattle.noc_vc.specs.declared.input.InputState.TheVariants.{Idle, Waiting, Active}
-use Rattle.noc_router.specs.Sound.{is_supplied}
-use Rattle.noc_router.specs.Standing.{AreReady, way_in, way_of}
-use Rattle.noc_router.specs.Verdict.{Holds, ready_of, ready_port}
-use Rattle.noc_router.specs.View.{View, claim_in, size_of, view_buffer, view_claim, view_input, view_output, view_stands}
-use Rattle.noc_router.proofs.StandLemmas.{ready_of-stands}
+use Rattle.noc_view.specs.States.{is_supplied, way_in}
+use Rattle.noc_router.specs.Ready.{AreReady, way_of}
+use Rattle.noc_view.specs.Verdict.{Holds, ready_of, ready_port}
+use Rattle.noc_view.specs.View.{View, claim_in, size_of, view_buffer, view_claim, view_input, view_output, view_stands}
+use Rattle.noc_view.proofs.StandLemmas.{ready_of-stands}
 
 -- the output port that a channel is ready for
 ready_here : (v : View) (i : ℕ) → i < size_of v.site → get_or (ready_of v.site.vcs (view_stands v)) i None ≡ ready_port v.site.vcs (view_claim v i) (not (is_empty (view_buffer v i)))

@@ -6,7 +6,7 @@ use Rattle.noc_vc.specs.declared.input.InputState.TheVariants.{Active}
 use Rattle.noc_router.specs.declared.router.Router.TheInside.{Inside}
 use Rattle.noc_router.specs.Inside.{IsRouter, view_of}
 use Rattle.noc_router.specs.Members.{is_within}
-use Rattle.noc_router.specs.View.{View, size_of, view_input}
+use Rattle.noc_view.specs.View.{View, size_of, view_input}
 use Rattle.noc_router.proofs.SettleLemmas.{IsWhole}
 
 -- ---- a router is whole

@@ -1,10 +1,10 @@
 -- The requests of one router's input channels, and what is decided on them.
 use Rattle.std.specs.Prelude.{◌≡◌, ℕ, ◌*◌, ◌<◌, ◌≤◌, List, Option, None, replicate}
 use Rattle.noc_packet.specs.declared.limits.TheConstants.{MAX_CHANNELS, MAX_PORTS}
-use Rattle.noc_topo.specs.Words.{tabulate}
+use Rattle.noc_topo.specs.Lists.{tabulate}
 use Rattle.noc_alloc.specs.Allocation.{grant_of}
-use Rattle.noc_router.specs.Places.{sets_of}
-use Rattle.noc_router.specs.Verdict.{ArbiterStates, Round, arbiters_after}
+use Rattle.noc_router.specs.SparseSets.{sets_of}
+use Rattle.noc_view.specs.Verdict.{ArbiterStates, Round, arbiters_after}
 use Rattle.noc_alloc.specs.Arbiter.{pointers_of}
 use Rattle.noc_router.specs.declared.arbiters.Arbiters.{Arbiters}
 use Rattle.noc_router.specs.declared.requests.Requests.{Requests}
@@ -21,13 +21,13 @@ abbrev pub arbiter_states_in : Arbiters → ArbiterStates
 arbiter_states_in a = record { channels = a.channels.items; inputs = a.inputs.items; outputs = a.outputs.items }
 
 -- the arbiters of a router with so many ports and virtual channels
-pub record Turns : Type 0 where
+pub record SizedArbiters : Type 0 where
   pub ports : ℕ
   pub vcs : ℕ
   pub states : ArbiterStates
 
-abbrev pub turns_in : Arbiters → Turns
-turns_in a = record { ports = a.ports; vcs = a.vcs; states = arbiter_states_in a }
+abbrev pub sized_arbiters_in : Arbiters → SizedArbiters
+sized_arbiters_in a = record { ports = a.ports; vcs = a.vcs; states = arbiter_states_in a }
 
 -- what the arbiters have decided
 abbrev pub round_in : Requests → Round
@@ -84,7 +84,7 @@ pub record AreOfOneSize (a : Arbiters) (r : Requests) : Type 0 where
 
 -- the pointers of the output channels go on past the input channels that they were granted to
 abbrev pub channels_past : Round → ArbiterStates → ArbiterStates
-channels_past round turns = record turns { channels = (arbiters_after round turns).channels }
+channels_past round arbiters = record arbiters { channels = (arbiters_after round arbiters).channels }
 
 -- a round that nobody has asked for, with so many ports and output channels
 abbrev pub no_round : ℕ → ℕ → Round

@@ -1,8 +1,8 @@
 -- The outcome of a router with so many ports and virtual channels.
 use Rattle.std.specs.Prelude.{◌≡◌, ℕ, ◌*◌, None, length, replicate}
 use Rattle.noc_router.specs.Asked.{no_round}
-use Rattle.noc_router.specs.View.{PlanContents}
-use Rattle.noc_router.specs.declared.verdict.Verdict.TheVariants.{Empty}
+use Rattle.noc_view.specs.View.{PlanContents}
+use Rattle.noc_view.specs.declared.verdict.Verdict.TheVariants.{Empty}
 
 -- an entry for each output channel, port and input channel
 pub record IsDecidedFor (ports vcs : ℕ) (p : PlanContents) : Type 0 where

@@ -7,10 +7,10 @@ use Rattle.noc_packet.specs.declared.limits.TheConstants.{MAX_CHANNELS}
 use Rattle.noc_topo.specs.Shape.{IsGrid, nodes, ports, local_port, neighbour}
 use Rattle.noc_router.specs.declared.router.Router.TheInside.{Inside}
 use Rattle.noc_router.specs.declared.source.Source.{Source}
-use Rattle.noc_alloc.specs.Places.{AreBelow}
+use Rattle.noc_alloc.specs.Sparse.{AreBelow}
 use Rattle.noc_router.specs.Queue.{queue_from, sending_from}
 use Rattle.noc_router.specs.Sound.{is_awaiting}
-use Rattle.noc_router.specs.View.{View}
+use Rattle.noc_view.specs.View.{View}
 
 -- the packets with a flit still at the source
 abbrev pub queue_of : Source → List (ℕ × Packet)
@@ -22,7 +22,7 @@ sending_of source = sending_from source.vc source.index
 
 abbrev pub view_of : Inside → View
 view_of r = record {
-  site = record { grid = r.shape; node = r.node; vcs = r.vcs; places = r.places };
+  site = record { grid = r.shape; node = r.node; vcs = r.vcs; depth = r.depth };
   buffers = r.channels.bank.rings;
   inputs = r.channels.inputs.items;
   outputs = r.channels.outputs.items;
@@ -47,8 +47,8 @@ pub record IsRouter (r : Inside) : Type 0 where
   pub some_vc : 0 < r.vcs
   pub few_vcs : r.vcs ≤ MAX_CHANNELS
   pub channels : r.channels.size ≡ r.ports * r.vcs
-  pub places : r.channels.bank.capacity ≡ r.places
-  pub leads : (port : ℕ) → port < 6 → slice_index_or r.leads.places port None ≡ neighbour r.shape r.node port
+  pub depth : r.channels.bank.capacity ≡ r.depth
+  pub leads : (port : ℕ) → port < 6 → slice_index_or r.leads.neighbours port None ≡ neighbour r.shape r.node port
   pub loaded : AreBelow (local_port r.shape) r.links.loaded
   pub sending : ForSome r.source.vc (λ vc. vc < r.vcs)
   -- the local channel that the source sends on awaits the next flit

@@ -1,12 +1,8 @@
 -- The beats that are still to be put on the links of a router.
-use Rattle.std.specs.Prelude.{◌≡◌, ℕ, ◌<◌, Bool, true, ◌&&◌, not, List, length, is_none, slice_index_or}
+use Rattle.std.specs.Prelude.{◌≡◌, ℕ, ◌<◌, true, not, List, length, slice_index_or}
 use Rattle.noc_packet.specs.Set.{has_bit}
 use Rattle.noc_packet.specs.declared.packet.Beat.{Beat}
-use Rattle.noc_router.specs.View.{idle_beat}
-
--- whether a beat carries nothing
-abbrev pub is_idle_beat : Beat → Bool
-is_idle_beat beat = is_none beat.flit && is_none beat.credit
+use Rattle.noc_view.specs.View.{idle_beat, is_idle_beat}
 
 -- there are n beats, and the set has just the ports whose beat carries something
 pub record AreLoaded (n : ℕ) (beats : List Beat) (set : ℕ) : Type 0 where

@@ -19,11 +19,11 @@ states_in c = record { size = c.size; bank = c.bank; inputs = c.inputs.items; ou
 
 -- empty channels: the first `links` output channels go on links, the others are ejection channels
 abbrev pub opening_states : ℕ → ℕ → ℕ → ChannelStates
-opening_states size links places = record {
+opening_states size links depth = record {
   size = size;
-  bank = empty_buffers size places;
+  bank = empty_buffers size depth;
   inputs = replicate size idle_input;
-  outputs = replicate links (link_output places) ++ replicate (size - links) ejection_output;
+  outputs = replicate links (link_output depth) ++ replicate (size - links) ejection_output;
 }
 
 -- input channel i with another state

@@ -1,6 +1,6 @@
 -- How the verdict of one input channel takes effect, and all of them.
 use Rattle.std.specs.Prelude.{◌≡◌, ℕ, ◌/◌, ◌%◌, ◌<◌, true, List, drop, Option, Some, None, IfSome, option_map, length, nat_lt, unwrap_or, slice_index, slice_index_or, slice_set, if◌then◌else◌}
-use Rattle.noc_topo.specs.Words.{tabulate, map_indexed}
+use Rattle.noc_topo.specs.Lists.{tabulate, map_indexed}
 use Rattle.noc_topo.specs.Shape.{local_port}
 use Rattle.noc_packet.specs.declared.packet.Flit.{Flit}
 use Rattle.noc_packet.specs.declared.packet.Beat.{Beat}
@@ -11,11 +11,11 @@ use Rattle.noc_vc.specs.Output.{is_free, has_credit, output_after_hold, output_a
 use Rattle.noc_vc.specs.declared.input.InputState.{InputState}
 use Rattle.noc_vc.specs.declared.input.InputState.TheVariants.{Idle, Waiting, Active}
 use Rattle.noc_router.specs.Sound.{nth_input, finding_with}
-use Rattle.noc_router.specs.declared.verdict.Verdict.{Verdict}
-use Rattle.noc_router.specs.declared.verdict.Verdict.TheVariants.{Empty, Routed, Granted, Moved}
-use Rattle.noc_router.specs.declared.verdict.Finding.{Finding}
-use Rattle.noc_router.specs.Verdict.{ArbiterStates, out_of}
-use Rattle.noc_router.specs.View.{View, Decisions, PlanContents, IsRelationOf, plan_contents, port_and_vc, view_claim, idle_beat, idle_beats, counts_after, size_of, view_buffer, view_input, view_output, first_flit, flit_out, tail_packet, with_arrival, decided_verdict, buffer_after, input_after, output_after, has_event, beat_out}
+use Rattle.noc_view.specs.declared.verdict.Verdict.{Verdict}
+use Rattle.noc_view.specs.declared.verdict.Verdict.TheVariants.{Empty, Routed, Granted, Moved}
+use Rattle.noc_view.specs.declared.finding.Finding.{Finding}
+use Rattle.noc_view.specs.Verdict.{ArbiterStates, out_of}
+use Rattle.noc_view.specs.View.{View, Decisions, PlanContents, IsRelationOf, plan_contents, port_and_vc, view_claim, idle_beat, idle_beats, counts_after, size_of, view_buffer, view_input, view_output, first_flit, flit_out, tail_packet, with_arrival, decided_verdict, buffer_after, input_after, output_after, has_event, beat_out}
 
 -- the outcome of this very view
 pub record AreContentsFor (p : PlanContents) (v : View) : Type 0 where
@@ -131,11 +131,11 @@ CanTakeEffect p v i _ = Unit {0}
 -- ---- the pointers of the switch
 -- an arbiter of the list goes on past a winner
 abbrev pub arbiters_past : ℕ → ℕ → List RoundRobin → List RoundRobin
-arbiters_past k winner turns = slice_set turns k (arbiter_after (arbiter_at turns k) (Some winner))
+arbiters_past k winner arbiters = slice_set arbiters k (arbiter_after (arbiter_at arbiters k) (Some winner))
 
 -- those of an input port and an output port go on past the virtual channel and the input port that won
 abbrev pub states_past : ℕ → ℕ → ℕ → ArbiterStates → ArbiterStates
-states_past port vc output turns = record turns { inputs = arbiters_past port vc turns.inputs; outputs = arbiters_past output port turns.outputs }
+states_past port vc output arbiters = record arbiters { inputs = arbiters_past port vc arbiters.inputs; outputs = arbiters_past output port arbiters.outputs }
 
 -- those of the ports of input channel i and output channel o go on past this input channel, which has sent to it
 abbrev pub switch_past : ℕ → ℕ → View → View

@@ -1,28 +1,26 @@
 -- What is true of the channels of one router: what its sets of channels have, and which input channel owns which output channel.
-use Rattle.std.specs.Prelude.{◌≡◌, ◌≢◌, ℕ, ◌<◌, ◌≤◌, ◌/◌, ◌%◌, ◌⊎◌, Bool, true, false, ◌&&◌, not, length, List, [], ◌∷◌, find, Option, Some, None, is_some, option_map, nat_eq, slice_index_or, if◌then◌else◌}
-use Rattle.noc_topo.specs.Words.{below}
+use Rattle.std.specs.Prelude.{◌≡◌, ◌≢◌, ℕ, ◌<◌, ◌≤◌, ◌/◌, ◌%◌, ◌⊎◌, Bool, true, false, ◌&&◌, not, length, List, [], ◌∷◌, find, Option, Some, None, is_some, option_map, slice_index_or, if◌then◌else◌}
+use Rattle.noc_topo.specs.Lists.{below}
 use Rattle.noc_packet.specs.Set.{has_bit}
 use Rattle.noc_packet.specs.declared.packet.Flit.{Flit}
 use Rattle.noc_packet.specs.declared.limits.TheConstants.{INDICES, MAX_BUFFER}
-use Rattle.noc_vc.specs.Input.{Input, idle_input, is_active, is_idle_phase, is_empty, is_waiting}
+use Rattle.noc_vc.specs.Input.{Input, idle_input, is_active, is_empty, is_waiting}
 use Rattle.noc_vc.specs.Output.{Output, ejection_output, has_credit, is_free}
 use Rattle.noc_vc.specs.declared.input.InputState.{InputState}
 use Rattle.noc_vc.specs.declared.input.InputState.TheVariants.{Idle, Waiting, Active}
-use Rattle.noc_vc.specs.declared.output.OutputState.{OutputState}
-use Rattle.noc_vc.specs.declared.output.OutputState.TheVariants.{Idle as Free, Owned, Draining}
-use Rattle.noc_alloc.specs.Places.{AreBelow}
+use Rattle.noc_alloc.specs.Sparse.{AreBelow}
 use Rattle.noc_router.specs.Members.{is_within}
-use Rattle.noc_router.specs.declared.channels.Standing.{Standing}
-use Rattle.noc_router.specs.declared.verdict.Verdict.{Verdict}
-use Rattle.noc_router.specs.declared.verdict.Finding.{Finding}
+use Rattle.noc_view.specs.declared.verdict.Verdict.{Verdict}
+use Rattle.noc_view.specs.declared.finding.Finding.{Finding}
+use Rattle.noc_view.specs.States.{is_occupied, owns, is_owned_from, is_supplied}
 
--- the sizes of one router's channels: how many there are, how many of their output channels go on links, and the places in each buffer
-pub record AreSizes (size links places : ℕ) : Type 0 where
+-- the sizes of one router's channels: how many there are, how many of their output channels go on links, and the depth of each buffer
+pub record AreSizes (size links depth : ℕ) : Type 0 where
   pub some : 0 < size
   pub few : size ≤ INDICES
   pub few_links : links ≤ size
-  pub some_place : 0 < places
-  pub few_places : places ≤ MAX_BUFFER
+  pub some_depth : 0 < depth
+  pub depth_within : depth ≤ MAX_BUFFER
 
 -- a set of channels after a change: it has channel i as is said, and every other one as before
 pub record IsMarked (before after i : ℕ) (here : Bool) : Type 0 where
@@ -36,22 +34,6 @@ nth_input inputs i = slice_index_or inputs i idle_input
 -- the output channel with this index
 abbrev pub nth_output : List Output → ℕ → Output
 nth_output outputs o = slice_index_or outputs o ejection_output
-
--- whether an input channel with these flits holds a packet or a flit
-abbrev pub is_occupied : Input → List Flit → Bool
-is_occupied input flits = not (is_idle_phase input.phase && is_empty flits)
-
--- whether the packet of an input channel in this state owns output channel o
-abbrev pub owns : InputState → ℕ → Bool
-owns Idle o = false
-owns (Waiting set) o = false
-owns (Active output) o = nat_eq output o
-
--- whether an output channel in this state is owned from input channel i
-abbrev pub is_owned_from : OutputState → ℕ → Bool
-is_owned_from Free i = false
-is_owned_from (Owned input packet) i = nat_eq input i
-is_owned_from Draining i = false
 
 -- whether these are flits of one packet in their order, as far as their tail: none but the last is a tail, and that is one
 -- where the channel awaits nothing more of its packet
@@ -71,12 +53,6 @@ is_awaiting inputs i = is_some (slice_index_or inputs i idle_input).awaited
 -- each input channel that awaits a flit still does
 abbrev pub KeepsAwaiting : List Input → List Input → Type 0
 KeepsAwaiting before after = (i : ℕ) → is_awaiting before i ≡ true → is_awaiting after i ≡ true
-
--- whether the packet of an input channel in this state owns an output channel that has a credit
-abbrev pub is_supplied : List Output → InputState → Bool
-is_supplied outputs Idle = false
-is_supplied outputs (Waiting set) = false
-is_supplied outputs (Active output) = has_credit (slice_index_or outputs output ejection_output)
 
 -- the output channel that an input channel in this state asks for
 abbrev pub asked_in : ℕ → List Output → InputState → Option ℕ
@@ -117,9 +93,9 @@ pub record CanSend (size : ℕ) (buffers : List (List Flit)) (inputs : List Inpu
   pub credit : has_credit (nth_output outputs o) ≡ true
 
 -- the source can put its next flit into it: its buffer has room, and it is empty or awaits that flit
-pub record CanInject (size places : ℕ) (buffers : List (List Flit)) (inputs : List Input) (i : ℕ) : Type 0 where
+pub record CanInject (size depth : ℕ) (buffers : List (List Flit)) (inputs : List Input) (i : ℕ) : Type 0 where
   pub exists : i < size
-  pub room : length (slice_index_or buffers i []) < places
+  pub room : length (slice_index_or buffers i []) < depth
   pub next : is_empty (slice_index_or buffers i []) ≡ true ⊎ is_awaiting inputs i ≡ true
 
 -- ---- all channels
@@ -148,16 +124,3 @@ pub record AreSound (size : ℕ) (sets : Sets) (buffers : List (List Flit)) (inp
   pub vacant : (i : ℕ) → i < size → is_occupied (slice_index_or inputs i idle_input) (slice_index_or buffers i []) ≡ false → (slice_index_or inputs i idle_input).packet ≡ None
   pub owners : (i o : ℕ) → i < size → o < size → owns (slice_index_or inputs i idle_input).phase o ≡ is_owned_from (slice_index_or outputs o ejection_output).holder i
   pub worms : (i : ℕ) → i < size → is_worm_of (slice_index_or inputs i idle_input) (slice_index_or buffers i []) ≡ true
-
--- what the input channels can go on with: each that holds something is in one of the sets
-pub record AreStanding (size : ℕ) (buffers : List (List Flit)) (inputs : List Input) (outputs : List Output) (s : Standing) : Type 0 where
-  pub heads_below : AreBelow size s.heads
-  pub waiting_below : AreBelow size s.waiting
-  pub no_flit_below : AreBelow size s.no_flit
-  pub no_credit_below : AreBelow size s.no_credit
-  pub ready_below : AreBelow size s.ready
-  pub heads : (i : ℕ) → i < size → has_bit s.heads i ≡ (is_idle_phase (slice_index_or inputs i idle_input).phase && not (is_empty (slice_index_or buffers i [])))
-  pub waiting : (i : ℕ) → i < size → has_bit s.waiting i ≡ is_waiting (slice_index_or inputs i idle_input).phase
-  pub no_flit : (i : ℕ) → i < size → has_bit s.no_flit i ≡ (is_active (slice_index_or inputs i idle_input).phase && is_empty (slice_index_or buffers i []))
-  pub no_credit : (i : ℕ) → i < size → has_bit s.no_credit i ≡ (is_active (slice_index_or inputs i idle_input).phase && (not (is_empty (slice_index_or buffers i [])) && not (is_supplied outputs (slice_index_or inputs i idle_input).phase)))
-  pub ready : (i : ℕ) → i < size → has_bit s.ready i ≡ (is_active (slice_index_or inputs i idle_input).phase && (not (is_empty (slice_index_or buffers i [])) && is_supplied outputs (slice_index_or inputs i idle_input).phase))

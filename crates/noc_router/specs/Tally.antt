@@ -2,19 +2,16 @@
 use Rattle.std.specs.Prelude.{◌≡◌, ℕ, ◌-◌, ◌^◌, ◌<◌, ◌≤◌, Bool, true, false, not, List, [], ◌∷◌, sum, length, replicate, slice_index_or}
 use Rattle.noc_packet.specs.Set.{has_bit}
 use Rattle.noc_ring.specs.Buffers.{buffer_at}
-use Rattle.noc_router.specs.Found.{empty_finding}
-use Rattle.noc_router.specs.declared.verdict.Verdict.{Verdict}
-use Rattle.noc_router.specs.declared.verdict.Verdict.TheVariants.{Empty}
+use Rattle.noc_view.specs.Found.{empty_finding, finding_at}
+use Rattle.noc_view.specs.declared.verdict.Verdict.{Verdict}
+use Rattle.noc_view.specs.declared.verdict.Verdict.TheVariants.{Empty}
 use Rattle.noc_router.specs.declared.channels.Channels.{Channels}
-use Rattle.noc_router.specs.declared.verdict.Finding.{Finding}
-use Rattle.noc_alloc.specs.Places.{AreBelow}
+use Rattle.noc_view.specs.declared.finding.Finding.{Finding}
+use Rattle.noc_alloc.specs.Sparse.{AreBelow}
 use Rattle.noc_router.specs.Settled.{planned_verdict}
-use Rattle.noc_router.specs.Sound.{nth_input, is_occupied}
-use Rattle.noc_router.specs.View.{PlanContents}
-
--- the finding of channel i
-abbrev pub finding_at : List Finding → ℕ → Finding
-finding_at findings i = slice_index_or findings i empty_finding
+use Rattle.noc_router.specs.Sound.{nth_input}
+use Rattle.noc_view.specs.States.{is_occupied}
+use Rattle.noc_view.specs.View.{PlanContents}
 
 -- the channels that are shown exist, and nothing is found of the others
 pub record AreFindings (shown : ℕ) (findings : List Finding) : Type 0 where

@@ -10,7 +10,7 @@ ghost use Rattle.noc_packet.specs.Set.{has_bit};
 ghost use Rattle.noc_packet.specs.declared.limits.TheConstants.{INDICES};
 ghost use Rattle.noc_alloc.specs.Allocation.{pick_of};
 ghost use Rattle.noc_alloc.specs.Arbiter.{pointers_of};
-ghost use Rattle.noc_router.specs.Verdict.{opening_arbiters};
+ghost use Rattle.noc_view.specs.Verdict.{opening_arbiters};
 
 use noc_alloc::Arbiter;
 use noc_packet::{ChannelSet, Memory};
@@ -28,18 +28,18 @@ pub(crate) struct Arbiters {
     ghost one_each_channel: { vec_len channels ≡ ports * vcs },
     ghost one_each_input: { vec_len inputs ≡ ports },
     ghost one_each_output: { vec_len outputs ≡ ports },
-    ghost over_channels: { All (λ turn. turn.size ≡ ports * vcs) channels.items },
-    ghost over_vcs: { All (λ turn. turn.size ≡ vcs) inputs.items },
-    ghost over_ports: { All (λ turn. turn.size ≡ ports) outputs.items },
+    ghost over_channels: { All (λ arbiter. arbiter.size ≡ ports * vcs) channels.items },
+    ghost over_vcs: { All (λ arbiter. arbiter.size ≡ vcs) inputs.items },
+    ghost over_ports: { All (λ arbiter. arbiter.size ≡ ports) outputs.items },
 }
 
 impl Arbiters {
-    ghost use Rattle.noc_router.specs.Asked.{IsSizedRouter, arbiter_states_in, turns_in};
+    ghost use Rattle.noc_router.specs.Asked.{IsSizedRouter, arbiter_states_in, sized_arbiters_in};
     ghost use Rattle.noc_router.specs.Settled.{states_past};
 
     pub(crate) fn new(alloc: Global, ports: usize, vcs: usize) -> Result<Arbiters, Memory>
         requires { IsSizedRouter ports vcs }
-        ensures { IfOk result (λ arbiters. turns_in arbiters ≡ record { ports = ports; vcs = vcs; states = opening_arbiters ports vcs }) }
+        ensures { IfOk result (λ arbiters. sized_arbiters_in arbiters ≡ record { ports = ports; vcs = vcs; states = opening_arbiters ports vcs }) }
     {
         let size = ports * vcs;
         Ok(Arbiters {
@@ -66,7 +66,7 @@ impl Arbiters {
         requires port { port < self.old.ports }
         requires vc { vc < self.old.vcs }
         requires output { output < self.old.ports }
-        ensures { turns_in self.new ≡ record (turns_in self.old) { states = states_past port vc output (arbiter_states_in self.old) } }
+        ensures { sized_arbiters_in self.new ≡ record (sized_arbiters_in self.old) { states = states_past port vc output (arbiter_states_in self.old) } }
     {
         self.inputs[port].advance(Some(vc));
         self.outputs[output].advance(Some(port));

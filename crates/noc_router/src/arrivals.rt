@@ -3,7 +3,7 @@
 ghost use Rattle.std.specs.Prelude.{◌≡◌, IfOk, if◌then◌else◌, None, map, vec_len};
 ghost use Rattle.std.specs.List.{zip};
 ghost use Rattle.std.specs.List.Sorted.{IsStrictlyIncreasing};
-ghost use Rattle.noc_router.specs.Arrivals.{is_expected_in, arrivals_after, noted_arrival};
+ghost use Rattle.noc_view.specs.Arrivals.{is_expected_in, arrivals_after, noted_arrival};
 
 use noc_packet::Memory;
 use std::alloc::Global;
@@ -31,7 +31,7 @@ impl Arrivals {
         ensures { result ≡ noted_arrival packet (zip self.now.ends.items self.now.cycles.items) }
     {
         match self.ends.binary_search(&packet) {
-            Ok(place) => self.cycles[place],
+            Ok(index) => self.cycles[index],
             Err(_) => None,
         }
     }
@@ -41,13 +41,13 @@ impl Arrivals {
         ensures expected { result ≡ is_expected_in packet (zip self.old.ends.items self.old.cycles.items) }
         ensures noted { zip self.new.ends.items self.new.cycles.items ≡ (if result then arrivals_after packet cycle (zip self.old.ends.items self.old.cycles.items) else zip self.old.ends.items self.old.cycles.items) }
     {
-        let Ok(place) = self.ends.binary_search(&packet) else {
+        let Ok(index) = self.ends.binary_search(&packet) else {
             return false;
         };
-        if self.cycles[place].is_some() {
+        if self.cycles[index].is_some() {
             return false;
         }
-        self.cycles[place] = Some(cycle);
+        self.cycles[index] = Some(cycle);
         true
     }
 }

@@ -8,39 +8,26 @@
 
 ghost use Rattle.std.specs.Prelude.{◌≡◌, ℕ, ◌≤◌, ◌<◌, ◌-◌, ◌++◌, ◌&&◌, true, false, None, IfOk, IfSome, length, nat_lt, not, Some, slice_get, slice_index_or, vec_len, if◌then◌else◌, replicate};
 ghost use Rattle.noc_topo.specs.Shape.{nodes as nodes_of, ports as ports_of};
-ghost use Rattle.noc_topo.specs.Words.{below};
+ghost use Rattle.noc_topo.specs.Lists.{below};
 ghost use Rattle.noc_packet.specs.Set.{has_bit};
 ghost use Rattle.noc_packet.specs.declared.limits.TheConstants.{INDICES};
 ghost use Rattle.noc_ring.specs.Buffers.{buffer_at};
 ghost use Rattle.noc_vc.specs.Input.{is_idle_phase, is_empty, fits};
 ghost use Rattle.noc_vc.specs.Output.{ejection_output, link_output, is_free, is_owned, has_credit, credit_fits, output_after_spend};
-ghost use Rattle.noc_alloc.specs.Places.{AreBelow};
+ghost use Rattle.noc_alloc.specs.Sparse.{AreBelow};
 ghost use Rattle.noc_router.specs.Members.{is_within};
-ghost use Rattle.noc_router.specs.Sound.{nth_input, nth_output, is_occupied, CanHold, CanInject, CanRoute, CanSend, IsMarked, KeepsAwaiting, AreSizes, AreSound, AreStanding, asked_in, finding_with};
+ghost use Rattle.noc_router.specs.Sound.{nth_input, nth_output, CanHold, CanInject, CanRoute, CanSend, IsMarked, KeepsAwaiting, AreSizes, AreSound, asked_in, finding_with};
+ghost use Rattle.noc_view.specs.States.{is_occupied};
+ghost use Rattle.noc_view.specs.ReadySets.{AreReadySets};
 
 use crate::indices::Indices;
 use crate::plan::Plan;
-use crate::verdict::{Finding, Verdict};
 use noc_packet::{ChannelSet, Flit, Memory};
 use noc_ring::Bank;
 use noc_route::Relation;
 use noc_vc::{InputChannel, InputState, Misfit, OutputChannel, OutputState};
+use noc_view::{Finding, ReadySets, Verdict};
 use std::alloc::Global;
-
-/// What the input channels of a router that hold something can go on with, by the state of their packet.
-#[derive(Clone, Copy)]
-pub(crate) struct Standing {
-    // A head that is not routed.
-    pub(crate) heads: ChannelSet,
-    // A packet that waits for an output channel.
-    pub(crate) waiting: ChannelSet,
-    // A packet that owns one, whose next flit is not there.
-    pub(crate) no_flit: ChannelSet,
-    // A packet that owns an output channel with no credit, whose next flit is there.
-    pub(crate) no_credit: ChannelSet,
-    // A packet that owns an output channel with a credit, or one that leads out, whose next flit is there.
-    pub(crate) ready: ChannelSet,
-}
 
 /// The channels of one router, by index: port * V + virtual channel.
 #[derive(Drop)]
@@ -64,28 +51,28 @@ pub(crate) struct Channels {
     ghost a_ring_each: { length bank.rings ≡ size },
     ghost an_input_each: { vec_len inputs ≡ size },
     ghost an_output_each: { vec_len outputs ≡ size },
-    ghost some_place: { 0 < bank.capacity },
+    ghost some_depth: { 0 < bank.capacity },
     ghost sound: { AreSound size (record { filled = filled; waiting = waiting; active = active; supplied = supplied; idle = idle }) bank.rings inputs.items outputs.items },
 }
 
 impl Channels {
     ghost use Rattle.noc_router.specs.Parts.{opening_states, states_after_credit, states_after_grant, states_after_land, states_after_route, states_after_send, states_in};
 
-    // Empty channels, with so many places in each buffer: the first `links` output channels go on links, the
+    // Empty channels with buffers of this depth: the first `links` output channels go on links, the
     // others are ejection channels.
     pub(crate) fn new(
         alloc: Global,
         size: usize,
         links: usize,
-        places: usize,
+        depth: usize,
     ) -> Result<Channels, Memory>
-        requires { AreSizes size links places }
-        ensures { IfOk result (λ channels. states_in channels ≡ opening_states size links places) }
+        requires { AreSizes size links depth }
+        ensures { IfOk result (λ channels. states_in channels ≡ opening_states size links depth) }
     {
-        let bank = Bank::new(alloc, size, places)?;
+        let bank = Bank::new(alloc, size, depth)?;
         let mut inputs = Vec::new(alloc);
         inputs.resize(size, InputChannel::new())?;
-        let outputs = idle_outputs(alloc, size, links, places)?;
+        let outputs = idle_outputs(alloc, size, links, depth)?;
         let none = ChannelSet::empty();
         let every = all_channels(size);
         Ok(Channels {
@@ -119,11 +106,11 @@ impl Channels {
     }
 
     // What the input channels that hold something can go on with.
-    pub(crate) fn standing(&self) -> Standing
-        ensures { AreStanding self.now.size self.now.bank.rings self.now.inputs.items self.now.outputs.items result }
+    pub(crate) fn ready_sets(&self) -> ReadySets
+        ensures { AreReadySets self.now.size self.now.bank.rings self.now.inputs.items self.now.outputs.items result }
     {
         let sendable = self.active.both(self.filled);
-        Standing {
+        ReadySets {
             heads: self.filled.less(self.waiting).less(self.active),
             waiting: self.waiting,
             no_flit: self.active.less(self.filled),
@@ -230,7 +217,7 @@ impl Channels {
         Finding {
             verdict,
             packet: input.packet(),
-            out: out.map(|next| indices.place(next)),
+            out: out.map(|next| indices.split(next)),
         }
     }
 
@@ -353,13 +340,13 @@ fn idle_outputs(
     alloc: Global,
     size: usize,
     links: usize,
-    places: usize,
+    depth: usize,
 ) -> Result<Vec<OutputChannel>, Memory>
-    requires { AreSizes size links places }
-    ensures { IfOk result (λ outputs. outputs.items ≡ replicate links (link_output places) ++ replicate (size - links) ejection_output) }
+    requires { AreSizes size links depth }
+    ensures { IfOk result (λ outputs. outputs.items ≡ replicate links (link_output depth) ++ replicate (size - links) ejection_output) }
 {
     let mut outputs = Vec::new(alloc);
-    outputs.resize(links, OutputChannel::link(places))?;
+    outputs.resize(links, OutputChannel::link(depth))?;
     outputs.resize(size, OutputChannel::ejection())?;
     Ok(outputs)
 }

@@ -2,18 +2,18 @@
 
 ghost use Rattle.std.specs.Prelude.{◌≡◌, ℕ, ◌<◌, ◌&&◌, not, None, IfOk, false, if◌then◌else◌, length, replicate, slice_index_or};
 ghost use Rattle.noc_packet.specs.Set.{has_bit};
-ghost use Rattle.noc_topo.specs.Words.{tabulate};
-ghost use Rattle.noc_router.specs.Tally.{IsPlanOf, finding_at};
-ghost use Rattle.noc_router.specs.Found.{empty_finding};
-ghost use Rattle.noc_alloc.specs.Places.{AreBelow};
+ghost use Rattle.noc_topo.specs.Lists.{tabulate};
+ghost use Rattle.noc_router.specs.Tally.{IsPlanOf};
+ghost use Rattle.noc_view.specs.Found.{finding_at, empty_finding};
+ghost use Rattle.noc_alloc.specs.Sparse.{AreBelow};
 ghost use Rattle.noc_router.specs.Settled.{finding_by};
 ghost use Rattle.noc_router.specs.Sound.{nth_input, finding_with};
 
 use crate::channels::Channels;
 use crate::indices::Indices;
 use crate::plan::Plan;
-use crate::verdict::{Finding, Verdict};
 use noc_packet::{ChannelSet, Memory};
+use noc_view::{Finding, OTHERS, Verdict};
 use std::alloc::Global;
 use std::marker::Model;
 
@@ -27,7 +27,7 @@ pub(crate) struct Findings {
 
 impl Model for Findings {
     ghost use Rattle.std.specs.Prelude.{List};
-    ghost use Rattle.noc_router.specs.declared.verdict.Finding.{Finding};
+    ghost use Rattle.noc_view.specs.declared.finding.Finding.{Finding};
 
     ghost Value = { List Finding };
 
@@ -43,14 +43,9 @@ impl Findings {
     pub(crate) fn new(alloc: Global, size: usize) -> Result<Findings, Memory>
         ensures { IfOk result (λ findings. findings ≡ replicate size empty_finding) }
     {
-        let empty = Finding {
-            verdict: Verdict::Empty,
-            packet: None,
-            out: None,
-        };
         Ok(Findings {
             shown: ChannelSet::empty(),
-            findings: vec![in alloc; empty; size]?,
+            findings: vec![in alloc; Finding::EMPTY; size]?,
         })
     }
 
@@ -86,11 +81,19 @@ fn show_all(
     requires others { (k : ℕ) → k < length findings.old → has_bit shown k ≡ false → finding_at findings.old k ≡ finding_by plan.now indices.now.vcs channels.now.inputs.items k }
     ensures { findings.new ≡ tabulate (length findings.old) (finding_by plan.now indices.now.vcs channels.now.inputs.items) }
 {
-    let sets = plan.verdicts.with_verdicts();
+    let sets = plan.verdicts.each();
     let mut rest = shown;
-    for place in 0..sets.len() {
-        let (set, verdict) = sets[place];
-        rest = show_each(findings, channels, indices, plan, rest, set, verdict);
+    for other in 0..OTHERS {
+        let verdict = Verdict::ALL[other + 1];
+        rest = show_each(
+            findings,
+            channels,
+            indices,
+            plan,
+            rest,
+            sets[other],
+            verdict,
+        );
     }
     show_each(
         findings,

@@ -9,9 +9,9 @@ use noc_packet::INDICES;
 #[derive(Drop)]
 pub(crate) struct Indices {
     vcs: usize,
-    places: [(u8, u8); INDICES],
-    ghost a_place_each: { length places ≡ INDICES },
-    ghost placed: { (k : ℕ) → k < INDICES → slice_index_or places k (0, 0) ≡ (k / vcs, k % vcs) },
+    splits: [(u8, u8); INDICES],
+    ghost a_split_each: { length splits ≡ INDICES },
+    ghost right: { (k : ℕ) → k < INDICES → slice_index_or splits k (0, 0) ≡ (k / vcs, k % vcs) },
 }
 
 impl Indices {
@@ -20,19 +20,19 @@ impl Indices {
         requires { 0 < vcs }
         ensures { result.vcs ≡ vcs }
     {
-        let mut places = [(0, 0); INDICES];
+        let mut splits = [(0, 0); INDICES];
         for index in 0..INDICES {
-            places[index] = ((index / vcs) as u8, (index % vcs) as u8);
+            splits[index] = ((index / vcs) as u8, (index % vcs) as u8);
         }
-        Indices { vcs, places }
+        Indices { vcs, splits }
     }
 
     // The port and the virtual channel of an index.
-    pub(crate) fn place(&self, index: usize) -> (usize, usize)
+    pub(crate) fn split(&self, index: usize) -> (usize, usize)
         requires { index < INDICES }
         ensures { result ≡ (index / self.now.vcs, index % self.now.vcs) }
     {
-        let (port, vc) = self.places[index];
+        let (port, vc) = self.splits[index];
         (usize::from(port), usize::from(vc))
     }
 }

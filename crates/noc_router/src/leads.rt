@@ -9,29 +9,29 @@ use noc_topo::{LINKS, Shape};
 /// The neighbour at each link port, and the port by which a flit enters there, in a byte each.
 #[derive(Drop)]
 pub(crate) struct Leads {
-    places: [Option<(u8, u8)>; LINKS],
+    neighbours: [Option<(u8, u8)>; LINKS],
 }
 
 impl Leads {
     pub(crate) fn new(shape: &Shape, node: usize) -> Leads
         requires { node < nodes_of shape.now }
-        ensures { (port : ℕ) → port < LINKS → slice_index_or result.places port None ≡ neighbour_of shape.now node port }
+        ensures { (port : ℕ) → port < LINKS → slice_index_or result.neighbours port None ≡ neighbour_of shape.now node port }
     {
-        let mut places = [None; LINKS];
+        let mut neighbours = [None; LINKS];
         for port in 0..LINKS {
             if port < shape.ports() {
-                places[port] = lead(shape, node, port);
+                neighbours[port] = lead(shape, node, port);
             }
         }
-        Leads { places }
+        Leads { neighbours }
     }
 
     // The neighbour at a port, and the port by which a flit enters there.
     pub(crate) fn neighbour(&self, port: usize) -> Option<(usize, usize)>
         requires { port < LINKS }
-        ensures { result ≡ slice_index_or self.now.places port None }
+        ensures { result ≡ slice_index_or self.now.neighbours port None }
     {
-        match self.places[port] {
+        match self.neighbours[port] {
             Some((node, entry)) => Some((usize::from(node), usize::from(entry))),
             None => None,
         }

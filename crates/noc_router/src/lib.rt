@@ -13,9 +13,7 @@ mod requests;
 mod router;
 mod source;
 mod tally;
-mod verdict;
-mod verdict_sets;
 
+pub use noc_view::{Finding, Recording, VERDICTS, Verdict};
 pub use plan::Plan;
 pub use router::Router;
-pub use verdict::{Finding, Findings, VERDICTS, Verdict};

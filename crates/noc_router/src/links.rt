@@ -4,7 +4,7 @@ ghost use Rattle.std.specs.Prelude.{◌≡◌, ℕ, ◌<◌, ◌==◌, ◌||◌,
 ghost use Rattle.noc_packet.specs.Set.{has_bit};
 ghost use Rattle.noc_topo.specs.declared.limits.TheConstants.{LINKS};
 ghost use Rattle.noc_router.specs.Links.{AreLoaded};
-ghost use Rattle.noc_router.specs.View.{idle_beat};
+ghost use Rattle.noc_view.specs.View.{idle_beat};
 
 use noc_packet::{Beat, ChannelSet, Flit};
 use noc_topo::LINKS;

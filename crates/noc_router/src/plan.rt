@@ -9,16 +9,16 @@ ghost use Rattle.std.specs.Prelude.{◌≡◌, ℕ, ◌<◌, IfOk, IfSome, lengt
 ghost use Rattle.noc_topo.specs.Shape.{ports as ports_of};
 ghost use Rattle.noc_packet.specs.Set.{has_bit};
 ghost use Rattle.noc_packet.specs.declared.limits.TheConstants.{INDICES};
-ghost use Rattle.noc_router.specs.Asked.{arbiter_states_in, channels_past, turns_in};
+ghost use Rattle.noc_router.specs.Asked.{arbiter_states_in, channels_past, sized_arbiters_in};
 ghost use Rattle.noc_router.specs.Decided.{IsDecidedFor, empty_plan_contents};
-ghost use Rattle.noc_router.specs.declared.verdict.Verdict.TheVariants.{Empty};
-ghost use Rattle.noc_router.specs.Verdict.{is_event, is_granted, is_moved};
+ghost use Rattle.noc_view.specs.declared.verdict.Verdict.TheVariants.{Empty};
+ghost use Rattle.noc_view.specs.Verdict.{is_event, is_granted, is_moved};
 
 use crate::arbiters::Arbiters;
 use crate::requests::Requests;
-use crate::verdict_sets::VerdictSets;
 use noc_packet::{ChannelSet, Memory};
 use noc_route::Relation;
+use noc_view::VerdictSets;
 use std::alloc::Global;
 use std::marker::Model;
 
@@ -32,7 +32,7 @@ pub struct Plan {
 }
 
 impl Model for Plan {
-    ghost use Rattle.noc_router.specs.View.{PlanContents};
+    ghost use Rattle.noc_view.specs.View.{PlanContents};
 
     ghost Value = { PlanContents };
 
@@ -49,19 +49,27 @@ impl Plan {
         ensures { IfOk result (λ plan. plan ≡ empty_plan_contents (ports_of relation.now.grid) relation.now.vcs) }
     {
         let _ = alloc;
+        let mut plan = Plan {
+            requests: Requests::new(),
+            verdicts: VerdictSets::none(),
+        };
+        plan.clear(relation);
+        Ok(plan)
+    }
+
+    /// Makes it a plan without requests again, of a router of this relation's network.
+    pub fn clear(&mut self, relation: &Relation)
+        ensures { self.new ≡ empty_plan_contents (ports_of relation.now.grid) relation.now.vcs }
+    {
         let ports = relation.shape().ports();
-        let mut requests = Requests::new();
-        requests.clear(ports, ports * relation.vcs());
-        Ok(Plan {
-            requests,
-            verdicts: VerdictSets::empty(),
-        })
+        self.requests.clear(ports, ports * relation.vcs());
+        self.verdicts = VerdictSets::none();
     }
 
     // The pointers of the output channels go on past the input channels that they were granted to.
     pub(crate) fn advance(&self, arbiters: &mut Arbiters)
         requires { IsDecidedFor arbiters.old.ports arbiters.old.vcs self.now }
-        ensures { turns_in arbiters.new ≡ record (turns_in arbiters.old) { states = channels_past self.now.round (arbiter_states_in arbiters.old) } }
+        ensures { sized_arbiters_in arbiters.new ≡ record (sized_arbiters_in arbiters.old) { states = channels_past self.now.round (arbiter_states_in arbiters.old) } }
     {
         self.requests.channels.advance(&mut arbiters.channels);
     }

@@ -4,14 +4,14 @@
 //! ports.
 
 ghost use Rattle.std.specs.Prelude.{◌≡◌, ℕ, ◌*◌, ◌/◌, ◌%◌, ◌<◌, ◌≤◌, ◌&&◌, Some, None, length, slice_index_or, slice_set};
-ghost use Rattle.noc_topo.specs.Words.{is_some_of};
+ghost use Rattle.noc_topo.specs.Lists.{is_some_of};
 ghost use Rattle.noc_packet.specs.Set.{has_bit};
 ghost use Rattle.noc_packet.specs.declared.limits.TheConstants.{INDICES, MAX_PORTS};
-ghost use Rattle.noc_alloc.specs.Places.{AreBelow};
+ghost use Rattle.noc_alloc.specs.Sparse.{AreBelow};
 ghost use Rattle.noc_alloc.specs.Requests.{AllBelow};
 
 use crate::arbiters::Arbiters;
-use noc_alloc::{Allocation, Places};
+use noc_alloc::{Allocation, Sparse};
 use noc_packet::{ChannelSet, INDICES};
 
 /// What the input channels of one router ask for, and who gets it. There is room for those of any router.
@@ -25,7 +25,7 @@ pub(crate) struct Requests {
     // The output channels, to input channels.
     pub(crate) channels: Allocation,
     // By input port, the virtual channel that it has picked.
-    pub(crate) picks: Places,
+    pub(crate) picks: Sparse,
     // The output ports, to input ports.
     pub(crate) switch: Allocation,
     ghost few_ports: { ports ≤ MAX_PORTS },
@@ -50,7 +50,7 @@ impl Requests {
             routed: ChannelSet::empty(),
             routes: [ChannelSet::empty(); INDICES],
             channels: Allocation::new(),
-            picks: Places::new(),
+            picks: Sparse::new(),
             switch: Allocation::new(),
         }
     }

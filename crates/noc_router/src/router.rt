@@ -3,28 +3,29 @@
 ghost use Rattle.std.specs.List.Sorted.{IsStrictlyIncreasing};
 ghost use Rattle.std.specs.Prelude.{◌≡◌, ◌+◌, ◌-◌, ◌*◌, ◌<◌, ◌≤◌, All, IfOk, IfSome, Some, true, ◌⊎◌, length, ℕ, not, ◌&&◌, None, replicate, slice_index_or, [], false, if◌then◌else◌};
 ghost use Rattle.noc_topo.specs.Shape.{IsGrid, nodes as nodes_of, ports as ports_of, local_port, neighbour as neighbour_of};
-ghost use Rattle.noc_topo.specs.Words.{tabulate};
+ghost use Rattle.noc_topo.specs.Lists.{tabulate};
 ghost use Rattle.noc_vc.specs.Input.{is_empty};
-ghost use Rattle.noc_router.specs.Arrivals.{noted_arrival};
+ghost use Rattle.noc_view.specs.Arrivals.{noted_arrival};
 ghost use Rattle.noc_router.specs.Asked.{lists_in, round_in, routes_in};
-ghost use Rattle.noc_router.specs.Finish.{view_after_finish};
+ghost use Rattle.noc_view.specs.Finish.{view_after_finish};
 ghost use Rattle.noc_router.specs.Injection.{next_vc, vacant_vc};
-ghost use Rattle.noc_router.specs.Links.{is_idle_beat};
+ghost use Rattle.noc_view.specs.View.{is_idle_beat, IsRelationOf, local_channel, size_of, view_buffer, opening_view, with_flit, with_credit, view_after_take, view_after_takes, view_after_inject, decisions_of, plan_contents, view_after_commit, beat_to_put, view_after_put, idle_beats, local_step, route_for, route_of, view_stands, first_flit, view_input, with_arrival};
 ghost use Rattle.noc_alloc.specs.Requests.{AllBelow};
 ghost use Rattle.noc_router.specs.Settled.{AreContentsFor, CanGrant, CanTakeEffect, decisions_by, effect_of, planned_verdict, passed_by, switch_past, view_after_tally, view_after_verdicts, view_after_route, view_after_grant, moved_by, credit_put, flit_put};
-ghost use Rattle.noc_router.specs.Sound.{CanRoute, CanSend, is_awaiting, is_occupied};
-ghost use Rattle.noc_router.specs.Standing.{AreAsked, AreHeads, AreReady, AreRequestsOf, AreVerdictsOf, AreWaiting, IsPick, IsStanding, picked_vc, picked_way};
+ghost use Rattle.noc_router.specs.Sound.{CanRoute, CanSend, is_awaiting};
+ghost use Rattle.noc_view.specs.States.{is_occupied};
+ghost use Rattle.noc_router.specs.Ready.{AreAsked, AreHeads, AreReady, AreRequestsOf, AreVerdictsOf, AreWaiting, IsPick, picked_vc, picked_way};
+ghost use Rattle.noc_view.specs.ReadySets.{AreReadySetsOf};
 ghost use Rattle.noc_route.specs.Routes.{Routes};
 ghost use Rattle.noc_packet.specs.Set.{has_bit};
 ghost use Rattle.noc_packet.specs.declared.limits.TheConstants.{INDICES};
-ghost use Rattle.noc_router.specs.Start.{IsNumberedPacket};
-ghost use Rattle.noc_router.specs.Still.{IsHeldBefore, takes_effect, view_after_waiting};
-ghost use Rattle.noc_router.specs.Verdict.{arbiters_after, asks_of, is_event};
-ghost use Rattle.noc_router.specs.View.{IsRelationOf, local_channel, size_of, view_buffer, opening_view, with_flit, with_credit, view_after_take, view_after_takes, view_after_inject, decisions_of, plan_contents, view_after_commit, beat_to_put, view_after_put, idle_beats, local_step, route_for, route_of, view_stands, first_flit, view_input, with_arrival};
+ghost use Rattle.noc_view.specs.Start.{IsNumberedPacket};
+ghost use Rattle.noc_view.specs.Still.{IsHeldBefore, takes_effect, view_after_waiting};
+ghost use Rattle.noc_view.specs.Verdict.{arbiters_after, asks_of, is_event};
 
 use crate::arbiters::Arbiters;
 use crate::arrivals::Arrivals;
-use crate::channels::{Channels, Standing};
+use crate::channels::Channels;
 use crate::indices::Indices;
 use crate::leads::Leads;
 use crate::links::Links;
@@ -32,12 +33,11 @@ use crate::plan::Plan;
 use crate::requests::Requests;
 use crate::source::Source;
 use crate::tally::Tally;
-use crate::verdict::{Finding, Findings, VERDICTS};
-use crate::verdict_sets::VerdictSets;
 use noc_packet::{Beat, ChannelSet, Flit, MAX_BUFFER, Memory, Packet};
 use noc_route::Relation;
 use noc_topo::Shape;
 use noc_vc::InputState;
+use noc_view::{Finding, ReadySets, Recording, VERDICTS, VerdictSets};
 use std::alloc::Global;
 use std::marker::Model;
 
@@ -52,7 +52,7 @@ pub struct Router {
     node: usize,
     ports: usize,
     vcs: usize,
-    places: usize,
+    depth: usize,
     cycle: u64,
     had_event: bool,
     last_event: Option<u64>,
@@ -69,7 +69,7 @@ pub struct Router {
 }
 
 impl Model for Router {
-    ghost use Rattle.noc_router.specs.View.{View};
+    ghost use Rattle.noc_view.specs.View.{View};
 
     ghost Value = { View };
 
@@ -81,7 +81,7 @@ impl Model for Router {
 }
 
 impl Router {
-    /// The router of a node before its first cycle, with `places` (1 to 16 flits) in each buffer.
+    /// The router of a node before its first cycle, with buffers of `depth` (1 to 16) flits.
     ///
     /// `starts` are the packets of this node with their numbers, by due time and then by number; `ends`
     /// are the numbers of the packets that are built to end here, rising.
@@ -89,21 +89,21 @@ impl Router {
         alloc: Global,
         relation: &Relation,
         node: usize,
-        places: usize,
+        depth: usize,
         starts: Vec<(u32, Packet)>,
         ends: Vec<u32>,
     ) -> Result<Router, Memory>
         requires node { node < nodes_of relation.now.grid }
-        requires some_place { 0 < places }
-        requires places { places ≤ MAX_BUFFER }
+        requires some_depth { 0 < depth }
+        requires depth { depth ≤ MAX_BUFFER }
         requires starts { All IsNumberedPacket starts.items }
         requires ends { IsStrictlyIncreasing ends.items }
-        ensures { IfOk result (λ router. router ≡ opening_view (record { grid = relation.now.grid; node = node; vcs = relation.now.vcs; places = places }) starts.items ends.items) }
+        ensures { IfOk result (λ router. router ≡ opening_view (record { grid = relation.now.grid; node = node; vcs = relation.now.vcs; depth = depth }) starts.items ends.items) }
     {
         let shape = *relation.shape();
         let ports = shape.ports();
         let vcs = relation.vcs();
-        let channels = Channels::new(alloc, ports * vcs, (ports - 1) * vcs, places)?;
+        let channels = Channels::new(alloc, ports * vcs, (ports - 1) * vcs, depth)?;
         let tally = Tally::new(alloc, ports * vcs)?;
         let arbiters = Arbiters::new(alloc, ports, vcs)?;
         let arrivals = Arrivals::new(alloc, ends)?;
@@ -111,7 +111,7 @@ impl Router {
             node,
             ports,
             vcs,
-            places,
+            depth,
             cycle: 0,
             had_event: false,
             last_event: None,
@@ -133,7 +133,8 @@ impl Router {
     pub fn take(&mut self, relation: &Relation, port: usize, beat: Beat)
         requires relation { IsRelationOf relation.now self.old }
         requires port { port < local_port self.old.site.grid }
-        ensures { self.new ≡ view_after_take relation.now port beat self.old }
+        ensures view { self.new ≡ view_after_take relation.now port beat self.old }
+        ensures site { self.new.site ≡ self.old.site }
     {
         if let Some((vc, flit)) = &beat.flit {
             self.take_flit(relation, port, usize::from(*vc), flit);
@@ -182,7 +183,8 @@ impl Router {
     /// room, or the head of the next packet that is due by this cycle, on the lowest local channel that is
     /// idle and has an empty buffer (docs/MODEL.md, "Injection").
     pub fn inject(&mut self, cycle: u64)
-        ensures { self.new ≡ view_after_inject cycle self.old }
+        ensures view { self.new ≡ view_after_inject cycle self.old }
+        ensures site { self.new.site ≡ self.old.site }
     {
         self.cycle = cycle;
         let Some(vc) = self.next_channel() else {
@@ -201,7 +203,7 @@ impl Router {
     fn next_channel(&self) -> Option<usize>
         ensures value { result ≡ next_vc self.now }
         ensures within { IfSome result (λ vc. vc < self.now.site.vcs) }
-        ensures room { IfSome result (λ vc. length (view_buffer self.now (local_channel self.now.site vc)) < self.now.site.places) }
+        ensures room { IfSome result (λ vc. length (view_buffer self.now (local_channel self.now.site vc)) < self.now.site.depth) }
         ensures next { IfSome result (λ vc. is_empty (view_buffer self.now (local_channel self.now.site vc)) ≡ true ⊎ is_awaiting self.now.inputs (local_channel self.now.site vc) ≡ true) }
     {
         match self.source.vc {
@@ -231,13 +233,13 @@ impl Router {
         ensures value { plan.new ≡ plan_contents relation.now self.now }
         ensures picks { AllBelow self.now.site.vcs plan.new.round.picks }
     {
-        let standing = self.channels.standing();
+        let sets = self.channels.ready_sets();
         plan.requests.clear(self.ports, self.ports * self.vcs);
-        self.route_heads(relation, standing.heads, &mut plan.requests);
-        self.ask_for_channels(standing.waiting, &mut plan.requests);
-        self.ask_for_ports(standing.ready, &mut plan.requests);
+        self.route_heads(relation, sets.heads, &mut plan.requests);
+        self.ask_for_channels(sets.waiting, &mut plan.requests);
+        self.ask_for_ports(sets.ready, &mut plan.requests);
         plan.requests.grant(&self.arbiters);
-        plan.verdicts = self.verdicts(&standing, &plan.requests);
+        plan.verdicts = self.verdicts(&sets, &plan.requests);
     }
 
     // The sets for the heads that are not routed, where there are none yet.
@@ -267,7 +269,7 @@ impl Router {
         let class = usize::from(flit.class);
         let destination = usize::from(flit.dst);
         if class < relation.classes() && destination < relation.shape().nodes() {
-            let (port, vc) = self.indices.place(index);
+            let (port, vc) = self.indices.split(index);
             relation.permitted(class, self.node, port, vc, destination)
         } else {
             ChannelSet::empty()
@@ -315,14 +317,14 @@ impl Router {
     {
         let vc = self.arbiters.pick(ready, port)?;
         match self.channels.state(port * self.vcs + vc) {
-            InputState::Active(next) => Some((vc, self.indices.place(next).0)),
+            InputState::Active(next) => Some((vc, self.indices.split(next).0)),
             _ => None,
         }
     }
 
     // The verdict on every input channel, once the arbiters have decided.
-    fn verdicts(&self, standing: &Standing, requests: &Requests) -> VerdictSets
-        requires standing { IsStanding self.now standing.now }
+    fn verdicts(&self, sets: &ReadySets, requests: &Requests) -> VerdictSets
+        requires sets { AreReadySetsOf self.now sets.now }
         requires requests { AreAsked self.now requests.now }
         ensures { AreVerdictsOf self.now (round_in requests.now) result }
     {
@@ -333,12 +335,12 @@ impl Router {
         VerdictSets {
             moved,
             granted,
-            routed: standing.heads,
-            no_flit: standing.no_flit,
-            no_idle_channel: standing.waiting.less(asking),
+            routed: sets.heads,
+            no_flit: sets.no_flit,
+            no_idle_channel: sets.waiting.less(asking),
             lost_channel: asking.less(granted),
-            no_credit: standing.no_credit,
-            lost_input: standing.ready.less(picked),
+            no_credit: sets.no_credit,
+            lost_input: sets.ready.less(picked),
             lost_switch: picked.less(moved),
         }
     }
@@ -346,7 +348,8 @@ impl Router {
     /// Lets the verdicts of the plan of this state take effect, and keeps its findings.
     pub fn commit(&mut self, plan: &Plan)
         requires { AreContentsFor plan.now self.old }
-        ensures { (relation : Routes) → plan.now ≡ plan_contents relation self.old → self.new ≡ view_after_commit (decisions_of relation self.old) self.old }
+        ensures view { (relation : Routes) → plan.now ≡ plan_contents relation self.old → self.new ≡ view_after_commit (decisions_of relation self.old) self.old }
+        ensures site { self.new.site ≡ self.old.site }
     {
         self.tally.show(&self.channels, &self.indices, plan);
         self.take_effect(plan);
@@ -354,17 +357,17 @@ impl Router {
 
     /// Ends a cycle of a router that has taken its beats: it injects what is due by cycle `cycle` (from 0), decides and
     /// commits. Its findings are recorded, or stay those of the last cycle in which they were.
-    pub fn finish(&mut self, relation: &Relation, plan: &mut Plan, cycle: u64, findings: Findings)
+    pub fn finish(&mut self, relation: &Relation, plan: &mut Plan, cycle: u64, recording: Recording)
         requires { IsRelationOf relation.now self.old }
-        ensures { self.new ≡ view_after_finish relation.now cycle findings self.old }
+        ensures { self.new ≡ view_after_finish relation.now cycle recording self.old }
     {
         self.inject(cycle);
-        match findings {
-            Findings::Record => {
+        match recording {
+            Recording::Record => {
                 self.plan(relation, plan);
                 self.commit(plan);
             }
-            Findings::Leave => self.advance(relation, plan),
+            Recording::Leave => self.advance(relation, plan),
         }
     }
 
@@ -529,8 +532,8 @@ impl Router {
     {
         let flit = self.channels.send(index, next);
         self.had_event = true;
-        let (port, vc) = self.indices.place(index);
-        let (output, next_vc) = self.indices.place(next);
+        let (port, vc) = self.indices.split(index);
+        let (output, next_vc) = self.indices.split(next);
         self.put_credit(port, vc);
         self.put_flit(output, next_vc, flit);
         self.arbiters.advance_switch_pointers(port, vc, output);
@@ -575,6 +578,7 @@ impl Router {
         requires { port < local_port self.old.site.grid }
         ensures beat { result ≡ beat_to_put self.old port }
         ensures view { self.new ≡ view_after_put port self.old }
+        ensures site { self.new.site ≡ self.old.site }
     {
         self.links.unload(port)
     }
@@ -641,7 +645,7 @@ impl Router {
         self.leads.neighbour(port)
     }
 
-    /// What was found in the last cycle that recorded it (`commit`, `step`, `finish` with `Findings::Record`), by input channel
+    /// What was found in the last cycle that recorded it (`commit`, `step`, `finish` with `Recording::Record`), by input channel
     /// (port * V + virtual channel): none before the first.
     pub fn findings(&self) -> &[Finding]
         ensures { result.now ≡ self.now.findings }

@@ -3,7 +3,7 @@
 ghost use Rattle.std.specs.Prelude.{◌≡◌, ◌≤◌, ◌<◌, ◌+◌, All, Some, None, drop, if◌then◌else◌, is_none, true, vec_len};
 ghost use Rattle.std.specs.Option.{ForSome};
 ghost use Rattle.noc_router.specs.Queue.{queue_from, sending_from, next_flit_of, is_next_last, is_due_by, next_due_of};
-ghost use Rattle.noc_router.specs.Start.{IsNumberedPacket};
+ghost use Rattle.noc_view.specs.Start.{IsNumberedPacket};
 
 use noc_packet::{Flit, Packet, flit_of};
 

@@ -2,21 +2,20 @@
 
 ghost use Rattle.std.specs.Prelude.{◌≡◌, ◌<◌, ◌≤◌, IfOk, [], length, map, slice_index_or};
 ghost use Rattle.noc_packet.specs.declared.limits.TheConstants.{INDICES};
-ghost use Rattle.noc_topo.specs.Words.{map_indexed, tabulate};
+ghost use Rattle.noc_topo.specs.Lists.{map_indexed, tabulate};
 ghost use Rattle.noc_router.specs.Settled.{finding_by, planned_verdict};
-ghost use Rattle.noc_router.specs.Still.{counted_times};
+ghost use Rattle.noc_view.specs.Still.{counted_times};
 ghost use Rattle.noc_router.specs.Tally.{IsPlanOf, empty_tally};
-ghost use Rattle.noc_router.specs.View.{counts_after};
-ghost use Rattle.noc_router.specs.declared.verdict.Verdict.TheVariants.{Empty};
+ghost use Rattle.noc_view.specs.View.{counts_after};
+ghost use Rattle.noc_view.specs.declared.verdict.Verdict.TheVariants.{Empty};
 
 use crate::channels::Channels;
 use crate::findings::Findings;
 use crate::indices::Indices;
 use crate::plan::Plan;
-use crate::verdict::{Finding, VERDICTS};
-use crate::verdict_sets::OTHERS;
 use noc_counts::Counts;
 use noc_packet::Memory;
+use noc_view::{Finding, OTHERS, VERDICTS};
 use std::alloc::Global;
 use std::marker::Model;
 
@@ -106,9 +105,9 @@ impl Tally {
         let others = self.others.of(index);
         let mut counts = [0; VERDICTS];
         let mut empty = self.cycles;
-        for place in 0..OTHERS {
-            counts[place + 1] = others[place];
-            empty -= others[place];
+        for verdict_index in 0..OTHERS {
+            counts[verdict_index + 1] = others[verdict_index];
+            empty -= others[verdict_index];
         }
         counts[0] = empty;
         counts

@@ -3,15 +3,15 @@ use Rattle.std.proofs.Common.{◌≡◌, ℕ, ◌-◌, ◌^◌, ◌<◌, ◌≤�
 use Rattle.std.specs.Prelude.{nat_eq, ◌⊎◌, ◌&&◌, find, if◌then◌else◌}
 use Rattle.std.specs.Int.{trailing_zeros}
 use Rattle.std.proofs.lemmas.Bool.{eq-eqb, ne_eqb, cases_lt, and_parts}
-use Rattle.noc_topo.specs.Words.{below, is_some_of}
+use Rattle.noc_topo.specs.Lists.{below, is_some_of}
 use Rattle.noc_alloc.specs.Arbiter.{first_in_turn}
 use Rattle.noc_alloc.proofs.ArbiterLemmas.{first_in_turn-same}
 use Rattle.noc_packet.specs.Set.{has_bit, IsLeast}
 use Rattle.noc_packet.proofs.SetLemmas.{both_members, has_bit-zero}
 use Rattle.noc_vc.specs.Output.{is_free}
-use Rattle.noc_alloc.specs.Places.{AreBelow}
-use Rattle.noc_router.specs.View.{View, size_of, view_output, asked_for, local_channel, is_vacant}
-use Rattle.noc_router.proofs.FindLemmas.{find-below, find-none}
+use Rattle.noc_alloc.specs.Sparse.{AreBelow}
+use Rattle.noc_view.specs.View.{View, size_of, view_output, asked_for, local_channel, is_vacant}
+use Rattle.noc_view.proofs.FindLemmas.{find-below, find-none}
 use Rattle.noc_row_words.proofs.BitLemmas.{and_fits, least_is}
 
 -- the least idle channel of a set: `(set & idle).trailing_zeros()`, where there is one

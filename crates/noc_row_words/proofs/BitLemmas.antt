@@ -7,7 +7,7 @@ use Rattle.std.proofs.lemmas.Nat.{or_lt, xor_lt, shr-shr, and_le_l, shr_split, p
 use Rattle.std.proofs.lemmas.Nat.Bits.{bit_at-zero, bit_at_xor, bit_at_above, same_from_bits, bit_at-trailing_zeros, bit_at_not, bit_at_ones, bit_at_cat_low, bit_at_cat_high, bit_at-suc}
 use Rattle.noc_packet.specs.Set.{has_bit, IsLeast}
 use Rattle.noc_packet.proofs.SetLemmas.{has_bit-one, has_bit-none, bit_at-true, bit_at-false, has_bit-above, has_bit-zero, both_members}
-use Rattle.noc_alloc.specs.Places.{AreBelow}
+use Rattle.noc_alloc.specs.Sparse.{AreBelow}
 use Rattle.noc_row_words.specs.Bits.{differ, less, up_by, down_by, minus, negation, lowest, but_lowest}
 
 pub xor_members : (a b k : ℕ) → has_bit (bit_xor a b) k ≡ differ (has_bit a k) (has_bit b k)

@@ -8,7 +8,7 @@ use Rattle.std.proofs.lemmas.List.{get_or-replicate}
 use Rattle.std.proofs.lemmas.Nat.{pow_pos, shl_whole, shr-shr, div-mul-add}
 use Rattle.noc_packet.specs.Set.{has_bit}
 use Rattle.noc_packet.proofs.SetLemmas.{has_bit-one, has_bit-none, has_bit-same, has_bit-zero}
-use Rattle.noc_counts.specs.Counts.{one_if}
+use Rattle.noc_topo.specs.Lists.{one_if}
 use Rattle.noc_row_words.specs.Rows.{word}
 use Rattle.noc_row_words.specs.Sheet.{at_level, carry_over, number_by, sum_of, with_four}
 use Rattle.noc_row_words.proofs.SheetLemmas.{added-four, added-three}

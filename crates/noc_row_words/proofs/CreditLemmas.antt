@@ -9,9 +9,9 @@ use Rattle.noc_vc.specs.declared.input.InputState.{InputState}
 use Rattle.noc_vc.specs.declared.input.InputState.TheVariants.{Idle, Waiting, Active}
 use Rattle.noc_vc.specs.declared.output.OutputState.{OutputState}
 use Rattle.noc_vc.specs.declared.output.OutputState.TheVariants.{Idle as Free, Owned, Draining}
-use Rattle.noc_counts.specs.Counts.{one_if}
-use Rattle.noc_router.specs.Sound.{is_supplied, owns, is_owned_from}
-use Rattle.noc_router.specs.View.{View, size_of, view_input, view_output}
+use Rattle.noc_topo.specs.Lists.{one_if}
+use Rattle.noc_view.specs.States.{is_supplied, owns, is_owned_from}
+use Rattle.noc_view.specs.View.{View, size_of, view_input, view_output}
 use Rattle.noc_row_words.specs.Bits.{differ}
 use Rattle.noc_row_words.specs.Planes.{plane_number, raised_by, any_from, wrong_from, words_of}
 use Rattle.noc_row_words.specs.Taken.{credited_by}
@@ -59,8 +59,8 @@ module _ (count : ℕ) (c : Column) (places came o : ℕ) (words : AreWords coun
       off false b = refl
 
   -- a channel with no credit
-  ejects : (holder : OutputState) (p : ℕ) → ShowsOutput c o (record { holder = holder; credit = None; places = p }) → is_draining holder ≡ false
-      → ShowsOutput (with_credits (words_of count places) came c) o (record { holder = holder; credit = None; places = p })
+  ejects : (holder : OutputState) (p : ℕ) → ShowsOutput c o (record { holder = holder; credit = None; depth = p }) → is_draining holder ≡ false
+      → ShowsOutput (with_credits (words_of count places) came c) o (record { holder = holder; credit = None; depth = p })
   ejects holder p shows apart =
       let none : has_bit c.draining o ≡ false = shows.draining ∙ apart in
       record {
@@ -74,8 +74,8 @@ module _ (count : ℕ) (c : Column) (places came o : ℕ) (words : AreWords coun
       or_false false = refl
 
   -- one with n credits, to which none comes
-  stays : (holder : OutputState) (n : ℕ) → ShowsOutput c o (record { holder = holder; credit = Some n; places = places }) → n ≤ places → (is_draining holder ≡ true → n < places) → has_bit came o ≡ false
-      → ShowsOutput (with_credits (words_of count places) came c) o (record { holder = holder; credit = Some n; places = places })
+  stays : (holder : OutputState) (n : ℕ) → ShowsOutput c o (record { holder = holder; credit = Some n; depth = places }) → n ≤ places → (is_draining holder ≡ true → n < places) → has_bit came o ≡ false
+      → ShowsOutput (with_credits (words_of count places) came c) o (record { holder = holder; credit = Some n; depth = places })
   stays holder n shows few drains none =
       let was : plane_number c.credit o ≡ n = shows.credit in
       let zero_more : one_if (has_bit came o) ≡ 0 = ap one_if none in
@@ -96,8 +96,8 @@ module _ (count : ℕ) (c : Column) (places came o : ℕ) (words : AreWords coun
       at false false e = refl
 
   -- an output channel to which a credit comes
-  comes : (holder : OutputState) (n : ℕ) → ShowsOutput c o (record { holder = holder; credit = Some n; places = places }) → n < places → has_bit came o ≡ true
-      → ShowsOutput (with_credits (words_of count places) came c) o (record { holder = holder_at places (n + 1) holder; credit = Some (n + 1); places = places })
+  comes : (holder : OutputState) (n : ℕ) → ShowsOutput c o (record { holder = holder; credit = Some n; depth = places }) → n < places → has_bit came o ≡ true
+      → ShowsOutput (with_credits (words_of count places) came c) o (record { holder = holder_at places (n + 1) holder; credit = Some (n + 1); depth = places })
   comes holder n shows few here = by holder shows.idle shows.draining
     where
       now : plane_number (raised_by c.credit came) o ≡ n + 1
@@ -107,40 +107,40 @@ module _ (count : ℕ) (c : Column) (places came o : ℕ) (words : AreWords coun
           raised-number c.credit came o (rw words.credit_bits (omega arith)) ∙ omega arith
 
       by : (h : OutputState) → has_bit c.idle o ≡ is_free h → has_bit c.draining o ≡ is_draining h
-          → ShowsOutput (with_credits (words_of count places) came c) o (record { holder = holder_at places (n + 1) h; credit = Some (n + 1); places = places })
+          → ShowsOutput (with_credits (words_of count places) came c) o (record { holder = holder_at places (n + 1) h; credit = Some (n + 1); depth = places })
       by Free i d = record { idle = idle-after ∙ rw i refl; draining = draining-after ∙ rw d refl; credit = now }
       by (Owned j p) i d = record { idle = idle-after ∙ rw (i, d) refl; draining = draining-after ∙ rw d refl; credit = now }
       by Draining i d = full (nat_eq (n + 1) places) refl
         where
-          full : (b : Bool) → nat_eq (n + 1) places ≡ b → ShowsOutput (with_credits (words_of count places) came c) o (record { holder = holder_at places (n + 1) Draining; credit = Some (n + 1); places = places })
+          full : (b : Bool) → nat_eq (n + 1) places ≡ b → ShowsOutput (with_credits (words_of count places) came c) o (record { holder = holder_at places (n + 1) Draining; credit = Some (n + 1); depth = places })
           full true e = record { idle = idle-after ∙ rw (i, d, now, e) refl; draining = draining-after ∙ rw (d, now, e) refl; credit = now }
           full false e = record { idle = idle-after ∙ rw (i, d, now, e) refl; draining = draining-after ∙ rw (d, now, e) refl; credit = now }
 
 -- an output channel after a credit has come to it, or not
 pub credited-shows : (count : ℕ) (c : Column) (places came o : ℕ) (output : Output) (b : Bool) → AreWords count c → came < 2 ^ 32 → o < 32 → places < 2 ^ count
-    → ShowsOutput c o output → (is_some output.credit ≡ true → output.places ≡ places) → IfSome output.credit (λ n. n ≤ places)
+    → ShowsOutput c o output → (is_some output.credit ≡ true → output.depth ≡ places) → IfSome output.credit (λ n. n ≤ places)
     → (is_draining output.holder ≡ true → credit_fits output ≡ true) → has_bit came o ≡ b → (b ≡ true → credit_fits output ≡ true)
     → ShowsOutput (with_credits (words_of count places) came c) o (credited_by output b)
 credited-shows count c places came o output b words small l room shows holds few drains here fit = at output.credit refl b here fit
   where
     at : (credit : Option ℕ) → output.credit ≡ credit → (b : Bool) → has_bit came o ≡ b → (b ≡ true → credit_fits output ≡ true) → ShowsOutput (with_credits (words_of count places) came c) o (credited_by output b)
-    at None e true h f = absurd (false≢true (ap (credit_fits_at output.places) (sym e) ∙ f refl))
+    at None e true h f = absurd (false≢true (ap (credit_fits_at output.depth) (sym e) ∙ f refl))
     at None e false h f =
         subst (λ (x : Output). ShowsOutput (with_credits (words_of count places) came c) o x) (ap (λ k. record output { credit = k }) (sym e))
-        (ejects count c places came o words small l room output.holder output.places (subst (λ k. ShowsOutput c o (record output { credit = k })) e shows) (apart (is_draining output.holder) refl))
+        (ejects count c places came o words small l room output.holder output.depth (subst (λ k. ShowsOutput c o (record output { credit = k })) e shows) (apart (is_draining output.holder) refl))
       where
         apart : (d : Bool) → is_draining output.holder ≡ d → is_draining output.holder ≡ false
-        apart true d = absurd (false≢true (ap (credit_fits_at output.places) (sym e) ∙ drains d))
+        apart true d = absurd (false≢true (ap (credit_fits_at output.depth) (sym e) ∙ drains d))
         apart false d = d
     at (Some n) e true h f =
-        let p : output.places ≡ places = holds (ap is_some e) in
-        let whole : output ≡ record { holder = output.holder; credit = Some n; places = places } = ap₂ (λ k m. record output { credit = k; places = m }) e p in
+        let p : output.depth ≡ places = holds (ap is_some e) in
+        let whole : output ≡ record { holder = output.holder; credit = Some n; depth = places } = ap₂ (λ k m. record output { credit = k; depth = m }) e p in
         let less_than : n < places = ltb-true n places (ap₂ credit_fits_at (sym p) (sym e) ∙ f refl) in
         subst (λ (x : Output). ShowsOutput (with_credits (words_of count places) came c) o (output_after_credit x)) (sym whole)
         (comes count c places came o words small l room output.holder n (subst (λ (x : Output). ShowsOutput c o x) whole shows) less_than h)
     at (Some n) e false h f =
-        let p : output.places ≡ places = holds (ap is_some e) in
-        let whole : output ≡ record { holder = output.holder; credit = Some n; places = places } = ap₂ (λ k m. record output { credit = k; places = m }) e p in
+        let p : output.depth ≡ places = holds (ap is_some e) in
+        let whole : output ≡ record { holder = output.holder; credit = Some n; depth = places } = ap₂ (λ k m. record output { credit = k; depth = m }) e p in
         let le : n ≤ places = rw e at few in
         subst (λ (x : Output). ShowsOutput (with_credits (words_of count places) came c) o x) (sym whole)
         (stays count c places came o words small l room output.holder n (subst (λ (x : Output). ShowsOutput c o x) whole shows) le
@@ -167,7 +167,7 @@ credited-has output true f = at output.credit refl
     or_true false = refl
 
     at : (credit : Option ℕ) → output.credit ≡ credit → has_credit (output_after_credit output) ≡ (has_credit output || true)
-    at None e = absurd (false≢true (ap (credit_fits_at output.places) (sym e) ∙ f refl))
+    at None e = absurd (false≢true (ap (credit_fits_at output.depth) (sym e) ∙ f refl))
     at (Some n) e =
         ap (λ (x : Output). has_credit (output_after_credit x)) (ap (λ k. record output { credit = k }) e) ∙ lt-ltb 0 (n + 1) (omega arith) ∙ sym (or_true (has_credit output))
 

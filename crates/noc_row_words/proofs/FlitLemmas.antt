@@ -6,7 +6,7 @@ use Rattle.noc_packet.specs.Set.{has_bit}
 use Rattle.noc_packet.specs.declared.packet.Flit.{Flit}
 use Rattle.noc_packet.proofs.SetLemmas.{both_members, either_members}
 use Rattle.noc_vc.specs.Input.{Input, is_empty}
-use Rattle.noc_counts.specs.Counts.{one_if}
+use Rattle.noc_topo.specs.Lists.{one_if}
 use Rattle.noc_row_words.specs.Planes.{plane_number, any_from}
 use Rattle.noc_row_words.specs.Taken.{with_one, landed_by}
 use Rattle.noc_row_words.specs.Column.{Column, AreWords}

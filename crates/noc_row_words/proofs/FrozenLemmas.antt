@@ -13,9 +13,9 @@ use Rattle.noc_vc.specs.declared.input.InputState.{InputState}
 use Rattle.noc_vc.specs.declared.input.InputState.TheVariants.{Idle, Waiting, Active}
 use Rattle.noc_vc.specs.declared.output.OutputState.{OutputState}
 use Rattle.noc_vc.specs.declared.output.OutputState.TheVariants.{Idle as Free, Owned, Draining}
-use Rattle.noc_counts.specs.Counts.{one_if}
-use Rattle.noc_router.specs.Verdict.{ArbiterStates}
-use Rattle.noc_router.specs.View.{Site, View, size_of, view_input, view_output}
+use Rattle.noc_topo.specs.Lists.{one_if}
+use Rattle.noc_view.specs.Verdict.{ArbiterStates}
+use Rattle.noc_view.specs.View.{Site, View, size_of, view_input, view_output}
 use Rattle.noc_row_words.specs.Bits.{lowest, negation}
 use Rattle.noc_row_words.specs.Column.{Column, RouterMarks, AreWords, ShowsHolder, ShowsMarks, ShowsPhase, ShowsSending, ShowsTurns, sends_by}
 use Rattle.noc_row_words.specs.Fields.{ShowsPointer}
@@ -70,7 +70,7 @@ holder-kept m o output true t = at output.credit
 
     at : (credit : Option ℕ) → ShowsHolder m o (output_with_credit output credit).holder
     at None = t
-    at (Some n) = same output.places (n + 1) output.holder t
+    at (Some n) = same output.depth (n + 1) output.holder t
 
 -- an owner stays one
 pub owned-kept : (output : Output) (b : Bool) (i p : ℕ) → output.holder ≡ Owned i p → (credited_by output b).holder ≡ Owned i p
@@ -79,7 +79,7 @@ owned-kept output true i p e = at output.credit
   where
     at : (credit : Option ℕ) → (output_with_credit output credit).holder ≡ Owned i p
     at None = e
-    at (Some n) = ap (holder_at output.places (n + 1)) e
+    at (Some n) = ap (holder_at output.depth (n + 1)) e
 
 pub sending-kept : (c d : Column) (v : View) (sending : Option (ℕ × ℕ)) → d.injecting ≡ c.injecting → ShowsSending c v sending → ShowsSending d v sending
 sending-kept c d v None e t = e ∙ t

@@ -5,7 +5,7 @@ use Rattle.std.proofs.lemmas.Bool.{cases_eq, eq-eqb, ne_eqb, true≢false, false
 use Rattle.std.proofs.lemmas.Option.{slice_get_within}
 use Rattle.noc_packet.specs.Packet.{flit_at}
 use Rattle.noc_packet.specs.declared.packet.Packet.{Packet}
-use Rattle.noc_router.specs.View.{View, local_channel, with_landed, with_injected}
+use Rattle.noc_view.specs.View.{View, local_channel, with_landed, with_injected}
 use Rattle.noc_row_words.specs.Bits.{minus}
 use Rattle.noc_row_words.specs.FlitWords.{flit_word}
 use Rattle.noc_row_words.specs.Source.{HasFlitWords, ShowsNext, ShowsQueue, ShowsSource, due_of, next_source, next_word, start_in}

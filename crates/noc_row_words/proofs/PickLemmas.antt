@@ -6,13 +6,12 @@ use Rattle.std.proofs.lemmas.Bool.{eq-eqb, ne_eqb, cases_eq, cases_lt, false≢t
 use Rattle.std.proofs.lemmas.Nat.{pow_pos, pow_below, and_le_l, and_le_r, and_mask, mod_below, or_lt, shl-shr, shr_split, le_or_r}
 use Rattle.std.proofs.lemmas.Nat.Bits.{bit_at-zero, bit_at-lt, bit_at_cat_high, bit_at_above, bit_at_or, and_pow, bit_at_ones, bit_at_ones_above, bit_at-pow_same, bit_at-pow_other, same_from_bits_below}
 use Rattle.std.proofs.Math.Nat.{pow-le-pow_right, mod_self, zero-mod}
-use Rattle.noc_topo.specs.Words.{is_some_of}
+use Rattle.noc_topo.specs.Lists.{is_some_of, one_if}
 use Rattle.noc_packet.specs.Set.{has_bit, IsLeast}
 use Rattle.noc_packet.proofs.SetLemmas.{both_members, either_members, has_bit-below, has_bit-above, has_bit-zero, has_bit-none, zero_from_none, bit_at-true, bit_at-false}
 use Rattle.noc_alloc.specs.Arbiter.{first_in_turn}
 use Rattle.noc_alloc.proofs.ArbiterLemmas.{first_in_turn-at, first_in_turn-before, first_in_turn-none}
-use Rattle.noc_counts.specs.Counts.{one_if}
-use Rattle.noc_counts.proofs.DigitLemmas.{one-small}
+use Rattle.noc_topo.proofs.ListLemmas.{one-small}
 use Rattle.noc_row_words.specs.Bits.{less, minus, plus, up_by, down_by}
 use Rattle.noc_row_words.specs.Fields.{field, spread, lows, highs, rests, Fields, IsFields, lane_some, lane_whole, lane_turn, lane_least, lane_pick, lane_past, ShowsPointer}
 use Rattle.noc_row_words.proofs.BitLemmas.{less_members, or_fits, pred_members, least_is}

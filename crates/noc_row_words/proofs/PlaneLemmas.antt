@@ -5,8 +5,8 @@ use Rattle.std.proofs.lemmas.Bool.{eq-eqb, ne_eqb, cases_eq, cases_lt, lt-ltb, l
 use Rattle.std.proofs.lemmas.Nat.Bits.{bit_at_ones}
 use Rattle.noc_packet.specs.Set.{has_bit}
 use Rattle.noc_packet.proofs.SetLemmas.{both_members, either_members, has_bit-one, has_bit-zero}
-use Rattle.noc_counts.specs.Counts.{one_if}
-use Rattle.noc_counts.proofs.DigitLemmas.{one-small}
+use Rattle.noc_topo.specs.Lists.{one_if}
+use Rattle.noc_topo.proofs.ListLemmas.{one-small}
 use Rattle.noc_row_words.specs.Bits.{differ, less}
 use Rattle.noc_row_words.specs.Planes.{plane_number, ArePlanes, raised_by, carry_of, lowered_by, borrow_of, any_from, more_than_one, wrong_from, word_of, words_of}
 use Rattle.noc_row_words.proofs.BitLemmas.{xor_members, less_members, less_fits, and_fits, or_fits, xor_fits}

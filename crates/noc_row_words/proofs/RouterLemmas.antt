@@ -3,7 +3,7 @@ use Rattle.std.proofs.Common.{◌≡◌, ◌≢◌, ℕ, ◌+◌, ◌*◌, ◌<�
 use Rattle.std.specs.Prelude.{◌⊎◌}
 use Rattle.std.proofs.lemmas.Bool.{cases_eq, cases_lt}
 use Rattle.std.proofs.lemmas.List.{get_or_past}
-use Rattle.noc_topo.proofs.WordLemmas.{get_or-tabulate, length-tabulate, tabulate-from_each}
+use Rattle.noc_topo.proofs.ListLemmas.{get_or-tabulate, length-tabulate, tabulate-from_each}
 use Rattle.noc_row_words.specs.Rows.{of_router, by_port}
 
 pub entry-at : (xs : List ℕ) (j k : ℕ) → k < 32 → get_or (of_router xs j) k 0 ≡ get_or xs (j * 32 + k) 0

@@ -4,9 +4,9 @@ use Rattle.std.specs.Prelude.{nat_eq, ◌⊎◌, ◌&&◌, not, is_some, option_
 use Rattle.std.specs.Int.{trailing_zeros}
 use Rattle.std.proofs.lemmas.Bool.{eq-eqb, ne_eqb, cases_eq, cases_lt, false≢true, and_parts, eqb-true}
 use Rattle.std.proofs.lemmas.Nat.{div_below, div-mul-add, mod-mul-add, mul-add-lt, and_le_l}
-use Rattle.noc_topo.specs.Words.{is_some_of}
+use Rattle.noc_topo.specs.Lists.{is_some_of}
 use Rattle.noc_topo.specs.Shape.{ports}
-use Rattle.noc_topo.proofs.WordLemmas.{get_or-tabulate}
+use Rattle.noc_topo.proofs.ListLemmas.{get_or-tabulate}
 use Rattle.noc_packet.specs.Set.{has_bit, IsLeast}
 use Rattle.noc_packet.proofs.SetLemmas.{both_members}
 use Rattle.noc_alloc.specs.Arbiter.{pointers_of}
@@ -16,10 +16,10 @@ use Rattle.noc_vc.specs.Input.{is_empty}
 use Rattle.noc_vc.specs.Output.{has_credit}
 use Rattle.noc_vc.specs.declared.input.InputState.{InputState}
 use Rattle.noc_vc.specs.declared.input.InputState.TheVariants.{Idle, Waiting, Active}
-use Rattle.noc_alloc.specs.Places.{AreBelow}
-use Rattle.noc_router.specs.Verdict.{Holds, ready_of, ready_port}
-use Rattle.noc_router.specs.View.{View, size_of, view_buffer, view_input, view_output, view_claim, claim_in, view_round, view_stands}
-use Rattle.noc_router.proofs.StandLemmas.{ready_of-stands}
+use Rattle.noc_alloc.specs.Sparse.{AreBelow}
+use Rattle.noc_view.specs.Verdict.{Holds, ready_of, ready_port}
+use Rattle.noc_view.specs.View.{View, size_of, view_buffer, view_input, view_output, view_claim, claim_in, view_round, view_stands}
+use Rattle.noc_view.proofs.StandLemmas.{ready_of-stands}
 use Rattle.noc_row_words.specs.Bits.{lowest}
 use Rattle.noc_row_words.specs.Column.{sends_by}
 use Rattle.noc_row_words.specs.Turns.{in_turn, first_bit}

@@ -4,9 +4,9 @@ use Rattle.std.specs.Prelude.{◌&&◌, ◌||◌, not, is_some, slice_index, sli
 use Rattle.std.proofs.lemmas.Bool.{false≢true, true≢false, and_parts, eqb-true}
 use Rattle.std.proofs.lemmas.Nat.{div-add-mod', mod_below, div_below, mul-add-lt}
 use Rattle.std.proofs.lemmas.List.{get_or-map}
-use Rattle.noc_topo.specs.Words.{is_some_of}
+use Rattle.noc_topo.specs.Lists.{is_some_of}
 use Rattle.noc_topo.specs.Shape.{ports}
-use Rattle.noc_topo.proofs.WordLemmas.{get_or-tabulate}
+use Rattle.noc_topo.proofs.ListLemmas.{get_or-tabulate}
 use Rattle.noc_packet.specs.Set.{has_bit}
 use Rattle.noc_packet.proofs.SetLemmas.{both_members, either_members}
 use Rattle.noc_alloc.specs.Arbiter.{RoundRobin, first_in_turn, arbiter_at, pointers_of}
@@ -16,15 +16,15 @@ use Rattle.noc_vc.specs.Input.{is_active, is_waiting, is_idle_phase, is_empty}
 use Rattle.noc_vc.specs.Output.{has_credit}
 use Rattle.noc_vc.specs.declared.input.InputState.{InputState}
 use Rattle.noc_vc.specs.declared.input.InputState.TheVariants.{Idle, Waiting, Active}
-use Rattle.noc_alloc.specs.Places.{AreBelow}
+use Rattle.noc_alloc.specs.Sparse.{AreBelow}
 use Rattle.noc_alloc.specs.Requests.{is_given}
-use Rattle.noc_router.specs.Sound.{is_supplied}
-use Rattle.noc_router.specs.Standing.{IsStanding, is_won_from}
-use Rattle.noc_router.specs.Verdict.{Holds, ask_of, ready_of, ready_port}
-use Rattle.noc_router.specs.VerdictSets.{verdict_by, sets_with}
-use Rattle.noc_router.specs.View.{View, size_of, view_buffer, view_input, view_output, view_claim, claim_in, view_round, view_stands, finding_of}
-use Rattle.noc_router.proofs.StandLemmas.{ready_of-stands}
-use Rattle.noc_router.proofs.VerdictSetLemmas.{AreVerdicts, verdict-on, apart-on}
+use Rattle.noc_view.specs.States.{is_supplied, is_won_from}
+use Rattle.noc_view.specs.ReadySets.{AreReadySetsOf}
+use Rattle.noc_view.specs.Verdict.{Holds, ask_of, ready_of, ready_port}
+use Rattle.noc_view.specs.VerdictSets.{verdict_by, sets_with}
+use Rattle.noc_view.specs.View.{View, size_of, view_buffer, view_input, view_output, view_claim, claim_in, view_round, view_stands, finding_of}
+use Rattle.noc_view.proofs.StandLemmas.{ready_of-stands}
+use Rattle.noc_view.proofs.VerdictSetLemmas.{AreVerdicts, verdict-on, apart-on}
 use Rattle.noc_row_words.specs.Bits.{less}
 use Rattle.noc_row_words.specs.Fields.{Fields, IsFields, ShowsPointer}
 use Rattle.noc_row_words.specs.Column.{Column, AreWords, ShowsChannels}
@@ -69,7 +69,7 @@ module _ (count : ℕ) (c : Column) (v : View) (filled : ℕ) (words : AreWords 
   by_phase (Active o) false = refl
 
   -- the sets of the lane are those that the verdicts rest on
-  pub standing : IsStanding v (record { heads = lane_heads filled c; waiting = c.waiting; no_flit = lane_no_flit filled c; no_credit = lane_no_credit filled c; ready = lane_ready filled c })
+  pub standing : AreReadySetsOf v (record { heads = lane_heads filled c; waiting = c.waiting; no_flit = lane_no_flit filled c; no_credit = lane_no_credit filled c; ready = lane_ready filled c })
   standing = record {
     heads_below = part_below filled _ (size_of v.site) fill.below;
     waiting_below = shows.waiting_below;

@@ -3,9 +3,9 @@ use Rattle.std.proofs.Common.{◌≡◌, ℕ, ◌+◌, ◌*◌, ◌/◌, ◌%◌
 use Rattle.std.specs.Prelude.{nat_eq, ◌⊎◌, ◌&&◌, not, is_some, slice_index, slice_index_or, option_and_then, if◌then◌else◌}
 use Rattle.std.proofs.lemmas.Bool.{eq-eqb, ne_eqb, cases_eq, false≢true}
 use Rattle.std.proofs.lemmas.Nat.{div-mul-add, mod-mul-add, mul-add-lt}
-use Rattle.noc_topo.specs.Words.{is_some_of}
+use Rattle.noc_topo.specs.Lists.{is_some_of}
 use Rattle.noc_topo.specs.Shape.{ports}
-use Rattle.noc_topo.proofs.WordLemmas.{get_or-tabulate, get_or-map_indexed}
+use Rattle.noc_topo.proofs.ListLemmas.{get_or-tabulate, get_or-map_indexed}
 use Rattle.noc_packet.specs.Set.{has_bit}
 use Rattle.noc_alloc.specs.Arbiter.{RoundRobin, arbiter_at, arbiter_after, pointer_after, pointers_of}
 use Rattle.noc_alloc.specs.Allocation.{pick_of, has_won, winning_pick, is_won_by}
@@ -15,10 +15,10 @@ use Rattle.noc_vc.specs.Input.{is_empty}
 use Rattle.noc_vc.specs.Output.{has_credit}
 use Rattle.noc_vc.specs.declared.input.InputState.{InputState}
 use Rattle.noc_vc.specs.declared.input.InputState.TheVariants.{Idle, Waiting, Active}
-use Rattle.noc_router.specs.Standing.{is_won_from, way_in}
-use Rattle.noc_router.specs.Verdict.{Holds, ready_of, ready_port, arbiters_after}
-use Rattle.noc_router.specs.View.{View, size_of, view_buffer, view_input, view_output, view_claim, claim_in, view_round, view_stands}
-use Rattle.noc_router.proofs.StandLemmas.{ready_of-stands}
+use Rattle.noc_view.specs.States.{is_won_from, way_in}
+use Rattle.noc_view.specs.Verdict.{Holds, ready_of, ready_port, arbiters_after}
+use Rattle.noc_view.specs.View.{View, size_of, view_buffer, view_input, view_output, view_claim, claim_in, view_round, view_stands}
+use Rattle.noc_view.proofs.StandLemmas.{ready_of-stands}
 use Rattle.noc_row_words.specs.Fields.{Fields, IsFields, lane_past, ShowsPointer}
 use Rattle.noc_row_words.proofs.PickLemmas.{past-moved, past-stays}
 

@@ -4,14 +4,14 @@ use Rattle.std.specs.Prelude.{◌⊎◌, ◌&&◌, nat_eq, nat_lt, slice_set, sl
 use Rattle.std.proofs.lemmas.Bool.{eq-eqb, ne_eqb, cases_eq, cases_lt, false≢true, and_parts, ltb-true}
 use Rattle.std.proofs.lemmas.List.{length-set, get_or-set_same, get_or-set_other}
 use Rattle.std.proofs.lemmas.Nat.{mul-add-lt, div-mul-add, mod-mul-add, div-add-mod'}
-use Rattle.noc_topo.specs.Words.{is_some_of}
+use Rattle.noc_topo.specs.Lists.{is_some_of}
 use Rattle.noc_topo.specs.Shape.{ports}
 use Rattle.noc_packet.specs.declared.packet.Flit.{Flit}
 use Rattle.noc_packet.specs.declared.packet.Beat.{Beat}
 use Rattle.noc_route.specs.Routes.{Routes}
 use Rattle.noc_vc.specs.Input.{Input, idle_input, fits, input_after_land}
 use Rattle.noc_vc.specs.Output.{Output, ejection_output, credit_fits, output_after_credit}
-use Rattle.noc_router.specs.View.{Site, View, size_of, has_link, view_buffer, view_input, view_output, with_misfit, with_landed, with_flit, with_credit, view_after_take, view_after_takes_from, view_after_takes}
+use Rattle.noc_view.specs.View.{Site, View, size_of, has_link, view_buffer, view_input, view_output, with_misfit, with_landed, with_flit, with_credit, view_after_take, view_after_takes_from, view_after_takes}
 use Rattle.noc_row_words.specs.Taken.{flit_on_vc, flit_by, credit_by, flit_from, credit_from, with_one, landed_by, credited_by, HasTaken, HasSize}
 
 -- ---- a misfit stays
@@ -25,7 +25,7 @@ either false w v h l = misfit-some v
 flit-stays : (relation : Routes) (port : ℕ) (flit : Option (ℕ × Flit)) (v : View) → 0 < v.misfits → 0 < (with_flit relation port flit v).misfits
 flit-stays relation port None v l = l
 flit-stays relation port (Some (vc, f)) v l =
-    either (has_link v.site port && nat_lt vc v.site.vcs && fits relation v.site.node port vc v.site.places (view_buffer v (port * v.site.vcs + vc)) (view_input v (port * v.site.vcs + vc)) f)
+    either (has_link v.site port && nat_lt vc v.site.vcs && fits relation v.site.node port vc v.site.depth (view_buffer v (port * v.site.vcs + vc)) (view_input v (port * v.site.vcs + vc)) f)
     (with_landed (port * v.site.vcs + vc) f v) v (λ h. h) l
 
 credit-stays : (port : ℕ) (credit : Option ℕ) (v : View) → 0 < v.misfits → 0 < (with_credit port credit v).misfits
@@ -120,17 +120,17 @@ flit-taken relation port None v size l none = record {
   rest = refl;
 }
 flit-taken relation port (Some (vc, f)) v size l none =
-    at (has_link v.site port && nat_lt vc v.site.vcs && fits relation v.site.node port vc v.site.places (view_buffer v (port * v.site.vcs + vc)) (view_input v (port * v.site.vcs + vc)) f) refl
+    at (has_link v.site port && nat_lt vc v.site.vcs && fits relation v.site.node port vc v.site.depth (view_buffer v (port * v.site.vcs + vc)) (view_input v (port * v.site.vcs + vc)) f) refl
   where
     at : (b : Bool)
-        → (has_link v.site port && nat_lt vc v.site.vcs && fits relation v.site.node port vc v.site.places (view_buffer v (port * v.site.vcs + vc)) (view_input v (port * v.site.vcs + vc)) f) ≡ b
+        → (has_link v.site port && nat_lt vc v.site.vcs && fits relation v.site.node port vc v.site.depth (view_buffer v (port * v.site.vcs + vc)) (view_input v (port * v.site.vcs + vc)) f) ≡ b
         → HasTaken relation v (with_flit relation port (Some (vc, f)) v) (flit_by v.site.vcs port (Some (vc, f))) (λ o. false)
     at false e = absurd (omega (arith, misfit-some v, ap (λ (b : Bool). (if b then with_landed (port * v.site.vcs + vc) f v else with_misfit v).misfits) e, none))
     at true e = subst (λ (b : Bool). HasTaken relation v (if b then with_landed (port * v.site.vcs + vc) f v else with_misfit v) (flit_by v.site.vcs port (Some (vc, f))) (λ o. false)) (sym e) it
       where
-        parts : (nat_lt vc v.site.vcs ≡ true) × (fits relation v.site.node port vc v.site.places (view_buffer v (port * v.site.vcs + vc)) (view_input v (port * v.site.vcs + vc)) f ≡ true)
+        parts : (nat_lt vc v.site.vcs ≡ true) × (fits relation v.site.node port vc v.site.depth (view_buffer v (port * v.site.vcs + vc)) (view_input v (port * v.site.vcs + vc)) f ≡ true)
         parts =
-            let first = and_parts (has_link v.site port && nat_lt vc v.site.vcs) (fits relation v.site.node port vc v.site.places (view_buffer v (port * v.site.vcs + vc)) (view_input v (port * v.site.vcs + vc)) f) e in
+            let first = and_parts (has_link v.site port && nat_lt vc v.site.vcs) (fits relation v.site.node port vc v.site.depth (view_buffer v (port * v.site.vcs + vc)) (view_input v (port * v.site.vcs + vc)) f) e in
             ((and_parts (has_link v.site port) (nat_lt vc v.site.vcs) first.0).1, first.1)
 
         small : vc < v.site.vcs
@@ -175,13 +175,13 @@ flit-taken relation port (Some (vc, f)) v size l none =
                 ∙ ap (landed_by (view_input v i)) (sym (flit_by-other v.site.vcs port vc i f size.some other))
 
             fit : (i : ℕ) → i < size_of v.site → (i ≡ port * v.site.vcs + vc) ⊎ (i ≡ port * v.site.vcs + vc → ⊥)
-                → IfSome (flit_by v.site.vcs port (Some (vc, f)) i) (λ g. fits relation v.site.node (i / v.site.vcs) (i % v.site.vcs) v.site.places (view_buffer v i) (view_input v i) g ≡ true)
+                → IfSome (flit_by v.site.vcs port (Some (vc, f)) i) (λ g. fits relation v.site.node (i / v.site.vcs) (i % v.site.vcs) v.site.depth (view_buffer v i) (view_input v i) g ≡ true)
             fit i u (inl same) =
                 let p = at_channel v.site.vcs port vc i small same in
                 rw (flit_by-here v.site.vcs port vc i f small same)
-                (ap (λ n. fits relation v.site.node n (i % v.site.vcs) v.site.places (view_buffer v i) (view_input v i) f) p.0
-                ∙ ap (λ n. fits relation v.site.node port n v.site.places (view_buffer v i) (view_input v i) f) p.1
-                ∙ ap (λ n. fits relation v.site.node port vc v.site.places (view_buffer v n) (view_input v n) f) same
+                (ap (λ n. fits relation v.site.node n (i % v.site.vcs) v.site.depth (view_buffer v i) (view_input v i) f) p.0
+                ∙ ap (λ n. fits relation v.site.node port n v.site.depth (view_buffer v i) (view_input v i) f) p.1
+                ∙ ap (λ n. fits relation v.site.node port vc v.site.depth (view_buffer v n) (view_input v n) f) same
                 ∙ parts.1)
             fit i u (inr other) = rw (flit_by-other v.site.vcs port vc i f size.some other) tt
 
@@ -292,16 +292,16 @@ taken-both relation u v w f g h c d e flits credits first later = record {
     output o l (inr x) = later.output o (size o l) ∙ ap (credited_by (view_output v o)) x.0 ∙ first.output o l ∙ ap (credited_by (view_output u o)) (sym x.1)
 
     fit : (i : ℕ) → i < size_of u.site → IsEither None (f i) (g i) (h i)
-        → IfSome (h i) (λ one. fits relation u.site.node (i / u.site.vcs) (i % u.site.vcs) u.site.places (view_buffer u i) (view_input u i) one ≡ true)
+        → IfSome (h i) (λ one. fits relation u.site.node (i / u.site.vcs) (i % u.site.vcs) u.site.depth (view_buffer u i) (view_input u i) one ≡ true)
     fit i l (inl x) = rw x.1 (at (g i) (later.fits i (size i l)))
       where
-        at : (o : Option Flit) → IfSome o (λ one. fits relation v.site.node (i / v.site.vcs) (i % v.site.vcs) v.site.places (view_buffer v i) (view_input v i) one ≡ true)
-            → IfSome o (λ one. fits relation u.site.node (i / u.site.vcs) (i % u.site.vcs) u.site.places (view_buffer u i) (view_input u i) one ≡ true)
+        at : (o : Option Flit) → IfSome o (λ one. fits relation v.site.node (i / v.site.vcs) (i % v.site.vcs) v.site.depth (view_buffer v i) (view_input v i) one ≡ true)
+            → IfSome o (λ one. fits relation u.site.node (i / u.site.vcs) (i % u.site.vcs) u.site.depth (view_buffer u i) (view_input u i) one ≡ true)
         at None t = tt
         at (Some one) t =
-            ap (λ xs. fits relation u.site.node (i / u.site.vcs) (i % u.site.vcs) u.site.places xs (view_input u i) one) (sym (first.buffer i l ∙ ap (with_one (view_buffer u i)) x.0))
-            ∙ ap (λ (y : Input). fits relation u.site.node (i / u.site.vcs) (i % u.site.vcs) u.site.places (view_buffer v i) y one) (sym (first.input i l ∙ ap (landed_by (view_input u i)) x.0))
-            ∙ ap (λ (s : Site). fits relation s.node (i / s.vcs) (i % s.vcs) s.places (view_buffer v i) (view_input v i) one) (sym same_site)
+            ap (λ xs. fits relation u.site.node (i / u.site.vcs) (i % u.site.vcs) u.site.depth xs (view_input u i) one) (sym (first.buffer i l ∙ ap (with_one (view_buffer u i)) x.0))
+            ∙ ap (λ (y : Input). fits relation u.site.node (i / u.site.vcs) (i % u.site.vcs) u.site.depth (view_buffer v i) y one) (sym (first.input i l ∙ ap (landed_by (view_input u i)) x.0))
+            ∙ ap (λ (s : Site). fits relation s.node (i / s.vcs) (i % s.vcs) s.depth (view_buffer v i) (view_input v i) one) (sym same_site)
             ∙ t
     fit i l (inr x) = rw x.1 (first.fits i l)
 

@@ -2,7 +2,7 @@
 use Rattle.std.proofs.Common.{◌≡◌, ℕ, zero, suc, ◌+◌, ◌<◌, ◌≤◌, Bool, true, false, List, length, set, refl, ap, sym, ◌∙◌, arith, add-one, get_or-set_same, get_or-set_other}
 use Rattle.std.specs.Prelude.{slice_index, slice_index_or}
 use Rattle.noc_packet.specs.Set.{has_bit}
-use Rattle.noc_counts.specs.Counts.{one_if}
+use Rattle.noc_topo.specs.Lists.{one_if}
 use Rattle.noc_row_words.specs.Rows.{verdicts_at}
 use Rattle.noc_row_words.specs.Tallied.{CountsAreBelow, no_rows, with_recent, with_verdicts, with_waits}
 use Rattle.noc_row_words.specs.declared.sheet.Verdicts.{Verdicts}

@@ -6,12 +6,12 @@ use Rattle.std.proofs.lemmas.Bool.{eq-eqb, ne_eqb, cases_eq, cases_lt, false≢t
 use Rattle.std.proofs.lemmas.Nat.{pow_pos, pow_below}
 use Rattle.std.proofs.lemmas.Nat.Bits.{bit_at_ones, bit_at_ones_above, bit_at-pow_same, bit_at-pow_other}
 use Rattle.std.proofs.Math.Nat.{mod_self}
-use Rattle.noc_topo.specs.Words.{is_some_of}
+use Rattle.noc_topo.specs.Lists.{is_some_of}
 use Rattle.noc_packet.specs.Set.{has_bit, IsLeast}
 use Rattle.noc_packet.proofs.SetLemmas.{both_members, either_members, has_bit-zero}
 use Rattle.noc_alloc.specs.Arbiter.{first_in_turn}
 use Rattle.noc_alloc.proofs.ArbiterLemmas.{first_in_turn-at, first_in_turn-before, first_in_turn-none}
-use Rattle.noc_alloc.specs.Places.{AreBelow}
+use Rattle.noc_alloc.specs.Sparse.{AreBelow}
 use Rattle.noc_row_words.specs.Bits.{minus, lowest}
 use Rattle.noc_row_words.specs.Fields.{ShowsPointer}
 use Rattle.noc_row_words.specs.Turns.{first_bit, mask_past}

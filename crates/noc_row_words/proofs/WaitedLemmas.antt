@@ -2,7 +2,7 @@
 use Rattle.std.proofs.Common.{◌≡◌, ℕ, ◌+◌, ◌-◌, ◌*◌, ◌/◌, ◌%◌, ◌^◌, ◌<◌, Bool, true, false, List, refl, ap, ◌∙◌, arith}
 use Rattle.std.specs.Prelude.{slice_index}
 use Rattle.noc_packet.specs.Set.{has_bit}
-use Rattle.noc_counts.specs.Counts.{one_if}
+use Rattle.noc_topo.specs.Lists.{one_if}
 use Rattle.noc_row_words.specs.Column.{place_of}
 use Rattle.noc_row_words.specs.Rows.{verdicts_at, word}
 use Rattle.noc_row_words.specs.Tallied.{CountsAreBelow, HaveRisen, with_times, with_waits}

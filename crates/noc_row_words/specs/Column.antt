@@ -10,9 +10,9 @@ use Rattle.noc_vc.specs.declared.input.InputState.{InputState}
 use Rattle.noc_vc.specs.declared.input.InputState.TheVariants.{Idle, Waiting, Active}
 use Rattle.noc_vc.specs.declared.output.OutputState.{OutputState}
 use Rattle.noc_vc.specs.declared.output.OutputState.TheVariants.{Idle as Free, Owned, Draining}
-use Rattle.noc_alloc.specs.Places.{AreBelow}
-use Rattle.noc_router.specs.Sound.{is_supplied, owns, is_owned_from}
-use Rattle.noc_router.specs.View.{Site, View, size_of, local_channel, view_buffer, view_input, view_output}
+use Rattle.noc_alloc.specs.Sparse.{AreBelow}
+use Rattle.noc_view.specs.States.{is_supplied, owns, is_owned_from}
+use Rattle.noc_view.specs.View.{Site, View, size_of, local_channel, view_buffer, view_input, view_output}
 use Rattle.noc_packet.specs.declared.packet.Beat.{Beat}
 use Rattle.noc_row_words.specs.Taken.{flit_from, credit_from, with_one}
 use Rattle.noc_row_words.specs.FlitWords.{flit_word}
@@ -155,11 +155,11 @@ pub record IsColumn (count : ℕ) (c : Column) (m : RouterMarks) (v : View) : Ty
 -- ---- what the words rest on: facts of every view of a network
 pub record IsTidy (v : View) : Type 0 where
   -- no more flits than places, and no credit too many
-  pub lens : (i : ℕ) → i < size_of v.site → length (view_buffer v i) ≤ v.site.places
-  pub credits : (o : ℕ) → o < size_of v.site → IfSome (view_output v o).credit (λ n. n ≤ v.site.places)
-  pub places : (o : ℕ) → o < size_of v.site → IfSome (view_output v o).credit (λ n. (view_output v o).places ≡ v.site.places)
+  pub lens : (i : ℕ) → i < size_of v.site → length (view_buffer v i) ≤ v.site.depth
+  pub credits : (o : ℕ) → o < size_of v.site → IfSome (view_output v o).credit (λ n. n ≤ v.site.depth)
+  pub places : (o : ℕ) → o < size_of v.site → IfSome (view_output v o).credit (λ n. (view_output v o).depth ≡ v.site.depth)
   -- one that drains is a link channel, and misses a credit
-  pub drains : (o : ℕ) → o < size_of v.site → is_draining (view_output v o).holder ≡ true → IfSome (view_output v o).credit (λ n. n < v.site.places) × (is_some (view_output v o).credit ≡ true)
+  pub drains : (o : ℕ) → o < size_of v.site → is_draining (view_output v o).holder ≡ true → IfSome (view_output v o).credit (λ n. n < v.site.depth) × (is_some (view_output v o).credit ≡ true)
   -- a link channel counts credits, an ejection channel does not
   pub links : (o : ℕ) → o < size_of v.site → is_some (view_output v o).credit ≡ nat_lt o (local_port v.site.grid * v.site.vcs)
   -- whose packet owns what

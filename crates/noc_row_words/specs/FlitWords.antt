@@ -1,6 +1,6 @@
 -- Flits as words, and the rings that hold them.
 use Rattle.std.specs.Prelude.{ℕ, ◌+◌, ◌-◌, ◌*◌, ◌%◌, ◌^◌, ◌<◌, Bool, ◌||◌, List, nat_eq, slice_index_or, if◌then◌else◌}
-use Rattle.noc_topo.specs.Words.{tabulate}
+use Rattle.noc_topo.specs.Lists.{tabulate}
 use Rattle.noc_packet.specs.declared.packet.Flit.{Flit}
 
 -- the packet's number in the lowest 32 bits, then the flit's index, the mark of a tail, and the packet's destination and class

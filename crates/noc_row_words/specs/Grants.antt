@@ -1,15 +1,15 @@
 -- Output channels are granted to waiting input channels: what they ask for, and what a grant changes.
 use Rattle.std.specs.Prelude.{◌≡◌, ◌≢◌, ℕ, ◌+◌, ◌*◌, ◌%◌, ◌^◌, ◌<◌, Bool, true, false, ◌&&◌, ◌||◌, not, List, Option, Some, None, is_some, nat_eq, slice_index, slice_index_or, bit_and, bit_or, if◌then◌else◌}
 use Rattle.std.specs.Int.{trailing_zeros, w32}
-use Rattle.noc_topo.specs.Words.{is_some_of}
+use Rattle.noc_topo.specs.Lists.{is_some_of}
 use Rattle.noc_topo.specs.Shape.{ports}
 use Rattle.noc_packet.specs.Set.{has_bit}
 use Rattle.noc_alloc.specs.Arbiter.{arbiter_at}
 use Rattle.noc_vc.specs.declared.input.InputState.{InputState}
 use Rattle.noc_vc.specs.declared.input.InputState.TheVariants.{Active}
 use Rattle.noc_alloc.specs.Requests.{is_given}
-use Rattle.noc_router.specs.Verdict.{arbiters_after, ask_of}
-use Rattle.noc_router.specs.View.{View, size_of, view_claim, view_input, view_round}
+use Rattle.noc_view.specs.Verdict.{arbiters_after, ask_of}
+use Rattle.noc_view.specs.View.{View, size_of, view_claim, view_input, view_round}
 use Rattle.noc_row_words.specs.Bits.{less, plus}
 use Rattle.noc_row_words.specs.Column.{Column, RouterMarks, ShowsPhase, sends_by}
 use Rattle.noc_row_words.specs.Fields.{ShowsPointer}

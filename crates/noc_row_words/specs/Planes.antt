@@ -1,7 +1,7 @@
 -- A number for each channel, bit by bit: plane i is the set of the channels whose number has bit i.
 use Rattle.std.specs.Prelude.{ℕ, zero, suc, ◌+◌, ◌-◌, ◌*◌, ◌/◌, ◌%◌, ◌^◌, ◌<◌, Bool, true, false, List, [], ◌∷◌, nat_eq, bit_and, bit_or, bit_xor}
 use Rattle.noc_packet.specs.Set.{has_bit}
-use Rattle.noc_counts.specs.Counts.{one_if}
+use Rattle.noc_topo.specs.Lists.{one_if}
 use Rattle.noc_row_words.specs.Bits.{less}
 
 -- the number of channel x, by planes from the lowest bit on

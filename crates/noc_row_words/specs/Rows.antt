@@ -1,6 +1,6 @@
 -- What of the rows of a block belongs to one router of it.
 use Rattle.std.specs.Prelude.{ℕ, List, [], ◌∷◌, slice_index, slice_index_or, bit_or}
-use Rattle.noc_topo.specs.Words.{tabulate}
+use Rattle.noc_topo.specs.Lists.{tabulate}
 use Rattle.noc_row_words.specs.Column.{Column, RouterMarks, place_of}
 use Rattle.noc_row_words.specs.declared.marks.Marks.{Marks}
 use Rattle.noc_row_words.specs.declared.marks.Tallies.{Tallies}

@@ -1,7 +1,7 @@
 -- The counts of a sheet: for a verdict, the channels of recent cycles, the bits of the counts, and what is pending at each bit.
 use Rattle.std.specs.Prelude.{ℕ, zero, suc, ◌+◌, ◌*◌, ◌^◌, ◌&&◌, List, [], slice_index_or, bit_and, bit_or, bit_xor}
 use Rattle.noc_packet.specs.Set.{has_bit}
-use Rattle.noc_counts.specs.Counts.{one_if}
+use Rattle.noc_topo.specs.Lists.{one_if}
 use Rattle.noc_row_words.specs.Rows.{word}
 use Rattle.noc_row_words.specs.declared.counter.Counter.{Counter}
 

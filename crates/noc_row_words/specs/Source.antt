@@ -2,7 +2,7 @@
 use Rattle.std.specs.Prelude.{◌≡◌, ℕ, ◌+◌, ◌%◌, ◌^◌, ◌<◌, List, [], ◌∷◌, length, Option, Some, None, slice_get, slice_index_or, unwrap_or, nat_eq, if◌then◌else◌}
 use Rattle.noc_packet.specs.Packet.{IsWithinLimits, flit_at}
 use Rattle.noc_packet.specs.declared.packet.Packet.{Packet}
-use Rattle.noc_router.specs.View.{View}
+use Rattle.noc_view.specs.View.{View}
 use Rattle.noc_row_words.specs.Bits.{minus}
 use Rattle.noc_row_words.specs.FlitWords.{flit_word}
 use Rattle.noc_row_words.specs.declared.block.Source.{Source}

@@ -1,8 +1,8 @@
 -- What a sheet says of a channel: how often it had each verdict that is counted for all channels at once.
 use Rattle.std.specs.Prelude.{◌≡◌, ℕ, zero, suc, ◌+◌, ◌-◌, ◌*◌, ◌/◌, ◌%◌, ◌^◌, ◌<◌, ◌≤◌, List, [], ◌∷◌, Option, Some, None, slice_index, slice_index_or, sum}
-use Rattle.noc_router.specs.View.{View, size_of}
+use Rattle.noc_view.specs.View.{View, size_of}
 use Rattle.noc_packet.specs.Set.{has_bit}
-use Rattle.noc_counts.specs.Counts.{one_if}
+use Rattle.noc_topo.specs.Lists.{one_if}
 use Rattle.noc_row_words.specs.Column.{place_of}
 use Rattle.noc_row_words.specs.Rows.{verdicts_at, word}
 use Rattle.noc_row_words.specs.Sheet.{counted_at}

@@ -2,7 +2,7 @@
 
 ghost use Rattle.std.specs.Prelude.{◌≡◌, ◌+◌, ◌*◌, ◌^◌, ◌<◌, ℕ};
 ghost use Rattle.noc_packet.specs.Set.{has_bit};
-ghost use Rattle.noc_counts.specs.Counts.{one_if};
+ghost use Rattle.noc_topo.specs.Lists.{one_if};
 ghost use Rattle.noc_row_words.specs.Rows.{word};
 ghost use Rattle.noc_row_words.specs.Sheet.{at_level, carry_over, counted_at, number_by, sum_of, with_four};
 

@@ -3,7 +3,7 @@
 ghost use Rattle.std.specs.Prelude.{◌≡◌, ◌≤◌};
 ghost use Rattle.noc_packet.specs.Packet.{IsWithinLimits, flit_at};
 ghost use Rattle.noc_packet.specs.declared.packet.Flit.{Flit};
-ghost use Rattle.noc_counts.specs.Counts.{one_if};
+ghost use Rattle.noc_topo.specs.Lists.{one_if};
 ghost use Rattle.noc_row_words.specs.FlitWords.{FitsWord, flit_word};
 
 use noc_packet::Packet;

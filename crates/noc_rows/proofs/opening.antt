@@ -1,6 +1,5 @@
 pub mod OpeningLemmas
 pub mod OpeningWireLemmas
-pub mod StartLemmas
 pub mod ListedLemmas
 pub mod OpenLemmas
 pub mod BlockLemmas

@@ -3,12 +3,12 @@ use Rattle.std.specs.Prelude.{◌≡◌, ℕ, ◌+◌, ◌*◌, ◌/◌, ◌%◌
 use Rattle.std.specs.Int.{trailing_zeros, w32}
 use Rattle.noc_packet.specs.Set.{has_bit}
 use Rattle.noc_packet.specs.declared.packet.Flit.{Flit}
-use Rattle.noc_router.specs.Found.{empty_finding}
-use Rattle.noc_router.specs.VerdictSets.{verdict_by}
-use Rattle.noc_router.specs.declared.verdict.Finding.{Finding}
-use Rattle.noc_router.specs.declared.verdict.Verdict.{Verdict}
-use Rattle.noc_router.specs.declared.verdict.Verdict.TheVariants.{Empty}
-use Rattle.noc_router.specs.declared.verdict_sets.VerdictSets.{VerdictSets}
+use Rattle.noc_view.specs.Found.{empty_finding}
+use Rattle.noc_view.specs.VerdictSets.{verdict_by}
+use Rattle.noc_view.specs.declared.finding.Finding.{Finding}
+use Rattle.noc_view.specs.declared.verdict.Verdict.{Verdict}
+use Rattle.noc_view.specs.declared.verdict.Verdict.TheVariants.{Empty}
+use Rattle.noc_view.specs.declared.sets.VerdictSets.{VerdictSets}
 use Rattle.noc_row_words.specs.FlitWords.{FitsWord, flit_word}
 use Rattle.noc_row_words.specs.Passes.{lane_verdicts}
 use Rattle.noc_row_words.specs.Rows.{column_at, standing_at, word}

@@ -2,7 +2,7 @@
 use Rattle.std.specs.Prelude.{ℕ, ◌<◌, List}
 use Rattle.noc_topo.specs.Shape.{nodes}
 use Rattle.noc_packet.specs.declared.packet.Beat.{Beat}
-use Rattle.noc_router.specs.View.{View}
+use Rattle.noc_view.specs.View.{View}
 use Rattle.noc_theory.specs.Network.{Setup, state_at}
 use Rattle.noc_theory.specs.Lockstep.{view_at, beats_at, beats_in}
 use Rattle.noc_row_words.specs.Column.{Column, RouterMarks, IsColumn, ShowsWires}

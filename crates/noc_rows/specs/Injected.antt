@@ -1,17 +1,17 @@
 -- A router that has injected, channel by channel.
 use Rattle.std.specs.Prelude.{◌≡◌, ℕ, ◌<◌, List, [], ◌∷◌, length, Option, Some, None, option_map, find, nat_eq, nat_lt, nat_le, if◌then◌else◌}
-use Rattle.noc_topo.specs.Words.{below}
+use Rattle.noc_topo.specs.Lists.{below}
 use Rattle.noc_packet.specs.Packet.{flit_at}
 use Rattle.noc_packet.specs.declared.packet.Packet.{Packet}
 use Rattle.noc_packet.specs.declared.packet.Flit.{Flit}
-use Rattle.noc_router.specs.View.{View, size_of, local_channel, view_buffer, view_input, is_vacant}
+use Rattle.noc_view.specs.View.{View, size_of, local_channel, view_buffer, view_input, is_vacant}
 use Rattle.noc_row_words.specs.Taken.{with_one, landed_by}
 
 -- the local virtual channel to which a flit is injected in cycle n, and the flit
 abbrev pub injection_from : ℕ → List (ℕ × Packet) → Option (ℕ × ℕ) → View → Option (ℕ × Flit)
 injection_from n [] sending v = None
 injection_from n ((number, p) ∷ rest) (Some (vc, index)) v =
-    if nat_lt (length (view_buffer v (local_channel v.site vc))) v.site.places then Some (vc, flit_at p number index) else None
+    if nat_lt (length (view_buffer v (local_channel v.site vc))) v.site.depth then Some (vc, flit_at p number index) else None
 injection_from n ((number, p) ∷ rest) None v =
     if nat_le p.due n then option_map (λ vc. (vc, flit_at p number 0)) (find (is_vacant v) (below v.site.vcs)) else None
 

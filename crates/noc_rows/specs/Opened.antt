@@ -7,7 +7,7 @@ use Rattle.noc_packet.specs.declared.limits.TheConstants.{MAX_NODES, MAX_PACKETS
 use Rattle.noc_packet.specs.Set.{has_bit}
 use Rattle.noc_packet.specs.declared.packet.Packet.{Packet}
 use Rattle.noc_route.specs.Routes.{Routes}
-use Rattle.noc_theory.specs.Lockstep.{starts_of}
+use Rattle.noc_packet.specs.ByNode.{starts_of}
 use Rattle.noc_row_words.specs.Column.{place_of}
 use Rattle.noc_row_words.specs.FlitWords.{flit_word}
 use Rattle.noc_row_words.specs.Grants.{leads_by}

@@ -74,14 +74,14 @@ ShowsArrival word (Some cycle) = (word ≡ cycle) × (cycle < NEVER)
 -- rows show a network after n cycles
 pub record IsRows (net : Setup) (n : ℕ) (rows : Rows) : Type 0 where
   pub cycle : rows.cycle ≡ n
-  pub frame : IsFrameOf net.relation net.places rows.frame
+  pub frame : IsFrameOf net.relation net.depth rows.frame
   pub starts : rows.starts.items ≡ starts_list net.packets (nodes net.relation.grid)
   -- a block for each 32 routers, a sheet and an in-box for each block, and one in-box more
   pub blocks_are : length rows.blocks.items ≡ (nodes net.relation.grid + 31) / 32
   pub sheets_are : length rows.sheets.items ≡ length rows.blocks.items
   pub inboxes_are : length rows.wires.inboxes.items ≡ length rows.blocks.items + 1
   pub flags_are : length rows.wires.busy.items ≡ length rows.blocks.items + 1
-  pub places : net.places ≤ room_of rows.wires.room
+  pub places : net.depth ≤ room_of rows.wires.room
   pub blocks : (b : ℕ) (block : Block) (sheet : Sheet) → slice_get rows.blocks.items b ≡ Some block → slice_get rows.sheets.items b ≡ Some sheet
       → ShowsBlock net n rows.frame rows.starts.items (room_of rows.wires.room) (length rows.blocks.items) b block sheet (inbox_at rows.wires.inboxes.items b)
   -- a block that is not busy has nothing on the wires to it

@@ -4,25 +4,18 @@
 
 ghost use Rattle.std.specs.Prelude.{◌≡◌, ℕ, ◌+◌, ◌*◌, ◌<◌, ◌≤◌, true, length};
 ghost use Rattle.noc_packet.specs.Set.{has_bit};
-ghost use Rattle.noc_router.specs.Found.{empty_finding};
-ghost use Rattle.noc_router.specs.declared.verdict.Verdict.TheVariants.{Empty};
+ghost use Rattle.noc_view.specs.Found.{empty_finding};
+ghost use Rattle.noc_view.specs.declared.verdict.Verdict.TheVariants.{Empty};
 ghost use Rattle.noc_rows.specs.Found.{AreClaimed, HasPacket, HaveVerdicts, IsClaimed, KeepsOthers, finding_at, given_to, is_noted, judged_by, least_place, out_at, sets_at};
 ghost use Rattle.noc_row_words.specs.Wires.{in_row, room_of};
 
-use noc_router::{Finding, Verdict};
 use noc_row_words::block::Block;
 use noc_row_words::frame::Frame;
 use noc_row_words::lanes::{ROUTERS, Row, least};
 use noc_row_words::room::Room;
 use noc_row_words::wires::Inbox;
 use noc_row_words::word::number;
-
-// What is found of a channel that holds nothing.
-pub(crate) const EMPTY: Finding = Finding {
-    verdict: Verdict::Empty,
-    packet: None,
-    out: None,
-};
+use noc_view::{Finding, Verdict};
 
 // The packet and the output channel of each input channel, in blocks that are frozen.
 pub(crate) fn note_claims(
@@ -84,7 +77,7 @@ fn empty(first: usize, found: &mut [Finding])
     ensures others { KeepsOthers first found.old found.new }
 {
     for place in first..first + 32 {
-        found[place] = EMPTY;
+        found[place] = Finding::EMPTY;
     }
 }
 

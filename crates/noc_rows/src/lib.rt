@@ -13,5 +13,4 @@ mod passes;
 mod rows;
 mod still;
 
-pub use lists::starts_at;
 pub use rows::Rows;

@@ -3,7 +3,7 @@
 ghost use Rattle.std.specs.Prelude.{◌≡◌, ◌+◌, ◌^◌, ◌<◌, ◌≤◌, ℕ, length, slice_index_or};
 ghost use Rattle.noc_row_words.specs.Tallied.{CountsAreBelow, ten_counts};
 
-use crate::findings::{EMPTY, note_claims, note_verdicts};
+use crate::findings::{note_claims, note_verdicts};
 use crate::latest::latest;
 use crate::lists::all_starts;
 use crate::open::{new_blocks, new_wires};
@@ -11,7 +11,6 @@ use crate::passes::{arrive_all, conclude_all, decide_all, note_busy, wake_all};
 use crate::still::{still_for, wait_all};
 use noc_packet::{Memory, Packet};
 use noc_route::Relation;
-use noc_router::Finding;
 use noc_row_words::block::Block;
 use noc_row_words::frame::Frame;
 use noc_row_words::lanes::{CHANNELS, ROUTERS};
@@ -19,6 +18,7 @@ use noc_row_words::marks::Tallies;
 use noc_row_words::sheet::{Sheet, VerdictCounts};
 use noc_row_words::starts::{NEVER, Start};
 use noc_row_words::wires::Wires;
+use noc_view::Finding;
 use std::alloc::Global;
 
 /// A network whose routers are in rows.
@@ -58,7 +58,7 @@ impl Rows {
         places: usize,
         packets: &[Packet],
     ) -> Result<Option<Rows>, Memory>
-        ensures rows { (net : Setup) → net.relation ≡ relation.now → net.places ≡ places → net.packets ≡ packets.now → IsGoodSetup net → IfOk result (λ made. IfSome made (ShowsNetwork net 0)) }
+        ensures rows { (net : Setup) → net.relation ≡ relation.now → net.depth ≡ places → net.packets ≡ packets.now → IsGoodSetup net → IfOk result (λ made. IfSome made (ShowsNetwork net 0)) }
         ensures some { IfOk result (λ made. is_some made ≡ (nat_le (ports_of relation.now.grid * relation.now.vcs) 31 && nat_le places 16)) }
     {
         let Some(frame) = Frame::of(relation, places) else {
@@ -68,7 +68,7 @@ impl Rows {
         let blocks = new_blocks(alloc, relation, &frame, &starts)?;
         let sheets = vec![in alloc; Sheet::new(); blocks.len()]?;
         let wires = new_wires(alloc, blocks.len(), frame.places, packets.len())?;
-        let found = vec![in alloc; EMPTY; blocks.len().min(8) * CHANNELS]?;
+        let found = vec![in alloc; Finding::EMPTY; blocks.len().min(8) * CHANNELS]?;
         Ok(Some(Rows {
             frame,
             blocks,

@@ -5,3 +5,4 @@ pub mod join
 pub mod landing
 pub mod injection
 pub mod budget
+pub mod alone

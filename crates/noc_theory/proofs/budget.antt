@@ -20,6 +20,8 @@ pub mod RouterLemmas
 pub mod StuckLemmas
 pub mod SumLemmas
 pub mod ProgressTheoremLemmas
-pub mod TurnPhaseLemmas
+pub mod AllocationPhaseLemmas
+pub mod UnaskedLemmas
+pub mod UnchangedLemmas
 pub mod WormChainLemmas
 pub mod WormLemmas

@@ -6,3 +6,4 @@ pub mod InjectLemmas
 pub mod QueueLemmas
 pub mod SourceLemmas
 pub mod SourceStateLemmas
+pub mod StartLemmas

@@ -1,13 +1,13 @@
-pub mod ArrivalRows
+pub mod ArrivalExamples
 pub mod CoreLemmas
-pub mod CoreRows
+pub mod CoreExamples
 pub mod EventLemmas
 pub mod InStepLemmas
 pub mod LimitLemmas
 pub mod ListLemmas
-pub mod NetworkRows
+pub mod NetworkExamples
 pub mod OrderLemmas
-pub mod PointerRows
+pub mod PointerExamples
 pub mod PostLemmas
 pub mod RunLemmas
 pub mod SentLemmas

@@ -1,10 +1,10 @@
 -- Routers that go on by single events, each at a cycle of its own (docs/MODEL.md, "The event core").
 use Rattle.std.specs.Prelude.{ℕ, zero, suc, ◌+◌, Bool, true, false, ◌&&◌, ◌||◌, not, List, [], ◌∷◌, ◌++◌, map, drop, length, Option, Some, None, option_map, option_and_then, is_some, is_none, unwrap_or, slice_get, slice_index_or, slice_set, nat_eq, nat_lt, if◌then◌else◌, replicate}
 use Rattle.std.specs.List.{list_all}
-use Rattle.noc_topo.specs.Words.{below, tabulate, map_indexed}
+use Rattle.noc_topo.specs.Lists.{below, tabulate, map_indexed}
 use Rattle.noc_topo.specs.Shape.{local_port, neighbour, nodes}
 use Rattle.noc_packet.specs.declared.packet.Beat.{Beat}
-use Rattle.noc_router.specs.View.{View, local_step, idle_beat}
+use Rattle.noc_view.specs.View.{View, local_step, idle_beat}
 use Rattle.noc_theory.specs.declared.event.Event.{Event}
 use Rattle.noc_theory.specs.declared.event.Event.TheVariants.{Take, Decide, Put}
 use Rattle.noc_theory.specs.Halves.{beat_at}

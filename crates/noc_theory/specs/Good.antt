@@ -21,7 +21,7 @@ pub record IsGoodPacket (relation : Routes) (p : Packet) : Type 0 where
 -- the relation was built, each buffer has a place, and the packets are not too many and each can be sent
 pub record IsGoodSetup (net : Setup) : Type 0 where
   pub relation : IsRelation net.relation
-  pub some_place : 0 < net.places
+  pub some_depth : 0 < net.depth
   pub packets : All (IsGoodPacket net.relation) net.packets
   pub few_packets : length net.packets ≤ MAX_PACKETS
 

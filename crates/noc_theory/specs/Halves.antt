@@ -1,12 +1,12 @@
 -- The two halves of a cycle: each router takes its beats, injects, decides and commits; then each one puts its beats.
 use Rattle.std.specs.Prelude.{◌≡◌, ℕ, ◌<◌, ◌≤◌, List, length, Option, Some, None, slice_index_or, slice_set, nat_eq, if◌then◌else◌}
-use Rattle.noc_topo.specs.Words.{tabulate}
+use Rattle.noc_topo.specs.Lists.{tabulate}
 use Rattle.noc_topo.specs.Shape.{Grid, local_port}
 use Rattle.noc_packet.specs.declared.packet.Beat.{Beat}
 use Rattle.noc_route.specs.Routes.{Routes}
-use Rattle.noc_router.specs.declared.verdict.Findings.{Findings}
-use Rattle.noc_router.specs.Finish.{view_after_finish}
-use Rattle.noc_router.specs.View.{View, IsRelationOf, view_after_takes, idle_beat, idle_beats, beat_to_put}
+use Rattle.noc_view.specs.declared.finding.Recording.{Recording}
+use Rattle.noc_view.specs.Finish.{view_after_finish}
+use Rattle.noc_view.specs.View.{View, IsRelationOf, view_after_takes, idle_beat, idle_beats, beat_to_put}
 use Rattle.noc_theory.specs.Lockstep.{beats_at}
 
 -- the beat on the wire that arrives at a port of router r
@@ -18,7 +18,7 @@ unfoldable pub incoming : Grid → List Beat → List Beat
 incoming grid beats = tabulate (local_port grid) (λ port. slice_index_or beats port idle_beat)
 
 -- a router after the first half of cycle n over these beats, in which its findings are recorded, or stay as they were
-unfoldable pub view_after_decide : Routes → ℕ → Findings → List Beat → View → View
+unfoldable pub view_after_decide : Routes → ℕ → Recording → List Beat → View → View
 view_after_decide relation n findings beats v = view_after_finish relation n findings (view_after_takes relation beats v)
 
 -- a router that has put all its beats
@@ -44,11 +44,11 @@ pub record HasItsBeats (relation : Routes) (node : ℕ) (v : View) : Type 0 wher
   pub site : v.site.node ≡ node
   pub beats : length v.to_put ≡ local_port relation.grid
 
--- the routers of a relation, each at the place of its node
+-- the routers of a relation, each at the index of its node
 abbrev pub ArePlaced : Routes → List View → Type 0
 ArePlaced relation routers = (node : ℕ) (d : View) → node < length routers → HasItsBeats relation node (slice_index_or routers node d)
 
--- the wires with this beat on the one that arrives at a place, if there is one
+-- the wires with this beat on the one that arrives at an input port, if there is one
 abbrev pub sent_on : List (List Beat) → Option (ℕ × ℕ) → Beat → List (List Beat)
 sent_on wires None beat = wires
-sent_on wires (Some place) beat = slice_set wires place.0 (slice_set (beats_at wires place.0) place.1 beat)
+sent_on wires (Some input) beat = slice_set wires input.0 (slice_set (beats_at wires input.0) input.1 beat)

@@ -4,8 +4,7 @@ use Rattle.std.specs.Prelude.{◌≡◌, ℕ, ◌+◌, ◌-◌, ◌<◌, ◌≤�
 use Rattle.std.specs.List.{range_with_len}
 use Rattle.noc_topo.specs.Shape.{IsGrid, nodes, neighbour}
 use Rattle.noc_packet.specs.declared.packet.Beat.{Beat}
-use Rattle.noc_topo.specs.Words.{map_indexed, tabulate}
-use Rattle.noc_counts.specs.Counts.{one_if}
+use Rattle.noc_topo.specs.Lists.{map_indexed, tabulate, one_if}
 use Rattle.noc_theory.specs.Core.{Post, CoreState, link_ports, is_linked, post_at, resting_post, wire_of, has_beat, is_between, are_between}
 use Rattle.noc_theory.specs.Order.{takes, decides, puts}
 use Rattle.noc_theory.specs.declared.event.Event.{Event}

@@ -1,3 +1,4 @@
+pub mod Alone
 pub mod Core
 pub mod Good
 pub mod Halves

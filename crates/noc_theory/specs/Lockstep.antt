@@ -1,8 +1,8 @@
 -- All routers in step, each by its own view, and the view of a router in a state of the whole network
 -- (docs/MODEL.md, "One router and the whole network").
-use Rattle.std.specs.Prelude.{ℕ, zero, suc, ◌-◌, Bool, false, ◌&&◌, ◌||◌, not, List, [], ◌∷◌, map, filter, find, count_by, Option, Some, None, option_map, option_and_then, is_some, unwrap_or, slice_index_or, nat_eq, nat_lt, nat_le, if◌then◌else◌, replicate, ◌/◌, ◌%◌}
-use Rattle.std.specs.List.{list_any, enumerate_from}
-use Rattle.noc_topo.specs.Words.{below, tabulate, map_indexed, is_some_of}
+use Rattle.std.specs.Prelude.{ℕ, zero, suc, ◌-◌, Bool, false, ◌&&◌, ◌||◌, not, List, [], map, filter, find, count_by, Option, Some, None, option_map, option_and_then, is_some, unwrap_or, slice_index_or, nat_eq, nat_lt, if◌then◌else◌, replicate, ◌/◌, ◌%◌}
+use Rattle.std.specs.List.{list_any}
+use Rattle.noc_topo.specs.Lists.{below, tabulate, map_indexed, is_some_of}
 use Rattle.noc_topo.specs.Shape.{nodes, local_port, neighbour}
 use Rattle.noc_packet.specs.Packet.{flit_at}
 use Rattle.noc_packet.specs.declared.packet.Packet.{Packet}
@@ -10,40 +10,18 @@ use Rattle.noc_packet.specs.declared.packet.Flit.{Flit}
 use Rattle.noc_packet.specs.declared.packet.Beat.{Beat}
 use Rattle.noc_route.specs.Channel.{Channel, Link, same_channel, is_link, sending_router, output_index, channel_vc}
 use Rattle.noc_route.specs.Routes.{set_at}
-use Rattle.noc_router.specs.Verdict.{is_event, column, out_of}
+use Rattle.noc_view.specs.Verdict.{is_event, column, out_of}
 use Rattle.noc_vc.specs.Input.{Input, idle_input, next_of}
 use Rattle.noc_vc.specs.Output.{Output, ejection_output}
 use Rattle.noc_vc.specs.declared.input.InputState.{InputState}
 use Rattle.noc_vc.specs.declared.input.InputState.TheVariants.{Idle, Waiting, Active}
 use Rattle.noc_vc.specs.declared.output.OutputState.{OutputState}
 use Rattle.noc_vc.specs.declared.output.OutputState.TheVariants.{Idle as Free, Owned, Draining}
-use Rattle.noc_router.specs.View.{Site, View, local_step, opening_view, idle_beat, idle_beats, port_and_vc}
-use Rattle.noc_router.specs.declared.verdict.Verdict.TheVariants.{Empty}
-use Rattle.noc_router.specs.declared.verdict.Finding.{Finding}
+use Rattle.noc_view.specs.View.{Site, View, local_step, opening_view, idle_beat, idle_beats, port_and_vc}
+use Rattle.noc_view.specs.declared.verdict.Verdict.TheVariants.{Empty}
+use Rattle.noc_view.specs.declared.finding.Finding.{Finding}
 use Rattle.noc_theory.specs.Network.{Setup, State, Located, Place, Source, On, In, Out, size, packet_at, arriving, leaving, flits_of, buffer_of, owner_of, owned_by, next_channel, credit_of, has_channel, is_past, is_in, is_on, is_at_source, tail_place, first_waiting, is_injection_of, out_cycle, arbiters_at, state_at, frozen_at, verdict_in, verdict_in_cycle, claim_of, injection_at, after_credits, after_landing, end_of}
-
--- by due time, equal ones as they stand
-abbrev pub inserted_by_due : ℕ × Packet → List (ℕ × Packet) → List (ℕ × Packet)
-inserted_by_due x [] = x ∷ []
-inserted_by_due x (y ∷ ys) = if nat_le x.1.due y.1.due then x ∷ y ∷ ys else y ∷ inserted_by_due x ys
-
--- the packets by due time, equal ones as they stand
-abbrev pub by_due : List (ℕ × Packet) → List (ℕ × Packet)
-by_due [] = []
-by_due (x ∷ xs) = inserted_by_due x (by_due xs)
-
--- behind those that are due by then
-abbrev pub inserted_after : ℕ × Packet → List (ℕ × Packet) → List (ℕ × Packet)
-inserted_after x [] = x ∷ []
-inserted_after x (y ∷ ys) = if nat_le y.1.due x.1.due then y ∷ inserted_after x ys else x ∷ y ∷ ys
-
--- the packets of a node with their numbers, in the order in which they are injected: by due time, then by number
-abbrev pub starts_of : List Packet → ℕ → List (ℕ × Packet)
-starts_of packets r = by_due (filter (λ (one : ℕ × Packet). nat_eq one.1.source r) (enumerate_from 0 packets))
-
--- the numbers of the packets that end at a node
-abbrev pub ends_of : List Packet → ℕ → List ℕ
-ends_of packets r = map (λ (one : ℕ × Packet). one.0) (filter (λ (one : ℕ × Packet). nat_eq one.1.destination r) (enumerate_from 0 packets))
+use Rattle.noc_packet.specs.ByNode.{starts_of, ends_of}
 
 -- the beats of router r, by link port
 abbrev pub beats_at : List (List Beat) → ℕ → List Beat
@@ -57,7 +35,7 @@ beat_from sent (Some from) = slice_index_or (beats_at sent from.0) from.1 idle_b
 module _ (net : Setup) where
   -- what router r is built for
   abbrev pub site_at : ℕ → Site
-  site_at r = record { grid = net.relation.grid; node = r; vcs = net.relation.vcs; places = net.places }
+  site_at r = record { grid = net.relation.grid; node = r; vcs = net.relation.vcs; depth = net.depth }
 
   -- the packets of a node with their numbers, in the order in which they are injected
   abbrev pub starts_at : ℕ → List (ℕ × Packet)
@@ -167,7 +145,7 @@ module _ (net : Setup) where
   abbrev pub seen_output : State → ℕ → Channel → Output
   seen_output S r o =
       if is_link o
-      then record { holder = seen_holder S r o (owner_of net S o); credit = Some (credit_of net S o); places = net.places }
+      then record { holder = seen_holder S r o (owner_of net S o); credit = Some (credit_of net S o); depth = net.depth }
       else record ejection_output { holder = seen_holder S r o (owner_of net S o) }
 
   -- the injection channel of the first waiting packet, once it has begun, and the index of its next flit

@@ -1,19 +1,19 @@
 -- The state of the whole network, and one cycle of it in five phases (docs/MODEL.md, "One cycle").
 use Rattle.std.specs.Prelude.{ℕ, zero, suc, ◌+◌, ◌-◌, ◌*◌, Bool, true, false, ◌&&◌, ◌||◌, not, List, [], ◌++◌, map, filter, find, length, Option, Some, None, option_map, option_and_then, is_none, unwrap_or, slice_index_or, nat_eq, nat_lt, nat_le, if◌then◌else◌, replicate}
 use Rattle.std.specs.List.{list_any, filter_map, flat_map, enumerate_from}
-use Rattle.noc_topo.specs.Words.{below, tabulate, map_indexed, is_some_of, least_by}
+use Rattle.noc_topo.specs.Lists.{below, tabulate, map_indexed, is_some_of, least_by}
 use Rattle.noc_topo.specs.Shape.{nodes, ports, distance}
 use Rattle.noc_packet.specs.declared.packet.Packet.{Packet}
 use Rattle.noc_route.specs.Channel.{Channel, Link, Inject, Eject, same_channel, is_link, sending_router, arrival_of, channel_vc, output_at, output_index, input_at, inputs}
 use Rattle.noc_route.specs.Routes.{Routes, permits}
-use Rattle.noc_router.specs.Verdict.{ArbiterStates, opening_arbiters, Claim, Unrouted, Waits, Holds, Stand, Round, round_of, verdict_of, is_routed, is_granted, is_moved, arbiters_after}
-use Rattle.noc_router.specs.declared.verdict.Verdict.{Verdict}
-use Rattle.noc_router.specs.declared.verdict.Verdict.TheVariants.{Empty}
+use Rattle.noc_view.specs.Verdict.{ArbiterStates, opening_arbiters, Claim, Unrouted, Waits, Holds, Stand, Round, round_of, verdict_of, is_routed, is_granted, is_moved, arbiters_after}
+use Rattle.noc_view.specs.declared.verdict.Verdict.{Verdict}
+use Rattle.noc_view.specs.declared.verdict.Verdict.TheVariants.{Empty}
 
--- what a network is built from; a packet's number is its place in the list
+-- what a network is built from; a packet's number is its index in the list
 pub record Setup : Type 0 where
   pub relation : Routes
-  pub places : ℕ  -- of each buffer, in flits
+  pub depth : ℕ  -- of each buffer, in flits
   pub packets : List Packet
 
 -- a network after this many cycles: the four values that determine all that can be read of it
@@ -76,7 +76,7 @@ has_channel cs c = list_any (same_channel c) cs
 
 -- the router where a channel ends, which holds its buffer
 abbrev pub end_of : Routes → Channel → Option ℕ
-end_of g c = option_map (λ (place : ℕ × ℕ). place.0) (arrival_of g.grid c)
+end_of g c = option_map (λ (input : ℕ × ℕ). input.0) (arrival_of g.grid c)
 
 -- the distance from the end of a channel to node t (Dally and Towles, chapter 3)
 abbrev pub end_distance : Routes → Channel → ℕ → ℕ
@@ -145,7 +145,7 @@ module _ (net : Setup) where
 
   -- the places that a link channel has left: not on the wire, not in the buffer, no credit on its way
   abbrev pub credit_of : State → Channel → ℕ
-  credit_of S c = net.places - count_on S c - count_in S c - (if has_channel S.back c then 1 else 0)
+  credit_of S c = net.depth - count_on S c - count_in S c - (if has_channel S.back c then 1 else 0)
 
   -- the packet that owns c
   abbrev pub owner_of : State → Channel → Option ℕ
@@ -237,7 +237,7 @@ module _ (net : Setup) where
   -- a packet that has begun goes on where the buffer of its injection channel has room
   abbrev pub injection_with : State → ℕ → ℕ → ℕ → Option Channel → Option Injection
   injection_with S n node p None = beginning S n node p
-  injection_with S n node p (Some c) = if nat_lt (count_in S c) net.places then Some (record { packet = p; channel = c; begins = false }) else None
+  injection_with S n node p (Some c) = if nat_lt (count_in S c) net.depth then Some (record { packet = p; channel = c; begins = false }) else None
 
   -- the injection at a node, if there is one
   abbrev pub injection_at : State → ℕ → ℕ → Option Injection
@@ -305,8 +305,8 @@ module _ (net : Setup) where
   -- the verdict of c, which arrives at this router and port
   abbrev pub verdict_at : State → Channel → Option (ℕ × ℕ) → Verdict
   verdict_at F c None = Empty
-  verdict_at F c (Some place) =
-      verdict_of net.relation.vcs (round_at F place.0) (place.1 * net.relation.vcs + channel_vc c) (claim_of F place.0 c) (nat_lt 0 (count_in F c))
+  verdict_at F c (Some input) =
+      verdict_of net.relation.vcs (round_at F input.0) (input.1 * net.relation.vcs + channel_vc c) (claim_of F input.0 c) (nat_lt 0 (count_in F c))
 
   -- the verdict of c (docs/MODEL.md, "Verdicts")
   abbrev pub verdict_in : State → Channel → Verdict

@@ -1,10 +1,10 @@
 -- Events, pending cycles, and what is left to do (docs/MODEL.md, "Events, pending, stuck").
-use Rattle.std.specs.Prelude.{ℕ, zero, suc, ◌+◌, ◌*◌, Bool, true, false, ◌&&◌, length, count_by, sum_by, Option, Some, None, is_none, is_some, nat_eq, nat_lt, nat_le, if◌then◌else◌}
+use Rattle.std.specs.Prelude.{ℕ, zero, suc, ◌+◌, ◌*◌, ◌<◌, Bool, true, false, ◌&&◌, length, count_by, sum_by, Option, Some, None, is_none, is_some, nat_eq, nat_lt, nat_le, if◌then◌else◌}
 use Rattle.std.specs.List.{list_any}
-use Rattle.noc_topo.specs.Words.{below}
+use Rattle.noc_topo.specs.Lists.{below}
 use Rattle.noc_topo.specs.Shape.{distance}
 use Rattle.noc_route.specs.Channel.{Link, Inject, Eject}
-use Rattle.noc_router.specs.Verdict.{is_event}
+use Rattle.noc_view.specs.Verdict.{is_event}
 use Rattle.noc_theory.specs.Network.{Setup, State, Located, place_of_flit, Place, Source, On, In, Out, packet_at, state_at, frozen_state, verdict_in, after_landing, after_credits, injections, all_inputs, has_channel, next_channel, arrival_in, end_distance}
 
 -- whether it is a wire
@@ -37,6 +37,11 @@ module _ (net : Setup) where
   is_stuck zero = false
   is_stuck (suc n) = is_pending n (state_at net n) && nat_eq (events n (state_at net n)) 0
 
+  -- no packet becomes due after cycle n and by cycle m
+  abbrev pub NoneDue : ℕ → ℕ → Type 0
+  NoneDue n m =
+      (p : ℕ) → p < length net.packets → n < (packet_at net p).due → m < (packet_at net p).due
+
   -- ---- the work that is left, in events
 
   -- the hops that a packet has from its source to its destination
@@ -53,13 +58,13 @@ module _ (net : Setup) where
   weight p (Out n) = 0
 
   -- the routes and grants that a head at this place still has before it: two for each router
-  abbrev pub turns_left : State → ℕ → Place → ℕ
-  turns_left S p Source = 2 * (hops p + 1)
-  turns_left S p (On c) = 2 * (end_distance net.relation c (packet_at net p).destination + 1)
-  turns_left S p (In c) =
+  abbrev pub allocations_left : State → ℕ → Place → ℕ
+  allocations_left S p Source = 2 * (hops p + 1)
+  allocations_left S p (On c) = 2 * (end_distance net.relation c (packet_at net p).destination + 1)
+  allocations_left S p (In c) =
       2 * end_distance net.relation c (packet_at net p).destination
       + (if has_channel S.routed c then (if is_some (next_channel net S c) then 0 else 1) else 2)
-  turns_left S p (Out n) = 0
+  allocations_left S p (Out n) = 0
 
   -- where the head of p is
   abbrev pub head_place : State → ℕ → Place
@@ -69,7 +74,7 @@ module _ (net : Setup) where
   abbrev pub remainder : State → ℕ
   remainder S =
       sum_by (λ (f : Located). weight f.packet f.place) S.at
-      + sum_by (λ p. turns_left S p (head_place S p)) (below (length net.packets))
+      + sum_by (λ p. allocations_left S p (head_place S p)) (below (length net.packets))
       + length S.back
 
   -- the events of a whole run in which every packet arrives

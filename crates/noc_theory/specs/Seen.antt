@@ -1,9 +1,9 @@
 -- A view that shows a router as a state of the whole network has it, whatever it has counted and noted.
 use Rattle.std.specs.Prelude.{◌≡◌, ℕ, ◌<◌, filter, map, length}
-use Rattle.noc_router.specs.View.{View, view_buffer, view_input, view_output}
+use Rattle.noc_view.specs.View.{View, view_buffer, view_input, view_output}
 use Rattle.noc_theory.specs.Lockstep.{Lockstep, lockstep_at, view_at, beats_in, site_at, starts_at, ends_at, seen_flits, seen_input, seen_output, seen_sending, has_flit_at_source}
 use Rattle.noc_theory.specs.Network.{Setup, State, size, arriving, leaving, arbiters_at, first_waiting, out_cycle, tail_place, state_at}
-use Rattle.noc_topo.specs.Words.{tabulate}
+use Rattle.noc_topo.specs.Lists.{tabulate}
 use Rattle.noc_topo.specs.Shape.{nodes}
 
 module _ (net : Setup) where

@@ -1,6 +1,6 @@
 -- Worm order: the channels of a packet are one path, and its flits stand along it in order (docs/MODEL.md, "Worms"; Dally and Towles, chapter 13).
 use Rattle.std.specs.Prelude.{◌≡◌, ◌≢◌, ℕ, ◌+◌, ◌<◌, ◌≤◌, IsTrue, List, [], ◌∷◌, length, Some, ◌⊎◌}
-use Rattle.noc_topo.specs.Words.{Has, Pairs}
+use Rattle.noc_topo.specs.Lists.{Has, Pairs}
 use Rattle.noc_route.specs.Channel.{Channel, Inject, is_link}
 use Rattle.noc_route.specs.Routes.{permits}
 use Rattle.noc_theory.specs.Network.{Setup, State, Located, place_of_flit, tail_place, Place, Source, On, In, is_past, packet_at, buffer_of, owned_by, owner_of, has_channel}
@@ -36,7 +36,7 @@ module _ (net : Setup) where
         weight net p (place_of_flit net S p i) ≤ weight net p (place_of_flit net S p j)
     -- a flit on a wire is on a link channel of its packet
     pub on_own : (f : Located) (c : Channel) → Has f S.at → f.place ≡ On c → IsTrue (is_link c) × (owner_of net S c ≡ Some f.packet)
-    -- no buffer holds more flits than it has places
-    pub in_places : (c : Channel) → length (buffer_of net S c) ≤ net.places
+    -- no buffer holds more flits than its depth
+    pub in_depth : (c : Channel) → length (buffer_of net S c) ≤ net.depth
     -- the flits of a buffer are of the packet that owns it, with consecutive indices
     pub unmixed : (c : Channel) → (buffer_of net S c ≡ []) ⊎ ((p : ℕ) × (i : ℕ) × (owner_of net S c ≡ Some p) × IsRun p i (buffer_of net S c))

@@ -3,8 +3,8 @@
 ghost use Rattle.std.specs.Prelude.{◌≡◌, ◌≢◌, ℕ, List};
 ghost use Rattle.noc_packet.specs.declared.packet.Beat.{Beat};
 ghost use Rattle.noc_route.specs.Routes.{Routes};
-ghost use Rattle.noc_router.specs.View.{View, local_step, view_after_take};
-ghost use Rattle.noc_router.specs.declared.verdict.Finding.{Finding as FindingValue};
+ghost use Rattle.noc_view.specs.View.{View, local_step, view_after_take};
+ghost use Rattle.noc_view.specs.declared.finding.Finding.{Finding as FindingValue};
 
 /// What was found changes nothing of what comes: from a view with any other findings a cycle over the same beats gives the same
 /// view and the same beats to put. So a run in which nobody reads the findings of a cycle goes on as one in which they are read.

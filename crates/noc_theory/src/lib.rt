@@ -1,12 +1,16 @@
 //! What a network is and does: definitions and their theory, and nothing that runs.
 //!
-//! `specs/` has the state of the whole network and one cycle of it (`Network`), events and the work that is left (`Progress`), worm
-//! order (`Worm`), the same run router by router (`Lockstep`, `Halves`), and routers that go on by single events (`Core`, `InStep`,
-//! `Order`). What a network needs so that the laws hold of it is `IsGoodSetup` in `Good`. `ownership`, `views` and `progress` have
-//! the laws: how packets stand in every state, that the routers in lockstep show it, and that a ranked network goes on.
+//! `specs/` has the state of the whole network and one cycle of it (`Network`), events and the work
+//! that is left (`Progress`), worm order (`Worm`), the same run router by router (`Lockstep`,
+//! `Halves`), and routers that go on by single events (`Core`, `InStep`, `Order`). What a network
+//! needs so that the laws hold of it is `IsGoodSetup` in `Good`. `ownership`, `views`, `progress`
+//! and `latency` have the laws: how packets stand in every state, that the routers in lockstep show
+//! it, that a ranked network goes on, that one in which nothing happens stays as it is until a
+//! packet is due, and how long a packet takes that is alone.
 #![tactic(auto)]
 
 mod event;
+mod latency;
 mod laws;
 mod limits;
 mod ownership;
@@ -14,6 +18,7 @@ mod progress;
 mod views;
 
 pub use event::{Event, NotReady};
+pub use latency::a_packet_alone_is_never_held_up;
 pub use laws::{findings_change_nothing, takes_change_places};
 pub use limits::CYCLE_LIMIT;
 pub use ownership::{
@@ -21,8 +26,9 @@ pub use ownership::{
     flits_go_out_in_order, packets_keep_worm_order,
 };
 pub use progress::{
-    a_ranked_network_is_never_stuck, all_packets_arrive_within_the_budget,
-    each_event_is_one_less_to_come,
+    a_ranked_network_is_never_stuck, a_stuck_network_stays_stuck,
+    all_packets_arrive_within_the_budget, each_event_is_one_less_to_come,
+    nothing_changes_until_a_packet_is_due,
 };
 pub use views::{
     a_core_opens_where_its_routers_are, a_cycle_is_a_step_of_each_router, counts_add_up,

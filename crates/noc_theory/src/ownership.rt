@@ -1,7 +1,7 @@
 //! What holds of every network that was made, in every cycle.
 
 ghost use Rattle.std.specs.Prelude.{◌≡◌, ◌+◌, ◌<◌, ℕ, length};
-ghost use Rattle.noc_topo.specs.Words.{Has};
+ghost use Rattle.noc_topo.specs.Lists.{Has};
 ghost use Rattle.noc_route.specs.Channel.{Channel, Link};
 ghost use Rattle.noc_theory.specs.Network.{Setup, On, Out, packet_at, place_of_flit, credit_of, state_at, frozen_at};
 ghost use Rattle.noc_theory.specs.Worm.{IsWormOrder};
@@ -17,7 +17,7 @@ pub fn packets_keep_worm_order()
 /// The credits of a channel are the places of its buffer that are left: together with the flits on its wire, the flits in its
 /// buffer and the credit on its way back they are all its places, never more and never less.
 pub fn credits_are_the_places_left()
-    ensures { (net : Setup) (n : ℕ) (c : Channel) → IsGoodSetup net → credit_of net (state_at net n) c + places_taken net (state_at net n) c ≡ net.places }
+    ensures { (net : Setup) (n : ℕ) (c : Channel) → IsGoodSetup net → credit_of net (state_at net n) c + places_taken net (state_at net n) c ≡ net.depth }
 {}
 
 /// The flits of a packet go out in order of index, each in a cycle of its own, and all that is out went out in a cycle that is over.

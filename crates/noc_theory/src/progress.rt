@@ -3,7 +3,7 @@
 ghost use Rattle.std.specs.Prelude.{◌≡◌, ◌+◌, ◌<◌, ◌≤◌, ℕ, true, false, Option, Some, length};
 ghost use Rattle.noc_route.specs.Ranks.{IsRankedBy, Ranking, rank_at};
 ghost use Rattle.noc_theory.specs.Network.{Setup, packet_at, state_at, opening_state, network_cycle, arrival_in};
-ghost use Rattle.noc_theory.specs.Progress.{budget, events, is_pending, is_stuck, remainder};
+ghost use Rattle.noc_theory.specs.Progress.{NoneDue, budget, events, is_pending, is_stuck, remainder};
 ghost use Rattle.noc_theory.specs.Good.{IsGoodSetup};
 
 /// No network is ever stuck whose relation is ranked, as the check of ranks answers, be it by ranks of all link channels or of some
@@ -29,4 +29,19 @@ pub fn all_packets_arrive_within_the_budget()
         → (m : ℕ) × (arrival_in net (state_at net n) p ≡ Some m) × (m < last + budget net) }
     ensures idle { (net : Setup) (ranks : Ranking) (last n : ℕ) → IsGoodSetup net → IsRankedBy net.relation ranks
         → ((q : ℕ) → q < length net.packets → (packet_at net q).due ≤ last) → last + budget net ≤ n → is_pending net n (state_at net n) ≡ false }
+{}
+
+/// A network whose last cycle had no event stays without events, and nothing of its state changes,
+/// until another packet is due.
+pub fn nothing_changes_until_a_packet_is_due()
+    ensures event { (net : Setup) (n m : ℕ) → IsGoodSetup net → events net n (state_at net n) ≡ 0
+        → n ≤ m → NoneDue net n m → events net m (state_at net m) ≡ 0 }
+    ensures state { (net : Setup) (n m : ℕ) → IsGoodSetup net → events net n (state_at net n) ≡ 0
+        → n ≤ m → NoneDue net n m → state_at net (m + 1) ≡ state_at net n }
+{}
+
+/// A network that is stuck stays stuck until another packet is due.
+pub fn a_stuck_network_stays_stuck()
+    ensures { (net : Setup) (n m : ℕ) → IsGoodSetup net → is_stuck net (n + 1) ≡ true
+        → n ≤ m → NoneDue net n m → is_stuck net (m + 1) ≡ true }
 {}

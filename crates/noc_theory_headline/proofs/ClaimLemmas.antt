@@ -5,14 +5,14 @@ use Rattle.std.proofs.lemmas.Bool.{false≢true, true≢false, eq-eqb, and_parts
 use Rattle.std.proofs.lemmas.Nat.{div-add-mod'}
 use Rattle.std.proofs.lemmas.Option.{none-some, same_Some}
 use Rattle.std.proofs.Math.Bool.{or-true}
-use Rattle.noc_topo.specs.Words.{below, is_some_of, Has}
+use Rattle.noc_topo.specs.Lists.{below, is_some_of, Has}
 use Rattle.noc_topo.specs.Shape.{local_port}
 use Rattle.noc_route.specs.Channel.{Channel, Link, Inject, Eject, sending_router, is_link}
 use Rattle.noc_route.specs.Routes.{permits}
 use Rattle.noc_route.proofs.BuiltLemmas.{linked-port}
 use Rattle.noc_route.proofs.OptionLemmas.{is_none-none}
-use Rattle.noc_router.specs.Verdict.{Unrouted, Waits, Holds, verdict_of}
-use Rattle.noc_router.proofs.FindLemmas.{find-below, find-none as find-below-none, find-some}
+use Rattle.noc_view.specs.Verdict.{Unrouted, Waits, Holds, verdict_of}
+use Rattle.noc_view.proofs.FindLemmas.{find-below, find-none as find-below-none, find-some}
 use Rattle.noc_theory_headline.proofs.SearchLemmas.{find-least_below, find-absent}
 use Rattle.noc_theory.specs.Network.{Setup, State, size, packet_at, leaving, owner_of, next_channel, has_channel, has_credit_in, credit_of, is_idle, ask, claim_of, claim_with, verdict_in, verdict_at, count_in, round_at, end_of, leads_from}
 use Rattle.noc_theory.proofs.worms.MoveLemmas.{IsNext, next-is, leads-end}

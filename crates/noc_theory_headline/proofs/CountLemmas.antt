@@ -3,10 +3,9 @@ use Rattle.std.proofs.Common.{◌≡◌, ℕ, ◌+◌, ◌<◌, ◌≤◌, Bool,
 use Rattle.std.specs.Prelude.{nat_eq, if◌then◌else◌}
 use Rattle.std.proofs.lemmas.Option.{get_or_from_slice_get, slice_get_within}
 use Rattle.std.proofs.lemmas.Bool.{eqb-true}
-use Rattle.noc_topo.specs.Words.{tabulate}
+use Rattle.noc_topo.specs.Lists.{tabulate, one_if}
 use Rattle.noc_topo.specs.Shape.{nodes}
-use Rattle.noc_topo.proofs.WordLemmas.{length-tabulate, get_or-tabulate}
-use Rattle.noc_counts.specs.Counts.{one_if}
+use Rattle.noc_topo.proofs.ListLemmas.{length-tabulate, get_or-tabulate}
 use Rattle.noc_theory.specs.declared.event.Event.{Event}
 use Rattle.noc_theory.specs.declared.event.Event.TheVariants.{Take, Decide, Put}
 use Rattle.noc_theory.specs.Core.{CoreState, Post, after_events, happens, is_linked, is_ready, link_ports, opening_core, post_at, resting_post, wires_in_flight}

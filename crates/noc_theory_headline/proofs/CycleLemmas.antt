@@ -1,6 +1,6 @@
 -- What holds of every cycle.
 use Rattle.std.proofs.Common.{ℕ}
-use Rattle.noc_topo.specs.Words.{Has}
+use Rattle.noc_topo.specs.Lists.{Has}
 use Rattle.noc_route.specs.Channel.{Channel}
 use Rattle.noc_theory.specs.Network.{Setup, all_inputs, frozen_at}
 use Rattle.noc_theory.specs.Good.{IsGoodSetup}
@@ -9,11 +9,11 @@ use Rattle.noc_theory.proofs.worms.WormOrderLemmas.{worm_order-at, worm_order-fr
 use Rattle.noc_theory.proofs.join.OrderedStateLemmas.{ordered-frozen}
 use Rattle.noc_theory.proofs.join.PlaceViewLemmas.{input-at, arriving-at, same-place}
 use Rattle.noc_theory.proofs.join.LockstepTheoremLemmas.{good-network}
-use Rattle.noc_theory_headline.specs.Headline.{IsInputOf, IsRightCycle}
+use Rattle.noc_theory_headline.specs.Headline.{IsInput, IsInputOf, IsRightCycle}
 use Rattle.noc_theory_headline.proofs.SaysLemmas.{verdict-says}
 
 module _ (net : Setup) (made : IsGoodSetup net) where
-  somewhere : (c : Channel) → Has c (all_inputs net) → (r : ℕ) × (i : ℕ) × IsInputOf net r i c
+  pub somewhere : (c : Channel) → Has c (all_inputs net) → IsInput net c
   somewhere c h = let a = input-at net (good-network net made) c h in (a.0, a.1, record { router = a.2.router; index = a.2.index; is = a.2.found })
 
   pub right-cycle : (n : ℕ) → IsRightCycle net n

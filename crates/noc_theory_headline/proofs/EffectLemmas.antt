@@ -2,11 +2,11 @@
 use Rattle.std.proofs.Common.{◌≡◌, ◌≢◌, ℕ, ◌≤◌, Bool, true, false, cond, Option, Some, None, refl, ap, sym, ◌∙◌, inl, inr, subst, arith}
 use Rattle.std.specs.Prelude.{◌⊎◌, filter, filter_map, option_map, option_and_then, not, if◌then◌else◌}
 use Rattle.std.proofs.lemmas.Option.{none-some, same_Some}
-use Rattle.noc_topo.specs.Words.{Has}
+use Rattle.noc_topo.specs.Lists.{Has}
 use Rattle.noc_route.specs.Channel.{Channel, Link, Inject, Eject, sending_router, is_link}
-use Rattle.noc_router.specs.Verdict.{is_granted}
-use Rattle.noc_router.specs.declared.verdict.Verdict.{Verdict}
-use Rattle.noc_router.specs.declared.verdict.Verdict.TheVariants.{Granted, Moved}
+use Rattle.noc_view.specs.Verdict.{is_granted}
+use Rattle.noc_view.specs.declared.verdict.Verdict.{Verdict}
+use Rattle.noc_view.specs.declared.verdict.Verdict.TheVariants.{Granted, Moved}
 use Rattle.noc_theory.specs.Network.{Setup, State, Located, Place, On, In, Out, leaving, owner_of, next_channel, place_of_flit, after_verdicts, all_inputs, granted_pair, grant_to_owner, is_released, verdict_in, end_of, is_in, gone_to}
 use Rattle.noc_theory.proofs.worms.BufferLemmas.{same_channel-refl}
 use Rattle.noc_theory.proofs.worms.GrantLemmas.{is_granted-true, once-after_verdicts}

@@ -2,12 +2,12 @@
 use Rattle.std.proofs.Common.{◌≡◌, ◌≢◌, ℕ, ◌<◌, ◌≤◌, true, length, count_by, refl, ◌∙◌, inl, inr, arith}
 use Rattle.std.specs.Prelude.{◌⊎◌, ◌&&◌, nat_le, is_none}
 use Rattle.std.proofs.lemmas.Bool.{false≢true, and_from, le-leb, cases_lt}
-use Rattle.noc_topo.specs.Words.{Has, below}
+use Rattle.noc_topo.specs.Lists.{Has, below}
 use Rattle.noc_route.specs.Ranks.{IsRankedBy, Ranking}
 use Rattle.noc_route.specs.Channel.{Channel}
-use Rattle.noc_router.specs.Verdict.{is_event}
-use Rattle.noc_router.specs.declared.verdict.Verdict.{Verdict}
-use Rattle.noc_router.specs.declared.verdict.Verdict.TheVariants.{Empty, Routed, Granted, Moved, NoFlit, NoIdleChannel, LostChannel, NoCredit, LostInput, LostSwitch}
+use Rattle.noc_view.specs.Verdict.{is_event}
+use Rattle.noc_view.specs.declared.verdict.Verdict.{Verdict}
+use Rattle.noc_view.specs.declared.verdict.Verdict.TheVariants.{Empty, Routed, Granted, Moved, NoFlit, NoIdleChannel, LostChannel, NoCredit, LostInput, LostSwitch}
 use Rattle.noc_theory.specs.Network.{Setup, State, Injection, Located, Place, Source, On, In, Out, after_landing, after_credits, injections, all_inputs, arrival_in, out_cycle, packet_at, tail_place, state_at, frozen_at, verdict_in}
 use Rattle.noc_theory.specs.Progress.{events, is_flying, is_pending}
 use Rattle.noc_theory.specs.Good.{IsGoodSetup}
@@ -22,7 +22,7 @@ use Rattle.noc_theory.proofs.join.PlaceViewLemmas.{input-at}
 use Rattle.noc_theory.proofs.join.LockstepTheoremLemmas.{good-network}
 use Rattle.noc_theory.proofs.budget.ProgressTheoremLemmas.{each-pending}
 use Rattle.noc_theory_headline.specs.Headline.{Says}
-use Rattle.noc_theory_headline.specs.Pending.{IsPendingIn, HappensIn, lands, credit, injects, turns}
+use Rattle.noc_theory_headline.specs.Pending.{IsPendingIn, HappensIn, lands, credit, injects, acts}
 use Rattle.noc_theory_headline.proofs.SaysLemmas.{verdict-says}
 use Rattle.noc_theory_headline.proofs.StartLemmas.{injected-flit}
 
@@ -32,17 +32,17 @@ not-out (On c) none = refl
 not-out (In c) none = refl
 not-out (Out m) none = absurd (none m refl)
 
-turning : (v : Verdict) → is_event v ≡ true → (v ≡ Routed) ⊎ ((v ≡ Granted) ⊎ (v ≡ Moved))
-turning Empty e = absurd (false≢true e)
-turning Routed e = inl refl
-turning Granted e = inr (inl refl)
-turning Moved e = inr (inr refl)
-turning NoFlit e = absurd (false≢true e)
-turning NoIdleChannel e = absurd (false≢true e)
-turning LostChannel e = absurd (false≢true e)
-turning NoCredit e = absurd (false≢true e)
-turning LostInput e = absurd (false≢true e)
-turning LostSwitch e = absurd (false≢true e)
+acting : (v : Verdict) → is_event v ≡ true → (v ≡ Routed) ⊎ ((v ≡ Granted) ⊎ (v ≡ Moved))
+acting Empty e = absurd (false≢true e)
+acting Routed e = inl refl
+acting Granted e = inr (inl refl)
+acting Moved e = inr (inr refl)
+acting NoFlit e = absurd (false≢true e)
+acting NoIdleChannel e = absurd (false≢true e)
+acting LostChannel e = absurd (false≢true e)
+acting NoCredit e = absurd (false≢true e)
+acting LostInput e = absurd (false≢true e)
+acting LostSwitch e = absurd (false≢true e)
 
 module _ (net : Setup) (good : IsGoodSetup net) (n : ℕ) where
   abbrev S : State
@@ -65,7 +65,7 @@ module _ (net : Setup) (good : IsGoodSetup net) (n : ℕ) where
           let r = some-counted (λ c. is_event (verdict_in net (frozen_at net n) c)) (all_inputs net) l in
           let place = input-at net (good-network net good) r.0 r.1 in
           let says = verdict-says net (good-network net good) (frozen_at net n) (ordered-frozen net (good-network net good) n) place.0 place.2.router place.1 r.0 place.2 in
-          turns place.0 place.1 r.0 (record { router = place.2.router; index = place.2.index; is = place.2.found }) (by place.0 place.1 r.0 says (turning (verdict_in net (frozen_at net n) r.0) r.2))
+          acts place.0 place.1 r.0 (record { router = place.2.router; index = place.2.index; is = place.2.found }) (by place.0 place.1 r.0 says (acting (verdict_in net (frozen_at net n) r.0) r.2))
         where
           by : (s i : ℕ) (c : Channel) → ((v : Verdict) → (verdict_in net (frozen_at net n) c ≡ v → Says net (frozen_at net n) s i c v) × (Says net (frozen_at net n) s i c v → verdict_in net (frozen_at net n) c ≡ v))
               → (verdict_in net (frozen_at net n) c ≡ Routed) ⊎ ((verdict_in net (frozen_at net n) c ≡ Granted) ⊎ (verdict_in net (frozen_at net n) c ≡ Moved))

@@ -3,9 +3,9 @@ use Rattle.std.proofs.Common.{◌≡◌, ℕ, Bool, true, false, Option, Some, N
 use Rattle.std.specs.Prelude.{◌⊎◌, filter, filter_map, option_map, unwrap_or, not}
 use Rattle.std.proofs.lemmas.Bool.{false≢true, and_parts, and_from}
 use Rattle.std.proofs.lemmas.Option.{none-some}
-use Rattle.noc_topo.specs.Words.{Has}
+use Rattle.noc_topo.specs.Lists.{Has}
 use Rattle.noc_route.specs.Channel.{Channel, Link, Inject, Eject, same_channel}
-use Rattle.noc_router.specs.declared.verdict.Verdict.TheVariants.{Moved}
+use Rattle.noc_view.specs.declared.verdict.Verdict.TheVariants.{Moved}
 use Rattle.noc_theory.specs.Network.{Setup, State, In, owner_of, owned_by, next_channel, all_inputs, granted_pair, is_released, tail_leaves, tail_leaves_to, verdict_in, after_verdicts}
 use Rattle.noc_theory.proofs.worms.BufferLemmas.{same_channel-refl, same_channel-true}
 use Rattle.noc_theory.proofs.worms.GrantLemmas.{granted-is, once-after_verdicts}

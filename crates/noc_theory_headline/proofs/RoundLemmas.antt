@@ -5,14 +5,14 @@ use Rattle.std.proofs.lemmas.Bool.{false≢true, ltb-true, lt-ltb, eqb-true, eq-
 use Rattle.std.proofs.lemmas.Nat.{mul-add-lt}
 use Rattle.std.proofs.lemmas.List.{get_or-map}
 use Rattle.std.proofs.lemmas.Option.{none-some, same_Some}
-use Rattle.noc_topo.specs.Words.{is_some_of}
+use Rattle.noc_topo.specs.Lists.{is_some_of}
 use Rattle.noc_topo.specs.Shape.{nodes, ports}
-use Rattle.noc_topo.proofs.WordLemmas.{length-tabulate, get_or-tabulate}
+use Rattle.noc_topo.proofs.ListLemmas.{length-tabulate, get_or-tabulate}
 use Rattle.noc_alloc.specs.Arbiter.{RoundRobin, first_in_turn, pointers_of, arbiter_at}
 use Rattle.noc_alloc.specs.Allocation.{grant_of, pick_of, picked_port, winner_of}
 use Rattle.noc_alloc.proofs.WordLemmas.{is_some_of-true, is_some_of-some}
 use Rattle.noc_route.specs.Channel.{Channel}
-use Rattle.noc_router.specs.Verdict.{Claim, Unrouted, Waits, Holds, Stand, ask_of, asks_of, ready_of, ready_port}
+use Rattle.noc_view.specs.Verdict.{Claim, Unrouted, Waits, Holds, Stand, ask_of, asks_of, ready_of, ready_port}
 use Rattle.noc_theory.specs.Network.{Setup, State, size, arriving, leaving, has_credit_in, claim_of, count_in, round_at, stand_of, stands_at, arbiters_at}
 use Rattle.noc_theory.proofs.join.OrderedLemmas.{IsGood, IsOrderedFrozen}
 use Rattle.noc_theory.proofs.join.PlaceViewLemmas.{IsAt, arriving-at}
@@ -20,7 +20,7 @@ use Rattle.noc_theory_headline.specs.Headline.{GoesOnBy, AsksForChannel, CanSend
 use Rattle.noc_theory_headline.proofs.ClaimLemmas.{Case, off, all_taken, asks, goes, case-of, claim-waits, claim-goes, ask-some, credit-true, credit-from}
 use Rattle.noc_theory_headline.proofs.TurnLemmas.{turn-first, first-turn}
 
-pointer-of : (turns : List RoundRobin) (o : ℕ) → slice_index (pointers_of turns) o ≡ (arbiter_at turns o).pointer
+pointer-of : (arbiters : List RoundRobin) (o : ℕ) → slice_index (pointers_of arbiters) o ≡ (arbiter_at arbiters o).pointer
 pointer-of [] o = refl
 pointer-of (t ∷ ts) zero = refl
 pointer-of (t ∷ ts) (suc o) = pointer-of ts o

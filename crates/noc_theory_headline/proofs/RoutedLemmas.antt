@@ -2,13 +2,13 @@
 use Rattle.std.proofs.Common.{◌≡◌, ℕ, Bool, true, false, List, ap, sym, refl, ◌∙◌, inl, inr}
 use Rattle.std.specs.Prelude.{◌⊎◌, ◌↔◌, ◌&&◌, ◌++◌, filter, not}
 use Rattle.std.proofs.lemmas.Bool.{false≢true, and_parts, and_from}
-use Rattle.noc_topo.specs.Words.{Has}
+use Rattle.noc_topo.specs.Lists.{Has}
 use Rattle.noc_route.specs.Channel.{Channel, is_link}
-use Rattle.noc_router.specs.Verdict.{is_routed, is_moved}
-use Rattle.noc_router.specs.declared.verdict.Verdict.{Verdict}
-use Rattle.noc_router.specs.declared.verdict.Verdict.TheVariants.{Routed, Moved}
+use Rattle.noc_view.specs.Verdict.{is_routed, is_moved}
+use Rattle.noc_view.specs.declared.verdict.Verdict.{Verdict}
+use Rattle.noc_view.specs.declared.verdict.Verdict.TheVariants.{Routed, Moved}
 use Rattle.noc_theory.specs.Network.{Setup, State, In, all_inputs, tail_leaves, verdict_in, after_verdicts}
-use Rattle.noc_router.proofs.SettleLemmas.{is_moved-true}
+use Rattle.noc_view.proofs.MoverLemmas.{is_moved-true}
 use Rattle.noc_theory.proofs.worms.MemberLemmas.{Has-append, Has-filter, Has-kept, Has-left, Has-right}
 use Rattle.noc_theory.proofs.worms.OwnedLemmas.{owner-has, owner-is}
 use Rattle.noc_theory.proofs.worms.VerdictPhaseLemmas.{tail-of}

@@ -3,7 +3,7 @@ use Rattle.std.proofs.Common.{◌≡◌, ◌≢◌, ℕ, zero, suc, ◌+◌, ◌
 use Rattle.std.specs.Prelude.{if◌then◌else◌, find}
 use Rattle.std.specs.List.{range_with_len}
 use Rattle.std.proofs.lemmas.Bool.{cases_eq}
-use Rattle.noc_topo.specs.Words.{below}
+use Rattle.noc_topo.specs.Lists.{below}
 
 in_range-least : (p : ℕ → Bool) (n a x k : ℕ) → find p (range_with_len a n) ≡ Some x → a ≤ k → k < x → p k ≡ false
 in_range-least p zero a x k e l u = absurd (cc e)

@@ -4,7 +4,7 @@ use Rattle.std.specs.Prelude.{◌⊎◌, ◌&&◌, filter, find, not, nat_eq, na
 use Rattle.std.specs.List.{list_any}
 use Rattle.std.proofs.lemmas.Bool.{false≢true, and_from, and_parts, cases_eq, cases_lt, cases_order, eq-eqb, leb-true, le-leb, lt-ltb, ltb-true}
 use Rattle.std.proofs.lemmas.Option.{none-some, same_Some}
-use Rattle.noc_topo.specs.Words.{Has, below}
+use Rattle.noc_topo.specs.Lists.{Has, below}
 use Rattle.noc_topo.specs.Shape.{nodes}
 use Rattle.noc_route.specs.Channel.{Channel, Link, Inject, Eject, is_link, same_channel}
 use Rattle.noc_theory.specs.Good.{IsGoodSetup, IsValid}
@@ -126,10 +126,10 @@ module _ (net : Setup) (made : IsGoodSetup net) (n : ℕ) where
       none-more : (k : ℕ) → 0 + k ≡ k
       none-more k = omega arith
 
-  -- ---- whose turn it is
+  -- ---- whose is_first it is
 
-  waiting-turn : (node p : ℕ) → first_waiting net M node ≡ Some p → (node ≡ (packet_at net p).source) × IsFirstOfNode net S p
-  waiting-turn node p e =
+  waiting-is_first : (node p : ℕ) → first_waiting net M node ≡ Some p → (node ≡ (packet_at net p).source) × IsFirstOfNode net S p
+  waiting-is_first node p e =
       let is = waiting-is net built M sound.keyed sound.worm n node p e in (
         is.1,
         record {
@@ -140,8 +140,8 @@ module _ (net : Setup) (made : IsGoodSetup net) (n : ℕ) where
         },
       )
 
-  turn-waiting : (p : ℕ) → IsFirstOfNode net S p → first_waiting net M (packet_at net p).source ≡ Some p
-  turn-waiting p f =
+  is_first-waiting : (p : ℕ) → IsFirstOfNode net S p → first_waiting net M (packet_at net p).source ≡ Some p
+  is_first-waiting p f =
       let v = valid-last net built p f.exists in
       let node = (packet_at net p).source in
       let here = from-source p (last_of net p) v f.waits in
@@ -151,9 +151,9 @@ module _ (net : Setup) (made : IsGoodSetup net) (n : ℕ) where
       let passes : test p ≡ true = and_from _ _ (eq-eqb node node refl) (list_any-from (λ (g : Located). is_at_source g.place) (flits_of net M p) one listed (ap is_at_source here)) in
       let least = least-some (λ q. (packet_at net q).due) (filter test (below (length net.packets))) p (Has-kept test p (below (length net.packets)) (below-has p (length net.packets) f.exists) passes) in
       let first : first_waiting net M node ≡ Some least.0 = least.1 in
-      let turn = waiting-turn node least.0 first in
-      let ahead = turn.1.first p f.exists turn.0 f.waits in
-      let behind = f.first least.0 turn.1.exists (sym turn.0) turn.1.waits in
+      let is_first = waiting-is_first node least.0 first in
+      let ahead = is_first.1.first p f.exists is_first.0 f.waits in
+      let behind = f.first least.0 is_first.1.exists (sym is_first.0) is_first.1.waits in
       first ∙ ap Some (same least.0 ahead behind)
     where
       same : (q : ℕ) → Precedes (λ x. (packet_at net x).due) q p → Precedes (λ x. (packet_at net x).due) p q → q ≡ p
@@ -177,8 +177,8 @@ module _ (net : Setup) (made : IsGoodSetup net) (n : ℕ) where
       → (node ≡ (packet_at net one.packet).source) × ((v : ℕ) × (one.channel ≡ entry_channel net one.packet v) × Way one.packet v one.begins)
   way-of node one e =
       let r = and_then-some (λ q. injection_with net M n node q (find (is_injection_of net node) (owned_by net M q))) (first_waiting net M node) one e in
-      let turn = waiting-turn node r.0 r.1 in
-      at r.0 turn.0 turn.1 (find (is_injection_of net node) (owned_by net M r.0)) refl r.2
+      let is_first = waiting-is_first node r.0 r.1 in
+      at r.0 is_first.0 is_first.1 (find (is_injection_of net node) (owned_by net M r.0)) refl r.2
     where
       Is : Injection net → Type 0
       Is x = (node ≡ (packet_at net x.packet).source) × ((v : ℕ) × (x.channel ≡ entry_channel net x.packet v) × Way x.packet v x.begins)
@@ -192,11 +192,11 @@ module _ (net : Setup) (made : IsGoodSetup net) (n : ℕ) where
 
       begins-at : (q : ℕ) → node ≡ (packet_at net q).source → IsFirstOfNode net S q → ((w : ℕ) → owner_of net S (entry_channel net q w) ≢ Some q) → (packet_at net q).due ≤ n
           → (o : Option ℕ) → find (λ v. is_idle net M (Inject node v)) (below net.relation.vcs) ≡ o → option_map (λ v. (record { packet = q; channel = Inject node v; begins = true })) o ≡ Some one → Is one
-      begins-at q same turn none due None f g = absurd (none-some one g)
-      begins-at q same turn none due (Some v) f g =
+      begins-at q same is_first none due None f g = absurd (none-some one g)
+      begins-at q same is_first none due (Some v) f g =
           let s : record { packet = q; channel = Inject node v; begins = true } ≡ one = same_Some (record { packet = q; channel = Inject node v; begins = true }) one g in
           let begins : Begins net n q v = record {
-            turn = turn;
+            is_first = is_first;
             due = due;
             unbegun = none;
             exists = Has-below v net.relation.vcs (find-has (λ v. is_idle net M (Inject node v)) (below net.relation.vcs) v f);
@@ -206,19 +206,19 @@ module _ (net : Setup) (made : IsGoodSetup net) (n : ℕ) where
           subst Is s (same, (v, ap (λ m. Inject m v) same, inl (refl, begins)))
 
       at : (q : ℕ) → node ≡ (packet_at net q).source → IsFirstOfNode net S q → (o : Option Channel) → find (is_injection_of net node) (owned_by net M q) ≡ o → injection_with net M n node q o ≡ Some one → Is one
-      at q same turn None f g =
+      at q same is_first None f g =
           let b = cond-some (nat_le (packet_at net q).due n) (option_map (λ v. (record { packet = q; channel = Inject node v; begins = true })) (find (λ v. is_idle net M (Inject node v)) (below net.relation.vcs))) one g in
-          begins-at q same turn (begun-none q (ap (λ m. find (is_injection_of net m) (owned_by net M q)) (sym same) ∙ f)) (leb-true _ _ b.0) (find (λ v. is_idle net M (Inject node v)) (below net.relation.vcs)) refl b.1
-      at q same turn (Some c) f g =
-          let b = cond-some (nat_lt (count_in net M c) net.places) (Some (record { packet = q; channel = c; begins = false })) one g in
+          begins-at q same is_first (begun-none q (ap (λ m. find (is_injection_of net m) (owned_by net M q)) (sym same) ∙ f)) (leb-true _ _ b.0) (find (λ v. is_idle net M (Inject node v)) (below net.relation.vcs)) refl b.1
+      at q same is_first (Some c) f g =
+          let b = cond-some (nat_lt (count_in net M c) net.depth) (Some (record { packet = q; channel = c; begins = false })) one g in
           let s : record { packet = q; channel = c; begins = false } ≡ one = same_Some (record { packet = q; channel = c; begins = false }) one b.1 in
           let is = injection_of-is net built M sound.keyed sound.worm n node c (find-passes (is_injection_of net node) (owned_by net M q) c f) in
           let own : owner_of net M c ≡ Some q = owner-is net M c q sound.worm.once (of-has c q M.own (find-has (is_injection_of net node) (owned_by net M q) c f)) in
           let entry : c ≡ entry_channel net q is.0 = is.1 ∙ ap (λ m. Inject m is.0) same in
           let goes : GoesOnAt net n q is.0 = record {
-            turn = turn;
+            is_first = is_first;
             begun = sym (owner-mid (packet_at net q).source is.0) ∙ ap (owner_of net M) (sym entry) ∙ own;
-            room = subst (λ k. k < net.places) (ap (count_in net M) entry ∙ count-mid (packet_at net q).source is.0) (ltb-true _ _ b.0);
+            room = subst (λ k. k < net.depth) (ap (count_in net M) entry ∙ count-mid (packet_at net q).source is.0) (ltb-true _ _ b.0);
           } in
           subst Is s (same, (is.0, entry, inr (refl, goes)))
 
@@ -232,7 +232,7 @@ module _ (net : Setup) (made : IsGoodSetup net) (n : ℕ) where
   begin-injects : (p v : ℕ) → Begins net n p v → injection_at net M n (packet_at net p).source ≡ Some (beginning-on p v)
   begin-injects p v b =
       let node = (packet_at net p).source in
-      ap (option_and_then (λ q. injection_with net M n node q (find (is_injection_of net node) (owned_by net M q)))) (turn-waiting p b.turn)
+      ap (option_and_then (λ q. injection_with net M n node q (find (is_injection_of net node) (owned_by net M q)))) (is_first-waiting p b.is_first)
       ∙ ap (injection_with net M n node p) (none (find (is_injection_of net node) (owned_by net M p)) refl)
       ∙ ap (λ (t : Bool). if t then option_map (beginning-on p) (find (λ w. is_idle net M (Inject node w)) (below net.relation.vcs)) else None) (le-leb _ _ b.due)
       ∙ ap (option_map (beginning-on p)) (least (find (λ w. is_idle net M (Inject node w)) (below net.relation.vcs)) refl)
@@ -259,10 +259,10 @@ module _ (net : Setup) (made : IsGoodSetup net) (n : ℕ) where
   go-injects : (p v : ℕ) → GoesOnAt net n p v → injection_at net M n (packet_at net p).source ≡ Some (going-on p v)
   go-injects p v g =
       let node = (packet_at net p).source in
-      ap (option_and_then (λ q. injection_with net M n node q (find (is_injection_of net node) (owned_by net M q)))) (turn-waiting p g.turn)
+      ap (option_and_then (λ q. injection_with net M n node q (find (is_injection_of net node) (owned_by net M q)))) (is_first-waiting p g.is_first)
       ∙ ap (injection_with net M n node p) (found (find (is_injection_of net node) (owned_by net M p)) refl)
       ∙ ap (λ (t : Bool). if t then Some (going-on p v) else None)
-      (lt-ltb _ _ (subst (λ k. k < net.places) (sym (count-mid node v)) g.room))
+      (lt-ltb _ _ (subst (λ k. k < net.depth) (sym (count-mid node v)) g.room))
     where
       own : Has (entry_channel net p v, p) M.own
       own = owner-has net M (entry_channel net p v) p (owner-mid (packet_at net p).source v ∙ g.begun)
@@ -399,6 +399,6 @@ module _ (net : Setup) (made : IsGoodSetup net) (n : ℕ) where
               absurd (stays (parts.0, parts.1))
       at (inr (v, is, b)) =
           let one : Injection net = beginning-on p v in
-          let has = listed p one b.turn.exists (begin-injects p v b) in
+          let has = listed p one b.is_first.exists (begin-injects p v b) in
           let mapped : Has (entry_channel net p v, p) news = Has-mapped (λ (x : Injection net). (x.channel, x.packet)) one (filter (λ (x : Injection net). x.begins) (injections net M n)) (Has-kept (λ (x : Injection net). x.begins) one (injections net M n) has refl) in
           Has-right (o, p) M.own news (subst (λ (c : Channel). Has (c, p) news) (sym is) mapped)

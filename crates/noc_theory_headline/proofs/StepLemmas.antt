@@ -6,15 +6,15 @@ use Rattle.std.specs.List.{range_with_len}
 use Rattle.std.proofs.lemmas.Option.{get_or_from_slice_get, same_Some, slice_get_within}
 use Rattle.noc_topo.specs.Shape.{nodes, neighbour}
 use Rattle.noc_topo.proofs.LinkLemmas.{link_back, nodes-some}
-use Rattle.noc_topo.proofs.WordLemmas.{get_or-tabulate, length-tabulate}
+use Rattle.noc_topo.proofs.ListLemmas.{get_or-tabulate, length-tabulate}
 use Rattle.noc_packet.specs.Packet.{flit_at}
 use Rattle.noc_packet.specs.declared.packet.Beat.{Beat}
 use Rattle.noc_packet.specs.declared.packet.Flit.{Flit}
 use Rattle.noc_route.specs.Channel.{Channel}
-use Rattle.noc_router.specs.Verdict.{Claim, out_of}
-use Rattle.noc_router.specs.View.{View, port_and_vc, view_buffer}
-use Rattle.noc_router.specs.declared.verdict.Finding.{Finding}
-use Rattle.noc_counts.specs.Counts.{one_if}
+use Rattle.noc_view.specs.Verdict.{Claim, out_of}
+use Rattle.noc_view.specs.View.{View, port_and_vc, view_buffer}
+use Rattle.noc_view.specs.declared.finding.Finding.{Finding}
+use Rattle.noc_topo.specs.Lists.{one_if}
 use Rattle.noc_theory.specs.declared.event.Event.{Event}
 use Rattle.noc_theory.specs.declared.limits.TheConstants.{CYCLE_LIMIT}
 use Rattle.noc_theory.specs.Core.{CoreState, Post, after_events, are_between, has_beat, opening_core, post_at, wire_of}
@@ -62,7 +62,7 @@ module _ (net : Setup) (made : IsGoodSetup net) where
   unfolding view_at view_in
   buffer-in n r i c to = subst (IsBufferIn net (state_at net n) c) (sym is) (record {
     are = refl;
-    in_places = let l = worm.in_places c in let m = length-map (buffer_of net (state_at net n) c) flit in omega arith;
+    in_depth = let l = worm.in_depth c in let m = length-map (buffer_of net (state_at net n) c) flit in omega arith;
     unmixed = by (worm.unmixed c);
   })
     where

@@ -3,7 +3,7 @@ use Rattle.std.proofs.Common.{◌≡◌, ◌≢◌, ℕ, ◌+◌, ◌-◌, ◌%�
 use Rattle.std.specs.Prelude.{◌⊎◌, filter}
 use Rattle.std.proofs.lemmas.Bool.{cases_lt, cases_eq}
 use Rattle.std.proofs.Math.Nat.{mod-eq_of_lt, add-mod_right}
-use Rattle.noc_topo.specs.Words.{below}
+use Rattle.noc_topo.specs.Lists.{below}
 use Rattle.noc_alloc.specs.Arbiter.{distance_in_turn, first_in_turn}
 use Rattle.noc_alloc.proofs.ArbiterLemmas.{first_in_turn-picks, nearest-is}
 use Rattle.noc_theory.proofs.worms.StateWordLemmas.{Precedes}

@@ -1,14 +1,14 @@
 -- What the verdicts of a cycle do: which channels are routed, who comes to own a channel, which flits go on, and which credits go
 -- back (docs/MODEL.md, "One cycle").
 use Rattle.std.specs.Prelude.{◌≡◌, ◌≢◌, ℕ, ◌+◌, ◌-◌, ◌/◌, ◌%◌, ◌<◌, ◌≤◌, true, length, Some, None, ◌↔◌, ◌⊎◌, if◌then◌else◌, IsTrue}
-use Rattle.noc_topo.specs.Words.{Has}
+use Rattle.noc_topo.specs.Lists.{Has}
 use Rattle.noc_topo.specs.Shape.{nodes, ports}
 use Rattle.noc_alloc.specs.Arbiter.{arbiter_at}
-use Rattle.noc_router.specs.declared.verdict.Verdict.TheVariants.{Routed, Moved}
+use Rattle.noc_view.specs.declared.verdict.Verdict.TheVariants.{Routed, Moved}
 use Rattle.noc_route.specs.Channel.{Channel, Link, Inject, Eject, is_link}
 use Rattle.noc_theory.specs.Network.{Setup, State, Source, On, In, Out, arbiters_at, count_in, is_past, landed_place, packet_at, leaving, owner_of, place_of_flit, size, tail_place, state_at, frozen_at}
 use Rattle.noc_theory.specs.Good.{IsValid}
-use Rattle.noc_theory_headline.specs.Headline.{IsInputOf, Owns, IsRouted, AsksForChannel, WinsChannel, CanSend, IsPick, WinsSwitch, Says}
+use Rattle.noc_theory_headline.specs.Headline.{IsInput, IsInputOf, Owns, IsRouted, AsksForChannel, WinsChannel, CanSend, IsPick, WinsSwitch, Says}
 
 -- ---- before the verdicts
 
@@ -28,10 +28,10 @@ pub record IsFirstOfNode (net : Setup) (S : State) (p : ℕ) : Type 0 where
   pub first : (q : ℕ) → q < length net.packets → (packet_at net q).source ≡ (packet_at net p).source → tail_place net S q ≡ Source
       → ((packet_at net p).due < (packet_at net q).due) ⊎ (((packet_at net p).due ≡ (packet_at net q).due) × (p ≤ q))
 
--- packet p begins on injection channel v of its node in cycle n: it is its turn, it is due, it has begun on none, and v is the least
--- that nobody owns
+-- packet p begins on injection channel v of its node in cycle n: it is the first of its node, it is due,
+-- it has begun on none, and v is the least that nobody owns
 pub record Begins (net : Setup) (n p v : ℕ) : Type 0 where
-  pub turn : IsFirstOfNode net (state_at net n) p
+  pub is_first : IsFirstOfNode net (state_at net n) p
   pub due : (packet_at net p).due ≤ n
   pub unbegun : (w : ℕ) → owner_of net (state_at net n) (entry_channel net p w) ≢ Some p
   pub exists : v < net.relation.vcs
@@ -40,9 +40,9 @@ pub record Begins (net : Setup) (n p v : ℕ) : Type 0 where
 
 -- packet p goes on from its source on injection channel v, where it has begun and the buffer has room
 pub record GoesOnAt (net : Setup) (n p v : ℕ) : Type 0 where
-  pub turn : IsFirstOfNode net (state_at net n) p
+  pub is_first : IsFirstOfNode net (state_at net n) p
   pub begun : owner_of net (state_at net n) (entry_channel net p v) ≡ Some p
-  pub room : count_in net (state_at net n) (entry_channel net p v) < net.places
+  pub room : count_in net (state_at net n) (entry_channel net p v) < net.depth
 
 -- flit i of packet p is the first of its packet that is at the source
 abbrev pub IsNextFlit : Setup → State → ℕ → ℕ → Type 0
@@ -51,8 +51,8 @@ IsNextFlit net S p i = (place_of_flit net S p i ≡ Source) × ((j : ℕ) → Is
 -- ---- what the verdicts do
 
 -- the pointer of an arbiter over so many requesters goes to one past its winner, and without one it stays
-abbrev pub IsTurned : ℕ → (ℕ → Type 0) → ℕ → ℕ → Type 0
-IsTurned size Wins before after = ((x : ℕ) → Wins x → after ≡ (x + 1) % size) × (((x : ℕ) → ¬ Wins x) → after ≡ before)
+abbrev pub IsPointerAfter : ℕ → (ℕ → Type 0) → ℕ → ℕ → Type 0
+IsPointerAfter size Wins before after = ((x : ℕ) → Wins x → after ≡ (x + 1) % size) × (((x : ℕ) → ¬ Wins x) → after ≡ before)
 
 -- packet p is granted channel o: the channel where it is asks for o, and arbitration picks that request
 pub record IsGrantedTo (net : Setup) (F : State) (o : Channel) (p : ℕ) : Type 0 where
@@ -110,11 +110,13 @@ pub record IsRightStep (net : Setup) (n : ℕ) : Type 0 where
   -- all credits arrive, and the routed channels and the pointers are the same
   pub no_credit : (c : Channel) → ¬ Has c (frozen_at net n).back
   pub routed_same : (frozen_at net n).routed ≡ (state_at net n).routed
-  pub turns_same : (frozen_at net n).arbiters ≡ (state_at net n).arbiters
+  pub pointers_same : (frozen_at net n).arbiters ≡ (state_at net n).arbiters
   -- an input channel is routed from its verdict Routed until the tail of its packet is sent
   pub routed : (r i : ℕ) (c : Channel) → IsInputOf net r i c
       → IsRouted net (state_at net (n + 1)) r c
       ↔ (Says net (frozen_at net n) r i c Routed ⊎ (IsRouted net (frozen_at net n) r c × ((p : ℕ) → Owns net (frozen_at net n) r p c → ¬ IsTailSent net (frozen_at net n) p c)))
+  -- and nothing but an input channel of some router is routed
+  pub routed_inputs : (c : Channel) → Has c (state_at net (n + 1)).routed → IsInput net c
   -- a packet comes to own an idle channel exactly where it is granted
   pub granted : (o : Channel) (p : ℕ) → owner_of net (frozen_at net n) o ≡ None
       → (owner_of net (state_at net (n + 1)) o ≡ Some p) ↔ IsGrantedTo net (frozen_at net n) o p
@@ -129,14 +131,16 @@ pub record IsRightStep (net : Setup) (n : ℕ) : Type 0 where
       → place_of_flit net (state_at net (n + 1)) p i ≡ (if is_link o then On o else Out n)
   -- for a flit that leaves the buffer of a link channel a credit goes back, and for no other
   pub credit : (r i : ℕ) (c : Channel) → IsInputOf net r i c → Has c (state_at net (n + 1)).back ↔ ((is_link c ≡ true) × Says net (frozen_at net n) r i c Moved)
-  -- the arbiter of an output channel turns past the input channel that it chose, that of an output port past the input port, and that of
-  -- an input port past its pick where the port won an output port
-  pub channel_turns : (r o : ℕ) → r < nodes net.relation.grid → o < size net
-      → IsTurned (size net) (λ i. WinsChannel net (frozen_at net n) r i o)
+  -- and each credit that is on its way is of an input channel of some router
+  pub credit_inputs : (c : Channel) → Has c (state_at net (n + 1)).back → IsInput net c
+  -- the pointer of an output channel goes past the input channel that was chosen, that of an output port
+  -- past the input port, and that of an input port past its pick where the port won an output port
+  pub channel_pointers : (r o : ℕ) → r < nodes net.relation.grid → o < size net
+      → IsPointerAfter (size net) (λ i. WinsChannel net (frozen_at net n) r i o)
       (arbiter_at (arbiters_at net (frozen_at net n) r).channels o).pointer (arbiter_at (arbiters_at net (state_at net (n + 1)) r).channels o).pointer
-  pub output_turns : (r port : ℕ) → r < nodes net.relation.grid → port < ports net.relation.grid
-      → IsTurned (ports net.relation.grid) (λ q. WinsSwitch net (frozen_at net n) r q port)
+  pub output_pointers : (r port : ℕ) → r < nodes net.relation.grid → port < ports net.relation.grid
+      → IsPointerAfter (ports net.relation.grid) (λ q. WinsSwitch net (frozen_at net n) r q port)
       (arbiter_at (arbiters_at net (frozen_at net n) r).outputs port).pointer (arbiter_at (arbiters_at net (state_at net (n + 1)) r).outputs port).pointer
-  pub input_turns : (r port : ℕ) → r < nodes net.relation.grid → port < ports net.relation.grid
-      → IsTurned net.relation.vcs (λ v. IsPick net (frozen_at net n) r port v × ((out : ℕ) × (out < ports net.relation.grid) × WinsSwitch net (frozen_at net n) r port out))
+  pub input_pointers : (r port : ℕ) → r < nodes net.relation.grid → port < ports net.relation.grid
+      → IsPointerAfter net.relation.vcs (λ v. IsPick net (frozen_at net n) r port v × ((out : ℕ) × (out < ports net.relation.grid) × WinsSwitch net (frozen_at net n) r port out))
       (arbiter_at (arbiters_at net (frozen_at net n) r).inputs port).pointer (arbiter_at (arbiters_at net (state_at net (n + 1)) r).inputs port).pointer

@@ -1,13 +1,13 @@
 -- What a network does in each cycle, in words of its state: who is granted what, which flit moves, and why the others wait
 -- (docs/MODEL.md, "Arbiters" and "Verdicts"; Dally and Towles, chapters 16, 18 and 19).
 use Rattle.std.specs.Prelude.{◌≡◌, ℕ, ◌+◌, ◌*◌, ◌/◌, ◌%◌, ◌<◌, ◌≤◌, true, false, IsTrue, Some, None, ◌↔◌, ◌⊎◌}
-use Rattle.noc_topo.specs.Words.{Has}
+use Rattle.noc_topo.specs.Lists.{Has}
 use Rattle.noc_topo.specs.Shape.{nodes, ports}
 use Rattle.noc_alloc.specs.Arbiter.{distance_in_turn, arbiter_at}
 use Rattle.noc_route.specs.Channel.{Channel, is_link}
 use Rattle.noc_route.specs.Routes.{permits}
-use Rattle.noc_router.specs.declared.verdict.Verdict.{Verdict}
-use Rattle.noc_router.specs.declared.verdict.Verdict.TheVariants.{Empty, Routed, Granted, Moved, NoFlit, NoIdleChannel, LostChannel, NoCredit, LostInput, LostSwitch}
+use Rattle.noc_view.specs.declared.verdict.Verdict.{Verdict}
+use Rattle.noc_view.specs.declared.verdict.Verdict.TheVariants.{Empty, Routed, Granted, Moved, NoFlit, NoIdleChannel, LostChannel, NoCredit, LostInput, LostSwitch}
 use Rattle.noc_theory.specs.Network.{Setup, State, Out, size, packet_at, arriving, leaving, owner_of, has_channel, count_in, credit_of, arbiters_at, all_inputs, verdict_in, place_of_flit, state_at, frozen_at}
 use Rattle.noc_theory.specs.Worm.{IsWormOrder}
 use Rattle.noc_theory.specs.Good.{IsValid, places_taken}
@@ -122,10 +122,14 @@ pub record IsInputOf (net : Setup) (r i : ℕ) (c : Channel) : Type 0 where
   pub index : i < size net
   pub is : arriving net r i ≡ Some c
 
+-- channel c is an input channel of some router
+abbrev pub IsInput : Setup → Channel → Type 0
+IsInput net c = (r : ℕ) × (i : ℕ) × IsInputOf net r i c
+
 -- what holds of cycle n of a network: the verdicts of its channels, and its buffers, owners, credits and flits
 pub record IsRightCycle (net : Setup) (n : ℕ) : Type 0 where
   -- each channel with a buffer ends at one router, as one of its input channels
-  pub somewhere : (c : Channel) → Has c (all_inputs net) → (r : ℕ) × (i : ℕ) × IsInputOf net r i c
+  pub somewhere : (c : Channel) → Has c (all_inputs net) → IsInput net c
   pub once : (r i s j : ℕ) (c : Channel) → IsInputOf net r i c → IsInputOf net s j c → (r ≡ s) × (i ≡ j)
   -- it gets each verdict exactly where that says what holds
   pub verdicts : (r i : ℕ) (c : Channel) → IsInputOf net r i c → (verdict : Verdict) → (verdict_in net (frozen_at net n) c ≡ verdict) ↔ Says net (frozen_at net n) r i c verdict
@@ -133,7 +137,7 @@ pub record IsRightCycle (net : Setup) (n : ℕ) : Type 0 where
   pub start : IsWormOrder net (state_at net n)
   pub frozen : IsWormOrder net (frozen_at net n)
   -- the credits of a channel are the places of its buffer that are left, also those that the verdicts look at
-  pub credits : (c : Channel) → credit_of net (state_at net n) c + places_taken net (state_at net n) c ≡ net.places
-  pub frozen_credits : (c : Channel) → credit_of net (frozen_at net n) c + places_taken net (frozen_at net n) c ≡ net.places
+  pub credits : (c : Channel) → credit_of net (state_at net n) c + places_taken net (state_at net n) c ≡ net.depth
+  pub frozen_credits : (c : Channel) → credit_of net (frozen_at net n) c + places_taken net (frozen_at net n) c ≡ net.depth
   -- the flits of a packet go out in order
   pub out_in_order : (p i j a b : ℕ) → IsValid net p j → i < j → place_of_flit net (state_at net n) p i ≡ Out a → place_of_flit net (state_at net n) p j ≡ Out b → a < b

@@ -6,9 +6,9 @@ use Rattle.noc_packet.specs.Packet.{flit_at}
 use Rattle.noc_packet.specs.declared.packet.Beat.{Beat}
 use Rattle.noc_packet.specs.declared.packet.Flit.{Flit}
 use Rattle.noc_route.specs.Channel.{Channel}
-use Rattle.noc_router.specs.View.{port_and_vc, view_buffer}
-use Rattle.noc_router.specs.declared.verdict.Verdict.{Verdict}
-use Rattle.noc_router.specs.declared.verdict.Finding.{Finding}
+use Rattle.noc_view.specs.View.{port_and_vc, view_buffer}
+use Rattle.noc_view.specs.declared.verdict.Verdict.{Verdict}
+use Rattle.noc_view.specs.declared.finding.Finding.{Finding}
 use Rattle.noc_theory.specs.declared.event.Event.{Event}
 use Rattle.noc_theory.specs.Core.{CoreState, Post, are_between, is_between, opening_core, post_at, wire_of}
 use Rattle.noc_theory.specs.Halves.{beat_at}
@@ -40,11 +40,11 @@ pub record IsFoundIn (net : Setup) (n r : ℕ) (findings : List Finding) : Type 
   pub no_out : (i : ℕ) (c : Channel) (finding : Finding) → IsInputOf net r i c → slice_get findings i ≡ Some finding
       → ((o : ℕ) → ¬ (AsksForChannel net (frozen_at net n) r c o ⊎ GoesOnBy net (frozen_at net n) r c o)) → finding.out ≡ None
 
--- these are the flits that state S has in the buffer of channel c: no more than it has places, and all of the packet that owns c,
+-- these are the flits that state S has in the buffer of channel c: no more than its depth, and all of the packet that owns c,
 -- each behind the one before
 pub record IsBufferIn (net : Setup) (S : State) (c : Channel) (flits : List Flit) : Type 0 where
   pub are : flits ≡ map (λ (f : Located). flit_at (packet_at net f.packet) f.packet f.index) (buffer_of net S c)
-  pub in_places : length flits ≤ net.places
+  pub in_depth : length flits ≤ net.depth
   pub unmixed : (flits ≡ []) ⊎ ((p : ℕ) × (i : ℕ) × (owner_of net S c ≡ Some p) × IsRun net p i (buffer_of net S c))
 
 -- router r is where it stands after its cycles below m

@@ -16,7 +16,7 @@ ghost use Rattle.noc_route.specs.Ranks.{IsRankedBy, Ranking};
 /// In every cycle the verdict of each input channel says what holds there. It is granted an output channel exactly where its packet
 /// waits, that channel is the first idle one that the relation permits, and its request comes first in turn. Its flit moves exactly
 /// where its packet owns the next channel, a credit is there, and the flit wins its input port and its output port. Each stall
-/// names the first condition that fails. And no buffer holds more flits than it has places, or flits of two packets; no channel has
+/// names the first condition that fails. And no buffer holds more flits than its depth, or flits of two packets; no channel has
 /// two owners; the credits of a channel are the places that are left; the flits of a packet go out in order.
 pub fn every_cycle_is_right()
     ensures { (net : Setup) (n : ℕ) → IsGoodSetup net → IsRightCycle net n }
@@ -28,7 +28,8 @@ pub fn every_cycle_is_right()
 /// which it comes to own the least. Then an input channel is routed from its verdict Routed until the tail of its packet is sent. A
 /// packet comes to own an idle channel exactly where it is granted, and then owns it until its tail has gone. A flit leaves its buffer
 /// exactly where it is sent, onto the wire of its next channel or out, and a credit goes back exactly for each flit that leaves the
-/// buffer of a link channel. The pointer of an arbiter goes one past its winner, and without one it stays.
+/// buffer of a link channel. Nothing but an input channel of some router is routed or has a credit on its way. The pointer of an
+/// arbiter goes one past its winner, and without one it stays.
 pub fn verdicts_take_effect()
     ensures { (net : Setup) (n : ℕ) → IsGoodSetup net → IsRightStep net n }
 {}

@@ -2,7 +2,7 @@
 use Rattle.std.proofs.Common.{◌≡◌, ℕ, List, [], map, length, get_or, ap, refl, sym, ◌∙◌, subst, arith, ⊎_elim}
 use Rattle.noc_topo.specs.Shape.{IsGrid, nodes}
 use Rattle.noc_packet.specs.declared.packet.Beat.{Beat}
-use Rattle.noc_router.specs.View.{View}
+use Rattle.noc_view.specs.View.{View}
 use Rattle.noc_theory.proofs.runs.RunLemmas.{count_views, linked_wires, past_wires}
 use Rattle.noc_theory.specs.Halves.{HasItsBeats, beat_at}
 use Rattle.noc_theory.specs.Lockstep.{lockstep_at}
@@ -11,7 +11,7 @@ use Rattle.noc_net.specs.Parts.{AreParts, setup_in}
 use Rattle.noc_net.specs.declared.parts.Parts.{Parts}
 use Rattle.noc_tiles.specs.Ends.{inlet, outlet}
 use Rattle.noc_tiles.specs.Tiles.{IsReady, PartsFit, inlets, outlets}
-use Rattle.noc_tiles.specs.TileStep.{arrival_places}
+use Rattle.noc_tiles.specs.TileStep.{arrival_ports}
 use Rattle.noc_tiles.specs.declared.tile.Tile.{Tile}
 use Rattle.noc_tiles.proofs.CycleLemmas.{set-as}
 use Rattle.noc_tiles.proofs.PartsLemmas.{parts-beats, parts-flight, parts-views}
@@ -45,7 +45,7 @@ module _ (P : Parts) (A : AreParts P) where
       let few = grid.few_dimensions in
       record {
         few_links = omega arith;
-        parts = set-as P.relation t.first t.first [] (arrival_places (inlets t)) [] (arrival_places (outlets t)) P.routers.items t.routers.items P.beats.items t.beats.items
-            refl (sym (ap (λ q. arrival_places (map inlet q)) ins)) (sym (ap (λ q. arrival_places (map outlet q)) outs)) (sym routers) (sym beats)
+        parts = set-as P.relation t.first t.first [] (arrival_ports (inlets t)) [] (arrival_ports (outlets t)) P.routers.items t.routers.items P.beats.items t.beats.items
+            refl (sym (ap (λ q. arrival_ports (map inlet q)) ins)) (sym (ap (λ q. arrival_ports (map outlet q)) outs)) (sym routers) (sym beats)
             (set-all (setup_in P) P.count t.first P.routers.items P.beats.items first (parts-views P A) (parts-beats P A) (parts-flight P A));
       }

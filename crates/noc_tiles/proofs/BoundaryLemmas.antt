@@ -7,12 +7,12 @@ use Rattle.noc_topo.specs.Shape.{neighbour, nodes}
 use Rattle.noc_topo.proofs.LinkLemmas.{neighbour-range}
 use Rattle.noc_packet.specs.declared.packet.Beat.{Beat}
 use Rattle.noc_route.specs.Routes.{Routes}
-use Rattle.noc_router.specs.View.{View, idle_beat}
+use Rattle.noc_view.specs.View.{View, idle_beat}
 use Rattle.noc_theory.specs.Halves.{beat_at}
 use Rattle.noc_theory.specs.Network.{Setup}
 use Rattle.noc_theory.proofs.runs.RunLemmas.{count_views}
 use Rattle.noc_tiles.specs.Ends.{End}
-use Rattle.noc_tiles.specs.TileStep.{Layout, TileState, is_own, is_from, is_inside, arrival_places, ends_after_rows, tile_after_cycle, after, beats_put}
+use Rattle.noc_tiles.specs.TileStep.{Layout, TileState, is_own, is_from, is_inside, arrival_ports, ends_after_rows, tile_after_cycle, after, beats_put}
 use Rattle.noc_tiles.specs.Tiles.{IsReady, IsSameTile, AllEnded, Gating, Runs, inlets, outlets, layout_of, state_of}
 use Rattle.noc_tiles.specs.Partition.{AllWhole, IsPartition, IsWire, index_of, routers_of}
 use Rattle.noc_tiles.specs.declared.tile.Tile.{Tile}
@@ -152,7 +152,7 @@ vec-length v = v.ok.0
 pub found-get : {Y : Type 0} (f : Tile → List Y) (zs : List Tile) (i : ℕ) (d : Tile) (F : Found f zs i d) (e : Y) → get_or (flat_map f zs) i e ≡ get_or (f (get_or zs F.t d)) F.j e
 found-get f zs i d F e = ap (λ q. get_or (flat_map f zs) q e) F.is ∙ flat-at f zs F.t F.j d e F.in_list F.in_part
 
-pub place-get : (ws : List End) (j : ℕ) (p : ℕ × ℕ) (e : End) → j < length ws → get_or (arrival_places ws) j p ≡ (get_or ws j e).at
+pub place-get : (ws : List End) (j : ℕ) (p : ℕ × ℕ) (e : End) → j < length ws → get_or (arrival_ports ws) j p ≡ (get_or ws j e).at
 place-get ws j p e l = get_or-map (λ (w : End). w.at) ws j e p l
 
 pub stream : (w x : Beat) (cs ds : List Beat) → (w ∷ []) ++ cs ≡ ds ++ x ∷ [] → (i : ℕ) → i < length ds → get_or ds i idle_beat ≡ get_or (w ∷ cs) i idle_beat
@@ -204,8 +204,8 @@ module _ (net : Setup) (n k : ℕ) (I O : List (Option End)) (xs : List Tile) (W
     pub u : ℕ
     pub o : ℕ
     pub um : u < length xs
-    pub ol : o < length (arrival_places (outlets (get_or xs u d)))
-    pub at : get_or (arrival_places (outlets (get_or xs u d))) o (0, 0) ≡ p
+    pub ol : o < length (arrival_ports (outlets (get_or xs u d)))
+    pub at : get_or (arrival_ports (outlets (get_or xs u d))) o (0, 0) ≡ p
 
   far_end-from : (t : ℕ) → t < length xs → (p : ℕ × ℕ) → p.0 < nodes net.relation.grid → is_own (get_or xs t d).first (length (routers_of (get_or xs t d))) p.0 ≡ true
       → (from : Option (ℕ × ℕ)) → neighbour net.relation.grid p.0 p.1 ≡ from → is_inside (get_or xs t d).first (length (routers_of (get_or xs t d))) from ≡ false → FarEnd p
@@ -222,9 +222,9 @@ module _ (net : Setup) (n k : ℕ) (I O : List (Option End)) (xs : List Tile) (W
       let o = (set_at u F.in_list).parts.leaves p.0 p.1 r not f in
       record { u = u; o = o.0; um = F.in_list; ol = o.1; at = o.2 }
 
-  pub far_end : (t j : ℕ) (l : t < length xs) → j < length (arrival_places (inlets (get_or xs t d))) → FarEnd (get_or (arrival_places (inlets (get_or xs t d))) j (0, 0))
+  pub far_end : (t j : ℕ) (l : t < length xs) → j < length (arrival_ports (inlets (get_or xs t d))) → FarEnd (get_or (arrival_ports (inlets (get_or xs t d))) j (0, 0))
   far_end t j l h =
-      let p = get_or (arrival_places (inlets (get_or xs t d))) j (0, 0) in
+      let p = get_or (arrival_ports (inlets (get_or xs t d))) j (0, 0) in
       let s = (set_at t l).parts in
       far_end-from t l p (s.within j h).0 (s.own j h) (neighbour net.relation.grid p.0 p.1) refl ((W.tiles t d l).crossing j h)
 
@@ -250,7 +250,7 @@ module _ (net : Setup) (n k : ℕ) (I O : List (Option End)) (xs : List Tile) (W
   far_end-flat i l =
       let F = flat-find inlets xs i d l in
       let a = get_or xs F.t d in
-      let jl : F.j < length (arrival_places (inlets a)) = rw length-map F.in_part in
+      let jl : F.j < length (arrival_ports (inlets a)) = rw length-map F.in_part in
       let M = far_end F.t F.j F.in_list jl in
       let b = get_or xs M.u d in
       let ol : M.o < length (outlets b) = rw length-map at M.ol in (

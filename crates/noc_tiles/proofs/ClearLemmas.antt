@@ -4,26 +4,26 @@ use Rattle.std.specs.Prelude.{nat_eq, ◌&&◌, if◌then◌else◌}
 use Rattle.std.proofs.lemmas.Bool.Decides.{eqb_tells}
 use Rattle.std.proofs.lemmas.List.{length-map, get_or-map}
 use Rattle.noc_packet.specs.declared.packet.Beat.{Beat}
-use Rattle.noc_router.specs.View.{idle_beat}
+use Rattle.noc_view.specs.View.{idle_beat}
 use Rattle.noc_theory.specs.Halves.{beat_at}
 use Rattle.noc_tiles.specs.Ends.{outlet}
 use Rattle.noc_tiles.specs.RingEnd.{WireEnd}
 use Rattle.noc_tiles.specs.Phases.{IsCleared}
-use Rattle.noc_tiles.specs.TileStep.{arrival_places, with_beat}
+use Rattle.noc_tiles.specs.TileStep.{arrival_ports, with_beat}
 use Rattle.noc_tiles.specs.Tiles.{AreLinkPorts}
 use Rattle.noc_tiles.specs.declared.wires.Outlet.{Outlet}
 use Rattle.noc_tiles.proofs.TileStepLemmas.{Tells}
 
-pub place-of : {X A : Type 0} (f : X → WireEnd A) (xs : List X) (i : ℕ) (d : X) (e : ℕ × ℕ) → i < length xs → get_or (arrival_places (map f xs)) i e ≡ (f (get_or xs i d)).at
+pub place-of : {X A : Type 0} (f : X → WireEnd A) (xs : List X) (i : ℕ) (d : X) (e : ℕ × ℕ) → i < length xs → get_or (arrival_ports (map f xs)) i e ≡ (f (get_or xs i d)).at
 place-of {A = A} f xs i d e l =
     let l' : i < length (map f xs) = rw length-map l in
     get_or-map (λ (w : WireEnd A). w.at) (map f xs) i (f d) e l' ∙ ap (λ (w : WireEnd A). w.at) (get_or-map f xs i d (f d) l)
 
 -- the place of an end of a tile is a link port
-pub cleared-at : (ends : List Outlet) (rows k : ℕ) (end : Outlet) → AreLinkPorts rows 6 (arrival_places (map outlet ends)) → k < length ends → end ≡ get_or ends k end
-    → (get_or (arrival_places (map outlet ends)) k (0, 0) ≡ (end.router, end.port)) × (end.router < rows) × (end.port < 6)
+pub cleared-at : (ends : List Outlet) (rows k : ℕ) (end : Outlet) → AreLinkPorts rows 6 (arrival_ports (map outlet ends)) → k < length ends → end ≡ get_or ends k end
+    → (get_or (arrival_ports (map outlet ends)) k (0, 0) ≡ (end.router, end.port)) × (end.router < rows) × (end.port < 6)
 cleared-at ends rows k end within l is =
-    let at : get_or (arrival_places (map outlet ends)) k (0, 0) ≡ (end.router, end.port) = place-of outlet ends k end (0, 0) l ∙ ap (λ (o : Outlet). (outlet o).at) (sym is) in
+    let at : get_or (arrival_ports (map outlet ends)) k (0, 0) ≡ (end.router, end.port) = place-of outlet ends k end (0, 0) l ∙ ap (λ (o : Outlet). (outlet o).at) (sym is) in
     let P : ℕ × ℕ → Type 0 = λ p. (p.0 < rows) × (p.1 < 6) in
     let w = subst P at (within k (rw (length-map, length-map) l)) in
     (at, w.0, w.1)

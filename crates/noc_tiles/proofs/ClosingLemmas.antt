@@ -5,9 +5,9 @@ use Rattle.std.proofs.lemmas.Bool.{cases_lt}
 use Rattle.std.proofs.lemmas.List.{take_more, length-take-le, length-map, get_or-map}
 use Rattle.std.proofs.lemmas.Option.{slice_get-get_or, get_or_from_slice_get}
 use Rattle.noc_topo.specs.Shape.{local_port, neighbour, nodes}
-use Rattle.noc_topo.proofs.WordLemmas.{tabulate-from_each, get_or-map_indexed, length-map_indexed}
+use Rattle.noc_topo.proofs.ListLemmas.{tabulate-from_each, get_or-map_indexed, length-map_indexed}
 use Rattle.noc_packet.specs.declared.packet.Beat.{Beat}
-use Rattle.noc_router.specs.View.{View, local_step, idle_beat}
+use Rattle.noc_view.specs.View.{View, local_step, idle_beat}
 use Rattle.noc_theory.specs.Halves.{beat_at}
 use Rattle.noc_theory.specs.Lockstep.{lockstep_at, beats_at}
 use Rattle.noc_theory.specs.Network.{Setup}

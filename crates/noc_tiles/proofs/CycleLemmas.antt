@@ -3,16 +3,16 @@ use Rattle.std.proofs.Common.{◌≡◌, ◌≢◌, inl, inr, ℕ, suc, ◌+◌,
 use Rattle.std.specs.Prelude.{nat_eq, ◌&&◌, if◌then◌else◌}
 use Rattle.std.proofs.lemmas.Bool.{cases_lt, false≢true, le-ltb}
 use Rattle.std.proofs.lemmas.List.{get_or-map, length-map, length-replicate, map-id, same_lists}
-use Rattle.noc_topo.specs.Words.{tabulate, map_indexed}
+use Rattle.noc_topo.specs.Lists.{tabulate, map_indexed}
 use Rattle.noc_topo.specs.Shape.{local_port, neighbour, nodes}
-use Rattle.noc_topo.proofs.WordLemmas.{length-tabulate, get_or-tabulate, tabulate-from_each, length-map_indexed, get_or-map_indexed}
+use Rattle.noc_topo.proofs.ListLemmas.{length-tabulate, get_or-tabulate, tabulate-from_each, length-map_indexed, get_or-map_indexed}
 use Rattle.noc_packet.specs.declared.packet.Beat.{Beat}
 use Rattle.noc_route.specs.Routes.{Routes}
-use Rattle.noc_router.specs.declared.verdict.Findings.{Findings}
-use Rattle.noc_router.specs.declared.verdict.Findings.TheVariants.{Record, Leave}
-use Rattle.noc_router.specs.Finish.{view_after_finish}
-use Rattle.noc_router.specs.View.{Site, View, IsRelationOf, view_after_takes, idle_beat, local_step, opening_view}
-use Rattle.noc_router.proofs.SiteLemmas.{all_taken-site}
+use Rattle.noc_view.specs.declared.finding.Recording.{Recording}
+use Rattle.noc_view.specs.declared.finding.Recording.TheVariants.{Record, Leave}
+use Rattle.noc_view.specs.Finish.{view_after_finish}
+use Rattle.noc_view.specs.View.{Site, View, IsRelationOf, view_after_takes, idle_beat, local_step, opening_view}
+use Rattle.noc_view.proofs.SiteLemmas.{all_taken-site}
 use Rattle.noc_theory.specs.Halves.{HasItsBeats, beat_at, view_after_decide, view_after_puts, incoming}
 use Rattle.noc_theory.specs.Unseen.{AreSameViews, without_findings}
 use Rattle.noc_theory.proofs.runs.RunLemmas.{map_map_indexed}
@@ -172,7 +172,7 @@ module _ (relation : Routes) (first : ℕ) (ins outs : List (ℕ × ℕ)) (views
             ∙ sym (get_or-map u (map view_after_puts halves) k e e (omega (arith, length-map halves view_after_puts, few'))))
             ∙ ap (map u) (sym (made-views d))
 
-        pub all-views : (findings : Findings) → ((k : ℕ) (e : View) → k < length views → get_or views5 k e ≡ view_after_puts (view_after_finish relation n findings (get_or views1 k e)))
+        pub all-views : (findings : Recording) → ((k : ℕ) (e : View) → k < length views → get_or views5 k e ≡ view_after_puts (view_after_finish relation n findings (get_or views1 k e)))
             → AreSameViews findings views5 (after_steps relation at_place made).views
         all-views Record each = let same : View → View = λ v. v in sym (map-id views5) ∙ all5 same each ∙ map-id (after_steps relation at_place made).views
         all-views Leave each = all5 without_findings (λ k e l. ap without_findings (each k e l) ∙ finish-unseen relation n Leave (get_or views1 k e))
@@ -279,7 +279,7 @@ module _ (relation : Routes) (first : ℕ) (ins outs : List (ℕ × ℕ)) (views
 
 -- some view
 abbrev pub some_view : Routes → View
-some_view relation = opening_view (record { grid = relation.grid; node = 0; vcs = relation.vcs; places = 0 }) [] []
+some_view relation = opening_view (record { grid = relation.grid; node = 0; vcs = relation.vcs; depth = 0 }) [] []
 
 pub set-as : (relation : Routes) (first first' : ℕ) (ins ins' outs outs' : List (ℕ × ℕ)) (views views' : List View) (b b' : List (List Beat)) → first ≡ first' → ins ≡ ins' → outs ≡ outs' → views ≡ views' → b ≡ b'
     → PartsFit relation first ins outs views b → PartsFit relation first' ins' outs' views' b'

@@ -7,11 +7,11 @@ use Rattle.std.proofs.lemmas.List.{get_or-map, get_or-set_same, get_or-set_other
 use Rattle.noc_topo.specs.Shape.{local_port, neighbour, nodes}
 use Rattle.noc_packet.specs.declared.packet.Beat.{Beat}
 use Rattle.noc_route.specs.Routes.{Routes}
-use Rattle.noc_router.specs.declared.verdict.Findings.{Findings}
-use Rattle.noc_router.specs.declared.verdict.Findings.TheVariants.{Record, Leave}
-use Rattle.noc_router.specs.Finish.{view_after_finish}
-use Rattle.noc_router.specs.View.{Site, View, IsRelationOf, idle_beat, beat_to_put, view_after_inject, decisions_of}
-use Rattle.noc_router.proofs.SiteLemmas.{injected-site, committed-site}
+use Rattle.noc_view.specs.declared.finding.Recording.{Recording}
+use Rattle.noc_view.specs.declared.finding.Recording.TheVariants.{Record, Leave}
+use Rattle.noc_view.specs.Finish.{view_after_finish}
+use Rattle.noc_view.specs.View.{Site, View, IsRelationOf, idle_beat, beat_to_put, view_after_inject, decisions_of}
+use Rattle.noc_view.proofs.SiteLemmas.{injected-site, committed-site}
 use Rattle.noc_theory.proofs.runs.StepLemmas.{IsRelationOf-same_site, count-committed}
 use Rattle.noc_theory.specs.Halves.{HasItsBeats, beat_at, view_after_puts, wire_after_puts}
 use Rattle.noc_theory.specs.Unseen.{without_findings}
@@ -23,21 +23,21 @@ use Rattle.noc_tiles.proofs.TileStepLemmas.{Tells}
 
 -- ---- one router that has finished
 
-pub finish-site : (relation : Routes) (n : ℕ) (findings : Findings) (v : View) → (view_after_finish relation n findings v).site ≡ v.site
+pub finish-site : (relation : Routes) (n : ℕ) (findings : Recording) (v : View) → (view_after_finish relation n findings v).site ≡ v.site
 finish-site relation n Record v = committed-site (decisions_of relation (view_after_inject n v)) (view_after_inject n v) ∙ injected-site n v
 finish-site relation n Leave v = committed-site (decisions_of relation (view_after_inject n v)) (view_after_inject n v) ∙ injected-site n v
 
 -- whether findings are recorded makes no difference to anything else
-pub finish-put : (relation : Routes) (n : ℕ) (findings : Findings) (v : View) → (view_after_finish relation n findings v).to_put ≡ (view_after_finish relation n Record v).to_put
+pub finish-put : (relation : Routes) (n : ℕ) (findings : Recording) (v : View) → (view_after_finish relation n findings v).to_put ≡ (view_after_finish relation n Record v).to_put
 finish-put relation n Record v = refl
 finish-put relation n Leave v = refl
 
-pub finish-unseen : (relation : Routes) (n : ℕ) (findings : Findings) (v : View)
+pub finish-unseen : (relation : Routes) (n : ℕ) (findings : Recording) (v : View)
     → without_findings (view_after_puts (view_after_finish relation n findings v)) ≡ without_findings (view_after_puts (view_after_finish relation n Record v))
 finish-unseen relation n Record v = refl
 finish-unseen relation n Leave v = refl
 
-pub finish-placed : (relation : Routes) (n : ℕ) (findings : Findings) (v : View) → IsRelationOf relation v → HasItsBeats relation (view_after_finish relation n findings v).site.node (view_after_finish relation n findings v)
+pub finish-placed : (relation : Routes) (n : ℕ) (findings : Recording) (v : View) → IsRelationOf relation v → HasItsBeats relation (view_after_finish relation n findings v).site.node (view_after_finish relation n findings v)
 finish-placed relation n findings v fits = record {
   built_for = IsRelationOf-same_site relation v (view_after_finish relation n findings v) (finish-site relation n findings v) fits;
   site = refl;
@@ -78,7 +78,7 @@ from-more first i k sent w (Some (a, q)) beat l e g = at (eqb_tells a w.site.nod
 
 -- ---- the tile
 
-module _ (relation : Routes) (n : ℕ) (findings : Findings) (i j : ℕ) (a : Tile) (can : CanFinish relation i j a) where
+module _ (relation : Routes) (n : ℕ) (findings : Recording) (i j : ℕ) (a : Tile) (can : CanFinish relation i j a) where
   pub finished-none : HaveFinished relation n findings i i a a
   finished-none = record {
     rest = refl;

@@ -7,13 +7,13 @@ use Rattle.noc_topo.specs.Shape.{nodes}
 use Rattle.noc_topo.proofs.LinkLemmas.{nodes-some}
 use Rattle.noc_route.specs.Routes.{Routes}
 use Rattle.noc_packet.specs.declared.packet.Beat.{Beat}
-use Rattle.noc_router.specs.View.{idle_beat}
+use Rattle.noc_view.specs.View.{idle_beat}
 use Rattle.noc_theory.specs.Halves.{beat_at}
 use Rattle.noc_theory.specs.Lockstep.{lockstep_at}
 use Rattle.noc_theory.specs.Network.{Setup}
 use Rattle.noc_theory.proofs.runs.RunLemmas.{count_views, past_wires}
 use Rattle.noc_tiles.specs.Ends.{End}
-use Rattle.noc_tiles.specs.TileStep.{TileState, arrival_places, after, beats_put, put_in}
+use Rattle.noc_tiles.specs.TileStep.{TileState, arrival_ports, after, beats_put, put_in}
 use Rattle.noc_tiles.specs.Tiles.{CanRun, AllCanRun, inlets, outlets, layout_of, state_of}
 use Rattle.noc_tiles.specs.Emptying.{CanEmpty, Empties, Left}
 use Rattle.noc_tiles.specs.Partition.{IsPartition, routers_of, wire_rows_of}
@@ -94,9 +94,9 @@ module _ (net : Setup) (n k : ℕ) (I O : List (Option End)) (xs ys : List Tile)
       let F = flat-find inlets xs i d l in
       let a = get_or xs F.t d in
       let ready = set_at net n k I O xs W d F.t F.in_list in
-      let jl : F.j < length (arrival_places (inlets a)) = rw length-map F.in_part in
+      let jl : F.j < length (arrival_ports (inlets a)) = rw length-map F.in_part in
       let p = ready.parts.within F.j jl in
-      let x : get_or (arrival_places (inlets a)) F.j (0, 0) ≡ (get_or (flat_map inlets xs) i e).at = place-get (inlets a) F.j (0, 0) e F.in_part ∙ sym (ap (λ (w : End). w.at) (found-get inlets xs i d F e)) in
+      let x : get_or (arrival_ports (inlets a)) F.j (0, 0) ≡ (get_or (flat_map inlets xs) i e).at = place-get (inlets a) F.j (0, 0) e F.in_part ∙ sym (ap (λ (w : End). w.at) (found-get inlets xs i d F e)) in
       let P : ℕ × ℕ → Type 0 = λ q. (q.0 < nodes net.relation.grid) × (q.1 < 6) in
       let p1 = p.1 in
       let few = ready.few_links in
@@ -239,7 +239,7 @@ module _ (net : Setup) (n k : ℕ) (I O : List (Option End)) (xs ys : List Tile)
           let il : i < length (flat_map inlets ys) = let z = offset-lt inlets xs t j d l h' in let y = in-count in omega arith in
           let x = empties-left i il in
           let C = carries i F x.0 e x.1 in
-          let pe : (get_or (flat_map inlets xs) i e).at ≡ get_or (arrival_places (inlets a)) j (0, 0) = ap (λ (w : End). w.at) (found-get inlets xs i d F e) ∙ sym (place-get (inlets a) j (0, 0) e h') in
+          let pe : (get_or (flat_map inlets xs) i e).at ≡ get_or (arrival_ports (inlets a)) j (0, 0) = ap (λ (w : End). w.at) (found-get inlets xs i d F e) ∙ sym (place-get (inlets a) j (0, 0) e h') in
           (C.u, C.o, C.um, C.ol, C.far_end ∙ pe, λ i' h''. C.rows i' h'' ∙ ap (λ (p : ℕ × ℕ). beat_carried net n (in_flight net n n p.0 p.1) (traces C.u) C.o i') pe);
     }
 

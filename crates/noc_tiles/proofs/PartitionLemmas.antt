@@ -5,13 +5,13 @@ use Rattle.std.proofs.lemmas.List.{get_or-take, get_or-drop, length-take-le, len
 use Rattle.noc_topo.specs.Shape.{IsGrid, neighbour, nodes, local_port}
 use Rattle.noc_topo.proofs.LinkLemmas.{link_back}
 use Rattle.noc_packet.specs.declared.packet.Beat.{Beat}
-use Rattle.noc_router.specs.View.{View, idle_beat}
+use Rattle.noc_view.specs.View.{View, idle_beat}
 use Rattle.noc_theory.specs.Halves.{HasItsBeats, beat_at}
 use Rattle.noc_theory.specs.Lockstep.{lockstep_at}
 use Rattle.noc_theory.specs.Network.{Setup}
 use Rattle.noc_theory.proofs.runs.RunLemmas.{count_views, linked_wires}
 use Rattle.noc_tiles.specs.Ends.{End}
-use Rattle.noc_tiles.specs.TileStep.{is_own, is_from, is_inside, arrival_places}
+use Rattle.noc_tiles.specs.TileStep.{is_own, is_from, is_inside, arrival_ports}
 use Rattle.noc_tiles.specs.Tiles.{PartsFit}
 use Rattle.noc_tiles.specs.Rings.{AreLeftOut, AreSlots, AreTakenIn, AreTakenOut}
 use Rattle.noc_tiles.proofs.ClearLemmas.{place_at}
@@ -101,10 +101,10 @@ module _ (net : Setup) (sound : IsGrid net.relation.grid) (n first count : ℕ) 
       ⊎_elim (λ z. absurd (false≢true (sym z ∙ ap (is_inside first count) none))) (λ z. absurd (false≢true (sym (ap (is_from first count) none) ∙ z))) h)
       (cases_lt q (local_port net.relation.grid))
 
-  pub place-in : (j : ℕ) (l : j < length (arrival_places V)) → (e : End) × (j < length V) × (get_or (arrival_places V) j (0, 0) ≡ (get_or V j e).at)
+  pub place-in : (j : ℕ) (l : j < length (arrival_ports V)) → (e : End) × (j < length V) × (get_or (arrival_ports V) j (0, 0) ≡ (get_or V j e).at)
   place-in j l = let h : j < length V = rw length-map at l in let e = some_item V j h in (e, h, place-get V j (0, 0) e h)
 
-  pub place-out : (o : ℕ) (l : o < length (arrival_places U)) → (e : End) × (o < length U) × (get_or (arrival_places U) o (0, 0) ≡ (get_or U o e).at)
+  pub place-out : (o : ℕ) (l : o < length (arrival_ports U)) → (e : End) × (o < length U) × (get_or (arrival_ports U) o (0, 0) ≡ (get_or U o e).at)
   place-out o l = let h : o < length U = rw length-map at l in let e = some_item U o h in (e, h, place-get U o (0, 0) e h)
 
   abbrev IsLinkOf : ℕ × ℕ → Type 0
@@ -113,7 +113,7 @@ module _ (net : Setup) (sound : IsGrid net.relation.grid) (n first count : ℕ) 
   own-row : (m : ℕ) → first * 6 ≤ m → m < (first + count) * 6 → is_own first count (m / 6) ≡ true
   own-row m l h = own-true first count (m / 6) (omega arith) (omega arith)
 
-  pub parts-fit : PartsFit net.relation first (arrival_places V) (arrival_places U) own_views b
+  pub parts-fit : PartsFit net.relation first (arrival_ports V) (arrival_ports U) own_views b
   parts-fit =
       let vc = views-count in
       let own-is : (r : ℕ) → is_own first (length own_views) r ≡ is_own first count r = λ r. ap (λ z. is_own first z r) vc in
@@ -133,7 +133,7 @@ module _ (net : Setup) (sound : IsGrid net.relation.grid) (n first count : ℕ) 
         own = λ j l.
             let P = place-in j l in
             let a = in-at j P.0 P.1 in
-            own-is (get_or (arrival_places V) j (0, 0)).0 ∙ (ap (λ (p : ℕ × ℕ). is_own first count p.0) (P.2 ∙ a.at) ∙ own-row a.m a.low a.high);
+            own-is (get_or (arrival_ports V) j (0, 0)).0 ∙ (ap (λ (p : ℕ × ℕ). is_own first count p.0) (P.2 ∙ a.at) ∙ own-row a.m a.low a.high);
         outs_within = λ o l.
             let P = place-out o l in
             let a = out-at o P.0 P.1 in
@@ -141,7 +141,7 @@ module _ (net : Setup) (sound : IsGrid net.relation.grid) (n first count : ℕ) 
         others = λ o l.
             let P = place-out o l in
             let a = out-at o P.0 P.1 in
-            own-is (get_or (arrival_places U) o (0, 0)).0 ∙ (ap (λ (p : ℕ × ℕ). is_own first count p.0) (P.2 ∙ a.at) ∙ a.other);
+            own-is (get_or (arrival_ports U) o (0, 0)).0 ∙ (ap (λ (p : ℕ × ℕ). is_own first count p.0) (P.2 ∙ a.at) ∙ a.other);
         leaves = λ r q l other from.
             let f : is_from first count (neighbour net.relation.grid r q) ≡ true = ap (λ z. is_from first z (neighbour net.relation.grid r q)) (sym vc) ∙ from in
             let s = sender r q l (neighbour net.relation.grid r q) refl f in
@@ -158,7 +158,7 @@ module _ (net : Setup) (sound : IsGrid net.relation.grid) (n first count : ℕ) 
             (o.0, rw length-map o.1, place-get U o.0 (0, 0) e o.1 ∙ slot-place r q (get_or U o.0 e) l q_in slot);
       }
 
-  pub tile-covers : (c q : ℕ) → c < count → is_inside first count (neighbour net.relation.grid (first + c) q) ≡ true ⊎ ((j : ℕ) × (j < length (arrival_places V)) × (get_or (arrival_places V) j (0, 0) ≡ place_at (first + c) q))
+  pub tile-covers : (c q : ℕ) → c < count → is_inside first count (neighbour net.relation.grid (first + c) q) ≡ true ⊎ ((j : ℕ) × (j < length (arrival_ports V)) × (get_or (arrival_ports V) j (0, 0) ≡ place_at (first + c) q))
   tile-covers c q l =
       ⊎_elim (λ (small : q < 6).
       let m = (first + c) * 6 + q in

@@ -8,7 +8,7 @@ use Rattle.std.proofs.Math.Seq.{take-add}
 use Rattle.noc_topo.specs.Shape.{Grid, neighbour, nodes}
 use Rattle.noc_packet.specs.declared.packet.Beat.{Beat}
 use Rattle.noc_theory.proofs.runs.RunLemmas.{count_views}
-use Rattle.noc_router.specs.View.{idle_beat}
+use Rattle.noc_view.specs.View.{idle_beat}
 use Rattle.noc_theory.specs.Halves.{beat_at}
 use Rattle.noc_tiles.specs.Ends.{End}
 use Rattle.noc_tiles.specs.TileStep.{is_inside, is_own}

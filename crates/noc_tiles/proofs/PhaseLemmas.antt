@@ -3,26 +3,26 @@ use Rattle.std.proofs.Common.{◌≡◌, ℕ, ◌+◌, ◌-◌, ◌<◌, ◌≤�
 use Rattle.std.specs.List.{All}
 use Rattle.std.proofs.lemmas.List.{get_or_default}
 use Rattle.noc_topo.specs.Shape.{neighbour, nodes}
-use Rattle.noc_topo.proofs.WordLemmas.{length-map_indexed}
+use Rattle.noc_topo.proofs.ListLemmas.{length-map_indexed}
 use Rattle.noc_packet.specs.declared.packet.Beat.{Beat}
 use Rattle.noc_route.specs.Routes.{Routes}
-use Rattle.noc_router.specs.declared.verdict.Findings.{Findings}
-use Rattle.noc_router.specs.declared.verdict.Findings.TheVariants.{Record}
-use Rattle.noc_router.specs.Finish.{view_after_finish}
-use Rattle.noc_router.specs.View.{View}
+use Rattle.noc_view.specs.declared.finding.Recording.{Recording}
+use Rattle.noc_view.specs.declared.finding.Recording.TheVariants.{Record}
+use Rattle.noc_view.specs.Finish.{view_after_finish}
+use Rattle.noc_view.specs.View.{View}
 use Rattle.noc_theory.specs.Halves.{beat_at, view_after_puts}
 use Rattle.noc_theory.specs.Unseen.{without_findings}
 use Rattle.noc_tiles.specs.Ends.{End}
 use Rattle.noc_tiles.specs.Inner.{AreInner, CanFinish, HaveFinished, to_send}
 use Rattle.noc_tiles.specs.Phases.{TileHasSent, TileHasTaken, IsCleared}
-use Rattle.noc_tiles.specs.TileStep.{beat_among, ends_after_beats, with_row, is_from, arrival_places}
+use Rattle.noc_tiles.specs.TileStep.{beat_among, ends_after_beats, with_row, is_from, arrival_ports}
 use Rattle.noc_tiles.specs.Tiles.{AreLinkPorts, Cycles, IsReady, inlets, outlets}
 use Rattle.noc_tiles.specs.declared.inner.Inner.{Inner}
 use Rattle.noc_tiles.specs.declared.tile.Tile.{Tile}
 use Rattle.noc_tiles.proofs.CycleLemmas.{all-views, can1, wires5, put5, set5, set-as, some_view}
 use Rattle.noc_tiles.proofs.EdgeLemmas.{can-part, can-after, can-cleared, count5, views5, edge3, whole5, kept5}
 use Rattle.noc_tiles.proofs.FinishLemmas.{finish-unseen}
-use Rattle.noc_tiles.proofs.TileStepLemmas.{names-fed, places-names}
+use Rattle.noc_tiles.proofs.TileStepLemmas.{names-fed, ports-names}
 
 -- ---- what is taken
 
@@ -36,13 +36,13 @@ took-as ins row old new b0 b1 before after took r q = ap (λ (b : List (List Bea
 
 -- ---- a whole cycle
 
-module _ (relation : Routes) (n : ℕ) (findings : Findings) (inner : Inner) (row : List Beat) (a t1 : Tile) (ready : IsReady relation a) (within : AreInner relation.grid a.first (vec_len a.routers) (arrival_places (outlets a)) inner)
+module _ (relation : Routes) (n : ℕ) (findings : Recording) (inner : Inner) (row : List Beat) (a t1 : Tile) (ready : IsReady relation a) (within : AreInner relation.grid a.first (vec_len a.routers) (arrival_ports (outlets a)) inner)
     (took : TileHasTaken relation row a t1) where
   abbrev ins : List (ℕ × ℕ)
-  ins = arrival_places (inlets a)
+  ins = arrival_ports (inlets a)
 
   abbrev outs : List (ℕ × ℕ)
-  outs = arrival_places (outlets a)
+  outs = arrival_ports (outlets a)
 
   abbrev views : List View
   views = a.routers.items
@@ -89,8 +89,8 @@ module _ (relation : Routes) (n : ℕ) (findings : Findings) (inner : Inner) (ro
       rows3 : length t3.beats.items ≡ nodes relation.grid
       rows3 = two.size ∙ one.size ∙ rows1
 
-      pub within3 : AreLinkPorts (length t3.beats.items) 6 (arrival_places (outlets t3))
-      within3 = subst (AreLinkPorts (length t3.beats.items) 6) (sym (ap arrival_places outs3)) (λ j l. let w = ready.parts.outs_within j l in (omega (arith, w.0, rows3), omega (arith, w.1, ready.few_links)))
+      pub within3 : AreLinkPorts (length t3.beats.items) 6 (arrival_ports (outlets t3))
+      within3 = subst (AreLinkPorts (length t3.beats.items) 6) (sym (ap arrival_ports outs3)) (λ j l. let w = ready.parts.outs_within j l in (omega (arith, w.0, rows3), omega (arith, w.1, ready.few_links)))
 
       middle3 : CanFinish relation inner.from inner.to t3
       middle3 =
@@ -103,7 +103,7 @@ module _ (relation : Routes) (n : ℕ) (findings : Findings) (inner : Inner) (ro
         rest4 = sent.rest
 
         cleared : (r q : ℕ) → IsCleared outs t3.beats.items t4.beats.items (length outs) r q
-        cleared r q = subst (λ ps. IsCleared ps t3.beats.items t4.beats.items (length ps) r q) (ap arrival_places outs3) (sent.cleared r q)
+        cleared r q = subst (λ ps. IsCleared ps t3.beats.items t4.beats.items (length ps) r q) (ap arrival_ports outs3) (sent.cleared r q)
 
         pub inner-can : CanFinish relation inner.from inner.to t4
         inner-can = can-cleared relation inner.from inner.to (length outs) outs t3 t4 middle3 rest4 sent.size cleared
@@ -151,7 +151,7 @@ module _ (relation : Routes) (n : ℕ) (findings : Findings) (inner : Inner) (ro
           ins5 = ap inlets three.rest ∙ ap inlets rest4 ∙ ap inlets two.rest ∙ ap inlets one.rest ∙ took.ins
 
           outs5 : outlets t5 ≡ ends_after_beats (outlets a) (map (λ (p : ℕ × ℕ). beat_at t3.beats.items p.0 p.1) outs)
-          outs5 = ap outlets three.rest ∙ sent.outs ∙ ap (λ (ends : List End). ends_after_beats ends (map (λ (p : ℕ × ℕ). beat_at t3.beats.items p.0 p.1) (arrival_places ends))) outs3
+          outs5 = ap outlets three.rest ∙ sent.outs ∙ ap (λ (ends : List End). ends_after_beats ends (map (λ (p : ℕ × ℕ). beat_at t3.beats.items p.0 p.1) (arrival_ports ends))) outs3
 
           first5 : t5.first ≡ a.first
           first5 =
@@ -161,19 +161,19 @@ module _ (relation : Routes) (n : ℕ) (findings : Findings) (inner : Inner) (ro
           rows5 : length t5.beats.items ≡ nodes relation.grid
           rows5 = three.size ∙ sent.size ∙ rows3
 
-          same-ins : arrival_places (inlets t5) ≡ ins
-          same-ins = ap arrival_places ins5 ∙ places-names (ends_after_beats (inlets a) row) (inlets a) (names-fed (inlets a) row)
+          same-ins : arrival_ports (inlets t5) ≡ ins
+          same-ins = ap arrival_ports ins5 ∙ ports-names (ends_after_beats (inlets a) row) (inlets a) (names-fed (inlets a) row)
 
-          same-outs : arrival_places (outlets t5) ≡ outs
+          same-outs : arrival_ports (outlets t5) ≡ outs
           same-outs =
               let beats : List Beat = map (λ (p : ℕ × ℕ). beat_at t3.beats.items p.0 p.1) outs in
-              ap arrival_places outs5 ∙ places-names (ends_after_beats (outlets a) beats) (outlets a) (names-fed (outlets a) beats)
+              ap arrival_ports outs5 ∙ ports-names (ends_after_beats (outlets a) beats) (outlets a) (names-fed (outlets a) beats)
 
           -- the tile is ready for the next cycle
           pub ready-again : IsReady relation t5
           ready-again = record {
             few_links = ready.few_links;
-            parts = set-as relation a.first t5.first ins (arrival_places (inlets t5)) outs (arrival_places (outlets t5)) views' views' t5.beats.items t5.beats.items (sym first5) (sym same-ins) (sym same-outs) refl refl
+            parts = set-as relation a.first t5.first ins (arrival_ports (inlets t5)) outs (arrival_ports (outlets t5)) views' views' t5.beats.items t5.beats.items (sym first5) (sym same-ins) (sym same-outs) refl refl
                 (set5 relation a.first ins outs views a.beats.items ready.parts row n views1 took.views d views' n5 did t3.beats.items t4.beats.items t5.beats.items inner fits cleared edge whole kept rows5);
           }
 

@@ -1,22 +1,22 @@
 -- One more cycle of a tile's run.
 use Rattle.std.proofs.Common.{◌≡◌, ℕ, suc, ◌+◌, ◌<◌, ◌≤◌, List, [], ◌∷◌, ◌++◌, map, length, get_or, refl, ap, ap₂, sym, ◌∙◌, subst, arith, below_more}
 use Rattle.std.proofs.lemmas.List.{length_push, get_or_append_left, get_or_push, length-map, get_or-map, same_lists}
-use Rattle.noc_topo.specs.Words.{map_indexed}
+use Rattle.noc_topo.specs.Lists.{map_indexed}
 use Rattle.noc_topo.specs.Shape.{local_port, nodes}
-use Rattle.noc_topo.proofs.WordLemmas.{length-map_indexed, get_or-map_indexed}
+use Rattle.noc_topo.proofs.ListLemmas.{length-map_indexed, get_or-map_indexed}
 use Rattle.noc_packet.specs.declared.packet.Beat.{Beat}
 use Rattle.noc_route.specs.Routes.{Routes}
-use Rattle.noc_router.specs.View.{View, local_step, idle_beat}
-use Rattle.noc_router.specs.declared.verdict.Findings.{Findings}
-use Rattle.noc_router.specs.declared.verdict.Findings.TheVariants.{Record}
+use Rattle.noc_view.specs.View.{View, local_step, idle_beat}
+use Rattle.noc_view.specs.declared.finding.Recording.{Recording}
+use Rattle.noc_view.specs.declared.finding.Recording.TheVariants.{Record}
 use Rattle.noc_theory.specs.Halves.{beat_at}
 use Rattle.noc_theory.specs.Unseen.{AreSameViews, without_findings}
 use Rattle.noc_theory.proofs.runs.UnseenLemmas.{findings-local_step, same-unseen}
 use Rattle.noc_tiles.specs.RingEnd.{WireEnd}
-use Rattle.noc_tiles.specs.TileStep.{Layout, TileState, ends_after_beats, ends_after_rows, arrival_places, with_row, beats_arriving, steps, after_steps, put_by, tile_after_cycle, put_in, after, beats_put}
+use Rattle.noc_tiles.specs.TileStep.{Layout, TileState, ends_after_beats, ends_after_rows, arrival_ports, with_row, beats_arriving, steps, after_steps, put_by, tile_after_cycle, put_in, after, beats_put}
 use Rattle.noc_tiles.specs.Tiles.{IsReady, IsSameTile, Cycles, Runs, inlets, outlets, layout_of, state_of}
 use Rattle.noc_tiles.specs.declared.tile.Tile.{Tile}
-use Rattle.noc_tiles.proofs.TileStepLemmas.{length-fed, places-names, filled-same}
+use Rattle.noc_tiles.proofs.TileStepLemmas.{length-fed, ports-names, filled-same}
 use Rattle.noc_tiles.proofs.CycleLemmas.{tabulate-same, some_view}
 
 module _ {A : Type 0} where
@@ -83,9 +83,9 @@ runs-all relation a b r = record { rows = r.rows; count = r.count; width = r.wid
 pub place-same : (a b : Tile) → IsSameTile a b → layout_of b ≡ layout_of a
 place-same a b s =
     let mk : ℕ → List (ℕ × ℕ) → List (ℕ × ℕ) → Layout = λ v p q. record { first = v; ins = p; outs = q } in
-    ap₂ (λ v p. mk v p (arrival_places (outlets b))) s.first (places-names (inlets b) (inlets a) s.ins) ∙ ap (mk a.first (arrival_places (inlets a))) (places-names (outlets b) (outlets a) s.outs)
+    ap₂ (λ v p. mk v p (arrival_ports (outlets b))) s.first (ports-names (inlets b) (inlets a) s.ins) ∙ ap (mk a.first (arrival_ports (inlets a))) (ports-names (outlets b) (outlets a) s.outs)
 
-pub runs-more : (relation : Routes) (k : ℕ) (a b b' : Tile) (findings : Findings) (row : List Beat) → IsSameTile a b → IsReady relation b → (k + 1 ≡ a.cycles → findings ≡ Record)
+pub runs-more : (relation : Routes) (k : ℕ) (a b b' : Tile) (findings : Recording) (row : List Beat) → IsSameTile a b → IsReady relation b → (k + 1 ≡ a.cycles → findings ≡ Record)
     → RunsSoFar relation k a b → Cycles relation findings (a.start + k) b b' row → RunsSoFar relation (k + 1) a b'
 runs-more relation k a b b' findings row s ready last r c =
     let P = layout_of a in
@@ -107,7 +107,7 @@ runs-more relation k a b b' findings row s ready last r c =
           (λ i l. let l' : i < length r.rows = let q = r.count in omega arith in ap length (get_or_append_left r.rows (row ∷ []) [] i l') ∙ r.width i l)
           (ap length (get_or_push r.rows row [] k r.count) ∙ w);
       views = same-unseen findings b'.routers.items (after_steps relation (layout_of b) (steps relation (layout_of b) (a.start + k) (state_of b) row)).views c.views ∙ ap (λ (z : TileState). map without_findings z.views) next;
-      seen = λ h. subst (λ (f : Findings). AreSameViews f b'.routers.items (after_steps relation (layout_of b) (steps relation (layout_of b) (a.start + k) (state_of b) row)).views) (last h) c.views ∙ ap (λ (z : TileState). z.views) next;
+      seen = λ h. subst (λ (f : Recording). AreSameViews f b'.routers.items (after_steps relation (layout_of b) (steps relation (layout_of b) (a.start + k) (state_of b) row)).views) (last h) c.views ∙ ap (λ (z : TileState). z.views) next;
       wires = λ i q l. c.wires i q l ∙ ap (λ (z : TileState). z.wires i q) next;
       ins = c.ins ∙ (ap (λ ws. ends_after_beats ws row) r.ins ∙ sym (fed_all-more (inlets a) r.rows row));
       outs =

@@ -4,10 +4,10 @@ use Rattle.std.specs.Prelude.{nat_eq, ◌&&◌, if◌then◌else◌}
 use Rattle.std.proofs.lemmas.Bool.Decides.{eqb_tells}
 use Rattle.std.proofs.lemmas.List.{set-get_or, length-map, get_or-map, map-set, get_or-set_same, get_or-set_other}
 use Rattle.noc_packet.specs.declared.packet.Beat.{Beat}
-use Rattle.noc_router.specs.View.{idle_beat}
+use Rattle.noc_view.specs.View.{idle_beat}
 use Rattle.noc_theory.specs.Halves.{beat_at}
 use Rattle.noc_tiles.specs.RingEnd.{WireEnd, Ring, end_after_beat}
-use Rattle.noc_tiles.specs.TileStep.{names, ends_after_beats, arrival_places, with_row, with_beat, Beats}
+use Rattle.noc_tiles.specs.TileStep.{names, ends_after_beats, arrival_ports, with_row, with_beat, Beats}
 use Rattle.noc_tiles.specs.Tiles.{AreLinkPorts}
 
 module _ {A : Type 0} where
@@ -20,10 +20,10 @@ module _ {A : Type 0} where
   length-fed (w ∷ ws) [] = refl
   length-fed (w ∷ ws) (x ∷ row) = ap suc (length-fed ws row)
 
-  pub places-fed : (ws : List (WireEnd A)) (row : List Beat) → arrival_places (ends_after_beats ws row) ≡ arrival_places ws
-  places-fed [] row = refl
-  places-fed (w ∷ ws) [] = refl
-  places-fed (w ∷ ws) (x ∷ row) = ap (λ ps. w.at ∷ ps) (places-fed ws row)
+  pub ports-fed : (ws : List (WireEnd A)) (row : List Beat) → arrival_ports (ends_after_beats ws row) ≡ arrival_ports ws
+  ports-fed [] row = refl
+  ports-fed (w ∷ ws) [] = refl
+  ports-fed (w ∷ ws) (x ∷ row) = ap (λ ps. w.at ∷ ps) (ports-fed ws row)
 
   pub fed-more : (ws : List (WireEnd A)) (row : List Beat) (x : Beat) (d : WireEnd A) → length row < length ws
       → set (ends_after_beats ws row) (length row) (end_after_beat (get_or (ends_after_beats ws row) (length row) d) x) ≡ ends_after_beats ws (row ++ x ∷ [])
@@ -36,10 +36,10 @@ module _ {A : Type 0} where
   names-fed (w ∷ ws) [] = refl
   names-fed (w ∷ ws) (x ∷ row) = ap (λ ps. (w.at, w.ring) ∷ ps) (names-fed ws row)
 
-  pub places-names : (ws vs : List (WireEnd A)) → names ws ≡ names vs → arrival_places ws ≡ arrival_places vs
-  places-names ws vs e = sym (firsts ws) ∙ (ap (map (λ (n : (ℕ × ℕ) × Ring A). n.0)) e ∙ firsts vs)
+  pub ports-names : (ws vs : List (WireEnd A)) → names ws ≡ names vs → arrival_ports ws ≡ arrival_ports vs
+  ports-names ws vs e = sym (firsts ws) ∙ (ap (map (λ (n : (ℕ × ℕ) × Ring A). n.0)) e ∙ firsts vs)
     where
-      firsts : (us : List (WireEnd A)) → map (λ (n : (ℕ × ℕ) × Ring A). n.0) (names us) ≡ arrival_places us
+      firsts : (us : List (WireEnd A)) → map (λ (n : (ℕ × ℕ) × Ring A). n.0) (names us) ≡ arrival_ports us
       firsts [] = refl
       firsts (u ∷ us) = ap (λ ps. u.at ∷ ps) (firsts us)
 
@@ -91,20 +91,20 @@ module _ {X A : Type 0} (f : X → WireEnd A) where
   length-same is0 is row e = sym (length-map is f) ∙ (ap length e ∙ (length-fed (map f is0) row ∙ length-map is0 f))
 
   pub place-at : (is0 is : List X) (row : List Beat) (i : ℕ) (d : X) (e : ℕ × ℕ) → map f is ≡ ends_after_beats (map f is0) row → i < length is
-      → get_or (arrival_places (map f is0)) i e ≡ (f (get_or is i d)).at
+      → get_or (arrival_ports (map f is0)) i e ≡ (f (get_or is i d)).at
   place-at is0 is row i d e h l =
       let l' : i < length (map f is) = rw length-map l in
-      ap (λ ps. get_or ps i e) (sym (places-fed (map f is0) row) ∙ ap arrival_places (sym h))
+      ap (λ ps. get_or ps i e) (sym (ports-fed (map f is0) row) ∙ ap arrival_ports (sym h))
       ∙ (get_or-map (λ (w : WireEnd A). w.at) (map f is) i (f d) e l' ∙ ap (λ (w : WireEnd A). w.at) (get_or-map f is i d (f d) l))
 
   -- the place of the i-th end is one of those
-  pub within-at : (rows links : ℕ) (is0 is1 is : List X) (row : List Beat) (i : ℕ) (d : X) → AreLinkPorts rows links (arrival_places (map f is0)) → is1 ≡ is0 → map f is ≡ ends_after_beats (map f is1) row → i < length is
+  pub within-at : (rows links : ℕ) (is0 is1 is : List X) (row : List Beat) (i : ℕ) (d : X) → AreLinkPorts rows links (arrival_ports (map f is0)) → is1 ≡ is0 → map f is ≡ ends_after_beats (map f is1) row → i < length is
       → ((f (get_or is i d)).at.0 < rows) × ((f (get_or is i d)).at.1 < links)
   within-at rows links is0 is1 is row i d r s h l =
       let n = length-same is1 is row h in
       let n' = ap length s in
-      let l0 : i < length (arrival_places (map f is0)) = rw (length-map, length-map) (omega arith) in
-      let e : get_or (arrival_places (map f is0)) i (0, 0) ≡ (f (get_or is i d)).at = ap (λ v. get_or (arrival_places (map f v)) i (0, 0)) (sym s) ∙ place-at is1 is row i d (0, 0) h l in
+      let l0 : i < length (arrival_ports (map f is0)) = rw (length-map, length-map) (omega arith) in
+      let e : get_or (arrival_ports (map f is0)) i (0, 0) ≡ (f (get_or is i d)).at = ap (λ v. get_or (arrival_ports (map f v)) i (0, 0)) (sym s) ∙ place-at is1 is row i d (0, 0) h l in
       let P : ℕ × ℕ → Type 0 = λ p. (p.0 < rows) × (p.1 < links) in
       subst P e (r i l0)
 

@@ -6,12 +6,12 @@ use Rattle.std.proofs.lemmas.List.{get_or_past}
 use Rattle.noc_topo.specs.Shape.{IsGrid, neighbour, nodes}
 use Rattle.noc_topo.proofs.LinkLemmas.{link_back}
 use Rattle.noc_packet.specs.declared.packet.Beat.{Beat}
-use Rattle.noc_router.specs.View.{View, idle_beat}
+use Rattle.noc_view.specs.View.{View, idle_beat}
 use Rattle.noc_theory.specs.Halves.{beat_at}
 use Rattle.noc_theory.specs.Lockstep.{lockstep_at}
 use Rattle.noc_theory.specs.Network.{Setup}
 use Rattle.noc_tiles.specs.Ends.{End}
-use Rattle.noc_tiles.specs.TileStep.{is_own, is_from, is_inside, arrival_places}
+use Rattle.noc_tiles.specs.TileStep.{is_own, is_from, is_inside, arrival_ports}
 use Rattle.noc_tiles.specs.Tiles.{PartsFit, inlets, outlets}
 use Rattle.noc_tiles.specs.Rings.{AreLeftOut, AreSlots, AreTakenIn, AreTakenOut, GoesOutTo}
 use Rattle.noc_tiles.specs.Partition.{InFlight, IsTile, AreUnassigned, AreWires, index_of}
@@ -70,8 +70,8 @@ module _ (net : Setup) (sound : IsGrid net.relation.grid) (workers first count :
         let S = parts-fit net sound n first count wide B t.beats.items flight own idle size I O I0 O0 workers U.slots U.left_in U.left_out V W ins outs in
         let vc : length t.routers.items ≡ count = ap length views ∙ views-count net sound n first count wide B t.beats.items flight own idle size I O I0 O0 workers U.slots U.left_in U.left_out V W ins outs in
         let few = sound.few_dimensions in
-        let P : ℕ → Type 0 = λ z. PartsFit net.relation z (arrival_places V) (arrival_places W) (take count (drop first (lockstep_at net n).views)) t.beats.items in
-        let Q : List View → Type 0 = λ z. PartsFit net.relation t.first (arrival_places V) (arrival_places W) z t.beats.items in
+        let P : ℕ → Type 0 = λ z. PartsFit net.relation z (arrival_ports V) (arrival_ports W) (take count (drop first (lockstep_at net n).views)) t.beats.items in
+        let Q : List View → Type 0 = λ z. PartsFit net.relation t.first (arrival_ports V) (arrival_ports W) z t.beats.items in
         let fv : (x : Option (ℕ × ℕ)) → is_inside t.first (length t.routers.items) x ≡ is_inside first count x = λ x. ap₂ (λ u v. is_inside u v x) is-first vc in
         let ff : (x : Option (ℕ × ℕ)) → is_from t.first (length t.routers.items) x ≡ is_from first count x = λ x. ap₂ (λ u v. is_from u v x) is-first vc in
         record {
@@ -84,7 +84,7 @@ module _ (net : Setup) (sound : IsGrid net.relation.grid) (workers first count :
           cycles = is-cycles;
           wires = λ c q l h. own (t.first + c) q (own-true first count (t.first + c) (omega arith) (omega arith)) ∙ flight (t.first + c) q;
           covers = λ c q l.
-              let Z : ℕ → Type 0 = λ z. is_inside t.first (length t.routers.items) (neighbour net.relation.grid (z + c) q) ≡ true ⊎ ((j : ℕ) × (j < length (arrival_places V)) × (get_or (arrival_places V) j (0, 0) ≡ place_at (z + c) q)) in
+              let Z : ℕ → Type 0 = λ z. is_inside t.first (length t.routers.items) (neighbour net.relation.grid (z + c) q) ≡ true ⊎ ((j : ℕ) × (j < length (arrival_ports V)) × (get_or (arrival_ports V) j (0, 0) ≡ place_at (z + c) q)) in
               subst Z (sym is-first)
               (⊎_elim (λ z. inl (fv (neighbour net.relation.grid (first + c) q) ∙ z)) (λ z. inr z)
               (tile-covers net sound n first count wide B t.beats.items flight own idle size I O I0 O0 workers U.slots U.left_in U.left_out V W ins outs c q (omega arith)));

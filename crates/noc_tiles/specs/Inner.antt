@@ -3,16 +3,16 @@ use Rattle.std.specs.Prelude.{ℕ, true, false, ◌≡◌, ◌⊎◌, ◌+◌, �
 use Rattle.noc_topo.specs.Shape.{Grid, nodes, neighbour}
 use Rattle.noc_packet.specs.declared.packet.Beat.{Beat}
 use Rattle.noc_route.specs.Routes.{Routes}
-use Rattle.noc_router.specs.declared.verdict.Findings.{Findings}
-use Rattle.noc_router.specs.declared.verdict.Findings.TheVariants.{Record}
-use Rattle.noc_router.specs.Finish.{view_after_finish}
-use Rattle.noc_router.specs.View.{View, IsRelationOf, idle_beat}
+use Rattle.noc_view.specs.declared.finding.Recording.{Recording}
+use Rattle.noc_view.specs.declared.finding.Recording.TheVariants.{Record}
+use Rattle.noc_view.specs.Finish.{view_after_finish}
+use Rattle.noc_view.specs.View.{View, IsRelationOf, idle_beat}
 use Rattle.noc_theory.specs.Halves.{beat_at, view_after_puts}
 use Rattle.noc_tiles.specs.TileStep.{is_own, is_from}
 use Rattle.noc_tiles.specs.declared.inner.Inner.{Inner}
 use Rattle.noc_tiles.specs.declared.tile.Tile.{Tile}
 
--- of `count` routers from `first` on, those between two indices: no wire to one of the places `outs` begins at one of them
+-- of `count` routers from `first` on, those between two indices: no wire to one of the ports `outs` begins at one of them
 pub record AreInner (grid : Grid) (first count : ℕ) (outs : List (ℕ × ℕ)) (inner : Inner) : Type 0 where
   pub order : inner.from ≤ inner.to
   pub within : inner.to ≤ count
@@ -45,7 +45,7 @@ pub record CanFinish (relation : Routes) (i j : ℕ) (t : Tile) : Type 0 where
   pub idle : (r q : ℕ) → r < nodes relation.grid → is_from (t.first + i) (j - i) (neighbour relation.grid r q) ≡ true → beat_at t.beats.items r q ≡ idle_beat
 
 -- the routers of a tile from index i to before j have finished cycle n
-pub record HaveFinished (relation : Routes) (n : ℕ) (findings : Findings) (i j : ℕ) (a b : Tile) : Type 0 where
+pub record HaveFinished (relation : Routes) (n : ℕ) (findings : Recording) (i j : ℕ) (a b : Tile) : Type 0 where
   pub rest : b ≡ record a { plan = b.plan; routers = b.routers; beats = b.beats }
   pub count : length b.routers.items ≡ length a.routers.items
   pub size : length b.beats.items ≡ length a.beats.items

@@ -3,14 +3,14 @@ use Rattle.std.specs.Prelude.{ℕ, Bool, true, false, ◌≡◌, ◌⊎◌, ◌+
 use Rattle.std.specs.List.{flat_map}
 use Rattle.noc_topo.specs.Shape.{IsGrid, nodes, neighbour}
 use Rattle.noc_packet.specs.declared.packet.Beat.{Beat}
-use Rattle.noc_router.specs.View.{View, idle_beat}
+use Rattle.noc_view.specs.View.{View, idle_beat}
 use Rattle.noc_theory.specs.Good.{IsGoodSetup}
 use Rattle.noc_theory.specs.Halves.{beat_at}
 use Rattle.noc_theory.specs.Lockstep.{lockstep_at}
 use Rattle.noc_theory.specs.Network.{Setup}
 use Rattle.noc_theory.specs.declared.limits.TheConstants.{CYCLE_LIMIT}
 use Rattle.noc_tiles.specs.Ends.{End, inlet, outlet}
-use Rattle.noc_tiles.specs.TileStep.{arrival_places, is_from, is_inside, is_own}
+use Rattle.noc_tiles.specs.TileStep.{arrival_ports, is_from, is_inside, is_own}
 use Rattle.noc_tiles.specs.Rings.{AreLeftOut, AreSlots, in_slots, out_slots}
 use Rattle.noc_tiles.specs.Starts.{tile_start}
 use Rattle.noc_tiles.specs.Tiles.{AllEnded, CanRun, Gating, inlets, outlets}
@@ -22,10 +22,10 @@ use Rattle.noc_tiles.specs.declared.tile.Tile.{Tile}
 use Rattle.noc_tiles.specs.declared.tile.Outcome.TheVariants.{Whole}
 
 abbrev pub setup_of : Kept → Setup
-setup_of f = record { relation = f.relation; places = f.buffer; packets = f.packets.items }
+setup_of f = record { relation = f.relation; depth = f.buffer; packets = f.packets.items }
 
 -- what a network keeps while its tiles run
-pub record IsFrame (f : Kept) : Type 0 where
+pub record IsKept (f : Kept) : Type 0 where
   pub room : vec_len f.room ≡ nodes f.relation.grid
   pub good : IsGoodSetup (setup_of f)
   pub end : f.count + f.cycles ≤ CYCLE_LIMIT
@@ -59,7 +59,7 @@ pub record AddsTile (t : Tile) (before after : Gathered) : Type 0 where
 abbrev pub AllWhole : List Tile → Type 0
 AllWhole ts = (t : ℕ) (d : Tile) → t < length ts → (get_or ts t d).outcome ≡ Whole
 
--- a place by one number
+-- a port by one number
 abbrev pub index_of : ℕ × ℕ → ℕ
 index_of p = p.0 * 6 + p.1
 
@@ -69,7 +69,7 @@ pub record IsWire (net : Setup) (n : ℕ) (i o : End) : Type 0 where
   pub fresh : i.past ≡ []
   pub beat : o.past ≡ beat_at (lockstep_at net n).wires i.at.0 i.at.1 ∷ []
 
--- the ends that stand for one place are those of one ring
+-- the ends that stand for one port are those of one ring
 abbrev pub AreWires : Setup → ℕ → List (Option End) → List (Option End) → Type 0
 AreWires net n I O = (k : ℕ) (i o : End) → get_or I k None ≡ Some i → get_or O k None ≡ Some o → IsWire net n i o
 
@@ -81,11 +81,11 @@ pub record IsTile (net : Setup) (n k : ℕ) (I O : List (Option End)) (t : Tile)
   pub wires : (c q : ℕ) → c < length t.routers.items → is_inside t.first (length t.routers.items) (neighbour net.relation.grid (t.first + c) q) ≡ true
       → beat_at t.beats.items (t.first + c) q ≡ beat_at (lockstep_at net n).wires (t.first + c) q
   pub covers : (c q : ℕ) → c < length t.routers.items → is_inside t.first (length t.routers.items) (neighbour net.relation.grid (t.first + c) q) ≡ true
-      ⊎ ((j : ℕ) × (j < length (arrival_places (inlets t))) × (get_or (arrival_places (inlets t)) j (0, 0) ≡ (t.first + c, q)))
-  pub crossing : (j : ℕ) → j < length (arrival_places (inlets t))
-      → is_inside t.first (length t.routers.items) (neighbour net.relation.grid (get_or (arrival_places (inlets t)) j (0, 0)).0 (get_or (arrival_places (inlets t)) j (0, 0)).1) ≡ false
-  pub from : (o : ℕ) → o < length (arrival_places (outlets t))
-      → is_from t.first (length t.routers.items) (neighbour net.relation.grid (get_or (arrival_places (outlets t)) o (0, 0)).0 (get_or (arrival_places (outlets t)) o (0, 0)).1) ≡ true
+      ⊎ ((j : ℕ) × (j < length (arrival_ports (inlets t))) × (get_or (arrival_ports (inlets t)) j (0, 0) ≡ (t.first + c, q)))
+  pub crossing : (j : ℕ) → j < length (arrival_ports (inlets t))
+      → is_inside t.first (length t.routers.items) (neighbour net.relation.grid (get_or (arrival_ports (inlets t)) j (0, 0)).0 (get_or (arrival_ports (inlets t)) j (0, 0)).1) ≡ false
+  pub from : (o : ℕ) → o < length (arrival_ports (outlets t))
+      → is_from t.first (length t.routers.items) (neighbour net.relation.grid (get_or (arrival_ports (outlets t)) o (0, 0)).0 (get_or (arrival_ports (outlets t)) o (0, 0)).1) ≡ true
   pub ins : (j : ℕ) (e : End) → j < length (inlets t) → get_or I (index_of (get_or (inlets t) j e).at) None ≡ Some (get_or (inlets t) j e)
   pub outs : (o : ℕ) (e : End) → o < length (outlets t) → get_or O (index_of (get_or (outlets t) o e).at) None ≡ Some (get_or (outlets t) o e)
 

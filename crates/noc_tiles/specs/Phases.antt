@@ -1,12 +1,12 @@
 -- The phases of a tile's cycle: what came is taken, and what leaves the tile is sent.
 use Rattle.std.specs.Prelude.{ℕ, false, ◌≡◌, ◌≢◌, ◌⊎◌, ◌+◌, ◌<◌, ◌≤◌, List, map, length, get_or, vec_len}
 use Rattle.std.specs.List.{All}
-use Rattle.noc_topo.specs.Words.{map_indexed}
+use Rattle.noc_topo.specs.Lists.{map_indexed}
 use Rattle.noc_packet.specs.declared.packet.Beat.{Beat}
 use Rattle.noc_route.specs.Routes.{Routes}
-use Rattle.noc_router.specs.View.{View, IsRelationOf, view_after_takes, idle_beat}
+use Rattle.noc_view.specs.View.{View, IsRelationOf, view_after_takes, idle_beat}
 use Rattle.noc_theory.specs.Halves.{IsLinked, beat_at}
-use Rattle.noc_tiles.specs.TileStep.{beats_arriving, ends_after_beats, arrival_places, is_own}
+use Rattle.noc_tiles.specs.TileStep.{beats_arriving, ends_after_beats, arrival_ports, is_own}
 use Rattle.noc_tiles.specs.Tiles.{IsSameTile, inlets, outlets, layout_of, state_of}
 use Rattle.noc_tiles.specs.declared.tile.Tile.{Tile}
 
@@ -33,7 +33,7 @@ pub record TileHasTaken (relation : Routes) (row : List Beat) (a b : Tile) : Typ
   pub size : length b.beats.items ≡ length a.beats.items
   pub silent : (r q : ℕ) → beat_at b.beats.items r q ≡ idle_beat
 
--- the wire at this place is idle where it is one of the first k places, else as it was
+-- the wire at this port is idle where it is one of the first k ports, else as it was
 abbrev pub IsCleared : List (ℕ × ℕ) → List (List Beat) → List (List Beat) → ℕ → ℕ → ℕ → Type 0
 IsCleared ps old new k r q =
     ((o : ℕ) × (o < k) × (get_or ps o (0, 0) ≡ (r, q)) × (beat_at new r q ≡ idle_beat))
@@ -42,6 +42,6 @@ IsCleared ps old new k r q =
 -- the beats that leave a tile are sent, and their wires idle
 pub record TileHasSent (a b : Tile) : Type 0 where
   pub rest : b ≡ record a { beats = b.beats; outs = b.outs }
-  pub outs : outlets b ≡ ends_after_beats (outlets a) (map (λ (p : ℕ × ℕ). beat_at a.beats.items p.0 p.1) (arrival_places (outlets a)))
-  pub cleared : (r q : ℕ) → IsCleared (arrival_places (outlets a)) a.beats.items b.beats.items (length (arrival_places (outlets a))) r q
+  pub outs : outlets b ≡ ends_after_beats (outlets a) (map (λ (p : ℕ × ℕ). beat_at a.beats.items p.0 p.1) (arrival_ports (outlets a)))
+  pub cleared : (r q : ℕ) → IsCleared (arrival_ports (outlets a)) a.beats.items b.beats.items (length (arrival_ports (outlets a))) r q
   pub size : length b.beats.items ≡ length a.beats.items

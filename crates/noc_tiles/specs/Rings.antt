@@ -15,20 +15,20 @@ in_slots slots = map (λ (s : Option Inlet). option_map inlet s) slots
 abbrev pub out_slots : List (Option Outlet) → List (Option End)
 out_slots slots = map (λ (s : Option Outlet). option_map outlet s) slots
 
--- the two ends of a fresh ring on the wire that arrives at this place, with its beat, where it comes from another tile
+-- the two ends of a fresh ring on the wire that arrives at this port, with its beat, where it comes from another tile
 pub record IsSlot (grid : Grid) (workers r q : ℕ) (beat : Beat) (i o : Option End) : Type 0 where
   pub ins : (e : End) → i ≡ Some e → (e.at ≡ (r, q)) × (e.past ≡ [])
   pub outs : (e : End) → o ≡ Some e → (e.at ≡ (r, q)) × (e.past ≡ beat ∷ [])
   pub both : (a b : End) → i ≡ Some a → o ≡ Some b → b.ring ≡ a.ring
   pub apart : (from : ℕ × ℕ) → neighbour grid r q ≡ Some from → AreApart (nodes grid) workers r from.0 → (is_some i ≡ true) × (is_some o ≡ true)
 
--- the two ends of a fresh ring for each place, the place (r, q) at r * 6 + q
+-- the two ends of a fresh ring for each port, that of (r, q) at r * 6 + q
 pub record AreSlots (grid : Grid) (workers : ℕ) (wires : List (List Beat)) (count : ℕ) (I O : List (Option End)) : Type 0 where
   pub ins : length I ≡ count
   pub outs : length O ≡ count
   pub each : (k : ℕ) → k < count → IsSlot grid workers (k / 6) (k % 6) (beat_at wires (k / 6) (k % 6)) (get_or I k None) (get_or O k None)
 
--- the slots without what stands at this place
+-- the slots without what stands at this port
 abbrev pub without : {X : Type 0} → Option ℕ → List (Option X) → List (Option X)
 without None slots = slots
 without (Some k) slots = slice_set slots k None
@@ -43,7 +43,7 @@ abbrev pub item_at : {X : Type 0} → Option ℕ → List (Option X) → List X
 item_at None slots = []
 item_at (Some k) slots = one_of (get_or slots k None)
 
--- port k goes to the place with this number, at none of these routers
+-- port k goes to the port with this number, at none of these routers
 pub record GoesOutTo (grid : Grid) (first count k at : ℕ) : Type 0 where
   pub r : ℕ
   pub q : ℕ
@@ -63,6 +63,6 @@ pub record AreTakenOut (grid : Grid) (first count k : ℕ) (O : List (Option End
   pub each : (o : ℕ) (e : End) → o < length ends → (r : ℕ) × (q : ℕ) × (r < nodes grid) × (q < 6) × (is_own first count r ≡ false) × (is_from first count (neighbour grid r q) ≡ true) × (get_or O (r * 6 + q) None ≡ Some (get_or ends o e))
   pub covers : (m r q : ℕ) → first * 6 ≤ m → m < k → neighbour grid (m / 6) (m % 6) ≡ Some (r, q) → is_own first count r ≡ false → (o : ℕ) × (o < length ends) × ((e : End) → get_or O (r * 6 + q) None ≡ Some (get_or ends o e))
 
--- what goes out by port p of router s, from place k on, still has its end
+-- what goes out by port p of router s, from port k on, still has its end
 abbrev pub AreLeftOut : Grid → ℕ → List (Option End) → List (Option End) → Type 0
 AreLeftOut grid k O now = (s p r q : ℕ) → s < nodes grid → p < 6 → neighbour grid s p ≡ Some (r, q) → k ≤ s * 6 + p → get_or now (r * 6 + q) None ≡ get_or O (r * 6 + q) None

@@ -1,10 +1,10 @@
 -- A tile as a function of the beats that it receives.
 use Rattle.std.specs.Prelude.{ℕ, suc, ◌+◌, ◌-◌, List, [], ◌∷◌, map, length, Option, Some, None, Bool, true, false, nat_eq, nat_le, nat_lt, ◌&&◌, if◌then◌else◌}
-use Rattle.noc_topo.specs.Words.{tabulate, map_indexed}
+use Rattle.noc_topo.specs.Lists.{tabulate, map_indexed}
 use Rattle.noc_topo.specs.Shape.{local_port, neighbour}
 use Rattle.noc_packet.specs.declared.packet.Beat.{Beat}
 use Rattle.noc_route.specs.Routes.{Routes}
-use Rattle.noc_router.specs.View.{View, local_step, idle_beat}
+use Rattle.noc_view.specs.View.{View, local_step, idle_beat}
 use Rattle.noc_theory.specs.Halves.{beat_at}
 use Rattle.noc_tiles.specs.RingEnd.{WireEnd, Ring, end_after_beat}
 
@@ -20,23 +20,23 @@ module _ {A : Type 0} where
   ends_after_rows ws [] = ws
   ends_after_rows ws (row ∷ rows) = ends_after_rows (ends_after_beats ws row) rows
 
-  -- the places and the rings of ends
+  -- the ports and the rings of ends
   abbrev pub names : List (WireEnd A) → List ((ℕ × ℕ) × Ring A)
   names ws = map (λ (w : WireEnd A). (w.at, w.ring)) ws
 
   -- where the wires arrive, by router and link port
-  abbrev pub arrival_places : List (WireEnd A) → List (ℕ × ℕ)
-  arrival_places ws = map (λ (w : WireEnd A). w.at) ws
+  abbrev pub arrival_ports : List (WireEnd A) → List (ℕ × ℕ)
+  arrival_ports ws = map (λ (w : WireEnd A). w.at) ws
 
 -- for each router and link port the beat on the wire that arrives there
 abbrev pub Beats : Type 0
 Beats = ℕ → ℕ → Beat
 
--- with this beat at a place
+-- with this beat at a port
 abbrev pub with_beat : Beats → ℕ × ℕ → Beat → Beats
 with_beat wires p x r q = if nat_eq r p.0 && nat_eq q p.1 then x else wires r q
 
--- with the beats of a row at these places
+-- with the beats of a row at these ports
 abbrev pub with_row : Beats → List (ℕ × ℕ) → List Beat → Beats
 with_row wires [] row = wires
 with_row wires (p ∷ ps) [] = wires
@@ -89,7 +89,7 @@ module _ (relation : Routes) (P : Layout) where
   abbrev pub sent_of : List (View × List Beat) → List (List Beat)
   sent_of S = map (λ (step : View × List Beat). step.1) S
 
-  -- the beat that the routers have put on the wire that arrives at this place
+  -- the beat that the routers have put on the wire that arrives at this port
   abbrev pub out_at : List (View × List Beat) → ℕ → ℕ → Beat
   out_at S r q = beat_of P.first (sent_of S) (neighbour relation.grid r q)
 

@@ -3,12 +3,12 @@ use Rattle.std.specs.Prelude.{ℕ, Bool, true, false, ◌≡◌, ◌↔◌, ◌+
 use Rattle.noc_topo.specs.Shape.{nodes, local_port, neighbour}
 use Rattle.noc_packet.specs.declared.packet.Beat.{Beat}
 use Rattle.noc_route.specs.Routes.{Routes}
-use Rattle.noc_router.specs.declared.verdict.Findings.{Findings}
-use Rattle.noc_router.specs.View.{View, idle_beat}
+use Rattle.noc_view.specs.declared.finding.Recording.{Recording}
+use Rattle.noc_view.specs.View.{View, idle_beat}
 use Rattle.noc_theory.specs.Halves.{HasItsBeats, beat_at}
 use Rattle.noc_theory.specs.Unseen.{AreSameViews}
 use Rattle.noc_tiles.specs.Ends.{End, inlet, outlet}
-use Rattle.noc_tiles.specs.TileStep.{Layout, TileState, arrival_places, is_own, is_from, ends_after_beats, ends_after_rows, steps, after_steps, put_by, after, beats_put}
+use Rattle.noc_tiles.specs.TileStep.{Layout, TileState, arrival_ports, is_own, is_from, ends_after_beats, ends_after_rows, steps, after_steps, put_by, after, beats_put}
 use Rattle.noc_tiles.specs.declared.tile.Tile.{Tile}
 use Rattle.noc_tiles.specs.declared.tile.Outcome.TheVariants.{Whole, Closed, Stopped}
 
@@ -19,16 +19,16 @@ abbrev pub outlets : Tile → List End
 outlets t = map outlet t.outs.items
 
 abbrev pub layout_of : Tile → Layout
-layout_of t = record { first = t.first; ins = arrival_places (inlets t); outs = arrival_places (outlets t) }
+layout_of t = record { first = t.first; ins = arrival_ports (inlets t); outs = arrival_ports (outlets t) }
 
 abbrev pub state_of : Tile → TileState
 state_of t = record { views = t.routers.items; wires = beat_at t.beats.items }
 
--- each place is a link port of one of so many routers
+-- each is a link port of one of so many routers
 abbrev pub AreLinkPorts : ℕ → ℕ → List (ℕ × ℕ) → Type 0
 AreLinkPorts rows links ps = (j : ℕ) → j < length ps → ((get_or ps j (0, 0)).0 < rows) × ((get_or ps j (0, 0)).1 < links)
 
--- the routers from `first` on are at their places, `ins` are places of theirs, `outs` are the places of all wires that go from
+-- the routers from `first` on are in their order, `ins` are ports of theirs, `outs` are the ports of all wires that go from
 -- them to others, and the wires that arrive at others are idle
 pub record PartsFit (relation : Routes) (first : ℕ) (ins outs : List (ℕ × ℕ)) (views : List View) (b : List (List Beat)) : Type 0 where
   pub wide : first + length views ≤ nodes relation.grid
@@ -46,7 +46,7 @@ pub record PartsFit (relation : Routes) (first : ℕ) (ins outs : List (ℕ × �
 -- its parts fit each other and the relation
 pub record IsReady (relation : Routes) (t : Tile) : Type 0 where
   pub few_links : local_port relation.grid ≤ 6
-  pub parts : PartsFit relation t.first (arrival_places (inlets t)) (arrival_places (outlets t)) t.routers.items t.beats.items
+  pub parts : PartsFit relation t.first (arrival_ports (inlets t)) (arrival_ports (outlets t)) t.routers.items t.beats.items
 
 -- what a run leaves alone
 pub record IsSameTile (a b : Tile) : Type 0 where
@@ -59,7 +59,7 @@ pub record IsSameTile (a b : Tile) : Type 0 where
   pub outs : Rattle.noc_tiles.specs.TileStep.names (outlets b) ≡ Rattle.noc_tiles.specs.TileStep.names (outlets a)
 
 -- cycle n, with the beats of a row
-pub record Cycles (relation : Routes) (findings : Findings) (n : ℕ) (a b : Tile) (row : List Beat) : Type 0 where
+pub record Cycles (relation : Routes) (findings : Recording) (n : ℕ) (a b : Tile) (row : List Beat) : Type 0 where
   pub width : length row ≡ length (inlets a)
   pub views : AreSameViews findings b.routers.items (after_steps relation (layout_of a) (steps relation (layout_of a) n (state_of a) row)).views
   pub wires : (r q : ℕ) → r < nodes relation.grid → beat_at b.beats.items r q ≡ (after_steps relation (layout_of a) (steps relation (layout_of a) n (state_of a) row)).wires r q

@@ -2,7 +2,7 @@
 use Rattle.std.specs.Prelude.{◌≡◌, ◌⊎◌, ℕ, zero, suc, ◌+◌, ◌<◌, ◌≤◌, true, List, [], length, get_or, take}
 use Rattle.noc_topo.specs.Shape.{neighbour, nodes}
 use Rattle.noc_packet.specs.declared.packet.Beat.{Beat}
-use Rattle.noc_router.specs.View.{View, idle_beat}
+use Rattle.noc_view.specs.View.{View, idle_beat}
 use Rattle.noc_theory.specs.Halves.{beat_at}
 use Rattle.noc_theory.specs.Lockstep.{lockstep_at}
 use Rattle.noc_theory.specs.Network.{Setup}

@@ -5,7 +5,7 @@ ghost use Rattle.noc_tiles.specs.Ends.{inlet, outlet};
 ghost use Rattle.noc_tiles.specs.Emptying.{AreEnds, CanEmpty, Empties};
 ghost use Rattle.noc_tiles.specs.declared.wires.Outlet.{Outlet as outlet_value};
 
-use crate::table::set_beat;
+use crate::beats::set_beat;
 use crate::wires::{Inlet, Outlet};
 use noc_packet::Beat;
 use noc_topo::LINKS;
@@ -20,7 +20,7 @@ fn empty_ring(i: &mut Inlet, o: &mut Outlet) -> Beat
     i.end.pop_known()
 }
 
-// The place of the outlet of the wire that arrives at this router and port.
+// The index of the outlet of the wire that arrives at this router and port.
 fn find_outlet(outs: &Vec<Outlet>, router: usize, port: usize) -> usize
     requires { (o : ℕ) × (o < vec_len outs.now) × ((d : outlet_value) → (outlet (get_or outs.now.items o d)).at ≡ (router, port)) }
     ensures within { result < vec_len outs.now }

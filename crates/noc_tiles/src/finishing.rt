@@ -6,7 +6,7 @@
 
 ghost use Rattle.std.specs.Prelude.{ℕ, ◌≡◌, ◌<◌};
 ghost use Rattle.noc_topo.specs.Shape.{nodes as nodes_of, neighbour as neighbour_of};
-ghost use Rattle.noc_router.specs.Finish.{view_after_finish};
+ghost use Rattle.noc_view.specs.Finish.{view_after_finish};
 ghost use Rattle.noc_theory.specs.Halves.{beat_at, view_after_puts, wire_after_puts};
 ghost use Rattle.noc_tiles.specs.Inner.{CanFinish, HaveFinished, RouterCanFinish};
 
@@ -14,7 +14,7 @@ use crate::tile::Tile;
 use noc_net::deliver;
 use noc_packet::Beat;
 use noc_route::Relation;
-use noc_router::{Findings, Plan, Router};
+use noc_router::{Plan, Recording, Router};
 use noc_topo::LINKS;
 
 // The routers of the tile from one index to before another, which have taken their beats, finish the cycle.
@@ -22,19 +22,19 @@ pub(crate) fn finish_some(
     relation: &Relation,
     tile: &mut Tile,
     cycle: u64,
-    findings: Findings,
+    recording: Recording,
     from: usize,
     to: usize,
 )
     requires { CanFinish relation.now from to tile.old }
-    ensures { HaveFinished relation.now cycle findings from to tile.old tile.new }
+    ensures { HaveFinished relation.now cycle recording from to tile.old tile.new }
 {
     for i in from..to {
         finish(
             relation,
             &mut tile.plan,
             cycle,
-            findings,
+            recording,
             &mut tile.routers[i],
             &mut tile.beats,
         );
@@ -46,14 +46,14 @@ fn finish(
     relation: &Relation,
     plan: &mut Plan,
     cycle: u64,
-    findings: Findings,
+    recording: Recording,
     router: &mut Router,
     beats: &mut [[Beat; LINKS]],
 )
     requires { RouterCanFinish relation.now router.old beats.old }
-    ensures router { router.new ≡ view_after_puts (view_after_finish relation.now cycle findings router.old) }
-    ensures beats { (r q : ℕ) → r < nodes_of relation.now.grid → beat_at beats.new r q ≡ wire_after_puts (view_after_finish relation.now cycle findings router.old) (neighbour_of relation.now.grid r q) (beat_at beats.old r q) }
+    ensures router { router.new ≡ view_after_puts (view_after_finish relation.now cycle recording router.old) }
+    ensures beats { (r q : ℕ) → r < nodes_of relation.now.grid → beat_at beats.new r q ≡ wire_after_puts (view_after_finish relation.now cycle recording router.old) (neighbour_of relation.now.grid r q) (beat_at beats.old r q) }
 {
-    router.finish(relation, plan, cycle, findings);
+    router.finish(relation, plan, cycle, recording);
     deliver(relation, router, beats);
 }

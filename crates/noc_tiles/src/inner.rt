@@ -4,7 +4,7 @@ ghost use Rattle.std.specs.Prelude.{map};
 ghost use Rattle.noc_topo.specs.Shape.{nodes as nodes_of, local_port as local_port_of};
 ghost use Rattle.noc_tiles.specs.Ends.{outlet};
 ghost use Rattle.noc_tiles.specs.Inner.{AreInner};
-ghost use Rattle.noc_tiles.specs.TileStep.{arrival_places};
+ghost use Rattle.noc_tiles.specs.TileStep.{arrival_ports};
 ghost use Rattle.noc_tiles.specs.Tiles.{AreLinkPorts};
 
 use crate::wires::Outlet;
@@ -20,8 +20,8 @@ pub(crate) struct Inner {
 // The inner routers of `count` from `first` on: those between the last router in the first half at which a wire to another tile begins
 // and the first one in the other half.
 pub(crate) fn inner_of(relation: &Relation, first: usize, count: usize, outs: &Vec<Outlet>) -> Inner
-    requires { AreLinkPorts (nodes_of relation.now.grid) (local_port_of relation.now.grid) (arrival_places (map outlet outs.now.items)) }
-    ensures { AreInner relation.now.grid first count (arrival_places (map outlet outs.now.items)) result }
+    requires { AreLinkPorts (nodes_of relation.now.grid) (local_port_of relation.now.grid) (arrival_ports (map outlet outs.now.items)) }
+    ensures { AreInner relation.now.grid first count (arrival_ports (map outlet outs.now.items)) result }
 {
     let shape = relation.shape();
     let mut inner = Inner { from: 0, to: count };

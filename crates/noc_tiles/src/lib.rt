@@ -1,6 +1,7 @@
 //! Networks run by worker threads, each with a tile of the routers.
 #![tactic(auto)]
 
+mod beats;
 mod emptying;
 mod fault;
 mod finishing;
@@ -16,7 +17,6 @@ mod rings;
 mod run;
 mod starts;
 mod stop;
-mod table;
 mod threads;
 mod tile;
 mod tiles;

@@ -1,7 +1,7 @@
 //! A network cut into tiles.
 //!
 //! The table of a tile's beats has a row for every router of the network, idle where a router is not its own.
-//! Beats that leave the tile go into the table too, are then put, and their places made idle. One function
+//! Beats that leave the tile go into the table too, are then put, and their wires made idle. One function
 //! carries beats for networks and tiles.
 
 ghost use Rattle.std.specs.Prelude.{ℕ, List, Option, ◌≡◌, ◌+◌, ◌<◌, ◌≤◌, length, vec_len, IfOk};
@@ -50,20 +50,20 @@ fn own_beats(
 // Cuts the tile of a worker from what is left, with the ends of the rings on its wires to other tiles.
 fn cut_tile(
     alloc: Global,
-    frame: &Kept,
+    kept: &Kept,
     beats: &[[Beat; LINKS]],
     worker: usize,
     rest: &mut Uncut,
 ) -> Result<Tile, Memory>
-    requires can { CanCut frame.now beats.now }
-    requires worker { worker < frame.now.workers }
-    requires rest { (I : List (Option End)) × (O : List (Option End)) × IsUncut frame.now beats.now I O worker rest.old }
-    ensures { IfOk result (λ tile. (I O : List (Option End)) → IsUncut frame.now beats.now I O worker rest.old → IsTileOf frame.now I O worker tile × IsUncut frame.now beats.now I O (worker + 1) rest.new) }
+    requires can { CanCut kept.now beats.now }
+    requires worker { worker < kept.now.workers }
+    requires rest { (I : List (Option End)) × (O : List (Option End)) × IsUncut kept.now beats.now I O worker rest.old }
+    ensures { IfOk result (λ tile. (I O : List (Option End)) → IsUncut kept.now beats.now I O worker rest.old → IsTileOf kept.now I O worker tile × IsUncut kept.now beats.now I O (worker + 1) rest.new) }
 {
-    let shape = frame.relation.shape();
+    let shape = kept.relation.shape();
     let sharing = Sharing {
         shape,
-        workers: frame.workers,
+        workers: kept.workers,
     };
     let first = rest.first;
     let end = sharing.start(worker + 1);
@@ -79,12 +79,12 @@ fn cut_tile(
     let tail = rest.routers.split_off(count)?;
     let routers = mem::replace(&mut rest.routers, tail);
     rest.first = end;
-    let plan = Plan::new(alloc, &frame.relation)?;
+    let plan = Plan::new(alloc, &kept.relation)?;
     Ok(Tile {
         worker,
         first,
-        start: frame.count,
-        cycles: frame.cycles,
+        start: kept.count,
+        cycles: kept.cycles,
         done: 0,
         outcome: Outcome::Whole,
         routers,
@@ -98,17 +98,17 @@ fn cut_tile(
 /// As many tiles as there are workers, with a ring on each wire between two of them.
 pub(crate) fn partition(
     alloc: Global,
-    frame: &Kept,
+    kept: &Kept,
     routers: Vec<Router>,
     beats: &[[Beat; LINKS]],
 ) -> Result<Vec<Tile>, Memory>
-    requires { IsToCut frame.now routers.items beats.now }
-    ensures { IfOk result (λ v. AreCut frame.now v.items) }
+    requires { IsToCut kept.now routers.items beats.now }
+    ensures { IfOk result (λ v. AreCut kept.now v.items) }
 {
-    let mut tiles = Vec::with_capacity(alloc, frame.workers)?;
+    let mut tiles = Vec::with_capacity(alloc, kept.workers)?;
     let sharing = Sharing {
-        shape: frame.relation.shape(),
-        workers: frame.workers,
+        shape: kept.relation.shape(),
+        workers: kept.workers,
     };
     let WireEnds { ins, outs } = make_rings(alloc, &sharing, beats)?;
     let mut rest = Uncut {
@@ -117,8 +117,8 @@ pub(crate) fn partition(
         ins,
         outs,
     };
-    for worker in 0..frame.workers {
-        let tile = cut_tile(alloc, frame, beats, worker, &mut rest)?;
+    for worker in 0..kept.workers {
+        let tile = cut_tile(alloc, kept, beats, worker, &mut rest)?;
         tiles.push_reserved(tile);
     }
     Ok(tiles)

@@ -1,18 +1,18 @@
 //! The phases of a tile's cycle.
 
 ghost use Rattle.std.specs.Prelude.{ℕ, List, ◌≡◌, ◌+◌, true, map, length, vec_len, IsTrue, IsFalse};
-ghost use Rattle.noc_topo.specs.Words.{map_indexed};
+ghost use Rattle.noc_topo.specs.Lists.{map_indexed};
 ghost use Rattle.noc_packet.specs.declared.packet.Beat.{Beat as beat_value};
-ghost use Rattle.noc_router.specs.View.{idle_beat, view_after_takes};
+ghost use Rattle.noc_view.specs.View.{idle_beat, view_after_takes};
 ghost use Rattle.noc_theory.specs.Halves.{beat_at, incoming};
 ghost use Rattle.noc_theory.specs.Lockstep.{beats_at};
 ghost use Rattle.noc_tiles.specs.Ends.{inlet, outlet};
 ghost use Rattle.noc_tiles.specs.Phases.{CanTake, IsCleared, KeepsTile, TileHasSent, TileHasTaken};
-ghost use Rattle.noc_tiles.specs.TileStep.{ends_after_beats, with_row, names, arrival_places};
+ghost use Rattle.noc_tiles.specs.TileStep.{ends_after_beats, with_row, names, arrival_ports};
 ghost use Rattle.noc_tiles.specs.Tiles.{AreLinkPorts, IsReady, outlets};
 
+use crate::beats::set_beat;
 use crate::stop::Stop;
-use crate::table::set_beat;
 use crate::tile::Tile;
 use crate::wires::{Inlet, Outlet};
 use noc_net::take_beats;
@@ -50,7 +50,7 @@ fn take_all(relation: &Relation, first: usize, routers: &mut [Router], beats: &m
 
 // Puts a beat on each wire that goes to another tile, and leaves idle ones. False where the flag was seen raised.
 pub(crate) fn send(rt: &impl Wait, tile: &mut Tile, stop: &Stop) -> bool
-    requires { AreLinkPorts (length tile.old.beats.items) 6 (arrival_places (outlets tile.old)) }
+    requires { AreLinkPorts (length tile.old.beats.items) 6 (arrival_ports (outlets tile.old)) }
     ensures kept { KeepsTile tile.old tile.new }
     ensures sent { IsTrue result → TileHasSent tile.old tile.new }
     ensures stopped { IsFalse result → stop.now ≡ true }
@@ -69,9 +69,9 @@ fn receive_all(
     beats: &mut [[Beat; LINKS]],
     stop: &Stop,
 ) -> bool
-    requires { AreLinkPorts (length beats.old) 6 (arrival_places (map inlet ins.old.items)) }
+    requires { AreLinkPorts (length beats.old) 6 (arrival_ports (map inlet ins.old.items)) }
     ensures ends { names (map inlet ins.new.items) ≡ names (map inlet ins.old.items) }
-    ensures taken { IsTrue result → (row : List beat_value) × (length row ≡ vec_len ins.old) × (map inlet ins.new.items ≡ ends_after_beats (map inlet ins.old.items) row) × ((r q : ℕ) → beat_at beats.new r q ≡ with_row (beat_at beats.old) (arrival_places (map inlet ins.old.items)) row r q) }
+    ensures taken { IsTrue result → (row : List beat_value) × (length row ≡ vec_len ins.old) × (map inlet ins.new.items ≡ ends_after_beats (map inlet ins.old.items) row) × ((r q : ℕ) → beat_at beats.new r q ≡ with_row (beat_at beats.old) (arrival_ports (map inlet ins.old.items)) row r q) }
     ensures stopped { IsFalse result → stop.now ≡ true }
 {
     for one in ins.iter_mut() {
@@ -85,9 +85,9 @@ fn receive_all(
 
 // Puts a beat on each wire that goes to another tile. False where the flag was seen raised.
 fn put_all(rt: &impl Wait, ends: &mut Vec<Outlet>, beats: &[[Beat; LINKS]], stop: &Stop) -> bool
-    requires { AreLinkPorts (length beats.now) 6 (arrival_places (map outlet ends.old.items)) }
+    requires { AreLinkPorts (length beats.now) 6 (arrival_ports (map outlet ends.old.items)) }
     ensures ends { names (map outlet ends.new.items) ≡ names (map outlet ends.old.items) }
-    ensures put { IsTrue result → map outlet ends.new.items ≡ ends_after_beats (map outlet ends.old.items) (map (λ p. beat_at beats.now p.0 p.1) (arrival_places (map outlet ends.old.items))) }
+    ensures put { IsTrue result → map outlet ends.new.items ≡ ends_after_beats (map outlet ends.old.items) (map (λ p. beat_at beats.now p.0 p.1) (arrival_ports (map outlet ends.old.items))) }
     ensures stopped { IsFalse result → stop.now ≡ true }
 {
     for one in ends.iter_mut() {
@@ -101,8 +101,8 @@ fn put_all(rt: &impl Wait, ends: &mut Vec<Outlet>, beats: &[[Beat; LINKS]], stop
 
 // The beats that went to other tiles are idle again.
 fn clear_all(ends: &Vec<Outlet>, beats: &mut [[Beat; LINKS]])
-    requires { AreLinkPorts (length beats.old) 6 (arrival_places (map outlet ends.now.items)) }
-    ensures { (r q : ℕ) → IsCleared (arrival_places (map outlet ends.now.items)) beats.old beats.new (length (arrival_places (map outlet ends.now.items))) r q }
+    requires { AreLinkPorts (length beats.old) 6 (arrival_ports (map outlet ends.now.items)) }
+    ensures { (r q : ℕ) → IsCleared (arrival_ports (map outlet ends.now.items)) beats.old beats.new (length (arrival_ports (map outlet ends.now.items))) r q }
 {
     for k in 0..ends.len() {
         let end = &ends[k];

@@ -1,7 +1,7 @@
 //! The rings on the wires between tiles.
 //!
-//! Rings are made only between tiles; links inside a tile stay in its table. A ring has two places, because a
-//! neighbour is at most one cycle behind or ahead between cycles. Both ends of a ring are known by the place
+//! Rings are made only between tiles; links inside a tile stay in its table. A ring holds two beats, because a
+//! neighbour is at most one cycle behind or ahead between cycles. Both ends of a ring are known by the port
 //! where the wire arrives, a router and a link port. So numbers are the same everywhere, and the network's own
 //! passes serve in tiles.
 
@@ -19,7 +19,7 @@ use noc_topo::LINKS;
 use rtrb::RingBuffer;
 use std::alloc::{AllocError, Global};
 
-/// The ends of the rings, by the place where the wire arrives: port q of router r at r * LINKS + q.
+/// The ends of the rings, by the port where the wire arrives: port q of router r at r * LINKS + q.
 #[derive(Drop)]
 pub(crate) struct WireEnds {
     pub ins: Vec<Option<Inlet>>,
@@ -118,7 +118,7 @@ impl Span<'_> {
         }
     }
 
-    // The place of a wire by one number, where it comes to one of these routers from another one.
+    // The port with this number, where a wire comes to it at one of these routers from another one.
     fn coming(&self, k: usize) -> Option<usize>
         requires { k < nodes_of self.now.shape.now * 6 }
         ensures { MatchOption result (is_inside self.now.first self.now.count (neighbour_of self.now.shape.now (k / 6) (k % 6)) ≡ true) (λ at. (at ≡ k) × (is_inside self.now.first self.now.count (neighbour_of self.now.shape.now (k / 6) (k % 6)) ≡ false)) }
@@ -127,7 +127,7 @@ impl Span<'_> {
         Some(k)
     }
 
-    // The place of the wire that goes by the port with this number, where it goes to none of these routers.
+    // The port at which the wire arrives that goes by the port with this number, where it leaves these routers.
     fn going(&self, k: usize) -> Option<usize>
         requires { k < nodes_of self.now.shape.now * 6 }
         ensures { MatchOption result (is_inside self.now.first self.now.count (neighbour_of self.now.shape.now (k / 6) (k % 6)) ≡ true) (GoesOutTo self.now.shape.now self.now.first self.now.count k) }

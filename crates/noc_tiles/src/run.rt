@@ -4,7 +4,7 @@ ghost use Rattle.std.specs.Prelude.{ℕ, List, ◌≡◌, ◌+◌, ◌<◌, ◌�
 ghost use Rattle.noc_packet.specs.declared.packet.Beat.{Beat as beat_value};
 ghost use Rattle.noc_tiles.specs.Inner.{AreInner};
 ghost use Rattle.noc_tiles.specs.Phases.{KeepsTile};
-ghost use Rattle.noc_tiles.specs.TileStep.{arrival_places};
+ghost use Rattle.noc_tiles.specs.TileStep.{arrival_ports};
 ghost use Rattle.noc_tiles.specs.Tiles.{CanRun, IsReady, IsSameTile, Cycles, Runs, outlets};
 ghost use Rattle.noc_tiles.specs.declared.tile.Outcome.TheVariants.{Whole, Closed, Stopped};
 
@@ -15,7 +15,7 @@ use crate::phases::{send, take};
 use crate::stop::Stop;
 use crate::tile::{Outcome, Tile};
 use noc_route::Relation;
-use noc_router::Findings;
+use noc_router::Recording;
 use std::sync::Wait;
 
 // One cycle of a tile. What leaves the tile is put before the inner routers finish. False where the flag was seen raised.
@@ -25,25 +25,25 @@ fn cycle(
     inner: Inner,
     tile: &mut Tile,
     cycle: u64,
-    findings: Findings,
+    recording: Recording,
     stop: &Stop,
 ) -> bool
     requires ready { IsReady relation.now tile.old }
-    requires inner { AreInner relation.now.grid tile.old.first (vec_len tile.old.routers) (arrival_places (outlets tile.old)) inner }
+    requires inner { AreInner relation.now.grid tile.old.first (vec_len tile.old.routers) (arrival_ports (outlets tile.old)) inner }
     ensures kept { KeepsTile tile.old tile.new }
-    ensures ran { IsTrue result → IsReady relation.now tile.new × ((row : List beat_value) × Cycles relation.now findings cycle tile.old tile.new row) }
+    ensures ran { IsTrue result → IsReady relation.now tile.new × ((row : List beat_value) × Cycles relation.now recording cycle tile.old tile.new row) }
     ensures stopped { IsFalse result → stop.now ≡ true }
 {
     if !take(rt, relation, tile, stop) {
         return false;
     }
     let count = tile.routers.len();
-    finish_some(relation, tile, cycle, findings, 0, inner.from);
-    finish_some(relation, tile, cycle, findings, inner.to, count);
+    finish_some(relation, tile, cycle, recording, 0, inner.from);
+    finish_some(relation, tile, cycle, recording, inner.to, count);
     if !send(rt, tile, stop) {
         return false;
     }
-    finish_some(relation, tile, cycle, findings, inner.from, inner.to);
+    finish_some(relation, tile, cycle, recording, inner.from, inner.to);
     true
 }
 
@@ -74,12 +74,12 @@ pub fn run_tile<G: Gate>(
             return tile;
         }
         // Nobody reads what is found before the last cycle.
-        let findings = if c + 1 == tile.cycles {
-            Findings::Record
+        let recording = if c + 1 == tile.cycles {
+            Recording::Record
         } else {
-            Findings::Leave
+            Recording::Leave
         };
-        if !cycle(rt, relation, inner, &mut tile, now, findings, stop) {
+        if !cycle(rt, relation, inner, &mut tile, now, recording, stop) {
             tile.outcome = Outcome::Stopped;
             return tile;
         }

@@ -2,7 +2,7 @@
 
 ghost use Rattle.std.specs.Prelude.{ℕ, List, ◌≡◌, ◌+◌, ◌<◌, ◌≤◌, ◌↔◌, get_or, IfOk, IfErr, false, OnOk, IsTrue, vec_len};
 ghost use Rattle.noc_tiles.specs.declared.fault.RunFault.TheVariants.{LostWorker};
-ghost use Rattle.noc_tiles.specs.Partition.{AddsTile, AllWhole, AreDone, IsFrame, IsGathered, IsToCut, setup_of};
+ghost use Rattle.noc_tiles.specs.Partition.{AddsTile, AllWhole, AreDone, IsKept, IsGathered, IsToCut, setup_of};
 ghost use Rattle.noc_tiles.specs.declared.tile.Tile.{Tile as tile_value};
 
 use crate::emptying::empty_all;
@@ -72,21 +72,21 @@ fn all_whole(tiles: &Vec<Tile>) -> bool
 pub(crate) fn run_threads<R: Threads + Wait + Sync, G: Gate>(
     rt: &R,
     alloc: Global,
-    frame: &Kept,
+    kept: &Kept,
     routers: Vec<Router>,
     beats: &[[Beat; LINKS]],
     gate: &G,
 ) -> Result<Gathered, RunFault>
-    requires { IsToCut frame.now routers.items beats.now }
-    ensures asked { IfOk result (λ _. (worker k : ℕ) → worker < frame.now.workers → k < frame.now.cycles → G.shuts gate.now worker (frame.now.count + k) ≡ false) }
-    ensures done { IfOk result (λ all. (done : List tile_value) × AreDone frame.now done × IsGathered all done) }
+    requires { IsToCut kept.now routers.items beats.now }
+    ensures asked { IfOk result (λ _. (worker k : ℕ) → worker < kept.now.workers → k < kept.now.cycles → G.shuts gate.now worker (kept.now.count + k) ≡ false) }
+    ensures done { IfOk result (λ all. (done : List tile_value) × AreDone kept.now done × IsGathered all done) }
     ensures lost { IfErr result (λ e. e ≡ LostWorker → G.opens gate.now ≡ false) }
 {
-    let Ok(tiles) = partition(alloc, frame, routers, beats) else {
+    let Ok(tiles) = partition(alloc, kept, routers, beats) else {
         return Err(RunFault::Memory);
     };
     let stop = Stop::new();
-    let tiles = run_all(rt, &frame.relation, tiles, &stop, gate)?;
+    let tiles = run_all(rt, &kept.relation, tiles, &stop, gate)?;
     if !all_whole(&tiles) {
         return Err(if gate.always() {
             RunFault::NoWorker
@@ -101,10 +101,10 @@ pub(crate) fn run_threads<R: Threads + Wait + Sync, G: Gate>(
 }
 
 /// The network of what the tiles held, when they have made all their cycles.
-pub(crate) fn network_of(frame: Kept, all: Gathered) -> Network
-    requires frame { IsFrame frame }
-    requires done { (tiles : List tile_value) × AreDone frame tiles × IsGathered all tiles }
-    ensures { result ≡ record { net = setup_of frame; count = frame.count + frame.cycles } }
+pub(crate) fn network_of(kept: Kept, all: Gathered) -> Network
+    requires kept { IsKept kept }
+    requires done { (tiles : List tile_value) × AreDone kept tiles × IsGathered all tiles }
+    ensures { result ≡ record { net = setup_of kept; count = kept.count + kept.cycles } }
 {
     let Gathered {
         routers,
@@ -114,13 +114,13 @@ pub(crate) fn network_of(frame: Kept, all: Gathered) -> Network
     } = all;
     empty_all(&mut ins, &mut outs, &mut beats);
     Network::from_parts(Parts {
-        relation: frame.relation,
-        buffer: frame.buffer,
-        packets: frame.packets,
-        count: frame.count + frame.cycles,
+        relation: kept.relation,
+        buffer: kept.buffer,
+        packets: kept.packets,
+        count: kept.count + kept.cycles,
         routers,
-        plan: frame.plan,
+        plan: kept.plan,
         beats,
-        room: frame.room,
+        room: kept.room,
     })
 }

@@ -86,7 +86,7 @@ fn run_many<R: Threads + Wait + Sync, G: Gate>(
         beats,
         room,
     } = network.into_parts();
-    let frame = Kept {
+    let kept = Kept {
         relation,
         buffer,
         packets,
@@ -96,11 +96,11 @@ fn run_many<R: Threads + Wait + Sync, G: Gate>(
         cycles,
         workers,
     };
-    match run_threads(rt, alloc, &frame, routers, &beats, gate) {
-        Ok(all) => Ok(network_of(frame, all)),
+    match run_threads(rt, alloc, &kept, routers, &beats, gate) {
+        Ok(all) => Ok(network_of(kept, all)),
         Err(fault) => {
             // (by name it is one call; else each of its fields would be let go here, one by one)
-            drop(frame);
+            drop(kept);
             Err(fault)
         }
     }

@@ -1,5 +1,5 @@
 pub mod ShapeLemmas
 pub mod LinkLemmas
-pub mod WordLemmas
+pub mod ListLemmas
 pub mod DistanceLemmas
-mod ShapeRows
+mod ShapeExamples

@@ -1,4 +1,4 @@
-pub mod Words
+pub mod Lists
 pub mod Shape
 pub mod Filled
 pub mod Inside

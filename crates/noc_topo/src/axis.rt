@@ -90,10 +90,10 @@ pub(crate) fn split(sizes: &[usize; 3], node: usize) -> [usize; 3]
 }
 
 // The node at three coordinates.
-pub(crate) fn join(sizes: &[usize; 3], place: &[usize; 3]) -> usize
+pub(crate) fn join(sizes: &[usize; 3], coordinates: &[usize; 3]) -> usize
     requires sizes { EachIndex sizes.now (λ i. slice_index sizes.now i ≤ MAX_RADIX) }
-    requires place { EachIndex place.now (λ i. slice_index place.now i < MAX_RADIX) }
-    ensures { result ≡ node_at sizes.now place.now }
+    requires coordinates { EachIndex coordinates.now (λ i. slice_index coordinates.now i < MAX_RADIX) }
+    ensures { result ≡ node_at sizes.now coordinates.now }
 {
-    place[0] + sizes[0] * (place[1] + sizes[1] * place[2])
+    coordinates[0] + sizes[0] * (coordinates[1] + sizes[1] * coordinates[2])
 }

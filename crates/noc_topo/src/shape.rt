@@ -158,15 +158,15 @@ impl Shape {
         if port >= 2 * self.count {
             return None;
         }
-        let mut place = axis::split(&self.sizes, node);
+        let mut coordinates = axis::split(&self.sizes, node);
         let dimension = port / 2;
-        place[dimension] = axis::moved(
+        coordinates[dimension] = axis::moved(
             self.wraps,
             self.sizes[dimension],
             port % 2 == 0,
-            place[dimension],
+            coordinates[dimension],
         )?;
-        Some((axis::join(&self.sizes, &place), axis::other_end(port)))
+        Some((axis::join(&self.sizes, &coordinates), axis::other_end(port)))
     }
 }
 

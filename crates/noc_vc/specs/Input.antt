@@ -60,9 +60,9 @@ is_expected g router port vc flits input f Idle = is_empty flits && may_begin g 
 is_expected g router port vc flits input f (Waiting set) = is_awaited f input.awaited
 is_expected g router port vc flits input f (Active o) = is_awaited f input.awaited
 
--- whether a flit fits an input channel with these flits in a buffer of this many places
+-- whether a flit fits an input channel with these flits in a buffer of this depth
 abbrev pub fits : Routes → ℕ → ℕ → ℕ → ℕ → List Flit → Input → Flit → Bool
-fits g router port vc places flits input f = nat_lt (length flits) places && is_expected g router port vc flits input f input.phase
+fits g router port vc depth flits input f = nat_lt (length flits) depth && is_expected g router port vc flits input f input.phase
 
 -- an input channel after a flit has landed
 abbrev pub input_after_land : Input → Flit → Input

@@ -8,13 +8,13 @@ use Rattle.noc_vc.specs.declared.output.OutputState.TheVariants.{Idle as Free, O
 pub record Output : Type 0 where
   pub holder : Holder
   pub credit : Option ℕ  -- None for an ejection channel
-  pub places : ℕ  -- of the buffer at the other end of its link, in flits; 0 for an ejection channel
+  pub depth : ℕ  -- of the buffer at the other end of its link, in flits; 0 for an ejection channel
 
 abbrev pub link_output : ℕ → Output
-link_output places = record { holder = Free; credit = Some places; places = places }
+link_output depth = record { holder = Free; credit = Some depth; depth = depth }
 
 abbrev pub ejection_output : Output
-ejection_output = record { holder = Free; credit = None; places = 0 }
+ejection_output = record { holder = Free; credit = None; depth = 0 }
 
 abbrev pub is_free : Holder → Bool
 is_free Free = true
@@ -27,28 +27,28 @@ is_owned (Owned i p) = true
 is_owned Draining = false
 
 abbrev pub credit_fits_at : ℕ → Option ℕ → Bool
-credit_fits_at places None = false
-credit_fits_at places (Some n) = nat_lt n places
+credit_fits_at depth None = false
+credit_fits_at depth (Some n) = nat_lt n depth
 
 -- whether a credit fits an output channel
 abbrev pub credit_fits : Output → Bool
-credit_fits output = credit_fits_at output.places output.credit
+credit_fits output = credit_fits_at output.depth output.credit
 
--- what is true of each output channel: no more credits than places, and one that drains still misses a credit
+-- what is true of each output channel: no more credits than the depth, and one that drains still misses a credit
 pub record IsOutput (output : Output) : Type 0 where
-  pub small : output.places ≤ MAX_BUFFER
-  pub count : IfSome output.credit (λ n. n ≤ output.places)
+  pub small : output.depth ≤ MAX_BUFFER
+  pub count : IfSome output.credit (λ n. n ≤ output.depth)
   pub drains : output.holder ≡ Draining → credit_fits output ≡ true
 
 -- a draining channel whose count is full again is free
 abbrev pub holder_at : ℕ → ℕ → Holder → Holder
-holder_at places count Free = Free
-holder_at places count (Owned i p) = Owned i p
-holder_at places count Draining = if nat_eq count places then Free else Draining
+holder_at depth count Free = Free
+holder_at depth count (Owned i p) = Owned i p
+holder_at depth count Draining = if nat_eq count depth then Free else Draining
 
 abbrev pub output_with_credit : Output → Option ℕ → Output
 output_with_credit output None = output
-output_with_credit output (Some n) = record output { holder = holder_at output.places (n + 1) output.holder; credit = Some (n + 1) }
+output_with_credit output (Some n) = record output { holder = holder_at output.depth (n + 1) output.holder; credit = Some (n + 1) }
 
 -- an output channel after a credit has come
 abbrev pub output_after_credit : Output → Output

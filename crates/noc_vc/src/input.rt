@@ -179,7 +179,7 @@ impl InputChannel {
         }
     }
 
-    /// A flit comes to the channel with this number, of this input port of the router, whose flits are in this ring of
+    /// A flit comes to this virtual channel of this input port of the router, whose flits are in this ring of
     /// the bank. Where the ring is not full and the flit is the one that is expected, it lands. Any other flit is a
     /// misfit and changes nothing.
     ///

@@ -24,7 +24,7 @@ pub enum OutputState {
 pub struct OutputChannel {
     state: OutputState,
     credit: Option<u8>,
-    places: u8,
+    depth: u8,
 }
 
 impl Model for OutputChannel {
@@ -32,24 +32,24 @@ impl Model for OutputChannel {
 
     ghost Value = { Output };
 
-    ghost view = { λ c. record { holder = c.state; credit = c.credit; places = c.places } };
+    ghost view = { λ c. record { holder = c.state; credit = c.credit; depth = c.depth } };
 
-    ghost invariant = { λ c. IsOutput (record { holder = c.state; credit = c.credit; places = c.places }) };
+    ghost invariant = { λ c. IsOutput (record { holder = c.state; credit = c.credit; depth = c.depth }) };
 
-    ghost inverse = { λ o. record { state = o.holder; credit = o.credit; places = o.places } };
+    ghost inverse = { λ o. record { state = o.holder; credit = o.credit; depth = o.depth } };
 }
 
 impl OutputChannel {
-    /// An idle link channel with all its credits: one for each place of the buffer at the other end, 1 to 16 flits.
-    pub fn link(places: usize) -> OutputChannel
-        requires some { 0 < places }
-        requires places { places ≤ MAX_BUFFER }
-        ensures { result ≡ link_output places }
+    /// An idle link channel with all its credits: as many as the depth of the buffer at the other end, 1 to 16.
+    pub fn link(depth: usize) -> OutputChannel
+        requires some { 0 < depth }
+        requires depth { depth ≤ MAX_BUFFER }
+        ensures { result ≡ link_output depth }
     {
         OutputChannel {
             state: OutputState::Idle,
-            credit: Some(places as u8),
-            places: places as u8,
+            credit: Some(depth as u8),
+            depth: depth as u8,
         }
     }
 
@@ -60,7 +60,7 @@ impl OutputChannel {
         OutputChannel {
             state: OutputState::Idle,
             credit: None,
-            places: 0,
+            depth: 0,
         }
     }
 
@@ -72,10 +72,10 @@ impl OutputChannel {
         self.state
     }
 
-    /// How many credits are left, at most one for each place; None for an ejection channel.
+    /// How many credits are left, at most the depth; None for an ejection channel.
     pub fn credit(&self) -> Option<usize>
         ensures value { result ≡ self.now.credit }
-        ensures bound { IfSome result (λ count. count ≤ self.now.places) }
+        ensures bound { IfSome result (λ count. count ≤ self.now.depth) }
         ensures sound { IsOutput self.now }
     {
         match self.credit {
@@ -93,11 +93,11 @@ impl OutputChannel {
         let Some(count) = self.credit else {
             return Err(Misfit);
         };
-        if count >= self.places {
+        if count >= self.depth {
             return Err(Misfit);
         }
         self.credit = Some(count + 1);
-        if self.state == OutputState::Draining && count + 1 == self.places {
+        if self.state == OutputState::Draining && count + 1 == self.depth {
             self.state = OutputState::Idle;
         }
         Ok(())

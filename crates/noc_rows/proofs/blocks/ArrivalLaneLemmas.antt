@@ -5,7 +5,7 @@ use Rattle.std.proofs.lemmas.Bool.{and_parts, eq-eqb, eqb-true, false≢true, lt
 use Rattle.noc_topo.specs.Shape.{nodes, ports}
 use Rattle.noc_packet.specs.Set.{has_bit}
 use Rattle.noc_packet.specs.declared.packet.Flit.{Flit}
-use Rattle.noc_router.specs.View.{Site, first_flit, is_tail, size_of, view_input}
+use Rattle.noc_view.specs.View.{Site, first_flit, is_tail, size_of, view_input}
 use Rattle.noc_theory.specs.declared.limits.TheConstants.{CYCLE_LIMIT}
 use Rattle.noc_theory.specs.Good.{IsGoodSetup}
 use Rattle.noc_theory.specs.Lockstep.{site_at}
@@ -63,7 +63,7 @@ module _ (net : Setup) (setup : IsGoodSetup net) (n : ℕ) (small : size net ≤
   }
 
 -- ---- a block that is awake
-module _ (net : Setup) (setup : IsGoodSetup net) (n : ℕ) (few : n < CYCLE_LIMIT) (frame : Frame) (is_frame : IsFrameOf net.relation net.places frame) (starts : List Start) (room : ℕ) (enough : net.places ≤ room)
+module _ (net : Setup) (setup : IsGoodSetup net) (n : ℕ) (few : n < CYCLE_LIMIT) (frame : Frame) (is_frame : IsFrameOf net.relation net.depth frame) (starts : List Start) (room : ℕ) (enough : net.depth ≤ room)
     (blocks : ℕ) (few_blocks : blocks ≤ 8) (covered : nodes net.relation.grid * 32 ≤ blocks * 1024) (b : ℕ) (old frozen : Block) (before after : Inbox) (sheet : Sheet)
     (bytes : (p : ℕ) → slice_index old.marks.first p < 256) (was : ShowsBlock net n frame starts room blocks b old sheet before) (froze : HasFrozen frame n room starts old frozen before after)
     (chosen : Block) (keeps : KeepsFrozen frozen chosen) (has : (k : ℕ) → k < 32 → LaneChosen net frame room frozen chosen after (b * 32 + k) k) where

@@ -8,8 +8,8 @@ use Rattle.noc_topo.specs.Shape.{nodes}
 use Rattle.noc_packet.specs.Set.{has_bit}
 use Rattle.noc_packet.proofs.SetLemmas.{has_bit-zero}
 use Rattle.noc_vc.specs.declared.input.InputState.{InputState}
-use Rattle.noc_alloc.specs.Places.{AreBelow}
-use Rattle.noc_router.specs.View.{Site, first_flit, is_tail, size_of}
+use Rattle.noc_alloc.specs.Sparse.{AreBelow}
+use Rattle.noc_view.specs.View.{Site, first_flit, is_tail, size_of}
 use Rattle.noc_theory.specs.declared.limits.TheConstants.{CYCLE_LIMIT}
 use Rattle.noc_theory.specs.Good.{IsGoodSetup}
 use Rattle.noc_theory.specs.Lockstep.{site_at}
@@ -44,7 +44,7 @@ use Rattle.noc_rows.proofs.network.PutLemmas.{IsMover, bit-moves}
 use Rattle.noc_row_blocks.proofs.ReleaseLemmas.{some-true}
 use Rattle.noc_row_blocks.proofs.UnionLemmas.{union-members}
 
-module _ (net : Setup) (setup : IsGoodSetup net) (n : ℕ) (few : n < CYCLE_LIMIT) (frame : Frame) (is_frame : IsFrameOf net.relation net.places frame) (starts : List Start) (room : ℕ) (enough : net.places ≤ room)
+module _ (net : Setup) (setup : IsGoodSetup net) (n : ℕ) (few : n < CYCLE_LIMIT) (frame : Frame) (is_frame : IsFrameOf net.relation net.depth frame) (starts : List Start) (room : ℕ) (enough : net.depth ≤ room)
     (blocks : ℕ) (few_blocks : blocks ≤ 8) (covered : nodes net.relation.grid * 32 ≤ blocks * 1024) (b : ℕ) (old frozen : Block) (before after : Inbox) (sheet : Sheet)
     (bytes : (p : ℕ) → slice_index old.marks.first p < 256) (was : ShowsBlock net n frame starts room blocks b old sheet before) (froze : HasFrozen frame n room starts old frozen before after) where
   far : nodes net.relation.grid * 32 ≤ min blocks 8 * 1024

@@ -7,7 +7,7 @@ use Rattle.noc_packet.specs.Set.{has_bit}
 use Rattle.noc_packet.proofs.SetLemmas.{has_bit-zero}
 use Rattle.noc_vc.specs.Input.{is_idle_phase}
 use Rattle.noc_vc.specs.declared.input.InputState.{InputState}
-use Rattle.noc_router.specs.View.{Site, View, size_of, view_after_inject, view_input}
+use Rattle.noc_view.specs.View.{Site, View, size_of, view_after_inject, view_input}
 use Rattle.noc_theory.specs.Good.{IsGoodSetup}
 use Rattle.noc_theory.specs.Halves.{IsSilent}
 use Rattle.noc_theory.specs.Lockstep.{view_at}
@@ -27,7 +27,7 @@ use Rattle.noc_rows.proofs.network.NetworkLemmas.{beats, frozen-seen}
 use Rattle.noc_rows.proofs.network.NetworkMoveLemmas.{IsStillLane, is_moving, moves_at, one-move}
 use Rattle.noc_rows.proofs.routers.SleepLemmas.{IsAsleep, all-silent, asleep-held}
 
-module _ (net : Setup) (setup : IsGoodSetup net) (n : ℕ) (frame : Frame) (is_frame : IsFrameOf net.relation net.places frame) (starts : List Start) (room : ℕ)
+module _ (net : Setup) (setup : IsGoodSetup net) (n : ℕ) (frame : Frame) (is_frame : IsFrameOf net.relation net.depth frame) (starts : List Start) (room : ℕ)
     (blocks : ℕ) (few_blocks : blocks ≤ 8) (covered : nodes net.relation.grid * 32 ≤ blocks * 1024) (b : ℕ) (block : Block) (inbox : Inbox) (sheet : Sheet)
     (was : ShowsBlock net n frame starts room blocks b block sheet inbox) (rests : (k : ℕ) → k < 32 → IsResting block (suc n) k) (quiet : IsQuiet inbox) where
   far : nodes net.relation.grid * 32 ≤ min blocks 8 * 1024

@@ -4,7 +4,7 @@ use Rattle.std.specs.Prelude.{◌⊎◌, ◌&&◌, ◌||◌, not, nat_eq, slice_
 use Rattle.std.specs.Int.{trailing_zeros, w32}
 use Rattle.std.proofs.lemmas.Bool.{cases_eq, eq-eqb}
 use Rattle.std.proofs.lemmas.Nat.{and_le_r, mod_below}
-use Rattle.noc_topo.proofs.WordLemmas.{get_or-tabulate}
+use Rattle.noc_topo.proofs.ListLemmas.{get_or-tabulate}
 use Rattle.noc_packet.specs.Set.{has_bit}
 use Rattle.noc_packet.proofs.SetLemmas.{has_bit-zero}
 use Rattle.noc_theory.specs.Network.{Setup}

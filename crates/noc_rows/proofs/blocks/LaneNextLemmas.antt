@@ -2,9 +2,9 @@
 use Rattle.std.proofs.Common.{◌≡◌, ◌≢◌, ℕ, ◌+◌, ◌*◌, ◌/◌, ◌<◌, ◌≤◌, Bool, true, false, List, [], ◌∷◌, length, map, Option, Some, None, refl, ap, ap₂, sym, ◌∙◌, subst, arith, inl, inr, bit_and, bit_or}
 use Rattle.std.specs.Prelude.{◌⊎◌, ◌&&◌, not, nat_eq, nat_le, nat_lt, slice_get, slice_index, slice_index_or}
 use Rattle.std.proofs.lemmas.Bool.{and_parts, cases_eq, eqb-true, false≢true, true≢false}
-use Rattle.noc_topo.specs.Words.{tabulate}
+use Rattle.noc_topo.specs.Lists.{tabulate}
 use Rattle.noc_topo.specs.Shape.{local_port, neighbour, nodes, ports}
-use Rattle.noc_topo.proofs.WordLemmas.{get_or-tabulate, length-tabulate}
+use Rattle.noc_topo.proofs.ListLemmas.{get_or-tabulate, length-tabulate}
 use Rattle.noc_packet.specs.Set.{has_bit}
 use Rattle.noc_packet.specs.declared.packet.Flit.{Flit}
 use Rattle.noc_vc.specs.Input.{is_empty}
@@ -12,8 +12,8 @@ use Rattle.noc_vc.specs.declared.input.InputState.{InputState}
 use Rattle.noc_vc.specs.declared.input.InputState.TheVariants.{Idle, Waiting, Active}
 use Rattle.noc_vc.specs.declared.output.OutputState.{OutputState}
 use Rattle.noc_vc.specs.declared.output.OutputState.TheVariants.{Idle as Free, Owned, Draining}
-use Rattle.noc_alloc.specs.Places.{AreBelow}
-use Rattle.noc_router.specs.View.{Site, View, first_flit, is_tail, local_channel, size_of, view_buffer, view_input, view_output}
+use Rattle.noc_alloc.specs.Sparse.{AreBelow}
+use Rattle.noc_view.specs.View.{Site, View, first_flit, is_tail, local_channel, size_of, view_buffer, view_input, view_output}
 use Rattle.noc_theory.specs.declared.limits.TheConstants.{CYCLE_LIMIT}
 use Rattle.noc_theory.specs.Good.{IsGoodSetup}
 use Rattle.noc_theory.specs.Lockstep.{beat_by, beats_in, site_at, view_at, view_in}
@@ -130,7 +130,7 @@ pub record SendsBy (net : Setup) (n r ports : ℕ) (selected : ℕ → ℕ) (rin
       → HasFirst (ring i) (is_tail (first_flit (frozen_of net n r) i)) (packet_of (first_flit (frozen_of net n r) i))
 
 module _ (net : Setup) (setup : IsGoodSetup net) (n r : ℕ) (l : r < nodes net.relation.grid) (frame : Frame)
-    (is_frame : IsFrameOf net.relation net.places frame) where
+    (is_frame : IsFrameOf net.relation net.depth frame) where
   site-is : (frozen_view net setup n r l).site ≡ site_at net r
   site-is = (frozen-seen net setup n r l).site
 
@@ -150,7 +150,7 @@ module _ (net : Setup) (setup : IsGoodSetup net) (n r : ℕ) (l : r < nodes net.
 
   -- the lane of a router that showed its view shows its frozen state after the arrival
   pub lane-frozen : n < CYCLE_LIMIT → (room : ℕ) (starts : List Start) (old frozen : Block) (before after : Inbox) (sheet : Sheet) (k : ℕ)
-      → net.places ≤ room → ((p : ℕ) → slice_index old.marks.first p < 256)
+      → net.depth ≤ room → ((p : ℕ) → slice_index old.marks.first p < 256)
       → ShowsRouter starts n (lane_words room old sheet before k) (view_at net n r) (beats net setup n r l)
       → HasArrived (planes_of frame.place_bits) frame.link_set frame.local_set n room starts old frozen before after k
       → IsFrozen 5 room starts (marks_at old.marks k) (λ i. slice_index old.marks.first (place_of k i)) frozen after k (frozen_of net n r)
@@ -183,7 +183,7 @@ module _ (net : Setup) (setup : IsGoodSetup net) (n r : ℕ) (l : r < nodes net.
           (with-owners 5 (column_at old.lanes k) (marks_at old.marks k) named.owner (view_at net n r)
           (λ o u. sym (of-lane old.marks.owner k o (let w = start-few o u in omega (arith, w)))) shows.column)
           shows.wires shows.source (start-tidy net setup n r l) (frozen-tidy net setup n r l) (start-size net setup n r l) (beats-taken net setup n r l few)
-          is_frame.few (let p = is_frame.few_places in omega (arith, p)) setup.some_place enough (let q = short in omega (arith, q))
+          is_frame.few (let p = is_frame.few_places in omega (arith, p)) setup.some_depth enough (let q = short in omega (arith, q))
           (omega (arith, few)) is-local (λ o. refl) (λ i. bytes (place_of k i))
           (subst (λ (bits : List ℕ). HasArrived bits frame.link_set frame.local_set n room starts old frozen before after k) is_frame.place_bits arrived)
 
@@ -198,7 +198,7 @@ module _ (net : Setup) (setup : IsGoodSetup net) (n r : ℕ) (l : r < nodes net.
       (λ i. ring_in room before (place_of k i) (slice_index old.marks.first (place_of k i)))
       (with-owners 5 (column_at old.lanes k) (marks_at old.marks k) named.owner (view_at net n r)
       (λ o u. sym (of-lane old.marks.owner k o (let w = start-few o u in omega (arith, w)))) shows.column)
-      shows.wires shows.source (let p = is_frame.few_places in omega (arith, p)) setup.some_place is-local (λ o. refl)
+      shows.wires shows.source (let p = is_frame.few_places in omega (arith, p)) setup.some_depth is-local (λ o. refl)
       (subst (λ (bits : List ℕ). HasArrived bits frame.link_set frame.local_set n room starts old frozen before after k) is_frame.place_bits arrived)
     where
       named : RouterMarks

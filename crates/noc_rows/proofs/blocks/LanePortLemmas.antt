@@ -3,7 +3,7 @@ use Rattle.std.proofs.Common.{◌≡◌, ℕ, ◌*◌, ◌<◌, ◌≤◌, Bool,
 use Rattle.std.specs.Prelude.{◌&&◌, slice_index}
 use Rattle.noc_topo.specs.Shape.{nodes, ports}
 use Rattle.noc_packet.specs.Set.{has_bit}
-use Rattle.noc_router.specs.View.{Site, View, first_flit, is_tail, size_of, view_input}
+use Rattle.noc_view.specs.View.{Site, View, first_flit, is_tail, size_of, view_input}
 use Rattle.noc_theory.specs.Good.{IsGoodSetup}
 use Rattle.noc_theory.specs.Network.{Setup, size}
 use Rattle.noc_row_words.specs.Column.{place_of, sends_by}
@@ -24,7 +24,7 @@ use Rattle.noc_rows.proofs.blocks.LaneNextLemmas.{LaneChosen, allocation_in, lan
 use Rattle.noc_rows.proofs.network.NetworkLemmas.{frozen-seen, frozen_view}
 use Rattle.noc_rows.proofs.routers.SwitchedLemmas.{chosen-is, union-same}
 
-module _ (net : Setup) (setup : IsGoodSetup net) (n r : ℕ) (l : r < nodes net.relation.grid) (frame : Frame) (is_frame : IsFrameOf net.relation net.places frame)
+module _ (net : Setup) (setup : IsGoodSetup net) (n r : ℕ) (l : r < nodes net.relation.grid) (frame : Frame) (is_frame : IsFrameOf net.relation net.depth frame)
     (spare : ℕ) (far : nodes net.relation.grid * 32 ≤ spare) (room : ℕ) (starts : List Start) (frozen : Block) (after : Inbox) (k : ℕ) (linked : HasLinksOf net.relation frame spare frozen r k)
     (is : IsFrozen 5 room starts (marks_at frozen.marks k) (λ i. slice_index frozen.marks.first (place_of k i)) frozen after k (frozen_of net n r))
     (chosen : Block) (has : LaneChosen net frame room frozen chosen after r k) (no_grant : word frozen.decided.granted k ≡ 0) (no_loss : word frozen.decided.lost k ≡ 0) where

@@ -3,7 +3,7 @@ use Rattle.std.proofs.Common.{◌≡◌, ◌≢◌, ℕ, suc, ◌+◌, ◌*◌, 
 use Rattle.std.specs.Prelude.{◌⊎◌, nat_eq, slice_index, slice_index_or, if◌then◌else◌}
 use Rattle.std.proofs.lemmas.Bool.{cases_eq}
 use Rattle.noc_topo.specs.Shape.{nodes}
-use Rattle.noc_router.specs.View.{View, first_flit, is_tail, size_of}
+use Rattle.noc_view.specs.View.{View, first_flit, is_tail, size_of}
 use Rattle.noc_theory.specs.declared.limits.TheConstants.{CYCLE_LIMIT}
 use Rattle.noc_theory.specs.Good.{IsGoodSetup}
 use Rattle.noc_theory.specs.Lockstep.{beats_at, beats_in, view_at}
@@ -123,8 +123,8 @@ module _ (net : Setup) (frame : Frame) (room : ℕ) (frozen chosen : Block) (aft
 -- ---- the cycle
 
 module _ (net : Setup) (setup : IsGoodSetup net) (n r : ℕ) (l : r < nodes net.relation.grid) (few : n < CYCLE_LIMIT) (frame : Frame)
-    (is_frame : IsFrameOf net.relation net.places frame)
-    (spare : ℕ) (far : nodes net.relation.grid * 32 ≤ spare) (room : ℕ) (enough : net.places ≤ room) (starts : List Start)
+    (is_frame : IsFrameOf net.relation net.depth frame)
+    (spare : ℕ) (far : nodes net.relation.grid * 32 ≤ spare) (room : ℕ) (enough : net.depth ≤ room) (starts : List Start)
     (old frozen chosen moved new : Block) (before after : Inbox) (sheet next : Sheet)
     (b : ℕ) (start end : Wires) (k : ℕ) (low : k < 32) (linked : HasLinksOf net.relation frame spare old r k) (bytes : (p : ℕ)
     → slice_index old.marks.first p < 256) (counted : cycles_of sheet ≤ n)

@@ -3,7 +3,7 @@ use Rattle.std.proofs.Common.{◌≡◌, ℕ, suc, ◌+◌, ◌*◌, ◌<◌, �
 use Rattle.std.specs.Prelude.{slice_get, slice_index}
 use Rattle.std.proofs.lemmas.Option.{same_Some, slice_get-get_or, slice_get_within}
 use Rattle.noc_topo.specs.Shape.{nodes}
-use Rattle.noc_router.specs.View.{first_flit, is_tail}
+use Rattle.noc_view.specs.View.{first_flit, is_tail}
 use Rattle.noc_theory.specs.declared.limits.TheConstants.{CYCLE_LIMIT}
 use Rattle.noc_theory.specs.Good.{IsGoodSetup}
 use Rattle.noc_theory.specs.Network.{Setup}
@@ -46,8 +46,8 @@ pub record Rests (n : ℕ) (block : Block) (inbox : Inbox) : Type 0 where
 there : {X : Type 0} (xs : List X) (b : ℕ) (d : X) → b < length xs → slice_get xs b ≡ Some (get_or xs b d)
 there xs b d l = slice_get-get_or xs b d l
 
-module _ (net : Setup) (setup : IsGoodSetup net) (n : ℕ) (few : n < CYCLE_LIMIT) (frame : Frame) (is_frame : IsFrameOf net.relation net.places frame)
-    (starts : List Start) (room : ℕ) (enough : net.places ≤ room)
+module _ (net : Setup) (setup : IsGoodSetup net) (n : ℕ) (few : n < CYCLE_LIMIT) (frame : Frame) (is_frame : IsFrameOf net.relation net.depth frame)
+    (starts : List Start) (room : ℕ) (enough : net.depth ≤ room)
     (woke frozen moved new : List Block) (before after : List Inbox) (start end : Wires) (sheets nexts : List Sheet) (near : ℕ)
     (few_blocks : length woke ≤ 8) (covered : nodes net.relation.grid * 32 ≤ length woke * 1024) (long : length woke ≤ length before)
     (paired : length sheets ≡ length woke)

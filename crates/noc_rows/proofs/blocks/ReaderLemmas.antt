@@ -6,8 +6,8 @@ use Rattle.std.proofs.Math.Nat.{mul_comm}
 use Rattle.std.proofs.lemmas.Nat.{div-add-mod', mul-add-lt}
 use Rattle.std.proofs.lemmas.Option.{slice_get-get_or, slice_get_within, same_Some}
 use Rattle.noc_topo.specs.Shape.{nodes, ports}
-use Rattle.noc_topo.proofs.WordLemmas.{get_or-tabulate}
-use Rattle.noc_router.specs.View.{Site, size_of}
+use Rattle.noc_topo.proofs.ListLemmas.{get_or-tabulate}
+use Rattle.noc_view.specs.View.{Site, size_of}
 use Rattle.noc_theory.specs.Good.{IsGoodSetup}
 use Rattle.noc_theory.specs.Lockstep.{counts_before, last_event_at, view_at, view_in}
 use Rattle.noc_theory.specs.Network.{Setup, arrival_in, size, state_at}

@@ -121,13 +121,13 @@ module _ (net : Setup) (n next : ℕ) (rows : Rows) (is : IsRows net n rows) (wo
     pub rows-later : IsGoodSetup net → end ≤ CYCLE_LIMIT → (new : Rows) → new ≡ record rows { blocks = new.blocks; cycle = new.cycle } → new.blocks.items ≡ woke → new.cycle ≡ end → IsRows net end new
     rows-later setup limit new kept blocks cycle = record {
       cycle = cycle;
-      frame = subst (λ f. IsFrameOf net.relation net.places f) (sym (ap (λ (x : Rows). x.frame) kept)) is.frame;
+      frame = subst (λ f. IsFrameOf net.relation net.depth f) (sym (ap (λ (x : Rows). x.frame) kept)) is.frame;
       starts = ap (λ (x : Rows). x.starts.items) kept ∙ is.starts;
       blocks_are = count ∙ is.blocks_are;
       sheets_are = ap (λ (x : Rows). length x.sheets.items) kept ∙ is.sheets_are ∙ sym count;
       inboxes_are = ap (λ (x : Rows). length x.wires.inboxes.items) kept ∙ is.inboxes_are ∙ ap (λ k. k + 1) (sym count);
       flags_are = ap (λ (x : Rows). length x.wires.busy.items) kept ∙ is.flags_are ∙ ap (λ k. k + 1) (sym count);
-      places = subst (λ (x : Rows). net.places ≤ room_of x.wires.room) (sym kept) is.places;
+      places = subst (λ (x : Rows). net.depth ≤ room_of x.wires.room) (sym kept) is.places;
       blocks = shows-then;
       quiet = λ b l e. not-busy-then b l e;
       arrivals_are = ap (λ (x : Rows). length x.wires.arrivals.items) kept ∙ is.arrivals_are;
@@ -233,13 +233,13 @@ module _ (net : Setup) (setup : IsGoodSetup net) (n : ℕ) (few : n < CYCLE_LIMI
       → ((b : ℕ) → b < length end.busy.items → b < 32 → slice_get busy b ≡ Some (has_bit near b)) → after.cycle ≡ suc n → IsRows net (suc n) after
   step-rows after busy after_is blocks sheets_is wires_are busy_is busy_long noted cycle = record {
     cycle = cycle;
-    frame = subst (λ f. IsFrameOf net.relation net.places f) (sym same-frame) is.frame;
+    frame = subst (λ f. IsFrameOf net.relation net.depth f) (sym same-frame) is.frame;
     starts = same-starts ∙ is.starts;
     blocks_are = count ∙ is.blocks_are;
     sheets_are = ap (λ xs. length xs) sheets_is ∙ concluded.sheets ∙ is.sheets_are ∙ sym count;
     inboxes_are = ap (λ (x : Wires). length x.inboxes.items) wires_are ∙ kept.inboxes ∙ ap (λ xs. length xs) start_inboxes ∙ froze.inboxes ∙ is.inboxes_are ∙ ap (λ k. k + 1) (sym count);
     flags_are = ap (λ xs. length xs) busy_is ∙ busy_long ∙ flags ∙ ap (λ k. k + 1) (sym count);
-    places = subst (λ r. net.places ≤ room_of r) (sym same-room) is.places;
+    places = subst (λ r. net.depth ≤ room_of r) (sym same-room) is.places;
     blocks = shows;
     quiet = still;
     arrivals_are = ap (λ (x : Wires). length x.arrivals.items) wires_are ∙ kept.arrivals ∙ ap (λ (x : Wires). length x.arrivals.items) start_is ∙ is.arrivals_are;

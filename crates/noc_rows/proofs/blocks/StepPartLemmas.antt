@@ -5,7 +5,7 @@ use Rattle.noc_packet.specs.Set.{has_bit}
 use Rattle.noc_theory.specs.declared.limits.TheConstants.{CYCLE_LIMIT}
 use Rattle.noc_theory.specs.Good.{IsGoodSetup}
 use Rattle.noc_theory.specs.Network.{Setup, arrival_in, state_at}
-use Rattle.noc_router.specs.declared.verdict.Finding.{Finding}
+use Rattle.noc_view.specs.declared.finding.Finding.{Finding}
 use Rattle.noc_row_blocks.specs.Decided.{HasDecided}
 use Rattle.noc_row_words.specs.Rows.{word}
 use Rattle.noc_row_blocks.specs.Stages.{HaveConcluded, HaveDecided, HaveFrozen}

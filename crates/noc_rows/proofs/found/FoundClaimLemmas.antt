@@ -3,16 +3,16 @@ use Rattle.std.proofs.Common.{◌≡◌, ◌≢◌, ℕ, ◌/◌, ◌%◌, ◌^�
 use Rattle.std.specs.Prelude.{◌⊎◌, ◌||◌, not, nat_eq, option_map, slice_index, if◌then◌else◌}
 use Rattle.std.specs.Int.{trailing_zeros, w32}
 use Rattle.std.proofs.lemmas.Bool.{and_parts, cases_eq, eq-eqb, eqb-true, false≢true, ne_eqb}
-use Rattle.noc_topo.proofs.WordLemmas.{get_or-tabulate}
+use Rattle.noc_topo.proofs.ListLemmas.{get_or-tabulate}
 use Rattle.noc_packet.specs.Set.{IsLeast, has_bit}
 use Rattle.noc_packet.specs.declared.packet.Flit.{Flit}
 use Rattle.noc_packet.proofs.SetLemmas.{both_members, has_bit-zero}
 use Rattle.noc_vc.specs.Input.{is_active, is_empty, is_idle_phase, is_waiting}
 use Rattle.noc_vc.specs.declared.input.InputState.{InputState}
 use Rattle.noc_vc.specs.declared.input.InputState.TheVariants.{Idle, Waiting, Active}
-use Rattle.noc_alloc.specs.Places.{AreBelow}
-use Rattle.noc_router.specs.Verdict.{out_of}
-use Rattle.noc_router.specs.View.{View, claim_in, port_and_vc, size_of, view_buffer, view_claim, view_input}
+use Rattle.noc_alloc.specs.Sparse.{AreBelow}
+use Rattle.noc_view.specs.Verdict.{out_of}
+use Rattle.noc_view.specs.View.{View, claim_in, port_and_vc, size_of, view_buffer, view_claim, view_input}
 use Rattle.noc_row_words.specs.Column.{IsColumn, ShowsPhase, place_of}
 use Rattle.noc_row_words.specs.FlitWords.{FitsWord, flit_word}
 use Rattle.noc_rows.specs.Found.{HasPacket, is_held, least_place, out_at}

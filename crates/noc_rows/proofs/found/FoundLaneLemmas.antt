@@ -5,13 +5,13 @@ use Rattle.std.proofs.lemmas.Bool.{false≢true}
 use Rattle.noc_topo.specs.Shape.{nodes}
 use Rattle.noc_packet.specs.declared.packet.Flit.{Flit}
 use Rattle.noc_vc.specs.Input.{is_empty}
-use Rattle.noc_router.specs.Found.{empty_finding}
-use Rattle.noc_alloc.specs.Places.{AreBelow}
-use Rattle.noc_router.specs.Verdict.{out_of}
-use Rattle.noc_router.specs.VerdictSets.{verdict_by}
-use Rattle.noc_router.specs.View.{Site, View, finding_of, port_and_vc, size_of, view_buffer, view_claim, view_input, view_round}
-use Rattle.noc_router.specs.declared.verdict.Finding.{Finding}
-use Rattle.noc_router.specs.declared.verdict.Verdict.{Verdict}
+use Rattle.noc_view.specs.Found.{empty_finding}
+use Rattle.noc_alloc.specs.Sparse.{AreBelow}
+use Rattle.noc_view.specs.Verdict.{out_of}
+use Rattle.noc_view.specs.VerdictSets.{verdict_by}
+use Rattle.noc_view.specs.View.{Site, View, finding_of, port_and_vc, size_of, view_buffer, view_claim, view_input, view_round}
+use Rattle.noc_view.specs.declared.finding.Finding.{Finding}
+use Rattle.noc_view.specs.declared.verdict.Verdict.{Verdict}
 use Rattle.noc_theory.specs.declared.limits.TheConstants.{CYCLE_LIMIT}
 use Rattle.noc_theory.specs.Good.{IsGoodSetup}
 use Rattle.noc_theory.specs.Lockstep.{site_at, view_at}
@@ -49,8 +49,8 @@ use Rattle.noc_rows.proofs.routers.TallyLemmas.{frame-here, frozen-few, turns-he
 
 -- ---- a block that is awake
 
-module _ (net : Setup) (setup : IsGoodSetup net) (n : ℕ) (few : n < CYCLE_LIMIT) (frame : Frame) (is_frame : IsFrameOf net.relation net.places frame)
-    (starts : List Start) (room : ℕ) (enough : net.places ≤ room) (blocks : ℕ) (few_blocks : blocks ≤ 8) (covered : nodes net.relation.grid * 32 ≤ blocks * 1024)
+module _ (net : Setup) (setup : IsGoodSetup net) (n : ℕ) (few : n < CYCLE_LIMIT) (frame : Frame) (is_frame : IsFrameOf net.relation net.depth frame)
+    (starts : List Start) (room : ℕ) (enough : net.depth ≤ room) (blocks : ℕ) (few_blocks : blocks ≤ 8) (covered : nodes net.relation.grid * 32 ≤ blocks * 1024)
     (b : ℕ) (old frozen : Block) (before after : Inbox) (sheet : Sheet) (bytes : (p : ℕ) → slice_index old.marks.first p < 256)
     (was : ShowsBlock net n frame starts room blocks b old sheet before) (froze : HasFrozen frame n room starts old frozen before after)
     (chosen moved : Block) (keeps : KeepsFrozen frozen chosen) (has : (k : ℕ) → k < 32 → LaneChosen net frame room frozen chosen after (b * 32 + k) k)

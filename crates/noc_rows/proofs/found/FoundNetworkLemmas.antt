@@ -2,19 +2,19 @@
 use Rattle.std.proofs.Common.{◌≡◌, ℕ, suc, ◌<◌, Bool, true, false, List, length, Option, Some, None, refl, ap, sym, ◌∙◌}
 use Rattle.std.specs.Prelude.{not, option_map, if◌then◌else◌}
 use Rattle.std.proofs.lemmas.Bool.{false≢true}
-use Rattle.noc_topo.specs.Words.{tabulate}
+use Rattle.noc_topo.specs.Lists.{tabulate}
 use Rattle.noc_topo.specs.Shape.{local_port, nodes}
-use Rattle.noc_topo.proofs.WordLemmas.{get_or-tabulate, length-tabulate}
+use Rattle.noc_topo.proofs.ListLemmas.{get_or-tabulate, length-tabulate}
 use Rattle.noc_packet.specs.declared.packet.Beat.{Beat}
 use Rattle.noc_route.specs.Routes.{Routes}
 use Rattle.noc_vc.specs.Input.{is_empty, is_idle_phase}
 use Rattle.noc_vc.specs.declared.input.InputState.{InputState}
 use Rattle.noc_vc.specs.declared.input.InputState.TheVariants.{Idle, Waiting, Active}
-use Rattle.noc_router.specs.Arrivals.{arrivals_after, is_expected_in}
-use Rattle.noc_router.specs.Found.{empty_finding}
-use Rattle.noc_router.specs.Verdict.{Round, out_of, verdict_of}
-use Rattle.noc_router.specs.View.{Decisions, View, claim_in, decisions_of, finding_of, flit_out, local_step, port_and_vc, size_of, tail_packet, view_after_commit, view_after_inject, view_after_takes, view_buffer, view_input, view_round, with_arrival, with_misfit}
-use Rattle.noc_router.specs.declared.verdict.Finding.{Finding}
+use Rattle.noc_view.specs.Arrivals.{arrivals_after, is_expected_in}
+use Rattle.noc_view.specs.Found.{empty_finding}
+use Rattle.noc_view.specs.Verdict.{Round, out_of, verdict_of}
+use Rattle.noc_view.specs.View.{Decisions, View, claim_in, decisions_of, finding_of, flit_out, local_step, port_and_vc, size_of, tail_packet, view_after_commit, view_after_inject, view_after_takes, view_buffer, view_input, view_round, with_arrival, with_misfit}
+use Rattle.noc_view.specs.declared.finding.Finding.{Finding}
 use Rattle.noc_theory.specs.declared.limits.TheConstants.{CYCLE_LIMIT}
 use Rattle.noc_theory.specs.Good.{IsGoodSetup}
 use Rattle.noc_theory.specs.Lockstep.{findings_before, view_at}

@@ -4,10 +4,10 @@ use Rattle.std.specs.Prelude.{◌&&◌, ◌||◌, Option, slice_index, if◌then
 use Rattle.std.proofs.lemmas.Bool.{true≢false}
 use Rattle.noc_packet.specs.Set.{has_bit}
 use Rattle.noc_packet.proofs.SetLemmas.{either_members, has_bit-zero}
-use Rattle.noc_router.specs.Found.{empty_finding}
-use Rattle.noc_router.specs.declared.verdict.Finding.{Finding}
-use Rattle.noc_router.specs.declared.verdict.Verdict.{Verdict}
-use Rattle.noc_router.specs.declared.verdict.Verdict.TheVariants.{Empty}
+use Rattle.noc_view.specs.Found.{empty_finding}
+use Rattle.noc_view.specs.declared.finding.Finding.{Finding}
+use Rattle.noc_view.specs.declared.verdict.Verdict.{Verdict}
+use Rattle.noc_view.specs.declared.verdict.Verdict.TheVariants.{Empty}
 use Rattle.noc_rows.specs.Found.{IsClaimed, given_to, is_held, is_noted, least_place}
 use Rattle.noc_row_words.specs.Rows.{word}
 use Rattle.noc_row_words.specs.Wires.{in_row}

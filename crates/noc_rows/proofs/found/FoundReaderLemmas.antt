@@ -3,8 +3,8 @@ use Rattle.std.proofs.Common.{◌≡◌, ℕ, zero, suc, ◌+◌, ◌-◌, ◌*�
 use Rattle.std.proofs.Math.Nat.{mul-suc}
 use Rattle.std.proofs.lemmas.List.{get_or-drop, get_or-take, get_or_default, length-drop, length-take-le, same_lists}
 use Rattle.noc_topo.specs.Shape.{nodes, ports}
-use Rattle.noc_router.specs.Found.{empty_finding}
-use Rattle.noc_router.specs.declared.verdict.Finding.{Finding}
+use Rattle.noc_view.specs.Found.{empty_finding}
+use Rattle.noc_view.specs.declared.finding.Finding.{Finding}
 use Rattle.noc_theory.specs.Lockstep.{findings_before}
 use Rattle.noc_theory.specs.Network.{Setup, size}
 use Rattle.noc_row_words.specs.Column.{place_of}

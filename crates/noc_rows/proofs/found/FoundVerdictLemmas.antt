@@ -3,10 +3,10 @@ use Rattle.std.proofs.Common.{◌≡◌, ℕ, ◌<◌, ◌≤◌, ap, ap₂, sym
 use Rattle.std.specs.Prelude.{◌&&◌}
 use Rattle.noc_topo.specs.Shape.{ports}
 use Rattle.noc_packet.specs.Set.{has_bit}
-use Rattle.noc_router.specs.Standing.{is_won_from}
-use Rattle.noc_router.specs.VerdictSets.{verdict_by}
-use Rattle.noc_router.specs.View.{View, finding_of, size_of, view_input, view_round}
-use Rattle.noc_router.specs.declared.verdict_sets.VerdictSets.{VerdictSets}
+use Rattle.noc_view.specs.States.{is_won_from}
+use Rattle.noc_view.specs.VerdictSets.{verdict_by}
+use Rattle.noc_view.specs.View.{View, finding_of, size_of, view_input, view_round}
+use Rattle.noc_view.specs.declared.sets.VerdictSets.{VerdictSets}
 use Rattle.noc_row_words.specs.Bits.{less}
 use Rattle.noc_row_words.specs.Column.{AreWords, Column, ShowsChannels}
 use Rattle.noc_row_words.specs.Fields.{IsFields}

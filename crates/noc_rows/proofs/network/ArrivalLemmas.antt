@@ -3,11 +3,11 @@ use Rattle.std.proofs.Common.{◌≡◌, ◌≢◌, ℕ, suc, ◌/◌, ◌<◌, 
 use Rattle.std.specs.Prelude.{◌⊎◌, if◌then◌else◌}
 use Rattle.std.proofs.lemmas.Bool.{cases_eq, eq-eqb, ne_eqb}
 use Rattle.std.proofs.lemmas.Option.{none-some, same_Some}
-use Rattle.noc_topo.specs.Words.{Has}
+use Rattle.noc_topo.specs.Lists.{Has}
 use Rattle.noc_topo.specs.Shape.{nodes, local_port}
 use Rattle.noc_packet.specs.Set.{has_bit}
 use Rattle.noc_packet.specs.declared.packet.Flit.{Flit}
-use Rattle.noc_router.specs.View.{Site, decisions_of, flit_out, tail_packet, view_round}
+use Rattle.noc_view.specs.View.{Site, decisions_of, flit_out, tail_packet, view_round}
 use Rattle.noc_theory.specs.Good.{IsGoodSetup}
 use Rattle.noc_theory.specs.Lockstep.{ends_at, site_at}
 use Rattle.noc_theory.specs.Network.{Setup, State, Place, Source, On, In, Out, packet_at, state_at, frozen_at, frozen_state, network_cycle, after_injection, after_verdicts, arrival_in, landed_place, out_cycle, tail_place}

@@ -5,14 +5,14 @@ use Rattle.std.proofs.lemmas.Bool.{ltb-true, ne_eqb}
 use Rattle.std.proofs.lemmas.List.{length-map}
 use Rattle.std.proofs.lemmas.Nat.{div-add-mod'}
 use Rattle.std.proofs.lemmas.Option.{same_Some}
-use Rattle.noc_topo.specs.Words.{Has}
+use Rattle.noc_topo.specs.Lists.{Has}
 use Rattle.noc_topo.specs.Shape.{IsGrid, nodes, local_port, neighbour}
 use Rattle.noc_topo.proofs.LinkLemmas.{hop_of}
 use Rattle.noc_packet.specs.Packet.{flit_at}
 use Rattle.noc_packet.specs.declared.packet.Flit.{Flit}
 use Rattle.noc_route.specs.Channel.{Channel, Link, Inject}
 use Rattle.noc_vc.specs.Output.{has_credit}
-use Rattle.noc_router.specs.View.{view_buffer, view_round, mover}
+use Rattle.noc_view.specs.View.{view_buffer, view_round, mover}
 use Rattle.noc_theory.specs.Good.{IsGoodSetup}
 use Rattle.noc_theory.specs.Lockstep.{seen_flits, seen_output, site_at}
 use Rattle.noc_theory.specs.Network.{Setup, Located, size, arriving, buffer_of, count_in, credit_of, packet_at, frozen_at}
@@ -72,7 +72,7 @@ module _ (net : Setup) (setup : IsGoodSetup net) (n : ℕ) (moved : ℕ → ℕ)
       g.place ∙ ap (λ k. place_of k g.channel) router ∙ ap (place_of h.router) (same_Some _ _ channel) ∙ sym h.place
 
   -- a link channel with a credit has room in the buffer at its other end
-  free : (p : ℕ) → Gone p → target p < nodes net.relation.grid * 32 → length (s.ring (target p)) < net.places
+  free : (p : ℕ) → Gone p → target p < nodes net.relation.grid * 32 → length (s.ring (target p)) < net.depth
   free p g l = by (goes p g l)
     where
       some-credit : g.mover.out / net.relation.vcs < local_port net.relation.grid → 0 < credit_of net (frozen_at net n) (Link g.router (g.mover.out / net.relation.vcs) (g.mover.out % net.relation.vcs))
@@ -87,7 +87,7 @@ module _ (net : Setup) (setup : IsGoodSetup net) (n : ℕ) (moved : ℕ → ℕ)
               ltb-true 0 _
               (sym (ap has_credit ((frozen-seen net setup n g.router g.known).output g.mover.out out) ∙ ap (λ (c : Channel). has_credit (seen_output net (frozen_at net n) g.router c)) e) ∙ g.mover.credit)
 
-      by : Goes p g → length (s.ring (target p)) < net.places
+      by : Goes p g → length (s.ring (target p)) < net.depth
       by (r, i, e, c) =
           let port : c.port < local_port net.relation.grid = (hop_of net.relation.grid r c.port g.router (g.mover.out / net.relation.vcs) is-grid c.home).link in
           let low : g.mover.out / net.relation.vcs < local_port net.relation.grid = (hop_of net.relation.grid g.router (g.mover.out / net.relation.vcs) r c.port is-grid c.link).link in
@@ -105,7 +105,7 @@ module _ (net : Setup) (setup : IsGoodSetup net) (n : ℕ) (moved : ℕ → ℕ)
           omega (arith, ring, buffer, credit)
 
 pub can-move : (net : Setup) → IsGoodSetup net → (n : ℕ) (moved : ℕ → ℕ) (gone : ℕ → Bool) (target back : ℕ → ℕ) (s : WireWords) (room : ℕ)
-    → AreFrozenWires net n moved gone target back s → size net ≤ 31 → net.places ≤ room → FlitsCanMove room (nodes net.relation.grid * 32) gone target s
+    → AreFrozenWires net n moved gone target back s → size net ≤ 31 → net.depth ≤ room → FlitsCanMove room (nodes net.relation.grid * 32) gone target s
 can-move net setup n moved gone target back s room are few places = record {
   flits = λ p e. has-flit net setup n moved gone target back s are few p (gone-is net setup n moved gone target back s are few p e);
   below = are.below;

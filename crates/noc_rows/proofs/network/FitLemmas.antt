@@ -1,10 +1,10 @@
 -- Every flit in a buffer of a network fits a word.
 use Rattle.std.proofs.Common.{◌≡◌, ℕ, ◌<◌, List, [], ◌∷◌, map, Option, Some, None, refl, sym, ◌∙◌, inl, subst, arith}
-use Rattle.noc_topo.specs.Words.{Has}
+use Rattle.noc_topo.specs.Lists.{Has}
 use Rattle.noc_packet.specs.Packet.{flit_at}
 use Rattle.noc_packet.specs.declared.packet.Flit.{Flit}
 use Rattle.noc_route.specs.Channel.{Channel}
-use Rattle.noc_router.specs.View.{View, view_buffer}
+use Rattle.noc_view.specs.View.{View, view_buffer}
 use Rattle.noc_theory.specs.Good.{IsGoodPacket, IsGoodSetup, IsValid}
 use Rattle.noc_theory.specs.Lockstep.{seen_flits}
 use Rattle.noc_theory.specs.Network.{Setup, State, Located, size, arriving, buffer_of, is_in, packet_at}

@@ -1,10 +1,10 @@
 -- The flits in the buffers of a router, and on the wires to it, are flits of packets within the limits: they fit the bits of a word.
 use Rattle.std.proofs.Common.{◌≡◌, ℕ, ◌^◌, ◌<◌, List, Option, Some, None, sym, subst, arith}
-use Rattle.noc_topo.specs.Words.{Has}
+use Rattle.noc_topo.specs.Lists.{Has}
 use Rattle.noc_topo.specs.Shape.{nodes}
 use Rattle.noc_packet.specs.Packet.{flit_at}
 use Rattle.noc_packet.specs.declared.packet.Flit.{Flit}
-use Rattle.noc_router.specs.View.{View, view_buffer}
+use Rattle.noc_view.specs.View.{View, view_buffer}
 use Rattle.noc_theory.specs.Good.{IsGoodSetup, IsValid}
 use Rattle.noc_theory.specs.Lockstep.{seen_flits}
 use Rattle.noc_theory.specs.Network.{Setup, State, Located, size, arriving, packet_at, is_in, buffer_of, frozen_at}

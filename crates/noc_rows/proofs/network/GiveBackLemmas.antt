@@ -3,7 +3,7 @@ use Rattle.std.proofs.Common.{◌≡◌, ◌≢◌, ℕ, ◌+◌, ◌*◌, ◌/�
 use Rattle.std.specs.Prelude.{◌⊎◌, ◌&&◌, not, is_some, find, slice_index_or, if◌then◌else◌}
 use Rattle.std.proofs.lemmas.Bool.{eq-eqb, ne_eqb, cases_eq, cases_lt, false≢true}
 use Rattle.std.proofs.lemmas.Nat.{div-mul-add, mod-mul-add, mul-add-lt}
-use Rattle.noc_topo.specs.Words.{below, is_some_of}
+use Rattle.noc_topo.specs.Lists.{below, is_some_of}
 use Rattle.noc_topo.specs.Shape.{ports}
 use Rattle.noc_packet.specs.Set.{has_bit}
 use Rattle.noc_route.specs.Routes.{Routes}
@@ -11,11 +11,11 @@ use Rattle.noc_vc.specs.Input.{is_empty}
 use Rattle.noc_vc.specs.Output.{has_credit}
 use Rattle.noc_vc.specs.declared.input.InputState.{InputState}
 use Rattle.noc_vc.specs.declared.input.InputState.TheVariants.{Idle, Waiting, Active}
-use Rattle.noc_router.specs.Standing.{is_won_from}
-use Rattle.noc_router.specs.Verdict.{Holds, Waits, is_moved, ready_port, verdict_of}
-use Rattle.noc_router.specs.declared.verdict.Verdict.TheVariants.{Moved, LostSwitch}
-use Rattle.noc_router.specs.View.{View, size_of, view_buffer, view_input, view_output, view_claim, claim_in, view_round, asked_for, decisions_of, decided_verdict, beat_out}
-use Rattle.noc_router.proofs.FindLemmas.{find-below, find-none}
+use Rattle.noc_view.specs.States.{is_won_from}
+use Rattle.noc_view.specs.Verdict.{Holds, Waits, is_moved, ready_port, verdict_of}
+use Rattle.noc_view.specs.declared.verdict.Verdict.TheVariants.{Moved, LostSwitch}
+use Rattle.noc_view.specs.View.{View, size_of, view_buffer, view_input, view_output, view_claim, claim_in, view_round, asked_for, decisions_of, decided_verdict, beat_out}
+use Rattle.noc_view.proofs.FindLemmas.{find-below, find-none}
 use Rattle.noc_rows.proofs.routers.CommittedLemmas.{verdict-planned}
 use Rattle.noc_row_words.proofs.SwitchLemmas.{AreMoved}
 

@@ -8,18 +8,18 @@ use Rattle.std.proofs.lemmas.List.{get_or-map}
 use Rattle.std.proofs.lemmas.Nat.{div_below, mod_below, mul-add-lt, pow_pos}
 use Rattle.std.proofs.lemmas.Nat.Bits.{and_pow}
 use Rattle.std.proofs.Math.Nat.{mod_self}
-use Rattle.noc_topo.specs.Words.{is_some_of}
+use Rattle.noc_topo.specs.Lists.{is_some_of}
 use Rattle.noc_topo.specs.Shape.{ports}
-use Rattle.noc_topo.proofs.WordLemmas.{get_or-map_indexed}
+use Rattle.noc_topo.proofs.ListLemmas.{get_or-map_indexed}
 use Rattle.noc_packet.specs.Set.{has_bit, IsLeast}
 use Rattle.noc_packet.proofs.SetLemmas.{bit_at-true, bit_at-false, both_members, has_bit-zero}
 use Rattle.noc_alloc.specs.Arbiter.{RoundRobin, pointer_after, pointers_of, arbiter_at, arbiter_after}
 use Rattle.noc_vc.specs.declared.input.InputState.{InputState}
 use Rattle.noc_vc.specs.declared.input.InputState.TheVariants.{Idle, Waiting, Active}
-use Rattle.noc_alloc.specs.Places.{AreBelow}
-use Rattle.noc_router.specs.Standing.{is_won_from}
-use Rattle.noc_router.specs.Verdict.{arbiters_after, out_of}
-use Rattle.noc_router.specs.View.{View, size_of, view_input, view_claim, claim_in, view_round, first_flit, flit_out, is_tail, mover, mover_to}
+use Rattle.noc_alloc.specs.Sparse.{AreBelow}
+use Rattle.noc_view.specs.States.{is_won_from}
+use Rattle.noc_view.specs.Verdict.{arbiters_after, out_of}
+use Rattle.noc_view.specs.View.{View, size_of, view_input, view_claim, claim_in, view_round, first_flit, flit_out, is_tail, mover, mover_to}
 use Rattle.noc_row_words.specs.Column.{sends_by}
 use Rattle.noc_row_blocks.specs.Moves.{some_below, union_from, of_one, selected_by, dry_by, turned_by}
 use Rattle.noc_row_words.specs.Turns.{in_turn}

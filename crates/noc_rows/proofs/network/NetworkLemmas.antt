@@ -1,12 +1,12 @@
 -- What the passes of a cycle rest on, for every network that was made, at every count.
 use Rattle.std.proofs.Common.{◌≡◌, ℕ, suc, ◌<◌, ◌≤◌, true, List, [], length, IfSome, refl, ap, sym, ◌∙◌, subst, arith}
-use Rattle.noc_topo.specs.Words.{tabulate}
+use Rattle.noc_topo.specs.Lists.{tabulate}
 use Rattle.noc_topo.specs.Shape.{nodes, ports, local_port, neighbour}
-use Rattle.noc_topo.proofs.WordLemmas.{get_or-tabulate, length-tabulate}
+use Rattle.noc_topo.proofs.ListLemmas.{get_or-tabulate, length-tabulate}
 use Rattle.noc_packet.specs.declared.packet.Beat.{Beat}
 use Rattle.noc_vc.specs.Output.{is_free}
-use Rattle.noc_router.specs.View.{Site, View, size_of, view_output, view_after_takes, view_after_inject, local_step}
-use Rattle.noc_router.specs.Verdict.{ArbiterStates}
+use Rattle.noc_view.specs.View.{Site, View, size_of, view_output, view_after_takes, view_after_inject, local_step}
+use Rattle.noc_view.specs.Verdict.{ArbiterStates}
 use Rattle.noc_theory.specs.declared.limits.TheConstants.{CYCLE_LIMIT}
 use Rattle.noc_theory.specs.Good.{IsGoodSetup}
 use Rattle.noc_theory.specs.Lockstep.{beats_at, beats_in, beat_by, view_in, view_at}
@@ -77,7 +77,7 @@ module _ (net : Setup) (setup : IsGoodSetup net) where
     pub frozen-size : HasSize frozen_view
     frozen-size = has-size net good (frozen_at net n) (steady-still n) r l frozen_view frozen-seen
 
-    pub frozen-full : (o : ℕ) → o < size_of frozen_view.site → is_free (view_output frozen_view o).holder ≡ true → IfSome (view_output frozen_view o).credit (λ k. k ≡ frozen_view.site.places)
+    pub frozen-full : (o : ℕ) → o < size_of frozen_view.site → is_free (view_output frozen_view o).holder ≡ true → IfSome (view_output frozen_view o).credit (λ k. k ≡ frozen_view.site.depth)
     frozen-full = full net good (frozen_at net n) (steady-still n) r l frozen_view frozen-seen
 
     pub frozen-arbiters : AreArbiters (ports net.relation.grid) net.relation.vcs frozen_view.arbiters

@@ -3,10 +3,10 @@ use Rattle.std.proofs.Common.{◌≡◌, ℕ, zero, suc, ◌+◌, ◌*◌, ◌%�
 use Rattle.std.proofs.Math.Nat.{mul-pos}
 use Rattle.std.proofs.lemmas.List.{get_or-replicate, length-replicate}
 use Rattle.noc_topo.specs.Shape.{nodes, ports}
-use Rattle.noc_topo.proofs.WordLemmas.{length-map_indexed, get_or-map_indexed}
+use Rattle.noc_topo.proofs.ListLemmas.{length-map_indexed, get_or-map_indexed}
 use Rattle.noc_alloc.specs.Arbiter.{RoundRobin, arbiter_at, arbiter_after, pointer_after}
 use Rattle.noc_alloc.specs.Allocation.{arbiters_after_winners, winning_pick}
-use Rattle.noc_router.specs.Verdict.{ArbiterStates, Round, arbiters_after, opening_arbiters}
+use Rattle.noc_view.specs.Verdict.{ArbiterStates, Round, arbiters_after, opening_arbiters}
 use Rattle.noc_theory.specs.Network.{Setup, arbiters_at, round_at, opening_state, after_verdicts, network_cycle, state_at, frozen_at}
 use Rattle.noc_theory.proofs.worms.OneBackLemmas.{arbiters-frozen, arbiters-state}
 

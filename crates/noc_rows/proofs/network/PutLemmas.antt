@@ -5,9 +5,9 @@ use Rattle.std.proofs.lemmas.Bool.{and_parts, cases_lt, false≢true}
 use Rattle.std.proofs.lemmas.List.{get_or_past}
 use Rattle.std.proofs.lemmas.Nat.{div-add-mod'}
 use Rattle.std.proofs.lemmas.Option.{none-some, same_Some}
-use Rattle.noc_topo.specs.Words.{is_some_of, tabulate}
+use Rattle.noc_topo.specs.Lists.{is_some_of, tabulate}
 use Rattle.noc_topo.specs.Shape.{ports, local_port}
-use Rattle.noc_topo.proofs.WordLemmas.{get_or-tabulate, length-tabulate}
+use Rattle.noc_topo.proofs.ListLemmas.{get_or-tabulate, length-tabulate}
 use Rattle.noc_packet.specs.Set.{has_bit}
 use Rattle.noc_packet.specs.declared.packet.Flit.{Flit}
 use Rattle.noc_packet.specs.declared.packet.Beat.{Beat}
@@ -19,16 +19,16 @@ use Rattle.noc_vc.specs.Input.{is_empty}
 use Rattle.noc_vc.specs.Output.{has_credit}
 use Rattle.noc_vc.specs.declared.input.InputState.{InputState}
 use Rattle.noc_vc.specs.declared.input.InputState.TheVariants.{Idle, Waiting, Active}
-use Rattle.noc_router.specs.Arrivals.{is_expected_in, arrivals_after}
-use Rattle.noc_router.specs.Standing.{is_won_from}
-use Rattle.noc_router.specs.Verdict.{Claim, Round, out_of, ready_of, ready_port, is_moved}
+use Rattle.noc_view.specs.Arrivals.{is_expected_in, arrivals_after}
+use Rattle.noc_view.specs.States.{is_won_from}
+use Rattle.noc_view.specs.Verdict.{Claim, Round, out_of, ready_of, ready_port, is_moved}
 use Rattle.noc_alloc.specs.Arbiter.{pointers_of}
-use Rattle.noc_router.specs.declared.verdict.Verdict.{Verdict}
-use Rattle.noc_router.specs.declared.verdict.Verdict.TheVariants.{Moved, Empty, NoFlit, Routed, NoIdleChannel, LostChannel, Granted, NoCredit, LostInput, LostSwitch}
-use Rattle.noc_router.specs.View.{Site, View, size_of, view_buffer, view_input, view_output, view_claim, claim_in, view_round, view_stands, first_flit, flit_out, idle_beat, beat_out, mover, decisions_of, view_after_commit, decided_verdict, with_arrival, with_misfit, tail_packet}
-use Rattle.noc_router.proofs.PlanLemmas.{Mover, Moves, claim-holds, lists_of_round, mover-is, moves-is, verdict-moved, decided-is, verdict_in, holds_flit}
-use Rattle.noc_router.proofs.SettleLemmas.{flit-first, port_below}
-use Rattle.noc_router.proofs.StandLemmas.{ready_of-stands}
+use Rattle.noc_view.specs.declared.verdict.Verdict.{Verdict}
+use Rattle.noc_view.specs.declared.verdict.Verdict.TheVariants.{Moved, Empty, NoFlit, Routed, NoIdleChannel, LostChannel, Granted, NoCredit, LostInput, LostSwitch}
+use Rattle.noc_view.specs.View.{Site, View, size_of, view_buffer, view_input, view_output, view_claim, claim_in, view_round, view_stands, first_flit, flit_out, idle_beat, beat_out, mover, decisions_of, view_after_commit, decided_verdict, with_arrival, with_misfit, tail_packet}
+use Rattle.noc_view.proofs.PlanLemmas.{Mover, Moves, claim-holds, lists_of_round, mover-is, moves-is, verdict-moved, decided-is, verdict_in, holds_flit}
+use Rattle.noc_view.proofs.MoverLemmas.{flit-first, port_below}
+use Rattle.noc_view.proofs.StandLemmas.{ready_of-stands}
 use Rattle.noc_row_words.specs.Taken.{HasSize}
 use Rattle.noc_rows.proofs.routers.CommittedLemmas.{buffer-committed}
 use Rattle.noc_rows.proofs.network.GiveBackLemmas.{credit-left}

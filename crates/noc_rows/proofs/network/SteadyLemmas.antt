@@ -3,14 +3,13 @@ use Rattle.std.proofs.Common.{◌≡◌, ℕ, zero, suc, ◌+◌, ◌*◌, ◌/�
 use Rattle.std.specs.Prelude.{option_map, ◌&&◌, ◌||◌, nat_lt}
 use Rattle.std.proofs.lemmas.Bool.{false≢true, true≢false, and_parts, le-ltb, ltb-false}
 use Rattle.std.proofs.lemmas.Option.{same_Some}
-use Rattle.noc_topo.specs.Words.{Has}
+use Rattle.noc_topo.specs.Lists.{Has, one_if}
 use Rattle.noc_topo.specs.Shape.{nodes, local_port, distance}
 use Rattle.noc_route.specs.Channel.{Channel, Link, Inject, Eject, sending_router, is_link, same_channel, output_index}
 use Rattle.noc_route.proofs.BuiltLemmas.{linked-port}
 use Rattle.noc_vc.specs.declared.input.InputState.TheVariants.{Idle, Waiting, Active}
 use Rattle.noc_vc.specs.declared.output.OutputState.TheVariants.{Owned, Draining}
-use Rattle.noc_counts.specs.Counts.{one_if}
-use Rattle.noc_router.specs.Verdict.{is_moved}
+use Rattle.noc_view.specs.Verdict.{is_moved}
 use Rattle.noc_theory.specs.Good.{places_taken}
 use Rattle.noc_theory.specs.Lockstep.{has_come, seen_phase, seen_phase_with, seen_holder, seen_source, seen_set}
 use Rattle.noc_theory.specs.Network.{Setup, State, Place, Source, On, In, Out, leaving, place_of_flit, tail_place, is_on, is_in, is_past, owner_of, leads_from, next_channel, verdict_in, is_released, after_verdicts, all_inputs, has_channel, opening_state, network_cycle, state_at, frozen_at}
@@ -46,7 +45,7 @@ module _ (net : Setup) (good : IsGood net) where
     pub worm : IsWorm net S.own (place_of_flit net S)
     pub routed : IsRoutedMid net S
     pub covered : IsCovered net S
-    pub room : (c : Channel) → places_taken net S c ≤ net.places
+    pub room : (c : Channel) → places_taken net S c ≤ net.depth
     pub low : (a u p : ℕ) → Has (Eject a u, p) S.own → u < net.relation.vcs
     -- the tail is past an owned link channel only while its last credit is on the way
     pub backed : (c : Channel) (p : ℕ) → IsHeld net S c p → is_link c ≡ true → is_past net c (goal net p) (tail_place net S p) ≡ true → has_channel S.back c ≡ true
@@ -108,7 +107,7 @@ module _ (net : Setup) (good : IsGood net) where
     owed = λ c e. absurd (false≢true (sym (x.no_credit c) ∙ e));
   }
     where
-      room : (c : Channel) → places_taken net F c ≤ net.places
+      room : (c : Channel) → places_taken net F c ≤ net.depth
       room c =
           let on = none-on net good.built F x.whole.sound.keyed x.whole.sound.worm 0 x.whole.sound.still c in
           let back : one_if (has_channel F.back c) ≡ 0 = ap one_if (x.no_credit c) in

@@ -5,7 +5,7 @@ use Rattle.std.proofs.lemmas.Bool.{false≢true, lt-ltb, le-ltb, eqb-true, eq-eq
 use Rattle.std.proofs.lemmas.List.{length-map}
 use Rattle.std.proofs.lemmas.Nat.{div-add-mod'}
 use Rattle.std.proofs.lemmas.Option.{none-some}
-use Rattle.noc_topo.specs.Words.{below, Has}
+use Rattle.noc_topo.specs.Lists.{below, Has, one_if}
 use Rattle.noc_topo.specs.Shape.{nodes, local_port}
 use Rattle.noc_packet.specs.Packet.{flit_at}
 use Rattle.noc_packet.specs.declared.packet.Flit.{Flit}
@@ -16,9 +16,8 @@ use Rattle.noc_vc.specs.declared.input.InputState.{InputState}
 use Rattle.noc_vc.specs.declared.input.InputState.TheVariants.{Idle, Waiting, Active}
 use Rattle.noc_vc.specs.declared.output.OutputState.{OutputState}
 use Rattle.noc_vc.specs.declared.output.OutputState.TheVariants.{Idle as Free, Owned, Draining}
-use Rattle.noc_counts.specs.Counts.{one_if}
-use Rattle.noc_router.specs.Sound.{owns, is_owned_from}
-use Rattle.noc_router.specs.View.{Site, View, size_of, view_buffer, view_output}
+use Rattle.noc_view.specs.States.{owns, is_owned_from}
+use Rattle.noc_view.specs.View.{Site, View, size_of, view_buffer, view_output}
 use Rattle.noc_theory.specs.Lockstep.{has_come, seen_flits, seen_input, seen_output, seen_phase_with, seen_holder, seen_source, goes_on_by}
 use Rattle.noc_theory.specs.Network.{Setup, State, Located, Place, Source, On, In, Out, size, arriving, leaving, packet_at, place_of_flit, tail_place, is_on, is_in, is_past, owner_of, next_channel, has_channel, count_in, count_on, credit_of, buffer_of}
 use Rattle.noc_theory.specs.Progress.{head_place}
@@ -71,7 +70,7 @@ module _ (net : Setup) (good : IsGood net) (S : State) (x : IsSteady net good S)
           let here : IsPlaced net S.own f.packet f.place = subst (λ (y : Place). IsPlaced net S.own f.packet y) (place-of-flit net S x.keyed f h.1) (x.worm.placed f.packet f.index (x.keyed.valid f h.1)) in
           absurd (none f.packet (placed f.packet f.place here h.2))
 
-  pub credits-full : (c : Channel) → owner_of net S c ≡ None → credit_of net S c ≡ net.places
+  pub credits-full : (c : Channel) → owner_of net S c ≡ None → credit_of net S c ≡ net.depth
   credits-full c e =
       let none : (p : ℕ) → Has (c, p) S.own → ⊥ = λ p h. idle-none net S c p e h in
       let a = unowned-on c none in
@@ -84,14 +83,14 @@ module _ (net : Setup) (good : IsGood net) (S : State) (x : IsSteady net good S)
       back true h none = let o = x.owed c h in absurd (none o.0 o.1)
 
   -- a link channel on which the tail of its owner was sent misses a credit
-  drained : (c : Channel) (p : ℕ) → Has (c, p) S.own → (IsEject c → ⊥) → is_link c ≡ true → (is_on c (tail_place net S p) || has_come net c (goal net p) (tail_place net S p)) ≡ true → credit_of net S c < net.places
+  drained : (c : Channel) (p : ℕ) → Has (c, p) S.own → (IsEject c → ⊥) → is_link c ≡ true → (is_on c (tail_place net S p) || has_come net c (goal net p) (tail_place net S p)) ≡ true → credit_of net S c < net.depth
   drained c p h goes link e = from (is_on c (tail_place net S p)) refl (is_in c (tail_place net S p)) refl (is_past net c (goal net p) (tail_place net S p)) refl e
     where
       tail : IsValid net p (last_of net p)
       tail = valid-last net good.built p (x.worm.known c p h)
 
       from : (a : Bool) → is_on c (tail_place net S p) ≡ a → (b : Bool) → is_in c (tail_place net S p) ≡ b → (d : Bool) → is_past net c (goal net p) (tail_place net S p) ≡ d
-          → (is_on c (tail_place net S p) || (is_in c (tail_place net S p) || is_past net c (goal net p) (tail_place net S p))) ≡ true → credit_of net S c < net.places
+          → (is_on c (tail_place net S p) || (is_in c (tail_place net S p) || is_past net c (goal net p) (tail_place net S p))) ≡ true → credit_of net S c < net.depth
       from true f b g d k e = let one = on-some c p (last_of net p) tail f in let room = x.room c in omega (arith, one, room)
       from false f true g d k e = let one = in-some net good S x c p (last_of net p) tail g in let room = x.room c in omega (arith, one, room)
       from false f false g true k e =
@@ -104,8 +103,8 @@ module _ (net : Setup) (good : IsGood net) (S : State) (x : IsSteady net good S)
     within : (i : ℕ) → i < size_of v.site → i < size net
     within i h = subst (λ (s : Site). i < size_of s) seen.site h
 
-    places : v.site.places ≡ net.places
-    places = ap (λ (s : Site). s.places) seen.site
+    places : v.site.depth ≡ net.depth
+    places = ap (λ (s : Site). s.depth) seen.site
 
     pub has-size : HasSize v
     has-size = record {
@@ -117,42 +116,42 @@ module _ (net : Setup) (good : IsGood net) (S : State) (x : IsSteady net good S)
 
     -- ---- buffers and credits
 
-    few : (c : Option Channel) → length (seen_flits net S c) ≤ net.places
+    few : (c : Option Channel) → length (seen_flits net S c) ≤ net.depth
     few None = omega arith
     few (Some c) =
         let n : length (seen_flits net S (Some c)) ≡ count_in net S c = length-map (buffer_of net S c) (λ (f : Located). flit_at (packet_at net f.packet) f.packet f.index) in
         let room = x.room c in
         omega (arith, n, room)
 
-    lens : (i : ℕ) → i < size_of v.site → length (view_buffer v i) ≤ v.site.places
+    lens : (i : ℕ) → i < size_of v.site → length (view_buffer v i) ≤ v.site.depth
     lens i h =
         let n : length (view_buffer v i) ≡ length (seen_flits net S (arriving net r i)) = ap length (seen.buffer i (within i h)) in
         let k = few (arriving net r i) in
         let p = places in
         omega (arith, n, k, p)
 
-    credits-at : (c : Channel) → IfSome (seen_output net S r c).credit (λ n. n ≤ v.site.places)
+    credits-at : (c : Channel) → IfSome (seen_output net S r c).credit (λ n. n ≤ v.site.depth)
     credits-at (Link a b w) = let p = places in omega (arith, p)
     credits-at (Inject a w) = tt
     credits-at (Eject a w) = tt
 
-    places-at : (c : Channel) → IfSome (seen_output net S r c).credit (λ n. (seen_output net S r c).places ≡ v.site.places)
+    places-at : (c : Channel) → IfSome (seen_output net S r c).credit (λ n. (seen_output net S r c).depth ≡ v.site.depth)
     places-at (Link a b w) = sym places
     places-at (Inject a w) = tt
     places-at (Eject a w) = tt
 
     abbrev Drains : Output → Type 0
-    Drains y = is_draining y.holder ≡ true → IfSome y.credit (λ n. n < v.site.places) × (is_some y.credit ≡ true)
+    Drains y = is_draining y.holder ≡ true → IfSome y.credit (λ n. n < v.site.depth) × (is_some y.credit ≡ true)
 
     drains-at : (c : Channel) → Drains (seen_output net S r c)
     drains-at (Link a b w) e = (at (owner_of net S (Link a b w)) refl e, refl)
       where
-        at : (o : Option ℕ) → owner_of net S (Link a b w) ≡ o → is_draining (seen_holder net S r (Link a b w) o) ≡ true → credit_of net S (Link a b w) < v.site.places
+        at : (o : Option ℕ) → owner_of net S (Link a b w) ≡ o → is_draining (seen_holder net S r (Link a b w) o) ≡ true → credit_of net S (Link a b w) < v.site.depth
         at None h f = absurd (false≢true f)
         at (Some p) h f = by (is_on (Link a b w) (tail_place net S p) || has_come net (Link a b w) (goal net p) (tail_place net S p)) refl f
           where
             by : (t : Bool) → (is_on (Link a b w) (tail_place net S p) || has_come net (Link a b w) (goal net p) (tail_place net S p)) ≡ t
-                → is_draining (cond t Draining (Owned (seen_source net S r (Link a b w)) p)) ≡ true → credit_of net S (Link a b w) < v.site.places
+                → is_draining (cond t Draining (Owned (seen_source net S r (Link a b w)) p)) ≡ true → credit_of net S (Link a b w) < v.site.depth
             by true t g =
                 let k = drained (Link a b w) p (owner-has net S (Link a b w) p h) (λ z. z) refl t in
                 let q = places in
@@ -182,17 +181,17 @@ module _ (net : Setup) (good : IsGood net) (S : State) (x : IsSteady net good S)
             ∙ sym (lt-ltb o (local_port net.relation.grid * net.relation.vcs) ((div-lt_iff_lt-mul {k = net.relation.vcs} {x = o} {y = local_port net.relation.grid} good.relation.table.some_vcs).0 p))
 
     -- all credits of a free link channel are there
-    pub full : (o : ℕ) → o < size_of v.site → is_free (view_output v o).holder ≡ true → IfSome (view_output v o).credit (λ n. n ≡ v.site.places)
-    full o h = subst (λ (y : Output). is_free y.holder ≡ true → IfSome y.credit (λ n. n ≡ v.site.places)) (sym (seen.output o (within o h))) (at (leaving net r o))
+    pub full : (o : ℕ) → o < size_of v.site → is_free (view_output v o).holder ≡ true → IfSome (view_output v o).credit (λ n. n ≡ v.site.depth)
+    full o h = subst (λ (y : Output). is_free y.holder ≡ true → IfSome y.credit (λ n. n ≡ v.site.depth)) (sym (seen.output o (within o h))) (at (leaving net r o))
       where
-        at : (c : Channel) → is_free (seen_output net S r c).holder ≡ true → IfSome (seen_output net S r c).credit (λ n. n ≡ v.site.places)
+        at : (c : Channel) → is_free (seen_output net S r c).holder ≡ true → IfSome (seen_output net S r c).credit (λ n. n ≡ v.site.depth)
         at (Link a b w) e = by (owner_of net S (Link a b w)) refl e
           where
             tell : (t : Bool) (i p : ℕ) → is_free (cond t Draining (Owned i p)) ≡ true → ⊥
             tell true i p g = false≢true g
             tell false i p g = false≢true g
 
-            by : (q : Option ℕ) → owner_of net S (Link a b w) ≡ q → is_free (seen_holder net S r (Link a b w) q) ≡ true → credit_of net S (Link a b w) ≡ v.site.places
+            by : (q : Option ℕ) → owner_of net S (Link a b w) ≡ q → is_free (seen_holder net S r (Link a b w) q) ≡ true → credit_of net S (Link a b w) ≡ v.site.depth
             by None k f = credits-full (Link a b w) k ∙ sym places
             by (Some p) k f = absurd (tell (is_on (Link a b w) (tail_place net S p) || has_come net (Link a b w) (goal net p) (tail_place net S p)) (seen_source net S r (Link a b w)) p f)
         at (Inject a w) e = tt
@@ -337,8 +336,8 @@ module _ (net : Setup) (good : IsGood net) (S : State) (x : IsSteady net good S)
     pub tidy : IsTidy v
     tidy = record {
       lens = lens;
-      credits = λ o h. subst (λ (y : Output). IfSome y.credit (λ n. n ≤ v.site.places)) (sym (seen.output o (within o h))) (credits-at (leaving net r o));
-      places = λ o h. subst (λ (y : Output). IfSome y.credit (λ n. y.places ≡ v.site.places)) (sym (seen.output o (within o h))) (places-at (leaving net r o));
+      credits = λ o h. subst (λ (y : Output). IfSome y.credit (λ n. n ≤ v.site.depth)) (sym (seen.output o (within o h))) (credits-at (leaving net r o));
+      places = λ o h. subst (λ (y : Output). IfSome y.credit (λ n. y.depth ≡ v.site.depth)) (sym (seen.output o (within o h))) (places-at (leaving net r o));
       drains = λ o h. subst (λ (y : Output). Drains y) (sym (seen.output o (within o h))) (drains-at (leaving net r o));
       links = λ o h. subst (λ (s : Site). is_some (view_output v o).credit ≡ nat_lt o (local_port s.grid * s.vcs)) (sym seen.site) (ap (λ (y : Output). is_some y.credit) (seen.output o (within o h)) ∙ links-at o (within o h));
       owners = λ i o h k.

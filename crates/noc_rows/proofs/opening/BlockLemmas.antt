@@ -8,7 +8,7 @@ use Rattle.std.proofs.lemmas.Option.{get_or_from_slice_get, slice_get-get_or, sl
 use Rattle.noc_topo.specs.Shape.{neighbour, nodes}
 use Rattle.noc_packet.specs.declared.packet.Packet.{Packet}
 use Rattle.noc_route.specs.Routes.{Routes}
-use Rattle.noc_theory.specs.Lockstep.{starts_of}
+use Rattle.noc_packet.specs.ByNode.{starts_of}
 use Rattle.noc_row_words.specs.Column.{place_of}
 use Rattle.noc_row_words.specs.Grants.{leads_by}
 use Rattle.noc_rows.specs.Opened.{AreOpenBlocks, AreStartsOf, HasOpened, IsEmptyBlock, IsEndFrom, HasLinksOf, IsOpenBlock, KeepsLinks, LeadsOut, no_source, opened_source, starts_list}
@@ -21,7 +21,7 @@ use Rattle.noc_row_words.specs.declared.frame.Frame.{Frame}
 use Rattle.noc_row_words.specs.declared.starts.Start.{Start}
 use Rattle.noc_rows.proofs.opening.ListedLemmas.{list-due, list-end, list-few, list-length}
 use Rattle.noc_rows.proofs.opening.OpenLemmas.{least-never, least-with}
-use Rattle.noc_rows.proofs.opening.StartLemmas.{starts-few}
+use Rattle.noc_packet.proofs.ByNodeLemmas.{starts-few}
 
 -- the routers below n are in their lanes, and the list of router n is at this place
 pub record ArePlaced (relation : Routes) (frame : Frame) (packets : List Packet) (count n queue : ℕ) (blocks : List Block) : Type 0 where

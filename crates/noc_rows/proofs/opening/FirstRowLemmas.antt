@@ -45,20 +45,20 @@ none-below test (suc n) none =
 
 -- a network is what it is built from
 pub same-setup : (net : Setup) (relation : Routes) (places : ℕ) (packets : List Packet)
-    → net.relation ≡ relation → net.places ≡ places → net.packets ≡ packets
-    → net ≡ record { relation = relation; places = places; packets = packets }
+    → net.relation ≡ relation → net.depth ≡ places → net.packets ≡ packets
+    → net ≡ record { relation = relation; depth = places; packets = packets }
 same-setup net relation places packets r n ps =
-    ap (λ (x : Routes). made x net.places net.packets) r
+    ap (λ (x : Routes). made x net.depth net.packets) r
     ∙ ap (λ x. made relation x net.packets) n
     ∙ ap (λ (xs : List Packet). made relation places xs) ps
   where
     made : Routes → ℕ → List Packet → Setup
-    made relation places packets = record { relation = relation; places = places; packets = packets }
+    made relation places packets = record { relation = relation; depth = places; packets = packets }
 
 -- what all rows before the first cycle are made of
 pub record AreFirstRows (net : Setup) (rows : Rows) : Type 0 where
   pub cycle : rows.cycle ≡ 0
-  pub frame : IsFrameOf net.relation net.places rows.frame
+  pub frame : IsFrameOf net.relation net.depth rows.frame
   pub starts : rows.starts.items ≡ starts_list net.packets rows.frame.nodes
   pub blocks : AreOpenBlocks net.relation rows.frame net.packets rows.blocks.items
   pub sheet : Sheet
@@ -80,7 +80,7 @@ module _ (net : Setup) (setup : IsGoodSetup net) where
       at-source net p ((packet_at net p).length - 1) (l, (let some = sent.some_flit in omega (arith, some))) in
       subst (λ (place : Place). ShowsArrival NEVER (out_cycle place)) (sym tail) refl
 
-  module _ (frame : Frame) (made : IsFrameOf net.relation net.places frame) (count b : ℕ) (block : Block) (sheet : Sheet) (inbox : Inbox) (room : ℕ)
+  module _ (frame : Frame) (made : IsFrameOf net.relation net.depth frame) (count b : ℕ) (block : Block) (sheet : Sheet) (inbox : Inbox) (room : ℕ)
       (counts : (j k : ℕ) → j < 32 → sheet_counts sheet j k ≡ no_counts) (cycles : cycles_of sheet ≡ 0)
       (opened : IsOpenBlock net.relation frame net.packets count frame.nodes b block) (none : IsOpenInbox inbox) where
     lane-opens : (k : ℕ) → k < 32 → b * 32 + k < nodes net.relation.grid
@@ -154,7 +154,7 @@ module _ (net : Setup) (setup : IsGoodSetup net) where
       flags : length rows.wires.busy.items ≡ length rows.blocks.items + 1
       flags = ap (λ (xs : List Bool). length xs) first.wires.busy ∙ length-replicate (min (length rows.blocks.items) 8 + 1) false ∙ omega (arith, few)
 
-      places : net.places ≤ room_of rows.wires.room
+      places : net.depth ≤ room_of rows.wires.room
       places =
           let few = first.frame.few_places in
           let are = first.frame.places_are in

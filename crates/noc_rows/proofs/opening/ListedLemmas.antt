@@ -6,15 +6,16 @@ use Rattle.std.proofs.Math.Seq.{get_or-append_seam, get_or-append_right}
 use Rattle.std.specs.List.{All}
 use Rattle.std.proofs.lemmas.Bool.{cases_eq}
 use Rattle.std.proofs.lemmas.List.{length-map, append-nil, get_or_append_left}
-use Rattle.noc_topo.specs.Words.{Has}
+use Rattle.noc_topo.specs.Lists.{Has}
 use Rattle.noc_packet.specs.Packet.{IsWithinLimits}
 use Rattle.noc_packet.specs.declared.packet.Packet.{Packet}
-use Rattle.noc_theory.specs.Lockstep.{starts_of}
+use Rattle.noc_packet.specs.ByNode.{starts_of}
 use Rattle.noc_rows.specs.Opened.{IsEndFrom, start_value, with_end, starts_list}
 use Rattle.noc_row_words.specs.Source.{HasFlitWords, ShowsQueue, due_of, start_in}
 use Rattle.noc_row_words.specs.declared.starts.Start.{Start}
 use Rattle.noc_row_words.specs.declared.starts.TheConstants.{NEVER, END}
-use Rattle.noc_rows.proofs.opening.StartLemmas.{all-starts-hold, start-has, starts-few}
+use Rattle.noc_theory.proofs.injection.StartLemmas.{all-starts-hold, start-has}
+use Rattle.noc_packet.proofs.ByNodeLemmas.{starts-few}
 
 -- one packet more of a queue
 pub more-starts : (queue : List (ℕ × Packet)) (i : ℕ) (one : ℕ × Packet) → i < length queue → map start_value (take (i + 1) queue) ≡ map start_value (take i queue) ++ start_value (get_or queue i one) ∷ []

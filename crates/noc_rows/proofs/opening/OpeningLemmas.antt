@@ -14,9 +14,9 @@ use Rattle.noc_alloc.specs.Arbiter.{RoundRobin, arbiter_at}
 use Rattle.noc_vc.specs.Input.{Input, idle_input, is_idle_phase}
 use Rattle.noc_vc.specs.Output.{Output, link_output, ejection_output}
 use Rattle.noc_vc.specs.declared.output.OutputState.TheVariants.{Idle as Free}
-use Rattle.noc_counts.specs.Counts.{one_if}
-use Rattle.noc_router.specs.Sound.{is_supplied}
-use Rattle.noc_router.specs.View.{Site, View, size_of, view_buffer, view_input, view_output, opening_view}
+use Rattle.noc_topo.specs.Lists.{one_if}
+use Rattle.noc_view.specs.States.{is_supplied}
+use Rattle.noc_view.specs.View.{Site, View, size_of, view_buffer, view_input, view_output, opening_view}
 use Rattle.noc_alloc.proofs.RequestLemmas.{at_replicate}
 use Rattle.noc_theory.specs.Good.{IsGoodSetup}
 use Rattle.noc_theory.specs.Lockstep.{site_at, starts_at, ends_at, view_at}
@@ -78,17 +78,17 @@ words-length (suc count) n = ap suc (words-length count (n / 2))
 zeros-number : (x : ℕ) → plane_number (0 ∷ 0 ∷ 0 ∷ 0 ∷ 0 ∷ []) x ≡ 0
 zeros-number x = rw (has_bit-zero x) refl
 
-module _ (site : Site) (starts : List (ℕ × Packet)) (ends : List ℕ) (m : RouterMarks) (links local : ℕ) (few : size_of site ≤ 31) (few_ports : ports site.grid ≤ 8) (small : site.places < 32) (sides : AreSides site.grid site.vcs links local) (marks : AreEmptyMarks m) where
+module _ (site : Site) (starts : List (ℕ × Packet)) (ends : List ℕ) (m : RouterMarks) (links local : ℕ) (few : size_of site ≤ 31) (few_ports : ports site.grid ≤ 8) (small : site.depth < 32) (sides : AreSides site.grid site.vcs links local) (marks : AreEmptyMarks m) where
   abbrev v : View
   v = opening_view site starts ends
 
   abbrev c : Column
-  c = empty_column links local (words_of 5 site.places)
+  c = empty_column links local (words_of 5 site.depth)
 
   words : AreWords 5 c
   words = record {
     len_bits = refl;
-    credit_bits = length-map (words_of 5 site.places) (λ plane. bit_and plane links) ∙ words-length 5 site.places;
+    credit_bits = length-map (words_of 5 site.depth) (λ plane. bit_and plane links) ∙ words-length 5 site.depth;
     waiting = omega arith;
     active = omega arith;
     len = (omega arith, (omega arith, (omega arith, (omega arith, (omega arith, tt)))));
@@ -97,7 +97,7 @@ module _ (site : Site) (starts : List (ℕ × Packet)) (ends : List ℕ) (m : Ro
     wanted = omega arith;
     idle = or_fits links local sides.link_fits sides.local_fits;
     draining = omega arith;
-    credit = among-fits (words_of 5 site.places) links (words-fit 5 site.places);
+    credit = among-fits (words_of 5 site.depth) links (words-fit 5 site.depth);
     injecting = omega arith;
   }
 
@@ -121,39 +121,39 @@ module _ (site : Site) (starts : List (ℕ × Packet)) (ends : List ℕ) (m : Ro
   abbrev n_links : ℕ
   n_links = local_port site.grid * site.vcs
 
-  output-is : (o : ℕ) → o < size_of site → ((o < n_links) × (view_output v o ≡ link_output site.places)) ⊎ (view_output v o ≡ ejection_output)
+  output-is : (o : ℕ) → o < size_of site → ((o < n_links) × (view_output v o ≡ link_output site.depth)) ⊎ (view_output v o ≡ ejection_output)
   output-is o l = at (cases_lt o n_links)
     where
-      many : length (replicate n_links (link_output site.places)) ≡ n_links
-      many = length-replicate n_links (link_output site.places)
+      many : length (replicate n_links (link_output site.depth)) ≡ n_links
+      many = length-replicate n_links (link_output site.depth)
 
-      at : (o < n_links) ⊎ (n_links ≤ o) → ((o < n_links) × (view_output v o ≡ link_output site.places)) ⊎ (view_output v o ≡ ejection_output)
+      at : (o < n_links) ⊎ (n_links ≤ o) → ((o < n_links) × (view_output v o ≡ link_output site.depth)) ⊎ (view_output v o ≡ ejection_output)
       at (inl u) = inl (
         u,
-        get_or_append_left (replicate n_links (link_output site.places)) (replicate site.vcs ejection_output) ejection_output o (omega (arith, u, many))
-            ∙ get_or-replicate n_links o (link_output site.places) ejection_output u,
+        get_or_append_left (replicate n_links (link_output site.depth)) (replicate site.vcs ejection_output) ejection_output o (omega (arith, u, many))
+            ∙ get_or-replicate n_links o (link_output site.depth) ejection_output u,
       )
       at (inr u) = inr
-          (get_or-append_right (replicate n_links (link_output site.places)) (replicate site.vcs ejection_output) n_links o ejection_output many u
+          (get_or-append_right (replicate n_links (link_output site.depth)) (replicate site.vcs ejection_output) n_links o ejection_output many u
           ∙ at_replicate ejection_output site.vcs (o - n_links))
 
   shows-output : (o : ℕ) → o < size_of site → ShowsOutput c o (view_output v o)
   shows-output o l = at (output-is o l)
     where
-      at : ((o < n_links) × (view_output v o ≡ link_output site.places)) ⊎ (view_output v o ≡ ejection_output) → ShowsOutput c o (view_output v o)
+      at : ((o < n_links) × (view_output v o ≡ link_output site.depth)) ⊎ (view_output v o ≡ ejection_output) → ShowsOutput c o (view_output v o)
       at (inl u) =
           subst (λ (y : Output). ShowsOutput c o y) (sym u.1)
           (record {
             idle = all-idle o l;
             draining = has_bit-zero o;
-            credit = among-number (words_of 5 site.places) links o (sides.link_is o ∙ lt-ltb o n_links u.0) ∙ words-number 5 site.places o (omega (arith, few, l)) small;
+            credit = among-number (words_of 5 site.depth) links o (sides.link_is o ∙ lt-ltb o n_links u.0) ∙ words-number 5 site.depth o (omega (arith, few, l)) small;
           })
       at (inr e) = subst (λ (y : Output). ShowsOutput c o y) (sym e) (record { idle = all-idle o l; draining = has_bit-zero o; credit = tt })
 
   holder-is : (o : ℕ) → o < size_of site → (view_output v o).holder ≡ Free
   holder-is o l = at (output-is o l)
     where
-      at : ((o < n_links) × (view_output v o ≡ link_output site.places)) ⊎ (view_output v o ≡ ejection_output) → (view_output v o).holder ≡ Free
+      at : ((o < n_links) × (view_output v o ≡ link_output site.depth)) ⊎ (view_output v o ≡ ejection_output) → (view_output v o).holder ≡ Free
       at (inl u) = ap (λ (y : Output). y.holder) u.1
       at (inr e) = ap (λ (y : Output). y.holder) e
 
@@ -204,12 +204,12 @@ module _ (site : Site) (starts : List (ℕ × Packet)) (ends : List ℕ) (m : Ro
   pub empty-shows : IsColumn 5 c m v
   empty-shows = record { words = words; channels = channels; turns = turns; marks = shows-marks; sending = refl }
 
-module _ (net : Setup) (setup : IsGoodSetup net) (r : ℕ) (l : r < nodes net.relation.grid) (m : RouterMarks) (links local : ℕ) (few : ports net.relation.grid * net.relation.vcs ≤ 31) (small : net.places < 32) (sides : AreSides net.relation.grid net.relation.vcs links local) (marks : AreEmptyMarks m) where
+module _ (net : Setup) (setup : IsGoodSetup net) (r : ℕ) (l : r < nodes net.relation.grid) (m : RouterMarks) (links local : ℕ) (few : ports net.relation.grid * net.relation.vcs ≤ 31) (small : net.depth < 32) (sides : AreSides net.relation.grid net.relation.vcs links local) (marks : AreEmptyMarks m) where
   few-ports : ports net.relation.grid ≤ 8
   few-ports = let d = setup.relation.table.grid.few_dimensions in omega (arith, d)
 
   -- the words of an empty router show the opening view of each router of a network
-  pub opening-shows : IsColumn 5 (empty_column links local (words_of 5 net.places)) m (view_at net 0 r)
+  pub opening-shows : IsColumn 5 (empty_column links local (words_of 5 net.depth)) m (view_at net 0 r)
   opening-shows =
-      subst (λ (v : View). IsColumn 5 (empty_column links local (words_of 5 net.places)) m v) (opens net (good net setup) r l)
+      subst (λ (v : View). IsColumn 5 (empty_column links local (words_of 5 net.depth)) m v) (opens net (good net setup) r l)
       (empty-shows (site_at net r) (starts_at net r) (ends_at net r) m links local few few-ports small sides marks)

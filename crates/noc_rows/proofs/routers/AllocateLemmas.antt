@@ -5,9 +5,9 @@ use Rattle.std.specs.Int.{trailing_zeros}
 use Rattle.std.proofs.lemmas.Bool.{cases_eq, cases_lt, eq-eqb, ne_eqb, eqb-true, false≢true, true≢false, and_parts}
 use Rattle.std.proofs.lemmas.Nat.{pow_below}
 use Rattle.std.proofs.lemmas.List.{get_or-map}
-use Rattle.noc_topo.specs.Words.{is_some_of}
+use Rattle.noc_topo.specs.Lists.{is_some_of}
 use Rattle.noc_topo.specs.Shape.{ports}
-use Rattle.noc_topo.proofs.WordLemmas.{get_or-tabulate, get_or-map_indexed}
+use Rattle.noc_topo.proofs.ListLemmas.{get_or-tabulate, get_or-map_indexed}
 use Rattle.noc_packet.specs.Set.{has_bit}
 use Rattle.noc_packet.proofs.SetLemmas.{has_bit-zero, both_members}
 use Rattle.noc_alloc.specs.Arbiter.{RoundRobin, first_in_turn, arbiter_at, arbiter_after, pointer_after, pointers_of}
@@ -17,12 +17,12 @@ use Rattle.noc_vc.specs.Input.{is_waiting}
 use Rattle.noc_vc.specs.Output.{is_free}
 use Rattle.noc_vc.specs.declared.input.InputState.{InputState}
 use Rattle.noc_vc.specs.declared.input.InputState.TheVariants.{Idle, Waiting, Active}
-use Rattle.noc_alloc.specs.Places.{AreBelow}
+use Rattle.noc_alloc.specs.Sparse.{AreBelow}
 use Rattle.noc_alloc.specs.Requests.{is_given}
-use Rattle.noc_router.specs.Verdict.{ask_of, asks_of, arbiters_after}
-use Rattle.noc_router.specs.View.{View, size_of, claim_in, view_claim, view_input, view_output, view_round, view_stands}
-use Rattle.noc_router.proofs.FindLemmas.{find-some}
-use Rattle.noc_router.proofs.StandLemmas.{asks_of-stands}
+use Rattle.noc_view.specs.Verdict.{ask_of, asks_of, arbiters_after}
+use Rattle.noc_view.specs.View.{View, size_of, claim_in, view_claim, view_input, view_output, view_round, view_stands}
+use Rattle.noc_view.proofs.FindLemmas.{find-some}
+use Rattle.noc_view.proofs.StandLemmas.{asks_of-stands}
 use Rattle.noc_row_words.specs.Bits.{less}
 use Rattle.noc_row_words.specs.Column.{Column, RouterMarks, IsColumn, Leads, ShowsPhase, sends_by}
 use Rattle.noc_row_words.specs.Fields.{ShowsPointer}

@@ -1,11 +1,11 @@
 -- Whether something came to a router, or was injected, before its verdicts.
 use Rattle.std.proofs.Common.{◌≡◌, ℕ, ◌+◌, ◌*◌, ◌<◌, Bool, true, false, List, [], ◌∷◌, length, Option, Some, None, refl, ap, sym, ◌∙◌, arith, inl, inr}
-use Rattle.std.specs.Prelude.{◌&&◌, ◌||◌, not, find, is_some, nat_eq, nat_le, nat_lt, option_map, if◌then◌else◌}
+use Rattle.std.specs.Prelude.{◌&&◌, ◌||◌, not, find, is_some, nat_eq, nat_le, nat_lt, option_map, if◌then◌else◌, slice_set}
 use Rattle.std.proofs.lemmas.Bool.{cases_eq, eq-eqb, false≢true, ne_eqb, true≢false}
 use Rattle.std.proofs.lemmas.Nat.{mul-add-lt}
 use Rattle.std.proofs.lemmas.Option.{same_Some}
 use Rattle.noc_topo.specs.Shape.{local_port, ports}
-use Rattle.noc_topo.specs.Words.{below}
+use Rattle.noc_topo.specs.Lists.{below}
 use Rattle.noc_packet.specs.Set.{has_bit}
 use Rattle.noc_packet.specs.Packet.{flit_at}
 use Rattle.noc_packet.specs.declared.packet.Beat.{Beat}
@@ -15,18 +15,17 @@ use Rattle.noc_packet.proofs.SetLemmas.{has_bit-zero, zero_from_none}
 use Rattle.noc_route.specs.Routes.{Routes}
 use Rattle.noc_vc.specs.Input.{fits}
 use Rattle.noc_vc.specs.Output.{credit_fits, output_after_credit}
-use Rattle.noc_router.specs.View.{View, begun_on, has_link, view_after_inject, view_after_inject_from, is_vacant, local_channel, size_of, view_after_take, view_after_takes_from, view_buffer, view_input, view_output, with_credit, with_flit, with_injected, with_landed, with_misfit}
+use Rattle.noc_view.specs.View.{View, begun_on, has_link, view_after_inject, view_after_inject_from, is_vacant, local_channel, size_of, view_after_take, view_after_takes_from, view_buffer, view_input, view_output, with_credit, with_flit, with_injected, with_landed, with_misfit}
 use Rattle.noc_theory.proofs.worms.GrantLemmas.{Has-below}
 use Rattle.noc_theory.proofs.worms.MemberLemmas.{find-has}
 use Rattle.noc_rows.specs.Injected.{injected_to, injection_from, injection_in}
-use Rattle.std.specs.Prelude.{slice_set}
 
 -- ---- beats that change nothing
 
 flit-quiet : (relation : Routes) (port : ℕ) (flit : Option (ℕ × Flit)) (v : View) → (with_flit relation port flit v).had_event ≡ false → (with_flit relation port flit v).misfits ≡ 0 → with_flit relation port flit v ≡ v
 flit-quiet relation port None v e m = refl
 flit-quiet relation port (Some (vc, f)) v e m =
-    at (has_link v.site port && nat_lt vc v.site.vcs && fits relation v.site.node port vc v.site.places (view_buffer v (port * v.site.vcs + vc)) (view_input v (port * v.site.vcs + vc)) f) e m
+    at (has_link v.site port && nat_lt vc v.site.vcs && fits relation v.site.node port vc v.site.depth (view_buffer v (port * v.site.vcs + vc)) (view_input v (port * v.site.vcs + vc)) f) e m
   where
     at : (b : Bool) → (if b then with_landed (port * v.site.vcs + vc) f v else with_misfit v).had_event ≡ false → (if b then with_landed (port * v.site.vcs + vc) f v else with_misfit v).misfits ≡ 0
         → (if b then with_landed (port * v.site.vcs + vc) f v else with_misfit v) ≡ v
@@ -75,7 +74,7 @@ injected-event n v = by v.queue v.sending
   where
     by : (queue : List (ℕ × Packet)) (sending : Option (ℕ × ℕ)) → (view_after_inject_from n queue sending (record v { given = n })).had_event ≡ (v.had_event || is_some (injection_from n queue sending v))
     by [] sending = or-off v.had_event
-    by ((number, p) ∷ rest) (Some (vc, index)) = room (nat_lt (length (view_buffer v (local_channel v.site vc))) v.site.places)
+    by ((number, p) ∷ rest) (Some (vc, index)) = room (nat_lt (length (view_buffer v (local_channel v.site vc))) v.site.depth)
       where
         room : (b : Bool) → (if b then with_injected vc index number p rest (record v { given = n }) else (record v { given = n })).had_event ≡ (v.had_event || is_some {T = ℕ × Flit} (if b then Some (vc, flit_at p number index) else None))
         room true = or-on v.had_event
@@ -102,7 +101,7 @@ one_where b one = if b then Some one else None
 -- a flit is injected into one
 pub injection-low : (n : ℕ) (queue : List (ℕ × Packet)) (sending : Option (ℕ × ℕ)) (v : View) (vc : ℕ) (f : Flit) → SendsLow v.site.vcs sending → injection_from n queue sending v ≡ Some (vc, f) → vc < v.site.vcs
 injection-low n [] sending v vc f low e = absurd (cc e)
-injection-low n ((number, p) ∷ rest) (Some (u, index)) v vc f low e = at (nat_lt (length (view_buffer v (local_channel v.site u))) v.site.places) e
+injection-low n ((number, p) ∷ rest) (Some (u, index)) v vc f low e = at (nat_lt (length (view_buffer v (local_channel v.site u))) v.site.depth) e
   where
     at : (b : Bool) → one_where b (u, flit_at p number index) ≡ Some (vc, f) → vc < v.site.vcs
     at true g = let same : u ≡ vc = ap (λ (one : ℕ × Flit). one.0) (same_Some (u, flit_at p number index) (vc, f) g) in omega (arith, low, same)

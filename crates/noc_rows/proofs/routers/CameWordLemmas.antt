@@ -5,13 +5,13 @@ use Rattle.std.proofs.lemmas.Bool.{cases_eq, eq-eqb, false≢true, ne_eqb}
 use Rattle.std.proofs.lemmas.Nat.{le_or_l, le_or_r}
 use Rattle.std.proofs.lemmas.Option.{same_Some}
 use Rattle.noc_topo.specs.Shape.{local_port, neighbour, nodes, ports}
-use Rattle.noc_topo.specs.Words.{tabulate}
-use Rattle.noc_topo.proofs.WordLemmas.{get_or-tabulate, length-tabulate}
+use Rattle.noc_topo.specs.Lists.{tabulate}
+use Rattle.noc_topo.proofs.ListLemmas.{get_or-tabulate, length-tabulate}
 use Rattle.noc_packet.specs.Set.{has_bit}
 use Rattle.noc_packet.specs.declared.packet.Flit.{Flit}
 use Rattle.noc_packet.proofs.SetLemmas.{zero_from_none}
 use Rattle.noc_vc.specs.Output.{Output, credit_fits, credit_fits_at, output_after_credit, output_with_credit}
-use Rattle.noc_router.specs.View.{Site, View, view_after_takes, local_channel, size_of, view_buffer, view_output}
+use Rattle.noc_view.specs.View.{Site, View, view_after_takes, local_channel, size_of, view_buffer, view_output}
 use Rattle.noc_theory.specs.declared.limits.TheConstants.{CYCLE_LIMIT}
 use Rattle.noc_theory.specs.Good.{IsGoodSetup}
 use Rattle.noc_theory.specs.Lockstep.{beat_by, beats_in, view_at, view_in}
@@ -61,7 +61,7 @@ raised-credit : (o : Output) → credit_fits o ≡ true → o ≡ output_after_c
 raised-credit o fits same = at o.credit refl
   where
     at : (credit : Option ℕ) → o.credit ≡ credit → ⊥
-    at None e = false≢true (sym (ap (credit_fits_at o.places) e) ∙ fits)
+    at None e = false≢true (sym (ap (credit_fits_at o.depth) e) ∙ fits)
     at (Some n) e =
         let more : Some n ≡ Some (n + 1) = sym e ∙ ap (λ (x : Output). x.credit) same ∙ ap (λ (c : Option ℕ). (output_with_credit o c).credit) e in
         let m : n ≡ n + 1 = same_Some n (n + 1) more in
@@ -146,10 +146,10 @@ module _ (net : Setup) (setup : IsGoodSetup net) (n r : ℕ) (l : r < nodes net.
   module _ (count links local room : ℕ) (starts : List Start) (m : RouterMarks) (old new : Block) (before after : Inbox) (k : ℕ) (ring : ℕ → List ℕ)
       (column : IsColumn count (column_at old.lanes k) m (view_at net n r)) (wires : ShowsWires (view_at net n r) (word before.flits k) (word before.credits k) ring (beats net setup n r l))
       (source : ShowsSource starts (source_at old.sources k) (view_at net n r))
-      (narrow : ports net.relation.grid * net.relation.vcs ≤ 31) (fits : net.places < 2 ^ count) (some_place : 0 < net.places)
+      (narrow : ports net.relation.grid * net.relation.vcs ≤ 31) (fits : net.depth < 2 ^ count) (some_place : 0 < net.depth)
       (is-local : (i : ℕ) → has_bit local i ≡ (nat_le (local_channel (view_at net n r).site 0) i && nat_lt i (size_of (view_at net n r).site)))
       (named : (o : ℕ) → m.owner o % 32 ≡ owner_in old.marks.owner k o)
-      (arrived : HasArrived (words_of count net.places) links local n room starts old new before after k) where
+      (arrived : HasArrived (words_of count net.depth) links local n room starts old new before after k) where
     abbrev c : Column
     c = column_at old.lanes k
 
@@ -160,10 +160,10 @@ module _ (net : Setup) (setup : IsGoodSetup net) (n r : ℕ) (l : r < nodes net.
     u = record (view_after_takes net.relation (beats net setup n r l) (view_at net n r)) { given = n }
 
     abbrev bits : List ℕ
-    bits = words_of count net.places
+    bits = words_of count net.depth
 
     abbrev went : ℕ
-    went = bit_or (lane_injected (words_of count net.places) (column_at old.lanes k)) (lowest (lane_begins local n (source_at old.sources k).due (column_at old.lanes k)))
+    went = bit_or (lane_injected (words_of count net.depth) (column_at old.lanes k)) (lowest (lane_begins local n (source_at old.sources k).due (column_at old.lanes k)))
 
     w_site : w.site ≡ v.site
     w_site = ap (λ (y : View). y.site) (beats-taken net setup n r l few).rest
@@ -180,7 +180,7 @@ module _ (net : Setup) (setup : IsGoodSetup net) (n r : ℕ) (l : r < nodes net.
       some = λ i e. let t = arrived.ups.some i e in (t.0, t.1, named t.0 ∙ t.2);
     }
 
-    goes : HasSent c starts s u (frozen_view net setup n r l) (lane_injected (words_of count net.places) c) (lane_begins local n s.due c) went (injection_in n w)
+    goes : HasSent c starts s u (frozen_view net setup n r l) (lane_injected (words_of count net.depth) c) (lane_begins local n s.due c) went (injection_in n w)
     unfolding view_at view_in
     goes =
         sent net.relation count c m (view_at net n r) (beats net setup n r l) n local starts s (word before.flits k) (word before.credits k) arrived.up ring column wires source

@@ -3,7 +3,7 @@ use Rattle.std.proofs.Common.{◌≡◌, ◌≢◌, ℕ, ◌/◌, ◌%◌, ◌^�
 use Rattle.std.specs.Prelude.{◌⊎◌, ◌&&◌, not, is_some, slice_index_or}
 use Rattle.std.proofs.lemmas.Bool.{cases_eq, cases_lt, true≢false, false≢true, and_parts}
 use Rattle.std.proofs.lemmas.Nat.{div_below, pow_below}
-use Rattle.noc_topo.specs.Words.{is_some_of}
+use Rattle.noc_topo.specs.Lists.{is_some_of}
 use Rattle.noc_topo.specs.Shape.{ports}
 use Rattle.noc_packet.specs.Set.{has_bit}
 use Rattle.noc_packet.specs.declared.packet.Flit.{Flit}
@@ -13,10 +13,10 @@ use Rattle.noc_route.specs.Routes.{Routes, IsRelation, width}
 use Rattle.noc_vc.specs.Output.{is_free}
 use Rattle.noc_vc.specs.declared.input.InputState.{InputState}
 use Rattle.noc_vc.specs.declared.input.InputState.TheVariants.{Idle, Waiting, Active}
-use Rattle.noc_alloc.specs.Places.{AreBelow}
+use Rattle.noc_alloc.specs.Sparse.{AreBelow}
 use Rattle.noc_alloc.specs.Requests.{is_given}
-use Rattle.noc_router.specs.Verdict.{ask_of, arbiters_after}
-use Rattle.noc_router.specs.View.{Site, View, size_of, view_buffer, view_claim, view_input, view_output, view_round, route_of}
+use Rattle.noc_view.specs.Verdict.{ask_of, arbiters_after}
+use Rattle.noc_view.specs.View.{Site, View, size_of, view_buffer, view_claim, view_input, view_output, view_round, route_of}
 use Rattle.noc_row_words.specs.Bits.{less}
 use Rattle.noc_row_words.specs.Column.{Column, RouterMarks, IsColumn, IsTidy, Leads, ShowsPhase, sends_by}
 use Rattle.noc_row_blocks.specs.Cycle.{AreTails, HasChosen, Surroundings}
@@ -43,9 +43,9 @@ pub record IsStill (relation : Routes) (frame : Frame) (x : Surroundings) (v : V
   pub narrow : width relation.grid relation.vcs ≤ 31
   pub tidy : IsTidy v
   pub size : HasSize v
-  pub full : (o : ℕ) → o < size_of v.site → is_free (view_output v o).holder ≡ true → IfSome (view_output v o).credit (λ k. k ≡ v.site.places)
+  pub full : (o : ℕ) → o < size_of v.site → is_free (view_output v o).holder ≡ true → IfSome (view_output v o).credit (λ k. k ≡ v.site.depth)
   pub arbiters : AreArbiters (ports v.site.grid) v.site.vcs v.arbiters
-  pub some_place : 0 < v.site.places
+  pub some_place : 0 < v.site.depth
   pub few : size_of v.site ≤ 31
   pub few_ports : ports v.site.grid ≤ 8
   pub ports_are : ports_of frame ≡ ports v.site.grid

@@ -3,21 +3,21 @@ use Rattle.std.proofs.Common.{◌≡◌, ℕ, ◌+◌, ◌*◌, ◌<◌, ◌≤�
 use Rattle.std.specs.Prelude.{◌&&◌, nat_lt, slice_set, if◌then◌else◌}
 use Rattle.std.proofs.lemmas.Bool.{true≢false}
 use Rattle.std.proofs.lemmas.List.{get_or-map, length-set}
-use Rattle.noc_topo.specs.Words.{tabulate}
+use Rattle.noc_topo.specs.Lists.{tabulate}
 use Rattle.noc_topo.specs.Shape.{ports, local_port}
-use Rattle.noc_topo.proofs.WordLemmas.{get_or-tabulate, get_or-map_indexed, length-tabulate}
+use Rattle.noc_topo.proofs.ListLemmas.{get_or-tabulate, get_or-map_indexed, length-tabulate}
 use Rattle.noc_packet.specs.Set.{has_bit}
 use Rattle.noc_packet.specs.declared.packet.Flit.{Flit}
 use Rattle.noc_packet.specs.declared.packet.Beat.{Beat}
 use Rattle.noc_route.specs.Routes.{Routes}
 use Rattle.noc_vc.specs.Input.{Input, idle_input, is_idle_phase, fits}
 use Rattle.noc_vc.specs.Output.{Output, ejection_output, credit_fits, output_after_credit}
-use Rattle.noc_router.specs.Arrivals.{is_expected_in, arrivals_after}
-use Rattle.noc_router.specs.Verdict.{arbiters_after, ask_of}
-use Rattle.noc_router.specs.declared.verdict.Verdict.{Verdict}
-use Rattle.noc_router.specs.declared.verdict.Verdict.TheVariants.{Empty, Routed, Granted, Moved, NoFlit, NoIdleChannel, LostChannel, NoCredit, LostInput, LostSwitch}
-use Rattle.noc_router.specs.declared.verdict.Finding.{Finding}
-use Rattle.noc_router.specs.View.{View, Decisions, size_of, has_link, view_buffer, view_input, view_output, view_round, finding_of, decisions_of, view_after_commit, decided_verdict, view_claim, first_flit, granted_to, sent_from, buffer_after, input_after, output_after, with_arrival, with_misfit, with_landed, with_flit, with_credit, view_after_take, view_after_takes_from, view_after_takes, tail_packet, flit_out, local_step}
+use Rattle.noc_view.specs.Arrivals.{is_expected_in, arrivals_after}
+use Rattle.noc_view.specs.Verdict.{arbiters_after, ask_of}
+use Rattle.noc_view.specs.declared.verdict.Verdict.{Verdict}
+use Rattle.noc_view.specs.declared.verdict.Verdict.TheVariants.{Empty, Routed, Granted, Moved, NoFlit, NoIdleChannel, LostChannel, NoCredit, LostInput, LostSwitch}
+use Rattle.noc_view.specs.declared.finding.Finding.{Finding}
+use Rattle.noc_view.specs.View.{View, Decisions, size_of, has_link, view_buffer, view_input, view_output, view_round, finding_of, decisions_of, view_after_commit, decided_verdict, view_claim, first_flit, granted_to, sent_from, buffer_after, input_after, output_after, with_arrival, with_misfit, with_landed, with_flit, with_credit, view_after_take, view_after_takes_from, view_after_takes, tail_packet, flit_out, local_step}
 use Rattle.noc_row_words.specs.Taken.{HasTaken, HasSize, flit_from, credit_from}
 use Rattle.noc_row_words.specs.Column.{Column, AreWords, ShowsInput}
 use Rattle.noc_row_words.specs.declared.fields.Fields.{Fields}
@@ -114,7 +114,7 @@ KeepsSize v w = (w.site ≡ v.site) × (length w.buffers ≡ length v.buffers) �
 keeps-flit : (relation : Routes) (port : ℕ) (flit : Option (ℕ × Flit)) (v : View) → KeepsSize v (with_flit relation port flit v)
 keeps-flit relation port None v = (refl, refl, refl, refl)
 keeps-flit relation port (Some (vc, f)) v =
-    at (has_link v.site port && nat_lt vc v.site.vcs && fits relation v.site.node port vc v.site.places (view_buffer v (port * v.site.vcs + vc)) (view_input v (port * v.site.vcs + vc)) f)
+    at (has_link v.site port && nat_lt vc v.site.vcs && fits relation v.site.node port vc v.site.depth (view_buffer v (port * v.site.vcs + vc)) (view_input v (port * v.site.vcs + vc)) f)
   where
     at : (b : Bool) → KeepsSize v (if b then with_landed (port * v.site.vcs + vc) f v else with_misfit v)
     at true = (refl, length-set v.buffers (port * v.site.vcs + vc) _, length-set v.inputs (port * v.site.vcs + vc) _, refl)

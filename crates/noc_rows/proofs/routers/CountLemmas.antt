@@ -3,19 +3,18 @@ use Rattle.std.proofs.Common.{◌≡◌, ℕ, ◌+◌, ◌-◌, ◌%◌, ◌^◌
 use Rattle.std.specs.Prelude.{find, not, nat_eq, nat_le, nat_lt, slice_index, slice_index_or, slice_set, if◌then◌else◌}
 use Rattle.std.proofs.lemmas.Bool.{lt-ltb}
 use Rattle.noc_topo.specs.Shape.{local_port, ports}
-use Rattle.noc_topo.proofs.WordLemmas.{get_or-map_indexed}
+use Rattle.noc_topo.proofs.ListLemmas.{get_or-map_indexed}
 use Rattle.noc_packet.specs.declared.packet.Beat.{Beat}
 use Rattle.noc_packet.specs.declared.packet.Packet.{Packet}
-use Rattle.noc_topo.specs.Words.{below}
+use Rattle.noc_topo.specs.Lists.{below, one_if}
 use Rattle.noc_route.specs.Routes.{Routes}
 use Rattle.noc_packet.specs.Set.{has_bit}
-use Rattle.noc_router.specs.Arrivals.{is_expected_in, arrivals_after}
-use Rattle.noc_counts.specs.Counts.{one_if}
-use Rattle.noc_router.specs.Verdict.{column}
-use Rattle.noc_router.specs.VerdictSets.{verdict_by, sets_with}
-use Rattle.noc_router.specs.View.{Site, View, Decisions, size_of, counts_after, view_after_commit, decisions_of, view_after_inject, view_after_inject_from, with_injected, begun_on, is_vacant, local_channel, view_buffer, view_after_takes, local_step, decided_verdict, has_event, with_arrival, with_misfit, tail_packet, flit_out}
-use Rattle.noc_router.specs.declared.verdict.Verdict.{Verdict}
-use Rattle.noc_router.specs.declared.verdict_sets.VerdictSets.{VerdictSets}
+use Rattle.noc_view.specs.Arrivals.{is_expected_in, arrivals_after}
+use Rattle.noc_view.specs.Verdict.{column}
+use Rattle.noc_view.specs.VerdictSets.{verdict_by, sets_with}
+use Rattle.noc_view.specs.View.{Site, View, Decisions, size_of, counts_after, view_after_commit, decisions_of, view_after_inject, view_after_inject_from, with_injected, begun_on, is_vacant, local_channel, view_buffer, view_after_takes, local_step, decided_verdict, has_event, with_arrival, with_misfit, tail_packet, flit_out}
+use Rattle.noc_view.specs.declared.verdict.Verdict.{Verdict}
+use Rattle.noc_view.specs.declared.sets.VerdictSets.{VerdictSets}
 use Rattle.noc_row_words.specs.Tallied.{nine_counts, ten_counts, with_verdicts, ShowsCounts, ShowsLastEvent}
 use Rattle.noc_row_words.specs.declared.sheet.VerdictCounts.{VerdictCounts}
 use Rattle.noc_row_words.specs.Bits.{less}
@@ -215,7 +214,7 @@ injected-keeps n v = by v.queue v.sending
   where
     by : (queue : List (ℕ × Packet)) (sending : Option (ℕ × ℕ)) → Keeps n v (view_after_inject_from n queue sending (record v { given = n }))
     by [] sending = (refl, refl, refl)
-    by ((number, p) ∷ rest) (Some (vc, index)) = room (nat_lt (length (view_buffer v (local_channel v.site vc))) v.site.places)
+    by ((number, p) ∷ rest) (Some (vc, index)) = room (nat_lt (length (view_buffer v (local_channel v.site vc))) v.site.depth)
       where
         room : (b : Bool) → Keeps n v (if b then with_injected vc index number p rest (record v { given = n }) else record v { given = n })
         room true = (refl, refl, refl)

@@ -6,7 +6,7 @@ use Rattle.noc_theory.specs.Good.{IsGoodSetup}
 use Rattle.noc_theory.specs.Lockstep.{view_at, site_at}
 use Rattle.noc_theory.specs.Network.{Setup, frozen_at}
 use Rattle.noc_packet.specs.declared.packet.Flit.{Flit}
-use Rattle.noc_router.specs.View.{Site, View, size_of, view_buffer, decisions_of, view_after_commit}
+use Rattle.noc_view.specs.View.{Site, View, size_of, view_buffer, decisions_of, view_after_commit}
 use Rattle.noc_row_words.specs.Column.{Column, RouterMarks, IsColumn, Leads}
 use Rattle.noc_row_blocks.specs.Cycle.{AreTails, HasCycled, Surroundings}
 use Rattle.noc_row_words.specs.FlitWords.{FitsWord, flit_word}
@@ -32,13 +32,13 @@ module _ (net : Setup) (setup : IsGoodSetup net) (n r : ℕ) (l : r < nodes net.
   site-is : (frozen_view net setup n r l).site ≡ site_at net r
   site-is = (frozen-seen net setup n r l).site
 
-  ports-are : (frame : Frame) → IsFrameOf net.relation net.places frame → (ports_of frame ≡ ports net.relation.grid) × (ports net.relation.grid ≤ 8)
+  ports-are : (frame : Frame) → IsFrameOf net.relation net.depth frame → (ports_of frame ≡ ports net.relation.grid) × (ports net.relation.grid ≤ 8)
   ports-are frame is_frame =
       let few = (good net setup).relation.table.grid.few_dimensions in
       let links = is_frame.links_are in
       (omega (arith, few, links), omega (arith, few))
 
-  pub still : (frame : Frame) (x : Surroundings) → IsFrameOf net.relation net.places frame → x.node ≡ r
+  pub still : (frame : Frame) (x : Surroundings) → IsFrameOf net.relation net.depth frame → x.node ≡ r
       → ((o : ℕ) → o < size_of (frozen_view net setup n r l).site → Leads (frozen_view net setup n r l).site o (x.place o))
       → AreFilled (frozen_view net setup n r l) x.filled
       → ((i : ℕ) → i < size_of (frozen_view net setup n r l).site → x.ring i ≡ map flit_word (view_buffer (frozen_view net setup n r l) i))
@@ -51,7 +51,7 @@ module _ (net : Setup) (setup : IsGoodSetup net) (n r : ℕ) (l : r < nodes net.
     size = frozen-size net setup n r l;
     full = frozen-full net setup n r l;
     arbiters = subst (λ (s : Site). AreArbiters (ports s.grid) s.vcs (frozen_view net setup n r l).arbiters) (sym site-is) (frozen-arbiters net setup n r l);
-    some_place = subst (λ (s : Site). 0 < s.places) (sym site-is) setup.some_place;
+    some_place = subst (λ (s : Site). 0 < s.depth) (sym site-is) setup.some_depth;
     few = subst (λ (s : Site). size_of s ≤ 31) (sym site-is) is_frame.few;
     few_ports = subst (λ (s : Site). ports s.grid ≤ 8) (sym site-is) (ports-are frame is_frame).1;
     ports_are = (ports-are frame is_frame).0 ∙ ap (λ (s : Site). ports s.grid) (sym site-is);
@@ -70,7 +70,7 @@ module _ (net : Setup) (setup : IsGoodSetup net) (n r : ℕ) (l : r < nodes net.
 
   -- the words of a router that showed its frozen state show its view at the next count, once what the cycle decides has taken effect
   pub column-after : (frame : Frame) (x : Surroundings) (a b : Allocation) (routes routes_after : List ℕ) (e : Effects) (c : Column) (w : RouterMarks)
-      → n < CYCLE_LIMIT → IsFrameOf net.relation net.places frame → x.node ≡ r
+      → n < CYCLE_LIMIT → IsFrameOf net.relation net.depth frame → x.node ≡ r
       → ((o : ℕ) → o < size_of (frozen_view net setup n r l).site → Leads (frozen_view net setup n r l).site o (x.place o))
       → IsColumn 5 a.column a.marks (frozen_view net setup n r l) → AreFilled (frozen_view net setup n r l) x.filled
       → ((i : ℕ) → i < size_of (frozen_view net setup n r l).site → x.ring i ≡ map flit_word (view_buffer (frozen_view net setup n r l) i))

@@ -8,10 +8,9 @@ use Rattle.noc_alloc.specs.Arbiter.{arbiter_at}
 use Rattle.noc_route.specs.Routes.{Routes}
 use Rattle.noc_vc.specs.Input.{is_active, is_empty}
 use Rattle.noc_alloc.specs.Requests.{is_given}
-use Rattle.noc_router.specs.Sound.{is_supplied}
-use Rattle.noc_router.specs.Standing.{is_won_from}
-use Rattle.noc_router.specs.Verdict.{ask_of}
-use Rattle.noc_router.specs.View.{View, size_of, view_buffer, view_input, view_claim, view_round, first_flit, decisions_of, view_after_commit, is_tail}
+use Rattle.noc_view.specs.States.{is_supplied, is_won_from}
+use Rattle.noc_view.specs.Verdict.{ask_of}
+use Rattle.noc_view.specs.View.{View, size_of, view_buffer, view_input, view_claim, view_round, first_flit, decisions_of, view_after_commit, is_tail}
 use Rattle.noc_row_words.specs.Bits.{less}
 use Rattle.noc_row_words.specs.Fields.{IsFields, ShowsPointer}
 use Rattle.noc_row_words.specs.declared.fields.Fields.{Fields}

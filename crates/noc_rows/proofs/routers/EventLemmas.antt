@@ -5,15 +5,15 @@ use Rattle.std.specs.List.{list_any}
 use Rattle.std.proofs.lemmas.Bool.{cases_eq, cases_lt, eq-eqb, ne_eqb, false≢true, true≢false}
 use Rattle.std.proofs.lemmas.List.Folds.{list_any_at}
 use Rattle.noc_topo.specs.Shape.{ports}
-use Rattle.noc_topo.specs.Words.{tabulate}
-use Rattle.noc_topo.proofs.WordLemmas.{get_or-tabulate, length-tabulate}
+use Rattle.noc_topo.specs.Lists.{tabulate}
+use Rattle.noc_topo.proofs.ListLemmas.{get_or-tabulate, length-tabulate}
 use Rattle.noc_packet.specs.Set.{has_bit}
 use Rattle.noc_packet.proofs.SetLemmas.{has_bit-zero, zero_from_none}
 use Rattle.noc_route.specs.Routes.{Routes}
-use Rattle.noc_alloc.specs.Places.{AreBelow}
-use Rattle.noc_router.specs.Verdict.{is_event}
-use Rattle.noc_router.specs.View.{View, size_of, view_round, finding_of, decisions_of, has_event}
-use Rattle.noc_router.specs.declared.verdict.Finding.{Finding}
+use Rattle.noc_alloc.specs.Sparse.{AreBelow}
+use Rattle.noc_view.specs.Verdict.{is_event}
+use Rattle.noc_view.specs.View.{View, size_of, view_round, finding_of, decisions_of, has_event}
+use Rattle.noc_view.specs.declared.finding.Finding.{Finding}
 use Rattle.noc_row_words.specs.Bits.{less}
 use Rattle.noc_row_words.specs.Column.{Column, AreWords, ShowsChannels}
 use Rattle.noc_row_words.specs.Fields.{IsFields}

@@ -4,7 +4,7 @@ use Rattle.std.specs.Prelude.{◌&&◌, ◌||◌, not, is_some, nat_eq, nat_lt, 
 use Rattle.std.specs.Int.{bit_not, w32}
 use Rattle.std.proofs.lemmas.Bool.{eq-eqb, eqb-true, lt-ltb, true≢false, false≢true, and_parts}
 use Rattle.noc_topo.specs.Shape.{ports}
-use Rattle.noc_topo.proofs.WordLemmas.{get_or-tabulate}
+use Rattle.noc_topo.proofs.ListLemmas.{get_or-tabulate}
 use Rattle.noc_packet.specs.Set.{has_bit}
 use Rattle.noc_packet.specs.declared.packet.Flit.{Flit}
 use Rattle.noc_packet.proofs.SetLemmas.{both_members, either_members, has_bit-zero}
@@ -16,10 +16,10 @@ use Rattle.noc_vc.specs.declared.input.InputState.TheVariants.{Idle, Waiting, Ac
 use Rattle.noc_vc.specs.declared.output.OutputState.{OutputState}
 use Rattle.noc_vc.specs.declared.output.OutputState.TheVariants.{Idle as Free, Owned, Draining}
 use Rattle.noc_alloc.specs.Requests.{is_given}
-use Rattle.noc_router.specs.Sound.{is_owned_from, is_supplied, owns}
-use Rattle.noc_router.specs.Verdict.{ask_of}
-use Rattle.noc_router.specs.declared.verdict.Verdict.{Verdict}
-use Rattle.noc_router.specs.View.{View, size_of, view_buffer, view_claim, claim_in, view_input, view_output, view_round, first_flit, is_tail, mover_to, decisions_of, view_after_commit, decided_verdict, input_after, held_by, spent_by, sent_from, granted_to, route_of}
+use Rattle.noc_view.specs.States.{is_owned_from, is_supplied, owns}
+use Rattle.noc_view.specs.Verdict.{ask_of}
+use Rattle.noc_view.specs.declared.verdict.Verdict.{Verdict}
+use Rattle.noc_view.specs.View.{View, size_of, view_buffer, view_claim, claim_in, view_input, view_output, view_round, first_flit, is_tail, mover_to, decisions_of, view_after_commit, decided_verdict, input_after, held_by, spent_by, sent_from, granted_to, route_of}
 use Rattle.noc_row_words.specs.Bits.{less}
 use Rattle.noc_row_words.specs.Column.{IsColumn, RouterMarks}
 use Rattle.noc_row_blocks.specs.Cycle.{HasSwitched, Surroundings, chosen_by, single_in}
@@ -268,7 +268,7 @@ module _ (relation : Routes) (frame : Frame) (x : Surroundings) (v : View) (stil
           let none = ((says-out relation frame x v still a b outs shows put w e supplied switched heads_are granted_are o lo).free (ap is_some eg)).1 in
           ap has_credit (output-by o (Some k) None lo eg none) ∙ at (view_output v o).credit (still.full o lo free)
         where
-          at : (credit : Option ℕ) → IfSome credit (λ n. n ≡ v.site.places) → has_credit_at credit ≡ true
+          at : (credit : Option ℕ) → IfSome credit (λ n. n ≡ v.site.depth) → has_credit_at credit ≡ true
           at None h = refl
           at (Some n) h = let some = still.some_place in lt-ltb 0 n (omega (arith, some, h))
 

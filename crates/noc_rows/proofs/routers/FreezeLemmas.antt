@@ -17,10 +17,10 @@ use Rattle.noc_vc.specs.declared.input.InputState.{InputState}
 use Rattle.noc_vc.specs.declared.output.OutputState.{OutputState}
 use Rattle.noc_vc.specs.declared.input.InputState.TheVariants.{Idle, Waiting, Active}
 use Rattle.noc_vc.specs.declared.output.OutputState.TheVariants.{Idle as Free, Owned, Draining}
-use Rattle.noc_counts.specs.Counts.{one_if}
-use Rattle.noc_alloc.specs.Places.{AreBelow}
-use Rattle.noc_router.specs.Sound.{is_owned_from, is_supplied, owns}
-use Rattle.noc_router.specs.View.{Site, View, size_of, local_channel, view_buffer, view_input, view_output, view_after_takes, view_after_inject, view_after_inject_from}
+use Rattle.noc_topo.specs.Lists.{one_if}
+use Rattle.noc_alloc.specs.Sparse.{AreBelow}
+use Rattle.noc_view.specs.States.{is_owned_from, is_supplied, owns}
+use Rattle.noc_view.specs.View.{Site, View, size_of, local_channel, view_buffer, view_input, view_output, view_after_takes, view_after_inject, view_after_inject_from}
 use Rattle.noc_row_words.specs.Bits.{differ, lowest, negation}
 use Rattle.noc_row_words.specs.Column.{Column, RouterMarks, IsColumn, IsTidy, ShowsHolder, ShowsInput, ShowsOutput, ShowsSending, ShowsWires}
 use Rattle.noc_row_words.specs.FlitWords.{flit_word}
@@ -81,7 +81,7 @@ pub record ShowsFrozen (count : ℕ) (c : Column) (m : RouterMarks) (y : View) (
 module _ (relation : Routes) (count : ℕ) (c : Column) (m : RouterMarks) (v : View) (beats : List Beat) (n local : ℕ) (starts : List Start) (s : Source) (flits credits up : ℕ) (ring : ℕ → List ℕ)
     (column : IsColumn count c m v) (wires : ShowsWires v flits credits ring beats) (source : ShowsSource starts s v) (tidy : IsTidy v) (size : HasSize v)
     (taken : HasTaken relation v (view_after_takes relation beats v) (flit_from v.site.vcs 0 beats) (credit_from v.site.vcs 0 beats))
-    (few : size_of v.site ≤ 31) (room : v.site.places < 2 ^ count) (some_place : 0 < v.site.places) (short : length beats ≤ local_port v.site.grid) (now : n < NEVER)
+    (few : size_of v.site ≤ 31) (room : v.site.depth < 2 ^ count) (some_place : 0 < v.site.depth) (short : length beats ≤ local_port v.site.grid) (now : n < NEVER)
     (is-local : (i : ℕ) → has_bit local i ≡ (nat_le (local_channel v.site 0) i && nat_lt i (size_of v.site)))
     (ups : AreOwners (lane_raised credits c) (λ o. m.owner o % 32) up) (up_fits : up < 2 ^ 32) where
   abbrev w : View
@@ -94,16 +94,16 @@ module _ (relation : Routes) (count : ℕ) (c : Column) (m : RouterMarks) (v : V
   u = record (view_after_takes relation beats v) { given = n }
 
   abbrev bits : List ℕ
-  bits = words_of count v.site.places
+  bits = words_of count v.site.depth
 
   abbrev begins : ℕ
   begins = lane_begins local n s.due c
 
   abbrev went : ℕ
-  went = bit_or (lane_injected (words_of count v.site.places) c) (lowest (lane_begins local n s.due c))
+  went = bit_or (lane_injected (words_of count v.site.depth) c) (lowest (lane_begins local n s.due c))
 
   abbrev frozen : Column
-  frozen = frozen_column (words_of count v.site.places) credits up flits (lane_begins local n s.due c) (bit_or (lane_injected (words_of count v.site.places) c) (lowest (lane_begins local n s.due c))) (begun_source starts (lane_begins local n s.due c) s).left c
+  frozen = frozen_column (words_of count v.site.depth) credits up flits (lane_begins local n s.due c) (bit_or (lane_injected (words_of count v.site.depth) c) (lowest (lane_begins local n s.due c))) (begun_source starts (lane_begins local n s.due c) s).left c
 
   site : w.site ≡ v.site
   site = ap (λ (y : View). y.site) taken.rest
@@ -137,20 +137,20 @@ module _ (relation : Routes) (count : ℕ) (c : Column) (m : RouterMarks) (v : V
   phase_w i l = ap (λ (y : Input). y.phase) (taken.input i l) ∙ phase-kept (view_input v i) (flit_from v.site.vcs 0 beats i)
 
   -- what the source has injected
-  pub sent : HasSent c starts s u x (lane_injected (words_of count v.site.places) c) (lane_begins local n s.due c) (bit_or (lane_injected (words_of count v.site.places) c) (lowest (lane_begins local n s.due c))) (injection_in n w)
+  pub sent : HasSent c starts s u x (lane_injected (words_of count v.site.depth) c) (lane_begins local n s.due c) (bit_or (lane_injected (words_of count v.site.depth) c) (lowest (lane_begins local n s.due c))) (injection_in n w)
   sent =
-      subst (λ (y : View). HasSent c starts s u y (lane_injected (words_of count v.site.places) c) (lane_begins local n s.due c) (bit_or (lane_injected (words_of count v.site.places) c) (lowest (lane_begins local n s.due c))) (injection_in n w)) (sym (injected-is n w))
-      (subst (λ (o : Option (ℕ × Flit)). HasSent c starts s u (view_after_inject_from n w.queue w.sending u) (lane_injected (words_of count v.site.places) c) (lane_begins local n s.due c) (bit_or (lane_injected (words_of count v.site.places) c) (lowest (lane_begins local n s.due c))) o) (given-same n w.queue w.sending w)
-      (subst (λ (k : ℕ). HasSent c starts s u (view_after_inject_from n w.queue w.sending u) (lane_injected (words_of count k) c) (lane_begins local n s.due c) (bit_or (lane_injected (words_of count k) c) (lowest (lane_begins local n s.due c))) (injection_from n w.queue w.sending u)) (ap (λ (t : Site). t.places) site)
+      subst (λ (y : View). HasSent c starts s u y (lane_injected (words_of count v.site.depth) c) (lane_begins local n s.due c) (bit_or (lane_injected (words_of count v.site.depth) c) (lowest (lane_begins local n s.due c))) (injection_in n w)) (sym (injected-is n w))
+      (subst (λ (o : Option (ℕ × Flit)). HasSent c starts s u (view_after_inject_from n w.queue w.sending u) (lane_injected (words_of count v.site.depth) c) (lane_begins local n s.due c) (bit_or (lane_injected (words_of count v.site.depth) c) (lowest (lane_begins local n s.due c))) o) (given-same n w.queue w.sending w)
+      (subst (λ (k : ℕ). HasSent c starts s u (view_after_inject_from n w.queue w.sending u) (lane_injected (words_of count k) c) (lane_begins local n s.due c) (bit_or (lane_injected (words_of count k) c) (lowest (lane_begins local n s.due c))) (injection_from n w.queue w.sending u)) (ap (λ (t : Site). t.depth) site)
       (sent-by count c starts s u n local column.words source.few now
       (subst (λ (t : Site). size_of t ≤ 32) (sym site) (omega (arith, few)))
-      (subst (λ (t : Site). t.places < 2 ^ count) (sym site) room)
-      (subst (λ (t : Site). 0 < t.places) (sym site) some_place)
+      (subst (λ (t : Site). t.depth < 2 ^ count) (sym site) room)
+      (subst (λ (t : Site). 0 < t.depth) (sym site) some_place)
       (subst (λ (t : Site). (i : ℕ) → has_bit local i ≡ (nat_le (local_channel t 0) i && nat_lt i (size_of t))) (sym site) is-local)
       (subst (λ (t : Site). (i : ℕ) → local_channel t 0 ≤ i → i < size_of t → plane_number c.len i ≡ length (view_buffer w i)) (sym site) (λ i a l. (column.channels.inputs i l).len ∙ ap (λ (xs : List Flit). length xs) (sym (buffer_w i a l))))
       (subst (λ (t : Site). (i : ℕ) → local_channel t 0 ≤ i → i < size_of t → has_bit c.waiting i ≡ is_waiting (view_input w i).phase) (sym site) (λ i a l. (column.channels.inputs i l).waiting ∙ ap is_waiting (sym (phase_w i l))))
       (subst (λ (t : Site). (i : ℕ) → local_channel t 0 ≤ i → i < size_of t → has_bit c.active i ≡ is_active (view_input w i).phase) (sym site) (λ i a l. (column.channels.inputs i l).active ∙ ap is_active (sym (phase_w i l))))
-      (subst (λ (t : Site). (i : ℕ) → local_channel t 0 ≤ i → i < size_of t → length (view_buffer w i) ≤ t.places) (sym site) (λ i a l. subst (λ (xs : List Flit). length xs ≤ v.site.places) (sym (buffer_w i a l)) (tidy.lens i l)))
+      (subst (λ (t : Site). (i : ℕ) → local_channel t 0 ≤ i → i < size_of t → length (view_buffer w i) ≤ t.depth) (sym site) (λ i a l. subst (λ (xs : List Flit). length xs ≤ v.site.depth) (sym (buffer_w i a l)) (tidy.lens i l)))
       w.queue w.sending refl refl
       (source.due ∙ ap due_of (sym queue))
       (subst (ShowsQueue starts s.queue) (sym queue) source.queue)
@@ -188,15 +188,15 @@ module _ (relation : Routes) (count : ℕ) (c : Column) (m : RouterMarks) (v : V
       ∙ with-one-length (with_one (view_buffer v i) (flit_from v.site.vcs 0 beats i)) (injected_to w (injection_in n w) i)
       ∙ ap₂ (λ a b. a + one_if b) (with-one-length (view_buffer v i) (flit_from v.site.vcs 0 beats i) ∙ ap (λ b. length (view_buffer v i) + one_if b) (sym (wires.comes i l))) (sym (went-is i l))
 
-  fitting : (i : ℕ) → i < size_of v.site → plane_number c.len i + one_if (has_bit flits i) + one_if (has_bit went i) ≤ v.site.places
+  fitting : (i : ℕ) → i < size_of v.site → plane_number c.len i + one_if (has_bit flits i) + one_if (has_bit went i) ≤ v.site.depth
   fitting i l = at (has_bit went i) refl
     where
       was : plane_number c.len i ≡ length (view_buffer v i)
       was = (column.channels.inputs i l).len
 
-      at : (b : Bool) → has_bit went i ≡ b → plane_number c.len i + one_if (has_bit flits i) + one_if (has_bit went i) ≤ v.site.places
+      at : (b : Bool) → has_bit went i ≡ b → plane_number c.len i + one_if (has_bit flits i) + one_if (has_bit went i) ≤ v.site.depth
       at true e =
-          let place = subst (λ (t : Site). length (view_buffer w i) < t.places) site (sent.place i e) in
+          let place = subst (λ (t : Site). length (view_buffer w i) < t.depth) site (sent.place i e) in
           let same : length (view_buffer w i) ≡ length (view_buffer v i) = ap (λ (xs : List Flit). length xs) (buffer_w i (went-local i e).0 l) in
           let none : one_if (has_bit flits i) ≡ 0 = ap one_if (comes-alone i e) in
           let one : one_if (has_bit went i) ≡ 1 = ap one_if e in
@@ -212,14 +212,14 @@ module _ (relation : Routes) (count : ℕ) (c : Column) (m : RouterMarks) (v : V
       → plane_number frozen.len i ≡ plane_number c.len i + one_if (has_bit flits i) + one_if (has_bit went i)
   number_x i small =
       let parts = sent.parts i in
-      let landed : one_if (has_bit (lane_landed (words_of count v.site.places) flits c) i) ≡ one_if (has_bit flits i) + one_if (has_bit (lane_injected (words_of count v.site.places) c) i) =
-      ap one_if (either_members flits (lane_injected (words_of count v.site.places) c) i) ∙ apart (has_bit flits i) (has_bit (lane_injected (words_of count v.site.places) c) i) alone in
-      let raised : plane_number (raised_by c.len (lane_landed (words_of count v.site.places) flits c)) i ≡ plane_number c.len i + one_if (has_bit (lane_landed (words_of count v.site.places) flits c) i) =
-      raised-number c.len (lane_landed (words_of count v.site.places) flits c) i (subst (λ (k : ℕ). plane_number c.len i + one_if (has_bit (lane_landed (words_of count v.site.places) flits c) i) < 2 ^ k) (sym column.words.len_bits) (omega (arith, landed, parts, small))) in
-      first-number (lowest begins) (raised_by c.len (lane_landed (words_of count v.site.places) flits c)) i long
+      let landed : one_if (has_bit (lane_landed (words_of count v.site.depth) flits c) i) ≡ one_if (has_bit flits i) + one_if (has_bit (lane_injected (words_of count v.site.depth) c) i) =
+      ap one_if (either_members flits (lane_injected (words_of count v.site.depth) c) i) ∙ apart (has_bit flits i) (has_bit (lane_injected (words_of count v.site.depth) c) i) alone in
+      let raised : plane_number (raised_by c.len (lane_landed (words_of count v.site.depth) flits c)) i ≡ plane_number c.len i + one_if (has_bit (lane_landed (words_of count v.site.depth) flits c) i) =
+      raised-number c.len (lane_landed (words_of count v.site.depth) flits c) i (subst (λ (k : ℕ). plane_number c.len i + one_if (has_bit (lane_landed (words_of count v.site.depth) flits c) i) < 2 ^ k) (sym column.words.len_bits) (omega (arith, landed, parts, small))) in
+      first-number (lowest begins) (raised_by c.len (lane_landed (words_of count v.site.depth) flits c)) i long
       (λ e. let none : plane_number c.len i ≡ 0 = sent.vacant i e in
       let one : one_if (has_bit (lowest begins) i) ≡ 1 = ap one_if e in
-      let goes : has_bit went i ≡ true = either-is (has_bit (lane_injected (words_of count v.site.places) c) i) (has_bit (lowest begins) i) (has_bit went i) parts ∙ ap (λ b. has_bit (lane_injected (words_of count v.site.places) c) i || b) e ∙ or-yes (has_bit (lane_injected (words_of count v.site.places) c) i) in
+      let goes : has_bit went i ≡ true = either-is (has_bit (lane_injected (words_of count v.site.depth) c) i) (has_bit (lowest begins) i) (has_bit went i) parts ∙ ap (λ b. has_bit (lane_injected (words_of count v.site.depth) c) i || b) e ∙ or-yes (has_bit (lane_injected (words_of count v.site.depth) c) i) in
       let comes : one_if (has_bit flits i) ≡ 0 = ap one_if (comes-alone i goes) in
       let is_one : one_if (has_bit went i) ≡ 1 = ap one_if goes in
       omega (arith, none, one, comes, is_one, parts, landed, raised))
@@ -229,18 +229,18 @@ module _ (relation : Routes) (count : ℕ) (c : Column) (m : RouterMarks) (v : V
       or-yes true = refl
       or-yes false = refl
 
-      long : 0 < length (raised_by c.len (lane_landed (words_of count v.site.places) flits c))
-      long = let e = raised-length c.len (lane_landed (words_of count v.site.places) flits c) ∙ column.words.len_bits in omega (arith, e, some-bit count room)
+      long : 0 < length (raised_by c.len (lane_landed (words_of count v.site.depth) flits c))
+      long = let e = raised-length c.len (lane_landed (words_of count v.site.depth) flits c) ∙ column.words.len_bits in omega (arith, e, some-bit count room)
         where
-          some-bit : (k : ℕ) → v.site.places < 2 ^ k → 0 < k
+          some-bit : (k : ℕ) → v.site.depth < 2 ^ k → 0 < k
           some-bit zero l = absurd (omega (arith, l, some_place))
           some-bit (suc k) l = omega arith
 
-      alone : has_bit flits i ≡ true → has_bit (lane_injected (words_of count v.site.places) c) i ≡ false
-      alone e = off (has_bit (lane_injected (words_of count v.site.places) c) i) refl
+      alone : has_bit flits i ≡ true → has_bit (lane_injected (words_of count v.site.depth) c) i ≡ false
+      alone e = off (has_bit (lane_injected (words_of count v.site.depth) c) i) refl
         where
-          off : (b : Bool) → has_bit (lane_injected (words_of count v.site.places) c) i ≡ b → has_bit (lane_injected (words_of count v.site.places) c) i ≡ false
-          off true h = absurd (true≢false (sym e ∙ comes-alone i (either-is (has_bit (lane_injected (words_of count v.site.places) c) i) (has_bit (lowest begins) i) (has_bit went i) (sent.parts i) ∙ ap (λ b. b || has_bit (lowest begins) i) h)))
+          off : (b : Bool) → has_bit (lane_injected (words_of count v.site.depth) c) i ≡ b → has_bit (lane_injected (words_of count v.site.depth) c) i ≡ false
+          off true h = absurd (true≢false (sym e ∙ comes-alone i (either-is (has_bit (lane_injected (words_of count v.site.depth) c) i) (has_bit (lowest begins) i) (has_bit went i) (sent.parts i) ∙ ap (λ b. b || has_bit (lowest begins) i) h)))
           off false h = h
 
       apart : (a b : Bool) → (a ≡ true → b ≡ false) → one_if (a || b) ≡ one_if a + one_if b
@@ -290,26 +290,26 @@ module _ (relation : Routes) (count : ℕ) (c : Column) (m : RouterMarks) (v : V
       at true e = absurd (let l = below k e in omega (arith, l, beyond))
       at false e = e
 
-  home_below : AreBelow (size_of v.site) (lane_home (words_of count v.site.places) credits c)
+  home_below : AreBelow (size_of v.site) (lane_home (words_of count v.site.depth) credits c)
   home_below k e =
       column.channels.draining_below k
-      (and_parts (has_bit c.draining k) (not (has_bit (wrong_from 0 (raised_by c.credit credits) (words_of count v.site.places)) k))
-      (sym (less_members c.draining (wrong_from 0 (raised_by c.credit credits) (words_of count v.site.places)) k column.words.draining
-      (wrong-fits (raised_by c.credit credits) count v.site.places (raised-length c.credit credits ∙ column.words.credit_bits) (raised-fits c.credit credits column.words.credit credits_fit))) ∙ e)).0
+      (and_parts (has_bit c.draining k) (not (has_bit (wrong_from 0 (raised_by c.credit credits) (words_of count v.site.depth)) k))
+      (sym (less_members c.draining (wrong_from 0 (raised_by c.credit credits) (words_of count v.site.depth)) k column.words.draining
+      (wrong-fits (raised_by c.credit credits) count v.site.depth (raised-length c.credit credits ∙ column.words.credit_bits) (raised-fits c.credit credits column.words.credit credits_fit))) ∙ e)).0
 
   idle_below_x : AreBelow (size_of v.site) frozen.idle
-  idle_below_x k e = at (has_bit c.idle k) refl (sym (either_members c.idle (lane_home (words_of count v.site.places) credits c) k) ∙ e)
+  idle_below_x k e = at (has_bit c.idle k) refl (sym (either_members c.idle (lane_home (words_of count v.site.depth) credits c) k) ∙ e)
     where
-      at : (b : Bool) → has_bit c.idle k ≡ b → (has_bit c.idle k || has_bit (lane_home (words_of count v.site.places) credits c) k) ≡ true → k < size_of v.site
+      at : (b : Bool) → has_bit c.idle k ≡ b → (has_bit c.idle k || has_bit (lane_home (words_of count v.site.depth) credits c) k) ≡ true → k < size_of v.site
       at true h t = column.channels.idle_below k h
-      at false h t = home_below k (sym (ap (λ b. b || has_bit (lane_home (words_of count v.site.places) credits c) k) h) ∙ t)
+      at false h t = home_below k (sym (ap (λ b. b || has_bit (lane_home (words_of count v.site.depth) credits c) k) h) ∙ t)
 
   draining_below_x : AreBelow (size_of v.site) frozen.draining
-  draining_below_x k e = at (has_bit c.draining k) refl (sym (xor_members c.draining (lane_home (words_of count v.site.places) credits c) k) ∙ e)
+  draining_below_x k e = at (has_bit c.draining k) refl (sym (xor_members c.draining (lane_home (words_of count v.site.depth) credits c) k) ∙ e)
     where
-      at : (b : Bool) → has_bit c.draining k ≡ b → differ (has_bit c.draining k) (has_bit (lane_home (words_of count v.site.places) credits c) k) ≡ true → k < size_of v.site
+      at : (b : Bool) → has_bit c.draining k ≡ b → differ (has_bit c.draining k) (has_bit (lane_home (words_of count v.site.depth) credits c) k) ≡ true → k < size_of v.site
       at true h t = column.channels.draining_below k h
-      at false h t = home_below k (sym (ap (λ b. differ b (has_bit (lane_home (words_of count v.site.places) credits c) k)) h) ∙ t)
+      at false h t = home_below k (sym (ap (λ b. differ b (has_bit (lane_home (words_of count v.site.depth) credits c) k)) h) ∙ t)
 
   went_below : AreBelow (size_of v.site) went
   went_below k e = (went-local k e).1
@@ -364,7 +364,7 @@ module _ (relation : Routes) (count : ℕ) (c : Column) (m : RouterMarks) (v : V
   -- the column shows the frozen state
   pub column-frozen : IsTidy (view_after_inject n (view_after_takes relation beats v)) → IsColumn count frozen m x
   column-frozen tidy_x = record {
-    words = frozen-words count v.site.places credits up flits (lane_begins local n s.due c) (bit_or (lane_injected (words_of count v.site.places) c) (lowest (lane_begins local n s.due c))) (begun_source starts (lane_begins local n s.due c) s).left c
+    words = frozen-words count v.site.depth credits up flits (lane_begins local n s.due c) (bit_or (lane_injected (words_of count v.site.depth) c) (lowest (lane_begins local n s.due c))) (begun_source starts (lane_begins local n s.due c) s).left c
         column.words credits_fit up_fits flits_fit (begins_fits local n s.due c);
     channels = record {
       inputs = subst (λ (t : Site). (i : ℕ) → i < size_of t → ShowsInput frozen i (view_buffer x i) (view_input x i)) (sym x_site) inputs_x;
@@ -386,42 +386,42 @@ module _ (relation : Routes) (count : ℕ) (c : Column) (m : RouterMarks) (v : V
   source-frozen = sent.source
 
   -- ---- the channels with a flit
-  filled-bit : (i : ℕ) → has_bit (bit_or (lane_filled (words_of count v.site.places) flits c) (lowest (lane_begins local n s.due c))) i
+  filled-bit : (i : ℕ) → has_bit (bit_or (lane_filled (words_of count v.site.depth) flits c) (lowest (lane_begins local n s.due c))) i
       ≡ ((nat_lt 0 (plane_number c.len i) || has_bit flits i) || has_bit went i)
   filled-bit i =
-      either_members (lane_filled (words_of count v.site.places) flits c) (lowest (lane_begins local n s.due c)) i
+      either_members (lane_filled (words_of count v.site.depth) flits c) (lowest (lane_begins local n s.due c)) i
       ∙ ap (λ b. b || has_bit (lowest (lane_begins local n s.due c)) i)
-      (either_members (any_from 0 c.len) (lane_landed (words_of count v.site.places) flits c) i
-      ∙ ap₂ (λ a b. a || b) (filled-members c.len i) (either_members flits (lane_injected (words_of count v.site.places) c) i))
-      ∙ assoc (nat_lt 0 (plane_number c.len i)) (has_bit flits i) (has_bit (lane_injected (words_of count v.site.places) c) i) (has_bit (lowest (lane_begins local n s.due c)) i)
-      ∙ ap (λ b. (nat_lt 0 (plane_number c.len i) || has_bit flits i) || b) (sym (either-is (has_bit (lane_injected (words_of count v.site.places) c) i) (has_bit (lowest (lane_begins local n s.due c)) i) (has_bit went i) (sent.parts i)))
+      (either_members (any_from 0 c.len) (lane_landed (words_of count v.site.depth) flits c) i
+      ∙ ap₂ (λ a b. a || b) (filled-members c.len i) (either_members flits (lane_injected (words_of count v.site.depth) c) i))
+      ∙ assoc (nat_lt 0 (plane_number c.len i)) (has_bit flits i) (has_bit (lane_injected (words_of count v.site.depth) c) i) (has_bit (lowest (lane_begins local n s.due c)) i)
+      ∙ ap (λ b. (nat_lt 0 (plane_number c.len i) || has_bit flits i) || b) (sym (either-is (has_bit (lane_injected (words_of count v.site.depth) c) i) (has_bit (lowest (lane_begins local n s.due c)) i) (has_bit went i) (sent.parts i)))
     where
       assoc : (a b j l : Bool) → ((a || (b || j)) || l) ≡ ((a || b) || (j || l))
       assoc true b j l = refl
       assoc false true j l = refl
       assoc false false j l = refl
 
-  pub filled-frozen : AreFilled x (bit_or (lane_filled (words_of count v.site.places) flits c) (lowest (lane_begins local n s.due c)))
+  pub filled-frozen : AreFilled x (bit_or (lane_filled (words_of count v.site.depth) flits c) (lowest (lane_begins local n s.due c)))
   filled-frozen = record {
-    fits = or_fits (lane_filled (words_of count v.site.places) flits c) (lowest (lane_begins local n s.due c))
-        (or_fits (any_from 0 c.len) (lane_landed (words_of count v.site.places) flits c) (any-fits c.len column.words.len)
-        (or_fits flits (lane_injected (words_of count v.site.places) c) flits_fit (and_fits c.injecting (wrong_from 0 c.len (words_of count v.site.places)) column.words.injecting)))
+    fits = or_fits (lane_filled (words_of count v.site.depth) flits c) (lowest (lane_begins local n s.due c))
+        (or_fits (any_from 0 c.len) (lane_landed (words_of count v.site.depth) flits c) (any-fits c.len column.words.len)
+        (or_fits flits (lane_injected (words_of count v.site.depth) c) flits_fit (and_fits c.injecting (wrong_from 0 c.len (words_of count v.site.depth)) column.words.injecting)))
         (and_fits (lane_begins local n s.due c) (negation (lane_begins local n s.due c)) (begins_fits local n s.due c));
-    below = subst (λ (t : Site). AreBelow (size_of t) (bit_or (lane_filled (words_of count v.site.places) flits c) (lowest (lane_begins local n s.due c)))) (sym x_site) (λ k e. within k e (cases_lt k (size_of v.site)));
-    each = subst (λ (t : Site). (i : ℕ) → i < size_of t → has_bit (bit_or (lane_filled (words_of count v.site.places) flits c) (lowest (lane_begins local n s.due c))) i ≡ not (is_empty (view_buffer x i))) (sym x_site) fills;
+    below = subst (λ (t : Site). AreBelow (size_of t) (bit_or (lane_filled (words_of count v.site.depth) flits c) (lowest (lane_begins local n s.due c)))) (sym x_site) (λ k e. within k e (cases_lt k (size_of v.site)));
+    each = subst (λ (t : Site). (i : ℕ) → i < size_of t → has_bit (bit_or (lane_filled (words_of count v.site.depth) flits c) (lowest (lane_begins local n s.due c))) i ≡ not (is_empty (view_buffer x i))) (sym x_site) fills;
   }
     where
-      within : (k : ℕ) → has_bit (bit_or (lane_filled (words_of count v.site.places) flits c) (lowest (lane_begins local n s.due c))) k ≡ true → (k < size_of v.site) ⊎ (size_of v.site ≤ k) → k < size_of v.site
+      within : (k : ℕ) → has_bit (bit_or (lane_filled (words_of count v.site.depth) flits c) (lowest (lane_begins local n s.due c))) k ≡ true → (k < size_of v.site) ⊎ (size_of v.site ≤ k) → k < size_of v.site
       within k e (inl l) = l
       within k e (inr beyond) = absurd (false≢true (sym none ∙ e))
         where
-          none : has_bit (bit_or (lane_filled (words_of count v.site.places) flits c) (lowest (lane_begins local n s.due c))) k ≡ false
+          none : has_bit (bit_or (lane_filled (words_of count v.site.depth) flits c) (lowest (lane_begins local n s.due c))) k ≡ false
           none =
               filled-bit k
               ∙ ap₂ (λ a b. (a || b) || has_bit went k) (ap (nat_lt 0) (column.channels.len_below k beyond) ∙ le-ltb 0 0 (omega arith)) (not-member flits k wires.comes_below beyond)
               ∙ not-member went k went_below beyond
 
-      fills : (i : ℕ) → i < size_of v.site → has_bit (bit_or (lane_filled (words_of count v.site.places) flits c) (lowest (lane_begins local n s.due c))) i ≡ not (is_empty (view_buffer x i))
+      fills : (i : ℕ) → i < size_of v.site → has_bit (bit_or (lane_filled (words_of count v.site.depth) flits c) (lowest (lane_begins local n s.due c))) i ≡ not (is_empty (view_buffer x i))
       fills i l =
           filled-bit i
           ∙ ap₂ (λ a b. (a || b) || has_bit went i) (ap (nat_lt 0) (column.channels.inputs i l).len ∙ empty-length (view_buffer v i)) (wires.comes i l)
@@ -434,10 +434,10 @@ module _ (relation : Routes) (count : ℕ) (c : Column) (m : RouterMarks) (v : V
   went-alone : (i : ℕ) → has_bit (lowest went) i ≡ has_bit went i
   went-alone i = ap (λ k. has_bit k i) sent.alone
 
-  pub ring-room : (i : ℕ) → i < size_of v.site → has_bit (lowest went) i ≡ true → length (ring i) < v.site.places
+  pub ring-room : (i : ℕ) → i < size_of v.site → has_bit (lowest went) i ≡ true → length (ring i) < v.site.depth
   ring-room i l e =
-      subst (λ (k : ℕ). k < v.site.places) (sym (ap (λ (xs : List ℕ). length xs) (wires.rings i l) ∙ length-map (with_one (view_buffer v i) (flit_from v.site.vcs 0 beats i)) flit_word ∙ ap (λ (xs : List Flit). length xs) (sym (taken.buffer i l))))
-      (subst (λ (t : Site). length (view_buffer w i) < t.places) site (sent.place i (sym (went-alone i) ∙ e)))
+      subst (λ (k : ℕ). k < v.site.depth) (sym (ap (λ (xs : List ℕ). length xs) (wires.rings i l) ∙ length-map (with_one (view_buffer v i) (flit_from v.site.vcs 0 beats i)) flit_word ∙ ap (λ (xs : List Flit). length xs) (sym (taken.buffer i l))))
+      (subst (λ (t : Site). length (view_buffer w i) < t.depth) site (sent.place i (sym (went-alone i) ∙ e)))
 
   pub ring-same : (i : ℕ) → i < size_of v.site → has_bit (lowest went) i ≡ false → ring i ≡ map flit_word (view_buffer x i)
   ring-same i l e =
@@ -465,8 +465,8 @@ module _ (relation : Routes) (count : ℕ) (c : Column) (m : RouterMarks) (v : V
               ∙ ap (λ k. map flit_word (with_one (view_buffer v i) (flit_from v.site.vcs 0 beats i)) ++ k ∷ []) (sym is)
           at false t = absurd (false≢true t)
 
-  pub shows-frozen : IsTidy (view_after_inject n (view_after_takes relation beats v)) → ShowsFrozen count frozen m x starts (sent_source starts went (begun_source starts begins s)) (bit_or (lane_filled (words_of count v.site.places) flits c) (lowest (lane_begins local n s.due c))) went
-      (begun_source starts begins s).word v.site.places ring
+  pub shows-frozen : IsTidy (view_after_inject n (view_after_takes relation beats v)) → ShowsFrozen count frozen m x starts (sent_source starts went (begun_source starts begins s)) (bit_or (lane_filled (words_of count v.site.depth) flits c) (lowest (lane_begins local n s.due c))) went
+      (begun_source starts begins s).word v.site.depth ring
   shows-frozen tidy_x = record {
     column = column-frozen tidy_x;
     source = source-frozen;

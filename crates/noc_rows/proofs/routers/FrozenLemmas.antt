@@ -5,7 +5,7 @@ use Rattle.noc_topo.specs.Shape.{local_port}
 use Rattle.noc_packet.specs.Set.{has_bit}
 use Rattle.noc_packet.specs.declared.packet.Beat.{Beat}
 use Rattle.noc_route.specs.Routes.{Routes}
-use Rattle.noc_router.specs.View.{View, size_of, local_channel, view_buffer, view_after_takes, view_after_inject}
+use Rattle.noc_view.specs.View.{View, size_of, local_channel, view_buffer, view_after_takes, view_after_inject}
 use Rattle.noc_row_blocks.specs.Arrive.{HasArrived, begins_in, ready_source, went_in}
 use Rattle.noc_row_words.specs.Bits.{lowest}
 use Rattle.noc_row_words.specs.Column.{Column, RouterMarks, IsColumn, IsTidy, ShowsWires}
@@ -38,28 +38,28 @@ pub arrived-frozen : (relation : Routes) (count : ℕ) (m : RouterMarks) (v : Vi
     → IsColumn count (column_at old.lanes k) m v → ShowsWires v (word before.flits k) (word before.credits k) (λ i. ring_in room before (k * 32 + i) (first i)) beats
     → ShowsSource starts (source_at old.sources k) v → IsTidy v → IsTidy (view_after_inject n (view_after_takes relation beats v)) → HasSize v
     → HasTaken relation v (view_after_takes relation beats v) (flit_from v.site.vcs 0 beats) (credit_from v.site.vcs 0 beats)
-    → size_of v.site ≤ 31 → v.site.places < 2 ^ count → 0 < v.site.places → v.site.places ≤ room → length beats ≤ local_port v.site.grid → n < NEVER
+    → size_of v.site ≤ 31 → v.site.depth < 2 ^ count → 0 < v.site.depth → v.site.depth ≤ room → length beats ≤ local_port v.site.grid → n < NEVER
     → ((i : ℕ) → has_bit local i ≡ (nat_le (local_channel v.site 0) i && nat_lt i (size_of v.site)))
     → ((o : ℕ) → m.owner o % 32 ≡ owner_in old.marks.owner k o) → ((i : ℕ) → first i < 256)
-    → HasArrived (words_of count v.site.places) links local n room starts old new before after k
+    → HasArrived (words_of count v.site.depth) links local n room starts old new before after k
     → IsFrozen count room starts m first new after k (view_after_inject n (view_after_takes relation beats v))
 arrived-frozen relation count m v beats n links local room starts first old new before after k column wires source tidy tidy_after size taken few fits some_place enough short now is-local named bytes arrived =
     record {
       column = subst (λ (c : Column). IsColumn count c m (view_after_inject n (view_after_takes relation beats v))) (sym arrived.column) laws.column;
       source = subst (λ (s : Source). ShowsSource starts s (view_after_inject n (view_after_takes relation beats v))) (sym arrived.source) laws.source;
       filled = subst (AreFilled (view_after_inject n (view_after_takes relation beats v))) (sym arrived.filled) laws.fill;
-      rings = λ i l. at i l (has_bit (lowest (went_in (words_of count v.site.places) local n (source_at old.sources k) (column_at old.lanes k))) i) refl;
+      rings = λ i l. at i l (has_bit (lowest (went_in (words_of count v.site.depth) local n (source_at old.sources k) (column_at old.lanes k))) i) refl;
       flits = arrived.flits;
       credits = arrived.credits;
     }
   where
     laws : ShowsFrozen count
-        (frozen_column (words_of count v.site.places) (word before.credits k) arrived.up (word before.flits k) (begins_in local n (source_at old.sources k) (column_at old.lanes k))
-        (went_in (words_of count v.site.places) local n (source_at old.sources k) (column_at old.lanes k)) (ready_source starts local n (source_at old.sources k) (column_at old.lanes k)).left (column_at old.lanes k))
+        (frozen_column (words_of count v.site.depth) (word before.credits k) arrived.up (word before.flits k) (begins_in local n (source_at old.sources k) (column_at old.lanes k))
+        (went_in (words_of count v.site.depth) local n (source_at old.sources k) (column_at old.lanes k)) (ready_source starts local n (source_at old.sources k) (column_at old.lanes k)).left (column_at old.lanes k))
         m (view_after_inject n (view_after_takes relation beats v)) starts
-        (sent_source starts (went_in (words_of count v.site.places) local n (source_at old.sources k) (column_at old.lanes k)) (ready_source starts local n (source_at old.sources k) (column_at old.lanes k)))
-        (bit_or (lane_filled (words_of count v.site.places) (word before.flits k) (column_at old.lanes k)) (lowest (begins_in local n (source_at old.sources k) (column_at old.lanes k))))
-        (went_in (words_of count v.site.places) local n (source_at old.sources k) (column_at old.lanes k)) (ready_source starts local n (source_at old.sources k) (column_at old.lanes k)).word v.site.places
+        (sent_source starts (went_in (words_of count v.site.depth) local n (source_at old.sources k) (column_at old.lanes k)) (ready_source starts local n (source_at old.sources k) (column_at old.lanes k)))
+        (bit_or (lane_filled (words_of count v.site.depth) (word before.flits k) (column_at old.lanes k)) (lowest (begins_in local n (source_at old.sources k) (column_at old.lanes k))))
+        (went_in (words_of count v.site.depth) local n (source_at old.sources k) (column_at old.lanes k)) (ready_source starts local n (source_at old.sources k) (column_at old.lanes k)).word v.site.depth
         (λ i. ring_in room before (k * 32 + i) (first i))
     laws =
         shows-frozen relation count (column_at old.lanes k) m v beats n local starts (source_at old.sources k) (word before.flits k) (word before.credits k) arrived.up (λ i. ring_in room before (k * 32 + i) (first i))
@@ -70,7 +70,7 @@ arrived-frozen relation count m v beats n links local room starts first old new 
         })
         arrived.up_fits tidy_after
 
-    at : (i : ℕ) → i < size_of (view_after_inject n (view_after_takes relation beats v)).site → (b : Bool) → has_bit (lowest (went_in (words_of count v.site.places) local n (source_at old.sources k) (column_at old.lanes k))) i ≡ b
+    at : (i : ℕ) → i < size_of (view_after_inject n (view_after_takes relation beats v)).site → (b : Bool) → has_bit (lowest (went_in (words_of count v.site.depth) local n (source_at old.sources k) (column_at old.lanes k))) i ≡ b
         → ring_in room after (k * 32 + i) (first i) ≡ map flit_word (view_buffer (view_after_inject n (view_after_takes relation beats v)) i)
     at i l true e =
         let below = laws.few in

@@ -4,7 +4,7 @@ use Rattle.std.specs.Prelude.{◌⊎◌, ◌&&◌, ◌||◌, not, find, is_some,
 use Rattle.std.specs.Int.{bit_not, trailing_zeros}
 use Rattle.std.proofs.lemmas.Bool.{cases_eq, cases_lt, eq-eqb, ne_eqb, eqb-true, lt-leb, le-leb, lt-ltb, le-ltb, ltb-true, leb-true, true≢false, false≢true, and_parts}
 use Rattle.std.proofs.lemmas.Nat.{and_le_r, pow_below}
-use Rattle.noc_topo.specs.Words.{below}
+use Rattle.noc_topo.specs.Lists.{below, one_if}
 use Rattle.noc_topo.specs.Shape.{local_port}
 use Rattle.noc_packet.specs.Packet.{flit_at}
 use Rattle.noc_packet.specs.Set.{has_bit, IsLeast}
@@ -14,8 +14,7 @@ use Rattle.noc_packet.proofs.SetLemmas.{both_members, either_members, has_bit-be
 use Rattle.noc_vc.specs.Input.{is_active, is_empty, is_idle_phase, is_waiting}
 use Rattle.noc_vc.specs.declared.input.InputState.{InputState}
 use Rattle.noc_vc.specs.declared.input.InputState.TheVariants.{Idle, Waiting, Active}
-use Rattle.noc_counts.specs.Counts.{one_if}
-use Rattle.noc_router.specs.View.{View, size_of, local_channel, view_buffer, view_input, is_vacant, with_injected, begun_on, view_after_inject_from}
+use Rattle.noc_view.specs.View.{View, size_of, local_channel, view_buffer, view_input, is_vacant, with_injected, begun_on, view_after_inject_from}
 use Rattle.noc_row_words.specs.Bits.{lowest}
 use Rattle.noc_row_words.specs.Column.{Column, AreWords, ShowsSending}
 use Rattle.noc_row_words.specs.FlitWords.{flit_word}
@@ -53,7 +52,7 @@ pub record HasSent (c : Column) (starts : List Start) (s : Source) (w x : View) 
   pub goes : (i : ℕ) → i < size_of w.site → has_bit went i ≡ is_some (injected_to w new i)
   pub local : (i : ℕ) → has_bit went i ≡ true → (local_channel w.site 0 ≤ i) × (i < size_of w.site)
   pub vacant : (i : ℕ) → has_bit (lowest b) i ≡ true → plane_number c.len i ≡ 0
-  pub place : (i : ℕ) → has_bit went i ≡ true → length (view_buffer w i) < w.site.places
+  pub place : (i : ℕ) → has_bit went i ≡ true → length (view_buffer w i) < w.site.depth
   pub alone : lowest went ≡ went
   pub parts : (i : ℕ) → one_if (has_bit j i) + one_if (has_bit (lowest b) i) ≡ one_if (has_bit went i)
   pub word : IfSome new (λ one. (begun_source starts b s).word ≡ flit_word one.1)
@@ -82,7 +81,7 @@ module _ (c : Column) (starts : List Start) (s : Source) (w x : View) (queue : L
   }
 
 -- a flit of the first packet is injected into a local channel
-module _ (c : Column) (starts : List Start) (s : Source) (w : View) (number index vc : ℕ) (p : Packet) (rest : List (ℕ × Packet)) (few : length starts < 2 ^ 32) (within : vc < w.site.vcs) (size : size_of w.site ≤ 32) (free : length (view_buffer w (local_channel w.site vc)) < w.site.places)
+module _ (c : Column) (starts : List Start) (s : Source) (w : View) (number index vc : ℕ) (p : Packet) (rest : List (ℕ × Packet)) (few : length starts < 2 ^ 32) (within : vc < w.site.vcs) (size : size_of w.site ≤ 32) (free : length (view_buffer w (local_channel w.site vc)) < w.site.depth)
     (same : w.queue ≡ (number, p) ∷ rest) (due : s.due ≡ p.due) (queue : ShowsQueue starts s.queue ((number, p) ∷ rest)) where
   x : View
   x = with_injected vc index number p rest w
@@ -96,8 +95,8 @@ module _ (c : Column) (starts : List Start) (s : Source) (w : View) (number inde
   in-range : (i : ℕ) → has_bit (2 ^ local_channel w.site vc) i ≡ true → (local_channel w.site 0 ≤ i) × (i < size_of w.site)
   in-range i e = let is : i ≡ local_channel w.site vc = is-local i e in (omega (arith, is), omega (arith, is, size-is, within))
 
-  has-place : (i : ℕ) → has_bit (2 ^ local_channel w.site vc) i ≡ true → length (view_buffer w i) < w.site.places
-  has-place i e = subst (λ (k : ℕ). length (view_buffer w k) < w.site.places) (sym (is-local i e)) free
+  has-place : (i : ℕ) → has_bit (2 ^ local_channel w.site vc) i ≡ true → length (view_buffer w i) < w.site.depth
+  has-place i e = subst (λ (k : ℕ). length (view_buffer w k) < w.site.depth) (sym (is-local i e)) free
 
   only : lowest (2 ^ local_channel w.site vc) ≡ 2 ^ local_channel w.site vc
   only =
@@ -184,24 +183,24 @@ idle-empty (Waiting set) flits = refl
 idle-empty (Active o) flits = refl
 
 -- the words of a router, of which the local channels are as the view u shows them, before its source injects in cycle n
-module _ (count : ℕ) (c : Column) (starts : List Start) (s : Source) (u : View) (n local : ℕ) (words : AreWords count c) (few : length starts < 2 ^ 32) (now : n < NEVER) (size : size_of u.site ≤ 32) (room : u.site.places < 2 ^ count) (some_place : 0 < u.site.places)
+module _ (count : ℕ) (c : Column) (starts : List Start) (s : Source) (u : View) (n local : ℕ) (words : AreWords count c) (few : length starts < 2 ^ 32) (now : n < NEVER) (size : size_of u.site ≤ 32) (room : u.site.depth < 2 ^ count) (some_place : 0 < u.site.depth)
     (is-local : (i : ℕ) → has_bit local i ≡ (nat_le (local_channel u.site 0) i && nat_lt i (size_of u.site)))
     (len : (i : ℕ) → local_channel u.site 0 ≤ i → i < size_of u.site → plane_number c.len i ≡ length (view_buffer u i))
     (waiting : (i : ℕ) → local_channel u.site 0 ≤ i → i < size_of u.site → has_bit c.waiting i ≡ is_waiting (view_input u i).phase)
     (active : (i : ℕ) → local_channel u.site 0 ≤ i → i < size_of u.site → has_bit c.active i ≡ is_active (view_input u i).phase)
-    (lens : (i : ℕ) → local_channel u.site 0 ≤ i → i < size_of u.site → length (view_buffer u i) ≤ u.site.places) where
+    (lens : (i : ℕ) → local_channel u.site 0 ≤ i → i < size_of u.site → length (view_buffer u i) ≤ u.site.depth) where
   abbrev Sent : View → Option (ℕ × Flit) → Type 0
-  Sent x new = HasSent c starts s u x (lane_injected (words_of count u.site.places) c) (lane_begins local n s.due c) (bit_or (lane_injected (words_of count u.site.places) c) (lowest (lane_begins local n s.due c))) new
+  Sent x new = HasSent c starts s u x (lane_injected (words_of count u.site.depth) c) (lane_begins local n s.due c) (bit_or (lane_injected (words_of count u.site.depth) c) (lowest (lane_begins local n s.due c))) new
 
-  words-as : (x : View) (new : Option (ℕ × Flit)) (j b went : ℕ) → lane_injected (words_of count u.site.places) c ≡ j → lane_begins local n s.due c ≡ b → bit_or j (lowest b) ≡ went
+  words-as : (x : View) (new : Option (ℕ × Flit)) (j b went : ℕ) → lane_injected (words_of count u.site.depth) c ≡ j → lane_begins local n s.due c ≡ b → bit_or j (lowest b) ≡ went
       → HasSent c starts s u x j b went new → Sent x new
   words-as x new j b went ej eb ew sent =
       subst (λ (k : ℕ). HasSent c starts s u x k (lane_begins local n s.due c) (bit_or k (lowest (lane_begins local n s.due c))) new) (sym ej)
       (subst (λ (k : ℕ). HasSent c starts s u x j k (bit_or j (lowest k)) new) (sym eb)
       (subst (λ (k : ℕ). HasSent c starts s u x j b k new) (sym ew) sent))
 
-  quiet : c.injecting ≡ 0 → lane_injected (words_of count u.site.places) c ≡ 0
-  quiet e = ap (λ k. bit_and k (wrong_from 0 c.len (words_of count u.site.places))) e ∙ zero-and (wrong_from 0 c.len (words_of count u.site.places))
+  quiet : c.injecting ≡ 0 → lane_injected (words_of count u.site.depth) c ≡ 0
+  quiet e = ap (λ k. bit_and k (wrong_from 0 c.len (words_of count u.site.depth))) e ∙ zero-and (wrong_from 0 c.len (words_of count u.site.depth))
 
   size-of : local_channel u.site u.site.vcs ≡ size_of u.site
   size-of = sym (suc-mul (local_port u.site.grid) u.site.vcs)
@@ -210,11 +209,11 @@ module _ (count : ℕ) (c : Column) (starts : List Start) (s : Source) (u : View
   of-channel vc l = (omega arith, omega (arith, l, size-of))
 
   -- whether the channel of a packet that has begun has a place
-  open-is : (i : ℕ) → local_channel u.site 0 ≤ i → i < size_of u.site → has_bit (wrong_from 0 c.len (words_of count u.site.places)) i ≡ nat_lt (length (view_buffer u i)) u.site.places
+  open-is : (i : ℕ) → local_channel u.site 0 ≤ i → i < size_of u.site → has_bit (wrong_from 0 c.len (words_of count u.site.depth)) i ≡ nat_lt (length (view_buffer u i)) u.site.depth
   open-is i a b =
-      wrong-members c.len count u.site.places i words.len_bits (omega (arith, b, size)) room
-      ∙ ap (λ k. not (nat_eq k u.site.places)) (len i a b)
-      ∙ below-or (length (view_buffer u i)) u.site.places (lens i a b)
+      wrong-members c.len count u.site.depth i words.len_bits (omega (arith, b, size)) room
+      ∙ ap (λ k. not (nat_eq k u.site.depth)) (len i a b)
+      ∙ below-or (length (view_buffer u i)) u.site.depth (lens i a b)
     where
       below-or : (k m : ℕ) → k ≤ m → not (nat_eq k m) ≡ nat_lt k m
       below-or k m le = elim (cases_eq k m) [
@@ -226,7 +225,7 @@ module _ (count : ℕ) (c : Column) (starts : List Start) (s : Source) (u : View
   going : (vc index number : ℕ) (p : Packet) (rest : List (ℕ × Packet)) → u.queue ≡ (number, p) ∷ rest → u.sending ≡ Some (vc, index) → s.due ≡ p.due
       → ShowsQueue starts s.queue ((number, p) ∷ rest) → ShowsNext s ((number, p) ∷ rest) (Some (vc, index)) → ShowsSending c u (Some (vc, index))
       → Sent (view_after_inject_from n ((number, p) ∷ rest) (Some (vc, index)) u) (injection_from n ((number, p) ∷ rest) (Some (vc, index)) u)
-  going vc index number p rest queue sending due shows next sends = at (nat_lt (length (view_buffer u (local_channel u.site vc))) u.site.places) refl
+  going vc index number p rest queue sending due shows next sends = at (nat_lt (length (view_buffer u (local_channel u.site vc))) u.site.depth) refl
     where
       none : lane_begins local n s.due c ≡ 0
       none =
@@ -237,13 +236,13 @@ module _ (count : ℕ) (c : Column) (starts : List Start) (s : Source) (u : View
           off true = refl
           off false = refl
 
-      goes-if : (b : Bool) → nat_lt (length (view_buffer u (local_channel u.site vc))) u.site.places ≡ b → lane_injected (words_of count u.site.places) c ≡ (if b then 2 ^ local_channel u.site vc else 0)
-      goes-if b e = same_set (lane_injected (words_of count u.site.places) c) (if b then 2 ^ local_channel u.site vc else 0) (λ k. each k (cases_eq k (local_channel u.site vc)))
+      goes-if : (b : Bool) → nat_lt (length (view_buffer u (local_channel u.site vc))) u.site.depth ≡ b → lane_injected (words_of count u.site.depth) c ≡ (if b then 2 ^ local_channel u.site vc else 0)
+      goes-if b e = same_set (lane_injected (words_of count u.site.depth) c) (if b then 2 ^ local_channel u.site vc else 0) (λ k. each k (cases_eq k (local_channel u.site vc)))
         where
-          members : (k : ℕ) → has_bit (lane_injected (words_of count u.site.places) c) k ≡ (nat_eq k (local_channel u.site vc) && has_bit (wrong_from 0 c.len (words_of count u.site.places)) k)
+          members : (k : ℕ) → has_bit (lane_injected (words_of count u.site.depth) c) k ≡ (nat_eq k (local_channel u.site vc) && has_bit (wrong_from 0 c.len (words_of count u.site.depth)) k)
           members k =
-              both_members c.injecting (wrong_from 0 c.len (words_of count u.site.places)) k
-              ∙ ap (λ y. y && has_bit (wrong_from 0 c.len (words_of count u.site.places)) k) (ap (λ y. has_bit y k) sends.1 ∙ power-members (local_channel u.site vc) k)
+              both_members c.injecting (wrong_from 0 c.len (words_of count u.site.depth)) k
+              ∙ ap (λ y. y && has_bit (wrong_from 0 c.len (words_of count u.site.depth)) k) (ap (λ y. has_bit y k) sends.1 ∙ power-members (local_channel u.site vc) k)
 
           if-member : (y : Bool) (k : ℕ) → has_bit (if y then 2 ^ local_channel u.site vc else 0) k ≡ (nat_eq k (local_channel u.site vc) && y)
           if-member true k = power-members (local_channel u.site vc) k ∙ sym (and-yes (nat_eq k (local_channel u.site vc)))
@@ -257,19 +256,19 @@ module _ (count : ℕ) (c : Column) (starts : List Start) (s : Source) (u : View
               and-no true = refl
               and-no false = refl
 
-          each : (k : ℕ) → (k ≡ local_channel u.site vc) ⊎ (k ≢ local_channel u.site vc) → has_bit (lane_injected (words_of count u.site.places) c) k ≡ has_bit (if b then 2 ^ local_channel u.site vc else 0) k
+          each : (k : ℕ) → (k ≡ local_channel u.site vc) ⊎ (k ≢ local_channel u.site vc) → has_bit (lane_injected (words_of count u.site.depth) c) k ≡ has_bit (if b then 2 ^ local_channel u.site vc else 0) k
           each k (inl same) =
-              members k ∙ ap (λ y. nat_eq k (local_channel u.site vc) && y) (ap (has_bit (wrong_from 0 c.len (words_of count u.site.places))) same ∙ open-is (local_channel u.site vc) (of-channel vc sends.0).0 (of-channel vc sends.0).1 ∙ e)
+              members k ∙ ap (λ y. nat_eq k (local_channel u.site vc) && y) (ap (has_bit (wrong_from 0 c.len (words_of count u.site.depth))) same ∙ open-is (local_channel u.site vc) (of-channel vc sends.0).0 (of-channel vc sends.0).1 ∙ e)
               ∙ sym (if-member b k)
           each k (inr other) =
-              members k ∙ ap (λ y. y && has_bit (wrong_from 0 c.len (words_of count u.site.places)) k) (ne_eqb k (local_channel u.site vc) other)
+              members k ∙ ap (λ y. y && has_bit (wrong_from 0 c.len (words_of count u.site.depth)) k) (ne_eqb k (local_channel u.site vc) other)
               ∙ sym (if-member b k ∙ ap (λ y. y && b) (ne_eqb k (local_channel u.site vc) other))
 
-      at : (b : Bool) → nat_lt (length (view_buffer u (local_channel u.site vc))) u.site.places ≡ b
+      at : (b : Bool) → nat_lt (length (view_buffer u (local_channel u.site vc))) u.site.depth ≡ b
           → Sent (if b then with_injected vc index number p rest u else u) (if b then Some (vc, flit_at p number index) else None)
       at true e =
           words-as (with_injected vc index number p rest u) (Some (vc, flit_at p number index)) (2 ^ local_channel u.site vc) 0 (2 ^ local_channel u.site vc) (goes-if true e) none (or-zero (2 ^ local_channel u.site vc))
-          (goes-on c starts s u number index vc p rest few sends.0 size (ltb-true (length (view_buffer u (local_channel u.site vc))) u.site.places e) queue due shows next sends.1)
+          (goes-on c starts s u number index vc p rest few sends.0 size (ltb-true (length (view_buffer u (local_channel u.site vc))) u.site.depth e) queue due shows next sends.1)
       at false e =
           words-as u None 0 0 0 (goes-if false e) none refl
           (none-sent c starts s u u ((number, p) ∷ rest) (Some (vc, index)) few due shows next queue sending sends)
@@ -360,7 +359,7 @@ module _ (count : ℕ) (c : Column) (starts : List Start) (s : Source) (u : View
               zero-of : (k : ℕ) → nat_lt 0 k ≡ false → k ≡ 0
               zero-of k q = elim (cases_lt 0 k) [ inl more ↦ absurd (true≢false (sym (lt-ltb 0 k more) ∙ q)) | inr none ↦ omega arith ]
 
-          has-room : length (view_buffer u (local_channel u.site (trailing_zeros w32 (lane_free local c) - local_channel u.site 0))) < u.site.places
+          has-room : length (view_buffer u (local_channel u.site (trailing_zeros w32 (lane_free local c) - local_channel u.site 0))) < u.site.depth
           has-room =
               let of = of-channel (trailing_zeros w32 (lane_free local c) - local_channel u.site 0) inside in
               let none = empty (local_channel u.site (trailing_zeros w32 (lane_free local c) - local_channel u.site 0))

@@ -3,15 +3,15 @@ use Rattle.std.proofs.Common.{◌≡◌, ℕ, ◌<◌, Bool, true, false, List, 
 use Rattle.std.specs.Prelude.{◌⊎◌, find, option_map, nat_lt, nat_le, if◌then◌else◌}
 use Rattle.std.proofs.lemmas.Bool.{eq-eqb, ne_eqb, cases_eq}
 use Rattle.std.proofs.lemmas.List.{length-set, get_or-set_same, get_or-set_other}
-use Rattle.noc_topo.specs.Words.{below}
+use Rattle.noc_topo.specs.Lists.{below}
 use Rattle.noc_topo.specs.Shape.{local_port}
 use Rattle.noc_packet.specs.Packet.{flit_at}
 use Rattle.noc_packet.specs.declared.packet.Packet.{Packet}
 use Rattle.noc_packet.specs.declared.packet.Beat.{Beat}
 use Rattle.noc_route.specs.Routes.{Routes}
 use Rattle.noc_vc.specs.Input.{idle_input, input_after_land}
-use Rattle.noc_router.specs.Arrivals.{is_expected_in, arrivals_after}
-use Rattle.noc_router.specs.View.{View, size_of, local_channel, view_buffer, view_input, is_vacant, with_injected, begun_on, view_after_inject_from, view_after_inject, with_misfit, with_arrival, tail_packet, flit_out, view_after_commit, decisions_of, view_after_takes, local_step}
+use Rattle.noc_view.specs.Arrivals.{is_expected_in, arrivals_after}
+use Rattle.noc_view.specs.View.{View, size_of, local_channel, view_buffer, view_input, is_vacant, with_injected, begun_on, view_after_inject_from, view_after_inject, with_misfit, with_arrival, tail_packet, flit_out, view_after_commit, decisions_of, view_after_takes, local_step}
 use Rattle.noc_row_words.specs.Taken.{with_one, landed_by, HasSize}
 use Rattle.noc_rows.specs.Injected.{injection_from, injection_in, injected_to, HasInjected}
 
@@ -65,7 +65,7 @@ with-injected n vc index number p rest v size = record {
 -- by the packet in front and what is being sent
 injected-by : (n : ℕ) (queue : List (ℕ × Packet)) (sending : Option (ℕ × ℕ)) (v : View) → HasSize v → HasInjected v (view_after_inject_from n queue sending (record v { given = n })) (injection_from n queue sending v)
 injected-by n [] sending v size = not-injected n v
-injected-by n ((number, p) ∷ rest) (Some (vc, index)) v size = at (nat_lt (length (view_buffer v (local_channel v.site vc))) v.site.places)
+injected-by n ((number, p) ∷ rest) (Some (vc, index)) v size = at (nat_lt (length (view_buffer v (local_channel v.site vc))) v.site.depth)
   where
     at : (b : Bool) → HasInjected v (if b then with_injected vc index number p rest (record v { given = n }) else record v { given = n }) (if b then Some (vc, flit_at p number index) else None)
     at true = with-injected n vc index number p rest v size

@@ -2,7 +2,7 @@
 use Rattle.std.proofs.Common.{◌≡◌, ℕ, ◌<◌, Bool, true, false, Option, Some, None, refl, ap, ap₂, sym, ◌∙◌, subst}
 use Rattle.std.specs.Prelude.{◌&&◌, not, is_some, slice_index_or, if◌then◌else◌}
 use Rattle.std.proofs.lemmas.Bool.{eq-eqb, true≢false}
-use Rattle.noc_topo.specs.Words.{is_some_of}
+use Rattle.noc_topo.specs.Lists.{is_some_of}
 use Rattle.noc_topo.specs.Shape.{ports}
 use Rattle.noc_packet.specs.Set.{has_bit}
 use Rattle.noc_route.specs.Routes.{Routes}
@@ -13,8 +13,8 @@ use Rattle.noc_vc.specs.declared.input.InputState.TheVariants.{Idle, Waiting, Ac
 use Rattle.noc_vc.specs.declared.output.OutputState.{OutputState}
 use Rattle.noc_vc.specs.declared.output.OutputState.TheVariants.{Idle as Free, Owned, Draining}
 use Rattle.noc_alloc.specs.Requests.{is_given}
-use Rattle.noc_router.specs.Verdict.{ask_of}
-use Rattle.noc_router.specs.View.{Site, View, size_of, view_buffer, view_claim, claim_in, view_input, view_output, view_round, first_flit, is_tail, mover_to, decisions_of, view_after_commit, held_by, spent_by, route_of}
+use Rattle.noc_view.specs.Verdict.{ask_of}
+use Rattle.noc_view.specs.View.{Site, View, size_of, view_buffer, view_claim, claim_in, view_input, view_output, view_round, first_flit, is_tail, mover_to, decisions_of, view_after_commit, held_by, spent_by, route_of}
 use Rattle.noc_row_words.specs.Column.{Column, IsColumn, RouterMarks, ShowsHolder, ShowsMarks, ShowsPhase, sends_by}
 use Rattle.noc_row_blocks.specs.Cycle.{HasSwitched, Surroundings, single_in}
 use Rattle.noc_row_words.specs.Grants.{Allocation, phase_granted, with_grant}

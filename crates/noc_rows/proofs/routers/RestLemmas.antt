@@ -5,9 +5,9 @@ use Rattle.std.proofs.lemmas.Bool.{false≢true, eq-eqb, ne_eqb, cases_lt}
 use Rattle.std.proofs.lemmas.List.{get_or_past}
 use Rattle.std.proofs.lemmas.Option.{same_Some}
 use Rattle.std.proofs.lemmas.Nat.{pow_pos, div-mul-add, mod-mul-add}
-use Rattle.noc_topo.specs.Words.{below, tabulate, map_indexed, is_some_of}
+use Rattle.noc_topo.specs.Lists.{below, tabulate, map_indexed, is_some_of}
 use Rattle.noc_topo.specs.Shape.{nodes, local_port, neighbour}
-use Rattle.noc_topo.proofs.WordLemmas.{get_or-tabulate, length-tabulate}
+use Rattle.noc_topo.proofs.ListLemmas.{get_or-tabulate, length-tabulate}
 use Rattle.noc_packet.specs.Set.{has_bit}
 use Rattle.noc_packet.proofs.SetLemmas.{has_bit-zero}
 use Rattle.noc_packet.specs.declared.packet.Flit.{Flit}
@@ -16,10 +16,10 @@ use Rattle.noc_route.specs.Channel.{Link}
 use Rattle.noc_vc.specs.Input.{is_idle_phase, is_waiting, is_active}
 use Rattle.noc_vc.specs.declared.input.InputState.{InputState}
 use Rattle.noc_vc.specs.declared.input.InputState.TheVariants.{Idle, Waiting, Active}
-use Rattle.noc_router.specs.Still.{counted_times, view_after_waiting}
-use Rattle.noc_router.specs.View.{Site, View, size_of, view_input, local_channel, idle_beat, counts_after, decided_verdict, decisions_of}
-use Rattle.noc_router.specs.declared.verdict.Finding.{Finding}
-use Rattle.noc_router.specs.declared.verdict.Verdict.TheVariants.{Empty}
+use Rattle.noc_view.specs.Still.{counted_times, view_after_waiting}
+use Rattle.noc_view.specs.View.{Site, View, size_of, view_input, local_channel, idle_beat, counts_after, decided_verdict, decisions_of}
+use Rattle.noc_view.specs.declared.finding.Finding.{Finding}
+use Rattle.noc_view.specs.declared.verdict.Verdict.TheVariants.{Empty}
 use Rattle.noc_theory.specs.declared.limits.TheConstants.{CYCLE_LIMIT}
 use Rattle.noc_theory.specs.Good.{IsGoodSetup}
 use Rattle.noc_theory.specs.Halves.{IsSilent}

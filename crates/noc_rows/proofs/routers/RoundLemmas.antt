@@ -4,10 +4,10 @@ use Rattle.std.specs.Prelude.{◌⊎◌, ◌&&◌, ◌||◌, not, is_some, if◌
 use Rattle.std.proofs.lemmas.Bool.{and_parts, cases_lt, eq-eqb, false≢true, ne_eqb}
 use Rattle.noc_packet.specs.Set.{has_bit}
 use Rattle.noc_packet.proofs.SetLemmas.{both_members, either_members, has_bit-zero}
-use Rattle.noc_alloc.specs.Places.{AreBelow}
+use Rattle.noc_alloc.specs.Sparse.{AreBelow}
 use Rattle.noc_alloc.specs.Requests.{is_given}
-use Rattle.noc_router.specs.Verdict.{ask_of}
-use Rattle.noc_router.specs.View.{View, size_of, view_claim, view_round}
+use Rattle.noc_view.specs.Verdict.{ask_of}
+use Rattle.noc_view.specs.View.{View, size_of, view_claim, view_round}
 use Rattle.noc_row_words.specs.Column.{IsColumn}
 use Rattle.noc_row_words.specs.Grants.{Allocation, HasAllocated, ShowsGrants, winner}
 use Rattle.noc_row_blocks.specs.Moves.{selected_by, some_below, union_from}

@@ -9,7 +9,7 @@ use Rattle.noc_packet.proofs.SetLemmas.{has_bit-zero}
 use Rattle.noc_route.specs.Routes.{Routes, IsRelation, set_at, width}
 use Rattle.noc_vc.specs.Input.{is_empty, is_idle_phase}
 use Rattle.noc_vc.specs.declared.input.InputState.TheVariants.{Waiting}
-use Rattle.noc_router.specs.View.{View, size_of, view_buffer, view_input, first_flit, route_of, route_for}
+use Rattle.noc_view.specs.View.{View, size_of, view_buffer, view_input, first_flit, route_of, route_for}
 use Rattle.noc_row_words.specs.Column.{Column, RouterMarks, ShowsPhase}
 use Rattle.noc_row_words.specs.FlitWords.{FitsWord, flit_word}
 use Rattle.noc_row_blocks.specs.Routed.{HasRouted, sets_by}

@@ -9,10 +9,10 @@ use Rattle.noc_packet.specs.declared.packet.Beat.{Beat}
 use Rattle.noc_packet.specs.declared.packet.Packet.{Packet}
 use Rattle.noc_alloc.specs.Arbiter.{arbiter_at}
 use Rattle.noc_route.specs.Routes.{Routes}
-use Rattle.noc_router.specs.Arrivals.{is_expected_in, arrivals_after}
-use Rattle.noc_alloc.specs.Places.{AreBelow}
-use Rattle.noc_router.specs.Verdict.{arbiters_after}
-use Rattle.noc_router.specs.View.{View, Decisions, size_of, view_round, decisions_of, view_after_commit, with_arrival, with_misfit, tail_packet, flit_out, view_after_inject, view_after_takes, local_step}
+use Rattle.noc_view.specs.Arrivals.{is_expected_in, arrivals_after}
+use Rattle.noc_alloc.specs.Sparse.{AreBelow}
+use Rattle.noc_view.specs.Verdict.{arbiters_after}
+use Rattle.noc_view.specs.View.{View, Decisions, size_of, view_round, decisions_of, view_after_commit, with_arrival, with_misfit, tail_packet, flit_out, view_after_inject, view_after_takes, local_step}
 use Rattle.noc_row_words.specs.Column.{Column, IsColumn, RouterMarks, ShowsMarks}
 use Rattle.noc_row_blocks.specs.Cycle.{HasSwitched, Surroundings, single_in}
 use Rattle.noc_row_words.specs.Grants.{Allocation}

@@ -2,7 +2,7 @@
 use Rattle.std.proofs.Common.{◌≡◌, ℕ, suc, ◌+◌, ◌-◌, ◌*◌, ◌<◌, ◌≤◌, true, false, cond, List, [], ◌∷◌, map, Option, Some, None, refl, ap, sym, ◌∙◌, inl, inr, subst, arith}
 use Rattle.std.specs.Prelude.{◌⊎◌, ◌&&◌, not, if◌then◌else◌}
 use Rattle.std.proofs.lemmas.Bool.{false≢true, le-ltb, lt-leb, or_left, or_cases}
-use Rattle.noc_topo.specs.Words.{Has}
+use Rattle.noc_topo.specs.Lists.{Has}
 use Rattle.noc_topo.specs.Shape.{nodes, distance}
 use Rattle.noc_packet.specs.Packet.{flit_at}
 use Rattle.noc_packet.specs.declared.packet.Packet.{Packet}
@@ -12,11 +12,11 @@ use Rattle.noc_route.specs.Channel.{Channel, Link, Inject, Eject}
 use Rattle.noc_route.specs.Routes.{Routes}
 use Rattle.noc_vc.specs.Input.{Input, is_empty, is_idle_phase}
 use Rattle.noc_vc.specs.declared.input.InputState.TheVariants.{Idle}
-use Rattle.noc_router.specs.Sound.{is_occupied}
-use Rattle.noc_router.specs.Still.{IsHeldBefore, takes_effect, view_after_waiting}
-use Rattle.noc_router.specs.declared.verdict.Verdict.TheVariants.{Empty}
-use Rattle.noc_router.specs.View.{Site, View, size_of, view_buffer, view_input, idle_beats, view_after_take, view_after_takes_from, view_after_takes, with_flit, with_credit, view_after_inject_from, view_after_inject, decisions_of, view_after_commit, counts_after, local_step}
-use Rattle.noc_router.proofs.VacantLemmas.{vacant-committed, no_event}
+use Rattle.noc_view.specs.States.{is_occupied}
+use Rattle.noc_view.specs.Still.{IsHeldBefore, takes_effect, view_after_waiting}
+use Rattle.noc_view.specs.declared.verdict.Verdict.TheVariants.{Empty}
+use Rattle.noc_view.specs.View.{Site, View, size_of, view_buffer, view_input, idle_beats, view_after_take, view_after_takes_from, view_after_takes, with_flit, with_credit, view_after_inject_from, view_after_inject, decisions_of, view_after_commit, counts_after, local_step}
+use Rattle.noc_view.proofs.VacantLemmas.{vacant-committed, no_event}
 use Rattle.noc_theory.specs.declared.limits.TheConstants.{CYCLE_LIMIT}
 use Rattle.noc_theory.specs.Good.{IsGoodSetup, IsValid}
 use Rattle.noc_theory.specs.Halves.{IsSilent}
@@ -130,7 +130,7 @@ all-silent relation row v silent = taken-silent relation 0 row v silent
 none-due : (end n : ℕ) (queue : List (ℕ × Packet)) (v : View) → n < end → IsDueFrom end queue → view_after_inject_from n queue None v ≡ v
 none-due end n [] v l due = refl
 none-due end n ((number, p) ∷ rest) v l due =
-    ap (λ b. if b then Rattle.noc_router.specs.View.begun_on (Rattle.std.specs.Prelude.find (Rattle.noc_router.specs.View.is_vacant v) (Rattle.noc_topo.specs.Words.below v.site.vcs)) number p rest v else v) (lt-leb p.due n (omega (arith, l, due)))
+    ap (λ b. if b then Rattle.noc_view.specs.View.begun_on (Rattle.std.specs.Prelude.find (Rattle.noc_view.specs.View.is_vacant v) (Rattle.noc_topo.specs.Lists.below v.site.vcs)) number p rest v else v) (lt-leb p.due n (omega (arith, l, due)))
 
 pub asleep-held : (end : ℕ) (v : View) → IsAsleep end v → IsHeldBefore end v
 unfolding view_after_inject

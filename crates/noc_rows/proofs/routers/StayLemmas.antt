@@ -4,18 +4,18 @@ use Rattle.std.specs.Prelude.{is_some, nat_lt, slice_index, slice_index_or, slic
 use Rattle.std.proofs.lemmas.Bool.{lt-ltb}
 use Rattle.std.proofs.lemmas.List.{get_or-map}
 use Rattle.std.proofs.lemmas.Nat.{le_or_l, le_or_r}
-use Rattle.noc_topo.specs.Words.{is_some_of}
+use Rattle.noc_topo.specs.Lists.{is_some_of}
 use Rattle.noc_topo.specs.Shape.{nodes}
-use Rattle.noc_topo.proofs.WordLemmas.{length-tabulate}
+use Rattle.noc_topo.proofs.ListLemmas.{length-tabulate}
 use Rattle.noc_packet.specs.declared.packet.Beat.{Beat}
 use Rattle.noc_packet.specs.declared.packet.Flit.{Flit}
 use Rattle.noc_packet.specs.declared.packet.Packet.{Packet}
-use Rattle.noc_router.proofs.VacantLemmas.{vacant-counted}
-use Rattle.noc_alloc.specs.Places.{AreBelow}
-use Rattle.noc_router.specs.Still.{counted_times, view_after_waiting}
-use Rattle.noc_router.specs.Verdict.{column}
-use Rattle.noc_router.specs.View.{Site, View, size_of, counts_after, view_buffer}
-use Rattle.noc_router.specs.declared.verdict.Verdict.TheVariants.{Empty}
+use Rattle.noc_view.proofs.VacantLemmas.{vacant-counted}
+use Rattle.noc_alloc.specs.Sparse.{AreBelow}
+use Rattle.noc_view.specs.Still.{counted_times, view_after_waiting}
+use Rattle.noc_view.specs.Verdict.{column}
+use Rattle.noc_view.specs.View.{Site, View, size_of, counts_after, view_buffer}
+use Rattle.noc_view.specs.declared.verdict.Verdict.TheVariants.{Empty}
 use Rattle.noc_theory.specs.declared.limits.TheConstants.{CYCLE_LIMIT}
 use Rattle.noc_theory.specs.Good.{IsGoodSetup}
 use Rattle.noc_theory.specs.Halves.{IsSilent}

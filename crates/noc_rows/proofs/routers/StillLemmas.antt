@@ -2,12 +2,12 @@
 use Rattle.std.proofs.Common.{◌≡◌, ℕ, ◌-◌, ◌<◌, ◌≤◌, false, List, [], map, length, get_or, ap, sym, ◌∙◌, subst, arith}
 use Rattle.std.specs.List.{All}
 use Rattle.std.proofs.lemmas.List.{length-map, get_or-map, get_or_default}
-use Rattle.noc_topo.specs.Words.{tabulate}
+use Rattle.noc_topo.specs.Lists.{tabulate}
 use Rattle.noc_topo.specs.Shape.{nodes}
-use Rattle.noc_topo.proofs.WordLemmas.{get_or-tabulate, length-tabulate}
-use Rattle.noc_router.specs.Still.{IsHeldBefore, takes_effect, view_after_waiting}
-use Rattle.noc_router.specs.View.{View}
-use Rattle.noc_router.specs.declared.verdict.Findings.TheVariants.{Leave}
+use Rattle.noc_topo.proofs.ListLemmas.{get_or-tabulate, length-tabulate}
+use Rattle.noc_view.specs.Still.{IsHeldBefore, takes_effect, view_after_waiting}
+use Rattle.noc_view.specs.View.{View}
+use Rattle.noc_view.specs.declared.finding.Recording.TheVariants.{Leave}
 use Rattle.noc_theory.specs.declared.limits.TheConstants.{CYCLE_LIMIT}
 use Rattle.noc_theory.specs.Good.{IsGoodSetup}
 use Rattle.noc_theory.specs.Halves.{IsSilent, beat_at}

@@ -5,7 +5,7 @@ use Rattle.std.specs.Int.{trailing_zeros, w32}
 use Rattle.std.proofs.lemmas.Bool.{cases_eq, eq-eqb, le-leb, ne_eqb, eqb-true, true≢false, false≢true, and_parts}
 use Rattle.std.proofs.lemmas.List.{get_or-map}
 use Rattle.std.proofs.lemmas.Nat.{div_below, mod_below, mul-add-lt, pow_below}
-use Rattle.noc_topo.specs.Words.{is_some_of}
+use Rattle.noc_topo.specs.Lists.{is_some_of}
 use Rattle.noc_topo.specs.Shape.{ports}
 use Rattle.noc_packet.specs.Set.{has_bit}
 use Rattle.noc_packet.proofs.SetLemmas.{both_members, either_members, has_bit-zero}
@@ -14,11 +14,10 @@ use Rattle.noc_route.specs.Routes.{Routes}
 use Rattle.noc_vc.specs.Input.{is_active, is_empty, is_idle_phase}
 use Rattle.noc_vc.specs.declared.input.InputState.{InputState}
 use Rattle.noc_vc.specs.declared.input.InputState.TheVariants.{Idle, Waiting, Active}
-use Rattle.noc_alloc.specs.Places.{AreBelow}
-use Rattle.noc_router.specs.Sound.{is_supplied}
-use Rattle.noc_router.specs.Standing.{is_won_from}
-use Rattle.noc_router.specs.Verdict.{ask_of, out_of}
-use Rattle.noc_router.specs.View.{View, size_of, view_buffer, view_claim, claim_in, view_input, view_round, mover_to}
+use Rattle.noc_alloc.specs.Sparse.{AreBelow}
+use Rattle.noc_view.specs.States.{is_supplied, is_won_from}
+use Rattle.noc_view.specs.Verdict.{ask_of, out_of}
+use Rattle.noc_view.specs.View.{View, size_of, view_buffer, view_claim, claim_in, view_input, view_round, mover_to}
 use Rattle.noc_row_words.specs.Column.{IsColumn, ShowsPhase, sends_by}
 use Rattle.noc_row_blocks.specs.Cycle.{Surroundings, chosen_by}
 use Rattle.noc_row_words.specs.Grants.{Allocation, phase_granted, with_grant}

@@ -2,14 +2,14 @@
 use Rattle.std.proofs.Common.{◌≡◌, ℕ, suc, ◌+◌, ◌-◌, ◌*◌, ◌%◌, ◌^◌, ◌<◌, ◌≤◌, Bool, true, false, List, [], length, sum, refl, ap, sym, ◌∙◌, subst, arith, add-one, bit_and, bit_or}
 use Rattle.std.specs.Prelude.{◌&&◌, not, nat_eq, nat_le, nat_lt, slice_index, slice_index_or, if◌then◌else◌}
 use Rattle.noc_topo.specs.Shape.{nodes, ports}
-use Rattle.noc_topo.proofs.WordLemmas.{get_or-tabulate, length-tabulate}
+use Rattle.noc_topo.proofs.ListLemmas.{get_or-tabulate, length-tabulate}
 use Rattle.noc_packet.specs.Set.{has_bit}
 use Rattle.noc_packet.proofs.SetLemmas.{both_members, has_bit-zero}
 use Rattle.noc_alloc.specs.Arbiter.{arbiter_at}
-use Rattle.noc_counts.specs.Counts.{one_if}
-use Rattle.noc_alloc.specs.Places.{AreBelow}
-use Rattle.noc_router.specs.Standing.{is_won_from}
-use Rattle.noc_router.specs.View.{Site, View, first_flit, is_tail, local_channel, decisions_of, size_of, view_input, view_round}
+use Rattle.noc_topo.specs.Lists.{one_if}
+use Rattle.noc_alloc.specs.Sparse.{AreBelow}
+use Rattle.noc_view.specs.States.{is_won_from}
+use Rattle.noc_view.specs.View.{Site, View, first_flit, is_tail, local_channel, decisions_of, size_of, view_input, view_round}
 use Rattle.noc_theory.specs.declared.limits.TheConstants.{CYCLE_LIMIT}
 use Rattle.noc_theory.specs.Good.{IsGoodSetup}
 use Rattle.noc_theory.specs.Lockstep.{counts_before, view_at, view_in}
@@ -268,10 +268,10 @@ module _ (net : Setup) (setup : IsGoodSetup net) (n r : ℕ) (l : r < nodes net.
   pub arrived-event : (count links local room : ℕ) (starts : List Start) (m : RouterMarks) (old new : Block) (before after : Inbox) (k : ℕ) (ring : ℕ → List ℕ)
       → IsColumn count (column_at old.lanes k) m (view_at net n r) → ShowsWires (view_at net n r) (word before.flits k) (word before.credits k) ring (beats net setup n r l)
       → ShowsSource starts (source_at old.sources k) (view_at net n r)
-      → net.places < 2 ^ count → 0 < net.places
+      → net.depth < 2 ^ count → 0 < net.depth
       → ((i : ℕ) → has_bit local i ≡ (nat_le (local_channel (view_at net n r).site 0) i && nat_lt i (size_of (view_at net n r).site)))
       → ((o : ℕ) → m.owner o % 32 ≡ owner_in old.marks.owner k o)
-      → HasArrived (words_of count net.places) links local n room starts old new before after k
+      → HasArrived (words_of count net.depth) links local n room starts old new before after k
       → (frozen_view net setup n r l).had_event ≡ not (nat_eq (bit_or (word new.arrived.landed k) (word new.returned.credited k)) 0)
   arrived-event count links local room starts m old new before after k ring column wires source fits some_place is-local named arrived =
       came-event net setup n r l few count links local room starts m old new before after k ring column wires source narrow fits some_place is-local named arrived

@@ -2,12 +2,12 @@
 use Rattle.std.proofs.Common.{◌≡◌, ℕ, zero, suc, ◌+◌, ◌-◌, ◌*◌, ◌^◌, ◌<◌, ◌≤◌, Bool, true, false, List, sum, refl, ap, sym, ◌∙◌, arith}
 use Rattle.std.specs.Prelude.{nat_lt, slice_index, if◌then◌else◌}
 use Rattle.std.proofs.lemmas.Bool.{lt-ltb, true≢false}
-use Rattle.noc_counts.specs.Counts.{one_if}
-use Rattle.noc_router.specs.Still.{counted_times}
-use Rattle.noc_router.specs.Verdict.{is_event}
-use Rattle.noc_router.specs.View.{counts_after}
-use Rattle.noc_router.specs.declared.verdict.Verdict.{Verdict}
-use Rattle.noc_router.specs.declared.verdict.Verdict.TheVariants.{Empty, Routed, Granted, Moved, NoFlit, NoIdleChannel, LostChannel, NoCredit, LostInput, LostSwitch}
+use Rattle.noc_topo.specs.Lists.{one_if}
+use Rattle.noc_view.specs.Still.{counted_times}
+use Rattle.noc_view.specs.Verdict.{is_event}
+use Rattle.noc_view.specs.View.{counts_after}
+use Rattle.noc_view.specs.declared.verdict.Verdict.{Verdict}
+use Rattle.noc_view.specs.declared.verdict.Verdict.TheVariants.{Empty, Routed, Granted, Moved, NoFlit, NoIdleChannel, LostChannel, NoCredit, LostInput, LostSwitch}
 use Rattle.noc_row_words.specs.Tallied.{nine_counts, ten_counts}
 use Rattle.noc_row_words.specs.declared.sheet.VerdictCounts.{VerdictCounts}
 use Rattle.noc_rows.proofs.routers.CountLemmas.{rises, risen, ten-same}

@@ -4,16 +4,16 @@ use Rattle.std.specs.Prelude.{◌⊎◌, find, is_some, nat_le, nat_lt, option_m
 use Rattle.std.specs.List.{list_any}
 use Rattle.std.proofs.lemmas.Bool.{cases_lt, le-leb, lt-leb, true≢false}
 use Rattle.noc_topo.specs.Shape.{nodes}
-use Rattle.noc_topo.specs.Words.{below}
+use Rattle.noc_topo.specs.Lists.{below}
 use Rattle.noc_packet.specs.Packet.{flit_at}
 use Rattle.noc_packet.specs.declared.packet.Flit.{Flit}
 use Rattle.noc_packet.specs.declared.packet.Packet.{Packet}
 use Rattle.noc_route.specs.Routes.{Routes}
-use Rattle.noc_router.specs.Still.{IsHeldBefore, takes_effect}
-use Rattle.noc_router.specs.Verdict.{is_event}
-use Rattle.noc_router.specs.View.{Decisions, View, begun_on, decisions_of, has_event, is_vacant, local_channel, local_step, view_after_inject, view_after_inject_from, view_after_takes, view_buffer, view_round, with_injected}
-use Rattle.noc_router.specs.declared.verdict.Finding.{Finding}
-use Rattle.noc_router.proofs.StillLemmas.{still-committed}
+use Rattle.noc_view.specs.Still.{IsHeldBefore, takes_effect}
+use Rattle.noc_view.specs.Verdict.{is_event}
+use Rattle.noc_view.specs.View.{Decisions, View, begun_on, decisions_of, has_event, is_vacant, local_channel, local_step, view_after_inject, view_after_inject_from, view_after_takes, view_buffer, view_round, with_injected}
+use Rattle.noc_view.specs.declared.finding.Finding.{Finding}
+use Rattle.noc_view.proofs.StillLemmas.{still-committed}
 use Rattle.noc_theory.specs.declared.limits.TheConstants.{CYCLE_LIMIT}
 use Rattle.noc_theory.specs.Good.{IsGoodSetup}
 use Rattle.noc_theory.specs.Halves.{IsSilent}
@@ -36,7 +36,7 @@ use Rattle.noc_rows.proofs.routers.StayLemmas.{silent-shown}
 held-at : (n m : ℕ) (queue : List (ℕ × Packet)) (sending : Option (ℕ × ℕ)) (v : View) → is_some (injection_from n queue sending v) ≡ false → (n < due_of queue → m < due_of queue)
     → view_after_inject_from m queue sending (record v { given = m }) ≡ record v { given = m }
 held-at n m [] sending v none due = refl
-held-at n m ((number, p) ∷ rest) (Some (vc, index)) v none due = room (nat_lt (length (view_buffer v (local_channel v.site vc))) v.site.places) none
+held-at n m ((number, p) ∷ rest) (Some (vc, index)) v none due = room (nat_lt (length (view_buffer v (local_channel v.site vc))) v.site.depth) none
   where
     room : (b : Bool) → is_some {T = ℕ × Flit} (if b then Some (vc, flit_at p number index) else None) ≡ false
         → (if b then with_injected vc index number p rest (record v { given = m }) else (record v { given = m })) ≡ record v { given = m }

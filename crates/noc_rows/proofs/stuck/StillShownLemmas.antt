@@ -2,10 +2,10 @@
 use Rattle.std.proofs.Common.{◌≡◌, ℕ, suc, ◌+◌, ◌-◌, ◌<◌, ◌≤◌, false, List, [], sum, ap, sym, ◌∙◌, subst, arith}
 use Rattle.std.specs.Prelude.{slice_index_or}
 use Rattle.noc_topo.specs.Shape.{nodes}
-use Rattle.noc_topo.proofs.WordLemmas.{get_or-map_indexed}
-use Rattle.noc_router.specs.Still.{IsHeldBefore, counted_times, takes_effect, view_after_waiting}
-use Rattle.noc_router.specs.View.{Site, View, counts_after, decided_verdict, decisions_of, size_of}
-use Rattle.noc_router.proofs.StillLemmas.{still-verdict}
+use Rattle.noc_topo.proofs.ListLemmas.{get_or-map_indexed}
+use Rattle.noc_view.specs.Still.{IsHeldBefore, counted_times, takes_effect, view_after_waiting}
+use Rattle.noc_view.specs.View.{Site, View, counts_after, decided_verdict, decisions_of, size_of}
+use Rattle.noc_view.proofs.StillLemmas.{still-verdict}
 use Rattle.noc_theory.specs.declared.limits.TheConstants.{CYCLE_LIMIT}
 use Rattle.noc_theory.specs.Good.{IsGoodSetup}
 use Rattle.noc_theory.specs.Halves.{IsSilent}

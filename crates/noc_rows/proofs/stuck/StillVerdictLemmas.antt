@@ -7,21 +7,21 @@ use Rattle.std.proofs.lemmas.Nat.{div-add-mod', mul-add-lt}
 use Rattle.std.proofs.lemmas.Option.{none-some}
 use Rattle.std.proofs.Math.Nat.{div-lt_iff_lt-mul, mod-lt}
 use Rattle.noc_topo.specs.Shape.{ports}
-use Rattle.noc_topo.specs.Words.{is_some_of, tabulate}
-use Rattle.noc_topo.proofs.WordLemmas.{get_or-tabulate, length-tabulate}
+use Rattle.noc_topo.specs.Lists.{is_some_of, tabulate}
+use Rattle.noc_topo.proofs.ListLemmas.{get_or-tabulate, length-tabulate}
 use Rattle.noc_route.specs.Routes.{Routes}
 use Rattle.noc_alloc.specs.Allocation.{grant_of, pick_of, winner_of}
 use Rattle.noc_alloc.proofs.WordLemmas.{is_some_of-some}
 use Rattle.noc_vc.specs.Input.{is_empty}
 use Rattle.noc_vc.specs.declared.input.InputState.TheVariants.{Active}
-use Rattle.noc_router.specs.Still.{takes_effect}
-use Rattle.noc_router.specs.Verdict.{Claim, Holds, Stand, Unrouted, Waits, ask_of, asks_of, is_event, ready_of, ready_port, verdict_of}
+use Rattle.noc_view.specs.Still.{takes_effect}
+use Rattle.noc_view.specs.Verdict.{Claim, Holds, Stand, Unrouted, Waits, ask_of, asks_of, is_event, ready_of, ready_port, verdict_of}
 use Rattle.noc_alloc.specs.Arbiter.{pointers_of}
-use Rattle.noc_router.specs.View.{View, decided_verdict, decisions_of, size_of, view_buffer, view_claim, view_input, view_stand, view_stands}
-use Rattle.noc_router.specs.declared.verdict.Verdict.{Verdict}
-use Rattle.noc_router.specs.declared.verdict.Verdict.TheVariants.{Granted, LostChannel, LostInput, LostSwitch, Moved}
-use Rattle.noc_router.proofs.PlanLemmas.{Lists, asks-at, claim-holds, claim-waits, decided-is, granted-asks, is-granted, lists_of_round, ready_port-some, verdict_in}
-use Rattle.noc_router.proofs.StillLemmas.{still-verdict}
+use Rattle.noc_view.specs.View.{View, decided_verdict, decisions_of, size_of, view_buffer, view_claim, view_input, view_stand, view_stands}
+use Rattle.noc_view.specs.declared.verdict.Verdict.{Verdict}
+use Rattle.noc_view.specs.declared.verdict.Verdict.TheVariants.{Granted, LostChannel, LostInput, LostSwitch, Moved}
+use Rattle.noc_view.proofs.PlanLemmas.{Lists, asks-at, claim-holds, claim-waits, decided-is, granted-asks, is-granted, lists_of_round, ready_port-some, verdict_in}
+use Rattle.noc_view.proofs.StillLemmas.{still-verdict}
 use Rattle.noc_theory.proofs.budget.AllocationLemmas.{first_in_turn-some, moves-at, switch-moves}
 
 -- whether a channel has lost to another

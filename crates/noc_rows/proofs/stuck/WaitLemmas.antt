@@ -4,8 +4,8 @@ use Rattle.std.specs.Prelude.{find, nat_eq, option_and_then, slice_index}
 use Rattle.std.proofs.lemmas.Nat.{div-add-mod'}
 use Rattle.std.proofs.lemmas.Option.{same_Some, slice_get_within}
 use Rattle.noc_topo.specs.Shape.{nodes, ports}
-use Rattle.noc_router.specs.Still.{IsHeldBefore, takes_effect}
-use Rattle.noc_router.specs.View.{Site, View, size_of}
+use Rattle.noc_view.specs.Still.{IsHeldBefore, takes_effect}
+use Rattle.noc_view.specs.View.{Site, View, size_of}
 use Rattle.noc_theory.specs.declared.limits.TheConstants.{CYCLE_LIMIT}
 use Rattle.noc_theory.specs.Good.{IsGoodSetup}
 use Rattle.noc_theory.specs.Halves.{IsSilent}
@@ -197,13 +197,13 @@ module _ (net : Setup) (setup : IsGoodSetup net) (n t end : ℕ) (sums : n + suc
     pub wait-rows : (new : Rows) → new ≡ record mid { sheets = new.sheets; cycle = new.cycle } → new.sheets.items ≡ nexts → new.cycle ≡ end → IsRows net end new
     wait-rows new kept sheets cycle = record {
       cycle = cycle;
-      frame = subst (λ f. IsFrameOf net.relation net.places f) (sym (ap (λ (x : Rows). x.frame) kept)) is.frame;
+      frame = subst (λ f. IsFrameOf net.relation net.depth f) (sym (ap (λ (x : Rows). x.frame) kept)) is.frame;
       starts = ap (λ (x : Rows). x.starts.items) kept ∙ is.starts;
       blocks_are = ap (λ (x : Rows). length x.blocks.items) kept ∙ is.blocks_are;
       sheets_are = ap (λ xs. length xs) sheets ∙ waited.many ∙ is.sheets_are ∙ sym (ap (λ (x : Rows). length x.blocks.items) kept);
       inboxes_are = ap (λ (x : Rows). length x.wires.inboxes.items) kept ∙ is.inboxes_are ∙ sym (ap (λ (x : Rows). length x.blocks.items + 1) kept);
       flags_are = ap (λ (x : Rows). length x.wires.busy.items) kept ∙ is.flags_are ∙ sym (ap (λ (x : Rows). length x.blocks.items + 1) kept);
-      places = subst (λ (x : Rows). net.places ≤ room_of x.wires.room) (sym kept) is.places;
+      places = subst (λ (x : Rows). net.depth ≤ room_of x.wires.room) (sym kept) is.places;
       blocks = λ b block sheet e f.
           subst (λ (x : Rows). ShowsBlock net end x.frame x.starts.items (room_of x.wires.room) (length x.blocks.items) b block sheet (inbox_at x.wires.inboxes.items b)) (sym kept)
           (block-waits b block sheet (ap (λ (x : Rows). slice_get x.blocks.items b) (sym kept) ∙ e) (ap (λ xs. slice_get xs b) (sym sheets) ∙ f));

@@ -7,7 +7,7 @@ use Rattle.noc_topo.specs.Shape.{nodes}
 use Rattle.noc_packet.specs.Set.{has_bit}
 use Rattle.noc_packet.proofs.SetLemmas.{both_members, has_bit-above, has_bit-zero, zero_from_none}
 use Rattle.noc_packet.specs.declared.packet.Flit.{Flit}
-use Rattle.noc_router.specs.View.{Site, first_flit, is_tail, size_of}
+use Rattle.noc_view.specs.View.{Site, first_flit, is_tail, size_of}
 use Rattle.noc_theory.specs.declared.limits.TheConstants.{CYCLE_LIMIT}
 use Rattle.noc_theory.specs.Good.{IsGoodSetup}
 use Rattle.noc_theory.specs.Lockstep.{beats_at, beats_in, view_at}
@@ -64,7 +64,7 @@ pub element : {X : Type 0} (xs : List X) (b : ℕ) → b < length xs → (x : X)
 element [] b l = absurd (omega (arith, l))
 element (x ∷ xs) b l = (get_or (x ∷ xs) b x, slice_get-get_or (x ∷ xs) b x l)
 
-module _ (net : Setup) (setup : IsGoodSetup net) (n : ℕ) (few : n < CYCLE_LIMIT) (frame : Frame) (is_frame : IsFrameOf net.relation net.places frame) (starts : List Start) (room : ℕ) (enough : net.places ≤ room)
+module _ (net : Setup) (setup : IsGoodSetup net) (n : ℕ) (few : n < CYCLE_LIMIT) (frame : Frame) (is_frame : IsFrameOf net.relation net.depth frame) (starts : List Start) (room : ℕ) (enough : net.depth ≤ room)
     (woke frozen moved : List Block) (before after : List Inbox) (start end : Wires) (sheets : List Sheet)
     (few_blocks : length woke ≤ 8) (covered : nodes net.relation.grid * 32 ≤ length woke * 1024) (long : length woke ≤ length before) (paired : length sheets ≡ length woke)
     (bytes : (b : ℕ) (block : Block) → slice_get woke b ≡ Some block → (p : ℕ) → slice_index block.marks.first p < 256)

@@ -3,8 +3,8 @@ use Rattle.std.specs.Prelude.{◌≡◌, ℕ, ◌*◌, ◌<◌, Bool, true, fals
 use Rattle.noc_topo.specs.Shape.{nodes}
 use Rattle.noc_packet.specs.Set.{has_bit}
 use Rattle.noc_vc.specs.declared.input.InputState.TheVariants.{Active}
-use Rattle.noc_alloc.specs.Places.{AreBelow}
-use Rattle.noc_router.specs.View.{View, view_after_takes, view_after_inject, view_buffer, view_input}
+use Rattle.noc_alloc.specs.Sparse.{AreBelow}
+use Rattle.noc_view.specs.View.{View, view_after_takes, view_after_inject, view_buffer, view_input}
 use Rattle.noc_theory.specs.Lockstep.{beats_at, beats_in, site_at, view_at}
 use Rattle.noc_theory.specs.Network.{Setup, size, state_at}
 use Rattle.noc_row_blocks.specs.Carried.{WireWords}

@@ -8,8 +8,8 @@ use Rattle.noc_topo.proofs.LinkLemmas.{link_back}
 use Rattle.noc_packet.specs.Set.{has_bit}
 use Rattle.noc_vc.specs.declared.input.InputState.{InputState}
 use Rattle.noc_vc.specs.declared.input.InputState.TheVariants.{Active}
-use Rattle.noc_router.specs.Verdict.{ask_of}
-use Rattle.noc_router.specs.View.{Site, claim_in, first_flit, is_tail, size_of, view_input}
+use Rattle.noc_view.specs.Verdict.{ask_of}
+use Rattle.noc_view.specs.View.{Site, claim_in, first_flit, is_tail, size_of, view_input}
 use Rattle.noc_theory.specs.Good.{IsGoodSetup}
 use Rattle.noc_theory.specs.Lockstep.{site_at}
 use Rattle.noc_theory.specs.Network.{Setup, size}
@@ -37,7 +37,7 @@ use Rattle.noc_rows.proofs.routers.LeadLemmas.{back-leads, lead-leads}
 use Rattle.noc_rows.proofs.network.NetworkLemmas.{frozen-seen, frozen_view, good}
 use Rattle.noc_rows.proofs.routers.SwitchedLemmas.{some-found}
 
-module _ (net : Setup) (setup : IsGoodSetup net) (frame : Frame) (is_frame : IsFrameOf net.relation net.places frame) (blocks : ℕ)
+module _ (net : Setup) (setup : IsGoodSetup net) (frame : Frame) (is_frame : IsFrameOf net.relation net.depth frame) (blocks : ℕ)
     (few_blocks : blocks ≤ 8) (covered : nodes net.relation.grid * 32 ≤ blocks * 1024)
     (block : Block) (r k : ℕ) (l : r < nodes net.relation.grid) (linked : HasLinksOf net.relation frame (min blocks 8 * 1024) block r k) where
   spare-is : min blocks 8 * 1024 ≡ blocks * 1024
@@ -122,7 +122,7 @@ none-of (suc n) test o e l = at (some_below n test) refl (test n) refl (cases_eq
     at false ea false et (inr other) lower = lower ea (omega (arith, l, other))
 
 module _ (net : Setup) (setup : IsGoodSetup net) (n r : ℕ) (l : r < nodes net.relation.grid) (frame : Frame)
-    (is_frame : IsFrameOf net.relation net.places frame) (blocks : ℕ) (few_blocks : blocks ≤ 8)
+    (is_frame : IsFrameOf net.relation net.depth frame) (blocks : ℕ) (few_blocks : blocks ≤ 8)
     (covered : nodes net.relation.grid * 32 ≤ blocks * 1024) (room : ℕ) (starts : List Start) (frozen chosen : Block) (after : Inbox) (k : ℕ)
     (linked : HasLinksOf net.relation frame (min blocks 8 * 1024) frozen r k)
     (is : IsFrozen 5 room starts (marks_at frozen.marks k) (λ i. slice_index frozen.marks.first (place_of k i)) frozen after k (frozen_of net n r))

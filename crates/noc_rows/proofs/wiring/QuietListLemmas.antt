@@ -4,14 +4,14 @@ use Rattle.std.specs.Prelude.{◌&&◌, None, min, nat_lt, slice_get, slice_inde
 use Rattle.std.proofs.lemmas.Bool.{and_parts, false≢true, ltb-true}
 use Rattle.std.proofs.lemmas.Nat.{div-add-mod'}
 use Rattle.std.proofs.lemmas.Option.{slice_get-get_or}
-use Rattle.noc_topo.specs.Words.{is_some_of}
+use Rattle.noc_topo.specs.Lists.{is_some_of}
 use Rattle.noc_topo.specs.Shape.{nodes}
 use Rattle.noc_packet.specs.Set.{has_bit}
 use Rattle.noc_packet.proofs.SetLemmas.{has_bit-zero}
 use Rattle.noc_vc.specs.declared.input.InputState.{InputState}
 use Rattle.noc_vc.specs.declared.input.InputState.TheVariants.{Idle, Waiting, Active}
-use Rattle.noc_router.specs.Standing.{is_won_from}
-use Rattle.noc_router.specs.View.{Site, size_of, view_input, view_round}
+use Rattle.noc_view.specs.States.{is_won_from}
+use Rattle.noc_view.specs.View.{Site, size_of, view_input, view_round}
 use Rattle.noc_theory.specs.Good.{IsGoodSetup}
 use Rattle.noc_theory.specs.Lockstep.{site_at}
 use Rattle.noc_theory.specs.Network.{Setup, size}
@@ -34,7 +34,7 @@ use Rattle.noc_rows.proofs.network.NetworkLemmas.{frozen-seen, frozen-tidy}
 use Rattle.noc_rows.proofs.network.NetworkMoveLemmas.{is_moving, moves-are, moves-below, moves_at}
 use Rattle.noc_rows.proofs.wiring.QuietLemmas.{block-moves, block-quiet}
 
-module _ (net : Setup) (setup : IsGoodSetup net) (n : ℕ) (frame : Frame) (is_frame : IsFrameOf net.relation net.places frame) (moved new : List Block)
+module _ (net : Setup) (setup : IsGoodSetup net) (n : ℕ) (frame : Frame) (is_frame : IsFrameOf net.relation net.depth frame) (moved new : List Block)
     (sheets nexts : List Sheet) (near : ℕ)
     (few_blocks : length moved ≤ 8) (covered : nodes net.relation.grid * 32 ≤ length moved * 1024) (paired : length sheets ≡ length moved)
     (concluded : HaveConcluded frame n near moved new sheets nexts)

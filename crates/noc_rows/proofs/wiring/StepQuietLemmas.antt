@@ -5,7 +5,7 @@ use Rattle.std.proofs.lemmas.Bool.{and_parts, ltb-true}
 use Rattle.std.proofs.lemmas.Option.{same_Some, slice_get_within}
 use Rattle.noc_topo.specs.Shape.{nodes}
 use Rattle.noc_packet.specs.Set.{has_bit}
-use Rattle.noc_router.specs.View.{Site, size_of}
+use Rattle.noc_view.specs.View.{Site, size_of}
 use Rattle.noc_theory.specs.declared.limits.TheConstants.{CYCLE_LIMIT}
 use Rattle.noc_theory.specs.Good.{IsGoodSetup}
 use Rattle.noc_theory.specs.Network.{Setup, size}
@@ -39,8 +39,8 @@ use Rattle.noc_rows.proofs.network.NetworkMoveLemmas.{by_block, is_moving, moves
 use Rattle.noc_rows.proofs.wiring.QuietListLemmas.{lists-quiet}
 use Rattle.noc_rows.proofs.wiring.FrozenWireLemmas.{frozen_of}
 
-module _ (net : Setup) (setup : IsGoodSetup net) (n : ℕ) (few : n < CYCLE_LIMIT) (frame : Frame) (is_frame : IsFrameOf net.relation net.places frame)
-    (starts : List Start) (room : ℕ) (enough : net.places ≤ room)
+module _ (net : Setup) (setup : IsGoodSetup net) (n : ℕ) (few : n < CYCLE_LIMIT) (frame : Frame) (is_frame : IsFrameOf net.relation net.depth frame)
+    (starts : List Start) (room : ℕ) (enough : net.depth ≤ room)
     (woke frozen moved : List Block) (before after : List Inbox) (start end : Wires) (sheets : List Sheet)
     (few_blocks : length woke ≤ 8) (covered : nodes net.relation.grid * 32 ≤ length woke * 1024) (long : length woke ≤ length before)
     (paired : length sheets ≡ length woke)

@@ -3,11 +3,11 @@ use Rattle.std.proofs.Common.{◌≡◌, ℕ, suc, ◌+◌, ◌-◌, ◌*◌, �
 use Rattle.std.specs.Prelude.{slice_index_or, if◌then◌else◌}
 use Rattle.std.proofs.lemmas.Bool.{cases_eq, eq-eqb, ne_eqb}
 use Rattle.std.proofs.lemmas.Nat.{same_from_place}
-use Rattle.noc_topo.specs.Words.{tabulate, is_some_of}
+use Rattle.noc_topo.specs.Lists.{tabulate, is_some_of}
 use Rattle.noc_topo.specs.Shape.{nodes, local_port, neighbour}
-use Rattle.noc_topo.proofs.WordLemmas.{get_or-tabulate}
+use Rattle.noc_topo.proofs.ListLemmas.{get_or-tabulate}
 use Rattle.noc_packet.specs.declared.packet.Beat.{Beat}
-use Rattle.noc_router.specs.View.{Site, idle_beat}
+use Rattle.noc_view.specs.View.{Site, idle_beat}
 use Rattle.noc_theory.specs.Network.{Setup}
 use Rattle.noc_theory.specs.Lockstep.{beat_from, beats_at, wires_after_puts}
 use Rattle.noc_row_words.specs.Column.{Leads, LeadsToPlace, place_of}

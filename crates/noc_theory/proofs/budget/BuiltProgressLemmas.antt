@@ -52,7 +52,7 @@ nearer-good net good m c t r q v e = let s = (good-built net good).shorter m t c
 -- a good network
 pub built-good : (net : Setup) → IsGoodSetup net → IsBuilt net
 built-good net good = record {
-  places = good.some_place;
+  depth = good.some_depth;
   vcs = let v = good.relation.table.some_vcs in omega arith;
   sources = λ p l. (good-packet net good p l).source;
   linked = λ r q a b l e. let back = link_back net.relation.grid r q a b good.relation.table.grid l e in (back.node, back.back);

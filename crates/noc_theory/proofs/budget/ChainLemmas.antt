@@ -3,7 +3,7 @@ use Rattle.std.proofs.Common.{false, ◌≡◌, [], ℕ, ◌+◌, ◌*◌, ◌<�
 use Rattle.std.specs.Prelude.{filter, find, nat_eq, ◌&&◌, IsTrue}
 use Rattle.std.specs.List.{list_any}
 use Rattle.std.proofs.lemmas.Bool.{false≢true, and_from, and_parts, eq-eqb, eqb-true, le-ltb}
-use Rattle.noc_topo.specs.Words.{Has, below}
+use Rattle.noc_topo.specs.Lists.{Has, below}
 use Rattle.noc_route.specs.Channel.{Channel, Link, Inject, Eject}
 use Rattle.noc_theory.specs.Network.{end_distance, Setup, State, Located, Place, Source, On, In, Out, packet_at, place_of_flit, tail_place, owner_of, owned_by, next_channel, leads_from, has_channel, first_waiting, flits_of, is_at_source, is_past, count_in, is_in, is_injection_of}
 use Rattle.noc_theory.specs.Progress.{weight, hops}
@@ -143,7 +143,7 @@ module _ (net : Setup) (built : IsBuilt net) (F : State) (whole : IsWholeFrozen 
 
   module _ (queued : IsQueued net F) where
     -- who owns an injection channel while its tail waits is the first of its node
-    first-is : (n v p : ℕ) → Has (Inject n v, p) F.own → tail_place net F p ≡ Source → first_waiting net F n ≡ Some p
+    pub first-is : (n v p : ℕ) → Has (Inject n v, p) F.own → tail_place net F p ≡ Source → first_waiting net F n ≡ Some p
     first-is n v p h g =
         let low = worm.known (Inject n v) p h in
         let here : n ≡ (packet_at net p).source = worm.near (Inject n v) p h in

@@ -3,7 +3,7 @@ use Rattle.std.proofs.Common.{◌≡◌, ℕ, ◌+◌, ◌*◌, ◌<◌, ◌≤�
 use Rattle.std.specs.Prelude.{find, nat_eq, nat_le, nat_lt, option_map}
 use Rattle.std.specs.List.{AllByRecursion}
 use Rattle.std.proofs.lemmas.Bool.{ltb-true, and_parts, eqb-true, false_from_ne_true}
-use Rattle.noc_topo.specs.Words.{Has, Pairs, Each, below}
+use Rattle.noc_topo.specs.Lists.{Has, Pairs, Each, below}
 use Rattle.noc_route.specs.Channel.{Channel, Link, Inject, Eject, is_link}
 use Rattle.noc_route.proofs.OptionLemmas.{is_none-none}
 use Rattle.noc_theory.specs.Network.{Setup, State, Located, Place, Source, On, In, Injection, packet_at, place_of_flit, tail_place, owner_of, owned_by, leads_from, is_past, is_freed, is_idle, count_in, injection_at, injection_with, is_injection_of, first_waiting, after_landing, after_credits}
@@ -165,4 +165,4 @@ module _ (net : Setup) (built : IsBuilt net) (wired : IsWired net) (S : State) (
             at q None k g = begins node q one w (nat_le (packet_at net q).due n) (sym (ap (injection_with net credited n node q) k) ∙ g) h
             at q (Some j) k g =
                 let in_own = find-has (is_injection_of net node) (owned_by net credited q) j k in
-                goes node q one j (of-has j q credited.own in_own.0) (nat_lt (count_in net credited j) net.places) (sym (ap (injection_with net credited n node q) k) ∙ g) src
+                goes node q one j (of-has j q credited.own in_own.0) (nat_lt (count_in net credited j) net.depth) (sym (ap (injection_with net credited n node q) k) ∙ g) src

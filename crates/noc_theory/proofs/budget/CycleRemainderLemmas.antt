@@ -6,16 +6,16 @@ use Rattle.std.specs.List.{AllByRecursion}
 use Rattle.noc_theory.specs.Network.{after_injection, In, Injection, Located, Setup, State, after_credits, after_landing, all_inputs, end_distance, front_in, frozen_state, has_channel, injected_place, injections, is_the_flit, landed_place, network_cycle, next_channel, packet_at, verdict_in}
 use Rattle.noc_theory.specs.Progress.{events, head_place, is_flying, remainder}
 use Rattle.noc_route.specs.Channel.{Channel, Eject, Link, same_channel}
-use Rattle.noc_router.specs.Verdict.{is_event, is_moved}
-use Rattle.noc_router.specs.declared.verdict.Verdict.TheVariants.{Granted, Routed}
-use Rattle.noc_router.proofs.SettleLemmas.{quiet-moved}
-use Rattle.noc_topo.specs.Words.{Has}
+use Rattle.noc_view.specs.Verdict.{is_event, is_moved}
+use Rattle.noc_view.specs.declared.verdict.Verdict.TheVariants.{Granted, Routed}
+use Rattle.noc_view.proofs.MoverLemmas.{quiet-moved}
+use Rattle.noc_topo.specs.Lists.{Has}
 use Rattle.noc_theory.proofs.worms.BufferLemmas.{same_flit, IsDistinct}
 use Rattle.noc_theory.proofs.budget.NextPhaseLemmas.{HeadsHold, next-stays, next-given}
 use Rattle.noc_theory.proofs.budget.RemainderPhaseLemmas.{FliesRight, FreesBehind, landing-falls, credits-fall}
 use Rattle.noc_theory.proofs.budget.InjectionProgressLemmas.{IsApart, StartsFresh, injections-fall}
 use Rattle.noc_theory.proofs.budget.MovePhaseLemmas.{MovesNear}
-use Rattle.noc_theory.proofs.budget.TurnPhaseLemmas.{TurnsRight, routed-before, verdicts-fall}
+use Rattle.noc_theory.proofs.budget.AllocationPhaseLemmas.{AllocationsRight, routed-before, verdicts-fall}
 
 -- a step that keeps packet and index keeps flits apart
 pub distinct-map : (net : Setup) (step : Located → Located) → ((f : Located) → (step f).packet ≡ f.packet) → ((f : Located) → (step f).index ≡ f.index)
@@ -42,8 +42,8 @@ module _ (net : Setup) (n : ℕ) (F : State) where
         → end_distance net.relation (Link r q v) (packet_at net p).destination + 1 ≡ end_distance net.relation c (packet_at net p).destination
     pub near_end : (p : ℕ) (c : Channel) (m v : ℕ) → p < length net.packets → head_place net F p ≡ In c → next_channel net F c ≡ Some (Eject m v) → end_distance net.relation c (packet_at net p).destination ≡ 0
 
-  pub turns-right : HeadsRight → TurnsRight net n F
-  turns-right right = record {
+  pub allocations-right : HeadsRight → AllocationsRight net n F
+  allocations-right right = record {
     once = right.once;
     listed = right.holds.listed;
     one_head = λ p q c lp lq hp hq. let s : Some p ≡ Some q = sym (right.holds.held p c lp hp) ∙ right.holds.held q c lq hq in cc;
@@ -83,7 +83,7 @@ module _ (net : Setup) (n : ℕ) (S : State) where
       let b : remainder net credited + length S.back ≡ remainder net (after_landing net S) = credits-fall net (after_landing net S) ok.frees in
       let c : remainder net (frozen_state net n S) + length (injections net credited n) ≡ remainder net credited = injections-fall net n credited ok.starts d in
       let v : remainder net (network_cycle net n S) + count_by (λ c. is_event (verdict_in net (frozen_state net n S) c)) (all_inputs net) ≡ remainder net (frozen_state net n S)
-      = verdicts-fall net n (frozen_state net n S) (turns-right net n (frozen_state net n S) ok.heads) ok.moves e refl in
+      = verdicts-fall net n (frozen_state net n S) (allocations-right net n (frozen_state net n S) ok.heads) ok.moves e refl in
       sums _ _ _ _ _ _ _ _ _ a b c v
     where
       sums : (s l t f r x1 x2 x3 x4 : ℕ) → l + x1 ≡ s → t + x2 ≡ l → f + x3 ≡ t → r + x4 ≡ f → s ≡ r + (x1 + x2 + x3 + x4)

@@ -7,8 +7,8 @@ use Rattle.noc_theory.specs.Network.{opening_state, after_verdicts, after_inject
 use Rattle.noc_theory.specs.Progress.{budget, events, is_pending, remainder}
 use Rattle.noc_packet.specs.declared.packet.Packet.{Packet}
 use Rattle.noc_route.specs.Channel.{Channel, Eject, Inject, Link}
-use Rattle.noc_router.specs.Verdict.{is_moved}
-use Rattle.noc_topo.specs.Words.{Has, below}
+use Rattle.noc_view.specs.Verdict.{is_moved}
+use Rattle.noc_topo.specs.Lists.{Has, below}
 use Rattle.noc_theory.proofs.worms.MemberLemmas.{list_any-from, list_any-has, Has-flat_map}
 use Rattle.noc_theory.proofs.worms.OpeningLemmas.{below-has}
 use Rattle.noc_theory.proofs.worms.GrantLemmas.{Has-below}

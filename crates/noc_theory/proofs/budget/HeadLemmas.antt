@@ -3,11 +3,11 @@ use Rattle.std.proofs.Common.{◌≡◌, ◌≢◌, ℕ, ◌+◌, ◌*◌, ◌<�
 use Rattle.std.specs.Prelude.{filter, find, nat_eq, nat_lt, ◌&&◌, option_and_then, option_map, unwrap_or}
 use Rattle.std.specs.List.{AllByRecursion}
 use Rattle.std.proofs.lemmas.Bool.{false≢true, true≢false, ltb-true, ltb-false, and_from, and_parts, eq-eqb, eqb-true, false_from_ne_true}
-use Rattle.noc_topo.specs.Words.{Has, Pairs, Each}
+use Rattle.noc_topo.specs.Lists.{Has, Pairs, Each}
 use Rattle.noc_topo.specs.Shape.{distance}
 use Rattle.noc_route.specs.Channel.{Channel, Link, Inject, Eject, same_channel}
-use Rattle.noc_router.specs.Verdict.{Claim, Round, Unrouted, Waits, Holds, is_moved, verdict_of}
-use Rattle.noc_router.specs.declared.verdict.Verdict.TheVariants.{Routed, Granted}
+use Rattle.noc_view.specs.Verdict.{Claim, Round, Unrouted, Waits, Holds, is_moved, verdict_of}
+use Rattle.noc_view.specs.declared.verdict.Verdict.TheVariants.{Routed, Granted}
 use Rattle.noc_theory.specs.Network.{Setup, State, Located, Place, Source, On, In, Out, packet_at, place_of_flit, tail_place, owner_of, owned_by, next_channel, leads_from, has_channel, is_past, is_in, is_tail_of_packet, tail_leaves, tail_leaves_to, is_released, is_the_flit, front_in, count_in, gone_to, all_inputs, verdict_in, round_at, claim_of}
 use Rattle.noc_theory.specs.Progress.{weight, hops, head_place}
 use Rattle.noc_theory.proofs.worms.BuiltRecordLemmas.{IsBuilt}
@@ -25,7 +25,7 @@ use Rattle.noc_theory.proofs.worms.MemberLemmas.{Has-filter, find-some, list_any
 use Rattle.noc_theory.proofs.budget.HasLemmas.{find-has}
 use Rattle.noc_theory.proofs.budget.InjectionProgressLemmas.{IsApart}
 use Rattle.noc_theory.proofs.budget.MovePhaseLemmas.{gone, MovesNear, loss}
-use Rattle.noc_theory.proofs.budget.TurnPhaseLemmas.{claimed, routed-claims, routed-before, granted-before, moved-before}
+use Rattle.noc_theory.proofs.budget.AllocationPhaseLemmas.{claimed, routed-claims, routed-before, granted-before, moved-before}
 use Rattle.noc_theory.proofs.budget.NextPhaseLemmas.{HeadsHold}
 use Rattle.noc_theory.proofs.budget.CycleRemainderLemmas.{HeadsRight}
 use Rattle.noc_theory.proofs.budget.ChainLemmas.{next-routed, one-owner, in-owned}
@@ -73,7 +73,7 @@ module _ (net : Setup) (built : IsBuilt net) (wired : IsWired net) (F : State) (
   next-of p c o h e = next-is net built F keyed worm p c o h e
 
   -- where a channel has a next one, it is the first of its packet's that leads on
-  has-next : (p : ℕ) (c o : Channel) → Has (c, p) F.own → Has (o, p) F.own → leads_from net c o ≡ true → next_channel net F c ≡ None → ⊥
+  pub has-next : (p : ℕ) (c o : Channel) → Has (c, p) F.own → Has (o, p) F.own → leads_from net c o ≡ true → next_channel net F c ≡ None → ⊥
   has-next p c o h k leads e =
       let f = find-some (leads_from net c) (owned_by net F p) o (has-of o p F.own k) leads in
       let s : next_channel net F c ≡ Some f.0 = ap (option_and_then (λ q. find (leads_from net c) (owned_by net F q))) (owner-is net F c p worm.once h) ∙ f.1 in

@@ -5,12 +5,11 @@ use Rattle.std.specs.List.{AllByRecursion, list_any, range_with_len}
 use Rattle.std.proofs.lemmas.Bool.{false≢true, eqb-true, eq-eqb, and_parts, and_right, and_from}
 use Rattle.std.proofs.lemmas.List.Sums.{sum_by-cons}
 use Rattle.noc_theory.specs.Network.{In, Injection, Located, On, Out, Place, Setup, Source, State, after_injection, count_in, end_distance, first_at_source, first_waiting, flits_of, has_channel, injected_place, injection_at, injection_with, injections, is_at_source, is_idle, is_injection_of, is_the_flit, leads_from, next_channel, owned_by, owner_of, packet_at}
-use Rattle.noc_theory.specs.Progress.{head_place, hops, remainder, turns_left}
+use Rattle.noc_theory.specs.Progress.{head_place, hops, remainder, allocations_left}
 use Rattle.noc_theory.proofs.runs.PostLemmas.{some_of_map}
 use Rattle.noc_route.specs.Channel.{Channel, Eject, Inject, Link, same_channel}
 use Rattle.noc_topo.specs.Shape.{distance, nodes}
-use Rattle.noc_topo.specs.Words.{Has, below}
-use Rattle.noc_counts.specs.Counts.{one_if}
+use Rattle.noc_topo.specs.Lists.{Has, below, one_if}
 use Rattle.noc_theory.proofs.worms.BufferLemmas.{same_flit, IsDistinct}
 use Rattle.noc_theory.proofs.worms.OptionLemmas.{and_then-some}
 use Rattle.noc_theory.proofs.worms.MemberLemmas.{Has-filter, Has-filter_map, find-some, list_any-has}
@@ -94,7 +93,7 @@ module _ (net : Setup) (n : ℕ) (S : State) where
           → (first_waiting net S node ≡ Some one.packet) × (v : ℕ) × (one.channel ≡ Inject node v)
       at q first None k g = early q first (nat_le (packet_at net q).due n) (sym (ap (injection_with net S n node q) k) ∙ g)
       at q first (Some j) k g =
-          goes q first j (find-has (is_injection_of net node) (owned_by net S q) j k).1 (nat_lt (count_in net S j) net.places) (sym (ap (injection_with net S n node q) k) ∙ g)
+          goes q first j (find-has (is_injection_of net node) (owned_by net S q) j k).1 (nat_lt (count_in net S j) net.depth) (sym (ap (injection_with net S n node q) k) ∙ g)
 
   -- a first packet is one of its node, with a flit at its source
   pub first-is : (node q : ℕ) → first_waiting net S node ≡ Some q
@@ -232,7 +231,7 @@ module _ (net : Setup) (n : ℕ) (S : State) (distinct : IsDistinct (same_flit) 
       ∙ sum_by-sum_by (λ f one. cond (matches f one) 1 0) S.at (injections net S n)
       ∙ sum-ones (λ one. sum_by (λ f. cond (matches f one) 1 0) S.at) (injections net S n) one-leaves
 
--- ---- what is left of the heads' turns
+-- ---- what is left of the heads' allocations
 
 pub find-stays : {X : Type 0} (t : X → Bool) (xs ys : List X) (x : X) → find t xs ≡ Some x → find t (xs ++ ys) ≡ Some x
 find-stays t [] ys x e = absurd (cc e)
@@ -289,7 +288,7 @@ module _ (net : Setup) (n : ℕ) (S : State) where
       unled o i = ap (leads_from net c) i.2
 
   module _ (fresh : StartsFresh) where
-    stays : (p : ℕ) → p < length net.packets → (place : Place) → head_place net S p ≡ place → turns_left net (after_injection net n S) p place ≡ turns_left net S p place
+    stays : (p : ℕ) → p < length net.packets → (place : Place) → head_place net S p ≡ place → allocations_left net (after_injection net n S) p place ≡ allocations_left net S p place
     unfolding after_injection
     stays p l Source e = refl
     stays p l (On c) e = refl
@@ -299,7 +298,7 @@ module _ (net : Setup) (n : ℕ) (S : State) where
         ap (λ (next : Option Channel). 2 * end_distance net.relation c (packet_at net p).destination + cond (has_channel S.routed c) (cond (is_some next) 0 1) 2) (next-injected c q.0 q.1)
 
     starts : (p : ℕ) (one : Injection net) → one.packet ≡ p → Has one (injections net S n) → head_place net S p ≡ Source
-        → turns_left net (after_injection net n S) p (In one.channel) ≡ turns_left net S p Source
+        → allocations_left net (after_injection net n S) p (In one.channel) ≡ allocations_left net S p Source
     unfolding after_injection
     starts p one same h e =
         let m = Has-filter_map (injection_at net S n) one (below (nodes net.relation.grid)) h in
@@ -316,10 +315,10 @@ module _ (net : Setup) (n : ℕ) (S : State) where
         double d = omega arith
 
     -- what a head has left to do stays
-    turns-injected : (p : ℕ) → p < length net.packets → turns_left net (after_injection net n S) p (head_place net (after_injection net n S) p) ≡ turns_left net S p (head_place net S p)
+    pub allocations-injected : (p : ℕ) → p < length net.packets → allocations_left net (after_injection net n S) p (head_place net (after_injection net n S) p) ≡ allocations_left net S p (head_place net S p)
     unfolding after_injection
-    turns-injected p l =
-        ap (λ (o : Option Located). turns_left net (after_injection net n S) p (unwrap_or (option_map (λ (f : Located). f.place) o) Source))
+    allocations-injected p l =
+        ap (λ (o : Option Located). allocations_left net (after_injection net n S) p (unwrap_or (option_map (λ (f : Located). f.place) o) Source))
         (find-map (λ (f : Located). nat_eq p f.packet && nat_eq 0 f.index) step (λ f. refl) S.at)
         ∙ at (find (λ (f : Located). nat_eq p f.packet && nat_eq 0 f.index) S.at) refl
       where
@@ -327,7 +326,7 @@ module _ (net : Setup) (n : ℕ) (S : State) where
         step f = record f { place = injected_place net S f (find (λ (one : Injection net). nat_eq one.packet f.packet) (injections net S n)) }
 
         moved : (f : Located) (place : Place) → f.place ≡ place → head_place net S p ≡ place → (o : Option (Injection net)) → ((one : Injection net) → o ≡ Some one → Has one (injections net S n) × (one.packet ≡ p))
-            → (b : Bool) → turns_left net (after_injection net n S) p (unwrap_or (option_map (λ (one : Injection net). cond (is_at_source place && b) (In one.channel) place) o) place) ≡ turns_left net S p place
+            → (b : Bool) → allocations_left net (after_injection net n S) p (unwrap_or (option_map (λ (one : Injection net). cond (is_at_source place && b) (In one.channel) place) o) place) ≡ allocations_left net S p place
         moved f place k e None is b = stays p l place e
         moved f Source k e (Some one) is true = starts p one (is one refl).1 (is one refl).0 e
         moved f Source k e (Some one) is false = refl
@@ -340,17 +339,17 @@ module _ (net : Setup) (n : ℕ) (S : State) where
         same-place f (Some one) = refl
 
         at : (o : Option Located) → find (λ (f : Located). nat_eq p f.packet && nat_eq 0 f.index) S.at ≡ o
-            → turns_left net (after_injection net n S) p (unwrap_or (option_map (λ (f : Located). f.place) (option_map step o)) Source) ≡ turns_left net S p (head_place net S p)
-        at None e = sym (ap (λ (o : Option Located). turns_left net S p (unwrap_or (option_map (λ (f : Located). f.place) o) Source)) e)
+            → allocations_left net (after_injection net n S) p (unwrap_or (option_map (λ (f : Located). f.place) (option_map step o)) Source) ≡ allocations_left net S p (head_place net S p)
+        at None e = sym (ap (λ (o : Option Located). allocations_left net S p (unwrap_or (option_map (λ (f : Located). f.place) o) Source)) e)
         at (Some f) e =
             let here : head_place net S p ≡ f.place = ap (λ (o : Option Located). unwrap_or (option_map (λ (f : Located). f.place) o) Source) e in
             let k = find-has (λ (f : Located). nat_eq p f.packet && nat_eq 0 f.index) S.at f e in
             let own : p ≡ f.packet = eqb-true p f.packet (and_parts (nat_eq p f.packet) (nat_eq 0 f.index) k.1).0 in
-            ap (turns_left net (after_injection net n S) p) (same-place f (find (λ (one : Injection net). nat_eq one.packet f.packet) (injections net S n)))
+            ap (allocations_left net (after_injection net n S) p) (same-place f (find (λ (one : Injection net). nat_eq one.packet f.packet) (injections net S n)))
             ∙ moved f f.place refl here (find (λ (one : Injection net). nat_eq one.packet f.packet) (injections net S n))
             (λ one g. let h = find-has (λ (one : Injection net). nat_eq one.packet f.packet) (injections net S n) one g in (h.0, eqb-true one.packet f.packet h.1 ∙ sym own))
             (is_the_flit net f (first_at_source net S f.packet))
-            ∙ ap (turns_left net S p) (sym here)
+            ∙ ap (allocations_left net S p) (sym here)
 
     -- each flit that leaves its source takes one from the remainder
     pub injections-fall : IsDistinct (same_flit) S.at → remainder net (after_injection net n S) + length (injections net S n) ≡ remainder net S
@@ -358,7 +357,7 @@ module _ (net : Setup) (n : ℕ) (S : State) where
     injections-fall distinct =
         let w = injection-falls net n S (to-inject net n S) in
         let c = leaves-counted net n S distinct in
-        let t : sum_by (λ p. turns_left net (after_injection net n S) p (head_place net (after_injection net n S) p)) (below (length net.packets)) ≡ sum_by (λ p. turns_left net S p (head_place net S p)) (below (length net.packets))
-        = sum_by-each (λ p. turns_left net (after_injection net n S) p (head_place net (after_injection net n S) p)) (λ p. turns_left net S p (head_place net S p)) (below (length net.packets))
-        (λ p h. turns-injected p (Has-below p (length net.packets) h)) in
+        let t : sum_by (λ p. allocations_left net (after_injection net n S) p (head_place net (after_injection net n S) p)) (below (length net.packets)) ≡ sum_by (λ p. allocations_left net S p (head_place net S p)) (below (length net.packets))
+        = sum_by-each (λ p. allocations_left net (after_injection net n S) p (head_place net (after_injection net n S) p)) (λ p. allocations_left net S p (head_place net S p)) (below (length net.packets))
+        (λ p h. allocations-injected p (Has-below p (length net.packets) h)) in
         omega arith

@@ -6,18 +6,18 @@ use Rattle.noc_theory.specs.Network.{end_of, In, Setup, State, after_verdicts, a
 use Rattle.noc_theory.specs.Progress.{head_place}
 use Rattle.noc_theory.proofs.runs.PostLemmas.{some_of_map}
 use Rattle.noc_route.specs.Channel.{Channel, Eject, Inject, Link, arrival_of, sending_router, channel_vc, same_channel}
-use Rattle.noc_router.specs.Verdict.{Unrouted, Waits, is_granted, is_moved, verdict_of}
-use Rattle.noc_router.specs.declared.verdict.Verdict.{Verdict}
-use Rattle.noc_router.specs.declared.verdict.Verdict.TheVariants.{Empty, Granted, NoIdleChannel}
+use Rattle.noc_view.specs.Verdict.{Unrouted, Waits, is_granted, is_moved, verdict_of}
+use Rattle.noc_view.specs.declared.verdict.Verdict.{Verdict}
+use Rattle.noc_view.specs.declared.verdict.Verdict.TheVariants.{Empty, Granted, NoIdleChannel}
 use Rattle.noc_topo.specs.Shape.{local_port}
-use Rattle.noc_topo.specs.Words.{Has, is_some_of}
+use Rattle.noc_topo.specs.Lists.{Has, is_some_of}
 use Rattle.noc_alloc.proofs.WordLemmas.{is_some_of-some}
 use Rattle.noc_theory.proofs.worms.BufferLemmas.{same_channel-true}
 use Rattle.noc_theory.proofs.worms.OptionLemmas.{and_then-some}
 use Rattle.noc_theory.proofs.worms.MemberLemmas.{Has-filter_map, Has-kept, Has-mapped, Has-right, find-some, Has-filter_mapped}
 use Rattle.noc_theory.proofs.budget.InjectionProgressLemmas.{find-stays}
 use Rattle.noc_theory.proofs.budget.RemainderPhaseLemmas.{find-kept, find-kept_through}
-use Rattle.noc_theory.proofs.budget.TurnPhaseLemmas.{granted-before}
+use Rattle.noc_theory.proofs.budget.AllocationPhaseLemmas.{granted-before}
 
 -- what is not found among the added
 find-unadded_of : {X Y : Type 0} (t : Y → Bool) (f : X → Y) (a : X → Bool) (xs ys : List X) → ((y : X) → Has y ys → a y ≡ true → t (f y) ≡ false)
@@ -36,7 +36,7 @@ find-unadded_of t f a (x ∷ xs) ys h = at (a x) (t (f x)) refl (find-unadded_of
     at true false k rest = rw k rest
     at false d k rest = rest
 
-output-leads : (net : Setup) (c : Channel) (r i : ℕ) → end_of net.relation c ≡ Some r → leads_from net c (leaving net r i) ≡ true
+pub output-leads : (net : Setup) (c : Channel) (r i : ℕ) → end_of net.relation c ≡ Some r → leads_from net c (leaving net r i) ≡ true
 output-leads net c r i e = at (leaving net r i) (begins (nat_eq (i / net.relation.vcs) (local_port net.relation.grid)))
   where
     begins : (b : Bool) → sending_router (cond b (Eject r (i % net.relation.vcs)) (Link r (i / net.relation.vcs) (i % net.relation.vcs))) ≡ Some r

@@ -4,9 +4,9 @@ use Rattle.std.specs.Prelude.{find, nat_eq, ◌&&◌, option_map, unwrap_or, fla
 use Rattle.std.specs.List.{enumerate_from, range_with_len}
 use Rattle.std.proofs.lemmas.List.Sums.{sum_by-cons}
 use Rattle.noc_theory.specs.Network.{Located, Setup, Source, opening_state, packet_at}
-use Rattle.noc_theory.specs.Progress.{budget, head_place, hops, remainder, turns_left, weight}
+use Rattle.noc_theory.specs.Progress.{budget, head_place, hops, remainder, allocations_left, weight}
 use Rattle.noc_packet.specs.declared.packet.Packet.{Packet}
-use Rattle.noc_topo.specs.Words.{below}
+use Rattle.noc_topo.specs.Lists.{below}
 use Rattle.noc_theory.proofs.worms.MemberLemmas.{Has-flat_map}
 use Rattle.noc_theory.proofs.budget.HasLemmas.{find-has, map-has}
 use Rattle.noc_theory.proofs.budget.SumLemmas.{sum_by-+}
@@ -61,7 +61,7 @@ module _ (net : Setup) where
       ∙ sum_by-each (λ (one : ℕ × Packet). sum_by (λ (f : Located). weight net f.packet f.place) (map (λ i. record { packet = one.0; index = i; place = Source }) (below one.1.length))) (λ (one : ℕ × Packet). one.1.length * (3 * hops net one.0 + 2)) (enumerate_from 0 net.packets)
       (λ one h. sum-same (λ (f : Located). weight net f.packet f.place) (λ i. record { packet = one.0; index = i; place = Source }) (3 * hops net one.0 + 2) 0 one.1.length (λ i. refl))
       ∙ sum-enumerated (λ p (k : Packet). k.length * (3 * hops net p + 2)) (packet_at net) (record { source = 0; destination = 0; class = 0; length = 0; due = 0 }) 0 net.packets (λ i l. ap (packet_at net) (zero-add i)) in
-      let t : sum_by (λ p. turns_left net (opening_state net) p (head_place net (opening_state net) p)) (below (length net.packets)) ≡ sum_by (λ p. 2 * (hops net p + 1)) (below (length net.packets))
-      = sum_by-each (λ p. turns_left net (opening_state net) p (head_place net (opening_state net) p)) (λ p. 2 * (hops net p + 1)) (below (length net.packets)) (λ p h. ap (turns_left net (opening_state net) p) (source-head p)) in
+      let t : sum_by (λ p. allocations_left net (opening_state net) p (head_place net (opening_state net) p)) (below (length net.packets)) ≡ sum_by (λ p. 2 * (hops net p + 1)) (below (length net.packets))
+      = sum_by-each (λ p. allocations_left net (opening_state net) p (head_place net (opening_state net) p)) (λ p. 2 * (hops net p + 1)) (below (length net.packets)) (λ p h. ap (allocations_left net (opening_state net) p) (source-head p)) in
       let b = sum_by-+ (λ p. (packet_at net p).length * (3 * hops net p + 2)) (λ p. 2 * (hops net p + 1)) (below (length net.packets)) in
       omega arith

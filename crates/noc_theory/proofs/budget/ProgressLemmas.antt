@@ -9,8 +9,8 @@ use Rattle.noc_theory.proofs.budget.ProgressRecordLemmas.{IsBuilt}
 use Rattle.noc_route.specs.Channel.{Channel}
 use Rattle.noc_route.specs.Ranks.{IsRanked}
 use Rattle.noc_route.specs.Routes.{permits}
-use Rattle.noc_router.specs.Verdict.{is_event}
-use Rattle.noc_topo.specs.Words.{Has}
+use Rattle.noc_view.specs.Verdict.{is_event}
+use Rattle.noc_topo.specs.Lists.{Has}
 use Rattle.noc_theory.proofs.budget.HasLemmas.{none-counted}
 use Rattle.noc_theory.proofs.budget.WormChainLemmas.{IsNearing, IsChain, IsQuiet}
 use Rattle.noc_theory.proofs.budget.QuietLemmas.{quiet-absurd}
@@ -20,10 +20,10 @@ map-same f [] h = refl
 map-same f (x ∷ xs) h = ap₂ (λ y ys. y ∷ ys) (h x (inl refl)) (map-same f xs (λ y k. h y (inr k)))
 
 module _ (net : Setup) (n : ℕ) (S : State) (none : events net n S ≡ 0) where
-  abbrev F : State
+  abbrev pub F : State
   F = frozen_state net n S
 
-  abbrev T : State
+  abbrev pub T : State
   T = after_credits net (after_landing net S)
 
   still-before : count_by (λ (f : Located). is_flying f.place) S.at ≡ 0
@@ -41,13 +41,13 @@ module _ (net : Setup) (n : ℕ) (S : State) (none : events net n S ≡ 0) where
   landed-same (In c) e = refl
   landed-same (Out m) e = refl
 
-  landing-same : T.at ≡ S.at
+  pub landing-same : T.at ≡ S.at
   unfolding after_credits after_landing
   landing-same =
       map-same (λ (f : Located). record f { place = landed_place net f.place }) S.at
       (λ f h. ap (λ (q : Place). record f { place = q }) (landed-same f.place (none-counted (λ (g : Located). is_flying g.place) S.at still-before f h)))
 
-  injection-same : F ≡ T
+  pub injection-same : F ≡ T
   unfolding frozen_state after_credits after_injection
   injection-same =
       ap₂ (λ (at : List Located) (own : List (Channel × ℕ)). record T { at = at; own = own })

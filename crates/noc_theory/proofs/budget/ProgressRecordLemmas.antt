@@ -17,7 +17,7 @@ module _ (net : Setup) where
   LeadsOn m c t r = (i : ℕ) × (i < size net) × IsTrue (permits net.relation m c t (leaving net r i))
 
   pub record IsBuilt : Type 0 where
-    pub places : 0 < net.places
+    pub depth : 0 < net.depth
     pub vcs : 0 < net.relation.vcs
     pub sources : (p : ℕ) → p < length net.packets → (packet_at net p).source < nodes net.relation.grid
     pub linked : (r q a b : ℕ) → r < nodes net.relation.grid → neighbour net.relation.grid r q ≡ Some (a, b) → (a < nodes net.relation.grid) × (neighbour net.relation.grid a b ≡ Some (r, q))

@@ -24,7 +24,7 @@ module _ (net : Setup) (good : IsGoodSetup net) where
   pub built : IsBuilt net
   built = built-good net good
 
-  chain : (n : ℕ) → IsChain net (frozen_at net n)
+  pub chain : (n : ℕ) → IsChain net (frozen_at net n)
   chain n = chain-whole net (good-built net good) (frozen_at net n) (whole-frozen_at net good n) (queued-frozen_at net good n) (led-frozen_at net good n) (good-wired net good)
 
   pub countable : (n : ℕ) → IsCountable net n (state_at net n)

@@ -4,13 +4,13 @@ use Rattle.std.specs.Prelude.{option_map, unwrap_or, is_none, nat_eq, nat_lt, na
 use Rattle.std.specs.List.{list_any}
 use Rattle.std.proofs.lemmas.Bool.{false≢true, true≢false, cases_lt, cases_eq, eq-eqb, ne_eqb, lt-ltb, le-leb, leb-true, and_from, and_parts}
 use Rattle.std.proofs.lemmas.Nat.{div-mul-add, mod-mul-add}
-use Rattle.noc_topo.specs.Words.{Has, below}
+use Rattle.noc_topo.specs.Lists.{Has, below}
 use Rattle.noc_topo.specs.Shape.{distance, local_port, nodes, ports}
 use Rattle.noc_route.specs.Channel.{Channel, Link, Inject, Eject, channel_vc}
 use Rattle.noc_route.specs.Ranks.{LeadsTo, direct, through, IsRanked}
 use Rattle.noc_route.specs.Routes.{permits}
 use Rattle.noc_route.proofs.BuiltLemmas.{linked-port}
-use Rattle.noc_router.specs.Verdict.{Unrouted, Waits, verdict_of}
+use Rattle.noc_view.specs.Verdict.{Unrouted, Waits, verdict_of}
 use Rattle.noc_theory.specs.Network.{Setup, State, Located, Place, Source, On, In, Out, size, packet_at, leaving, owner_of, owned_by, next_channel, end_of, end_distance, claim_of, claim_with, ask, is_idle, has_credit_in, count_in, has_channel, first_waiting, flits_of, is_at_source, is_injection_of, injection_at, injection_with, beginning, round_at, tail_place, out_cycle}
 use Rattle.noc_theory.specs.Progress.{is_flying, is_pending}
 use Rattle.noc_theory.proofs.worms.BuiltLemmas.{distance-none}
@@ -112,7 +112,7 @@ module _ (net : Setup) (F : State) (built : IsBuilt net) (worm : IsChain net F) 
   waits-absurd c p r port input own waits free = at (cases_eq r (packet_at net p).destination)
     where
       lead : LeadsOn net (packet_at net p).class c (packet_at net p).destination r
-      lead = led-on net F built worm n quiet c p r port input own
+      lead = led-on net F built worm c p r port input own
 
       ends : end_of net.relation c ≡ Some r
       ends = ap (option_map (λ (place : ℕ × ℕ). place.0)) input.arrives
@@ -159,8 +159,8 @@ module _ (net : Setup) (F : State) (built : IsBuilt net) (worm : IsChain net F) 
       unrouted : nat_lt 0 (count_in net F c) ≡ true → has_channel F.routed c ≡ false → ⊥
       unrouted flit e =
           let claim : claim_of net F place.0 c ≡ Unrouted = ap (λ b. cond b (claim_with net F place.0 c (next_channel net F c)) Unrouted) e in
-          unroutable net F built worm n quiet c (listed net F built worm n quiet c place.0 place.1 place.2)
-          (verdict-owned net F built worm n quiet c place.0 place.1 place.2 Unrouted claim
+          unroutable net F built worm n quiet c (listed net F built worm c place.0 place.1 place.2)
+          (verdict-owned net F built worm c place.0 place.1 place.2 Unrouted claim
           ∙ ap (verdict_of net.relation.vcs (round_at net F place.0) ((place.1 * net.relation.vcs + channel_vc c) / net.relation.vcs * net.relation.vcs + (place.1 * net.relation.vcs + channel_vc c) % net.relation.vcs) Unrouted) flit)
 
       -- the next channel is of the same packet

@@ -4,9 +4,9 @@ use Rattle.std.specs.Prelude.{filter, find, nat_eq, not, ◌&&◌, sum_by, count
 use Rattle.std.proofs.lemmas.Bool.{false≢true, eqb-true}
 use Rattle.std.proofs.lemmas.List.Sums.{sum_by-cons}
 use Rattle.noc_theory.specs.Network.{In, Located, On, Out, Place, Setup, Source, State, after_credits, after_landing, end_distance, has_channel, is_freed, landed_place, leads_from, next_channel, owned_by, owner_of, packet_at, place_of_flit}
-use Rattle.noc_theory.specs.Progress.{head_place, is_flying, remainder, turns_left, weight}
+use Rattle.noc_theory.specs.Progress.{head_place, is_flying, remainder, allocations_left, weight}
 use Rattle.noc_route.specs.Channel.{Channel, Eject, Inject, Link, is_link, same_channel}
-use Rattle.noc_topo.specs.Words.{Has, below}
+use Rattle.noc_topo.specs.Lists.{Has, below}
 use Rattle.noc_theory.proofs.worms.BufferLemmas.{same_channel-true}
 use Rattle.noc_theory.proofs.worms.GrantLemmas.{Has-below}
 
@@ -57,7 +57,7 @@ module _ (net : Setup) (S : State) where
     pub on_links : (f : Located) (c : Channel) → Has f S.at → f.place ≡ On c → is_link c ≡ true
     pub to_unrouted : (p : ℕ) (c : Channel) → p < length net.packets → head_place net S p ≡ On c → has_channel S.routed c ≡ false
 
-  place-landed : (p i : ℕ) → place_of_flit net (after_landing net S) p i ≡ landed_place net (place_of_flit net S p i)
+  pub place-landed : (p i : ℕ) → place_of_flit net (after_landing net S) p i ≡ landed_place net (place_of_flit net S p i)
   unfolding after_landing
   place-landed p i =
       ap (λ (o : Option Located). unwrap_or (option_map (λ (f : Located). f.place) o) Source)
@@ -77,12 +77,12 @@ module _ (net : Setup) (S : State) where
   weight-landed p (On (Inject n v)) link = absurd (false≢true (link (Inject n v) refl))
   weight-landed p (On (Eject n v)) link = absurd (false≢true (link (Eject n v) refl))
 
-  turns-landed : (p : ℕ) (place : Place) → ((c : Channel) → place ≡ On c → has_channel S.routed c ≡ false) → turns_left net (after_landing net S) p (landed_place net place) ≡ turns_left net S p place
+  pub allocations-landed : (p : ℕ) (place : Place) → ((c : Channel) → place ≡ On c → has_channel S.routed c ≡ false) → allocations_left net (after_landing net S) p (landed_place net place) ≡ allocations_left net S p place
   unfolding after_landing
-  turns-landed p Source free = refl
-  turns-landed p (In c) free = refl
-  turns-landed p (Out m) free = refl
-  turns-landed p (On c) free =
+  allocations-landed p Source free = refl
+  allocations-landed p (In c) free = refl
+  allocations-landed p (Out m) free = refl
+  allocations-landed p (On c) free =
       ap (λ b. 2 * end_distance net.relation c (packet_at net p).destination + cond b (cond (is_some (next_channel net S c)) 0 1) 2) (free c refl) ∙ (omega arith)
 
   -- each landing takes one from the remainder
@@ -92,9 +92,9 @@ module _ (net : Setup) (S : State) where
       let w : sum_by (λ (f : Located). weight net f.packet f.place) (after_landing net S).at + count_by (λ (f : Located). is_flying f.place) S.at ≡ sum_by (λ (f : Located). weight net f.packet f.place) S.at
       = sum_by-loses (λ (f : Located). weight net f.packet f.place) (λ (f : Located). record f { place = landed_place net f.place }) (λ (f : Located). is_flying f.place) S.at
       (λ f h. weight-landed f.packet f.place (λ c e. right.on_links f c h e)) in
-      let t : sum_by (λ p. turns_left net (after_landing net S) p (head_place net (after_landing net S) p)) (below (length net.packets)) ≡ sum_by (λ p. turns_left net S p (head_place net S p)) (below (length net.packets))
-      = sum_by-each (λ p. turns_left net (after_landing net S) p (head_place net (after_landing net S) p)) (λ p. turns_left net S p (head_place net S p)) (below (length net.packets))
-      (λ p h. ap (turns_left net (after_landing net S) p) (place-landed p 0) ∙ turns-landed p (head_place net S p) (λ c e. right.to_unrouted p c (Has-below p _ h) e)) in
+      let t : sum_by (λ p. allocations_left net (after_landing net S) p (head_place net (after_landing net S) p)) (below (length net.packets)) ≡ sum_by (λ p. allocations_left net S p (head_place net S p)) (below (length net.packets))
+      = sum_by-each (λ p. allocations_left net (after_landing net S) p (head_place net (after_landing net S) p)) (λ p. allocations_left net S p (head_place net S p)) (below (length net.packets))
+      (λ p h. ap (allocations_left net (after_landing net S) p) (place-landed p 0) ∙ allocations-landed p (head_place net S p) (λ c e. right.to_unrouted p c (Has-below p _ h) e)) in
       omega arith
 
 -- the same, of what is found among the images of those that pass a
@@ -148,19 +148,19 @@ module _ (net : Setup) (S : State) where
         at None e = refl
         at (Some q) e = find-kept_through (leads_from net c) (λ (pair : Channel × ℕ). pair.0) (λ (pair : Channel × ℕ). nat_eq q pair.1) (λ pair. not (is_freed net S pair)) S.own (kept-beyond q e)
 
-  turns-credited : FreesBehind → (p : ℕ) → p < length net.packets → (place : Place) → head_place net S p ≡ place → turns_left net (after_credits net S) p place ≡ turns_left net S p place
+  pub allocations-credited : FreesBehind → (p : ℕ) → p < length net.packets → (place : Place) → head_place net S p ≡ place → allocations_left net (after_credits net S) p place ≡ allocations_left net S p place
   unfolding after_credits
-  turns-credited behind p l Source e = refl
-  turns-credited behind p l (On c) e = refl
-  turns-credited behind p l (Out m) e = refl
-  turns-credited behind p l (In c) e =
+  allocations-credited behind p l Source e = refl
+  allocations-credited behind p l (On c) e = refl
+  allocations-credited behind p l (Out m) e = refl
+  allocations-credited behind p l (In c) e =
       ap (λ (next : Option Channel). 2 * end_distance net.relation c (packet_at net p).destination + cond (has_channel S.routed c) (cond (is_some next) 0 1) 2) (next-credited behind p l c e)
 
   -- each credit takes one from the remainder
   pub credits-fall : FreesBehind → remainder net (after_credits net S) + length S.back ≡ remainder net S
   unfolding after_credits
   credits-fall behind =
-      let t : sum_by (λ p. turns_left net (after_credits net S) p (head_place net S p)) (below (length net.packets)) ≡ sum_by (λ p. turns_left net S p (head_place net S p)) (below (length net.packets))
-      = sum_by-each (λ p. turns_left net (after_credits net S) p (head_place net S p)) (λ p. turns_left net S p (head_place net S p)) (below (length net.packets))
-      (λ p h. turns-credited behind p (Has-below p _ h) (head_place net S p) refl) in
+      let t : sum_by (λ p. allocations_left net (after_credits net S) p (head_place net S p)) (below (length net.packets)) ≡ sum_by (λ p. allocations_left net S p (head_place net S p)) (below (length net.packets))
+      = sum_by-each (λ p. allocations_left net (after_credits net S) p (head_place net S p)) (λ p. allocations_left net S p (head_place net S p)) (below (length net.packets))
+      (λ p h. allocations-credited behind p (Has-below p _ h) (head_place net S p) refl) in
       omega arith

@@ -11,13 +11,13 @@ use Rattle.noc_theory.specs.Network.{arbiters_at, Setup, State, all_inputs, arri
 use Rattle.noc_theory.proofs.budget.ProgressRecordLemmas.{IsBuilt, IsReal}
 use Rattle.noc_route.specs.Channel.{Channel, Eject, Inject, Link, arrival_of, channel_vc, inputs}
 use Rattle.noc_route.proofs.BuiltLemmas.{linked-port}
-use Rattle.noc_router.specs.Verdict.{Claim, Holds, ArbiterStates, Stand, Unrouted, Waits, ask_of, ready_port, verdict_of}
-use Rattle.noc_router.specs.declared.verdict.Verdict.TheVariants.{Granted, Moved}
+use Rattle.noc_view.specs.Verdict.{Claim, Holds, ArbiterStates, Stand, Unrouted, Waits, ask_of, ready_port, verdict_of}
+use Rattle.noc_view.specs.declared.verdict.Verdict.TheVariants.{Granted, Moved}
 use Rattle.noc_topo.specs.Shape.{local_port, neighbour, nodes, ports}
-use Rattle.noc_topo.specs.Words.{tabulate, Has, below, is_some_of}
+use Rattle.noc_topo.specs.Lists.{tabulate, Has, below, is_some_of}
 use Rattle.noc_alloc.proofs.ArbiterLemmas.{first_in_turn-picks}
 use Rattle.noc_alloc.proofs.WordLemmas.{is_some_of-true, is_some_of-some}
-use Rattle.noc_topo.proofs.WordLemmas.{get_or-tabulate}
+use Rattle.noc_topo.proofs.ListLemmas.{get_or-tabulate}
 use Rattle.noc_theory.proofs.worms.OpeningLemmas.{below-has}
 use Rattle.noc_theory.proofs.worms.MemberLemmas.{Has-filter_mapped, Has-flat_mapped}
 use Rattle.noc_theory.proofs.budget.AllocationLemmas.{first_in_turn-some, switch-moves, moves-at}
@@ -95,20 +95,20 @@ module _ (net : Setup) (built : IsBuilt net) where
         ap (verdict_at net F c) arrives.0
         ∙ ap (λ v. verdict_of net.relation.vcs (round_at net F r) (i / net.relation.vcs * net.relation.vcs + v) (claim_of net F r c) (nat_lt 0 (count_in net F c))) arrives.1
 
-    abbrev asks : ℕ → List (Option ℕ)
+    abbrev pub asks : ℕ → List (Option ℕ)
     asks r = map (λ (s : Stand). ask_of s.claim) (stands_at net F r)
 
-    abbrev ready : ℕ → List (Option ℕ)
+    abbrev pub ready : ℕ → List (Option ℕ)
     ready r = map (λ (s : Stand). ready_port net.relation.vcs s.claim s.has_flit) (stands_at net F r)
 
-    stand-at : {X : Type 0} (f : Stand → X) (d : X) (r i : ℕ) → i < size net → get_or (map f (stands_at net F r)) i d ≡ f (stand_of net F r (arriving net r i))
+    pub stand-at : {X : Type 0} (f : Stand → X) (d : X) (r i : ℕ) → i < size net → get_or (map f (stands_at net F r)) i d ≡ f (stand_of net F r (arriving net r i))
     unfolding tabulate
     stand-at f d r i l =
         let n : length (stands_at net F r) ≡ size net = length-map-range_with_len (λ j. stand_of net F r (arriving net r j)) 0 (size net) in
         get_or-map f (stands_at net F r) i (stand_of net F r None) d (omega arith)
         ∙ ap f (get_or-tabulate (size net) i (λ j. stand_of net F r (arriving net r j)) (stand_of net F r None) l)
 
-    stand-past : {X : Type 0} (f : Stand → X) (d : X) (r i : ℕ) → size net ≤ i → get_or (map f (stands_at net F r)) i d ≡ d
+    pub stand-past : {X : Type 0} (f : Stand → X) (d : X) (r i : ℕ) → size net ≤ i → get_or (map f (stands_at net F r)) i d ≡ d
     unfolding tabulate
     stand-past f d r i l =
         let n : length (stands_at net F r) ≡ size net = length-map-range_with_len (λ j. stand_of net F r (arriving net r j)) 0 (size net) in
@@ -119,11 +119,11 @@ module _ (net : Setup) (built : IsBuilt net) where
         → claim_of net F r c ≡ Waits (Some o)
         → (d : Channel) × Has d (all_inputs net) × (verdict_in net F d ≡ Granted)
     grant-given c r i o lr li e lo waits =
-        let turns : ArbiterStates = arbiters_at net F r in
+        let router_arbiters : ArbiterStates = arbiters_at net F r in
         let asked : get_or (asks r) i None ≡ Some o = stand-at (λ s. ask_of s.claim) None r i li ∙ ap (λ x. ask_of (stand_of net F r x).claim) e ∙ ap ask_of waits in
-        let win = first_in_turn-some (size net) (slice_index (pointers_of turns.channels) o) i (λ x. is_some_of (get_or (asks r) x None) o) li (is_some_of-some _ _ asked) in
-        let won = first_in_turn-picks (size net) (slice_index (pointers_of turns.channels) o) win.0 (λ x. is_some_of (get_or (asks r) x None) o) win.1 in
-        let at_o : get_or (round_at net F r).grants o None ≡ Some win.0 = get_or-tabulate (size net) o (grant_of (asks r) (size net) (pointers_of turns.channels)) None lo ∙ win.1 in
+        let win = first_in_turn-some (size net) (slice_index (pointers_of router_arbiters.channels) o) i (λ x. is_some_of (get_or (asks r) x None) o) li (is_some_of-some _ _ asked) in
+        let won = first_in_turn-picks (size net) (slice_index (pointers_of router_arbiters.channels) o) win.0 (λ x. is_some_of (get_or (asks r) x None) o) win.1 in
+        let at_o : get_or (round_at net F r).grants o None ≡ Some win.0 = get_or-tabulate (size net) o (grant_of (asks r) (size net) (pointers_of router_arbiters.channels)) None lo ∙ win.1 in
         winner win.0 won.1 at_o (sym (stand-at (λ s. ask_of s.claim) None r win.0 won.1) ∙ is_some_of-true _ _ won.0) (arriving net r win.0) refl
       where
         granted : (x : ℕ) (claim : Claim) (flit : Bool) (j : ℕ) → j ≡ x → get_or (round_at net F r).grants o None ≡ Some x → ask_of claim ≡ Some o
@@ -147,20 +147,20 @@ module _ (net : Setup) (built : IsBuilt net) where
               ∙ granted x (claim_of net F r d) (nat_lt 0 (count_in net F d)) (x / net.relation.vcs * net.relation.vcs + x % net.relation.vcs) (div-add-mod' x net.relation.vcs) g (sym (ap (λ y. ask_of (stand_of net F r y).claim) k) ∙ a),
         )
 
-    -- where c is ready, some channel moves a flit
+    -- where c is ready, some channel of its router moves a flit
     pub flit-moved : (c : Channel) (r q v o : ℕ) → r < nodes net.relation.grid → q < ports net.relation.grid → v < net.relation.vcs → arriving net r (q * net.relation.vcs + v) ≡ Some c
         → ((d : Channel) (x : ℕ) → claim_of net F r d ≡ Holds x true → x < size net)
         → claim_of net F r c ≡ Holds o true → nat_lt 0 (count_in net F c) ≡ true
-        → (d : Channel) × Has d (all_inputs net) × (verdict_in net F d ≡ Moved)
+        → (d : Channel) × Has d (all_inputs net) × (verdict_in net F d ≡ Moved) × (x : ℕ) × (arriving net r x ≡ Some d)
     flit-moved c r q v o lr lq lv e indices holds flit =
-        let turns : ArbiterStates = arbiters_at net F r in
+        let router_arbiters : ArbiterStates = arbiters_at net F r in
         let li : q * net.relation.vcs + v < size net = index_below (ports net.relation.grid) net.relation.vcs q v lq lv in
         let is_ready : get_or (ready r) (q * net.relation.vcs + v) None ≡ Some (o / net.relation.vcs)
         = stand-at (λ s. ready_port net.relation.vcs s.claim s.has_flit) None r (q * net.relation.vcs + v) li
         ∙ ap (λ x. ready_port net.relation.vcs (stand_of net F r x).claim (stand_of net F r x).has_flit) e
         ∙ ap (λ b. ready_port net.relation.vcs (claim_of net F r c) b) flit
         ∙ ap (λ x. ready_port net.relation.vcs x true) holds in
-        let m = switch-moves (ports net.relation.grid) net.relation.vcs (ready r) (pointers_of turns.inputs) (pointers_of turns.outputs) q v (o / net.relation.vcs) lq lv is_ready range in
+        let m = switch-moves (ports net.relation.grid) net.relation.vcs (ready r) (pointers_of router_arbiters.inputs) (pointers_of router_arbiters.outputs) q v (o / net.relation.vcs) lq lv is_ready range in
         let lm : m.0 * net.relation.vcs + m.1 < size net = index_below (ports net.relation.grid) net.relation.vcs m.0 m.1 m.3 m.4 in
         mover m.0 m.1 m.2 m.3 m.4 m.6 m.7 (sym (stand-at (λ s. ready_port net.relation.vcs s.claim s.has_flit) None r (m.0 * net.relation.vcs + m.1) lm) ∙ m.5)
         (arriving net r (m.0 * net.relation.vcs + m.1)) refl
@@ -186,7 +186,7 @@ module _ (net : Setup) (built : IsBuilt net) where
         mover : (q' v' p : ℕ) → q' < ports net.relation.grid → v' < net.relation.vcs → get_or (round_at net F r).picks q' None ≡ Some v' → get_or (round_at net F r).wins p None ≡ Some q'
             → ready_port net.relation.vcs (stand_of net F r (arriving net r (q' * net.relation.vcs + v'))).claim (stand_of net F r (arriving net r (q' * net.relation.vcs + v'))).has_flit ≡ Some p
             → (d : Option Channel) → arriving net r (q' * net.relation.vcs + v') ≡ d
-            → (d : Channel) × Has d (all_inputs net) × (verdict_in net F d ≡ Moved)
+            → (d : Channel) × Has d (all_inputs net) × (verdict_in net F d ≡ Moved) × (x : ℕ) × (arriving net r x ≡ Some d)
         mover q' v' p lq' lv' pick win g None k =
             let n : None ≡ Some p = sym (ap (λ x. ready_port net.relation.vcs (stand_of net F r x).claim (stand_of net F r x).has_flit) k) ∙ g in absurd (cc n)
         mover q' v' p lq' lv' pick win g (Some d) k =
@@ -197,4 +197,6 @@ module _ (net : Setup) (built : IsBuilt net) where
                   ∙ ap (λ j. verdict_of net.relation.vcs (round_at net F r) j (claim_of net F r d) (nat_lt 0 (count_in net F d))) (div-add-mod' (q' * net.relation.vcs + v') net.relation.vcs)
                   ∙ moves-at net.relation.vcs q' v' p (round_at net F r) (claim_of net F r d) (nat_lt 0 (count_in net F d)) lv'
                   (sym (ap (λ x. ready_port net.relation.vcs (stand_of net F r x).claim (stand_of net F r x).has_flit) k) ∙ g) pick win,
+              q' * net.relation.vcs + v',
+              k,
             )

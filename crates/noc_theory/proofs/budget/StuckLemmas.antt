@@ -2,19 +2,19 @@
 use Rattle.std.proofs.Common.{◌≡◌, ℕ, zero, suc, ◌≤◌, Bool, true, false, cond, List, length, Option, Some, None, refl, ap, sym, ◌∙◌, arith}
 use Rattle.std.specs.Prelude.{nat_eq, nat_le, nat_lt, not, is_none, ◌&&◌}
 use Rattle.std.proofs.lemmas.Bool.{true≢false, false_from_ne_true, and_left, and_right, lt-ltb, le-ltb, ne_eqb, eq-eqb}
-use Rattle.noc_topo.specs.Words.{below, is_some_of}
+use Rattle.noc_topo.specs.Lists.{below, is_some_of}
 use Rattle.noc_route.specs.Channel.{Channel}
-use Rattle.noc_router.specs.Verdict.{is_event, is_moved}
+use Rattle.noc_view.specs.Verdict.{is_event, is_moved}
 use Rattle.noc_theory.specs.Network.{Setup, Located, Place, Source, On, In, Out, packet_at, state_at, frozen_at, network_cycle, after_verdicts, moved_place, is_the_flit, front_in, gone_to, next_channel, verdict_in, arrival_in}
 use Rattle.noc_theory.specs.Progress.{events, is_pending, is_stuck, last_event_before}
-use Rattle.noc_router.proofs.SettleLemmas.{is_moved-true}
+use Rattle.noc_view.proofs.MoverLemmas.{is_moved-true}
 use Rattle.noc_theory.proofs.worms.MemberLemmas.{any-same}
 use Rattle.noc_theory.specs.Good.{IsGoodSetup}
 use Rattle.noc_theory.proofs.budget.ProgressLemmas.{map-same, at-same, quiet-frozen}
 use Rattle.noc_theory.proofs.budget.ProgressTheoremLemmas.{countable}
 
 module _ (net : Setup) (made : IsGoodSetup net) (n : ℕ) (quiet : events net n (state_at net n) ≡ 0) where
-  unmoved : (c : Channel) → is_moved (verdict_in net (frozen_at net n) c) ≡ false
+  pub unmoved : (c : Channel) → is_moved (verdict_in net (frozen_at net n) c) ≡ false
   unmoved c =
       false_from_ne_true _ (λ k.
       let moved = is_moved-true (verdict_in net (frozen_at net n) c) k in
@@ -28,7 +28,7 @@ module _ (net : Setup) (made : IsGoodSetup net) (n : ℕ) (quiet : events net n 
   stays f (Out m) = refl
 
   -- a cycle without an event leaves each flit where it is
-  cycle-same : (network_cycle net n (state_at net n)).at ≡ (state_at net n).at
+  pub cycle-same : (network_cycle net n (state_at net n)).at ≡ (state_at net n).at
   unfolding network_cycle after_verdicts
   cycle-same =
       map-same (λ (f : Located). record f { place = moved_place net (frozen_at net n) n f f.place }) (frozen_at net n).at (λ f h. ap (λ (q : Place). record f { place = q }) (stays f f.place))

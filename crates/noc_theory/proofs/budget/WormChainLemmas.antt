@@ -5,8 +5,8 @@ use Rattle.noc_theory.specs.Network.{end_distance, In, Located, Setup, State, al
 use Rattle.noc_theory.specs.Progress.{is_flying}
 use Rattle.noc_route.specs.Channel.{Channel, Eject, Inject, Link}
 use Rattle.noc_route.specs.Routes.{permits}
-use Rattle.noc_router.specs.Verdict.{is_event}
-use Rattle.noc_topo.specs.Words.{Has}
+use Rattle.noc_view.specs.Verdict.{is_event}
+use Rattle.noc_topo.specs.Lists.{Has}
 
 module _ (net : Setup) where
   -- each permitted hop brings the packet nearer

@@ -2,17 +2,17 @@
 use Rattle.std.proofs.Common.{◌≡◌, ℕ, ◌+◌, ◌-◌, ◌*◌, ◌/◌, ◌%◌, ◌<◌, Bool, true, false, cond, List, [], ◌∷◌, length, Option, Some, None, refl, ap, sym, ◌∙◌, arith, inl, inr, subst}
 use Rattle.std.specs.Prelude.{option_map, unwrap_or, nat_eq, nat_lt, option_and_then, find, filter, ◌&&◌}
 use Rattle.std.proofs.lemmas.Bool.{false≢true, true≢false, eqb-true, eq-eqb, lt-ltb, and_from, and_parts}
-use Rattle.noc_theory.specs.Network.{In, Located, On, Out, Place, Setup, Source, State, all_inputs, ask, claim_of, claim_with, count_in, count_on, credit_of, has_channel, has_credit_in, injection_at, injection_with, injections, is_idle, is_injection_of, is_on, leads_from, leaving, next_channel, owned_by, owner_of, packet_at, round_at, size, tail_place, verdict_in}
+use Rattle.noc_theory.specs.Network.{arriving, In, Located, On, Out, Place, Setup, Source, State, all_inputs, ask, claim_of, claim_with, count_in, count_on, credit_of, has_channel, has_credit_in, injection_at, injection_with, injections, is_idle, is_injection_of, is_on, leads_from, leaving, next_channel, owned_by, owner_of, packet_at, round_at, size, tail_place, verdict_in}
 use Rattle.noc_theory.specs.Progress.{is_flying}
 use Rattle.noc_theory.proofs.runs.PostLemmas.{some_of_map}
 use Rattle.noc_theory.proofs.budget.ProgressRecordLemmas.{IsBuilt, IsReal, LeadsOn}
 use Rattle.noc_route.specs.Channel.{Channel, Eject, Inject, Link, sending_router, channel_vc, output_at, output_index, same_channel}
 use Rattle.noc_route.specs.Routes.{permits}
 use Rattle.noc_route.proofs.BuiltLemmas.{linked-port}
-use Rattle.noc_router.specs.Verdict.{Claim, Holds, Unrouted, Waits, is_event, verdict_of}
-use Rattle.noc_router.specs.declared.verdict.Verdict.TheVariants.{Granted, Moved, Routed}
+use Rattle.noc_view.specs.Verdict.{Claim, Holds, Unrouted, Waits, is_event, verdict_of}
+use Rattle.noc_view.specs.declared.verdict.Verdict.TheVariants.{Granted, Moved, Routed}
 use Rattle.noc_topo.specs.Shape.{Grid, local_port, nodes, ports}
-use Rattle.noc_topo.specs.Words.{Has, below, is_some_of}
+use Rattle.noc_topo.specs.Lists.{Has, below, is_some_of}
 use Rattle.noc_theory.proofs.worms.BufferLemmas.{same_channel-refl, same_channel-true}
 use Rattle.noc_theory.proofs.worms.OptionLemmas.{and_then-some}
 use Rattle.noc_theory.proofs.worms.MemberLemmas.{Has-filter, find-some, Has-filter_mapped}
@@ -131,6 +131,37 @@ module _ (net : Setup) (F : State) where
             let has = next-has c o k in
             let l = real-index o (owned-real o has.0 has.2) in omega arith
 
+    -- where a channel has a next channel with a credit, and a flit, some channel of its router moves a flit
+    pub next-moved : (c o : Channel) (r port : ℕ) → IsInput net c r port → next_channel net F c ≡ Some o → has_credit_in net F o ≡ true → 0 < count_in net F c
+        → (d : Channel) × Has d (all_inputs net) × (verdict_in net F d ≡ Moved) × (x : ℕ) × (arriving net r x ≡ Some d)
+    next-moved c o r port i e cr flit =
+        flit-moved net built F c r port (channel_vc c) (output_index net.relation.grid net.relation.vcs o) i.router i.below i.vc i.found (λ d x h. claim-index r x d h)
+        (claim-next r c o e ∙ ap (Holds (output_index net.relation.grid net.relation.vcs o)) cr) (lt-ltb 0 (count_in net F c) flit)
+
+    -- the verdict of an owned channel, by its claim
+    pub verdict-owned : (c : Channel) (r port : ℕ) → IsInput net c r port → (claim : Claim) → claim_of net F r c ≡ claim
+        → verdict_in net F c ≡ verdict_of net.relation.vcs (round_at net F r) ((port * net.relation.vcs + channel_vc c) / net.relation.vcs * net.relation.vcs + (port * net.relation.vcs + channel_vc c) % net.relation.vcs) claim (nat_lt 0 (count_in net F c))
+    verdict-owned c r port i claim e =
+        verdict-input net built F c r (port * net.relation.vcs + channel_vc c) i.router i.found
+        ∙ ap (λ x. verdict_of net.relation.vcs (round_at net F r) ((port * net.relation.vcs + channel_vc c) / net.relation.vcs * net.relation.vcs + (port * net.relation.vcs + channel_vc c) % net.relation.vcs) x (nat_lt 0 (count_in net F c))) e
+
+    pub listed : (c : Channel) (r port : ℕ) → IsInput net c r port → Has c (all_inputs net)
+    listed c r port i = input-has net built c r (port * net.relation.vcs + channel_vc c) i.router (index_below (ports net.relation.grid) net.relation.vcs port (channel_vc c) i.below i.vc) i.found
+
+    -- what an owned channel leads on to
+    pub led-on : (c : Channel) (p r port : ℕ) → IsInput net c r port → owner_of net F c ≡ Some p → LeadsOn net (packet_at net p).class c (packet_at net p).destination r
+    led-on (Link a q v) p r port i own =
+        let o = worm.owners (Link a q v) p (owner-has (Link a q v) p own) in
+        built.goes_on (packet_at net p).class o.1.0 (packet_at net p).destination a q v r port o.1.1 i.arrives
+    led-on (Inject m v) p r port i own =
+        let o = worm.owners (Inject m v) p (owner-has (Inject m v) p own) in
+        let s = same_place m (local_port net.relation.grid) r port i.arrives in
+        let from : (packet_at net p).source ≡ m = sym o.1.0 in
+        subst (λ (x : ℕ). LeadsOn net (packet_at net p).class (Inject x v) (packet_at net p).destination r) from
+        (subst (λ (x : ℕ). LeadsOn net (packet_at net p).class (Inject (packet_at net p).source v) (packet_at net p).destination x) (from ∙ s.0)
+        (built.starts p v o.0 o.1.1))
+    led-on (Eject m v) p r port i own = absurd (cc i.arrives)
+
     module _ (n : ℕ) (quiet : IsQuiet net n F) where
       pub unmoved : (d : Channel) → Has d (all_inputs net) → verdict_in net F d ≡ Moved → ⊥
       unmoved d h e = true≢false (sym (ap (is_event) e) ∙ quiet.silent d h)
@@ -146,9 +177,7 @@ module _ (net : Setup) (F : State) where
       next-moves c o e cr flit =
           let has = next-has c o e in
           let i = owner-comes c has.0 has.1 (next-input c o e) in
-          let m = flit-moved net built F c i.0 i.1 (channel_vc c) (output_index net.relation.grid net.relation.vcs o) i.2.router i.2.below i.2.vc i.2.found
-          (λ d x h. claim-index i.0 x d h)
-          (claim-next i.0 c o e ∙ ap (Holds (output_index net.relation.grid net.relation.vcs o)) cr) (lt-ltb 0 (count_in net F c) flit) in
+          let m = next-moved c o i.0 i.1 i.2 e cr flit in
           unmoved m.0 m.1 m.2
 
       -- an empty buffer has credits
@@ -163,15 +192,15 @@ module _ (net : Setup) (F : State) where
           not-on f (In d) k = refl
           not-on f (Out m) k = refl
 
-          at : (b : Bool) → b ≡ false → count_on net F (Link r q v) ≡ 0 → 0 < net.places - count_on net F (Link r q v) - count_in net F (Link r q v) - cond b 1 0
+          at : (b : Bool) → b ≡ false → count_on net F (Link r q v) ≡ 0 → 0 < net.depth - count_on net F (Link r q v) - count_in net F (Link r q v) - cond b 1 0
           at true k on = absurd (true≢false k)
-          at false k on = let l = built.places in omega arith
+          at false k on = let l = built.depth in omega arith
 
       -- an injection channel with an owner is not empty
       pub source-absurd : (m v p : ℕ) → owner_of net F (Inject m v) ≡ Some p → count_in net F (Inject m v) ≡ 0 → ⊥
       source-absurd m v p e z =
           let s = worm.starts_fed m v p e z in
-          let fits : nat_lt (count_in net F (Inject m v)) net.places ≡ true = lt-ltb _ _ (let l = built.places in omega arith) in
+          let fits : nat_lt (count_in net F (Inject m v)) net.depth ≡ true = lt-ltb _ _ (let l = built.depth in omega arith) in
           let goes : injection_with net F n m p (Some (Inject m v)) ≡ Some (record { packet = p; channel = Inject m v; begins = false }) = rw fits in
           let is : injection_at net F n m ≡ Some (record { packet = p; channel = Inject m v; begins = false })
           = ap (option_and_then (λ q. injection_with net F n m q (find (is_injection_of net m) (owned_by net F q)))) s.0
@@ -179,27 +208,3 @@ module _ (net : Setup) (F : State) where
           let l = owned-real (Inject m v) p (owner-has (Inject m v) p e) in
           let h : Has (record { packet = p; channel = Inject m v; begins = false }) (injections net F n) = Has-filter_mapped (injection_at net F n) m (record { packet = p; channel = Inject m v; begins = false }) (below (nodes net.relation.grid)) (below-has m (nodes net.relation.grid) l.0) is in
           subst (Has (record { packet = p; channel = Inject m v; begins = false })) quiet.none_injected h
-
-      -- the verdict of an owned channel, by its claim
-      pub verdict-owned : (c : Channel) (r port : ℕ) → IsInput net c r port → (claim : Claim) → claim_of net F r c ≡ claim
-          → verdict_in net F c ≡ verdict_of net.relation.vcs (round_at net F r) ((port * net.relation.vcs + channel_vc c) / net.relation.vcs * net.relation.vcs + (port * net.relation.vcs + channel_vc c) % net.relation.vcs) claim (nat_lt 0 (count_in net F c))
-      verdict-owned c r port i claim e =
-          verdict-input net built F c r (port * net.relation.vcs + channel_vc c) i.router i.found
-          ∙ ap (λ x. verdict_of net.relation.vcs (round_at net F r) ((port * net.relation.vcs + channel_vc c) / net.relation.vcs * net.relation.vcs + (port * net.relation.vcs + channel_vc c) % net.relation.vcs) x (nat_lt 0 (count_in net F c))) e
-
-      pub listed : (c : Channel) (r port : ℕ) → IsInput net c r port → Has c (all_inputs net)
-      listed c r port i = input-has net built c r (port * net.relation.vcs + channel_vc c) i.router (index_below (ports net.relation.grid) net.relation.vcs port (channel_vc c) i.below i.vc) i.found
-
-      -- what an owned channel leads on to
-      pub led-on : (c : Channel) (p r port : ℕ) → IsInput net c r port → owner_of net F c ≡ Some p → LeadsOn net (packet_at net p).class c (packet_at net p).destination r
-      led-on (Link a q v) p r port i own =
-          let o = worm.owners (Link a q v) p (owner-has (Link a q v) p own) in
-          built.goes_on (packet_at net p).class o.1.0 (packet_at net p).destination a q v r port o.1.1 i.arrives
-      led-on (Inject m v) p r port i own =
-          let o = worm.owners (Inject m v) p (owner-has (Inject m v) p own) in
-          let s = same_place m (local_port net.relation.grid) r port i.arrives in
-          let from : (packet_at net p).source ≡ m = sym o.1.0 in
-          subst (λ (x : ℕ). LeadsOn net (packet_at net p).class (Inject x v) (packet_at net p).destination r) from
-          (subst (λ (x : ℕ). LeadsOn net (packet_at net p).class (Inject (packet_at net p).source v) (packet_at net p).destination x) (from ∙ s.0)
-          (built.starts p v o.0 o.1.1))
-      led-on (Eject m v) p r port i own = absurd (cc i.arrives)

@@ -4,7 +4,7 @@ use Rattle.std.specs.Prelude.{filter, find, count_by, option_map, ◌⊎◌, ◌
 use Rattle.std.specs.List.{list_any}
 use Rattle.std.proofs.lemmas.Bool.{eq-eqb, eqb-true, ne_eqb, cases_eq}
 use Rattle.std.proofs.lemmas.Option.{none-some, same_Some}
-use Rattle.noc_topo.specs.Words.{below, Has}
+use Rattle.noc_topo.specs.Lists.{below, Has}
 use Rattle.noc_topo.specs.Shape.{nodes}
 use Rattle.noc_packet.specs.declared.packet.Packet.{Packet}
 use Rattle.noc_route.specs.Channel.{Channel, Inject, channel_vc}

@@ -2,7 +2,7 @@
 use Rattle.std.proofs.Common.{◌≡◌, ◌≢◌, ℕ, suc, ◌-◌, ◌<◌, Bool, true, false, cond, List, [], ◌∷◌, map, length, Option, Some, None, refl, ap, sym, ◌∙◌, inl, inr, subst}
 use Rattle.std.specs.Prelude.{filter, find, option_map, option_and_then, unwrap_or, ◌⊎◌, ◌&&◌, ◌||◌, not, nat_eq, nat_lt, if◌then◌else◌}
 use Rattle.std.proofs.lemmas.Bool.{false≢true}
-use Rattle.noc_topo.specs.Words.{below, Has}
+use Rattle.noc_topo.specs.Lists.{below, Has}
 use Rattle.noc_packet.specs.Packet.{flit_at}
 use Rattle.noc_packet.specs.declared.packet.Flit.{Flit}
 use Rattle.noc_route.specs.Channel.{Channel, Link, Inject, Eject, same_channel, is_link}
@@ -142,9 +142,9 @@ module _ (net : Setup) (good : IsGood net) (M : State) (x : IsOrderedFrozen net 
 
   credit-same : (c : Channel) → Quiet net good M x n c → credit_of net (after_injection net n M) c ≡ credit_of net M c
   credit-same c quiet =
-      ap (λ k. net.places - k - count_in net (after_injection net n M) c - (if has_channel (after_injection net n M).back c then 1 else 0)) (on-same c)
-      ∙ ap (λ k. net.places - count_on net M c - k - (if has_channel (after_injection net n M).back c then 1 else 0)) (ap length (buffer-quiet c quiet))
-      ∙ ap (λ (cs : List Channel). net.places - count_on net M c - count_in net M c - (if has_channel cs c then 1 else 0)) back-same
+      ap (λ k. net.depth - k - count_in net (after_injection net n M) c - (if has_channel (after_injection net n M).back c then 1 else 0)) (on-same c)
+      ∙ ap (λ k. net.depth - count_on net M c - k - (if has_channel (after_injection net n M).back c then 1 else 0)) (ap length (buffer-quiet c quiet))
+      ∙ ap (λ (cs : List Channel). net.depth - count_on net M c - count_in net M c - (if has_channel cs c then 1 else 0)) back-same
 
   source-same : (r : ℕ) (o : Channel) → seen_source net (after_injection net n M) r o ≡ seen_source net M r o
   source-same r o = ap (λ (k : Option ℕ). unwrap_or k 0) (find-each (below (size net)))
@@ -188,7 +188,7 @@ module _ (net : Setup) (good : IsGood net) (M : State) (x : IsOrderedFrozen net 
 
   pub output-quiet : (r : ℕ) (c : Channel) → Quiet net good M x n c → seen_output net (after_injection net n M) r c ≡ seen_output net M r c
   output-quiet r (Link a b w) quiet =
-      ap (λ h. record { holder = h; credit = Some (credit_of net (after_injection net n M) (Link a b w)); places = net.places }) (holder-same r (Link a b w) quiet)
-      ∙ ap (λ k. record { holder = seen_holder net M r (Link a b w) (owner_of net M (Link a b w)); credit = Some k; places = net.places }) (credit-same (Link a b w) quiet)
-  output-quiet r (Inject a w) quiet = ap (λ h. record { holder = h; credit = None; places = 0 }) (holder-same r (Inject a w) quiet)
-  output-quiet r (Eject a w) quiet = ap (λ h. record { holder = h; credit = None; places = 0 }) (holder-same r (Eject a w) quiet)
+      ap (λ h. record { holder = h; credit = Some (credit_of net (after_injection net n M) (Link a b w)); depth = net.depth }) (holder-same r (Link a b w) quiet)
+      ∙ ap (λ k. record { holder = seen_holder net M r (Link a b w) (owner_of net M (Link a b w)); credit = Some k; depth = net.depth }) (credit-same (Link a b w) quiet)
+  output-quiet r (Inject a w) quiet = ap (λ h. record { holder = h; credit = None; depth = 0 }) (holder-same r (Inject a w) quiet)
+  output-quiet r (Eject a w) quiet = ap (λ h. record { holder = h; credit = None; depth = 0 }) (holder-same r (Eject a w) quiet)

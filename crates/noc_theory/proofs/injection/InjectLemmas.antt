@@ -5,15 +5,15 @@ use Rattle.std.proofs.lemmas.Bool.{false≢true, true≢false, eq-eqb, cases_eq,
 use Rattle.std.proofs.lemmas.Option.{none-some, same_Some}
 use Rattle.std.proofs.lemmas.List.{length-set, get_or-set_same, get_or-set_other, length-map}
 use Rattle.std.proofs.lemmas.Nat.{div-mul-add, mod-mul-add}
-use Rattle.noc_topo.specs.Words.{below, Has}
+use Rattle.noc_topo.specs.Lists.{below, Has}
 use Rattle.noc_topo.specs.Shape.{nodes, local_port}
 use Rattle.noc_packet.specs.Packet.{flit_at}
 use Rattle.noc_packet.specs.declared.packet.Packet.{Packet}
 use Rattle.noc_packet.specs.declared.packet.Flit.{Flit}
 use Rattle.noc_route.specs.Channel.{Channel, Link, Inject, Eject, channel_vc}
 use Rattle.noc_vc.specs.Input.{Input, idle_input, input_after_land, is_idle_phase, is_empty}
-use Rattle.noc_router.specs.View.{Site, View, view_buffer, view_input, local_channel, is_vacant, with_landed, with_injected, begun_on, view_after_inject_from, view_after_inject}
-use Rattle.noc_router.proofs.FindLemmas.{find-same, find-some}
+use Rattle.noc_view.specs.View.{Site, View, view_buffer, view_input, local_channel, is_vacant, with_landed, with_injected, begun_on, view_after_inject_from, view_after_inject}
+use Rattle.noc_view.proofs.FindLemmas.{find-same, find-some}
 use Rattle.noc_theory.specs.Lockstep.{starts_at, ends_at, seen_flits, seen_input, seen_output, seen_phase_with, seen_sending, has_flit_at_source}
 use Rattle.noc_theory.specs.Network.{Setup, State, Located, Place, Source, On, In, Out, Injection, size, arriving, leaving, packet_at, place_of_flit, tail_place, flits_of, owner_of, owned_by, next_channel, has_channel, is_idle, is_in, is_past, is_at_source, is_injection_of, first_waiting, beginning, injection_with, injection_at, injections, count_in, buffer_of, out_cycle, after_injection}
 use Rattle.noc_theory.specs.Progress.{head_place}
@@ -86,7 +86,7 @@ module _ (net : Setup) (good : IsGood net) (M : State) (x : IsOrderedFrozen net 
   ends-same : v.ends ≡ map (λ q. (q, out_cycle (tail_place net T q))) (ends_at net r)
   ends-same = seen.ends ∙ map-each (λ q. (q, out_cycle (tail_place net M q))) (λ q. (q, out_cycle (tail_place net T q))) (ends_at net r) (λ q h. ap (λ (k : Option ℕ). (q, k)) (sym (out-same q h)))
 
-  output-same : (o : ℕ) → o < size net → Rattle.noc_router.specs.View.view_output v o ≡ seen_output net T r (leaving net r o)
+  output-same : (o : ℕ) → o < size net → Rattle.noc_view.specs.View.view_output v o ≡ seen_output net T r (leaving net r o)
   output-same o k = seen.output o k ∙ sym (output-quiet net good M x n r (leaving net r o) quiet)
     where
       quiet : Quiet net good M x n (leaving net r o)
@@ -346,7 +346,7 @@ module _ (net : Setup) (good : IsGood net) (M : State) (x : IsOrderedFrozen net 
 
     -- the packet has begun, on c
     goes-on : (c : Channel) → find (is_injection_of net r) (owned_by net M p) ≡ Some c → IsInjected net M n r v (go ((p, packet_at net p) ∷ rest) (Some (channel_vc c, count_by (λ (f : Located). not (is_at_source f.place)) (flits_of net M p))))
-    goes-on c e = by (nat_lt (count_in net M c) net.places) refl
+    goes-on c e = by (nat_lt (count_in net M c) net.depth) refl
       where
         own : (w : ℕ) × (c ≡ Inject r w) × Has (Inject r w, p) M.own
         own = injection-own net good.built M (keyed net good M x n) (worm net good M x n) p r c e
@@ -362,15 +362,15 @@ module _ (net : Setup) (good : IsGood net) (M : State) (x : IsOrderedFrozen net 
             let a = input-at net good (Inject r own.0) (x.whole.covered (Inject r own.0) p (own.2, (λ z. z))) in
             subst (λ j. j < net.relation.vcs) (sym a.2.vc) (mod-below net good a.1)
 
-        room : nat_lt (length (view_buffer v (local_channel v.site (channel_vc c)))) v.site.places ≡ nat_lt (count_in net M c) net.places
+        room : nat_lt (length (view_buffer v (local_channel v.site (channel_vc c)))) v.site.depth ≡ nat_lt (count_in net M c) net.depth
         room =
-            ap (λ j. nat_lt (length (view_buffer v (local_channel v.site j))) v.site.places) vc
-            ∙ ap (λ (fs : List Flit). nat_lt (length fs) v.site.places) (buffer-local own.0 low)
-            ∙ ap (λ (s : Site). nat_lt (length (seen_flits net M (Some (Inject r own.0)))) s.places) seen.site
-            ∙ ap (λ j. nat_lt j net.places) (length-map (buffer_of net M (Inject r own.0)) _)
-            ∙ ap (λ (d : Channel). nat_lt (count_in net M d) net.places) (sym own.1)
+            ap (λ j. nat_lt (length (view_buffer v (local_channel v.site j))) v.site.depth) vc
+            ∙ ap (λ (fs : List Flit). nat_lt (length fs) v.site.depth) (buffer-local own.0 low)
+            ∙ ap (λ (s : Site). nat_lt (length (seen_flits net M (Some (Inject r own.0)))) s.depth) seen.site
+            ∙ ap (λ j. nat_lt j net.depth) (length-map (buffer_of net M (Inject r own.0)) _)
+            ∙ ap (λ (d : Channel). nat_lt (count_in net M d) net.depth) (sym own.1)
 
-        by : (b : Bool) → nat_lt (count_in net M c) net.places ≡ b → IsInjected net M n r v (go ((p, packet_at net p) ∷ rest) (Some (channel_vc c, count_by (λ (f : Located). not (is_at_source f.place)) (flits_of net M p))))
+        by : (b : Bool) → nat_lt (count_in net M c) net.depth ≡ b → IsInjected net M n r v (go ((p, packet_at net p) ∷ rest) (Some (channel_vc c, count_by (λ (f : Located). not (is_at_source f.place)) (flits_of net M p))))
         by true k =
             let one : Injection net = record { packet = p; channel = c; begins = false } in
             let found : injection_at net M n r ≡ Some one = injection-from p first ∙ ap (injection_with net M n r p) e ∙ ap (λ b. if b then Some (record { packet = p; channel = c; begins = false }) else None) k in

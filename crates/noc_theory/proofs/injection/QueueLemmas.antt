@@ -4,9 +4,10 @@ use Rattle.std.specs.Prelude.{filter, ◌⊎◌, ◌&&◌, not, nat_eq, nat_le}
 use Rattle.std.specs.List.{list_any, enumerate_from}
 use Rattle.std.proofs.lemmas.Bool.{eq-eqb, eqb-true, ne_eqb, and_from, and_parts, leb-true, leb-false, cases_order}
 use Rattle.std.proofs.lemmas.Option.{none-some}
-use Rattle.noc_topo.specs.Words.{below, Has, Pairs, least_by}
+use Rattle.noc_topo.specs.Lists.{below, Has, Pairs, least_by}
 use Rattle.noc_packet.specs.declared.packet.Packet.{Packet}
-use Rattle.noc_theory.specs.Lockstep.{inserted_by_due, by_due, starts_at, has_flit_at_source}
+use Rattle.noc_packet.specs.ByNode.{inserted_by_due, by_due}
+use Rattle.noc_theory.specs.Lockstep.{starts_at, has_flit_at_source}
 use Rattle.noc_theory.specs.Network.{Setup, State, Located, packet_at, flits_of, is_at_source, first_waiting}
 use Rattle.noc_theory.proofs.worms.StateWordLemmas.{Precedes}
 use Rattle.noc_theory.proofs.worms.FirstOfNodeLemmas.{least_by-first}

@@ -4,9 +4,10 @@ use Rattle.std.specs.Prelude.{find, filter, option_and_then, nat_eq, ◌⊎◌}
 use Rattle.std.specs.List.{enumerate_from}
 use Rattle.std.proofs.lemmas.Bool.{eq-eqb, cases_eq, ne_eqb}
 use Rattle.std.proofs.lemmas.List.FromFn.{get_or-enumerate_from, length-enumerate_from}
-use Rattle.noc_topo.specs.Words.{Has}
+use Rattle.noc_topo.specs.Lists.{Has}
 use Rattle.noc_packet.specs.declared.packet.Packet.{Packet}
-use Rattle.noc_theory.specs.Lockstep.{ends_at, ends_of, view_at, view_in}
+use Rattle.noc_theory.specs.Lockstep.{ends_at, view_at, view_in}
+use Rattle.noc_packet.specs.ByNode.{ends_of}
 use Rattle.noc_theory.specs.Network.{Setup, arrival_in, out_cycle, packet_at, state_at, tail_place}
 use Rattle.noc_theory.proofs.worms.MemberLemmas.{Has-kept, Has-mapped}
 

@@ -4,11 +4,11 @@ use Rattle.std.specs.Prelude.{if◌then◌else◌}
 use Rattle.std.specs.List.{All}
 use Rattle.std.proofs.lemmas.List.{same_lists}
 use Rattle.std.proofs.lemmas.List.Sums.{get_or-le-sum_by}
-use Rattle.noc_topo.specs.Words.{map_indexed, tabulate}
+use Rattle.noc_topo.specs.Lists.{map_indexed, tabulate}
 use Rattle.noc_topo.specs.Shape.{nodes}
-use Rattle.noc_topo.proofs.WordLemmas.{length-tabulate, get_or-tabulate, length-map_indexed, get_or-map_indexed}
+use Rattle.noc_topo.proofs.ListLemmas.{length-tabulate, get_or-tabulate, length-map_indexed, get_or-map_indexed}
 use Rattle.noc_packet.specs.declared.packet.Beat.{Beat}
-use Rattle.noc_router.specs.View.{View}
+use Rattle.noc_view.specs.View.{View}
 use Rattle.noc_theory.specs.declared.limits.TheConstants.{CYCLE_LIMIT}
 use Rattle.noc_theory.specs.Core.{Post, is_linked, link_ports, opening_core, resting_post, wires_in_flight}
 use Rattle.noc_theory.specs.Good.{IsGoodSetup}

@@ -3,7 +3,7 @@ use Rattle.std.proofs.Common.{◌≡◌, ℕ, zero, suc, ◌+◌, ◌<◌, ◌�
 use Rattle.std.specs.Prelude.{count_by, nat_eq}
 use Rattle.std.specs.List.{range_with_len}
 use Rattle.std.proofs.lemmas.Bool.{eqb-true, eq-eqb}
-use Rattle.noc_topo.specs.Words.{below, Has, Pairs}
+use Rattle.noc_topo.specs.Lists.{below, Has, Pairs}
 use Rattle.noc_theory.specs.Network.{Setup, State, Located, Place, flits_of, place_of_flit, packet_at}
 use Rattle.noc_theory.proofs.worms.MemberLemmas.{each-at, Has-filter, Has-kept, Pairs-filter}
 use Rattle.noc_theory.proofs.worms.StateWordLemmas.{IsSortedPair, IsKeyed}

@@ -5,12 +5,12 @@ use Rattle.std.specs.List.{list_any}
 use Rattle.std.proofs.lemmas.Bool.{false≢true, cases_lt, eq-eqb, lt-ltb, ltb-true, or_cases, or_left, or_right}
 use Rattle.std.proofs.lemmas.Option.{same_Some}
 use Rattle.std.proofs.lemmas.List.Sums.{sum_by-cons}
-use Rattle.noc_topo.specs.Words.{Has, below, is_some_of}
+use Rattle.noc_topo.specs.Lists.{Has, below, is_some_of}
 use Rattle.noc_topo.specs.Shape.{nodes}
 use Rattle.noc_route.specs.Channel.{Channel, Link, Inject, Eject, sending_router, is_link, same_channel}
 use Rattle.noc_route.proofs.OptionLemmas.{some-value}
-use Rattle.noc_router.specs.Verdict.{is_event}
-use Rattle.noc_router.specs.declared.verdict.Verdict.TheVariants.{Empty}
+use Rattle.noc_view.specs.Verdict.{is_event}
+use Rattle.noc_view.specs.declared.verdict.Verdict.TheVariants.{Empty}
 use Rattle.noc_theory.specs.Good.{IsGoodSetup}
 use Rattle.noc_theory.specs.Lockstep.{flies_to, has_event_at, last_event_at}
 use Rattle.noc_theory.specs.Network.{Setup, State, Located, Place, Source, On, In, Out, Injection, after_landing, after_credits, all_inputs, arriving, end_of, frozen_at, injection_at, injections, size, state_at, verdict_in, verdict_in_cycle}
@@ -79,8 +79,8 @@ module _ (net : Setup) (made : IsGoodSetup net) (n : ℕ) where
   abbrev landed : State
   landed = after_credits net (after_landing net S)
 
-  abbrev turns : Channel → Bool
-  turns c = is_event (verdict_in net (frozen_at net n) c)
+  abbrev acts : Channel → Bool
+  acts c = is_event (verdict_in net (frozen_at net n) c)
 
   -- ---- an event of the network is one of a router
 
@@ -123,8 +123,8 @@ module _ (net : Setup) (made : IsGoodSetup net) (n : ℕ) where
       let r = Has-filter_map (injection_at net landed n) one (below (nodes net.relation.grid)) h in
       (r.0, Has-below r.0 (nodes net.relation.grid) r.1, or_left _ _ (or_right _ _ (is-some (injection_at net landed n r.0) one r.2)))
 
-  turned : (c : Channel) → Has c (all_inputs net) → turns c ≡ true → Somewhere
-  turned c h e =
+  acted : (c : Channel) → Has c (all_inputs net) → acts c ≡ true → Somewhere
+  acted c h e =
       let at = input-at net good c h in
       let is : verdict_in_cycle net n at.0 at.1 ≡ verdict_in net (frozen_at net n) c = ap (λ (o : Option Channel). unwrap_or (option_map (verdict_in net (frozen_at net n)) o) Empty) at.2.found in
       (at.0, at.2.router, or_right _ _ (list_any-from (λ i. is_event (verdict_in_cycle net n at.0 i)) (below (size net)) at.1 (below-has at.1 (size net) at.2.index) (ap is_event is ∙ e)))
@@ -134,7 +134,7 @@ module _ (net : Setup) (made : IsGoodSetup net) (n : ℕ) where
     where
       third : (0 < length (injections net landed n)) ⊎ (length (injections net landed n) ≤ 0) → count_by (λ (f : Located). is_flying f.place) S.at ≤ 0 → length S.back ≤ 0 → Somewhere
       third (inl l) a b = let r = some-listed (injections net landed n) l in injects r.0 r.1
-      third (inr l) a b = let r = some-counted turns (all_inputs net) (omega arith) in turned r.0 r.1 r.2
+      third (inr l) a b = let r = some-counted acts (all_inputs net) (omega arith) in acted r.0 r.1 r.2
 
       second : (0 < length S.back) ⊎ (length S.back ≤ 0) → count_by (λ (f : Located). is_flying f.place) S.at ≤ 0 → Somewhere
       second (inl l) a = let r = some-listed S.back l in credit r.0 r.1
@@ -155,7 +155,7 @@ module _ (net : Setup) (made : IsGoodSetup net) (n : ℕ) where
   flies r (In c) e = absurd (false≢true e)
   flies r (Out m) e = absurd (false≢true e)
 
-  arrives : (o : Option Channel) → is_event (unwrap_or (option_map (verdict_in net (frozen_at net n)) o) Empty) ≡ true → (c : Channel) × (o ≡ Some c) × (turns c ≡ true)
+  arrives : (o : Option Channel) → is_event (unwrap_or (option_map (verdict_in net (frozen_at net n)) o) Empty) ≡ true → (c : Channel) × (o ≡ Some c) × (acts c ≡ true)
   arrives None e = absurd (false≢true e)
   arrives (Some c) e = (c, refl, e)
 
@@ -183,7 +183,7 @@ module _ (net : Setup) (made : IsGoodSetup net) (n : ℕ) where
           let i = list_any-has (λ i. is_event (verdict_in_cycle net n r i)) (below (size net)) y in
           let c = arrives (arriving net r i.0) i.2 in
           let at = arriving-at net good r i.0 c.0 low (Has-below i.0 (size net) i.1) c.1 in
-          let k = counted-some turns (all_inputs net) c.0 (arrives-in net good at) c.2 in
+          let k = counted-some acts (all_inputs net) c.0 (arrives-in net good at) c.2 in
           omega arith
 
 -- ---- the last of them

@@ -4,7 +4,7 @@ use Rattle.std.specs.Prelude.{filter, ◌⊎◌, count_by, ◌||◌}
 use Rattle.std.specs.List.{list_any}
 use Rattle.std.proofs.lemmas.List.Sums.{sum_by-append}
 use Rattle.std.proofs.lemmas.Bool.{true≢false}
-use Rattle.noc_topo.specs.Words.{Has, Pairs}
+use Rattle.noc_topo.specs.Lists.{Has, Pairs}
 use Rattle.noc_theory.proofs.worms.MemberLemmas.{each-at}
 use Rattle.noc_theory.proofs.worms.StateWordLemmas.{IsSortedPair}
 use Rattle.noc_theory.specs.Network.{Located}

@@ -1,23 +1,23 @@
 -- A new router shows the opening state.
-use Rattle.std.proofs.Common.{◌≡◌, ℕ, zero, suc, ◌+◌, ◌-◌, ◌*◌, ◌/◌, ◌%◌, ◌<◌, Bool, true, List, [], ◌∷◌, ◌++◌, map, length, get_or, replicate, Option, Some, None, refl, ap, sym, ◌∙◌, inl, inr, arith, length-append}
+use Rattle.std.proofs.Common.{◌≡◌, ℕ, zero, suc, ◌+◌, ◌-◌, ◌*◌, ◌/◌, ◌%◌, ◌<◌, true, List, [], ◌∷◌, ◌++◌, map, length, get_or, replicate, Option, Some, None, refl, ap, sym, ◌∙◌, arith, length-append}
 use Rattle.std.specs.Prelude.{filter, nat_eq}
 use Rattle.std.specs.List.{enumerate_from}
 use Rattle.std.proofs.lemmas.Bool.{eq-eqb}
 use Rattle.std.proofs.lemmas.Nat.{div-add-mod'}
 use Rattle.std.proofs.lemmas.List.{length-replicate, get_or-replicate}
-use Rattle.noc_topo.specs.Words.{below, tabulate, Has}
+use Rattle.noc_topo.specs.Lists.{below, tabulate, Has}
 use Rattle.noc_topo.specs.Shape.{nodes, ports, local_port}
-use Rattle.noc_topo.proofs.WordLemmas.{tabulate-from_each}
+use Rattle.noc_topo.proofs.ListLemmas.{tabulate-from_each}
 use Rattle.noc_packet.specs.declared.packet.Packet.{Packet}
 use Rattle.noc_packet.specs.Packet.{flit_at}
 use Rattle.noc_route.specs.Channel.{Channel, Link, Eject}
 use Rattle.noc_vc.specs.Input.{idle_input}
 use Rattle.noc_vc.specs.Output.{ejection_output, link_output}
-use Rattle.noc_router.specs.Verdict.{opening_arbiters}
-use Rattle.noc_router.specs.View.{View, opening_view, view_output}
+use Rattle.noc_view.specs.Verdict.{opening_arbiters}
+use Rattle.noc_view.specs.View.{View, opening_view, view_output}
 use Rattle.noc_theory.specs.Lockstep.{view_at, site_at, starts_at, ends_at, seen_flits, seen_input, seen_output, seen_sending, has_flit_at_source, counts_before}
 use Rattle.noc_theory.specs.Network.{Setup, State, Located, Place, Source, size, arriving, leaving, packet_at, tail_place, flits_of, is_at_source, is_in, is_on, count_in, count_on, credit_of, first_waiting, out_cycle, opening_state, state_at}
-use Rattle.noc_theory.proofs.worms.MemberLemmas.{Has-kept, list_any-from}
+use Rattle.noc_theory.proofs.worms.MemberLemmas.{Has-kept, filter-all, list_any-from}
 use Rattle.noc_theory.proofs.worms.OpeningLemmas.{at-source, sound-opening}
 use Rattle.noc_theory.proofs.worms.PlaceLemmas.{flit-there}
 use Rattle.noc_theory.proofs.worms.StateWordLemmas.{last_of}
@@ -39,10 +39,6 @@ get_or-front (x ∷ xs) ys (suc i) d l = get_or-front xs ys i d (omega arith)
 get_or-back : {X : Type 0} (xs ys : List X) (i : ℕ) (d : X) → get_or (xs ++ ys) (length xs + i) d ≡ get_or ys i d
 get_or-back [] ys i d = ap (λ k. get_or ys k d) (omega arith)
 get_or-back (x ∷ xs) ys i d = let e : length (x ∷ xs) + i ≡ suc (length xs + i) = omega arith in ap (λ k. get_or (x ∷ xs ++ ys) k d) e ∙ get_or-back xs ys i d
-
-filter-all : {X : Type 0} (t : X → Bool) (xs : List X) → ((x : X) → Has x xs → t x ≡ true) → xs ≡ filter t xs
-filter-all t [] all = refl
-filter-all t (x ∷ xs) all = rw (all x (inl refl)) (ap (λ ys. x ∷ ys) (filter-all t xs (λ y h. all y (inr h))))
 
 module _ (net : Setup) (good : IsGood net) (r : ℕ) (l : r < nodes net.relation.grid) where
   abbrev v : View
@@ -68,13 +64,13 @@ module _ (net : Setup) (good : IsGood net) (r : ℕ) (l : r < nodes net.relation
   input i None = refl
   input i (Some c) = refl
 
-  credit : (c : Channel) → credit_of net (opening_state net) c ≡ net.places
+  credit : (c : Channel) → credit_of net (opening_state net) c ≡ net.depth
   unfolding opening_state
-  credit c = ap (λ k. net.places - k - count_in net (opening_state net) c - 0) (ap length (on-none c)) ∙ ap (λ k. net.places - 0 - k - 0) (ap length (in-none c)) ∙ omega arith
+  credit c = ap (λ k. net.depth - k - count_in net (opening_state net) c - 0) (ap length (on-none c)) ∙ ap (λ k. net.depth - 0 - k - 0) (ap length (in-none c)) ∙ omega arith
 
-  link-is : (a b w : ℕ) → link_output net.places ≡ seen_output net (opening_state net) r (Link a b w)
+  link-is : (a b w : ℕ) → link_output net.depth ≡ seen_output net (opening_state net) r (Link a b w)
   unfolding opening_state
-  link-is a b w = ap (λ k. record (link_output net.places) { credit = Some k }) (sym (credit (Link a b w)))
+  link-is a b w = ap (λ k. record (link_output net.depth) { credit = Some k }) (sym (credit (Link a b w)))
 
   eject-is : (a w : ℕ) → ejection_output ≡ seen_output net (opening_state net) r (Eject a w)
   unfolding opening_state
@@ -82,8 +78,8 @@ module _ (net : Setup) (good : IsGood net) (r : ℕ) (l : r < nodes net.relation
 
   outputs-length : length v.outputs ≡ size net
   outputs-length =
-      length-append (replicate (local_port net.relation.grid * net.relation.vcs) (link_output net.places)) (replicate net.relation.vcs ejection_output)
-      ∙ (let a : length (replicate (local_port net.relation.grid * net.relation.vcs) (link_output net.places)) ≡ local_port net.relation.grid * net.relation.vcs = length-replicate (local_port net.relation.grid * net.relation.vcs) (link_output net.places) in
+      length-append (replicate (local_port net.relation.grid * net.relation.vcs) (link_output net.depth)) (replicate net.relation.vcs ejection_output)
+      ∙ (let a : length (replicate (local_port net.relation.grid * net.relation.vcs) (link_output net.depth)) ≡ local_port net.relation.grid * net.relation.vcs = length-replicate (local_port net.relation.grid * net.relation.vcs) (link_output net.depth) in
       let b : length (replicate net.relation.vcs ejection_output) ≡ net.relation.vcs = length-replicate net.relation.vcs ejection_output in
       let e = product (local_port net.relation.grid) net.relation.vcs in
       omega (arith, a, b, e))
@@ -97,22 +93,22 @@ module _ (net : Setup) (good : IsGood net) (r : ℕ) (l : r < nodes net.relation
       n : ℕ
       n = local_port net.relation.grid * net.relation.vcs
 
-      len : length (replicate (local_port net.relation.grid * net.relation.vcs) (link_output net.places)) ≡ local_port net.relation.grid * net.relation.vcs
-      len = length-replicate (local_port net.relation.grid * net.relation.vcs) (link_output net.places)
+      len : length (replicate (local_port net.relation.grid * net.relation.vcs) (link_output net.depth)) ≡ local_port net.relation.grid * net.relation.vcs
+      len = length-replicate (local_port net.relation.grid * net.relation.vcs) (link_output net.depth)
 
       by : OutputCase net good r o → view_output v o ≡ seen_output net (opening_state net) r (leaving net r o)
       by (ejects p e) =
-          let is : length (replicate (local_port net.relation.grid * net.relation.vcs) (link_output net.places)) + o % net.relation.vcs ≡ o
+          let is : length (replicate (local_port net.relation.grid * net.relation.vcs) (link_output net.depth)) + o % net.relation.vcs ≡ o
           = ap (λ k. k + o % net.relation.vcs) (len ∙ ap (λ k. k * net.relation.vcs) (sym p)) ∙ div-add-mod' o net.relation.vcs in
           ap (λ k. get_or v.outputs k ejection_output) (sym is)
-          ∙ get_or-back (replicate (local_port net.relation.grid * net.relation.vcs) (link_output net.places)) (replicate net.relation.vcs ejection_output) (o % net.relation.vcs) ejection_output
+          ∙ get_or-back (replicate (local_port net.relation.grid * net.relation.vcs) (link_output net.depth)) (replicate net.relation.vcs ejection_output) (o % net.relation.vcs) ejection_output
           ∙ get_or-replicate net.relation.vcs (o % net.relation.vcs) ejection_output ejection_output (Rattle.noc_theory.proofs.join.PlaceViewLemmas.mod-below net good o)
           ∙ eject-is r (o % net.relation.vcs)
           ∙ sym (ap (seen_output net (opening_state net) r) e)
       by (links p e) =
           let low : o < local_port net.relation.grid * net.relation.vcs = (Rattle.std.proofs.Math.Nat.div-lt_iff_lt-mul {k = net.relation.vcs} {x = o} {y = local_port net.relation.grid} good.relation.table.some_vcs).0 p in
-          get_or-front (replicate (local_port net.relation.grid * net.relation.vcs) (link_output net.places)) (replicate net.relation.vcs ejection_output) o ejection_output (omega (arith, low, len))
-          ∙ get_or-replicate (local_port net.relation.grid * net.relation.vcs) o (link_output net.places) ejection_output low
+          get_or-front (replicate (local_port net.relation.grid * net.relation.vcs) (link_output net.depth)) (replicate net.relation.vcs ejection_output) o ejection_output (omega (arith, low, len))
+          ∙ get_or-replicate (local_port net.relation.grid * net.relation.vcs) o (link_output net.depth) ejection_output low
           ∙ link-is r (o / net.relation.vcs) (o % net.relation.vcs)
           ∙ sym (ap (seen_output net (opening_state net) r) e)
 

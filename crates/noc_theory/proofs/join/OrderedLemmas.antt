@@ -1,6 +1,6 @@
 -- What is asked of a network and of its states: the ownership laws, and four facts more.
 use Rattle.std.specs.Prelude.{◌≡◌, ◌≢◌, ℕ, ◌<◌, true, false, length, Some}
-use Rattle.noc_topo.specs.Words.{Has}
+use Rattle.noc_topo.specs.Lists.{Has}
 use Rattle.noc_topo.specs.Shape.{nodes, neighbour}
 use Rattle.noc_route.specs.Channel.{Channel, Link, Eject, is_link}
 use Rattle.noc_route.specs.Routes.{set_at, IsRelation}

@@ -2,10 +2,10 @@
 use Rattle.std.proofs.Common.{◌≡◌, ℕ, zero, suc, ◌≤◌, true, false, length, refl, ap, sym, ◌∙◌}
 use Rattle.std.specs.Prelude.{◌&&◌}
 use Rattle.std.proofs.lemmas.Bool.{false≢true, and_parts}
-use Rattle.noc_topo.specs.Words.{Has}
+use Rattle.noc_topo.specs.Lists.{Has}
 use Rattle.noc_topo.specs.Shape.{nodes}
 use Rattle.noc_route.specs.Channel.{Channel, Link, is_link}
-use Rattle.noc_router.specs.Verdict.{is_moved}
+use Rattle.noc_view.specs.Verdict.{is_moved}
 use Rattle.noc_theory.specs.declared.limits.TheConstants.{CYCLE_LIMIT}
 use Rattle.noc_theory.specs.Network.{Setup, State, Source, On, place_of_flit, opening_state, after_credits, after_injection, after_verdicts, frozen_state, frozen_at, state_at, network_cycle, has_channel, verdict_in, all_inputs}
 use Rattle.noc_theory.proofs.worms.CameLemmas.{IsLed as IsCame, led-mid, led-frozen, led-state, leads-further, ejects-home, eject-low}

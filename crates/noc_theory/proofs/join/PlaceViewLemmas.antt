@@ -6,7 +6,7 @@ use Rattle.std.proofs.lemmas.Bool.{eqb-true, eq-eqb, ne_eqb, lt-ltb, eqb-false}
 use Rattle.std.proofs.lemmas.Option.{none-some, same_Some}
 use Rattle.std.proofs.lemmas.Nat.{div-add-mod', div-mul-add, mod-mul-add}
 use Rattle.std.proofs.Math.Nat.{div-lt_iff_lt-mul, mod-lt}
-use Rattle.noc_topo.specs.Words.{below, Has}
+use Rattle.noc_topo.specs.Lists.{below, Has}
 use Rattle.noc_topo.specs.Shape.{IsGrid, nodes, ports, local_port, neighbour, IsLinkBack}
 use Rattle.noc_topo.proofs.LinkLemmas.{link_back}
 use Rattle.noc_packet.specs.Set.{has_bit}

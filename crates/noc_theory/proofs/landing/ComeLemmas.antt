@@ -2,7 +2,7 @@
 use Rattle.std.proofs.Common.{◌≡◌, ℕ, ◌+◌, ◌*◌, ◌<◌, ◌≤◌, Bool, true, false, refl, ap, sym, ◌∙◌, inl, inr, arith}
 use Rattle.std.specs.Prelude.{◌⊎◌, nat_eq, nat_lt, nat_le, ◌||◌}
 use Rattle.std.proofs.lemmas.Bool.{false≢true, ltb-true, lt-ltb, le-ltb, leb-true, le-leb, lt-leb, cases_eq, or_right, or_left, or_cases, eq-eqb}
-use Rattle.noc_topo.specs.Words.{Has}
+use Rattle.noc_topo.specs.Lists.{Has}
 use Rattle.noc_topo.specs.Shape.{distance}
 use Rattle.noc_route.specs.Channel.{Channel, Link, Inject, Eject, same_channel}
 use Rattle.noc_route.proofs.BoolLemmas.{same_test}

@@ -4,7 +4,7 @@ use Rattle.std.specs.Prelude.{find, option_map, option_and_then, ◌⊎◌, ◌&
 use Rattle.std.proofs.lemmas.Bool.{false≢true, true≢false, cases_eq, cases_lt, lt-ltb, le-ltb, le-leb, ne_eqb, eq-eqb, eqb-true, or_right, or_left, and_from}
 use Rattle.std.proofs.lemmas.Option.{none-some, same_Some}
 use Rattle.std.proofs.lemmas.List.{map-append, length-map}
-use Rattle.noc_topo.specs.Words.{Has}
+use Rattle.noc_topo.specs.Lists.{Has}
 use Rattle.noc_packet.specs.Packet.{flit_at}
 use Rattle.noc_packet.specs.declared.packet.Flit.{Flit}
 use Rattle.noc_packet.specs.declared.limits.TheConstants.{MAX_LENGTH}
@@ -221,7 +221,7 @@ module _ (net : Setup) (good : IsGood net) (S : State) (x : IsOrdered net S) (a 
 
   -- ---- it fits
 
-  room : nat_lt (length (seen_flits net S (Some (Link a b w)))) net.places ≡ true
+  room : nat_lt (length (seen_flits net S (Some (Link a b w)))) net.depth ≡ true
   room =
       let r = x.whole.sound.room (Link a b w) in
       let one = some-on (count_on net S (Link a b w)) refl in
@@ -232,7 +232,7 @@ module _ (net : Setup) (good : IsGood net) (S : State) (x : IsOrdered net S) (a 
       some-on zero e = absurd (false≢true (sym (Rattle.noc_theory.proofs.worms.InjectionRoomLemmas.filter-none (λ (f : Located). is_on (Link a b w) f.place) S.at it.flit e it.member) ∙ ap (is_on (Link a b w)) it.place ∙ same_channel-refl (Link a b w)))
       some-on (suc j) e = omega (arith, e)
 
-  pub fits-some : (r i : ℕ) (at : IsAt net good r i (Link a b w)) → fits net.relation r (i / net.relation.vcs) w net.places (seen_flits net S (Some (Link a b w))) (seen_input net S r i (Some (Link a b w))) fl ≡ true
+  pub fits-some : (r i : ℕ) (at : IsAt net good r i (Link a b w)) → fits net.relation r (i / net.relation.vcs) w net.depth (seen_flits net S (Some (Link a b w))) (seen_input net S r i (Some (Link a b w))) fl ≡ true
   fits-some r i at = and_from _ _ room (ap (λ (f : Flit). is_expected net.relation r (i / net.relation.vcs) w (seen_flits net S (Some (Link a b w))) (seen_input net S r i (Some (Link a b w))) f (seen_input net S r i (Some (Link a b w))).phase) (sym it.is_flit) ∙ by (has_channel S.routed (Link a b w)) refl)
     where
       faultless : Rattle.noc_theory.specs.Good.IsGoodPacket net.relation (packet_at net it.flit.packet)

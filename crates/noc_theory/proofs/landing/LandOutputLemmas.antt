@@ -2,12 +2,11 @@
 use Rattle.std.proofs.Common.{◌≡◌, ◌≢◌, ℕ, zero, suc, ◌+◌, ◌-◌, ◌*◌, ◌<◌, ◌≤◌, Bool, true, false, cond, length, Option, Some, None, refl, ap, sym, ◌∙◌, inl, inr, subst, arith}
 use Rattle.std.specs.Prelude.{◌⊎◌, ◌&&◌, ◌||◌}
 use Rattle.std.proofs.lemmas.Bool.{false≢true, true≢false, lt-ltb, ltb-true, le-ltb, le-leb, ne_eqb, eq-eqb, or_left, or_right}
-use Rattle.noc_topo.specs.Words.{Has}
+use Rattle.noc_topo.specs.Lists.{Has, one_if}
 use Rattle.noc_route.specs.Channel.{Channel, Link, Inject, Eject, same_channel, is_link}
 use Rattle.noc_vc.specs.Output.{Output, output_after_credit, credit_fits, holder_at}
 use Rattle.noc_vc.specs.declared.output.OutputState.{OutputState}
 use Rattle.noc_vc.specs.declared.output.OutputState.TheVariants.{Idle as Free, Owned, Draining}
-use Rattle.noc_counts.specs.Counts.{one_if}
 use Rattle.noc_theory.specs.Lockstep.{has_come, seen_output, seen_holder, seen_source}
 use Rattle.noc_theory.specs.Network.{Setup, State, Located, Place, Source, On, In, Out, leaving, place_of_flit, tail_place, is_on, is_in, is_past, owner_of, leads_from, has_channel, credit_of, count_in, count_on, landed_place, after_credits}
 use Rattle.noc_theory.specs.Progress.{weight, hops}
@@ -46,24 +45,24 @@ module _ (net : Setup) (good : IsGood net) (S : State) (x : IsOrdered net S) whe
   unfolding after_credits
   no-back c = refl
 
-  credit-now : (c : Channel) → credit_of net (mid net S) c ≡ net.places - (count_on net S c + count_in net S c)
+  credit-now : (c : Channel) → credit_of net (mid net S) c ≡ net.depth - (count_on net S c + count_in net S c)
   credit-now c =
-      ap (λ k. net.places - k - count_in net (mid net S) c - one_if (has_channel (mid net S).back c)) (none-on c)
-      ∙ ap (λ k. net.places - 0 - k - one_if (has_channel (mid net S).back c)) (in-landed c)
-      ∙ ap (λ b. net.places - 0 - (count_on net S c + count_in net S c) - one_if b) (no-back c)
+      ap (λ k. net.depth - k - count_in net (mid net S) c - one_if (has_channel (mid net S).back c)) (none-on c)
+      ∙ ap (λ k. net.depth - 0 - k - one_if (has_channel (mid net S).back c)) (in-landed c)
+      ∙ ap (λ b. net.depth - 0 - (count_on net S c + count_in net S c) - one_if b) (no-back c)
       ∙ omega arith
 
   credit-same : (c : Channel) → has_channel S.back c ≡ false → credit_of net (mid net S) c ≡ credit_of net S c
-  credit-same c e = credit-now c ∙ sym (ap (λ b. net.places - count_on net S c - count_in net S c - one_if b) e ∙ omega arith)
+  credit-same c e = credit-now c ∙ sym (ap (λ b. net.depth - count_on net S c - count_in net S c - one_if b) e ∙ omega arith)
 
-  held-with : (c : Channel) → has_channel S.back c ≡ true → count_on net S c + count_in net S c + 1 ≤ net.places
+  held-with : (c : Channel) → has_channel S.back c ≡ true → count_on net S c + count_in net S c + 1 ≤ net.depth
   held-with c e =
       let r = x.whole.sound.room c in
       let one : one_if (has_channel S.back c) ≡ 1 = ap one_if e in
       omega (arith, r, one)
 
-  credit-was : (c : Channel) → has_channel S.back c ≡ true → credit_of net S c ≡ net.places - (count_on net S c + count_in net S c) - 1
-  credit-was c e = ap (λ b. net.places - count_on net S c - count_in net S c - one_if b) e ∙ omega arith
+  credit-was : (c : Channel) → has_channel S.back c ≡ true → credit_of net S c ≡ net.depth - (count_on net S c + count_in net S c) - 1
+  credit-was c e = ap (λ b. net.depth - count_on net S c - count_in net S c - one_if b) e ∙ omega arith
 
   credit-back : (c : Channel) → has_channel S.back c ≡ true → credit_of net (mid net S) c ≡ credit_of net S c + 1
   credit-back c e =
@@ -161,7 +160,7 @@ module _ (net : Setup) (good : IsGood net) (S : State) (x : IsOrdered net S) whe
 
   module _ (r j a b w : ℕ) (from : leaving net r j ≡ Link a b w) where
     abbrev out : OutputState → ℕ → Output
-    out holder credit = record { holder = holder; credit = Some credit; places = net.places }
+    out holder credit = record { holder = holder; credit = Some credit; depth = net.depth }
 
     holder-link : (T : State) (p : ℕ) → owner_of net T (Link a b w) ≡ Some p → seen_holder net T r (Link a b w) (owner_of net T (Link a b w)) ≡ cond (sent T (Link a b w) p) Draining (Owned (seen_source net T r (Link a b w)) p)
     holder-link T p e = ap (seen_holder net T r (Link a b w)) e
@@ -209,7 +208,7 @@ module _ (net : Setup) (good : IsGood net) (S : State) (x : IsOrdered net S) whe
     credit-fits e =
         let h = held-with (Link a b w) e in
         let c = credit-was (Link a b w) e in
-        lt-ltb (credit_of net S (Link a b w)) net.places (omega (arith, h, c))
+        lt-ltb (credit_of net S (Link a b w)) net.depth (omega (arith, h, c))
 
     pub link-credited : has_channel S.back (Link a b w) ≡ true → seen_output net (mid net S) r (Link a b w) ≡ output_after_credit (seen_output net S r (Link a b w))
     link-credited bk = at (owner_of net S (Link a b w)) refl
@@ -218,10 +217,10 @@ module _ (net : Setup) (good : IsGood net) (S : State) (x : IsOrdered net S) whe
         credit = credit-back (Link a b w) bk
 
         both : (h h' : OutputState) → seen_holder net (mid net S) r (Link a b w) (owner_of net (mid net S) (Link a b w)) ≡ h' → seen_holder net S r (Link a b w) (owner_of net S (Link a b w)) ≡ h
-            → h' ≡ holder_at net.places (credit_of net S (Link a b w) + 1) h → seen_output net (mid net S) r (Link a b w) ≡ output_after_credit (seen_output net S r (Link a b w))
+            → h' ≡ holder_at net.depth (credit_of net S (Link a b w) + 1) h → seen_output net (mid net S) r (Link a b w) ≡ output_after_credit (seen_output net S r (Link a b w))
         both h h' e k z =
-            ap (λ y. out y (credit_of net (mid net S) (Link a b w))) (e ∙ z) ∙ ap (out (holder_at net.places (credit_of net S (Link a b w) + 1) h)) credit
-            ∙ sym (ap (λ y. out (holder_at net.places (credit_of net S (Link a b w) + 1) y) (credit_of net S (Link a b w) + 1)) k)
+            ap (λ y. out y (credit_of net (mid net S) (Link a b w))) (e ∙ z) ∙ ap (out (holder_at net.depth (credit_of net S (Link a b w) + 1) h)) credit
+            ∙ sym (ap (λ y. out (holder_at net.depth (credit_of net S (Link a b w) + 1) y) (credit_of net S (Link a b w) + 1)) k)
 
         at : (o : Option ℕ) → owner_of net S (Link a b w) ≡ o → seen_output net (mid net S) r (Link a b w) ≡ output_after_credit (seen_output net S r (Link a b w))
         at None e = both Free Free (holder-none (mid net S) (owner-gone net good S x (Link a b w) e)) (holder-none S e) refl
@@ -253,10 +252,10 @@ module _ (net : Setup) (good : IsGood net) (S : State) (x : IsOrdered net S) whe
             way : (t : Bool) → is_past net (Link a b w) (goal net p) (tail_place net S p) ≡ t → seen_output net (mid net S) r (Link a b w) ≡ output_after_credit (seen_output net S r (Link a b w))
             way true t =
                 let sent_S : sent S (Link a b w) p ≡ true = or_right (is_on (Link a b w) (tail_place net S p)) _ (or_right (is_in (Link a b w) (tail_place net S p)) _ t) in
-                let full : credit_of net S (Link a b w) + 1 ≡ net.places
+                let full : credit_of net S (Link a b w) + 1 ≡ net.depth
                 = (let z = empty t in let i = in-landed (Link a b w) in let c = credit-was (Link a b w) bk in let h = held-with (Link a b w) bk in omega (arith, z, i, c, h)) in
                 both Draining Free (holder-none (mid net S) (owner-freed net good S x (Link a b w) p e t)) (holder-link S p e ∙ ap (λ y. cond y Draining (Owned (seen_source net S r (Link a b w)) p)) sent_S)
-                (sym (ap (λ y. cond y Free Draining) (eq-eqb (credit_of net S (Link a b w) + 1) net.places full)))
+                (sym (ap (λ y. cond y Free Draining) (eq-eqb (credit_of net S (Link a b w) + 1) net.depth full)))
             way false t = kind (sent S (Link a b w) p) refl
               where
                 same : seen_holder net (mid net S) r (Link a b w) (owner_of net (mid net S) (Link a b w)) ≡ seen_holder net S r (Link a b w) (owner_of net S (Link a b w))
@@ -270,9 +269,9 @@ module _ (net : Setup) (good : IsGood net) (S : State) (x : IsOrdered net S) whe
                     let h : seen_holder net S r (Link a b w) (owner_of net S (Link a b w)) ≡ Draining = holder-link S p e ∙ ap (λ z. cond z Draining (Owned (seen_source net S r (Link a b w)) p)) y in
                     let inside : tail_place net (mid net S) p ≡ In (Link a b w) = in-place (tail_place net S p) refl y t in
                     let some : 0 < count_in net (mid net S) (Link a b w) = filled (count_in net (mid net S) (Link a b w)) refl inside in
-                    let short : credit_of net S (Link a b w) + 1 ≢ net.places
+                    let short : credit_of net S (Link a b w) + 1 ≢ net.depth
                     = (let i = in-landed (Link a b w) in let c = credit-was (Link a b w) bk in let q = held-with (Link a b w) bk in λ z. omega (arith, some, i, c, q, z)) in
-                    both Draining Draining (same ∙ h) h (sym (ap (λ z. cond z Free Draining) (ne_eqb (credit_of net S (Link a b w) + 1) net.places short)))
+                    both Draining Draining (same ∙ h) h (sym (ap (λ z. cond z Free Draining) (ne_eqb (credit_of net S (Link a b w) + 1) net.depth short)))
                   where
                     in-place : (z : Place) → tail_place net S p ≡ z → sent S (Link a b w) p ≡ true → is_past net (Link a b w) (goal net p) (tail_place net S p) ≡ false → tail_place net (mid net S) p ≡ In (Link a b w)
                     in-place z q s u = landed-tail net good S x p low_p ∙ ap (landed_place net) q ∙ by z (ap (λ (g : Place). is_on (Link a b w) g || has_come net (Link a b w) (goal net p) g) (sym q) ∙ s) (ap (is_past net (Link a b w) (goal net p)) (sym q) ∙ u)
@@ -296,7 +295,7 @@ module _ (net : Setup) (good : IsGood net) (S : State) (x : IsOrdered net S) whe
   -- ---- an ejection channel
 
   pub eject-same : (r j a w : ℕ) → leaving net r j ≡ Eject a w → seen_output net (mid net S) r (Eject a w) ≡ seen_output net S r (Eject a w)
-  eject-same r j a w from = ap (λ h. record { holder = h; credit = None; places = 0 }) (at (owner_of net S (Eject a w)) refl)
+  eject-same r j a w from = ap (λ h. record { holder = h; credit = None; depth = 0 }) (at (owner_of net S (Eject a w)) refl)
     where
       at : (o : Option ℕ) → owner_of net S (Eject a w) ≡ o → seen_holder net (mid net S) r (Eject a w) (owner_of net (mid net S) (Eject a w)) ≡ seen_holder net S r (Eject a w) (owner_of net S (Eject a w))
       at None e = ap (seen_holder net (mid net S) r (Eject a w)) (owner-gone net good S x (Eject a w) e) ∙ sym (ap (seen_holder net S r (Eject a w)) e)

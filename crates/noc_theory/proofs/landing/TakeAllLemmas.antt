@@ -4,15 +4,15 @@ use Rattle.std.specs.Prelude.{find, count_by, option_map, option_and_then, is_so
 use Rattle.std.specs.List.{list_any, range_with_len}
 use Rattle.std.proofs.lemmas.Bool.{false≢true, true≢false, lt-ltb, le-ltb, ltb-true, eq-eqb, or_left, or_right, or_cases}
 use Rattle.std.proofs.lemmas.Option.{none-some, same_Some}
-use Rattle.noc_topo.specs.Words.{below, tabulate, is_some_of, Has}
+use Rattle.noc_topo.specs.Lists.{below, tabulate, is_some_of, Has}
 use Rattle.noc_topo.specs.Shape.{nodes, local_port, neighbour, IsLinkBack}
 use Rattle.noc_topo.proofs.LinkLemmas.{link_back}
-use Rattle.noc_topo.proofs.WordLemmas.{get_or-tabulate}
+use Rattle.noc_topo.proofs.ListLemmas.{get_or-tabulate}
 use Rattle.noc_packet.specs.declared.packet.Flit.{Flit}
 use Rattle.noc_packet.specs.declared.packet.Beat.{Beat}
 use Rattle.noc_route.specs.Channel.{Channel, Link, Inject, Eject, sending_router, channel_vc, same_channel}
 use Rattle.noc_route.proofs.BoolLemmas.{same_test}
-use Rattle.noc_router.specs.View.{View, view_after_take, view_after_takes_from, view_after_takes}
+use Rattle.noc_view.specs.View.{View, view_after_take, view_after_takes_from, view_after_takes}
 use Rattle.noc_theory.specs.Lockstep.{beat_by, beats_at, beats_in, flit_on, flies_to, seen_flits, seen_input, seen_output, seen_sending, starts_at, ends_at}
 use Rattle.noc_theory.specs.Network.{Setup, State, Located, Place, Source, On, In, Out, size, arriving, leaving, packet_at, tail_place, flits_of, owned_by, arbiters_at, first_waiting, is_at_source, is_on, is_injection_of, landed_place, out_cycle, end_of, has_channel, after_landing, after_credits}
 use Rattle.noc_alloc.proofs.WordLemmas.{is_some_of-true}

@@ -6,13 +6,13 @@ use Rattle.std.proofs.lemmas.Bool.{false≢true, true≢false, cases_eq, cases_l
 use Rattle.std.proofs.lemmas.Option.{same_Some}
 use Rattle.std.proofs.lemmas.List.{length-set, get_or-set_same, get_or-set_other}
 use Rattle.std.proofs.lemmas.Nat.{div-add-mod', div-mul-add, mod-mul-add}
-use Rattle.noc_topo.specs.Words.{below}
+use Rattle.noc_topo.specs.Lists.{below}
 use Rattle.noc_topo.specs.Shape.{nodes, local_port, neighbour}
 use Rattle.noc_packet.specs.declared.packet.Flit.{Flit}
 use Rattle.noc_packet.specs.declared.packet.Beat.{Beat}
 use Rattle.noc_route.specs.Channel.{Channel, Link, Inject}
 use Rattle.noc_vc.specs.Input.{Input, idle_input, fits, input_after_land as landed_on}
-use Rattle.noc_router.specs.View.{Site, View, has_link, view_buffer, view_input, view_output, with_landed, with_flit, with_misfit}
+use Rattle.noc_view.specs.View.{Site, View, has_link, view_buffer, view_input, view_output, with_landed, with_flit, with_misfit}
 use Rattle.noc_theory.specs.Lockstep.{beat_by, flit_on, seen_flits, seen_input, seen_output, starts_at, ends_at, has_flit_at_source, seen_sending}
 use Rattle.noc_theory.specs.Network.{Setup, State, size, arriving, leaving}
 use Rattle.noc_theory.proofs.landing.LandFlitLemmas.{flits-some, input-some, fits-some}
@@ -166,16 +166,16 @@ module _ (net : Setup) (good : IsGood net) (S : State) (x : IsOrdered net S) (r 
         linked : has_link v.site k ≡ true
         linked = ap (λ (t : Site). is_some (neighbour t.grid t.node k)) site-is ∙ ap is_some link
 
-        fitting : fits net.relation v.site.node k vc v.site.places (view_buffer v (k * v.site.vcs + vc)) (view_input v (k * v.site.vcs + vc)) f ≡ true
+        fitting : fits net.relation v.site.node k vc v.site.depth (view_buffer v (k * v.site.vcs + vc)) (view_input v (k * v.site.vcs + vc)) f ≡ true
         fitting =
-            ap (λ (t : Site). fits net.relation t.node k vc t.places (view_buffer v (k * v.site.vcs + vc)) (view_input v (k * v.site.vcs + vc)) f) site-is
-            ∙ ap (λ j. fits net.relation r k vc net.places (view_buffer v j) (view_input v j) f) i-is
-            ∙ ap (λ (fs : List Flit). fits net.relation r k vc net.places fs (view_input v (k * net.relation.vcs + vc)) f) buffer-was
-            ∙ ap (λ (y : Input). fits net.relation r k vc net.places (seen_flits net S (Some (Link s q vc))) y f) input-was
-            ∙ ap (λ j. fits net.relation r j vc net.places (seen_flits net S (Some (Link s q vc))) (seen_input net S r (k * net.relation.vcs + vc) (Some (Link s q vc))) f) (sym row)
+            ap (λ (t : Site). fits net.relation t.node k vc t.depth (view_buffer v (k * v.site.vcs + vc)) (view_input v (k * v.site.vcs + vc)) f) site-is
+            ∙ ap (λ j. fits net.relation r k vc net.depth (view_buffer v j) (view_input v j) f) i-is
+            ∙ ap (λ (fs : List Flit). fits net.relation r k vc net.depth fs (view_input v (k * net.relation.vcs + vc)) f) buffer-was
+            ∙ ap (λ (y : Input). fits net.relation r k vc net.depth (seen_flits net S (Some (Link s q vc))) y f) input-was
+            ∙ ap (λ j. fits net.relation r j vc net.depth (seen_flits net S (Some (Link s q vc))) (seen_input net S r (k * net.relation.vcs + vc) (Some (Link s q vc))) f) (sym row)
             ∙ fits-some net good S x s q vc f on r (k * net.relation.vcs + vc) at
 
-        all-fit : (has_link v.site k && nat_lt vc v.site.vcs && fits net.relation v.site.node k vc v.site.places (view_buffer v (k * v.site.vcs + vc)) (view_input v (k * v.site.vcs + vc)) f) ≡ true
+        all-fit : (has_link v.site k && nat_lt vc v.site.vcs && fits net.relation v.site.node k vc v.site.depth (view_buffer v (k * v.site.vcs + vc)) (view_input v (k * v.site.vcs + vc)) f) ≡ true
         all-fit = and_from _ _ (and_from _ _ linked (lt-ltb _ _ (subst (λ j. vc < j) (sym vcs-is) u))) fitting
 
         is_landed : with_flit net.relation k (Some (vc, f)) v ≡ with_landed (k * net.relation.vcs + vc) f v

@@ -6,16 +6,16 @@ use Rattle.std.proofs.lemmas.Bool.{false≢true, true≢false, cases_eq, lt-ltb,
 use Rattle.std.proofs.lemmas.Option.{none-some, same_Some}
 use Rattle.std.proofs.lemmas.List.{length-set, get_or-set_same, get_or-set_other}
 use Rattle.std.proofs.lemmas.Nat.{div-add-mod', div-mul-add}
-use Rattle.noc_topo.specs.Words.{below, Has}
+use Rattle.noc_topo.specs.Lists.{below, Has}
 use Rattle.noc_topo.specs.Shape.{nodes, local_port, neighbour}
-use Rattle.noc_topo.proofs.WordLemmas.{below-next}
+use Rattle.noc_topo.proofs.ListLemmas.{below-next}
 use Rattle.noc_packet.specs.declared.packet.Flit.{Flit}
 use Rattle.noc_packet.specs.declared.packet.Beat.{Beat}
 use Rattle.noc_route.specs.Channel.{Channel, Link, Inject}
 use Rattle.noc_route.proofs.OptionLemmas.{no-value}
 use Rattle.noc_vc.specs.Output.{Output, ejection_output, output_after_credit, credit_fits}
-use Rattle.noc_router.specs.View.{Site, View, has_link, view_output, with_flit, with_credit, with_misfit, view_after_take}
-use Rattle.noc_router.proofs.FindLemmas.{find-some}
+use Rattle.noc_view.specs.View.{Site, View, has_link, view_output, with_flit, with_credit, with_misfit, view_after_take}
+use Rattle.noc_view.proofs.FindLemmas.{find-some}
 use Rattle.noc_theory.specs.Lockstep.{beat_by, flit_on, seen_output}
 use Rattle.noc_theory.specs.Network.{Setup, State, Located, On, size, arriving, leaving, has_channel, is_on, packet_at}
 use Rattle.noc_packet.specs.Packet.{flit_at}

@@ -8,8 +8,8 @@ use Rattle.noc_topo.specs.Shape.{IsLinkBack, neighbour, nodes}
 use Rattle.noc_topo.proofs.LinkLemmas.{link_back}
 use Rattle.noc_packet.specs.declared.packet.Beat.{Beat}
 use Rattle.noc_route.proofs.OptionLemmas.{some-value}
-use Rattle.noc_router.specs.View.{idle_beat}
-use Rattle.noc_counts.specs.Counts.{one_if}
+use Rattle.noc_view.specs.View.{idle_beat}
+use Rattle.noc_topo.specs.Lists.{one_if}
 use Rattle.noc_theory.specs.declared.event.Event.{Event}
 use Rattle.noc_theory.specs.declared.event.Event.TheVariants.{Take, Decide, Put}
 use Rattle.noc_theory.specs.Core.{CoreState, Post, beat_to_send, deciding, happens, has_beat, holds_at, is_linked, is_ready, may_decide, may_put, may_take, onto_wire, post_at, putting, receiving, taking, wire_of, with_post}

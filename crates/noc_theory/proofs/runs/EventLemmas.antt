@@ -3,12 +3,11 @@ use Rattle.std.proofs.Common.{◌≡◌, ◌≢◌, ℕ, ◌+◌, ◌<◌, ◌�
 use Rattle.std.specs.Prelude.{slice_index_or, nat_eq, nat_lt, unwrap_or, if◌then◌else◌}
 use Rattle.std.proofs.lemmas.List.Folds.{list_all_at}
 use Rattle.std.proofs.lemmas.Bool.{true_from_ne_false, false≢true, cases_eq, cases_lt, not-true, and_parts, ltb-true}
-use Rattle.noc_topo.specs.Words.{map_indexed}
+use Rattle.noc_topo.specs.Lists.{map_indexed, one_if}
 use Rattle.noc_topo.specs.Shape.{neighbour}
-use Rattle.noc_topo.proofs.WordLemmas.{get_or-map_indexed}
+use Rattle.noc_topo.proofs.ListLemmas.{get_or-map_indexed}
 use Rattle.noc_packet.specs.declared.packet.Beat.{Beat}
-use Rattle.noc_router.specs.View.{local_step, idle_beat}
-use Rattle.noc_counts.specs.Counts.{one_if}
+use Rattle.noc_view.specs.View.{local_step, idle_beat}
 use Rattle.noc_theory.specs.declared.event.Event.{Event}
 use Rattle.noc_theory.specs.declared.event.Event.TheVariants.{Take, Decide, Put}
 use Rattle.noc_theory.specs.Core.{Post, all_have, deciding, post_after_last_put, has_beat, is_linked, link_ports, may_decide, may_put, may_take, none_has, putting, resting_post, taking, wire_of}

@@ -8,11 +8,11 @@ use Rattle.std.proofs.lemmas.List.FromFn.{length-map-range_with_len, map-range_w
 use Rattle.std.proofs.lemmas.Option.{none-some, same_Some}
 use Rattle.noc_topo.specs.Shape.{IsGrid, neighbour, nodes}
 use Rattle.noc_topo.proofs.LinkLemmas.{link_back}
-use Rattle.noc_topo.proofs.WordLemmas.{length-map_indexed}
+use Rattle.noc_topo.proofs.ListLemmas.{length-map_indexed}
 use Rattle.noc_packet.specs.declared.packet.Beat.{Beat}
 use Rattle.noc_route.proofs.OptionLemmas.{no-value}
-use Rattle.noc_router.specs.View.{local_step, idle_beat}
-use Rattle.noc_counts.specs.Counts.{one_if}
+use Rattle.noc_view.specs.View.{local_step, idle_beat}
+use Rattle.noc_topo.specs.Lists.{one_if}
 use Rattle.noc_theory.specs.Core.{Post, all_have, post_after_last_put, has_beat, is_linked, link_ports, may_decide, no_beats, none_has, receiving, resting_post, taking, wire_of}
 use Rattle.noc_theory.specs.Halves.{beat_at}
 use Rattle.noc_theory.specs.InStep.{HoldsCycles, IsPostInStep, beats_of_cycles, cycle_of}

@@ -3,10 +3,9 @@ use Rattle.std.proofs.Common.{◌≡◌, ℕ, ◌+◌, ◌<◌, ◌≤◌, Bool,
 use Rattle.std.specs.Prelude.{not, nat_lt, nat_eq, ◌&&◌}
 use Rattle.std.proofs.lemmas.Option.{get_or_from_slice_get, slice_get_within}
 use Rattle.std.proofs.lemmas.Bool.{and_parts, ltb-true, eqb-true}
-use Rattle.noc_topo.specs.Words.{map_indexed}
-use Rattle.noc_topo.proofs.WordLemmas.{length-map_indexed, get_or-map_indexed}
-use Rattle.noc_router.specs.View.{View}
-use Rattle.noc_counts.specs.Counts.{one_if}
+use Rattle.noc_topo.specs.Lists.{map_indexed, one_if}
+use Rattle.noc_topo.proofs.ListLemmas.{length-map_indexed, get_or-map_indexed}
+use Rattle.noc_view.specs.View.{View}
 use Rattle.noc_theory.specs.declared.event.Event.{Event}
 use Rattle.noc_theory.specs.declared.event.Event.TheVariants.{Take, Decide, Put}
 use Rattle.noc_theory.specs.Core.{CoreState, Post, happens, is_ready, may_decide, all_have, holds_at, post_at, resting_post}

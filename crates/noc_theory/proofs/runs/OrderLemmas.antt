@@ -7,14 +7,13 @@ use Rattle.std.proofs.lemmas.List.{ext_get_or, same_lists, get_or_past, get_or-r
 use Rattle.std.proofs.lemmas.List.Folds.{list_all_at}
 use Rattle.std.proofs.lemmas.List.Sums.{sum_by-cons}
 use Rattle.std.proofs.lemmas.Option.{same_Some, slice_get_within, get_or_from_slice_get}
-use Rattle.noc_topo.specs.Words.{map_indexed}
+use Rattle.noc_topo.specs.Lists.{map_indexed, one_if}
 use Rattle.noc_topo.specs.Shape.{IsGrid, neighbour}
 use Rattle.noc_topo.proofs.LinkLemmas.{link_back}
-use Rattle.noc_topo.proofs.WordLemmas.{length-tabulate, get_or-tabulate, tabulate-from_each, length-map_indexed, get_or-map_indexed}
+use Rattle.noc_topo.proofs.ListLemmas.{length-tabulate, get_or-tabulate, tabulate-from_each, length-map_indexed, get_or-map_indexed}
 use Rattle.noc_packet.specs.declared.packet.Beat.{Beat}
 use Rattle.noc_route.proofs.OptionLemmas.{no-value}
-use Rattle.noc_router.specs.View.{View}
-use Rattle.noc_counts.specs.Counts.{one_if}
+use Rattle.noc_view.specs.View.{View}
 use Rattle.noc_theory.specs.declared.event.Event.{Event}
 use Rattle.noc_theory.specs.declared.event.Event.TheVariants.{Take, Decide, Put}
 use Rattle.noc_theory.specs.Core.{CoreState, Post, after_event, after_events, are_between, happens, has_beat, is_between, is_linked, is_ready, link_ports, no_beats, none_has, onto_wire, post_at, resting_post, wire_of}

@@ -6,11 +6,11 @@ use Rattle.std.proofs.lemmas.Bool.{cases_eq, cases_lt, true_from_ne_false, false
 use Rattle.std.proofs.lemmas.List.{get_or-set_same, get_or-set_other, get_or-replicate, get_or_past, length-replicate}
 use Rattle.std.proofs.lemmas.List.Folds.{list_all_at}
 use Rattle.std.proofs.lemmas.Option.{none-some, same_Some}
-use Rattle.noc_topo.specs.Words.{below}
-use Rattle.noc_topo.proofs.WordLemmas.{length-below, get_or-below}
+use Rattle.noc_topo.specs.Lists.{below}
+use Rattle.noc_topo.proofs.ListLemmas.{length-below, get_or-below}
 use Rattle.noc_packet.specs.declared.packet.Beat.{Beat}
 use Rattle.noc_route.proofs.OptionLemmas.{some-value}
-use Rattle.noc_router.specs.View.{View}
+use Rattle.noc_view.specs.View.{View}
 use Rattle.noc_theory.specs.Core.{CoreState, Post, changed_at, has_beat, holds_at, post_at, with_post}
 
 -- ---- an element that is changed

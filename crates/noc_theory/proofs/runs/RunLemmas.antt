@@ -3,12 +3,12 @@ use Rattle.std.proofs.Common.{◌≡◌, ℕ, zero, suc, ◌+◌, ◌<◌, ◌�
 use Rattle.std.specs.List.{All}
 use Rattle.std.proofs.lemmas.List.{map_push, same_lists, length-map, get_or-map, get_or-replicate, get_or_past, length-replicate}
 use Rattle.std.proofs.lemmas.Bool.{cases_lt, le-ltb}
-use Rattle.noc_topo.specs.Words.{below, tabulate, map_indexed}
+use Rattle.noc_topo.specs.Lists.{below, tabulate, map_indexed}
 use Rattle.noc_topo.specs.Shape.{nodes, local_port, neighbour}
-use Rattle.noc_topo.proofs.WordLemmas.{length-tabulate, get_or-tabulate, tabulate-from_each, length-map_indexed, get_or-map_indexed, below-next}
+use Rattle.noc_topo.proofs.ListLemmas.{length-tabulate, get_or-tabulate, tabulate-from_each, length-map_indexed, get_or-map_indexed, below-next}
 use Rattle.noc_packet.specs.declared.packet.Beat.{Beat}
-use Rattle.noc_router.specs.View.{Site, View, IsRelationOf, local_step, opening_view, idle_beat}
-use Rattle.noc_router.specs.declared.verdict.Findings.TheVariants.{Record}
+use Rattle.noc_view.specs.View.{Site, View, IsRelationOf, local_step, opening_view, idle_beat}
+use Rattle.noc_view.specs.declared.finding.Recording.TheVariants.{Record}
 use Rattle.noc_theory.specs.Halves.{beat_at, view_after_decide, view_after_puts, incoming, ArePlaced, IsSilent}
 use Rattle.noc_theory.specs.Lockstep.{lockstep_at, lockstep_cycle, opening_lockstep, wires_after_puts, beats_at, beat_from, site_at, starts_at, ends_at}
 use Rattle.noc_theory.specs.Network.{Setup}

@@ -3,11 +3,11 @@ use Rattle.std.proofs.Common.{◌≡◌, ℕ, zero, suc, ◌+◌, ◌<◌, ◌�
 use Rattle.std.proofs.lemmas.List.{get_or-map, length-map, get_or-replicate}
 use Rattle.std.proofs.lemmas.Option.{slice_get_within, slice_get-get_or, get_or_from_slice_get}
 use Rattle.std.proofs.lemmas.Bool.{cases_lt}
-use Rattle.noc_topo.specs.Words.{map_indexed, tabulate}
+use Rattle.noc_topo.specs.Lists.{map_indexed, tabulate}
 use Rattle.noc_topo.specs.Shape.{nodes, local_port, neighbour}
-use Rattle.noc_topo.proofs.WordLemmas.{get_or-tabulate, length-map_indexed, get_or-map_indexed}
+use Rattle.noc_topo.proofs.ListLemmas.{get_or-tabulate, length-map_indexed, get_or-map_indexed}
 use Rattle.noc_packet.specs.declared.packet.Beat.{Beat}
-use Rattle.noc_router.specs.View.{Site, View, local_step, idle_beat}
+use Rattle.noc_view.specs.View.{Site, View, local_step, idle_beat}
 use Rattle.noc_theory.specs.Halves.{beat_at}
 use Rattle.noc_theory.specs.Lockstep.{beat_from, beats_at, wires_after_puts, lockstep_at, lockstep_cycle, opening_lockstep, site_at}
 use Rattle.noc_theory.specs.Network.{Setup}

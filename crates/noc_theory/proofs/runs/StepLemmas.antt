@@ -4,12 +4,12 @@ use Rattle.std.specs.Prelude.{if◌then◌else◌}
 use Rattle.std.proofs.lemmas.Bool.{cases_eq, cases_lt}
 use Rattle.std.proofs.lemmas.List.{get_or-set_same, get_or-set_other, get_or_past, length-set}
 use Rattle.noc_topo.specs.Shape.{Grid, local_port}
-use Rattle.noc_topo.proofs.WordLemmas.{length-tabulate, get_or-tabulate, tabulate-from_each}
+use Rattle.noc_topo.proofs.ListLemmas.{length-tabulate, get_or-tabulate, tabulate-from_each}
 use Rattle.noc_packet.specs.declared.packet.Beat.{Beat}
 use Rattle.noc_route.specs.Routes.{Routes}
-use Rattle.noc_router.specs.View.{Site, View, Decisions, IsRelationOf, view_after_take, view_after_takes_from, view_after_takes, view_after_inject, decisions_of, view_after_commit, local_step, with_flit, with_credit, with_arrival, tail_packet, flit_out, idle_beat}
-use Rattle.noc_router.proofs.SiteLemmas.{all_taken-site, committed-site, injected-site}
-use Rattle.noc_router.specs.declared.verdict.Findings.TheVariants.{Record}
+use Rattle.noc_view.specs.View.{Site, View, Decisions, IsRelationOf, view_after_take, view_after_takes_from, view_after_takes, view_after_inject, decisions_of, view_after_commit, local_step, with_flit, with_credit, with_arrival, tail_packet, flit_out, idle_beat}
+use Rattle.noc_view.proofs.SiteLemmas.{all_taken-site, committed-site, injected-site}
+use Rattle.noc_view.specs.declared.finding.Recording.TheVariants.{Record}
 use Rattle.noc_theory.specs.Halves.{IsSilent, view_after_decide, view_after_puts, incoming}
 
 either_count : (b : Bool) (x y : View) (n : ℕ) → length x.to_put ≡ n → length y.to_put ≡ n → length (if b then x else y).to_put ≡ n

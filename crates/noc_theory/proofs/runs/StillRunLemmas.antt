@@ -5,17 +5,17 @@ use Rattle.std.specs.List.{All}
 use Rattle.std.proofs.lemmas.Bool.{cases_lt}
 use Rattle.std.proofs.lemmas.List.{same_lists, length-map, map-id, get_or-map, get_or_default, get_or_past}
 use Rattle.std.proofs.lemmas.Simd.{map-map}
-use Rattle.noc_topo.specs.Words.{below, map_indexed}
+use Rattle.noc_topo.specs.Lists.{below, map_indexed}
 use Rattle.noc_topo.specs.Shape.{nodes, neighbour, local_port}
-use Rattle.noc_topo.proofs.WordLemmas.{get_or-map_indexed, get_or-tabulate, length-map_indexed, map_indexed-from_each}
+use Rattle.noc_topo.proofs.ListLemmas.{get_or-map_indexed, get_or-tabulate, length-map_indexed, map_indexed-from_each}
 use Rattle.noc_packet.specs.declared.packet.Packet.{Packet}
 use Rattle.noc_packet.specs.declared.packet.Beat.{Beat}
 use Rattle.noc_route.specs.Routes.{Routes}
-use Rattle.noc_router.specs.Still.{IsHeldBefore, counted_times, takes_effect, view_after_waiting}
-use Rattle.noc_router.specs.View.{View, Decisions, view_after_takes, begun_on, view_after_commit, counts_after, decided_verdict, flit_out, idle_beat, idle_beats, view_after_inject, view_after_inject_from, is_vacant, local_channel, local_step, opening_view, decisions_of, tail_packet, view_buffer, view_round, with_arrival, with_injected}
+use Rattle.noc_view.specs.Still.{IsHeldBefore, counted_times, takes_effect, view_after_waiting}
+use Rattle.noc_view.specs.View.{View, Decisions, view_after_takes, begun_on, view_after_commit, counts_after, decided_verdict, flit_out, idle_beat, idle_beats, view_after_inject, view_after_inject_from, is_vacant, local_channel, local_step, opening_view, decisions_of, tail_packet, view_buffer, view_round, with_arrival, with_injected}
 use Rattle.noc_alloc.proofs.RequestLemmas.{at_replicate}
-use Rattle.noc_router.proofs.StillLemmas.{map_indexed-same, still-committed}
-use Rattle.noc_router.specs.declared.verdict.Findings.TheVariants.{Record, Leave}
+use Rattle.noc_view.proofs.StillLemmas.{map_indexed-same, still-committed}
+use Rattle.noc_view.specs.declared.finding.Recording.TheVariants.{Record, Leave}
 use Rattle.noc_theory.specs.Halves.{IsSilent, view_after_decide, view_after_puts, incoming}
 use Rattle.noc_theory.specs.Lockstep.{lockstep_at, lockstep_cycle, opening_lockstep, beats_at, beat_from, site_at, starts_at, ends_at}
 use Rattle.noc_theory.specs.Network.{Setup}
@@ -58,7 +58,7 @@ counts-injected_from : (counts : List (List ℕ)) (n : ℕ) (queue : List (ℕ �
     → view_after_inject_from n queue sending (but_counts counts v) ≡ but_counts counts (view_after_inject_from n queue sending v)
 counts-injected_from counts n [] sending v = refl
 counts-injected_from counts n ((number, p) ∷ rest) (Some (vc, index)) v =
-    either_counts counts (nat_lt (length (view_buffer v (local_channel v.site vc))) v.site.places) (with_injected vc index number p rest v) v
+    either_counts counts (nat_lt (length (view_buffer v (local_channel v.site vc))) v.site.depth) (with_injected vc index number p rest v) v
 counts-injected_from counts n ((number, p) ∷ rest) None v =
     ap (λ x. if nat_le p.due n then x else but_counts counts v) (counts-begun_on counts (find (is_vacant v) (below v.site.vcs)) number p rest v)
     ∙ either_counts counts (nat_le p.due n) (begun_on (find (is_vacant v) (below v.site.vcs)) number p rest v) v

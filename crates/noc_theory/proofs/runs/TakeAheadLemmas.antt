@@ -1,10 +1,10 @@
 -- The beat that came to one port is taken ahead of all else.
 use Rattle.std.proofs.Common.{◌≡◌, ◌≢◌, ℕ, zero, suc, ◌+◌, ◌<◌, List, [], ◌∷◌, length, get_or, set, refl, ap, sym, ◌∙◌, arith}
 use Rattle.noc_topo.specs.Shape.{Grid, local_port}
-use Rattle.noc_topo.proofs.WordLemmas.{get_or-tabulate, length-tabulate}
+use Rattle.noc_topo.proofs.ListLemmas.{get_or-tabulate, length-tabulate}
 use Rattle.noc_packet.specs.declared.packet.Beat.{Beat}
 use Rattle.noc_route.specs.Routes.{Routes}
-use Rattle.noc_router.specs.View.{View, idle_beat, view_after_take, view_after_takes_from, view_after_takes}
+use Rattle.noc_view.specs.View.{View, idle_beat, view_after_take, view_after_takes_from, view_after_takes}
 use Rattle.noc_theory.specs.Halves.{incoming}
 use Rattle.noc_theory.proofs.runs.StepLemmas.{incoming-set, taken-idle}
 use Rattle.noc_theory.proofs.runs.TakeOrderLemmas.{taken-swapped}

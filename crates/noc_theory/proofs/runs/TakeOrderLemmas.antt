@@ -9,8 +9,8 @@ use Rattle.noc_packet.specs.declared.packet.Beat.{Beat}
 use Rattle.noc_route.specs.Routes.{Routes}
 use Rattle.noc_vc.specs.Input.{Input, idle_input, fits, input_after_land}
 use Rattle.noc_vc.specs.Output.{Output, ejection_output, credit_fits, output_after_credit}
-use Rattle.noc_router.specs.View.{View, has_link, view_buffer, view_input, view_output, with_flit, with_landed, with_misfit, with_credit, view_after_take}
-use Rattle.noc_router.proofs.TakeLemmas.{lands, not_second}
+use Rattle.noc_view.specs.View.{View, has_link, view_buffer, view_input, view_output, with_flit, with_landed, with_misfit, with_credit, view_after_take}
+use Rattle.noc_view.proofs.LandLemmas.{lands, not_second}
 
 -- ---- what fits changes a view, and what does not is a misfit
 
@@ -70,7 +70,7 @@ channels_apart p q a b n other la lb e = other (sym (div-mul-add p n a la) ∙ a
 
 lands-small : (relation : Routes) (port vc : ℕ) (f : Flit) (v : View) → lands relation port vc f v ≡ true → vc < v.site.vcs
 lands-small relation port vc f v e =
-    ltb-true vc v.site.vcs (second_of (has_link v.site port) (nat_lt vc v.site.vcs) (fits relation v.site.node port vc v.site.places (view_buffer v (port * v.site.vcs + vc)) (view_input v (port * v.site.vcs + vc)) f) e)
+    ltb-true vc v.site.vcs (second_of (has_link v.site port) (nat_lt vc v.site.vcs) (fits relation v.site.node port vc v.site.depth (view_buffer v (port * v.site.vcs + vc)) (view_input v (port * v.site.vcs + vc)) f) e)
 
 arrives-small : (port vc : ℕ) (v : View) → arrives port vc v ≡ true → vc < v.site.vcs
 arrives-small port vc v e =
@@ -86,14 +86,14 @@ lands-kept relation p q a b f g v other e = at (cases_lt a v.site.vcs)
         let i = p * v.site.vcs + a in
         let j = q * v.site.vcs + b in
         let apart : p * v.site.vcs + a ≢ q * v.site.vcs + b = channels_apart p q a b v.site.vcs other small (lands-small relation q b g v e) in
-        ap (λ flits. has_link v.site p && nat_lt a n && fits relation v.site.node p a v.site.places flits (view_input (land q b g v) i) f)
+        ap (λ flits. has_link v.site p && nat_lt a n && fits relation v.site.node p a v.site.depth flits (view_input (land q b g v) i) f)
         (get_or-set_other v.buffers j i (view_buffer v j ++ g ∷ []) [] apart)
-        ∙ ap (λ input. has_link v.site p && nat_lt a n && fits relation v.site.node p a v.site.places (view_buffer v i) input f)
+        ∙ ap (λ input. has_link v.site p && nat_lt a n && fits relation v.site.node p a v.site.depth (view_buffer v i) input f)
         (get_or-set_other v.inputs j i (input_after_land (view_input v j) g) idle_input apart)
     at (inr past) =
         let w = land q b g v in
-        not_second (has_link v.site p) (nat_lt a v.site.vcs) (fits relation v.site.node p a v.site.places (view_buffer w (p * v.site.vcs + a)) (view_input w (p * v.site.vcs + a)) f) (le-ltb a v.site.vcs past)
-        ∙ sym (not_second (has_link v.site p) (nat_lt a v.site.vcs) (fits relation v.site.node p a v.site.places (view_buffer v (p * v.site.vcs + a)) (view_input v (p * v.site.vcs + a)) f) (le-ltb a v.site.vcs past))
+        not_second (has_link v.site p) (nat_lt a v.site.vcs) (fits relation v.site.node p a v.site.depth (view_buffer w (p * v.site.vcs + a)) (view_input w (p * v.site.vcs + a)) f) (le-ltb a v.site.vcs past)
+        ∙ sym (not_second (has_link v.site p) (nat_lt a v.site.vcs) (fits relation v.site.node p a v.site.depth (view_buffer v (p * v.site.vcs + a)) (view_input v (p * v.site.vcs + a)) f) (le-ltb a v.site.vcs past))
 
 arrives-kept : (p q a b : ℕ) (v : View) → p ≢ q → arrives q b v ≡ true → arrives p a (arrive q b v) ≡ arrives p a v
 arrives-kept p q a b v other e = at (cases_lt a v.site.vcs)

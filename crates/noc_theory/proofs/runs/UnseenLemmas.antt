@@ -4,19 +4,19 @@ use Rattle.std.specs.Prelude.{◌*◌, ◌&&◌, if◌then◌else◌, find, nat_
 use Rattle.std.specs.List.{All}
 use Rattle.std.proofs.lemmas.List.{same_lists, length-map, get_or-map, get_or_default}
 use Rattle.std.proofs.lemmas.Simd.{map-map}
-use Rattle.noc_topo.specs.Words.{below, map_indexed}
+use Rattle.noc_topo.specs.Lists.{below, map_indexed}
 use Rattle.noc_topo.specs.Shape.{nodes, neighbour}
-use Rattle.noc_topo.proofs.WordLemmas.{length-map_indexed, get_or-map_indexed}
+use Rattle.noc_topo.proofs.ListLemmas.{length-map_indexed, get_or-map_indexed}
 use Rattle.noc_packet.specs.declared.packet.Packet.{Packet}
 use Rattle.noc_packet.specs.declared.packet.Flit.{Flit}
 use Rattle.noc_packet.specs.declared.packet.Beat.{Beat}
 use Rattle.noc_route.specs.Routes.{Routes}
 use Rattle.noc_vc.specs.Input.{fits}
 use Rattle.noc_vc.specs.Output.{credit_fits, output_after_credit}
-use Rattle.noc_router.specs.View.{View, IsRelationOf, has_link, view_buffer, view_input, view_output, local_channel, with_landed, with_misfit, with_injected, view_after_take, view_after_takes_from, view_after_takes, view_after_inject, view_after_inject_from, begun_on, is_vacant, view_round, decisions_of, view_after_commit, local_step, with_flit, with_credit, idle_beat, opening_view}
-use Rattle.noc_router.specs.declared.verdict.Finding.{Finding}
-use Rattle.noc_router.specs.declared.verdict.Findings.{Findings}
-use Rattle.noc_router.specs.declared.verdict.Findings.TheVariants.{Record, Leave}
+use Rattle.noc_view.specs.View.{View, IsRelationOf, has_link, view_buffer, view_input, view_output, local_channel, with_landed, with_misfit, with_injected, view_after_take, view_after_takes_from, view_after_takes, view_after_inject, view_after_inject_from, begun_on, is_vacant, view_round, decisions_of, view_after_commit, local_step, with_flit, with_credit, idle_beat, opening_view}
+use Rattle.noc_view.specs.declared.finding.Finding.{Finding}
+use Rattle.noc_view.specs.declared.finding.Recording.{Recording}
+use Rattle.noc_view.specs.declared.finding.Recording.TheVariants.{Record, Leave}
 use Rattle.noc_theory.specs.Halves.{ArePlaced, IsLinked, HasItsBeats, beat_at, view_after_decide, view_after_puts, incoming}
 use Rattle.noc_theory.specs.Lockstep.{lockstep_at, beats_at, beat_from, site_at}
 use Rattle.noc_theory.specs.Network.{Setup}
@@ -38,7 +38,7 @@ findings-with_flit : (findings : List Finding) (relation : Routes) (port : ℕ) 
 findings-with_flit findings relation port None v = refl
 findings-with_flit findings relation port (Some (vc, f)) v =
     let i = port * v.site.vcs + vc in
-    either_findings findings (has_link v.site port && nat_lt vc v.site.vcs && fits relation v.site.node port vc v.site.places (view_buffer v i) (view_input v i) f) (with_landed i f v) (with_misfit v)
+    either_findings findings (has_link v.site port && nat_lt vc v.site.vcs && fits relation v.site.node port vc v.site.depth (view_buffer v i) (view_input v i) f) (with_landed i f v) (with_misfit v)
 
 findings-with_credit : (findings : List Finding) (port : ℕ) (credit : Option ℕ) (v : View) → with_credit port credit (with_findings findings v) ≡ with_findings findings (with_credit port credit v)
 findings-with_credit findings port None v = refl
@@ -67,7 +67,7 @@ findings-injected_from : (findings : List Finding) (n : ℕ) (queue : List (ℕ 
     → view_after_inject_from n queue sending (with_findings findings v) ≡ with_findings findings (view_after_inject_from n queue sending v)
 findings-injected_from findings n [] sending v = refl
 findings-injected_from findings n ((number, p) ∷ rest) (Some (vc, index)) v =
-    either_findings findings (nat_lt (length (view_buffer v (local_channel v.site vc))) v.site.places) (with_injected vc index number p rest v) v
+    either_findings findings (nat_lt (length (view_buffer v (local_channel v.site vc))) v.site.depth) (with_injected vc index number p rest v) v
 findings-injected_from findings n ((number, p) ∷ rest) None v =
     ap (λ x. if nat_le p.due n then x else with_findings findings v) (findings-begun_on findings (find (is_vacant v) (below v.site.vcs)) number p rest v)
     ∙ either_findings findings (nat_le p.due n) (begun_on (find (is_vacant v) (below v.site.vcs)) number p rest v) v
@@ -129,7 +129,7 @@ module _ (net : Setup) where
   some_view = opening_view (site_at net 0) [] []
 
   -- the first half of cycle n of router r over these beats
-  abbrev half_with : Findings → ℕ → List (List Beat) → ℕ → View → View
+  abbrev half_with : Recording → ℕ → List (List Beat) → ℕ → View → View
   half_with findings n beats r v = view_after_decide net.relation n findings (incoming net.relation.grid (beats_at beats r)) v
 
   pub unseen-count : (n : ℕ) (routers : List View) (beats : List (List Beat)) → AreInStep net Leave n routers beats → length routers ≡ nodes net.relation.grid
@@ -168,7 +168,7 @@ module _ (net : Setup) where
       (record { built_for = record { grid = here.built_for.grid; vcs = here.built_for.vcs }; site = here.site; beats = here.beats })
 
   -- the routers halfway are at their places
-  pub in_step-placed : (findings : Findings) (n : ℕ) (routers : List View) (beats : List (List Beat)) → AreInStep net Leave n routers beats → ArePlaced net.relation (map_indexed (half_with findings n beats) routers)
+  pub in_step-placed : (findings : Recording) (n : ℕ) (routers : List View) (beats : List (List Beat)) → AreInStep net Leave n routers beats → ArePlaced net.relation (map_indexed (half_with findings n beats) routers)
   in_step-placed Record = seen-placed
   in_step-placed Leave = unseen-placed
 
@@ -204,7 +204,7 @@ module _ (net : Setup) where
       }
 
   -- one more cycle
-  pub next-in_step : (findings : Findings) (n : ℕ) (routers half after : List View) (beats beats_after : List (List Beat)) → AreInStep net Leave n routers beats
+  pub next-in_step : (findings : Recording) (n : ℕ) (routers half after : List View) (beats beats_after : List (List Beat)) → AreInStep net Leave n routers beats
       → half ≡ map_indexed (half_with findings n beats) routers → after ≡ map view_after_puts half → length beats_after ≡ nodes net.relation.grid
       → ((r port : ℕ) → r < nodes net.relation.grid → beat_at beats_after r port ≡ beat_from (map (λ (v : View). v.to_put) half) (neighbour net.relation.grid r port))
       → AreInStep net findings (n + 1) after beats_after
@@ -212,7 +212,7 @@ module _ (net : Setup) where
   next-in_step Leave = next-unseen
 
 -- views that are the same are so without findings
-pub same-unseen : (findings : Findings) (views others : List View) → AreSameViews findings views others → map without_findings views ≡ map without_findings others
+pub same-unseen : (findings : Recording) (views others : List View) → AreSameViews findings views others → map without_findings views ≡ map without_findings others
 same-unseen Record views others same = ap (map without_findings) same
 same-unseen Leave views others same = same
 
@@ -220,5 +220,5 @@ same-unseen Leave views others same = same
 pub to_unseen : (net : Setup) (n : ℕ) (routers : List View) (beats : List (List Beat)) → AreInStep net Record n routers beats → AreInStep net Leave n routers beats
 to_unseen net n routers beats in_step = record { views = ap (map without_findings) in_step.views; wires = in_step.wires }
 
-pub as-unseen : (net : Setup) (findings : Findings) (n : ℕ) (routers : List View) (beats : List (List Beat)) → AreInStep net findings n routers beats → AreInStep net Leave n routers beats
+pub as-unseen : (net : Setup) (findings : Recording) (n : ℕ) (routers : List View) (beats : List (List Beat)) → AreInStep net findings n routers beats → AreInStep net Leave n routers beats
 as-unseen net findings n routers beats in_step = record { views = same-unseen findings routers (lockstep_at net n).views in_step.views; wires = in_step.wires }

@@ -1,16 +1,14 @@
 -- The beats on the wires, while the routers put theirs one after another.
 use Rattle.std.proofs.Common.{◌≡◌, ◌≢◌, ℕ, zero, suc, ◌<◌, ◌≤◌, Bool, true, false, List, [], length, get_or, set, Option, Some, None, refl, ap, sym, ◌∙◌, ⊎_elim, arith, replicate}
 use Rattle.std.specs.Prelude.{IfSome, if◌then◌else◌, ◌&&◌, not, nat_eq, nat_lt, is_none, unwrap_or}
-use Rattle.std.proofs.lemmas.List.{ext_get_or, get_or_past, length-replicate}
+use Rattle.std.proofs.lemmas.List.{ext_get_or, get_or_past, length-replicate, get_or-set_same, get_or-set_other, length-set}
 use Rattle.std.proofs.lemmas.Bool.{cases_eq, cases_lt, false≢true, eq-eqb, ne_eqb}
-use Rattle.std.proofs.lemmas.List.{get_or-set_same, get_or-set_other, length-set}
 use Rattle.noc_topo.specs.Shape.{Grid, IsGrid, nodes, local_port, neighbour}
 use Rattle.noc_topo.proofs.LinkLemmas.{link_back}
 use Rattle.noc_packet.specs.declared.packet.Beat.{Beat}
 use Rattle.noc_packet.specs.declared.packet.Flit.{Flit}
 use Rattle.noc_packet.specs.Set.{has_bit}
-use Rattle.noc_router.specs.Links.{is_idle_beat}
-use Rattle.noc_router.specs.View.{View, idle_beat, beat_to_put}
+use Rattle.noc_view.specs.View.{is_idle_beat, View, idle_beat, beat_to_put}
 use Rattle.noc_theory.specs.Halves.{beat_at, wire_after_puts, sent_on}
 use Rattle.noc_theory.specs.Lockstep.{beat_from}
 

@@ -3,13 +3,12 @@ use Rattle.std.proofs.Common.{◌≡◌, ℕ, zero, suc, ◌+◌, ◌-◌, ◌�
 use Rattle.std.specs.Prelude.{◌⊎◌, ◌&&◌}
 use Rattle.std.proofs.lemmas.Bool.{false≢true}
 use Rattle.std.proofs.lemmas.List.{length-drop}
-use Rattle.noc_topo.specs.Words.{Has}
+use Rattle.noc_topo.specs.Lists.{Has, one_if}
 use Rattle.noc_route.specs.Channel.{Channel, is_link}
-use Rattle.noc_router.specs.Verdict.{is_moved}
-use Rattle.noc_counts.specs.Counts.{one_if}
+use Rattle.noc_view.specs.Verdict.{is_moved}
 use Rattle.noc_theory.specs.Network.{Setup, State, Located, is_on, count_on, count_in, credit_of, has_channel, verdict_in, after_verdicts, all_inputs}
 use Rattle.noc_theory.proofs.worms.BufferLemmas.{buffer-moved, buffer-stays, next-some}
-use Rattle.noc_router.proofs.SettleLemmas.{is_moved-true}
+use Rattle.noc_view.proofs.MoverLemmas.{is_moved-true}
 use Rattle.noc_theory.proofs.worms.InjectionRoomLemmas.{filter-none}
 use Rattle.noc_theory.proofs.worms.MemberLemmas.{Has-mapped, Has-map}
 use Rattle.noc_theory.proofs.worms.MoveLemmas.{next-once}
@@ -111,10 +110,10 @@ module _ (net : Setup) (good : IsGood net) (F : State) (x : IsOrderedFrozen net 
           let less : count_in net T c ≡ count_in net F c - 1 = ap length (buffer-moved net F n c v (sorted-distinct net F.at x.whole.sound.keyed.sorted)) ∙ length-drop 1 (Rattle.noc_theory.specs.Network.buffer_of net F c) in
           omega (arith, some, less, one_back)
 
-  credit-at : (S : State) (c : Channel) (on inside back : ℕ) → count_on net S c ≡ on → count_in net S c ≡ inside → one_if (has_channel S.back c) ≡ back → credit_of net S c ≡ net.places - on - inside - back
-  credit-at S c on inside back a b e = ap (λ k. net.places - k - count_in net S c - one_if (has_channel S.back c)) a ∙ ap (λ k. net.places - on - k - one_if (has_channel S.back c)) b ∙ ap (λ k. net.places - on - inside - k) e
+  credit-at : (S : State) (c : Channel) (on inside back : ℕ) → count_on net S c ≡ on → count_in net S c ≡ inside → one_if (has_channel S.back c) ≡ back → credit_of net S c ≡ net.depth - on - inside - back
+  credit-at S c on inside back a b e = ap (λ k. net.depth - k - count_in net S c - one_if (has_channel S.back c)) a ∙ ap (λ k. net.depth - on - k - one_if (has_channel S.back c)) b ∙ ap (λ k. net.depth - on - inside - k) e
 
-  credit-now : (c : Channel) → credit_of net F c ≡ net.places - count_in net F c
+  credit-now : (c : Channel) → credit_of net F c ≡ net.depth - count_in net F c
   credit-now c = credit-at F c 0 (count_in net F c) 0 (none-on c) refl (ap one_if (x.no_credit c)) ∙ omega arith
 
   -- the credits of a channel to which nothing moves stay

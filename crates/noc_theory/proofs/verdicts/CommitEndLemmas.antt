@@ -3,11 +3,11 @@ use Rattle.std.proofs.Common.{◌≡◌, ◌≢◌, ℕ, zero, suc, ◌+◌, ◌
 use Rattle.std.specs.Prelude.{filter, is_none, ◌⊎◌, ◌&&◌, nat_eq, if◌then◌else◌}
 use Rattle.std.specs.List.{list_any, enumerate_from}
 use Rattle.std.proofs.lemmas.Bool.{false≢true, eqb-true, eq-eqb, ne_eqb, and_from, cases_eq}
-use Rattle.noc_topo.specs.Words.{Has}
+use Rattle.noc_topo.specs.Lists.{Has}
 use Rattle.noc_topo.specs.Shape.{nodes, ports, local_port}
 use Rattle.noc_packet.specs.declared.packet.Packet.{Packet}
 use Rattle.noc_route.specs.Channel.{Channel, Link, Inject, Eject}
-use Rattle.noc_router.specs.View.{Site, View, Decisions, decisions_of, flit_out, tail_packet, with_arrival, mover}
+use Rattle.noc_view.specs.View.{Site, View, Decisions, decisions_of, flit_out, tail_packet, with_arrival, mover}
 use Rattle.noc_theory.specs.Lockstep.{ends_at}
 use Rattle.noc_theory.specs.Network.{Setup, State, On, In, Out, size, leaving, packet_at, place_of_flit, tail_place, out_cycle, gone_to, after_verdicts}
 use Rattle.noc_theory.proofs.worms.MemberLemmas.{Has-map, Has-mapped, Has-filter, Has-kept, list_any-from}
@@ -225,7 +225,7 @@ module _ (net : Setup) (good : IsGood net) (F : State) (x : IsOrderedFrozen net 
           let passes : (nat_eq p p && is_none (out_cycle (tail_place net F p))) ≡ true = and_from _ _ (eq-eqb p p refl) (ap is_none before) in
           let expected : list_any (λ (one : ℕ × Option ℕ). nat_eq one.0 p && is_none one.1) w.ends ≡ true = list_any-from (λ (one : ℕ × Option ℕ). nat_eq one.0 p && is_none one.1) w.ends (p, out_cycle (tail_place net F p)) there passes in
           ap (λ (a : Option ℕ). with_arrival a w) e
-          ∙ ap (λ b. cond b (record w { ends = map (λ (one : ℕ × Option ℕ). (one.0, if nat_eq one.0 p then Some w.given else one.1)) w.ends }) (Rattle.noc_router.specs.View.with_misfit w)) expected
+          ∙ ap (λ b. cond b (record w { ends = map (λ (one : ℕ × Option ℕ). (one.0, if nat_eq one.0 p then Some w.given else one.1)) w.ends }) (Rattle.noc_view.specs.View.with_misfit w)) expected
           ∙ ap (λ (es : List (ℕ × Option ℕ)). record w { ends = es })
           (ap (λ (es : List (ℕ × Option ℕ)). map (λ (one : ℕ × Option ℕ). (one.0, if nat_eq one.0 p then Some w.given else one.1)) es) ends
           ∙ ap (λ k. map (λ (one : ℕ × Option ℕ). (one.0, if nat_eq one.0 p then Some k else one.1)) (map (λ q. (q, out_cycle (tail_place net F q))) (ends_at net r))) given

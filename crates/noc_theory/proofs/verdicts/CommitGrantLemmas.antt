@@ -2,13 +2,13 @@
 use Rattle.std.proofs.Common.{◌≡◌, ℕ, ◌<◌, true, false, cond, Option, Some, None, get_or, refl, ap, sym, ◌∙◌, inl, inr, subst, arith}
 use Rattle.std.specs.Prelude.{◌&&◌, not, nat_lt, unwrap_or, if◌then◌else◌}
 use Rattle.std.proofs.lemmas.Bool.{lt-ltb, or_left, or_right}
-use Rattle.noc_topo.specs.Words.{Has}
+use Rattle.noc_topo.specs.Lists.{Has}
 use Rattle.noc_topo.specs.Shape.{nodes}
 use Rattle.noc_route.specs.Channel.{Channel, Link, Inject, Eject, is_link, sending_router}
 use Rattle.noc_vc.specs.Input.{Input}
 use Rattle.noc_vc.specs.Output.{output_after_hold}
 use Rattle.noc_vc.specs.declared.output.OutputState.TheVariants.{Owned, Draining}
-use Rattle.noc_router.specs.View.{View, Decisions, view_input, view_output, decisions_of, mover_to, output_after}
+use Rattle.noc_view.specs.View.{View, Decisions, view_input, view_output, decisions_of, mover_to, output_after}
 use Rattle.noc_theory.specs.Lockstep.{seen_input, seen_output, seen_holder, seen_source, is_present, come_count, has_come}
 use Rattle.noc_theory.specs.Network.{Setup, State, Place, size, leaving, owner_of, is_in, is_past, credit_of, tail_place, after_verdicts}
 use Rattle.noc_theory.specs.Progress.{head_place}

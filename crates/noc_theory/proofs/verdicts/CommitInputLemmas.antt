@@ -4,25 +4,25 @@ use Rattle.std.specs.Prelude.{filter, find, option_map, option_and_then, ◌⊎�
 use Rattle.std.proofs.lemmas.Bool.{false≢true, cases_lt}
 use Rattle.std.proofs.lemmas.Option.{none-some, same_Some}
 use Rattle.std.proofs.lemmas.List.{get_or-map, get_or_past}
-use Rattle.noc_topo.specs.Words.{tabulate, Has}
+use Rattle.noc_topo.specs.Lists.{tabulate, Has}
 use Rattle.noc_topo.specs.Shape.{nodes}
-use Rattle.noc_topo.proofs.WordLemmas.{get_or-tabulate, length-tabulate}
+use Rattle.noc_topo.proofs.ListLemmas.{get_or-tabulate, length-tabulate}
 use Rattle.noc_packet.specs.Packet.{flit_at}
 use Rattle.noc_packet.specs.declared.packet.Flit.{Flit}
 use Rattle.noc_route.specs.Channel.{Channel, output_index}
 use Rattle.noc_route.specs.Routes.{set_at}
 use Rattle.noc_vc.specs.Input.{Input, idle_input, is_idle_phase}
 use Rattle.noc_vc.specs.declared.input.InputState.TheVariants.{Idle, Waiting, Active}
-use Rattle.noc_router.specs.Verdict.{Claim, Unrouted, Waits, Holds, verdict_of, is_routed, is_granted, is_moved, ask_of}
-use Rattle.noc_router.specs.View.{Site, View, Decisions, size_of, view_buffer, view_input, view_claim, decisions_of, decided_verdict, buffer_after, input_after, granted_to, sent_from, first_flit, route_of, route_for}
-use Rattle.noc_router.specs.declared.verdict.Verdict.{Verdict}
-use Rattle.noc_router.specs.declared.verdict.Verdict.TheVariants.{Empty, Routed, Granted, Moved, NoFlit, NoIdleChannel, LostChannel, NoCredit, LostInput, LostSwitch}
-use Rattle.noc_router.specs.declared.verdict.Finding.{Finding}
-use Rattle.noc_router.proofs.PlanLemmas.{verdict-moved, verdict-granted, verdict-routed}
+use Rattle.noc_view.specs.Verdict.{Claim, Unrouted, Waits, Holds, verdict_of, is_routed, is_granted, is_moved, ask_of}
+use Rattle.noc_view.specs.View.{Site, View, Decisions, size_of, view_buffer, view_input, view_claim, decisions_of, decided_verdict, buffer_after, input_after, granted_to, sent_from, first_flit, route_of, route_for}
+use Rattle.noc_view.specs.declared.verdict.Verdict.{Verdict}
+use Rattle.noc_view.specs.declared.verdict.Verdict.TheVariants.{Empty, Routed, Granted, Moved, NoFlit, NoIdleChannel, LostChannel, NoCredit, LostInput, LostSwitch}
+use Rattle.noc_view.specs.declared.finding.Finding.{Finding}
+use Rattle.noc_view.proofs.PlanLemmas.{verdict-moved, verdict-granted, verdict-routed}
 use Rattle.noc_theory.specs.Lockstep.{finding_in, seen_flits, seen_input, seen_phase, seen_phase_with, seen_set}
 use Rattle.noc_theory.specs.Network.{Setup, State, Located, size, arriving, leaving, packet_at, place_of_flit, owner_of, next_channel, has_channel, has_credit_in, ask, claim_of, claim_with, verdict_in, round_at, count_in, buffer_of, front_in, is_in, is_tail_of_packet, tail_leaves, after_verdicts, granted_pair, grant_to_owner, end_of}
 use Rattle.noc_theory.proofs.worms.BufferLemmas.{find-passes, buffer-moved, buffer-stays}
-use Rattle.noc_router.proofs.SettleLemmas.{is_moved-true}
+use Rattle.noc_view.proofs.MoverLemmas.{is_moved-true}
 use Rattle.noc_theory.proofs.worms.GrantLemmas.{IsGrant, granted-is}
 use Rattle.noc_theory.proofs.worms.MemberLemmas.{Has-kept, find-has}
 use Rattle.noc_theory.proofs.worms.OwnedLemmas.{owner-has, owner-is}

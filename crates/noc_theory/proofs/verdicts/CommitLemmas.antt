@@ -2,14 +2,14 @@
 use Rattle.std.proofs.Common.{◌≡◌, ℕ, ◌<◌, false, cond, [], map, length, get_or, Some, refl, ap, sym, ◌∙◌, subst, arith}
 use Rattle.std.specs.Prelude.{◌||◌, if◌then◌else◌}
 use Rattle.std.specs.List.{list_any}
-use Rattle.noc_topo.specs.Words.{below, tabulate, map_indexed}
+use Rattle.noc_topo.specs.Lists.{below, tabulate, map_indexed}
 use Rattle.noc_topo.specs.Shape.{nodes, local_port, neighbour, IsLinkBack}
 use Rattle.noc_topo.proofs.LinkLemmas.{link_back}
-use Rattle.noc_topo.proofs.WordLemmas.{get_or-map_indexed, length-map_indexed, get_or-tabulate}
+use Rattle.noc_topo.proofs.ListLemmas.{get_or-map_indexed, length-map_indexed, get_or-tabulate}
 use Rattle.noc_vc.specs.Input.{idle_input}
 use Rattle.noc_vc.specs.Output.{ejection_output}
-use Rattle.noc_router.specs.Verdict.{Round, is_event, arbiters_after}
-use Rattle.noc_router.specs.View.{Site, View, Decisions, decisions_of, view_after_commit, buffer_after, input_after, output_after, decided_verdict, counts_after, has_event, beat_out, idle_beat}
+use Rattle.noc_view.specs.Verdict.{Round, is_event, arbiters_after}
+use Rattle.noc_view.specs.View.{Site, View, Decisions, decisions_of, view_after_commit, buffer_after, input_after, output_after, decided_verdict, counts_after, has_event, beat_out, idle_beat}
 use Rattle.noc_theory.specs.Lockstep.{starts_at, ends_at, beat_by}
 use Rattle.noc_theory.specs.Network.{Setup, State, size, round_at, out_cycle, tail_place, after_verdicts}
 use Rattle.noc_theory.proofs.verdicts.CommitEndLemmas.{arrival-noted}

@@ -3,15 +3,15 @@ use Rattle.std.proofs.Common.{◌≡◌, ℕ, ◌<◌, Bool, true, false, cond, 
 use Rattle.std.specs.Prelude.{option_map, unwrap_or, ◌&&◌, ◌||◌}
 use Rattle.std.proofs.lemmas.Bool.{true≢false, and_from}
 use Rattle.std.proofs.lemmas.Option.{none-some}
-use Rattle.noc_topo.specs.Words.{Has}
+use Rattle.noc_topo.specs.Lists.{Has}
 use Rattle.noc_topo.specs.Shape.{nodes}
 use Rattle.noc_route.specs.Channel.{Channel, Link, Inject, Eject, is_link, same_channel, sending_router}
 use Rattle.noc_vc.specs.Output.{Output, output_after_spend}
 use Rattle.noc_vc.specs.declared.output.OutputState.{OutputState}
 use Rattle.noc_vc.specs.declared.output.OutputState.TheVariants.{Idle as Free, Owned, Draining}
-use Rattle.noc_router.specs.Verdict.{is_moved}
-use Rattle.noc_router.specs.View.{View, Decisions, view_output, decisions_of, first_flit, mover_to, held_by, spent_by, output_after, is_tail as is_tail_flit}
-use Rattle.noc_router.specs.declared.verdict.Verdict.{Verdict}
+use Rattle.noc_view.specs.Verdict.{is_moved}
+use Rattle.noc_view.specs.View.{View, Decisions, view_output, decisions_of, first_flit, mover_to, held_by, spent_by, output_after, is_tail as is_tail_flit}
+use Rattle.noc_view.specs.declared.verdict.Verdict.{Verdict}
 use Rattle.noc_theory.specs.Lockstep.{seen_output, seen_holder, seen_source, has_come}
 use Rattle.noc_theory.specs.Network.{Setup, State, Located, Place, On, size, leaving, place_of_flit, owner_of, owned_by, has_channel, verdict_in, tail_leaves, tail_leaves_to, is_tail_of_packet, is_released, is_on, is_past, front_in, credit_of, count_on, tail_place, after_verdicts, all_inputs, next_channel}
 use Rattle.noc_theory.proofs.worms.BufferLemmas.{same_channel-refl}
@@ -43,10 +43,10 @@ module _ (net : Setup) (good : IsGood net) (F : State) (x : IsOrderedFrozen net 
   holder-at S c o e = ap (seen_holder net S r c) e
 
   abbrev pub link_out : OutputState → ℕ → Output
-  link_out holder credit = record { holder = holder; credit = Some credit; places = net.places }
+  link_out holder credit = record { holder = holder; credit = Some credit; depth = net.depth }
 
   abbrev pub eject_out : OutputState → Output
-  eject_out holder = record { holder = holder; credit = None; places = 0 }
+  eject_out holder = record { holder = holder; credit = None; depth = 0 }
 
   -- ---- one output channel o, which is the channel c
 

@@ -3,15 +3,15 @@ use Rattle.std.proofs.Common.{◌≡◌, ℕ, ◌<◌, false, List, [], length, 
 use Rattle.std.specs.Prelude.{find, count_by, option_map, unwrap_or, ◌||◌, not, nat_eq}
 use Rattle.std.specs.List.{list_any}
 use Rattle.std.proofs.lemmas.Option.{none-some}
-use Rattle.noc_topo.specs.Words.{below, tabulate, map_indexed, Has}
+use Rattle.noc_topo.specs.Lists.{below, tabulate, map_indexed, Has}
 use Rattle.noc_topo.specs.Shape.{nodes}
-use Rattle.noc_topo.proofs.WordLemmas.{get_or-map_indexed, length-map_indexed, map_indexed-from_each}
+use Rattle.noc_topo.proofs.ListLemmas.{get_or-map_indexed, length-map_indexed, map_indexed-from_each}
 use Rattle.noc_route.specs.Channel.{Channel, Link, Inject, Eject, channel_vc}
-use Rattle.noc_router.specs.Verdict.{is_event, arbiters_after}
-use Rattle.noc_router.specs.View.{View, Decisions, decisions_of, counts_after, has_event, decided_verdict}
-use Rattle.noc_router.specs.declared.verdict.Verdict.{Verdict}
-use Rattle.noc_router.specs.declared.verdict.Verdict.TheVariants.{Empty}
-use Rattle.noc_router.specs.declared.verdict.Finding.{Finding}
+use Rattle.noc_view.specs.Verdict.{is_event, arbiters_after}
+use Rattle.noc_view.specs.View.{View, Decisions, decisions_of, counts_after, has_event, decided_verdict}
+use Rattle.noc_view.specs.declared.verdict.Verdict.{Verdict}
+use Rattle.noc_view.specs.declared.verdict.Verdict.TheVariants.{Empty}
+use Rattle.noc_view.specs.declared.finding.Finding.{Finding}
 use Rattle.noc_theory.specs.Lockstep.{finding_in, seen_sending}
 use Rattle.noc_theory.specs.Network.{Setup, State, Located, Source, In, size, arriving, tail_place, flits_of, owned_by, is_at_source, is_injection_of, first_waiting, arbiters_at, round_at, verdict_in, gone_to, after_verdicts}
 use Rattle.noc_theory.proofs.worms.InjectionStateLemmas.{waiting-is}

@@ -2,15 +2,15 @@
 use Rattle.std.proofs.Common.{◌≡◌, ℕ, ◌+◌, ◌*◌, ◌/◌, ◌<◌, true, get_or, Some, None, refl, ap, sym, ◌∙◌, subst, arith}
 use Rattle.std.specs.Prelude.{option_and_then, if◌then◌else◌}
 use Rattle.std.proofs.lemmas.Option.{none-some, same_Some}
-use Rattle.noc_topo.specs.Words.{is_some_of, Has}
+use Rattle.noc_topo.specs.Lists.{is_some_of, Has}
 use Rattle.noc_topo.specs.Shape.{nodes, ports}
 use Rattle.noc_alloc.proofs.WordLemmas.{is_some_of-some}
 use Rattle.noc_route.specs.Channel.{Channel, sending_router, output_index, same_channel}
-use Rattle.noc_router.specs.Verdict.{Claim, Unrouted, Waits, Holds, out_of}
-use Rattle.noc_router.specs.View.{Site, View, Decisions, size_of, view_claim, view_round, decisions_of, mover, mover_to}
-use Rattle.noc_router.specs.declared.verdict.Verdict.TheVariants.{Granted, Moved}
-use Rattle.noc_router.proofs.PlanLemmas.{Lists, Mover, mover-is, moves-is, granted-asks, is-granted, verdict_in as verdict_at_view}
-use Rattle.noc_router.proofs.SettleLemmas.{mover_to-is}
+use Rattle.noc_view.specs.Verdict.{Claim, Unrouted, Waits, Holds, out_of}
+use Rattle.noc_view.specs.View.{Site, View, Decisions, size_of, view_claim, view_round, decisions_of, mover, mover_to}
+use Rattle.noc_view.specs.declared.verdict.Verdict.TheVariants.{Granted, Moved}
+use Rattle.noc_view.proofs.PlanLemmas.{Lists, Mover, mover-is, moves-is, granted-asks, is-granted, verdict_in as verdict_at_view}
+use Rattle.noc_view.proofs.MoverLemmas.{mover_to-is}
 use Rattle.noc_theory.specs.Network.{Setup, State, Located, Place, In, size, arriving, leaving, place_of_flit, owner_of, next_channel, leads_from, verdict_in, claim_of, count_in, front_in, is_in, round_at}
 use Rattle.noc_theory.proofs.worms.BufferLemmas.{find-passes}
 use Rattle.noc_theory.proofs.worms.GrantLemmas.{IsGrant}
@@ -211,5 +211,5 @@ module _ (net : Setup) (good : IsGood net) (F : State) (x : IsOrderedFrozen net 
       let router : g.router ≡ r = same_Some _ _ (sym (begins-at net good g.router g.index) ∙ ap sending_router g.is_output ∙ begins-at net good r o) in
       let index : g.index ≡ o = sym (Rattle.noc_theory.proofs.worms.GrantLemmas.index-output net g.router g.index) ∙ ap (output_index net.relation.grid net.relation.vcs) g.is_output ∙ f.is_index in (
         g.port * net.relation.vcs + Rattle.noc_route.specs.Channel.channel_vc c,
-        ap (λ (y : Rattle.noc_router.specs.Verdict.Round). get_or y.grants o None) same_round ∙ ap (λ y. get_or (round_at net F y).grants o None) (sym router) ∙ ap (λ y. get_or (round_at net F g.router).grants y None) (sym index) ∙ g.won,
+        ap (λ (y : Rattle.noc_view.specs.Verdict.Round). get_or y.grants o None) same_round ∙ ap (λ y. get_or (round_at net F y).grants o None) (sym router) ∙ ap (λ y. get_or (round_at net F g.router).grants y None) (sym index) ∙ g.won,
       )

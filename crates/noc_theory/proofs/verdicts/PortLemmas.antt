@@ -4,17 +4,17 @@ use Rattle.std.specs.Prelude.{find, option_map, option_and_then, is_some, ◌⊎
 use Rattle.std.proofs.lemmas.Bool.{false≢true, true≢false}
 use Rattle.std.proofs.lemmas.Option.{none-some, same_Some}
 use Rattle.std.proofs.lemmas.Nat.{div-add-mod', div-mul-add, mod-mul-add}
-use Rattle.noc_topo.specs.Words.{below}
+use Rattle.noc_topo.specs.Lists.{below}
 use Rattle.noc_topo.specs.Shape.{nodes, ports, local_port, neighbour, IsLinkBack}
 use Rattle.noc_topo.proofs.LinkLemmas.{link_back}
 use Rattle.noc_packet.specs.Packet.{flit_at}
 use Rattle.noc_packet.specs.declared.packet.Flit.{Flit}
 use Rattle.noc_route.specs.Channel.{Channel, Link, Inject, is_link}
-use Rattle.noc_router.specs.Verdict.{Claim, Holds, out_of, is_moved}
-use Rattle.noc_router.specs.View.{Site, View, Decisions, view_claim, decisions_of, mover, mover_to, flit_out, first_flit, beat_out, decided_verdict}
-use Rattle.noc_router.proofs.FindLemmas.{find-same, find-at, find-none}
-use Rattle.noc_router.proofs.PlanLemmas.{mover-is}
-use Rattle.noc_router.proofs.SettleLemmas.{mover_to-is}
+use Rattle.noc_view.specs.Verdict.{Claim, Holds, out_of, is_moved}
+use Rattle.noc_view.specs.View.{Site, View, Decisions, view_claim, decisions_of, mover, mover_to, flit_out, first_flit, beat_out, decided_verdict}
+use Rattle.noc_view.proofs.FindLemmas.{find-same, find-at, find-none}
+use Rattle.noc_view.proofs.PlanLemmas.{mover-is}
+use Rattle.noc_view.proofs.MoverLemmas.{mover_to-is}
 use Rattle.noc_theory.specs.Lockstep.{flit_on, beat_by}
 use Rattle.noc_theory.specs.Network.{Setup, State, Located, size, arriving, leaving, packet_at, has_channel, is_on, verdict_in, gone_to, after_verdicts, all_inputs}
 use Rattle.noc_theory.proofs.worms.BufferLemmas.{same_channel-refl, find-passes}

@@ -3,9 +3,9 @@ use Rattle.std.proofs.Common.{◌≡◌, ℕ, suc, ◌+◌, ◌*◌, ◌/◌, �
 use Rattle.std.specs.Prelude.{find, option_and_then, option_map, not, nat_lt, ◌&&◌, ◌||◌, is_none}
 use Rattle.std.proofs.lemmas.Bool.{lt-ltb, false≢true}
 use Rattle.std.proofs.lemmas.Nat.{div-add-mod'}
-use Rattle.noc_topo.specs.Words.{below, tabulate, Has}
+use Rattle.noc_topo.specs.Lists.{below, tabulate, Has}
 use Rattle.noc_topo.specs.Shape.{nodes, ports, local_port}
-use Rattle.noc_topo.proofs.WordLemmas.{get_or-tabulate, length-tabulate, tabulate-from_each}
+use Rattle.noc_topo.proofs.ListLemmas.{get_or-tabulate, length-tabulate, tabulate-from_each}
 use Rattle.noc_packet.specs.Set.{has_bit}
 use Rattle.noc_packet.specs.declared.packet.Flit.{Flit}
 use Rattle.noc_packet.specs.Packet.{flit_at}
@@ -15,12 +15,12 @@ use Rattle.noc_vc.specs.Input.{Input, is_empty}
 use Rattle.noc_vc.specs.Output.{Output, is_free, has_credit}
 use Rattle.noc_vc.specs.declared.input.InputState.TheVariants.{Idle}
 use Rattle.noc_vc.specs.declared.output.OutputState.TheVariants.{Owned, Draining}
-use Rattle.noc_router.specs.Verdict.{Claim, Unrouted, Waits, Holds, Stand, Round, ArbiterStates, round_of, verdict_of, out_of}
-use Rattle.noc_router.specs.View.{Site, View, size_of, view_buffer, view_input, view_output, asked_for, claim_in, view_claim, view_stand, view_stands, view_round, decisions_of, finding_of, port_and_vc}
-use Rattle.noc_router.specs.declared.verdict.Verdict.{Verdict}
-use Rattle.noc_router.specs.declared.verdict.Verdict.TheVariants.{Empty}
-use Rattle.noc_router.specs.declared.verdict.Finding.{Finding}
-use Rattle.noc_router.proofs.FindLemmas.{find-same}
+use Rattle.noc_view.specs.Verdict.{Claim, Unrouted, Waits, Holds, Stand, Round, ArbiterStates, round_of, verdict_of, out_of}
+use Rattle.noc_view.specs.View.{Site, View, size_of, view_buffer, view_input, view_output, asked_for, claim_in, view_claim, view_stand, view_stands, view_round, decisions_of, finding_of, port_and_vc}
+use Rattle.noc_view.specs.declared.verdict.Verdict.{Verdict}
+use Rattle.noc_view.specs.declared.verdict.Verdict.TheVariants.{Empty}
+use Rattle.noc_view.specs.declared.finding.Finding.{Finding}
+use Rattle.noc_view.proofs.FindLemmas.{find-same}
 use Rattle.noc_theory.specs.Lockstep.{site_at, seen_flits, seen_input, seen_phase, seen_phase_with, seen_set, seen_output, seen_holder, seen_source, has_come, finding_in}
 use Rattle.noc_theory.specs.Network.{Setup, State, Located, size, arriving, leaving, packet_at, owner_of, next_channel, has_channel, has_credit_in, is_idle, ask, claim_of, claim_with, stand_of, stands_at, round_at, verdict_in, verdict_at, count_in, buffer_of, is_on, tail_place, leads_from}
 use Rattle.noc_theory.proofs.worms.MoveLemmas.{IsNext, next-is, leads-end}
@@ -87,16 +87,16 @@ module _ (net : Setup) (good : IsGood net) (F : State) (x : IsOrderedFrozen net 
       ∙ ap (λ n. find (λ o. has_bit (set_at net.relation (packet_at net p).class r (i / net.relation.vcs) (i % net.relation.vcs) (packet_at net p).destination) o && is_free (view_output v o).holder) (below n)) same_size
       ∙ find-same (λ o. has_bit (set_at net.relation (packet_at net p).class r (i / net.relation.vcs) (i % net.relation.vcs) (packet_at net p).destination) o && is_free (view_output v o).holder)
       (λ o. is_idle net F (leaving net r o) && permits net.relation (packet_at net p).class c (packet_at net p).destination (leaving net r o)) (size net)
-      (λ o u. turned (has_bit (set_at net.relation (packet_at net p).class r (i / net.relation.vcs) (i % net.relation.vcs) (packet_at net p).destination) o) (is_free (view_output v o).holder)
+      (λ o u. swapped (has_bit (set_at net.relation (packet_at net p).class r (i / net.relation.vcs) (i % net.relation.vcs) (packet_at net p).destination) o) (is_free (view_output v o).holder)
       ∙ ap (λ b. b && has_bit (set_at net.relation (packet_at net p).class r (i / net.relation.vcs) (i % net.relation.vcs) (packet_at net p).destination) o) (free-at o u)
       ∙ ap (λ b. is_idle net F (leaving net r o) && b) (sym (permits-at net good (packet_at net p).class (packet_at net p).destination r i o c at u)))
       ∙ sym (ap (option_and_then (λ q. find (λ o. is_idle net F (leaving net r o) && permits net.relation (packet_at net q).class c (packet_at net q).destination (leaving net r o)) (below (size net)))) own)
     where
-      turned : (a b : Bool) → (a && b) ≡ (b && a)
-      turned true true = refl
-      turned true false = refl
-      turned false true = refl
-      turned false false = refl
+      swapped : (a b : Bool) → (a && b) ≡ (b && a)
+      swapped true true = refl
+      swapped true false = refl
+      swapped false true = refl
+      swapped false false = refl
 
   pub claim-is : (i : ℕ) (c : Channel) → IsAt net good r i c → claim_in v (seen_phase net F r i c) ≡ claim_of net F r c
   claim-is i c at = by (has_channel F.routed c) refl
@@ -171,7 +171,7 @@ module _ (net : Setup) (good : IsGood net) (F : State) (x : IsOrderedFrozen net 
   round-is =
       ap (λ (s : Site). round_of (ports s.grid) s.vcs (view_stands v) v.arbiters) seen.site
       ∙ ap (λ (stands : List Stand). round_of (ports net.relation.grid) net.relation.vcs stands v.arbiters) stands-are
-      ∙ ap (λ (turns : ArbiterStates). round_of (ports net.relation.grid) net.relation.vcs (stands_at net F r) turns) seen.arbiters
+      ∙ ap (λ (arbiters : ArbiterStates). round_of (ports net.relation.grid) net.relation.vcs (stands_at net F r) arbiters) seen.arbiters
 
   -- ---- verdicts
 

@@ -62,7 +62,7 @@ module _ (net : Setup) (good : IsGoodSetup net) where
         let h = PermitsEject-from_test net.relation m c t n v e in
         let same : n ≡ t = permits-home net.relation good.relation m c t n v e in
         end-far net c n t (ends-at c n h.in_port h.arrives) ∙ ap (λ x. distance net.relation.grid x t) same ∙ distance-none net.relation.grid t;
-    some_place = let l = good.some_place in omega arith;
+    some_depth = let l = good.some_depth in omega arith;
     some_flit = λ p low. let l = (good-packet p low).some_flit in omega arith;
   }
 

@@ -12,5 +12,5 @@ module _ (net : Setup) where
     pub shorter : (m t : ℕ) (c : Channel) (r p v : ℕ) → IsTrue (permits net.relation m c t (Link r p v)) → end_distance net.relation (Link r p v) t + 1 ≡ end_distance net.relation c t
     -- a packet leaves the network at its destination
     pub home : (m t : ℕ) (c : Channel) (n v : ℕ) → IsTrue (permits net.relation m c t (Eject n v)) → end_distance net.relation c t ≡ 0
-    pub some_place : 1 ≤ net.places
+    pub some_depth : 1 ≤ net.depth
     pub some_flit : (p : ℕ) → p < length net.packets → 1 ≤ (packet_at net p).length

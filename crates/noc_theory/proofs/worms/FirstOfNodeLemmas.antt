@@ -4,7 +4,7 @@ use Rattle.std.specs.Prelude.{filter, find, ◌⊎◌, nat_eq, nat_le, nat_lt, �
 use Rattle.std.specs.List.{list_any}
 use Rattle.std.proofs.lemmas.Bool.{cases_eq, cases_order, leb-true, leb-false, and_from, eq-eqb}
 use Rattle.std.proofs.lemmas.Option.{none-some, same_Some}
-use Rattle.noc_topo.specs.Words.{below, least_by, lesser_by, Has, Pairs}
+use Rattle.noc_topo.specs.Lists.{below, least_by, lesser_by, Has, Pairs}
 use Rattle.noc_topo.specs.Shape.{nodes}
 use Rattle.noc_route.specs.Channel.{Channel, Inject}
 use Rattle.noc_theory.specs.Network.{Setup, network_cycle, Injection, State, Located, Source, packet_at, place_of_flit, landed_place, flits_of, is_at_source, is_idle, first_waiting, injection_at, injection_with, is_injection_of, owned_by, count_in, after_landing, after_credits, after_injection, after_verdicts, frozen_state, state_at}
@@ -101,7 +101,7 @@ module _ (net : Setup) where
             let b = cond-some (nat_le (packet_at net q).due n) (option_map (λ v. (record { packet = q; channel = Inject node v; begins = true })) (find (λ v. is_idle net S (Inject node v)) (below net.relation.vcs))) one g in
             found q (find (λ v. is_idle net S (Inject node v)) (below net.relation.vcs)) b.1
         at q (Some j) g =
-            let b = cond-some (nat_lt (count_in net S j) net.places) (Some (record { packet = q; channel = j; begins = false })) one g in
+            let b = cond-some (nat_lt (count_in net S j) net.depth) (Some (record { packet = q; channel = j; begins = false })) one g in
             let s : record { packet = q; channel = j; begins = false } ≡ one = same_Some (record { packet = q; channel = j; begins = false }) one b.1 in ap (λ (x : Injection net). x.packet) s
 
     pub queued-injection : (n : ℕ) (S : State) → IsSoundFrozen net S → IsQueued S → IsQueued (after_injection net n S)

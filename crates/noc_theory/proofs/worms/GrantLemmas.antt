@@ -5,15 +5,15 @@ use Rattle.std.specs.List.{filter_map, range_with_len, cons_option}
 use Rattle.std.proofs.lemmas.Bool.{false≢true, true≢false, and_parts, and_left, eqb-true}
 use Rattle.std.proofs.lemmas.Option.{none-some, same_Some}
 use Rattle.std.proofs.lemmas.Nat.{div-add-mod', div-mul-add, mod-mul-add}
-use Rattle.noc_topo.specs.Words.{below, Has, Pairs}
+use Rattle.noc_topo.specs.Lists.{below, Has, Pairs}
 use Rattle.noc_topo.specs.Shape.{local_port}
 use Rattle.noc_route.specs.Channel.{Channel, Link, Inject, Eject, sending_router, arrival_of, channel_vc, output_at, output_index, inputs}
-use Rattle.noc_router.specs.Verdict.{Unrouted, Waits, Holds, verdict_of, is_granted, is_moved}
+use Rattle.noc_view.specs.Verdict.{Unrouted, Waits, Holds, verdict_of, is_granted, is_moved}
 use Rattle.noc_route.specs.Routes.{Routes, permits}
 use Rattle.noc_theory.specs.Network.{Setup, State, size, packet_at, owner_of, owned_by, is_idle, ask, next_channel, leads_from, has_credit_in, end_of, has_channel, claim_of, round_at, count_in, verdict_in, verdict_at, granted_pair, grant_to_owner, is_released, after_verdicts}
-use Rattle.noc_router.specs.declared.verdict.Verdict.{Verdict}
-use Rattle.noc_router.specs.declared.verdict.Verdict.TheVariants.{Granted}
-use Rattle.noc_router.proofs.PlanLemmas.{verdict-granted}
+use Rattle.noc_view.specs.declared.verdict.Verdict.{Verdict}
+use Rattle.noc_view.specs.declared.verdict.Verdict.TheVariants.{Granted}
+use Rattle.noc_view.proofs.PlanLemmas.{verdict-granted}
 use Rattle.noc_theory.specs.Worm.{IsPath}
 use Rattle.noc_theory.proofs.worms.BuiltRecordLemmas.{IsBuilt}
 use Rattle.noc_theory.proofs.worms.OptionLemmas.{and_then-some, cond-some}

@@ -7,7 +7,7 @@ use Rattle.noc_route.specs.Channel.{Channel, Link, Inject, Eject}
 use Rattle.noc_theory.specs.Network.{Setup, tail_place, State, Place, Source, On, In, Out, place_of_flit, is_past, leads_from}
 use Rattle.noc_theory.specs.Progress.{head_place, weight}
 use Rattle.noc_theory.proofs.worms.BuiltRecordLemmas.{IsBuilt}
-use Rattle.noc_topo.specs.Words.{Has}
+use Rattle.noc_topo.specs.Lists.{Has}
 use Rattle.noc_theory.proofs.worms.OwnedLemmas.{owner-is}
 use Rattle.noc_theory.proofs.worms.StateWordLemmas.{IsKeyed, IsPlaced, goal, last_of, far_of, IsHeld, IsRoutedMid, Come, Reached}
 use Rattle.noc_theory.proofs.worms.WormRecordLemmas.{IsWorm, valid-last, valid-first}

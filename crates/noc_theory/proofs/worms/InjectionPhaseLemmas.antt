@@ -7,7 +7,7 @@ use Rattle.noc_theory.specs.Network.{Setup, Injection, Place, Source, On, In, Ou
 use Rattle.noc_theory.specs.Progress.{weight, hops}
 use Rattle.noc_theory.specs.Worm.{IsPath}
 use Rattle.noc_theory.proofs.worms.BuiltRecordLemmas.{IsBuilt}
-use Rattle.noc_topo.specs.Words.{Has, Pairs}
+use Rattle.noc_topo.specs.Lists.{Has, Pairs}
 use Rattle.noc_theory.proofs.worms.MemberLemmas.{Has-append, Has-left, Has-right, Has-filter, Has-kept, Has-map, Has-mapped, Pairs-filter, Pairs-append, Pairs-map, each-at, each-from}
 use Rattle.noc_theory.proofs.worms.OwnedLemmas.{IsOnce, of, of-append, of-has, has-of}
 use Rattle.noc_theory.proofs.worms.StateWordLemmas.{IsOtherChannel, IsPlaced, IsNear, IsEntering, class_of, goal, last_of}

@@ -3,7 +3,7 @@ use Rattle.std.proofs.Common.{◌≡◌, ℕ, ◌+◌, ◌<◌, ◌≤◌, Bool,
 use Rattle.std.specs.Prelude.{filter, find, option_map, ◌⊎◌, nat_eq, nat_lt, nat_le, ◌&&◌, not}
 use Rattle.std.proofs.lemmas.Bool.{false≢true, true≢false, eqb-true, and_parts, and_from, ltb-true, not-true}
 use Rattle.std.proofs.lemmas.Option.{none-some, same_Some}
-use Rattle.noc_topo.specs.Words.{below, Has, Pairs}
+use Rattle.noc_topo.specs.Lists.{below, Has, Pairs}
 use Rattle.noc_route.specs.Channel.{Channel, Inject}
 use Rattle.noc_theory.specs.Network.{Setup, Injection, State, Located, In, packet_at, place_of_flit, is_in, count_in, after_injection, injection_at, injections, injected_place, injection_with, beginning, first_waiting, is_injection_of, owned_by, first_at_source, is_the_flit, is_at_source, is_idle}
 use Rattle.noc_theory.proofs.worms.BuiltRecordLemmas.{IsBuilt}
@@ -52,24 +52,24 @@ module _ (net : Setup) (built : IsBuilt net) (S : State) (keyed : IsKeyed net S.
       found (Some v) g = let s : record { packet = q; channel = Inject node v; begins = true } ≡ one = same_Some (record { packet = q; channel = Inject node v; begins = true }) one g in ap (λ (x : Injection net). x.begins) (sym s)
 
   -- where a flit is injected there was room
-  entry-room : (node : ℕ) (one : Injection net) → injection_at net S n node ≡ Some one → count_in net S one.channel < net.places
+  entry-room : (node : ℕ) (one : Injection net) → injection_at net S n node ≡ Some one → count_in net S one.channel < net.depth
   entry-room node one e =
       let r = and_then-some (λ q. injection_with net S n node q (find (is_injection_of net node) (owned_by net S q))) (first_waiting net S node) one e in
       at r.0 (find (is_injection_of net node) (owned_by net S r.0)) r.2
     where
-      fresh : one.begins ≡ true → count_in net S one.channel < net.places
+      fresh : one.begins ≡ true → count_in net S one.channel < net.depth
       fresh t = of_way (entry-of net built S keyed w n node one e).goes
         where
-          of_way : ((one.begins ≡ false) × Has (one.channel, one.packet) S.own) ⊎ ((one.begins ≡ true) × ((p : ℕ) → Has (one.channel, p) S.own → ⊥) × ((c : Channel) → Has (c, one.packet) S.own → ⊥)) → count_in net S one.channel < net.places
+          of_way : ((one.begins ≡ false) × Has (one.channel, one.packet) S.own) ⊎ ((one.begins ≡ true) × ((p : ℕ) → Has (one.channel, p) S.own → ⊥) × ((c : Channel) → Has (c, one.packet) S.own → ⊥)) → count_in net S one.channel < net.depth
           of_way (inl s) = absurd (false≢true (sym s.0 ∙ t))
-          of_way (inr s) = let z = unowned-empty net built S keyed w one.channel s.1 in let b = built.some_place in omega arith
+          of_way (inr s) = let z = unowned-empty net built S keyed w one.channel s.1 in let b = built.some_depth in omega arith
 
-      at : (q : ℕ) (o : Option Channel) → injection_with net S n node q o ≡ Some one → count_in net S one.channel < net.places
+      at : (q : ℕ) (o : Option Channel) → injection_with net S n node q o ≡ Some one → count_in net S one.channel < net.depth
       at q None g = fresh (begins-new node q one g)
       at q (Some j) g =
-          let b = cond-some (nat_lt (count_in net S j) net.places) (Some (record { packet = q; channel = j; begins = false })) one g in
+          let b = cond-some (nat_lt (count_in net S j) net.depth) (Some (record { packet = q; channel = j; begins = false })) one g in
           let s : record { packet = q; channel = j; begins = false } ≡ one = same_Some (record { packet = q; channel = j; begins = false }) one b.1 in
-          subst (λ (x : Injection net). count_in net S x.channel < net.places) s (ltb-true _ _ b.0)
+          subst (λ (x : Injection net). count_in net S x.channel < net.depth) s (ltb-true _ _ b.0)
 
   gain-entry : (c : Channel) (f : Located) → Gains (λ (g : Located). is_in c g.place) step f
       → (one : Injection net) × Has one all × (one.packet ≡ f.packet) × (one.channel ≡ c) × (is_the_flit net f (first_at_source net S f.packet) ≡ true)
@@ -107,12 +107,12 @@ module _ (net : Setup) (built : IsBuilt net) (S : State) (keyed : IsKeyed net S.
       one-flit f g (first_at_source net S f.packet) x.4 (ap (λ z. is_the_flit net g (first_at_source net S z)) packets ∙ y.4)
 
   -- so injection keeps every buffer within its places
-  pub room-after_injection : (c : Channel) → count_in net S c ≤ net.places → count_in net (after_injection net n S) c ≤ net.places
+  pub room-after_injection : (c : Channel) → count_in net S c ≤ net.depth → count_in net (after_injection net n S) c ≤ net.depth
   unfolding after_injection
   room-after_injection c room = cases (filter-some (λ (f : Located). not (is_in c f.place) && is_in c (step f).place) S.at)
     where
       cases : (length (filter (λ (f : Located). not (is_in c f.place) && is_in c (step f).place) S.at) ≡ 0)
-          ⊎ ((f : Located) × Has f S.at × ((not (is_in c f.place) && is_in c (step f).place) ≡ true)) → count_in net (after_injection net n S) c ≤ net.places
+          ⊎ ((f : Located) × Has f S.at × ((not (is_in c f.place) && is_in c (step f).place) ≡ true)) → count_in net (after_injection net n S) c ≤ net.depth
       cases (inl e) =
           let more : count_in net (after_injection net n S) c ≤ count_in net S c = count-no_more (λ (f : Located). is_in c f.place) step S.at (λ f h k. comes f (is_in c (step f).place) refl k (filter-none (λ (g : Located). not (is_in c g.place) && is_in c (step g).place) S.at f e h)) in
           omega arith
@@ -125,6 +125,6 @@ module _ (net : Setup) (built : IsBuilt net) (S : State) (keyed : IsKeyed net S.
           let parts = and_parts (not (is_in c f.place)) (is_in c (step f).place) r.2 in
           let x = gain-entry c f (not-true _ parts.0, parts.1) in
           let node = Has-filter_map (injection_at net S n) x.0 (below (nodes net.relation.grid)) x.1 in
-          let room_there : count_in net S c < net.places = subst (λ (d : Channel). count_in net S d < net.places) x.3 (entry-room node.0 x.0 node.2) in
+          let room_there : count_in net S c < net.depth = subst (λ (d : Channel). count_in net S d < net.depth) x.3 (entry-room node.0 x.0 node.2) in
           let more : count_in net (after_injection net n S) c ≤ count_in net S c + 1 = count-one_more (λ (g : Located). is_in c g.place) step S.at keyed.sorted (one-gain c) in
           omega arith

@@ -4,7 +4,7 @@ use Rattle.std.specs.Prelude.{filter, find, option_map, nat_eq, nat_lt, nat_le, 
 use Rattle.std.specs.List.{range_with_len, list_any}
 use Rattle.std.proofs.lemmas.Bool.{false≢true, eqb-true, eq-eqb, ne_eqb, and_parts, and_from, and_right}
 use Rattle.std.proofs.lemmas.Option.{none-some, same_Some}
-use Rattle.noc_topo.specs.Words.{below, least_by, lesser_by, Has, Pairs}
+use Rattle.noc_topo.specs.Lists.{below, least_by, lesser_by, Has, Pairs}
 use Rattle.noc_topo.specs.Shape.{nodes}
 use Rattle.noc_route.specs.Channel.{Channel, Link, Inject, Eject}
 use Rattle.noc_theory.specs.Network.{Setup, Injection, State, Located, Place, Source, In, packet_at, place_of_flit, owner_of, owned_by, is_idle, flits_of, is_at_source, first_waiting, is_injection_of, beginning, injection_with, injection_at, injections, first_at_source, is_the_flit, injected_place, after_injection, count_in}
@@ -103,7 +103,7 @@ module _ (net : Setup) (built : IsBuilt net) (S : State) (keyed : IsKeyed net S.
           → find (is_injection_of net node) (owned_by net S q) ≡ o → injection_with net S n node q o ≡ Some one → IsEntry net built S.own (place_of_flit net S) w node one
       at q wt None f g = entry-begins node q one wt f g
       at q wt (Some j) f g =
-          let b = cond-some (nat_lt (count_in net S j) net.places) (Some (record { packet = q; channel = j; begins = false })) one g in
+          let b = cond-some (nat_lt (count_in net S j) net.depth) (Some (record { packet = q; channel = j; begins = false })) one g in
           let s : record { packet = q; channel = j; begins = false } ≡ one = same_Some (record { packet = q; channel = j; begins = false }) one b.1 in
           let is = injection_of-is node j (find-passes (is_injection_of net node) (owned_by net S q) j f) in
           let own : Has (j, q) S.own = of-has j q S.own (find-has (is_injection_of net node) (owned_by net S q) j f) in

@@ -3,7 +3,7 @@ use Rattle.std.proofs.Common.{◌≡◌, ℕ, zero, suc, ◌+◌, ◌<◌, ◌�
 use Rattle.std.specs.Prelude.{nat_eq}
 use Rattle.std.specs.List.{range_with_len}
 use Rattle.std.proofs.lemmas.Bool.{eqb-true, eq-eqb}
-use Rattle.noc_topo.specs.Words.{Has, Pairs, below, tabulate}
+use Rattle.noc_topo.specs.Lists.{Has, Pairs, below, tabulate}
 use Rattle.noc_theory.specs.Network.{Setup, State, Located, Place, packet_at, place_of_flit, flits_of}
 use Rattle.noc_theory.proofs.worms.MemberLemmas.{Has-filter, Has-kept, Pairs-filter, each-at}
 use Rattle.noc_theory.specs.Good.{IsValid}

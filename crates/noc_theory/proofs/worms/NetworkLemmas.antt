@@ -2,7 +2,7 @@
 -- its frozen state (_frozen_at).
 use Rattle.std.proofs.Common.{◌≡◌, ◌≢◌, ℕ, zero, suc, ◌+◌, ◌-◌, ◌≤◌, ◌<◌, Bool, true, false, List, length, Some, ap, sym, ◌∙◌, arith}
 use Rattle.std.specs.Prelude.{if◌then◌else◌}
-use Rattle.noc_topo.specs.Words.{Has}
+use Rattle.noc_topo.specs.Lists.{Has}
 use Rattle.noc_topo.specs.Shape.{nodes, neighbour}
 use Rattle.noc_route.specs.Channel.{Channel, Link, Eject}
 use Rattle.noc_route.specs.Routes.{set_at}
@@ -39,7 +39,7 @@ module _ (net : Setup) (good : IsGoodSetup net) where
   whole-mid_at n = whole-mid net built wired (good-covering net good) (state_at net n) (whole-at net good n)
 
   -- no buffer holds more than its places, and nothing is on a wire
-  pub room-frozen_at : (n : ℕ) (c : Channel) → count_in net (frozen_at net n) c ≤ net.places
+  pub room-frozen_at : (n : ℕ) (c : Channel) → count_in net (frozen_at net n) c ≤ net.depth
   room-frozen_at n c = (whole-frozen_at net good n).sound.room c
 
   pub still-frozen_at : (n p i : ℕ) → IsValid net p i → (c : Channel) → place_of_flit net (frozen_at net n) p i ≢ On c
@@ -100,13 +100,13 @@ module _ (net : Setup) (good : IsGoodSetup net) where
   none_back-frozen_at n c = ap (λ (cs : List Channel). has_channel cs c) (no-back-frozen net n (state_at net n))
 
   -- so the credits of a frozen state are the places that are left too
-  pub frozen_credit-at : (n : ℕ) (c : Channel) → credit_of net (frozen_at net n) c + places_taken net (frozen_at net n) c ≡ net.places
+  pub frozen_credit-at : (n : ℕ) (c : Channel) → credit_of net (frozen_at net n) c + places_taken net (frozen_at net n) c ≡ net.depth
   frozen_credit-at n c =
       let on = none-on net built (frozen_at net n) (whole-frozen_at net good n).sound.keyed (whole-frozen_at net good n).sound.worm n (whole-frozen_at net good n).sound.still c in
       let back = ap (λ (b : Bool). if b then 1 else 0) (none_back-frozen_at n c) in
       rest (count_on net (frozen_at net n) c) (count_in net (frozen_at net n) c) (if has_channel (frozen_at net n).back c then 1 else 0) on back (room-frozen_at n c)
     where
-      rest : (a b k : ℕ) → a ≡ 0 → k ≡ 0 → b ≤ net.places → (net.places - a - b - k) + (a + b + k) ≡ net.places
+      rest : (a b k : ℕ) → a ≡ 0 → k ≡ 0 → b ≤ net.depth → (net.depth - a - b - k) + (a + b + k) ≡ net.depth
       rest a b k x y l = omega arith
 
   -- ---- as many arbiters as routers

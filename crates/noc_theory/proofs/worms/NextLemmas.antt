@@ -8,7 +8,7 @@ use Rattle.noc_route.specs.Channel.{Channel, Link, Inject, Eject}
 use Rattle.noc_theory.specs.Network.{Setup, State, place_of_flit, leads_from, next_channel, owned_by}
 use Rattle.noc_theory.proofs.worms.BuiltRecordLemmas.{IsBuilt}
 use Rattle.noc_theory.specs.Worm.{IsPath}
-use Rattle.noc_topo.specs.Words.{Has}
+use Rattle.noc_topo.specs.Lists.{Has}
 use Rattle.noc_theory.proofs.worms.OwnedLemmas.{of, of-has, has-of, owner-is}
 use Rattle.noc_theory.proofs.worms.MemberLemmas.{find-some, find-has}
 use Rattle.noc_theory.proofs.worms.BufferLemmas.{find-passes}

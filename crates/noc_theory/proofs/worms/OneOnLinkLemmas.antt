@@ -3,12 +3,12 @@ use Rattle.std.proofs.Common.{◌≡◌, ℕ, ◌+◌, ◌*◌, ◌/◌, ◌%◌
 use Rattle.std.specs.Prelude.{nat_lt, option_map}
 use Rattle.std.proofs.lemmas.Option.{same_Some}
 use Rattle.std.proofs.lemmas.Nat.{div-mul-add, mod-mul-add}
-use Rattle.noc_topo.specs.Words.{is_some_of, Has}
+use Rattle.noc_topo.specs.Lists.{is_some_of, Has}
 use Rattle.noc_route.specs.Channel.{Channel, Link, Inject, Eject, inputs, arrival_of, channel_vc, output_index}
-use Rattle.noc_router.specs.Verdict.{Claim, Unrouted, Waits, Holds, Round, verdict_of}
+use Rattle.noc_view.specs.Verdict.{Claim, Unrouted, Waits, Holds, Round, verdict_of}
 use Rattle.noc_theory.specs.Network.{Setup, State, On, place_of_flit, end_of, next_channel, has_channel, verdict_in, verdict_at, claim_of, has_credit_in, round_at, count_in, gone_to, after_verdicts}
 use Rattle.noc_theory.proofs.worms.BuiltRecordLemmas.{IsBuilt}
-use Rattle.noc_router.specs.declared.verdict.Verdict.TheVariants.{Empty, Granted, Moved, LostChannel, LostInput, LostSwitch}
+use Rattle.noc_view.specs.declared.verdict.Verdict.TheVariants.{Empty, Granted, Moved, LostChannel, LostInput, LostSwitch}
 use Rattle.noc_alloc.proofs.WordLemmas.{is_some_of-true}
 use Rattle.noc_theory.proofs.worms.OwnedLemmas.{once-same}
 use Rattle.noc_theory.proofs.worms.GrantLemmas.{IsWired}

@@ -3,7 +3,7 @@ use Rattle.std.proofs.Common.{◌≡◌, ℕ, zero, suc, ◌+◌, ◌-◌, ◌<�
 use Rattle.std.specs.Prelude.{◌⊎◌}
 use Rattle.std.specs.List.{flat_map, enumerate_from, range_with_len}
 use Rattle.std.proofs.lemmas.Bool.{false≢true}
-use Rattle.noc_topo.specs.Words.{below, Has, Pairs}
+use Rattle.noc_topo.specs.Lists.{below, Has, Pairs}
 use Rattle.noc_route.specs.Channel.{Channel}
 use Rattle.noc_theory.specs.Network.{Setup, Located, Place, Source, place_of_flit, is_in, is_on, count_on, count_in, opening_state, frozen_state, state_at}
 use Rattle.noc_theory.specs.Progress.{weight}

@@ -8,7 +8,7 @@ use Rattle.std.proofs.lemmas.List.{map-append}
 use Rattle.noc_route.specs.Channel.{Channel, same_channel}
 use Rattle.noc_theory.specs.Network.{Setup, State, owner_of}
 use Rattle.noc_theory.proofs.worms.BufferLemmas.{same_channel-refl, same_channel-true, find-passes}
-use Rattle.noc_topo.specs.Words.{Has, Pairs}
+use Rattle.noc_topo.specs.Lists.{Has, Pairs}
 use Rattle.noc_theory.proofs.worms.MemberLemmas.{Has-filter, Has-kept, Has-map, Has-mapped, find-has, find-some, each-at}
 use Rattle.noc_theory.proofs.worms.StateWordLemmas.{IsOtherChannel}
 

@@ -7,7 +7,7 @@ use Rattle.noc_route.specs.Routes.{permits}
 use Rattle.noc_theory.specs.Network.{Setup, end_distance, leads_from}
 use Rattle.noc_theory.specs.Worm.{IsPath}
 use Rattle.noc_theory.proofs.worms.BuiltRecordLemmas.{IsBuilt}
-use Rattle.noc_topo.specs.Words.{Has}
+use Rattle.noc_topo.specs.Lists.{Has}
 use Rattle.noc_theory.proofs.worms.StateWordLemmas.{IsEject}
 
 module _ (net : Setup) (built : IsBuilt net) (m t : ℕ) where

@@ -5,7 +5,7 @@ use Rattle.std.proofs.lemmas.Bool.{false≢true, and_parts, and_from, eqb-true, 
 use Rattle.std.proofs.lemmas.Option.{same_Some}
 use Rattle.noc_theory.specs.Network.{Setup, State, Located, Place, Source, place_of_flit, On, In, Out, is_in, is_on, is_at_source, landed_place}
 use Rattle.noc_theory.proofs.worms.BufferLemmas.{find-passes, same_channel-true}
-use Rattle.noc_topo.specs.Words.{Has, Pairs}
+use Rattle.noc_topo.specs.Lists.{Has, Pairs}
 use Rattle.noc_route.specs.Channel.{Channel}
 use Rattle.noc_theory.proofs.worms.MemberLemmas.{Has-map, Has-mapped, find-has, find-some, Pairs-map, each-at}
 use Rattle.noc_theory.proofs.worms.StateWordLemmas.{IsSortedPair, IsKeyed}

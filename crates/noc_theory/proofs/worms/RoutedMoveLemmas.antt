@@ -5,11 +5,11 @@ use Rattle.std.proofs.lemmas.Bool.{false≢true, cases_lt, and_left, true≢fals
 use Rattle.std.proofs.lemmas.Option.{same_Some}
 use Rattle.noc_route.specs.Channel.{Channel, Link, Inject, Eject}
 use Rattle.noc_theory.specs.Network.{Setup, tail_place, State, Place, On, In, place_of_flit, is_past, leads_from, owned_by, has_channel, verdict_in, tail_leaves, gone_to, after_verdicts}
-use Rattle.noc_router.specs.Verdict.{is_moved}
+use Rattle.noc_view.specs.Verdict.{is_moved}
 use Rattle.noc_theory.specs.Progress.{head_place}
 use Rattle.noc_theory.proofs.worms.BuiltRecordLemmas.{IsBuilt}
-use Rattle.noc_router.specs.declared.verdict.Verdict.TheVariants.{Granted, Moved}
-use Rattle.noc_topo.specs.Words.{Has}
+use Rattle.noc_view.specs.declared.verdict.Verdict.TheVariants.{Granted, Moved}
+use Rattle.noc_topo.specs.Lists.{Has}
 use Rattle.noc_theory.proofs.worms.MemberLemmas.{find-fails}
 use Rattle.noc_theory.proofs.worms.OwnedLemmas.{has-of, owner-has, owner-is}
 use Rattle.noc_theory.proofs.worms.StateWordLemmas.{IsEject, IsKeyed, class_of, goal, last_of, far_of, Come, IsHeld, HasNext}

@@ -6,7 +6,7 @@ use Rattle.noc_route.specs.Channel.{Channel, Link, Inject, Eject}
 use Rattle.noc_theory.specs.Network.{Setup, tail_place, State, Located, Place, Source, On, In, Out, place_of_flit, landed_place, is_past, leads_from, after_landing, after_credits, has_channel}
 use Rattle.noc_theory.specs.Progress.{head_place}
 use Rattle.noc_theory.proofs.worms.BuiltRecordLemmas.{IsBuilt}
-use Rattle.noc_topo.specs.Words.{Has}
+use Rattle.noc_topo.specs.Lists.{Has}
 use Rattle.noc_theory.proofs.worms.MemberLemmas.{Has-filter, Has-kept}
 use Rattle.noc_theory.proofs.worms.StateWordLemmas.{IsEject, IsKeyed, IsEntering, goal, last_of, far_of, Come, IsHeld, IsRoutedMid}
 use Rattle.noc_theory.specs.Good.{IsValid}

@@ -3,7 +3,7 @@ use Rattle.std.proofs.Common.{◌≡◌, ℕ, zero, suc, ◌<◌, true, false, O
 use Rattle.std.specs.Prelude.{find, ◌⊎◌, not, nat_lt, nat_le, IsTrue, option_map}
 use Rattle.std.proofs.lemmas.Bool.{false≢true}
 use Rattle.std.proofs.lemmas.Option.{none-some, same_Some}
-use Rattle.noc_topo.specs.Words.{below, Has}
+use Rattle.noc_topo.specs.Lists.{below, Has}
 use Rattle.noc_topo.specs.Shape.{nodes}
 use Rattle.noc_route.specs.Channel.{Channel, Link, Inject, Eject, inputs, arrival_of, is_link}
 use Rattle.noc_route.specs.Routes.{permits}
@@ -63,7 +63,7 @@ module _ (net : Setup) where
             let b = cond-some (nat_le (packet_at net q).due n) (option_map (λ v. (record { packet = q; channel = Inject node v; begins = true })) (find (λ v. is_idle net S (Inject node v)) (below net.relation.vcs))) one g in
             found q (find (λ v. is_idle net S (Inject node v)) (below net.relation.vcs)) refl b.1
         at q (Some j) g =
-            let b = cond-some (nat_lt (count_in net S j) net.places) (Some (record { packet = q; channel = j; begins = false })) one g in
+            let b = cond-some (nat_lt (count_in net S j) net.depth) (Some (record { packet = q; channel = j; begins = false })) one g in
             let s : record { packet = q; channel = j; begins = false } ≡ one = same_Some (record { packet = q; channel = j; begins = false }) one b.1 in
             absurd (false≢true (ap (λ (x : Injection net). x.begins) s ∙ t))
 

@@ -3,15 +3,15 @@ use Rattle.std.proofs.Common.{◌≡◌, ◌≢◌, ℕ, ◌+◌, ◌*◌, ◌<�
 use Rattle.std.specs.Prelude.{filter, ◌⊎◌, not, nat_lt, ◌&&◌, option_map, unwrap_or, get_or}
 use Rattle.std.proofs.lemmas.Bool.{false≢true, and_left, cases_eq, ltb-true, lt-ltb, not-true, and_from, and_parts}
 use Rattle.noc_route.specs.Channel.{Channel, Link, Inject, Eject, inputs, same_channel, is_link, arrival_of, channel_vc}
-use Rattle.noc_router.specs.Verdict.{Claim, Unrouted, verdict_of, Holds, Waits, Round, is_moved, is_routed}
+use Rattle.noc_view.specs.Verdict.{Claim, Unrouted, verdict_of, Holds, Waits, Round, is_moved, is_routed}
 use Rattle.noc_theory.specs.Network.{Setup, front_in, is_tail_of_packet, tail_place, State, Located, Place, Source, On, In, Out, place_of_flit, is_past, is_in, leads_from, owned_by, next_channel, has_channel, verdict_in, verdict_at, tail_leaves, tail_leaves_to, is_released, gone_to, count_in, claim_of, round_at, after_verdicts}
 use Rattle.noc_theory.specs.Progress.{head_place, weight, hops}
 use Rattle.noc_theory.proofs.worms.BuiltRecordLemmas.{IsBuilt}
 use Rattle.noc_theory.specs.Worm.{IsPath}
-use Rattle.noc_router.specs.declared.verdict.Verdict.{Verdict}
-use Rattle.noc_router.specs.declared.verdict.Verdict.TheVariants.{Empty, Routed, Granted, LostChannel}
+use Rattle.noc_view.specs.declared.verdict.Verdict.{Verdict}
+use Rattle.noc_view.specs.declared.verdict.Verdict.TheVariants.{Empty, Routed, Granted, LostChannel}
 use Rattle.noc_theory.proofs.worms.BufferLemmas.{same_channel-refl, same_channel-true}
-use Rattle.noc_topo.specs.Words.{Has, is_some_of}
+use Rattle.noc_topo.specs.Lists.{Has, is_some_of}
 use Rattle.noc_theory.proofs.worms.MemberLemmas.{Has-append, Has-left, Has-right, Has-filter, Has-kept, list_any-has, list_any-from}
 use Rattle.noc_theory.proofs.worms.OwnedLemmas.{of, of-has, has-of}
 use Rattle.noc_theory.proofs.worms.StateWordLemmas.{IsEject, IsKeyed, IsPlaced, IsNear, class_of, goal, last_of, far_of, Come, IsHeld, HasNext}

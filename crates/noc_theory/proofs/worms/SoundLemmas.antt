@@ -22,13 +22,13 @@ module _ (net : Setup) where
   pub record IsSoundState (S : State) : Type 0 where
     pub keyed : IsKeyed net S.at
     pub worm : IsWorm net S.own (place_of_flit net S)
-    pub room : (c : Channel) → places_taken net S c ≤ net.places
+    pub room : (c : Channel) → places_taken net S c ≤ net.depth
 
   -- the invariant of the frozen state: nothing is on a wire
   pub record IsSoundFrozen (F : State) : Type 0 where
     pub keyed : IsKeyed net F.at
     pub worm : IsWorm net F.own (place_of_flit net F)
-    pub room : (c : Channel) → count_in net F c ≤ net.places
+    pub room : (c : Channel) → count_in net F c ≤ net.depth
     pub still : (p i : ℕ) → IsValid net p i → (c : Channel) → place_of_flit net F p i ≢ On c
 
   module _ (built : IsBuilt net) (wired : IsWired net) where

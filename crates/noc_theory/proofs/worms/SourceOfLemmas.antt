@@ -7,7 +7,7 @@ use Rattle.noc_route.specs.Routes.{permits}
 use Rattle.noc_theory.specs.Network.{Setup, Place, Source, On, In, Out, packet_at, is_past, leads_from}
 use Rattle.noc_theory.proofs.worms.BuiltRecordLemmas.{IsBuilt}
 use Rattle.noc_theory.specs.Worm.{IsPath}
-use Rattle.noc_topo.specs.Words.{Has}
+use Rattle.noc_topo.specs.Lists.{Has}
 use Rattle.noc_theory.proofs.worms.OwnedLemmas.{of, has-of, of-has}
 use Rattle.noc_theory.proofs.worms.PathLemmas.{IsBehind, path-behind}
 use Rattle.noc_theory.proofs.worms.WormRecordLemmas.{IsWorm, valid-last}

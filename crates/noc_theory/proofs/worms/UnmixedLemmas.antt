@@ -9,7 +9,7 @@ use Rattle.noc_theory.specs.Progress.{weight}
 use Rattle.noc_theory.proofs.worms.BuiltRecordLemmas.{IsBuilt}
 use Rattle.noc_theory.specs.Worm.{IsRun}
 use Rattle.noc_theory.proofs.worms.BufferLemmas.{same_channel-refl}
-use Rattle.noc_topo.specs.Words.{Has, Pairs}
+use Rattle.noc_topo.specs.Lists.{Has, Pairs}
 use Rattle.noc_theory.proofs.worms.MemberLemmas.{Has-filter, Has-kept, Pairs-filter, each-at}
 use Rattle.noc_theory.proofs.worms.OwnedLemmas.{owner-is}
 use Rattle.noc_theory.specs.Good.{IsValid}

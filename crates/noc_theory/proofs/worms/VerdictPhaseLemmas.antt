@@ -8,12 +8,12 @@ use Rattle.noc_topo.specs.Shape.{distance}
 use Rattle.noc_route.specs.Channel.{Channel, Link, Inject, Eject, sending_router, inputs}
 use Rattle.noc_route.specs.Routes.{permits}
 use Rattle.noc_theory.specs.Network.{Setup, State, Located, Place, Source, On, In, Out, packet_at, place_of_flit, front_in, verdict_in, gone_to, is_tail_of_packet, tail_leaves, is_released, granted_pair, end_of, moved_place, after_verdicts}
-use Rattle.noc_router.specs.Verdict.{is_moved}
+use Rattle.noc_view.specs.Verdict.{is_moved}
 use Rattle.noc_theory.specs.Progress.{weight, hops}
 use Rattle.noc_theory.proofs.worms.BuiltRecordLemmas.{IsBuilt}
-use Rattle.noc_router.specs.declared.verdict.Verdict.TheVariants.{Moved}
-use Rattle.noc_router.proofs.SettleLemmas.{is_moved-true}
-use Rattle.noc_topo.specs.Words.{Has}
+use Rattle.noc_view.specs.declared.verdict.Verdict.TheVariants.{Moved}
+use Rattle.noc_view.proofs.MoverLemmas.{is_moved-true}
+use Rattle.noc_topo.specs.Lists.{Has}
 use Rattle.noc_theory.proofs.worms.MemberLemmas.{Has-append, Has-left, Has-filter, Has-kept, Has-filter_map}
 use Rattle.noc_theory.proofs.worms.OwnedLemmas.{owner-has, once-same}
 use Rattle.noc_theory.proofs.worms.StateWordLemmas.{IsEject, IsKeyed, IsPlaced, IsNear, IsEntering, class_of, goal, last_of, far_of}

@@ -4,13 +4,13 @@ use Rattle.std.specs.Prelude.{◌⊎◌, nat_eq, nat_lt, ◌&&◌, not, if◌the
 use Rattle.std.specs.List.{AllByRecursion}
 use Rattle.std.proofs.lemmas.Bool.{false≢true, eqb-true, ne_eqb, and_parts, and_left, and_right, ltb-true, or_cases}
 use Rattle.noc_route.specs.Channel.{Channel, Link, Inject, Eject, same_channel, is_link, inputs, arrival_of, channel_vc, output_index}
-use Rattle.noc_router.specs.Verdict.{Unrouted, Holds, is_moved}
+use Rattle.noc_view.specs.Verdict.{Unrouted, Holds, is_moved}
 use Rattle.noc_theory.specs.Network.{Setup, State, Located, Place, On, In, Out, place_of_flit, is_on, has_channel, buffer_of, count_on, count_in, credit_of, has_credit_in, after_verdicts, verdict_in, verdict_at, next_channel, gone_to, moved_place, claim_of, round_at}
 use Rattle.noc_theory.proofs.worms.BufferLemmas.{same_flit, same_channel-true, moved-holds, buffer-moved, buffer-stays, next-some, IsDistinct}
 use Rattle.noc_theory.proofs.worms.BuiltRecordLemmas.{IsBuilt}
-use Rattle.noc_router.specs.declared.verdict.Verdict.TheVariants.{Empty, Moved}
-use Rattle.noc_router.proofs.SettleLemmas.{is_moved-true}
-use Rattle.noc_topo.specs.Words.{Has, Pairs}
+use Rattle.noc_view.specs.declared.verdict.Verdict.TheVariants.{Empty, Moved}
+use Rattle.noc_view.proofs.MoverLemmas.{is_moved-true}
+use Rattle.noc_topo.specs.Lists.{Has, Pairs}
 use Rattle.noc_theory.proofs.worms.MemberLemmas.{Has-filter, Has-map, list_any-has, each-at}
 use Rattle.noc_theory.proofs.worms.OwnedLemmas.{once-same}
 use Rattle.noc_theory.specs.Good.{IsValid, places_taken}
@@ -151,7 +151,7 @@ module _ (net : Setup) (built : IsBuilt net) (F : State) (keyed : IsKeyed net F.
           absurd (still f.packet f.index (keyed.valid f r.1) o (place-of-flit net F keyed f r.1 ∙ is_on-is o f.place r.2))
 
   -- the credit law: on + in + back ≤ the places of a buffer
-  pub room-after_verdicts : (c : Channel) → count_in net F c ≤ net.places → places_taken net T c ≤ net.places
+  pub room-after_verdicts : (c : Channel) → count_in net F c ≤ net.depth → places_taken net T c ≤ net.depth
   unfolding after_verdicts
   room-after_verdicts c room = cases (filter-some (λ (f : Located). is_on c f.place) T.at)
     where
@@ -163,7 +163,7 @@ module _ (net : Setup) (built : IsBuilt net) (F : State) (keyed : IsKeyed net F.
       rest : count_in net T c + (if has_channel T.back c then 1 else 0) ≤ count_in net F c
       rest = in-and-back c
 
-      credit-is : (d : Channel) → is_link d ≡ true → has_credit_in net F d ≡ true → count_in net F d < net.places
+      credit-is : (d : Channel) → is_link d ≡ true → has_credit_in net F d ≡ true → count_in net F d < net.depth
       credit-is d l h =
           let k : nat_lt 0 (credit_of net F d) ≡ true = second (or_cases (not (is_link d)) (nat_lt 0 (credit_of net F d)) h) in
           let m : 0 < credit_of net F d = ltb-true _ _ k in
@@ -173,7 +173,7 @@ module _ (net : Setup) (built : IsBuilt net) (F : State) (keyed : IsKeyed net F.
           second (inl e) = absurd (false≢true (sym (ap not l) ∙ e))
           second (inr e) = e
 
-          bounded : (a b k : ℕ) → 0 < net.places - a - b - k → b < net.places
+          bounded : (a b k : ℕ) → 0 < net.depth - a - b - k → b < net.depth
           bounded a b k m = omega arith
 
       link-of : (f : Located) → Has f F.at → (d o : Channel) → IsMoving net built F keyed w n still f.packet f.index d o → place_of_flit net T f.packet f.index ≡ On o → is_link o ≡ true
@@ -181,7 +181,7 @@ module _ (net : Setup) (built : IsBuilt net) (F : State) (keyed : IsKeyed net F.
       link-of f h d (Inject k u) m e = let z : In d ≡ On (Inject k u) = sym m.now ∙ e in absurd (cc z)
       link-of f h d (Eject k u) m e = let z : Out n ≡ On (Eject k u) = sym m.now ∙ e in absurd (cc z)
 
-      cases : (count_on net T c ≡ 0) ⊎ ((f : Located) × Has f T.at × (is_on c f.place ≡ true)) → places_taken net T c ≤ net.places
+      cases : (count_on net T c ≡ 0) ⊎ ((f : Located) × Has f T.at × (is_on c f.place ≡ true)) → places_taken net T c ≤ net.depth
       cases (inl e) = let r = rest in omega arith
       cases (inr r) =
           let m = Has-map step r.0 F.at r.1 in

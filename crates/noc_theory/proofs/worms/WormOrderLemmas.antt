@@ -2,7 +2,7 @@
 use Rattle.std.proofs.Common.{◌≡◌, ℕ, ◌+◌, ◌-◌, ◌<◌, ◌≤◌, true, List, [], ◌∷◌, length, Some, refl, ap, sym, ◌∙◌, inl, inr, subst, arith}
 use Rattle.std.specs.Prelude.{◌⊎◌, IsTrue, if◌then◌else◌}
 use Rattle.std.proofs.lemmas.Bool.{false≢true, lt-ltb}
-use Rattle.noc_topo.specs.Words.{Has}
+use Rattle.noc_topo.specs.Lists.{Has}
 use Rattle.noc_route.specs.Channel.{Channel, Link, Inject, Eject, is_link}
 use Rattle.noc_theory.specs.Network.{Setup, State, Located, Place, Source, On, In, Out, place_of_flit, tail_place, count_in, count_on, credit_of, has_channel, owner_of, owned_by, is_past, packet_at, state_at, frozen_at}
 use Rattle.noc_theory.specs.Worm.{IsWormOrder, IsPath, IsRear}
@@ -123,14 +123,14 @@ module _ (net : Setup) (built : IsBuilt net) (S : State) (keyed : IsKeyed net S.
         cases (Eject n v) (In d) q f s k = absurd (no_eject n v d q f (placed-in net built S keyed w p d k))
         cases (Eject n v) (Out m) q f s k = absurd (eject n v p m (first (Eject n v) f) s)
 
-    pub worm_order-from : ((c : Channel) → count_in net S c ≤ net.places) → IsWormOrder net S
+    pub worm_order-from : ((c : Channel) → count_in net S c ≤ net.depth) → IsWormOrder net S
     worm_order-from room = record {
       path = λ p l. w.path p;
       one_owner = w.once;
       rear = rear-of;
       in_order = λ p i j l le v. w.order p i j (l, v) le;
       on_own = on-own;
-      in_places = room;
+      in_depth = room;
       unmixed = unmixed-buffer net built S keyed w;
     }
 
@@ -155,13 +155,13 @@ module _ (net : Setup) (good : IsGoodSetup net) where
       (λ c p h l e. absurd (false≢true (sym (x.routed.behind c p h) ∙ e))) x.routed.mid.eject x.sound.room
 
   -- what is on the wire, in the buffer and on its way back is never more than the places of a buffer, at the start of each cycle
-  pub held-at : (n : ℕ) (c : Channel) → places_taken net (state_at net n) c ≤ net.places
+  pub held-at : (n : ℕ) (c : Channel) → places_taken net (state_at net n) c ≤ net.depth
   held-at n c = (whole-at n).sound.room c
 
   -- and the credits are all that is left
-  pub credit-at : (n : ℕ) (c : Channel) → credit_of net (state_at net n) c + places_taken net (state_at net n) c ≡ net.places
+  pub credit-at : (n : ℕ) (c : Channel) → credit_of net (state_at net n) c + places_taken net (state_at net n) c ≡ net.depth
   credit-at n c =
       rest (count_on net (state_at net n) c) (count_in net (state_at net n) c) (if has_channel (state_at net n).back c then 1 else 0) (held-at n c)
     where
-      rest : (a b k : ℕ) → a + b + k ≤ net.places → (net.places - a - b - k) + (a + b + k) ≡ net.places
+      rest : (a b k : ℕ) → a + b + k ≤ net.depth → (net.depth - a - b - k) + (a + b + k) ≡ net.depth
       rest a b k l = omega arith

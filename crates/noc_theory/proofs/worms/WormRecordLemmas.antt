@@ -9,7 +9,7 @@ use Rattle.noc_theory.specs.Network.{Setup, Place, Source, On, In, Out, packet_a
 use Rattle.noc_theory.specs.Progress.{weight, hops}
 use Rattle.noc_theory.specs.Worm.{IsPath}
 use Rattle.noc_theory.proofs.worms.BuiltRecordLemmas.{IsBuilt}
-use Rattle.noc_topo.specs.Words.{Has}
+use Rattle.noc_topo.specs.Lists.{Has}
 use Rattle.noc_theory.proofs.worms.MemberLemmas.{Has-filter, Has-kept, Pairs-filter}
 use Rattle.noc_theory.proofs.worms.OwnedLemmas.{IsOnce, of, of-filter, of-has}
 use Rattle.noc_theory.proofs.worms.StateWordLemmas.{IsOtherChannel, IsEject, class_of, goal, last_of, far_of, IsNear, IsPlaced, IsEntering}

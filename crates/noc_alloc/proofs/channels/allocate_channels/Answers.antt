@@ -1,5 +1,5 @@
 use Rattle.std.proofs.Common.{◌≡◌, ◌+◌, ℕ, Option, None, length, get_or, ap, refl, sym, ◌∙◌, arith, subst}
-use Rattle.noc_topo.specs.Words.{is_some_of}
+use Rattle.noc_topo.specs.Lists.{is_some_of}
 use Rattle.noc_alloc.specs.Arbiter.{pointers_of}
 use Rattle.noc_alloc.specs.Allocation.{grant_of}
 use Rattle.noc_alloc.proofs.OfferLemmas.{AllNearest, length-firsts, nearest-all, nearest-offered}

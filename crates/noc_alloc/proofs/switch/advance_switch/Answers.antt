@@ -4,8 +4,8 @@ use Rattle.std.proofs.lemmas.Bool.{le-ltb}
 use Rattle.std.proofs.lemmas.List.{get_or_default, take_all}
 use Rattle.noc_alloc.specs.Arbiter.{RoundRobin, arbiter_after, arbiter_at}
 use Rattle.noc_alloc.specs.Allocation.{winning_pick}
-use Rattle.noc_topo.proofs.WordLemmas.{map_indexed-from_each}
-use Rattle.noc_alloc.proofs.SwitchLemmas.{AllTurned, moved-by_requests, turned-more, turned_below-all, turned_below-more, turned_by-sizes}
+use Rattle.noc_topo.proofs.ListLemmas.{map_indexed-from_each}
+use Rattle.noc_alloc.proofs.SwitchLemmas.{AllAdvanced, moved-by_requests, advanced-more, advanced_below-all, advanced_below-more, advanced_by-sizes}
 use Rattle.noc_alloc.proofs.switch.advance_switch.Goals as goal
 
 pub loop-output-preserved : goal.loop-output-preserved
@@ -13,9 +13,9 @@ loop-output-preserved c =
     let k = c.loop-output.output in
     let l : k < length c.args.wins.now = omega arith in
     record {
-      inputs = subst (AllTurned c.args.inputs.now c.args.picks.now c.args.wins.now (k + 1)) (sym c.advance_winner.ensures)
-          (turned-more c.args.inputs.now c.loop-output.inputs c.args.picks.now c.args.wins.now k (get_or c.args.wins.now k None) refl l c.loop-output.auto.inputs (c.requires.winners k None l) c.loop-output.invariant.inputs);
-      outputs = turned_below-more c.args.outputs.now c.loop-output.outputs c.args.wins.now k c.advance.new.self (omega (arith, l, c.requires.wins, c.loop-output.auto.outputs))
+      inputs = subst (AllAdvanced c.args.inputs.now c.args.picks.now c.args.wins.now (k + 1)) (sym c.advance_winner.ensures)
+          (advanced-more c.args.inputs.now c.loop-output.inputs c.args.picks.now c.args.wins.now k (get_or c.args.wins.now k None) refl l c.loop-output.auto.inputs (c.requires.winners k None l) c.loop-output.invariant.inputs);
+      outputs = advanced_below-more c.args.outputs.now c.loop-output.outputs c.args.wins.now k c.advance.new.self (omega (arith, l, c.requires.wins, c.loop-output.auto.outputs))
           (c.advance.ensures
           ∙ ap (λ (t : RoundRobin). arbiter_after t (get_or c.args.wins.now k None))
           (get_or_default c.loop-output.outputs k c.index-outputs-output.result (record { size = 0; pointer = 0 }) (omega (arith, l, c.requires.wins, c.loop-output.auto.outputs))
@@ -35,10 +35,10 @@ pub returns-clause-by_requests : goal.returns-clause-by_requests
 returns-clause-by_requests c = λ ready vcs ports ps is. returns-clause-inputs c ∙ moved-by_requests ready vcs ports ps c.args.picks.now c.args.wins.now c.args.inputs.now is
 
 pub returns-clause-outputs : goal.returns-clause-outputs
-returns-clause-outputs c = turned_below-all c.args.outputs.now c.loop-output.outputs c.args.wins.now c.loop-output.output (omega (arith, c.requires.wins)) c.loop-output.auto.outputs c.loop-output.invariant.outputs
+returns-clause-outputs c = advanced_below-all c.args.outputs.now c.loop-output.outputs c.args.wins.now c.loop-output.output (omega (arith, c.requires.wins)) c.loop-output.auto.outputs c.loop-output.invariant.outputs
 
 pub returns-clause-input_sizes : goal.returns-clause-input_sizes
-returns-clause-input_sizes c = λ n. turned_by-sizes (winning_pick c.args.picks.now c.args.wins.now) c.args.inputs.now c.loop-output.inputs n (returns-clause-inputs c)
+returns-clause-input_sizes c = λ n. advanced_by-sizes (winning_pick c.args.picks.now c.args.wins.now) c.args.inputs.now c.loop-output.inputs n (returns-clause-inputs c)
 
 pub returns-clause-output_sizes : goal.returns-clause-output_sizes
-returns-clause-output_sizes c = λ n. turned_by-sizes (λ p. get_or c.args.wins.now p None) c.args.outputs.now c.loop-output.outputs n (returns-clause-outputs c)
+returns-clause-output_sizes c = λ n. advanced_by-sizes (λ p. get_or c.args.wins.now p None) c.args.outputs.now c.loop-output.outputs n (returns-clause-outputs c)

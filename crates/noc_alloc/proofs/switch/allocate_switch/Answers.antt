@@ -1,11 +1,11 @@
 use Rattle.std.proofs.Common.{◌≡◌, ◌≢◌, ◌<◌, ◌+◌, ◌*◌, ℕ, Option, Some, None, length, get_or, ap, sym, ◌∙◌, arith, below_more, get_or-set_same, get_or-set_other, subst}
 use Rattle.std.specs.Prelude.{is_some, option_and_then}
-use Rattle.noc_topo.specs.Words.{is_some_of}
+use Rattle.noc_topo.specs.Lists.{is_some_of}
 use Rattle.noc_alloc.specs.Arbiter.{pointers_of}
 use Rattle.noc_alloc.specs.Allocation.{pick_of, picked_port, winner_of}
 use Rattle.noc_alloc.proofs.OfferLemmas.{AllNearest, nearest-offered, pick-at, port_of_pick, wins-offered}
 use Rattle.noc_alloc.proofs.SwitchLemmas.{first_in_turn-below, in_ready, tabulate-inside}
-use Rattle.noc_topo.proofs.WordLemmas.{tabulate-from_each}
+use Rattle.noc_topo.proofs.ListLemmas.{tabulate-from_each}
 use Rattle.noc_alloc.proofs.switch.allocate_switch.Goals as goal
 use Rattle.noc_alloc.proofs.switch.allocate_switch.Goals.{in-Some, in_default}
 

@@ -8,10 +8,11 @@ loop-network-preserved c =
     let now = c.loop-network.network in
     let so_far = c.loop-network.invariant in
     let early : now.count < c.limit-limit.result = omega (arith, c.count.ensures.value, c.loop-network-test.true) in
-    let piece = c.min-cycles.ensures ∙ ap (λ n. min 64 (c.limit-limit.result - n)) c.count-in-loop-network.ensures.value in
+    let piece = c.min-cycles.ensures ∙ ap (λ n. min c.to_next_look.result (c.limit-limit.result - n)) c.count-in-loop-network.ensures.value in
     record {
       net = ap (λ (u : Run). u.net) c.run.ensures.value ∙ so_far.net;
-      on = goes-on c.args.network.now now c.limit-limit.result so_far.net so_far.on c.run.new.self c.min-cycles.result early (sym c.all_out.ensures.value ∙ c.if-not-all_out.true) piece c.run.ensures.value;
+      on = goes-on c.args.network.now now c.limit-limit.result so_far.net so_far.on c.run.new.self c.unchanged_cycles-quiet.result c.to_next_look.result c.min-cycles.result early
+          (sym c.all_out.ensures.value ∙ c.if-not-all_out.true) c.unchanged_cycles-quiet.ensures.same c.to_next_look.ensures.look piece c.run.ensures.value;
     }
 
 pub returns-else-not-all_out-clause-end : goal.returns-else-not-all_out-clause-end

@@ -28,7 +28,7 @@ returns-in-Ok-new-clause-network c =
     let packets = ap (λ (u : Run). u.net.packets) made in
     record {
       relation = ap (λ (u : Run). u.net.relation) made;
-      places_are = ap (λ (u : Run). u.net.places) made;
+      depth_is = ap (λ (u : Run). u.net.depth) made;
       packets = c.in-Ok.ensures ∙ ap Ok (sym packets);
       sound = ap (fault_of c.args.relation) packets ∙ none (fault_of c.args.relation c.in-Ok.packets.items) refl;
       good = c.in-Ok-new.ensures.good;

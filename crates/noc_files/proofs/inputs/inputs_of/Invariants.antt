@@ -4,8 +4,8 @@ use Rattle.noc_topo.specs.Shape.{ports}
 use Rattle.noc_files.specs.Channels.{is_input}
 use Rattle.noc_files.proofs.inputs.inputs_of.Given as goal
 
-abbrev pub invariant-loop-place : goal.invariant-loop-place
-invariant-loop-place l = record {
+abbrev pub invariant-loop-index : goal.invariant-loop-index
+invariant-loop-index l = record {
   long : length l.inputs ≡ 1792;
-  known : (k : ℕ) → k < l.place → k % 7 < ports l.shape → slice_get l.inputs k ≡ Some (is_input l.shape (k / 7) (k % 7));
+  known : (k : ℕ) → k < l.index → k % 7 < ports l.shape → slice_get l.inputs k ≡ Some (is_input l.shape (k / 7) (k % 7));
 }

@@ -1,6 +1,6 @@
 use Rattle.std.proofs.Common.{◌≡◌, ◌≤◌, ◌*◌, flat_map, length}
 use Rattle.std.specs.Io.KnownBytes.{Appends}
-use Rattle.noc_topo.specs.Words.{below}
+use Rattle.noc_topo.specs.Lists.{below}
 use Rattle.noc_files.specs.declared.page.TheConstants.{PAGE}
 use Rattle.noc_files.proofs.pages.put_pages.Given as goal
 

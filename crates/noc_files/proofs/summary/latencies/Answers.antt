@@ -1,21 +1,21 @@
 use Rattle.std.proofs.Common.{◌≡◌, [], ◌∷◌, ◌∙◌, None, arith, refl, sym, length-append}
 use Rattle.std.specs.List.{filter_map}
 use Rattle.std.proofs.lemmas.List.Sums.{fold_push, sum_by_push}
-use Rattle.noc_topo.specs.Words.{below}
+use Rattle.noc_topo.specs.Lists.{below}
 use Rattle.noc_files.specs.Summary.{greater_of, greatest_of, latency_at}
 use Rattle.noc_files.proofs.BelowLemmas.{found_no_more, found_nothing, found_one}
 use Rattle.noc_files.proofs.summary.latencies.Goals as goal
 use Rattle.noc_files.proofs.summary.latencies.Goals.{in-Some, in_default}
 
-pub loop-number-init : goal.loop-number-init
-loop-number-init c = rw (found_nothing (latency_at c.args.network.now)) (record { few = omega arith; bound = omega arith; count_is = refl; sum_is = refl; greatest_is = refl })
+pub loop-packet-init : goal.loop-packet-init
+loop-packet-init c = rw (found_nothing (latency_at c.args.network.now)) (record { few = omega arith; bound = omega arith; count_is = refl; sum_is = refl; greatest_is = refl })
 
-pub loop-number-preserved : goal.loop-number-preserved
-loop-number-preserved c =
+pub loop-packet-preserved : goal.loop-packet-preserved
+loop-packet-preserved c =
     let f = latency_at c.args.network.now in
-    let n = c.loop-number.number in
+    let n = c.loop-packet.packet in
     let before = filter_map f (below n) in
-    let so_far = c.loop-number.invariant in
+    let so_far = c.loop-packet.invariant in
     elim c.match-latency.branch [
       | in-Some w ↦ let x = w.in-Some.latency in
           let greater : c.match-latency.greatest ≡ greater_of (greatest_of before) x = rw (w.greatest-is, w.max.ensures, w.unwrap_or.ensures, so_far.greatest_is) refl in

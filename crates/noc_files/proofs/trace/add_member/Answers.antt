@@ -1,11 +1,11 @@
 use Rattle.std.proofs.Common.{◌∙◌, ℕ, zero, suc, ◌*◌, ◌/◌, ◌%◌, ◌<◌, ◌≤◌, List, [], ◌∷◌, arith, codes, decimal, refl, append_assoc}
 use Rattle.std.specs.Prelude.{if◌then◌else◌}
 use Rattle.noc_topo.specs.Shape.{ports}
-use Rattle.noc_route.proofs.PlaceLemmas.{index-port}
+use Rattle.noc_route.proofs.EntryLemmas.{index-port}
 use Rattle.noc_files.specs.Ports.{name_of_port}
-use Rattle.noc_files.specs.Word.{channel_text}
+use Rattle.noc_files.specs.Labels.{channel_text}
 use Rattle.noc_files.specs.Writing.{text_of_pieces}
-use Rattle.noc_files.proofs.WordLemmas.{name_known, word_read}
+use Rattle.noc_files.proofs.LabelLemmas.{name_known, label_read}
 use Rattle.noc_files.proofs.trace.add_member.Goals as goal
 
 -- where there are channels, each port has some
@@ -21,5 +21,5 @@ returns-clause-added c =
     let page = c.args.page.now in
     let gap : List ℕ = if c.args.has_some then codes " " else [] in
     let inside = index-port i (ports g * vcs) (ports g) vcs (some_each (ports g) vcs i c.requires.index) refl c.requires.index in
-    let is = word_read c.args.words.now.channels i c.index-words-index.result (channel_text g vcs (codes ".") i) (c.requires.words.channels.said i c.requires.few) ∙ name_known g (codes ".") (i / vcs) (i % vcs) inside in
-    rw (c.add_word.ensures.added, is, c.add_gap.ensures.added) (append_assoc page gap (text_of_pieces (name_of_port g (i / vcs) ∷ codes "." ∷ decimal (i % vcs) ∷ [])))
+    let is = label_read c.args.labels.now.channels i c.index-labels-index.result (channel_text g vcs (codes ".") i) (c.requires.labels.channels.said i c.requires.few) ∙ name_known g (codes ".") (i / vcs) (i % vcs) inside in
+    rw (c.add_label.ensures.added, is, c.add_gap.ensures.added) (append_assoc page gap (text_of_pieces (name_of_port g (i / vcs) ∷ codes "." ∷ decimal (i % vcs) ∷ [])))

@@ -1,5 +1,5 @@
 use Rattle.std.proofs.Common.{◌≡◌, ◌≤◌, ◌<◌, ◌+◌, ◌*◌, ◌-◌, ◌++◌, true, flat_map, length}
-use Rattle.noc_topo.specs.Words.{below}
+use Rattle.noc_topo.specs.Lists.{below}
 use Rattle.noc_packet.specs.Set.{has_bit}
 use Rattle.noc_files.specs.Trace.{has_below, member_text}
 use Rattle.noc_files.specs.declared.trace.TheConstants.{MEMBER}

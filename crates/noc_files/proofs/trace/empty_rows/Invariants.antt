@@ -1,5 +1,5 @@
 use Rattle.std.proofs.Common.{◌≡◌, map, replicate}
-use Rattle.noc_router.specs.Found.{empty_finding}
+use Rattle.noc_view.specs.Found.{empty_finding}
 use Rattle.noc_files.proofs.trace.empty_rows.Given as goal
 
 -- a row for each router so far

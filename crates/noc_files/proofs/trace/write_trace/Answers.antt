@@ -2,7 +2,7 @@ use Rattle.std.proofs.Common.{◌≡◌, ◌∙◌, ◌<◌, ◌≤◌, ◌+◌,
 use Rattle.std.specs.Prelude.{slice_get}
 use Rattle.std.specs.Io.KnownBytes.{Appends}
 use Rattle.std.proofs.lemmas.Result.{err_from_is_err_and}
-use Rattle.noc_topo.specs.Words.{below}
+use Rattle.noc_topo.specs.Lists.{below}
 use Rattle.noc_theory.specs.Lockstep.{findings_before}
 use Rattle.noc_theory.specs.Network.{Run, Setup}
 use Rattle.noc_files.specs.Trace.{cycle_text, trace_header}
@@ -23,9 +23,9 @@ returns-in_err-put_all-clause-text g c =
     let header : Wrote w.contents w.has_failed c.args.sink.now c.put_all.new.sink trace_header (Err e) = rw c.as_bytes.ensures.value at c.in_err-put_all.ensures in
     rw (p.1, p.2) (fault_front w.contents w.has_failed c.args.sink.now c.put_all.new.sink trace_header (flat_map (λ (k : ℕ). cycle_text u.net c.args.trace.0 u.count (u.count + k)) (below (u.count + c.args.cycles - u.count))) e header)
 
-pub loop-turn-init : goal.loop-turn-init
+pub loop-step-init : goal.loop-step-init
 unfolding trace_header
-loop-turn-init g c =
+loop-step-init g c =
     let w = g.W.Sink in
     let net = c.args.network.now.net in
     let traced = c.args.trace.0 in
@@ -44,10 +44,10 @@ loop-turn-init g c =
     }
 
 pub after-requires : goal.after-requires
-after-requires g c = omega (arith, c.loop-turn.invariant.short, c.in-Err.ensures.few, c.loop-turn-test.true, c.requires.cycles)
+after-requires g c = omega (arith, c.loop-step.invariant.short, c.in-Err.ensures.few, c.loop-step-test.true, c.requires.cycles)
 
 pub overflow_add-written : goal.overflow_add-written
-overflow_add-written g c = omega (arith, c.loop-turn.invariant.short, c.in-Ok.ensures.few, c.loop-turn-test.true, c.requires.cycles)
+overflow_add-written g c = omega (arith, c.loop-step.invariant.short, c.in-Ok.ensures.few, c.loop-step-test.true, c.requires.cycles)
 
 pub returns-in-Err-clause-text : goal.returns-in-Err-clause-text
 returns-in-Err-clause-text g c =
@@ -55,45 +55,45 @@ returns-in-Err-clause-text g c =
     let net = c.args.network.now.net in
     let traced = c.args.trace.0 in
     let first = c.args.network.now.count in
-    let inv = c.loop-turn.invariant in
-    let turn = c.loop-turn.turn in
+    let inv = c.loop-step.invariant in
+    let step = c.loop-step.step in
     let same : c.cycle.new.self.net ≡ net = ap (λ (u : Run). u.net) c.cycle.ensures.value ∙ inv.net in
-    let more : c.cycle.new.self.count ≡ c.loop-turn.network.count + 1 = ap (λ (u : Run). u.count) c.cycle.ensures.value in
-    let so_far : c.loop-turn.network.count ≡ first + turn = inv.count in
-    let at : c.count-first.result + turn ≡ first + turn = ap (λ k. k + turn) c.count-first.ensures.value in
-    let is = cycle_written c.cycle.new.self net c.loop-turn.trace.0 traced c.loop-turn.trace.1 first (first + turn) (c.count-first.result + turn) same inv.traced at (omega (arith, more, so_far)) inv.kept c.requires.router in
-    let inside : turn < first + c.args.cycles - first = omega (arith, c.loop-turn-test.true) in
+    let more : c.cycle.new.self.count ≡ c.loop-step.network.count + 1 = ap (λ (u : Run). u.count) c.cycle.ensures.value in
+    let so_far : c.loop-step.network.count ≡ first + step = inv.count in
+    let at : c.count-first.result + step ≡ first + step = ap (λ k. k + step) c.count-first.ensures.value in
+    let is = cycle_written c.cycle.new.self net c.loop-step.trace.0 traced c.loop-step.trace.1 first (first + step) (c.count-first.result + step) same inv.traced at (omega (arith, more, so_far)) inv.kept c.requires.router in
+    let inside : step < first + c.args.cycles - first = omega (arith, c.loop-step-test.true) in
     let e = c.in-Err.fault in
-    let next = subst (λ (t : List ℕ). Wrote w.contents w.has_failed c.loop-turn.sink c.put_cycle.new.sink t (Err e)) is c.in-Err.ensures.puts in
-    fault_at_number (λ (k : ℕ). cycle_text net traced first (first + k)) trace_header w.contents w.has_failed turn (first + c.args.cycles - first) c.loop-turn.written c.args.sink.now c.loop-turn.sink c.put_cycle.new.sink e c.after.result inside inv.took inv.counted next c.after.ensures
+    let next = subst (λ (t : List ℕ). Wrote w.contents w.has_failed c.loop-step.sink c.put_cycle.new.sink t (Err e)) is c.in-Err.ensures.puts in
+    fault_at_number (λ (k : ℕ). cycle_text net traced first (first + k)) trace_header w.contents w.has_failed step (first + c.args.cycles - first) c.loop-step.written c.args.sink.now c.loop-step.sink c.put_cycle.new.sink e c.after.result inside inv.took inv.counted next c.after.ensures
 
-pub loop-turn-preserved : goal.loop-turn-preserved
-loop-turn-preserved g c =
+pub loop-step-preserved : goal.loop-step-preserved
+loop-step-preserved g c =
     let w = g.W.Sink in
     let net = c.args.network.now.net in
     let traced = c.args.trace.0 in
     let first = c.args.network.now.count in
-    let inv = c.loop-turn.invariant in
-    let turn = c.loop-turn.turn in
+    let inv = c.loop-step.invariant in
+    let step = c.loop-step.step in
     let text : ℕ → List ℕ = λ k. cycle_text net traced first (first + k) in
     let same : c.cycle.new.self.net ≡ net = ap (λ (u : Run). u.net) c.cycle.ensures.value ∙ inv.net in
-    let more : c.cycle.new.self.count ≡ c.loop-turn.network.count + 1 = ap (λ (u : Run). u.count) c.cycle.ensures.value in
-    let so_far : c.loop-turn.network.count ≡ first + turn = inv.count in
-    let count : c.cycle.new.self.count ≡ first + turn + 1 = omega (arith, more, so_far) in
-    let at : c.count-first.result + turn ≡ first + turn = ap (λ k. k + turn) c.count-first.ensures.value in
-    let is = cycle_written c.cycle.new.self net c.loop-turn.trace.0 traced c.loop-turn.trace.1 first (first + turn) (c.count-first.result + turn) same inv.traced at count inv.kept c.requires.router in
-    let put = subst (Appends (w.contents c.loop-turn.sink) (w.contents c.put_cycle.new.sink)) is c.in-Ok.ensures.puts.1 in
-    let handed = Appends-keeps (w.contents c.loop-turn.sink) (w.contents c.put_cycle.new.sink) (w.contents c.hand_on.new.self) (text turn) put c.hand_on.ensures.bytes in
-    let begun : first ≤ first + turn = omega arith in
-    let later : first + turn + 1 ≡ first + (turn + 1) = omega arith in
-    let rows : (r : ℕ) → r < length c.loop-turn.trace.1 → slice_get c.keep.new.self.1 r ≡ Some (findings_before net (first + turn + 1) r) = λ r l. c.keep.ensures.rows r l ∙ ap Some (ap₂ (λ (z : Setup) k. findings_before z k r) same count) in
+    let more : c.cycle.new.self.count ≡ c.loop-step.network.count + 1 = ap (λ (u : Run). u.count) c.cycle.ensures.value in
+    let so_far : c.loop-step.network.count ≡ first + step = inv.count in
+    let count : c.cycle.new.self.count ≡ first + step + 1 = omega (arith, more, so_far) in
+    let at : c.count-first.result + step ≡ first + step = ap (λ k. k + step) c.count-first.ensures.value in
+    let is = cycle_written c.cycle.new.self net c.loop-step.trace.0 traced c.loop-step.trace.1 first (first + step) (c.count-first.result + step) same inv.traced at count inv.kept c.requires.router in
+    let put = subst (Appends (w.contents c.loop-step.sink) (w.contents c.put_cycle.new.sink)) is c.in-Ok.ensures.puts.1 in
+    let handed = Appends-keeps (w.contents c.loop-step.sink) (w.contents c.put_cycle.new.sink) (w.contents c.hand_on.new.self) (text step) put c.hand_on.ensures.bytes in
+    let begun : first ≤ first + step = omega arith in
+    let later : first + step + 1 ≡ first + (step + 1) = omega arith in
+    let rows : (r : ℕ) → r < length c.loop-step.trace.1 → slice_get c.keep.new.self.1 r ≡ Some (findings_before net (first + step + 1) r) = λ r l. c.keep.ensures.rows r l ∙ ap Some (ap₂ (λ (z : Setup) k. findings_before z k r) same count) in
     record {
       net = same;
       count = omega (arith, count);
       traced = c.keep.ensures.traced ∙ inv.traced;
-      kept = subst (λ n. IsKept net traced first n c.keep.new.self.1) later (next_kept net traced first (first + turn) c.loop-turn.trace.1 c.keep.new.self.1 begun inv.kept c.keep.ensures.many rows);
-      took = took_more text trace_header w.contents w.has_failed turn c.args.sink.now c.loop-turn.sink c.hand_on.new.self inv.took handed;
-      counted = long_more text trace_header turn c.loop-turn.written c.in-Ok.more inv.counted (c.in-Ok.ensures.puts.0 ∙ ap length is);
+      kept = subst (λ n. IsKept net traced first n c.keep.new.self.1) later (next_kept net traced first (first + step) c.loop-step.trace.1 c.keep.new.self.1 begun inv.kept c.keep.ensures.many rows);
+      took = took_more text trace_header w.contents w.has_failed step c.args.sink.now c.loop-step.sink c.hand_on.new.self inv.took handed;
+      counted = long_more text trace_header step c.loop-step.written c.in-Ok.more inv.counted (c.in-Ok.ensures.puts.0 ∙ ap length is);
       short = omega (arith, c.in-Ok.ensures.few, inv.short);
     }
 
@@ -102,5 +102,5 @@ returns-clause-text g c =
     let w = g.W.Sink in
     let u = c.args.network.now in
     let text : ℕ → List ℕ = λ cycles. trace_header ++ flat_map (λ (k : ℕ). cycle_text u.net c.args.trace.0 u.count (u.count + k)) (below cycles) in
-    let span : c.loop-turn.turn ≡ u.count + c.args.cycles - u.count = omega (arith, c.loop-turn-test.false) in
-    subst (λ cycles. Appends (w.contents c.args.sink.now) (w.contents c.loop-turn.sink) (text cycles)) span c.loop-turn.invariant.took
+    let span : c.loop-step.step ≡ u.count + c.args.cycles - u.count = omega (arith, c.loop-step-test.false) in
+    subst (λ cycles. Appends (w.contents c.args.sink.now) (w.contents c.loop-step.sink) (text cycles)) span c.loop-step.invariant.took

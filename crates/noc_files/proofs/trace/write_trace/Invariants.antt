@@ -1,18 +1,18 @@
 use Rattle.std.proofs.Common.{◌≡◌, ◌≤◌, ◌+◌, ◌*◌, ◌++◌, flat_map, length}
 use Rattle.std.specs.Io.KnownBytes.{Appends}
-use Rattle.noc_topo.specs.Words.{below}
+use Rattle.noc_topo.specs.Lists.{below}
 use Rattle.noc_files.specs.Trace.{cycle_text, trace_header}
 use Rattle.noc_files.specs.declared.pages.TheConstants.{LONGEST_TEXT}
 use Rattle.noc_files.proofs.TraceCycleLemmas.{IsKept}
 use Rattle.noc_files.proofs.trace.write_trace.Given as goal
 
-abbrev pub invariant-loop-turn : goal.invariant-loop-turn
-invariant-loop-turn g l = record {
+abbrev pub invariant-loop-step : goal.invariant-loop-step
+invariant-loop-step g l = record {
   net : l.network.net ≡ l.fn.network.net;
-  count : l.network.count ≡ l.fn.network.count + l.turn;
+  count : l.network.count ≡ l.fn.network.count + l.step;
   traced : l.trace.0 ≡ l.fn.trace.0;
-  kept : IsKept l.fn.network.net l.fn.trace.0 l.fn.network.count (l.fn.network.count + l.turn) l.trace.1;
-  took : Appends (g.W.Sink.contents l.fn.sink) (g.W.Sink.contents l.sink) (trace_header ++ flat_map (λ k. cycle_text l.fn.network.net l.fn.trace.0 l.fn.network.count (l.fn.network.count + k)) (below l.turn));
-  counted : l.written ≡ length (trace_header ++ flat_map (λ k. cycle_text l.fn.network.net l.fn.trace.0 l.fn.network.count (l.fn.network.count + k)) (below l.turn));
-  short : l.written ≤ LONGEST_TEXT * (l.turn + 1);
+  kept : IsKept l.fn.network.net l.fn.trace.0 l.fn.network.count (l.fn.network.count + l.step) l.trace.1;
+  took : Appends (g.W.Sink.contents l.fn.sink) (g.W.Sink.contents l.sink) (trace_header ++ flat_map (λ k. cycle_text l.fn.network.net l.fn.trace.0 l.fn.network.count (l.fn.network.count + k)) (below l.step));
+  counted : l.written ≡ length (trace_header ++ flat_map (λ k. cycle_text l.fn.network.net l.fn.trace.0 l.fn.network.count (l.fn.network.count + k)) (below l.step));
+  short : l.written ≤ LONGEST_TEXT * (l.step + 1);
 }

@@ -1,6 +1,6 @@
 use Rattle.std.proofs.Common.{◌≡◌, ◌+◌, length, subst, sym, arith}
 use Rattle.noc_topo.specs.Shape.{nodes}
-use Rattle.noc_router.specs.declared.verdict.Findings.TheVariants.{Leave}
+use Rattle.noc_view.specs.declared.finding.Recording.TheVariants.{Leave}
 use Rattle.noc_theory.specs.Halves.{ArePlaced}
 use Rattle.noc_theory.specs.Network.{Setup}
 use Rattle.noc_theory.specs.Unseen.{AreInStep}
@@ -37,7 +37,7 @@ deliver_all-requires-clause-routers c =
     let net : Setup = of_relation c.args.relation.now some.0 in
     let now : AreInStep net Leave c.args.cycle c.args.routers.now c.args.beats.now =
     to_relation (λ net. AreInStep net Leave c.args.cycle c.args.routers.now c.args.beats.now) c.args.relation.now some.0 some.1 some.2 in
-    subst (ArePlaced c.args.relation.now) (sym c.decide_all.ensures.routers) (in_step-placed net c.args.findings c.args.cycle c.args.routers.now c.args.beats.now now)
+    subst (ArePlaced c.args.relation.now) (sym c.decide_all.ensures.routers) (in_step-placed net c.args.recording c.args.cycle c.args.routers.now c.args.beats.now now)
 
 pub deliver_all-requires-clause-nodes : goal.deliver_all-requires-clause-nodes
 deliver_all-requires-clause-nodes c =
@@ -50,8 +50,8 @@ deliver_all-requires-clause-nodes c =
 pub returns-clause-in_step : goal.returns-clause-in_step
 returns-clause-in_step c = λ net is in_step.
     let count : length c.deliver_all.new.beats ≡ nodes c.args.relation.now.grid = omega (arith, c.deliver_all.auto.beats, c.decide_all.auto.beats, c.requires.count) in
-    from_relation (λ net. AreInStep net c.args.findings (c.args.cycle + 1) c.deliver_all.new.routers c.deliver_all.new.beats) c.args.relation.now net is
-    (next-in_step (of_relation c.args.relation.now net) c.args.findings c.args.cycle c.args.routers.now c.decide_all.new.routers c.deliver_all.new.routers c.args.beats.now c.deliver_all.new.beats
+    from_relation (λ net. AreInStep net c.args.recording (c.args.cycle + 1) c.deliver_all.new.routers c.deliver_all.new.beats) c.args.relation.now net is
+    (next-in_step (of_relation c.args.relation.now net) c.args.recording c.args.cycle c.args.routers.now c.decide_all.new.routers c.deliver_all.new.routers c.args.beats.now c.deliver_all.new.beats
     (to_relation (λ net. AreInStep net Leave c.args.cycle c.args.routers.now c.args.beats.now) c.args.relation.now net is in_step)
     c.decide_all.ensures.routers c.deliver_all.ensures.routers count c.deliver_all.ensures.beats)
 
@@ -60,8 +60,8 @@ returns-clause-routers c =
     let some = c.requires.in_step in
     let net : Setup = of_relation c.args.relation.now some.0 in
     let count : length c.deliver_all.new.beats ≡ nodes c.args.relation.now.grid = omega (arith, c.deliver_all.auto.beats, c.decide_all.auto.beats, c.requires.count) in
-    let next : AreInStep net c.args.findings (c.args.cycle + 1) c.deliver_all.new.routers c.deliver_all.new.beats =
-    next-in_step net c.args.findings c.args.cycle c.args.routers.now c.decide_all.new.routers c.deliver_all.new.routers c.args.beats.now c.deliver_all.new.beats
+    let next : AreInStep net c.args.recording (c.args.cycle + 1) c.deliver_all.new.routers c.deliver_all.new.beats =
+    next-in_step net c.args.recording c.args.cycle c.args.routers.now c.decide_all.new.routers c.deliver_all.new.routers c.args.beats.now c.deliver_all.new.beats
     (to_relation (λ net. AreInStep net Leave c.args.cycle c.args.routers.now c.args.beats.now) c.args.relation.now some.0 some.1 some.2)
     c.decide_all.ensures.routers c.deliver_all.ensures.routers count c.deliver_all.ensures.beats in
-    unseen-relation net (c.args.cycle + 1) c.deliver_all.new.routers c.deliver_all.new.beats (as-unseen net c.args.findings (c.args.cycle + 1) c.deliver_all.new.routers c.deliver_all.new.beats next)
+    unseen-relation net (c.args.cycle + 1) c.deliver_all.new.routers c.deliver_all.new.beats (as-unseen net c.args.recording (c.args.cycle + 1) c.deliver_all.new.routers c.deliver_all.new.beats next)

@@ -1,7 +1,7 @@
 use Rattle.std.proofs.Common.{ap, ◌∙◌}
-use Rattle.noc_router.specs.Finish.{view_after_finish}
-use Rattle.noc_router.specs.View.{View}
-use Rattle.noc_router.proofs.SiteLemmas.{all_taken-site}
+use Rattle.noc_view.specs.Finish.{view_after_finish}
+use Rattle.noc_view.specs.View.{View}
+use Rattle.noc_view.proofs.SiteLemmas.{all_taken-site}
 use Rattle.noc_theory.specs.Halves.{view_after_decide}
 use Rattle.noc_theory.proofs.runs.StepLemmas.{IsRelationOf-same_site}
 use Rattle.noc_net.proofs.cycles.decide.Goals as goal
@@ -13,4 +13,4 @@ finish-requires c =
 
 pub returns-clause-router : goal.returns-clause-router
 unfolding view_after_decide
-returns-clause-router c = c.finish.ensures ∙ ap (view_after_finish c.args.relation.now c.args.cycle c.args.findings) c.take_beats.ensures.router
+returns-clause-router c = c.finish.ensures ∙ ap (view_after_finish c.args.relation.now c.args.cycle c.args.recording) c.take_beats.ensures.router

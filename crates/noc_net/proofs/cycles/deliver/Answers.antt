@@ -3,7 +3,7 @@ use Rattle.std.proofs.lemmas.List.{length-set}
 use Rattle.noc_topo.specs.Shape.{Grid, IsGrid, local_port, neighbour}
 use Rattle.noc_packet.specs.Set.{has_bit}
 use Rattle.noc_packet.specs.declared.packet.Beat.{Beat}
-use Rattle.noc_router.specs.View.{Site, View, view_after_put, beat_to_put, idle_beat}
+use Rattle.noc_view.specs.View.{Site, View, view_after_put, beat_to_put, idle_beat}
 use Rattle.noc_theory.specs.Halves.{beat_at, sent_on}
 use Rattle.std.specs.Prelude.{◌&&◌, not, nat_eq}
 use Rattle.std.proofs.lemmas.Bool.{false≢true}

@@ -4,7 +4,7 @@ use Rattle.std.proofs.lemmas.Bool.{cases_eq, cases_lt, eq-eqb, le-ltb, lt-ltb, n
 use Rattle.std.proofs.lemmas.List.{get_or-map, get_or-set_other, get_or-set_same, get_or_default}
 use Rattle.noc_topo.specs.Shape.{neighbour}
 use Rattle.noc_packet.specs.declared.packet.Beat.{Beat}
-use Rattle.noc_router.specs.View.{View, beat_to_put, idle_beat}
+use Rattle.noc_view.specs.View.{View, beat_to_put, idle_beat}
 use Rattle.noc_theory.specs.Halves.{beat_at, view_after_puts, wire_after_puts}
 use Rattle.noc_theory.specs.Lockstep.{beat_from}
 use Rattle.noc_theory.proofs.runs.ListLemmas.{IsDoneTo, done_all-map}

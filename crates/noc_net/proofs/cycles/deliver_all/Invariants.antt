@@ -1,6 +1,6 @@
 use Rattle.std.proofs.Common.{◌≡◌, ℕ, ◌<◌, map}
 use Rattle.noc_topo.specs.Shape.{nodes, neighbour}
-use Rattle.noc_router.specs.View.{View}
+use Rattle.noc_view.specs.View.{View}
 use Rattle.noc_theory.specs.Halves.{beat_at, view_after_puts}
 use Rattle.noc_theory.proofs.runs.ListLemmas.{IsDoneTo}
 use Rattle.noc_theory.proofs.runs.WireLemmas.{put_by}

@@ -1,6 +1,6 @@
 use Rattle.std.proofs.Common.{◌≡◌, ◌-◌, ◌≤◌, length}
 use Rattle.noc_topo.specs.Shape.{nodes}
-use Rattle.noc_router.specs.declared.verdict.Findings.TheVariants.{Leave}
+use Rattle.noc_view.specs.declared.finding.Recording.TheVariants.{Leave}
 use Rattle.noc_theory.specs.Network.{Setup}
 use Rattle.noc_theory.specs.Unseen.{AreInStep}
 use Rattle.noc_net.proofs.cycles.skip.Given as goal

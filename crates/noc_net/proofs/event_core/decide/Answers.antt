@@ -2,7 +2,7 @@ use Rattle.std.proofs.Common.{◌≡◌, ◌-◌, ◌++◌, List, true, length, 
 use Rattle.noc_topo.specs.Shape.{local_port}
 use Rattle.noc_packet.specs.declared.packet.Beat.{Beat}
 use Rattle.noc_route.specs.Routes.{Routes}
-use Rattle.noc_router.specs.View.{Site, View, idle_beat, local_step}
+use Rattle.noc_view.specs.View.{Site, View, idle_beat, local_step}
 use Rattle.noc_theory.specs.Core.{post_after_last_put}
 use Rattle.noc_net.specs.Room.{post_of, unput_for, wires_in}
 use Rattle.noc_theory.proofs.runs.PostLemmas.{same_post}

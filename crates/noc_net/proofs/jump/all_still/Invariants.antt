@@ -1,6 +1,6 @@
 use Rattle.std.proofs.Common.{◌≡◌, ℕ, ◌<◌, false, get_or}
-use Rattle.noc_router.specs.Still.{takes_effect}
-use Rattle.noc_router.specs.View.{View}
+use Rattle.noc_view.specs.Still.{takes_effect}
+use Rattle.noc_view.specs.View.{View}
 use Rattle.noc_net.proofs.jump.all_still.Given as goal
 
 -- no router so far has a verdict that takes effect

@@ -1,7 +1,7 @@
 use Rattle.std.proofs.Common.{ℕ, ◌<◌, ◌≤◌, get_or}
 use Rattle.std.specs.Prelude.{All}
-use Rattle.noc_router.specs.Still.{IsHeldBefore}
-use Rattle.noc_router.specs.View.{View}
+use Rattle.noc_view.specs.Still.{IsHeldBefore}
+use Rattle.noc_view.specs.View.{View}
 use Rattle.noc_net.proofs.jump.first_injection.Given as goal
 
 -- no router so far injects before, and one does then, or it is the end

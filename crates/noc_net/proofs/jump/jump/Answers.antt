@@ -1,6 +1,6 @@
 use Rattle.std.proofs.Common.{◌+◌, ◌<◌, arith, subst, sym}
 use Rattle.noc_theory.specs.Network.{Setup}
-use Rattle.noc_router.specs.declared.verdict.Findings.TheVariants.{Leave}
+use Rattle.noc_view.specs.declared.finding.Recording.TheVariants.{Leave}
 use Rattle.noc_theory.specs.Unseen.{AreInStep}
 use Rattle.noc_theory.proofs.runs.StillRunLemmas.{still-wait}
 use Rattle.noc_theory.proofs.runs.UnseenLemmas.{of_relation, to_relation, from_relation}

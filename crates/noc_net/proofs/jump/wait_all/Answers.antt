@@ -1,6 +1,6 @@
 use Rattle.std.proofs.Common.{◌≡◌, ℕ, ◌-◌, length, subst, arith}
-use Rattle.noc_router.specs.Still.{view_after_waiting}
-use Rattle.noc_router.specs.View.{View}
+use Rattle.noc_view.specs.Still.{view_after_waiting}
+use Rattle.noc_view.specs.View.{View}
 use Rattle.noc_theory.proofs.runs.ListLemmas.{IsDoneTo, done_all-map}
 use Rattle.noc_net.proofs.jump.wait_all.Goals as goal
 

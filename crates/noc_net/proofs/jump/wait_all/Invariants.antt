@@ -1,6 +1,6 @@
 use Rattle.std.proofs.Common.{ℕ, ◌-◌}
-use Rattle.noc_router.specs.Still.{view_after_waiting}
-use Rattle.noc_router.specs.View.{View}
+use Rattle.noc_view.specs.Still.{view_after_waiting}
+use Rattle.noc_view.specs.View.{View}
 use Rattle.noc_theory.proofs.runs.ListLemmas.{IsDoneTo}
 use Rattle.noc_net.proofs.jump.wait_all.Given as goal
 

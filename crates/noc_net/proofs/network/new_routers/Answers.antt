@@ -1,10 +1,10 @@
 use Rattle.std.proofs.Common.{◌≡◌, ℕ, List, [], ◌∷◌, ◌++◌, ap, sym, subst, ◌∙◌}
 use Rattle.std.specs.List.{All}
-use Rattle.noc_topo.specs.Words.{tabulate}
+use Rattle.noc_topo.specs.Lists.{tabulate}
 use Rattle.noc_packet.specs.declared.packet.Packet.{Packet}
-use Rattle.noc_router.specs.Start.{IsNumberedPacket}
-use Rattle.noc_router.specs.View.{Site, View, opening_view}
-use Rattle.noc_theory.specs.Lockstep.{starts_of, ends_of}
+use Rattle.noc_view.specs.Start.{IsNumberedPacket}
+use Rattle.noc_view.specs.View.{Site, View, opening_view}
+use Rattle.noc_packet.specs.ByNode.{starts_of, ends_of}
 use Rattle.noc_theory.proofs.runs.RunLemmas.{tabulate_none, tabulate_more}
 use Rattle.noc_net.proofs.PacketLemmas.{numbered-starts}
 use Rattle.noc_net.proofs.network.new_routers.Goals as goal
@@ -18,7 +18,7 @@ new-requires-clause-starts c =
 
 pub loop-node-preserved : goal.loop-node-preserved
 loop-node-preserved c =
-    let site = λ (node : ℕ). (let s : Site = record { grid = c.args.relation.now.grid; node = node; vcs = c.args.relation.now.vcs; places = c.args.places } in s) in
+    let site = λ (node : ℕ). (let s : Site = record { grid = c.args.relation.now.grid; node = node; vcs = c.args.relation.now.vcs; depth = c.args.depth } in s) in
     let made = λ (node : ℕ). opening_view (site node) (starts_of c.args.packets.now node) (ends_of c.args.packets.now node) in
     let here : c.in_ok-new.field-0 ≡ made c.loop-node.node =
     c.in_ok-new.ensures

@@ -1,7 +1,7 @@
 use Rattle.std.proofs.Common.{◌≡◌, List, get_or, replicate, ap, ◌∙◌, arith, rules}
 use Rattle.std.proofs.lemmas.List.{get_or-replicate}
 use Rattle.noc_packet.specs.declared.packet.Beat.{Beat}
-use Rattle.noc_router.specs.View.{idle_beat}
+use Rattle.noc_view.specs.View.{idle_beat}
 use Rattle.noc_theory.proofs.runs.WireLemmas.{get_or-idle}
 use Rattle.noc_net.proofs.network.new_state.Goals as goal
 

@@ -1,8 +1,7 @@
 use Rattle.std.proofs.Common.{◌≡◌, ℕ, ◌<◌, true, get_or}
 use Rattle.std.specs.Prelude.{not}
 use Rattle.noc_packet.specs.Set.{has_bit}
-use Rattle.noc_router.specs.Links.{is_idle_beat}
-use Rattle.noc_router.specs.View.{idle_beat}
+use Rattle.noc_view.specs.View.{is_idle_beat, idle_beat}
 use Rattle.noc_net.proofs.takes.arrived.Given as goal
 
 -- the ports so far

@@ -5,10 +5,8 @@ use Rattle.std.proofs.lemmas.List.{length-set}
 use Rattle.noc_topo.specs.Shape.{local_port}
 use Rattle.noc_packet.specs.Set.{has_bit}
 use Rattle.noc_packet.specs.declared.packet.Beat.{Beat}
-use Rattle.noc_router.specs.Links.{is_idle_beat}
-use Rattle.noc_router.specs.View.{View, view_after_takes, idle_beat}
+use Rattle.noc_view.specs.View.{is_idle_beat, view_after_takes, idle_beat}
 use Rattle.noc_alloc.proofs.RequestLemmas.{least_member, none_left}
-use Rattle.noc_router.proofs.SiteLemmas.{taken-site}
 use Rattle.noc_theory.specs.Halves.{incoming}
 use Rattle.noc_theory.proofs.runs.StepLemmas.{taken_end, IsRelationOf-same_site}
 use Rattle.noc_theory.proofs.runs.TakeAheadLemmas.{taken_ahead}
@@ -52,13 +50,13 @@ loop-port-preserved c =
     let within : port < length beats = omega (arith, here.0, c.loop-port.invariant.count) in
     record {
       built_for = IsRelationOf-same_site relation c.loop-port.router c.take.new.self
-          (ap (λ (v : View). v.site) c.take.ensures ∙ taken-site relation port _ c.loop-port.router) c.loop-port.invariant.built_for;
+          c.take.ensures.site c.loop-port.invariant.built_for;
       below = λ p on. c.loop-port.invariant.below p (kept p on);
       count = length-set beats port c.idle.result ∙ c.loop-port.invariant.count;
       left = subst (λ (beat : Beat). AreLeft c.without-rest.result c.args.beats.now (set beats port beat)) (sym c.idle.ensures)
           (left-more c.loop-port.rest c.without-rest.result port c.args.beats.now beats c.without-rest.ensures.members within c.loop-port.invariant.left);
       taken = ap (λ (beat : Beat). view_after_takes relation (incoming relation.grid (set beats port beat)) c.take.new.self) c.idle.ensures
-          ∙ ap (view_after_takes relation (incoming relation.grid (set beats port idle_beat))) c.take.ensures
+          ∙ ap (view_after_takes relation (incoming relation.grid (set beats port idle_beat))) c.take.ensures.view
           ∙ taken_ahead relation relation.grid beats port c.loop-port.router here.1 within
           ∙ c.loop-port.invariant.taken;
     }

@@ -1,7 +1,7 @@
 use Rattle.std.proofs.Common.{◌≡◌, ℕ, ◌<◌, true, length}
 use Rattle.noc_topo.specs.Shape.{local_port}
 use Rattle.noc_packet.specs.Set.{has_bit}
-use Rattle.noc_router.specs.View.{IsRelationOf, view_after_takes}
+use Rattle.noc_view.specs.View.{IsRelationOf, view_after_takes}
 use Rattle.noc_theory.specs.Halves.{incoming}
 use Rattle.noc_theory.proofs.runs.WireLemmas.{AreLeft}
 use Rattle.noc_net.proofs.takes.take_beats.Given as goal

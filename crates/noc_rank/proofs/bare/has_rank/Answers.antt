@@ -4,7 +4,7 @@ use Rattle.std.proofs.lemmas.Bool.{cases_lt, false≢true}
 use Rattle.noc_rank.specs.NoEscape.{IsRankedIn}
 use Rattle.std.proofs.Math.Nat.{mul-le-mul_right}
 use Rattle.noc_topo.specs.Shape.{local_port}
-use Rattle.noc_rank.proofs.PlaceLemmas.{index-known, index-few}
+use Rattle.noc_rank.proofs.IndexLemmas.{index-known, index-few}
 use Rattle.noc_rank.proofs.bare.has_rank.Goals as goal
 use Rattle.noc_rank.proofs.bare.has_rank.Goals.{else-contains-via-then-contains+else-is_some, else-contains-via-else-contains}
 

@@ -5,11 +5,11 @@ use Rattle.noc_rank.specs.declared.ahead.RankList.{RankList}
 use Rattle.noc_rank.proofs.DescentLemmas.{no-start, some-end, start-link, start-inside, end-inside, descent-found}
 use Rattle.noc_rank.proofs.descent.descent_in.Goals as goal
 
--- the first place of a list from which packets come on to one of no greater rank
+-- the first index of a list from which packets come on to one of no greater rank
 abbrev Starts : RankList → Option ℕ → Type 0
 Starts list = IsLeastOf (IsOver list.relation.now (IsStartBy list.relation.now list.ranks.now))
 
--- the first place to which they come on from there, by marks
+-- the first index to which they come on from there, by marks
 abbrev Ends : RankList → ℕ → List (Option ℕ) → Option ℕ → Type 0
 Ends list start marks = IsLeastOf (IsOver list.relation.now (λ m t n. IsAheadAt list.relation.now list.ranks.now marks m t start n))
 

@@ -1,6 +1,6 @@
 use Rattle.std.proofs.Common.{◌≡◌, ◌/◌, ◌<◌, ℕ, sym, ap, subst, ◌∙◌, arith}
 use Rattle.noc_topo.specs.Shape.{nodes, ports}
-use Rattle.noc_route.proofs.PlaceLemmas.{pair-second}
+use Rattle.noc_route.proofs.EntryLemmas.{pair-second}
 use Rattle.noc_rank.proofs.FallLemmas.{class-below, first_at-match}
 use Rattle.noc_rank.proofs.rising.first_at.Goals as goal
 

@@ -10,14 +10,14 @@ use Rattle.noc_route.proofs.enter.enter_named.Goals as goal
 
 pub fill-requires : goal.fill-requires
 fill-requires c =
-    let w = width c.args.routing.now.map.now.frame.shape c.args.routing.now.map.now.frame.vcs in
-    let row : (c.loop-page.page + 1) * w ≤ pages c.args.routing.now.map.now.frame.shape c.args.routing.now.map.now.frame.classes * w
-    = mul-le-mul_right {m = c.loop-page.page + 1} {n = pages c.args.routing.now.map.now.frame.shape c.args.routing.now.map.now.frame.classes} w (omega (arith, c.pages-page-end.ensures.value)) in
+    let w = width c.args.routing.now.map.now.sizes.shape c.args.routing.now.map.now.sizes.vcs in
+    let row : (c.loop-page.page + 1) * w ≤ pages c.args.routing.now.map.now.sizes.shape c.args.routing.now.map.now.sizes.classes * w
+    = mul-le-mul_right {m = c.loop-page.page + 1} {n = pages c.args.routing.now.map.now.sizes.shape c.args.routing.now.map.now.sizes.classes} w (omega (arith, c.pages-page-end.ensures.value)) in
     rw c.width-width.ensures.value (omega (arith, row, c.loop-page.auto.sets, c.requires))
 
 pub loop-page-preserved : goal.loop-page-preserved
 loop-page-preserved c =
-    let f = c.args.routing.now.map.now.frame in
+    let f = c.args.routing.now.map.now.sizes in
     let w = width f.shape f.vcs in
     let led = λ (m r t k : ℕ). nat_lt k w && is_led (routing_in f c.args.routing.now.rule.now) m r t (k / f.vcs) (k % f.vcs) in
     let b = c.loop-page.page in

@@ -9,7 +9,7 @@ use Rattle.noc_route.proofs.enter.enter_named.Given as goal
 
 abbrev pub invariant-loop-page : goal.invariant-loop-page
 invariant-loop-page l =
-    let f = l.routing.map.now.frame in
+    let f = l.routing.map.now.sizes in
     AreEntered (routes_in f l.sets) l.sets
     (λ b k. nat_lt k (width f.shape f.vcs) && is_led (routing_in f l.routing.rule.now) (page_class f.shape f.classes b) (page_router f.shape f.classes b) (page_dst f.shape b) (k / f.vcs) (k % f.vcs))
     l.page

@@ -4,4 +4,4 @@ use Rattle.noc_route.specs.Gathering.{AreOutsFrom}
 use Rattle.noc_route.proofs.gather.gather.Given as goal
 
 abbrev pub invariant-loop-step : goal.invariant-loop-step
-invariant-loop-step l = AreOutsFrom (routes_in l.map.frame l.sets) (31 - l.step) l.outs
+invariant-loop-step l = AreOutsFrom (routes_in l.map.sizes l.sets) (31 - l.step) l.outs

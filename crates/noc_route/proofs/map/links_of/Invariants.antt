@@ -4,4 +4,4 @@ use Rattle.noc_route.proofs.map.links_of.Given as goal
 
 abbrev pub invariant-loop-i : goal.invariant-loop-i
 invariant-loop-i l =
-    (vec_len l.links ≡ l.i) × ((k : ℕ) → k < l.i → get_or l.links.items k None ≡ neighbour l.frame.shape (k / ports l.frame.shape) (k % ports l.frame.shape))
+    (vec_len l.links ≡ l.i) × ((k : ℕ) → k < l.i → get_or l.links.items k None ≡ neighbour l.sizes.shape (k / ports l.sizes.shape) (k % ports l.sizes.shape))

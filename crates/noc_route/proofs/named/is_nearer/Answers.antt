@@ -4,10 +4,10 @@ use Rattle.noc_route.proofs.named.is_nearer.Goals as goal
 
 pub returns-then-goes_up : goal.returns-then-goes_up
 returns-then-goes_up c = λ r t e f.
-    nearer-found c.args.map.now.frame.shape c.args.here.now c.args.there.now c.args.map.now.last r t c.args.port _ c.args.map.now.frame.grid e f c.args.map.now.corner c.requires.port
+    nearer-found c.args.map.now.sizes.shape c.args.here.now c.args.there.now c.args.map.now.last r t c.args.port _ c.args.map.now.sizes.grid e f c.args.map.now.corner c.requires.port
     c.if-here-i.false (sym c.goes_up.ensures ∙ c.if-goes_up.true)
 
 pub returns-else-goes_up : goal.returns-else-goes_up
 returns-else-goes_up c = λ r t e f.
-    nearer-found c.args.map.now.frame.shape c.args.here.now c.args.there.now c.args.map.now.last r t c.args.port _ c.args.map.now.frame.grid e f c.args.map.now.corner c.requires.port
+    nearer-found c.args.map.now.sizes.shape c.args.here.now c.args.there.now c.args.map.now.last r t c.args.port _ c.args.map.now.sizes.grid e f c.args.map.now.corner c.requires.port
     c.if-here-i.false (sym c.goes_up.ensures ∙ c.if-goes_up.false)

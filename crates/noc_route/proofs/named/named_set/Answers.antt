@@ -15,7 +15,7 @@ with-set-requires c = omega (arith, c.loop-channel-test.true, c.width-channel-en
 
 pub loop-channel-preserved : goal.loop-channel-preserved
 loop-channel-preserved c = λ k.
-    let led = λ (k : ℕ). is_led (routing_in c.args.routing.now.map.now.frame c.args.routing.now.rule.now) c.args.class c.args.router c.args.dst (k / c.args.routing.now.map.now.frame.vcs) (k % c.args.routing.now.map.now.frame.vcs) in
+    let led = λ (k : ℕ). is_led (routing_in c.args.routing.now.map.now.sizes c.args.routing.now.rule.now) c.args.class c.args.router c.args.dst (k / c.args.routing.now.map.now.sizes.vcs) (k % c.args.routing.now.map.now.sizes.vcs) in
     elim c.if-leads.branch [
       | then-leads w ↦ ap (λ set. has_bit set k) w.set-is ∙ w.with-set.ensures.members k
           ∙ ap (λ b. nat_eq k c.loop-channel.channel || b) (c.loop-channel.invariant k)
@@ -30,6 +30,6 @@ loop-channel-preserved c = λ k.
 
 pub returns : goal.returns
 returns c = λ k.
-    let end : c.loop-channel.channel ≡ width c.args.routing.now.map.now.frame.shape c.args.routing.now.map.now.frame.vcs = omega (arith, c.width-channel-end.ensures.value) in
+    let end : c.loop-channel.channel ≡ width c.args.routing.now.map.now.sizes.shape c.args.routing.now.map.now.sizes.vcs = omega (arith, c.width-channel-end.ensures.value) in
     c.loop-channel.invariant k
-    ∙ ap (λ n. nat_lt k n && is_led (routing_in c.args.routing.now.map.now.frame c.args.routing.now.rule.now) c.args.class c.args.router c.args.dst (k / c.args.routing.now.map.now.frame.vcs) (k % c.args.routing.now.map.now.frame.vcs)) end
+    ∙ ap (λ n. nat_lt k n && is_led (routing_in c.args.routing.now.map.now.sizes c.args.routing.now.rule.now) c.args.class c.args.router c.args.dst (k / c.args.routing.now.map.now.sizes.vcs) (k % c.args.routing.now.map.now.sizes.vcs)) end

@@ -11,7 +11,7 @@ pub loop-port-preserved : goal.loop-port-preserved
 loop-port-preserved c = record {
   all = length-set c.loop-port.nearer c.loop-port.port c.is_nearer.result ∙ c.loop-port.invariant.all;
   values = λ r t e f.
-      let is = λ (k : ℕ). is_nearer c.args.map.now.frame.shape (coordinates c.args.map.now.frame.shape.radix r) (coordinates c.args.map.now.frame.shape.radix t) k in
+      let is = λ (k : ℕ). is_nearer c.args.map.now.sizes.shape (coordinates c.args.map.now.sizes.shape.radix r) (coordinates c.args.map.now.sizes.shape.radix t) k in
       below_more (λ k. slice_index_or (slice_set c.loop-port.nearer c.loop-port.port c.is_nearer.result) k false ≡ is k) c.loop-port.port
       (λ k l. get_or-set_other c.loop-port.nearer c.loop-port.port k c.is_nearer.result false (λ s. omega arith) ∙ c.loop-port.invariant.values r t e f k l)
       (get_or-set_same c.loop-port.nearer c.loop-port.port c.is_nearer.result false (omega (arith, c.loop-port.invariant.all)) ∙ c.is_nearer.ensures r t e f);
@@ -19,6 +19,6 @@ loop-port-preserved c = record {
 
 pub returns : goal.returns
 returns c = λ r t e f port.
-    let past : 6 ≤ port → slice_index_or c.loop-port.nearer port false ≡ is_nearer c.args.map.now.frame.shape (coordinates c.args.map.now.frame.shape.radix r) (coordinates c.args.map.now.frame.shape.radix t) port
-    = λ many. get_or_past c.loop-port.nearer port false (omega (arith, c.loop-port.invariant.all)) ∙ sym (nearer-past c.args.map.now.frame.shape r t port c.args.map.now.frame.grid many) in
+    let past : 6 ≤ port → slice_index_or c.loop-port.nearer port false ≡ is_nearer c.args.map.now.sizes.shape (coordinates c.args.map.now.sizes.shape.radix r) (coordinates c.args.map.now.sizes.shape.radix t) port
+    = λ many. get_or_past c.loop-port.nearer port false (omega (arith, c.loop-port.invariant.all)) ∙ sym (nearer-past c.args.map.now.sizes.shape r t port c.args.map.now.sizes.grid many) in
     elim (cases_lt port 6) [ inl few ↦ c.loop-port.invariant.values r t e f port (omega arith) | inr many ↦ past many ]

@@ -9,12 +9,12 @@ use Rattle.noc_route.specs.Trimming.{routes_in}
 use Rattle.noc_route.specs.declared.rule.Rule.{Rule}
 use Rattle.noc_route.specs.declared.rule.Rule.TheVariants.{Rows}
 use Rattle.noc_route.proofs.EnterLemmas.{IsEntered-from_pages, leads-named, rows_of-none}
-use Rattle.noc_route.proofs.PlaceLemmas.{zeros-length}
+use Rattle.noc_route.proofs.EntryLemmas.{zeros-length}
 use Rattle.noc_route.proofs.relation.enter.Goals as goal
 
 pub returns-in_default-first_fault-clause-entered : goal.returns-in_default-first_fault-clause-entered
 returns-in_default-first_fault-clause-entered c =
-    let f = c.args.routing.now.map.now.frame in
+    let f = c.args.routing.now.map.now.sizes in
     let routes = routes_in f c.enter_rows.new.sets in
     let P : Rule → Type 0 = λ rule. IsEntered (routing_in f rule) routes in
     subst P (sym c.in-Rows.is)
@@ -26,7 +26,7 @@ returns-in_default-clause-ok c = rw (rows_of-none c.args.routing.now.rule.now c.
 
 pub returns-in_default-clause-entered : goal.returns-in_default-clause-entered
 returns-in_default-clause-entered c =
-    let f = c.args.routing.now.map.now.frame in
+    let f = c.args.routing.now.map.now.sizes in
     let routes = routes_in f c.enter_named.new.sets in
     let w = width f.shape f.vcs in
     IsEntered-from_pages (routing_in f c.args.routing.now.rule.now) routes
@@ -39,20 +39,20 @@ returns-in_default-clause-entered c =
 
 pub returns-in-Some-clause-err : goal.returns-in-Some-clause-err
 returns-in-Some-clause-err c =
-    let f = c.args.routing.now.map.now.frame in
+    let f = c.args.routing.now.map.now.sizes in
     let P : List RouteRow → Type 0 = λ rows. IsFirstFault f.shape f.vcs f.classes rows c.in-Some.fault in
     subst P (c.deref.ensures.value ∙ sym (ap table_rows_of c.in-Rows.is)) c.in-Some.ensures.some
 
 pub enter_rows-requires-clause-rows : goal.enter_rows-requires-clause-rows
 enter_rows-requires-clause-rows c =
-    let f = c.args.routing.now.map.now.frame in
+    let f = c.args.routing.now.map.now.sizes in
     let P : List RouteRow → Type 0 = λ rows. All (λ row. row_fault f.shape f.vcs f.classes row ≡ None) rows in
     let none = subst P (c.deref.ensures.value ∙ sym c.deref-in-Rows.ensures.value) c.in_default-first_fault.ensures.none in
     λ k d l. real-from_none f.shape f.vcs f.classes _ (none k d l)
 
 pub returns-in_default-first_fault-clause-ok : goal.returns-in_default-first_fault-clause-ok
 returns-in_default-first_fault-clause-ok c =
-    let f = c.args.routing.now.map.now.frame in
+    let f = c.args.routing.now.map.now.sizes in
     let P : List RouteRow → Type 0 = λ rows. All (λ row. row_fault f.shape f.vcs f.classes row ≡ None) rows in
     subst P (c.deref.ensures.value ∙ sym (ap table_rows_of c.in-Rows.is)) c.in_default-first_fault.ensures.none
 

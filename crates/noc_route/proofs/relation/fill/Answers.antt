@@ -2,7 +2,7 @@ use Rattle.std.proofs.Common.{◌∙◌, ℕ, length, subst, arith}
 use Rattle.std.proofs.lemmas.Result.{err_from_is_err_and}
 use Rattle.noc_route.specs.Entered.{routing_in}
 use Rattle.noc_route.specs.Trimming.{routes_in, IsStuckFirst}
-use Rattle.noc_route.proofs.PlaceLemmas.{zeros-length, zeros-at}
+use Rattle.noc_route.proofs.EntryLemmas.{zeros-length, zeros-at}
 use Rattle.noc_route.proofs.BuiltLemmas.{ComesNearer-entered}
 use Rattle.noc_route.proofs.TrimLemmas.{outs-none}
 use Rattle.noc_route.proofs.NoWayLemmas.{IsFaultOf-row, IsMade-steps, IsRelationOfRule-made, IsFirstNoWay-stuck, IsUnstuck-none}
@@ -11,27 +11,27 @@ use Rattle.noc_route.proofs.relation.fill.Goals as goal
 pub returns-in_err-enter : goal.returns-in_err-enter
 returns-in_err-enter c =
     let p = err_from_is_err_and c.from_residual.result c.from_residual.ensures.1 in
-    rw (p.1, p.2) (IsFaultOf-row (routing_in c.args.routing.now.map.now.frame c.args.routing.now.rule.now) c.in_err-enter.field-0.0 c.args.routing.now.right c.in_err-enter.ensures.err)
+    rw (p.1, p.2) (IsFaultOf-row (routing_in c.args.routing.now.map.now.sizes c.args.routing.now.rule.now) c.in_err-enter.field-0.0 c.args.routing.now.right c.in_err-enter.ensures.err)
 
 pub gather-requires-clause-outs : goal.gather-requires-clause-outs
-gather-requires-clause-outs c = outs-none (routes_in c.args.routing.now.map.now.frame c.enter.new.sets) c.args.outs.now (zeros-length _ _ c.requires.outs) (zeros-at _ _ c.requires.outs)
+gather-requires-clause-outs c = outs-none (routes_in c.args.routing.now.map.now.sizes c.enter.new.sets) c.args.outs.now (zeros-length _ _ c.requires.outs) (zeros-at _ _ c.requires.outs)
 
 pub gather-requires-clause-nearer : goal.gather-requires-clause-nearer
 gather-requires-clause-nearer c =
-    ComesNearer-entered (routing_in c.args.routing.now.map.now.frame c.args.routing.now.rule.now) c.enter.new.sets
-    (record { grid = c.args.routing.now.map.now.frame.grid; right = c.args.routing.now.right; rows = c.in_ok-enter.ensures.ok }) c.in_ok-enter.ensures.entered
+    ComesNearer-entered (routing_in c.args.routing.now.map.now.sizes c.args.routing.now.rule.now) c.enter.new.sets
+    (record { grid = c.args.routing.now.map.now.sizes.grid; right = c.args.routing.now.right; rows = c.in_ok-enter.ensures.ok }) c.in_ok-enter.ensures.entered
 
 pub returns-in-Some : goal.returns-in-Some
 returns-in-Some c =
-    let g = routing_in c.args.routing.now.map.now.frame c.args.routing.now.rule.now in
-    let made = IsMade-steps g c.enter.new.sets c.trim.new.sets c.gather.new.outs c.args.routing.now.map.now.frame.grid c.args.routing.now.right c.in_ok-enter.ensures.ok c.in_ok-enter.ensures.entered
+    let g = routing_in c.args.routing.now.map.now.sizes c.args.routing.now.rule.now in
+    let made = IsMade-steps g c.enter.new.sets c.trim.new.sets c.gather.new.outs c.args.routing.now.map.now.sizes.grid c.args.routing.now.right c.in_ok-enter.ensures.ok c.in_ok-enter.ensures.entered
     c.gather.ensures.lists.sound (λ m r t place. c.gather.ensures.full m r t place (omega arith)) c.trim.ensures.left in
-    let P : ℕ → Type 0 = λ n. IsStuckFirst (routes_in c.args.routing.now.map.now.frame c.trim.new.sets) c.gather.new.outs n c.in-Some.entry in
+    let P : ℕ → Type 0 = λ n. IsStuckFirst (routes_in c.args.routing.now.map.now.sizes c.trim.new.sets) c.gather.new.outs n c.in-Some.entry in
     IsFirstNoWay-stuck g c.enter.new.sets c.trim.new.sets c.gather.new.outs c.in-Some.entry made (subst P (c.enter.auto.sets ∙ zeros-length _ _ c.requires.sets) c.in-Some.ensures.first)
 
 pub returns-in-None : goal.returns-in-None
 returns-in-None c =
-    let f = c.args.routing.now.map.now.frame in
+    let f = c.args.routing.now.map.now.sizes in
     let g = routing_in f c.args.routing.now.rule.now in
     let made = IsMade-steps g c.enter.new.sets c.trim.new.sets c.gather.new.outs f.grid c.args.routing.now.right c.in_ok-enter.ensures.ok c.in_ok-enter.ensures.entered
     c.gather.ensures.lists.sound (λ m r t place. c.gather.ensures.full m r t place (omega arith)) c.trim.ensures.left in

@@ -17,7 +17,7 @@ returns-in_err-outs c = let p = err_from_is_err_and c.from_residual-in_err-outs.
 
 pub fill-requires-clause-sets : goal.fill-requires-clause-sets
 fill-requires-clause-sets c =
-    let f = c.args.routing.now.map.now.frame in
+    let f = c.args.routing.now.map.now.sizes in
     let zeros : c.in_ok-sets.sets.items ≡ replicate (c.pages-pages.result * c.width.result) 0 = (rw c.empty.ensures.bits at c.in_ok-sets.ensures.items_if_clones_equal) (λ _ same. same) in
     c.deref_mut.ensures.value ∙ zeros
     ∙ ap (λ (n : ℕ). replicate n 0) (ap (λ a. a * c.width.result) c.pages-pages.ensures.value ∙ ap (λ b. pages f.shape f.classes * b) c.width.ensures.value)

@@ -3,7 +3,7 @@ use Rattle.std.proofs.lemmas.Bool.{and_parts}
 use Rattle.std.proofs.lemmas.List.{length-set}
 use Rattle.noc_packet.specs.Set.{has_bit}
 use Rattle.noc_router.specs.Sound.{nth_input, finding_with}
-use Rattle.noc_router.specs.declared.verdict.Finding.{Finding}
+use Rattle.noc_view.specs.declared.finding.Finding.{Finding}
 use Rattle.noc_router.proofs.TallyLemmas.{left-first, left-more, shown-first, shown-last, shown-more}
 use Rattle.noc_router.proofs.findings.show_each.Goals as goal
 

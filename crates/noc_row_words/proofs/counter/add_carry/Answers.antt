@@ -3,7 +3,7 @@ use Rattle.std.proofs.lemmas.List.{length-set}
 use Rattle.std.specs.Prelude.{slice_set}
 use Rattle.std.specs.Int.{bit_at, trailing_ones}
 use Rattle.std.proofs.lemmas.Nat.Bits.{bit_at-trailing_ones}
-use Rattle.noc_counts.specs.Counts.{one_if}
+use Rattle.noc_topo.specs.Lists.{one_if}
 use Rattle.noc_packet.specs.Set.{has_bit}
 use Rattle.noc_row_words.specs.Rows.{word}
 use Rattle.noc_row_words.specs.Sheet.{at_level, number_by}

@@ -2,8 +2,8 @@ use Rattle.std.proofs.Common.{◌≡◌, ◌+◌, ◌*◌, ◌<◌, Bool, true, 
 use Rattle.std.specs.Prelude.{◌||◌}
 use Rattle.std.proofs.lemmas.Bool.{and_parts}
 use Rattle.noc_packet.specs.Set.{has_bit}
-use Rattle.noc_router.specs.Found.{empty_finding}
-use Rattle.noc_router.specs.declared.verdict.Finding.{Finding}
+use Rattle.noc_view.specs.Found.{empty_finding}
+use Rattle.noc_view.specs.declared.finding.Finding.{Finding}
 use Rattle.noc_rows.specs.Found.{IsClaimed, finding_at, is_held}
 use Rattle.noc_row_words.specs.Wires.{in_row, room_of}
 use Rattle.noc_row_words.proofs.EachLemmas.{each-all, each-next, each-none}

@@ -1,7 +1,7 @@
 use Rattle.std.proofs.Common.{◌≡◌, ◌≢◌, ℕ, ◌+◌, ◌-◌, ◌<◌, ◌≤◌, length, arith, ap, subst, inl, inr, ◌∙◌, get_or-set_same, get_or-set_other, set}
 use Rattle.std.specs.Prelude.{◌⊎◌}
 use Rattle.std.proofs.lemmas.Bool.{cases_eq}
-use Rattle.noc_router.specs.Found.{empty_finding}
+use Rattle.noc_view.specs.Found.{empty_finding}
 use Rattle.noc_rows.specs.Found.{KeepsOthers, finding_at}
 use Rattle.noc_rows.proofs.found.FoundPassLemmas.{keeps-more, keeps-none}
 use Rattle.noc_rows.proofs.findings.empty.Goals as goal

@@ -1,5 +1,5 @@
 use Rattle.std.proofs.Common.{◌≡◌, ℕ, ◌+◌, ◌<◌}
-use Rattle.noc_router.specs.Found.{empty_finding}
+use Rattle.noc_view.specs.Found.{empty_finding}
 use Rattle.noc_rows.specs.Found.{KeepsOthers, finding_at}
 use Rattle.noc_rows.proofs.findings.empty.Given as goal
 

@@ -1,8 +1,8 @@
 use Rattle.std.proofs.Common.{◌≡◌, ◌+◌, ◌<◌, Bool, true, false, length, arith, refl, ap, sym, ◌∙◌, get_or-set_same, get_or-set_other}
 use Rattle.std.specs.Prelude.{if◌then◌else◌}
 use Rattle.noc_packet.specs.Set.{has_bit}
-use Rattle.noc_router.specs.Found.{empty_finding}
-use Rattle.noc_router.specs.declared.verdict.Finding.{Finding}
+use Rattle.noc_view.specs.Found.{empty_finding}
+use Rattle.noc_view.specs.declared.finding.Finding.{Finding}
 use Rattle.noc_rows.specs.Found.{finding_at, given_to}
 use Rattle.noc_row_words.proofs.EachLemmas.{each-all, each-next, each-none}
 use Rattle.noc_rows.proofs.found.FoundPassLemmas.{keeps-more, keeps-none}

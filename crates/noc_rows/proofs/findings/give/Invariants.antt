@@ -1,5 +1,5 @@
 use Rattle.std.proofs.Common.{◌≡◌, ◌+◌}
-use Rattle.noc_router.specs.declared.verdict.Finding.{Finding}
+use Rattle.noc_view.specs.declared.finding.Finding.{Finding}
 use Rattle.noc_rows.specs.Found.{KeepsOthers, finding_at}
 use Rattle.noc_row_words.proofs.EachLemmas.{IsEach}
 use Rattle.noc_rows.proofs.findings.give.Given as goal

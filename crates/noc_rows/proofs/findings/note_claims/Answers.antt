@@ -1,5 +1,5 @@
 use Rattle.std.proofs.Common.{◌+◌, List, arith, sym, subst}
-use Rattle.noc_router.specs.declared.verdict.Finding.{Finding}
+use Rattle.noc_view.specs.declared.finding.Finding.{Finding}
 use Rattle.noc_row_words.specs.Wires.{room_of}
 use Rattle.noc_rows.proofs.found.FoundPassLemmas.{AreClaimedTo, claimed-all, claimed-more, claimed-none, claimed-skip, claimed-without}
 use Rattle.noc_rows.proofs.findings.note_claims.Goals as goal

@@ -1,5 +1,5 @@
 use Rattle.std.proofs.Common.{◌+◌, List, arith, sym, subst}
-use Rattle.noc_router.specs.declared.verdict.Finding.{Finding}
+use Rattle.noc_view.specs.declared.finding.Finding.{Finding}
 use Rattle.noc_rows.proofs.found.FoundPassLemmas.{HaveVerdictsTo, verdicts-all, verdicts-asleep, verdicts-more, verdicts-none, verdicts-skip}
 use Rattle.noc_rows.proofs.findings.note_verdicts.Goals as goal
 use Rattle.noc_rows.proofs.findings.note_verdicts.Goals.{then-number-blocks+then-blocks-number, else-number-blocks, else-number-blocks-via-then-number-blocks+else-blocks-number, else-number-blocks-via-else-number-blocks}

@@ -3,4 +3,4 @@ use Rattle.noc_tiles.proofs.finishing.finish_some.Given as goal
 
 -- the routers before this one have finished
 abbrev pub invariant-loop-i : goal.invariant-loop-i
-invariant-loop-i l = HaveFinished l.relation l.cycle l.findings l.from l.i l.initial.tile l.tile
+invariant-loop-i l = HaveFinished l.relation l.cycle l.recording l.from l.i l.initial.tile l.tile

@@ -3,7 +3,7 @@ use Rattle.std.proofs.lemmas.Bool.{cases_lt}
 use Rattle.std.proofs.lemmas.List.{length-map}
 use Rattle.noc_topo.specs.Shape.{Grid, local_port, neighbour, nodes}
 use Rattle.noc_tiles.specs.Ends.{End, outlet}
-use Rattle.noc_tiles.specs.TileStep.{arrival_places}
+use Rattle.noc_tiles.specs.TileStep.{arrival_ports}
 use Rattle.noc_tiles.specs.declared.wires.Outlet.{Outlet}
 use Rattle.noc_tiles.specs.declared.inner.Inner.{Inner}
 use Rattle.noc_tiles.proofs.ClearLemmas.{place-of}
@@ -34,7 +34,7 @@ pub loop-k-preserved : goal.loop-k-preserved
 loop-k-preserved c =
     let grid = c.args.relation.now.grid in
     let os = c.args.outs.now.items in
-    let ps = arrival_places (map outlet os) in
+    let ps = arrival_ports (map outlet os) in
     let k = c.loop-k.k in
     let v = c.loop-k.invariant in
     let old = c.loop-k.inner in
@@ -73,5 +73,5 @@ pub returns : goal.returns
 returns c =
     let v = c.loop-k.invariant in
     let end : c.loop-k.k ≡ length c.args.outs.now.items = search (rules, arith) in
-    let all : c.loop-k.k ≡ length (arrival_places (map outlet c.args.outs.now.items)) = end ∙ sym (length-map (map outlet c.args.outs.now.items) (λ (w : End). w.at) ∙ length-map c.args.outs.now.items outlet) in
+    let all : c.loop-k.k ≡ length (arrival_ports (map outlet c.args.outs.now.items)) = end ∙ sym (length-map (map outlet c.args.outs.now.items) (λ (w : End). w.at) ∙ length-map c.args.outs.now.items outlet) in
     record { order = omega (arith, v.from, v.to); within = v.within; none = λ o l. v.none o (omega (arith, all, l)) }

@@ -1,6 +1,6 @@
 use Rattle.std.proofs.Common.{◌+◌, List, Option, Vec, Global, ap, sym, ◌∙◌, refl, arith, subst}
 use Rattle.noc_topo.specs.Shape.{Grid, IsGrid, nodes}
-use Rattle.noc_router.specs.View.{View}
+use Rattle.noc_view.specs.View.{View}
 use Rattle.noc_tiles.specs.Ends.{End}
 use Rattle.noc_tiles.specs.Partition.{IsUncut}
 use Rattle.noc_tiles.specs.Starts.{tile_start}
@@ -10,14 +10,14 @@ use Rattle.noc_tiles.proofs.partition.cut_tile.Goals as goal
 use Rattle.noc_tiles.proofs.partition.cut_tile.Goals.{After-start-end}
 
 -- where the tile is cut
-cut-at : (I O : List (Option End)) (c : After-start-end) → IsUncut c.args.frame.now c.args.beats.now I O c.args.worker c.args.rest.now
-    → IsCutAt c.args.frame.now c.args.beats.now I O c.args.worker c.args.rest.now c.shape-shape.result.now c.start-end.result
+cut-at : (I O : List (Option End)) (c : After-start-end) → IsUncut c.args.kept.now c.args.beats.now I O c.args.worker c.args.rest.now
+    → IsCutAt c.args.kept.now c.args.beats.now I O c.args.worker c.args.rest.now c.shape-shape.result.now c.start-end.result
 cut-at I O c uncut = record {
   can = c.requires.can;
   worker = c.requires.worker;
   uncut = uncut;
   same = c.shape-shape.ensures.value;
-  end_is = c.start-end.ensures.start ∙ ap (λ (g : Grid). tile_start (nodes g) c.args.frame.now.workers (c.args.worker + 1)) c.shape-shape.ensures.value;
+  end_is = c.start-end.ensures.start ∙ ap (λ (g : Grid). tile_start (nodes g) c.args.kept.now.workers (c.args.worker + 1)) c.shape-shape.ensures.value;
 }
 
 pub overflow_sub-count : goal.overflow_sub-count

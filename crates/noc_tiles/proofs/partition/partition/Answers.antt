@@ -8,7 +8,7 @@ use Rattle.noc_tiles.proofs.partition.partition.Goals as goal
 
 pub loop-worker-init : goal.loop-worker-init
 loop-worker-init c =
-    let f = c.args.frame.now in
+    let f = c.args.kept.now in
     let B = c.args.beats.now in
     let I = in_slots c.in_ok-ins.field-0.ins.items in
     let O = out_slots c.in_ok-ins.field-0.outs.items in
@@ -27,7 +27,7 @@ push_reserved-requires c =
 
 pub loop-worker-preserved : goal.loop-worker-preserved
 loop-worker-preserved c =
-    let f = c.args.frame.now in
+    let f = c.args.kept.now in
     let I = in_slots c.in_ok-ins.field-0.ins.items in
     let O = out_slots c.in_ok-ins.field-0.outs.items in
     let v = c.loop-worker.invariant in
@@ -44,7 +44,7 @@ loop-worker-preserved c =
 
 pub returns : goal.returns
 returns c =
-    let f = c.args.frame.now in
+    let f = c.args.kept.now in
     let I = in_slots c.in_ok-ins.field-0.ins.items in
     let O = out_slots c.in_ok-ins.field-0.outs.items in
     let v = c.loop-worker.invariant in

@@ -9,7 +9,7 @@ use Rattle.noc_tiles.proofs.partition.partition.Given as goal
 abbrev pub invariant-loop-worker : goal.invariant-loop-worker
 invariant-loop-worker l = record {
   count : length l.tiles.items ≡ l.worker;
-  room : l.frame.workers ≤ vec_capacity l.tiles;
-  rest : IsUncut l.frame l.beats (in_slots l.initial.rest.ins.items) (out_slots l.initial.rest.outs.items) l.worker l.rest;
-  tiles : AreTilesOf l.frame (in_slots l.initial.rest.ins.items) (out_slots l.initial.rest.outs.items) l.tiles.items;
+  room : l.kept.workers ≤ vec_capacity l.tiles;
+  rest : IsUncut l.kept l.beats (in_slots l.initial.rest.ins.items) (out_slots l.initial.rest.outs.items) l.worker l.rest;
+  tiles : AreTilesOf l.kept (in_slots l.initial.rest.ins.items) (out_slots l.initial.rest.outs.items) l.tiles.items;
 }

@@ -1,9 +1,9 @@
 use Rattle.std.proofs.Common.{ℕ, ◌≡◌, ◌<◌, [], ◌∷◌, ◌++◌, map, take, drop, length, get_or, set, sym, ◌∙◌, ap, arith, refl, rules}
 use Rattle.std.proofs.lemmas.List.{length-map, length-take-le, take_more, take_at, take_all, get_or-map, length-set}
-use Rattle.noc_router.specs.View.{idle_beat}
+use Rattle.noc_view.specs.View.{idle_beat}
 use Rattle.noc_theory.specs.Halves.{beat_at}
 use Rattle.noc_tiles.specs.Ends.{End, outlet}
-use Rattle.noc_tiles.specs.TileStep.{ends_after_beats, arrival_places, names}
+use Rattle.noc_tiles.specs.TileStep.{ends_after_beats, arrival_ports, names}
 use Rattle.noc_tiles.proofs.TileStepLemmas.{names-fed, names-set, fed-nil, place-at, within-at, one-more}
 use Rattle.noc_tiles.proofs.phases.put_all.Goals as goal
 
@@ -15,7 +15,7 @@ bounds-beats-one g c =
     let items0 = c.deref_mut-one-items.result.now in
     let i = c.loop-one.one-index in
     let out = λ (p : ℕ × ℕ). beat_at c.args.beats.now p.0 p.1 in
-    let p = within-at outlet (length c.args.beats.now) 6 c.args.ends.now.items items0 c.loop-one.one-items (take i (map out (arrival_places (map outlet items0)))) i c.one-item.result c.requires c.deref_mut-one-items.ensures.value c.loop-one.invariant (search rules) in
+    let p = within-at outlet (length c.args.beats.now) 6 c.args.ends.now.items items0 c.loop-one.one-items (take i (map out (arrival_ports (map outlet items0)))) i c.one-item.result c.requires c.deref_mut-one-items.ensures.value c.loop-one.invariant (search rules) in
     p.0
 
 pub offset_bounds-beats-one : goal.offset_bounds-beats-one
@@ -23,7 +23,7 @@ offset_bounds-beats-one g c =
     let items0 = c.deref_mut-one-items.result.now in
     let i = c.loop-one.one-index in
     let out = λ (p : ℕ × ℕ). beat_at c.args.beats.now p.0 p.1 in
-    let p = within-at outlet (length c.args.beats.now) 6 c.args.ends.now.items items0 c.loop-one.one-items (take i (map out (arrival_places (map outlet items0)))) i c.one-item.result c.requires c.deref_mut-one-items.ensures.value c.loop-one.invariant (search rules) in
+    let p = within-at outlet (length c.args.beats.now) 6 c.args.ends.now.items items0 c.loop-one.one-items (take i (map out (arrival_ports (map outlet items0)))) i c.one-item.result c.requires c.deref_mut-one-items.ensures.value c.loop-one.invariant (search rules) in
     let b : (get_or c.loop-one.one-items i c.one-item.result).router < length c.args.beats.now = p.0 in
     search (rules, arith)
 
@@ -32,7 +32,7 @@ bounds-beats-one-in-loop-one g c =
     let items0 = c.deref_mut-one-items.result.now in
     let i = c.loop-one.one-index in
     let out = λ (p : ℕ × ℕ). beat_at c.args.beats.now p.0 p.1 in
-    let p = within-at outlet (length c.args.beats.now) 6 c.args.ends.now.items items0 c.loop-one.one-items (take i (map out (arrival_places (map outlet items0)))) i c.one-item.result c.requires c.deref_mut-one-items.ensures.value c.loop-one.invariant (search rules) in
+    let p = within-at outlet (length c.args.beats.now) 6 c.args.ends.now.items items0 c.loop-one.one-items (take i (map out (arrival_ports (map outlet items0)))) i c.one-item.result c.requires c.deref_mut-one-items.ensures.value c.loop-one.invariant (search rules) in
     p.1
 
 pub offset_bounds-beats-one-in-loop-one : goal.offset_bounds-beats-one-in-loop-one
@@ -40,7 +40,7 @@ offset_bounds-beats-one-in-loop-one g c =
     let items0 = c.deref_mut-one-items.result.now in
     let i = c.loop-one.one-index in
     let out = λ (p : ℕ × ℕ). beat_at c.args.beats.now p.0 p.1 in
-    let p = within-at outlet (length c.args.beats.now) 6 c.args.ends.now.items items0 c.loop-one.one-items (take i (map out (arrival_places (map outlet items0)))) i c.one-item.result c.requires c.deref_mut-one-items.ensures.value c.loop-one.invariant (search rules) in
+    let p = within-at outlet (length c.args.beats.now) 6 c.args.ends.now.items items0 c.loop-one.one-items (take i (map out (arrival_ports (map outlet items0)))) i c.one-item.result c.requires c.deref_mut-one-items.ensures.value c.loop-one.invariant (search rules) in
     let b : (get_or c.loop-one.one-items i c.one-item.result).port < 6 = p.1 in
     search (rules, arith)
 
@@ -49,7 +49,7 @@ loop-one-preserved g c =
     let items0 = c.deref_mut-one-items.result.now in
     let i = c.loop-one.one-index in
     let out = λ (p : ℕ × ℕ). beat_at c.args.beats.now p.0 p.1 in
-    let ps = arrival_places (map outlet items0) in
+    let ps = arrival_ports (map outlet items0) in
     let all = map out ps in
     let one = get_or c.loop-one.one-items i c.one-item.result in
     let x = out (one.router, one.port) in
@@ -67,12 +67,12 @@ returns-clause-put g c _ =
     let items0 = c.deref_mut-one-items.result.now in
     let items = c.loop-one.one-items in
     let out = λ (p : ℕ × ℕ). beat_at c.args.beats.now p.0 p.1 in
-    let all = map out (arrival_places (map outlet items0)) in
-    let n : length all ≡ length items0 = length-map (arrival_places (map outlet items0)) out ∙ (length-map (map outlet items0) (λ (w : End). w.at) ∙ length-map items0 outlet) in
+    let all = map out (arrival_ports (map outlet items0)) in
+    let n : length all ≡ length items0 = length-map (arrival_ports (map outlet items0)) out ∙ (length-map (map outlet items0) (λ (w : End). w.at) ∙ length-map items0 outlet) in
     ap (map outlet) (take_at items (drop (length items) c.args.ends.now.items) c.args.ends.now.len (search rules))
     ∙ (c.loop-one.invariant
     ∙ (ap (λ row. ends_after_beats (map outlet items0) row) (take_all c.loop-one.one-index all (search rules))
-    ∙ ap (λ v. ends_after_beats (map outlet v) (map out (arrival_places (map outlet v)))) c.deref_mut-one-items.ensures.value))
+    ∙ ap (λ v. ends_after_beats (map outlet v) (map out (arrival_ports (map outlet v)))) c.deref_mut-one-items.ensures.value))
 
 pub returns-then-not-put-clause-ends : goal.returns-then-not-put-clause-ends
 returns-then-not-put-clause-ends g c =
@@ -85,7 +85,7 @@ returns-then-not-put-clause-ends g c =
     let n = length-set items i new in
     ap (λ q. names (map outlet q)) (take_at (set items i new) (drop (length (set items i new)) c.args.ends.now.items) c.args.ends.now.len (n ∙ (search rules)))
     ∙ (names-set outlet items i c.one-item.result new l c.put.ensures.same.0 c.put.ensures.same.1
-    ∙ (ap names c.loop-one.invariant ∙ (names-fed (map outlet items0) (take i (map out (arrival_places (map outlet items0)))) ∙ ap (λ q. names (map outlet q)) c.deref_mut-one-items.ensures.value)))
+    ∙ (ap names c.loop-one.invariant ∙ (names-fed (map outlet items0) (take i (map out (arrival_ports (map outlet items0)))) ∙ ap (λ q. names (map outlet q)) c.deref_mut-one-items.ensures.value)))
 
 pub returns-clause-ends : goal.returns-clause-ends
 returns-clause-ends g c =
@@ -93,4 +93,4 @@ returns-clause-ends g c =
     let items = c.loop-one.one-items in
     let out = λ (p : ℕ × ℕ). beat_at c.args.beats.now p.0 p.1 in
     ap (λ q. names (map outlet q)) (take_at items (drop (length items) c.args.ends.now.items) c.args.ends.now.len (search rules))
-    ∙ (ap names c.loop-one.invariant ∙ (names-fed (map outlet items0) (take c.loop-one.one-index (map out (arrival_places (map outlet items0)))) ∙ ap (λ q. names (map outlet q)) c.deref_mut-one-items.ensures.value))
+    ∙ (ap names c.loop-one.invariant ∙ (names-fed (map outlet items0) (take c.loop-one.one-index (map out (arrival_ports (map outlet items0)))) ∙ ap (λ q. names (map outlet q)) c.deref_mut-one-items.ensures.value))

@@ -2,7 +2,7 @@ use Rattle.std.proofs.Common.{ℕ, ◌≡◌, ◌+◌, ◌<◌, [], ◌∷◌, �
 use Rattle.std.proofs.lemmas.List.{length_push, length-map, take_at, length-set}
 use Rattle.noc_theory.specs.Halves.{beat_at}
 use Rattle.noc_tiles.specs.Ends.{End, inlet}
-use Rattle.noc_tiles.specs.TileStep.{arrival_places, with_row, names}
+use Rattle.noc_tiles.specs.TileStep.{arrival_ports, with_row, names}
 use Rattle.noc_tiles.proofs.TileStepLemmas.{names-fed, names-set, fed-nil, filled-nil, length-same, place-at, within-at, one-more, filled-more, with_beat-same}
 use Rattle.noc_tiles.proofs.phases.receive_all.Goals as goal
 
@@ -11,7 +11,7 @@ loop-one-init g c = record {
   row = [];
   width = refl;
   ends = sym (fed-nil _);
-  beats = λ r q. sym (filled-nil (beat_at c.args.beats.now) (arrival_places (map inlet c.deref_mut-one-items.result.now)) r q);
+  beats = λ r q. sym (filled-nil (beat_at c.args.beats.now) (arrival_ports (map inlet c.deref_mut-one-items.result.now)) r q);
   size = refl;
 }
 
@@ -34,18 +34,18 @@ loop-one-preserved g c =
     let l : i < length c.loop-one.one-items = search rules in
     let took = c.in-Some.ensures.took in
     let at : (new.router, new.port) ≡ (inlet (get_or c.loop-one.one-items i c.one-item.result)).at = ap (λ (w : End). w.at) took in
-    let place : (new.router, new.port) ≡ get_or (arrival_places (map inlet items0)) (length v.row) (0, 0) =
-    at ∙ sym (place-at inlet items0 c.loop-one.one-items v.row i c.one-item.result (0, 0) v.ends l) ∙ ap (λ k. get_or (arrival_places (map inlet items0)) k (0, 0)) (sym v.width) in
+    let place : (new.router, new.port) ≡ get_or (arrival_ports (map inlet items0)) (length v.row) (0, 0) =
+    at ∙ sym (place-at inlet items0 c.loop-one.one-items v.row i c.one-item.result (0, 0) v.ends l) ∙ ap (λ k. get_or (arrival_ports (map inlet items0)) k (0, 0)) (sym v.width) in
     let n = length-same inlet items0 c.loop-one.one-items v.row v.ends in
-    let l0 : length v.row < length (arrival_places (map inlet items0)) = rw (length-map, length-map) (omega (arith, v.width, n, l)) in
+    let l0 : length v.row < length (arrival_ports (map inlet items0)) = rw (length-map, length-map) (omega (arith, v.width, n, l)) in
     record {
       row = v.row ++ x ∷ [];
       width = length_push v.row x ∙ ap (λ n. n + 1) v.width;
       ends = one-more inlet items0 c.loop-one.one-items v.row i x c.one-item.result new v.ends l v.width took;
       beats = λ r q.
           c.set_beat.ensures r q
-          ∙ with_beat-same (beat_at bs) (with_row (beat_at c.args.beats.now) (arrival_places (map inlet items0)) v.row) (new.router, new.port) (get_or (arrival_places (map inlet items0)) (length v.row) (0, 0)) x r q place (v.beats r q)
-          ∙ filled-more (beat_at c.args.beats.now) (arrival_places (map inlet items0)) v.row x (0, 0) r q l0;
+          ∙ with_beat-same (beat_at bs) (with_row (beat_at c.args.beats.now) (arrival_ports (map inlet items0)) v.row) (new.router, new.port) (get_or (arrival_ports (map inlet items0)) (length v.row) (0, 0)) x r q place (v.beats r q)
+          ∙ filled-more (beat_at c.args.beats.now) (arrival_ports (map inlet items0)) v.row x (0, 0) r q l0;
       size = c.set_beat.auto.beats ∙ v.size;
     }
 

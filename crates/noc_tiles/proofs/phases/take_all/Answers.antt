@@ -1,7 +1,7 @@
 use Rattle.std.proofs.Common.{◌≡◌, ◌⊎◌, inl, inr, ℕ, ◌+◌, ◌<◌, ◌≤◌, List, [], length, get_or, ap, ◌∙◌, ⊎_elim, arith, subst}
 use Rattle.std.proofs.lemmas.Bool.{cases_lt}
 use Rattle.noc_packet.specs.declared.packet.Beat.{Beat}
-use Rattle.noc_router.specs.View.{View, idle_beat, view_after_takes}
+use Rattle.noc_view.specs.View.{View, idle_beat, view_after_takes}
 use Rattle.noc_theory.specs.Halves.{beat_at, incoming}
 use Rattle.noc_theory.proofs.runs.ListLemmas.{IsDoneTo, done_all}
 use Rattle.noc_tiles.proofs.SentLemmas.{own-false}

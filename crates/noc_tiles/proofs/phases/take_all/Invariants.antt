@@ -1,6 +1,6 @@
 use Rattle.std.proofs.Common.{◌≡◌, ◌⊎◌, ℕ, ◌+◌, ◌<◌, ◌≤◌, List, [], length, get_or}
 use Rattle.noc_packet.specs.declared.packet.Beat.{Beat}
-use Rattle.noc_router.specs.View.{View, idle_beat, view_after_takes}
+use Rattle.noc_view.specs.View.{View, idle_beat, view_after_takes}
 use Rattle.noc_theory.specs.Halves.{beat_at, incoming}
 use Rattle.noc_theory.proofs.runs.ListLemmas.{IsDoneTo}
 use Rattle.noc_tiles.proofs.phases.take_all.Given as goal

@@ -9,4 +9,4 @@ empty_all-requires c =
 pub from_parts-requires : goal.from_parts-requires
 from_parts-requires c =
     let D = c.requires.done in
-    parts-done D.1 c.args.all D.2 c.deref_mut.result.now c.deref_mut.ensures.value c.requires.frame c.empty_all.new.beats c.empty_all.ensures
+    parts-done D.1 c.args.all D.2 c.deref_mut.result.now c.deref_mut.ensures.value c.requires.kept c.empty_all.new.beats c.empty_all.ensures

@@ -11,7 +11,7 @@ use Rattle.noc_tiles.proofs.threads.run_threads.Goals as goal
 pub run_all-requires-after_bounds : goal.run_all-requires-after_bounds
 run_all-requires-after_bounds g c =
     let W = c.in-Ok.ensures.partition in
-    let h : AllCanRun c.args.frame.now.relation c.in-Ok.tiles.items = all_can c.args.frame.now.relation c.in-Ok.tiles.items (λ t d l. (W.tiles t d l).can) in
+    let h : AllCanRun c.args.kept.now.relation c.in-Ok.tiles.items = all_can c.args.kept.now.relation c.in-Ok.tiles.items (λ t d l. (W.tiles t d l).can) in
     search rules
 
 -- the tiles that came back have made their cycles
@@ -19,21 +19,21 @@ done : (s : Bool) (o : Gating) (f : Kept) (xs ys : List Tile) → AreCut f xs �
 done s o f xs ys C ended whole = record { ins = C.ins; outs = C.outs; cut = xs; partition = C.partition; stop = s; gate = o; ended = ended; whole = whole }
 
 pub gather-requires : goal.gather-requires
-gather-requires g c = tiles-fit c.in_ok-tiles.tiles (done _ _ c.args.frame.now c.in-Ok.tiles.items c.in_ok-tiles.tiles.items c.in-Ok.ensures c.in_ok-tiles.ensures (c.if-not-all_whole.ensures.0 refl))
+gather-requires g c = tiles-fit c.in_ok-tiles.tiles (done _ _ c.args.kept.now c.in-Ok.tiles.items c.in_ok-tiles.tiles.items c.in-Ok.ensures c.in_ok-tiles.ensures (c.if-not-all_whole.ensures.0 refl))
 
 pub returns-clause-done : goal.returns-clause-done
 returns-clause-done g c = (
   c.in_ok-tiles.tiles.items,
-  done _ _ c.args.frame.now c.in-Ok.tiles.items c.in_ok-tiles.tiles.items c.in-Ok.ensures c.in_ok-tiles.ensures (c.if-not-all_whole.ensures.0 refl),
+  done _ _ c.args.kept.now c.in-Ok.tiles.items c.in_ok-tiles.tiles.items c.in-Ok.ensures c.in_ok-tiles.ensures (c.if-not-all_whole.ensures.0 refl),
   c.in-Ok-gather.ensures,
 )
 
 pub returns-clause-asked : goal.returns-clause-asked
 returns-clause-asked g c = λ w k low within.
     let W = c.in-Ok.ensures.partition in
-    let net = setup_of c.args.frame.now in
+    let net = setup_of c.args.kept.now in
     let xs = c.in-Ok.tiles.items in
-    let d = tile_in net c.args.frame.now.count c.args.frame.now.cycles c.in-Ok.ensures.ins c.in-Ok.ensures.outs xs W in
+    let d = tile_in net c.args.kept.now.count c.args.kept.now.cycles c.in-Ok.ensures.ins c.in-Ok.ensures.outs xs W in
     let here : w < length xs = (let n = c.in-Ok.ensures.numbered.count in omega arith) in
     let know : Gating = record { opens = g.G.Gate.opens c.args.gate.now; shuts = g.G.Gate.shuts c.args.gate.now } in
     let tile = W.tiles w d here in

@@ -9,5 +9,5 @@ node_at-three a b c x y z = omega arith
 pub returns : goal.returns
 returns c =
     node_at-three _ _ (get_or c.args.sizes.now 2 0) _ _ _
-    ∙ ap (λ ks. node_at ks (get_or c.args.place.now 0 0 ∷ get_or c.args.place.now 1 0 ∷ get_or c.args.place.now 2 0 ∷ [])) (sym (three-items c.args.sizes.now c.told-sizes))
-    ∙ ap (node_at c.args.sizes.now) (sym (three-items c.args.place.now c.told-place))
+    ∙ ap (λ ks. node_at ks (get_or c.args.coordinates.now 0 0 ∷ get_or c.args.coordinates.now 1 0 ∷ get_or c.args.coordinates.now 2 0 ∷ [])) (sym (three-items c.args.sizes.now c.told-sizes))
+    ∙ ap (node_at c.args.sizes.now) (sym (three-items c.args.coordinates.now c.told-coordinates))

@@ -8,7 +8,7 @@ use Rattle.noc_alloc.proofs.allocation.Allocation.advance.Given as goal
 abbrev pub invariant-loop-resource : goal.invariant-loop-resource
 invariant-loop-resource l = record {
   within : (k : ℕ) → has_bit l.rest k ≡ true → k < length l.arbiters;
-  turns : (k : ℕ) → arbiter_at l.arbiters k ≡ (if has_bit l.rest k then arbiter_at l.initial.arbiters k else arbiter_after (arbiter_at l.initial.arbiters k) (get_or l.self.grants k None));
+  passed : (k : ℕ) → arbiter_at l.arbiters k ≡ (if has_bit l.rest k then arbiter_at l.initial.arbiters k else arbiter_after (arbiter_at l.initial.arbiters k) (get_or l.self.grants k None));
 }
 
 abbrev pub decreases-loop-resource : goal.decreases-loop-resource

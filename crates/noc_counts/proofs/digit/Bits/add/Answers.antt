@@ -1,7 +1,8 @@
 use Rattle.std.proofs.Common.{ℕ, ◌<◌, [], get_or, take, refl, arith, length}
 use Rattle.std.specs.List.{sum_by}
 use Rattle.noc_packet.specs.Set.{has_bit}
-use Rattle.noc_counts.specs.Counts.{one_at, one_if}
+use Rattle.noc_counts.specs.Counts.{one_at}
+use Rattle.noc_topo.specs.Lists.{one_if}
 use Rattle.noc_counts.proofs.DigitLemmas.{added-eight, one-read, one-written, same-three, sum-seven}
 use Rattle.noc_counts.proofs.digit.Bits.add.Goals as goal
 

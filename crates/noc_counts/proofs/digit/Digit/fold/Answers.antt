@@ -4,7 +4,8 @@ use Rattle.std.specs.List.{sum_by}
 use Rattle.std.proofs.lemmas.Bool.{cases_eq}
 use Rattle.std.proofs.lemmas.List.{get_or-set_other, length-set}
 use Rattle.noc_packet.specs.Set.{has_bit}
-use Rattle.noc_counts.specs.Counts.{one_at, one_if}
+use Rattle.noc_counts.specs.Counts.{one_at}
+use Rattle.noc_topo.specs.Lists.{one_if}
 use Rattle.noc_counts.specs.Digits.{added_at, digit_at}
 use Rattle.noc_counts.proofs.DigitLemmas.{one-read, one-written}
 use Rattle.noc_counts.proofs.digit.Digit.fold.Goals as goal

@@ -2,7 +2,7 @@ use Rattle.std.proofs.Common.{◌≡◌, ◌∙◌, ℕ, ◌+◌, ◌*◌, List,
 use Rattle.std.specs.Prelude.{slice_get}
 use Rattle.std.proofs.lemmas.Option.{slice_get-get_or}
 use Rattle.noc_topo.specs.Shape.{Grid}
-use Rattle.noc_router.specs.declared.verdict.Finding.{Finding}
+use Rattle.noc_view.specs.declared.finding.Finding.{Finding}
 use Rattle.noc_files.specs.Findings.{finding_line, line_if_found, out_name, verdict_text}
 use Rattle.noc_files.specs.Writing.{line_end}
 use Rattle.noc_files.proofs.findings.FoundLines.add_line.Goals as goal

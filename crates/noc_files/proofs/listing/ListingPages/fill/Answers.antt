@@ -1,7 +1,7 @@
 use Rattle.std.proofs.Common.{◌≡◌, ◌∙◌, ℕ, Bool, true, false, List, [], ap, arith, flat_map, length, refl, sym}
 use Rattle.std.specs.Prelude.{if◌then◌else◌}
 use Rattle.noc_topo.specs.Shape.{Grid}
-use Rattle.noc_topo.specs.Words.{below}
+use Rattle.noc_topo.specs.Lists.{below}
 use Rattle.noc_files.specs.Channels.{is_input, lines_of_port, lines_of_router}
 use Rattle.noc_files.proofs.BelowLemmas.{each_none}
 use Rattle.noc_files.proofs.PageLemmas.{added_more, added_none}

@@ -1,5 +1,5 @@
 use Rattle.std.proofs.Common.{◌≡◌, ◌≤◌, ◌*◌, flat_map, length}
-use Rattle.noc_topo.specs.Words.{below}
+use Rattle.noc_topo.specs.Lists.{below}
 use Rattle.noc_files.specs.Channels.{lines_of_port}
 use Rattle.noc_files.specs.declared.listing.TheConstants.{LONGEST_PORT}
 use Rattle.noc_files.proofs.listing.ListingPages.fill.Given as goal

@@ -1,6 +1,6 @@
 use Rattle.std.proofs.Common.{◌<◌, refl, ap, subst, ◌∙◌, arith}
 use Rattle.noc_topo.specs.Shape.{local_port}
-use Rattle.noc_router.specs.View.{Site}
+use Rattle.noc_view.specs.View.{Site}
 use Rattle.noc_theory.specs.declared.event.Event.TheVariants.{Decide}
 use Rattle.noc_theory.specs.declared.limits.TheConstants.{CYCLE_LIMIT}
 use Rattle.noc_theory.specs.Core.{CoreState, Post, deciding, happens}

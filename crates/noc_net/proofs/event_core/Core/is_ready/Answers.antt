@@ -1,7 +1,7 @@
 use Rattle.std.proofs.Common.{◌≡◌, ◌<◌, ap, sym, ◌∙◌, arith}
 use Rattle.std.proofs.lemmas.Bool.{le-ltb}
 use Rattle.noc_topo.specs.Shape.{local_port, nodes}
-use Rattle.noc_router.specs.View.{Site}
+use Rattle.noc_view.specs.View.{Site}
 use Rattle.noc_theory.specs.declared.event.Event.TheVariants.{Take, Decide, Put}
 use Rattle.noc_theory.specs.declared.limits.TheConstants.{CYCLE_LIMIT}
 use Rattle.noc_theory.specs.Core.{CoreState, holds_at, is_linked, is_ready, may_decide, may_put, may_take, post_at}

@@ -4,7 +4,7 @@ use Rattle.std.proofs.lemmas.List.{get_or-take}
 use Rattle.noc_topo.specs.Shape.{local_port}
 use Rattle.noc_topo.proofs.LinkLemmas.{link_back}
 use Rattle.noc_packet.specs.declared.packet.Beat.{Beat}
-use Rattle.noc_router.specs.View.{Site, idle_beat}
+use Rattle.noc_view.specs.View.{Site, idle_beat}
 use Rattle.noc_theory.specs.declared.event.Event.TheVariants.{Put}
 use Rattle.noc_theory.specs.declared.limits.TheConstants.{CYCLE_LIMIT}
 use Rattle.noc_theory.specs.Core.{CoreState, Post, beat_to_send, happens, post_at, putting}

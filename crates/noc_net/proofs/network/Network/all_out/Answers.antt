@@ -10,21 +10,21 @@ is_out u p = is_some (arrival_in u.net (state_at u.net u.count) p)
 pub returns-then-is_none-clause-value : goal.returns-then-is_none-clause-value
 returns-then-is_none-clause-value c =
     let u = c.args.self.now in
-    sym (one_not (is_out u) (length u.net.packets) c.loop-number.number (omega (arith, c.packets-number-end.ensures.value)) (ap is_some (sym c.arrival.ensures.value ∙ none c.arrival.result (c.is_none.ensures ∙ ap not c.if-is_none.true))))
+    sym (one_not (is_out u) (length u.net.packets) c.loop-packet.packet (omega (arith, c.packets-packet-end.ensures.value)) (ap is_some (sym c.arrival.ensures.value ∙ none c.arrival.result (c.is_none.ensures ∙ ap not c.if-is_none.true))))
   where
     none : (o : Option ℕ) → is_some o ≡ false → o ≡ None
     none None e = refl
     none (Some n) e = cc
 
-pub loop-number-preserved : goal.loop-number-preserved
-loop-number-preserved c =
+pub loop-packet-preserved : goal.loop-packet-preserved
+loop-packet-preserved c =
     let u = c.args.self.now in
-    all_more (is_out u) (length u.net.packets) c.loop-number.number (omega (arith, c.packets-number-end.ensures.value)) c.loop-number.invariant (ap is_some (sym c.arrival.ensures.value) ∙ c.if-is_none.ensures)
+    all_more (is_out u) (length u.net.packets) c.loop-packet.packet (omega (arith, c.packets-packet-end.ensures.value)) c.loop-packet.invariant (ap is_some (sym c.arrival.ensures.value) ∙ c.if-is_none.ensures)
 
 pub returns-clause-value : goal.returns-clause-value
 returns-clause-value c =
     let u = c.args.self.now in
-    sym (all_all (is_out u) (length u.net.packets) c.loop-number.number (omega (arith, c.packets-number-end.ensures.value)) c.loop-number.invariant)
+    sym (all_all (is_out u) (length u.net.packets) c.loop-packet.packet (omega (arith, c.packets-packet-end.ensures.value)) c.loop-packet.invariant)
 
 pub returns-clause-ranked : goal.returns-clause-ranked
 returns-clause-ranked c = λ ranks limit ranked is late. refl

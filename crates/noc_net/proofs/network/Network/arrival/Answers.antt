@@ -20,13 +20,13 @@ in-time u good number l answer e = λ ranks limit ranked is late.
 pub returns-in-Some-clause-ranked : goal.returns-in-Some-clause-ranked
 returns-in-Some-clause-ranked c =
     let n = c.self.inside in
-    let within : c.args.number < length n.parts.packets.items = subst (λ (u : Run). c.args.number < length u.net.packets) (sym c.self.view_is) c.requires in
-    in-time c.args.self.now (subst (λ (u : Run). IsGoodSetup u.net) c.self.view_is c.self.invariant.parts.good) c.args.number c.requires c.arrival.result
+    let within : c.args.packet < length n.parts.packets.items = subst (λ (u : Run). c.args.packet < length u.net.packets) (sym c.self.view_is) c.requires in
+    in-time c.args.self.now (subst (λ (u : Run). IsGoodSetup u.net) c.self.view_is c.self.invariant.parts.good) c.args.packet c.requires c.arrival.result
     (c.arrival.ensures (setup_in n.parts) n.count (shown n c.self.invariant c.in-Some.rows c.in-Some.is).rows within
-    ∙ ap (λ (u : Run). arrival_in u.net (state_at u.net u.count) c.args.number) c.self.view_is)
+    ∙ ap (λ (u : Run). arrival_in u.net (state_at u.net u.count) c.args.packet) c.self.view_is)
 
 pub returns-in-None-clause-ranked : goal.returns-in-None-clause-ranked
 returns-in-None-clause-ranked c =
     let n = c.self.inside in
-    in-time c.args.self.now (subst (λ (u : Run). IsGoodSetup u.net) c.self.view_is c.self.invariant.parts.good) c.args.number c.requires c.arrival-in-None.result
-    (c.arrival-in-None.ensures ∙ ap (λ (u : Run). arrival_in u.net (state_at u.net u.count) c.args.number) (routers-run n c.self.invariant c.in-None.is ∙ c.self.view_is))
+    in-time c.args.self.now (subst (λ (u : Run). IsGoodSetup u.net) c.self.view_is c.self.invariant.parts.good) c.args.packet c.requires c.arrival-in-None.result
+    (c.arrival-in-None.ensures ∙ ap (λ (u : Run). arrival_in u.net (state_at u.net u.count) c.args.packet) (routers-run n c.self.invariant c.in-None.is ∙ c.self.view_is))

@@ -10,12 +10,12 @@ waits u cycle p = nat_le (packet_at u.net p).due cycle && is_none (arrival_in u.
 
 pub returns-then-is_waiting : goal.returns-then-is_waiting
 returns-then-is_waiting c =
-    sym (some_here (waits c.args.self.now c.args.cycle) (length c.args.self.now.net.packets) c.loop-number.number (omega (arith, c.packets-number-end.ensures.value)) (sym c.if-is_waiting.ensures))
+    sym (some_here (waits c.args.self.now c.args.cycle) (length c.args.self.now.net.packets) c.loop-packet.packet (omega (arith, c.packets-packet-end.ensures.value)) (sym c.if-is_waiting.ensures))
 
-pub loop-number-preserved : goal.loop-number-preserved
-loop-number-preserved c =
-    none_more (waits c.args.self.now c.args.cycle) (length c.args.self.now.net.packets) c.loop-number.number (omega (arith, c.packets-number-end.ensures.value)) c.loop-number.invariant (sym c.if-is_waiting.ensures)
+pub loop-packet-preserved : goal.loop-packet-preserved
+loop-packet-preserved c =
+    none_more (waits c.args.self.now c.args.cycle) (length c.args.self.now.net.packets) c.loop-packet.packet (omega (arith, c.packets-packet-end.ensures.value)) c.loop-packet.invariant (sym c.if-is_waiting.ensures)
 
 pub returns : goal.returns
 returns c =
-    sym (none_all (waits c.args.self.now c.args.cycle) (length c.args.self.now.net.packets) c.loop-number.number (omega (arith, c.packets-number-end.ensures.value)) c.loop-number.invariant)
+    sym (none_all (waits c.args.self.now c.args.cycle) (length c.args.self.now.net.packets) c.loop-packet.packet (omega (arith, c.packets-packet-end.ensures.value)) c.loop-packet.invariant)

@@ -4,5 +4,5 @@ use Rattle.noc_net.proofs.LimitLemmas.{IsLastBefore}
 use Rattle.noc_net.proofs.network.Network.last_due.Given as goal
 
 -- the last due time so far
-abbrev pub invariant-loop-number : goal.invariant-loop-number
-invariant-loop-number l = IsLastBefore l.self.net.packets l.number l.last × (l.last ≤ MAX_DUE)
+abbrev pub invariant-loop-packet : goal.invariant-loop-packet
+invariant-loop-packet l = IsLastBefore l.self.net.packets l.packet l.last × (l.last ≤ MAX_DUE)

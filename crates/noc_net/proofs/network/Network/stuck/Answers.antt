@@ -1,7 +1,7 @@
 use Rattle.std.proofs.Common.{◌≡◌, ℕ, suc, ◌+◌, Bool, Option, Some, None, refl, ap, sym, ◌∙◌, arith, subst}
 use Rattle.std.specs.Prelude.{◌&&◌, nat_eq, not}
 use Rattle.std.specs.Option.{option_eq}
-use Rattle.noc_topo.specs.Words.{is_some_of}
+use Rattle.noc_topo.specs.Lists.{is_some_of}
 use Rattle.noc_theory.specs.Good.{IsGoodSetup}
 use Rattle.noc_theory.specs.Network.{Run, Setup, state_at}
 use Rattle.noc_theory.specs.Progress.{is_pending, is_stuck, last_event_before}

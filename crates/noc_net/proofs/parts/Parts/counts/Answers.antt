@@ -2,9 +2,9 @@ use Rattle.std.proofs.Common.{◌≡◌, ℕ, ◌+◌, ◌*◌, ◌/◌, ◌<◌
 use Rattle.std.proofs.lemmas.Nat.{div-mul-add}
 use Rattle.std.proofs.Math.Nat.{div-lt_iff_lt-mul}
 use Rattle.noc_topo.specs.Shape.{ports}
-use Rattle.noc_router.specs.View.{Site, View}
+use Rattle.noc_view.specs.View.{Site, View}
 use Rattle.noc_net.specs.Parts.{run_in, setup_in}
-use Rattle.noc_topo.proofs.WordLemmas.{get_or-tabulate}
+use Rattle.noc_topo.proofs.ListLemmas.{get_or-tabulate}
 use Rattle.noc_theory.specs.Lockstep.{counts_before, view_at}
 use Rattle.noc_theory.specs.Network.{Setup, size}
 use Rattle.noc_net.proofs.ReaderLemmas.{count_routers, router_at, router_site}

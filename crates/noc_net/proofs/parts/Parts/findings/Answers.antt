@@ -1,5 +1,5 @@
 use Rattle.std.proofs.Common.{◌≡◌, ℕ, refl, ap, ◌∙◌, arith}
-use Rattle.noc_router.specs.View.{View}
+use Rattle.noc_view.specs.View.{View}
 use Rattle.noc_theory.specs.Lockstep.{findings_before, view_at}
 use Rattle.noc_theory.specs.Network.{Setup}
 use Rattle.noc_net.specs.Parts.{run_in, setup_in}

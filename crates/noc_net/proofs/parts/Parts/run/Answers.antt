@@ -2,7 +2,7 @@ use Rattle.std.proofs.Common.{◌≡◌, ℕ, ◌+◌, ◌-◌, List, ap, ◌∙
 use Rattle.std.proofs.lemmas.List.{with_items_is}
 use Rattle.noc_packet.specs.declared.packet.Beat.{Beat}
 use Rattle.noc_theory.specs.Halves.{beat_at}
-use Rattle.noc_router.specs.declared.verdict.Findings.TheVariants.{Record}
+use Rattle.noc_view.specs.declared.finding.Recording.TheVariants.{Record}
 use Rattle.noc_theory.specs.Unseen.{AreInStep}
 use Rattle.noc_theory.proofs.runs.UnseenLemmas.{to_unseen}
 use Rattle.noc_net.specs.Parts.{setup_in}

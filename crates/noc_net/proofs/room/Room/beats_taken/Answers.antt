@@ -1,6 +1,6 @@
 use Rattle.std.proofs.Common.{◌≡◌, None, Option, get_or, unwrap_or, ap, ◌∙◌, length-set, arith}
 use Rattle.noc_packet.specs.declared.packet.Beat.{Beat}
-use Rattle.noc_router.specs.View.{idle_beat}
+use Rattle.noc_view.specs.View.{idle_beat}
 use Rattle.noc_net.proofs.RoomLemmas.{each_more, map-from_each}
 use Rattle.noc_net.proofs.room.Room.beats_taken.Goals as goal
 

@@ -2,9 +2,9 @@ use Rattle.std.proofs.Common.{◌≡◌, ℕ, ◌<◌, ◌≤◌, List, Some, No
 use Rattle.std.specs.Prelude.{if◌then◌else◌}
 use Rattle.std.proofs.lemmas.List.{get_or-take}
 use Rattle.noc_topo.specs.Shape.{Grid, neighbour, local_port}
-use Rattle.noc_topo.proofs.WordLemmas.{map_indexed-from_each}
+use Rattle.noc_topo.proofs.ListLemmas.{map_indexed-from_each}
 use Rattle.noc_packet.specs.declared.packet.Beat.{Beat}
-use Rattle.noc_router.specs.View.{idle_beat}
+use Rattle.noc_view.specs.View.{idle_beat}
 use Rattle.noc_net.specs.declared.wire.Wire.{Wire}
 use Rattle.noc_theory.specs.Core.{post_after_last_put, is_linked}
 use Rattle.noc_net.specs.Room.{unput_for, wire_beats, wires_in}

@@ -1,7 +1,7 @@
 use Rattle.std.proofs.Common.{◌≡◌, ℕ, ◌<◌, None, Some, true, get_or, is_some, length}
 use Rattle.std.specs.Prelude.{if◌then◌else◌}
 use Rattle.noc_topo.specs.Shape.{neighbour}
-use Rattle.noc_router.specs.View.{idle_beat}
+use Rattle.noc_view.specs.View.{idle_beat}
 use Rattle.noc_net.proofs.room.Room.decide.Given as goal
 
 -- the beats for the ports before this one are to be put

@@ -2,7 +2,7 @@ use Rattle.std.proofs.Common.{◌≡◌, ◌≢◌, ◌<◌, ◌≤◌, List, []
 use Rattle.std.proofs.lemmas.Bool.{cases_lt}
 use Rattle.std.proofs.lemmas.List.{get_or-map, get_or-set_other, get_or-take, get_or_past, length-map}
 use Rattle.noc_packet.specs.declared.packet.Beat.{Beat}
-use Rattle.noc_router.specs.View.{idle_beat}
+use Rattle.noc_view.specs.View.{idle_beat}
 use Rattle.noc_net.specs.Room.{front_of, wire_beats, wires_in}
 use Rattle.noc_net.proofs.RoomLemmas.{each_more}
 use Rattle.noc_theory.proofs.runs.WireLemmas.{get_or-idle}

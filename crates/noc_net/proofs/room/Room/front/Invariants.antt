@@ -1,5 +1,5 @@
 use Rattle.std.proofs.Common.{◌≡◌, ℕ, ◌<◌, ◌≤◌, [], get_or, length}
-use Rattle.noc_router.specs.View.{idle_beat}
+use Rattle.noc_view.specs.View.{idle_beat}
 use Rattle.noc_net.specs.Room.{front_of, wires_in}
 use Rattle.noc_net.proofs.room.Room.front.Given as goal
 

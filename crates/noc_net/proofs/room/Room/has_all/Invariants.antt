@@ -1,6 +1,6 @@
 use Rattle.std.proofs.Common.{◌≡◌, ℕ, true, not, ◌||◌, take}
 use Rattle.std.specs.List.{list_all}
-use Rattle.noc_topo.specs.Words.{below}
+use Rattle.noc_topo.specs.Lists.{below}
 use Rattle.noc_theory.specs.Core.{has_beat, is_linked, link_ports}
 use Rattle.noc_theory.specs.Network.{Setup}
 use Rattle.noc_net.proofs.room.Room.has_all.Given as goal

@@ -3,9 +3,9 @@ use Rattle.std.specs.Prelude.{if◌then◌else◌}
 use Rattle.std.proofs.lemmas.List.{get_or-take, length-map}
 use lib.Seq.{map-set}
 use Rattle.noc_topo.specs.Shape.{neighbour, local_port}
-use Rattle.noc_topo.proofs.WordLemmas.{tabulate-from_each}
+use Rattle.noc_topo.proofs.ListLemmas.{tabulate-from_each}
 use Rattle.noc_packet.specs.declared.packet.Beat.{Beat}
-use Rattle.noc_router.specs.View.{idle_beat}
+use Rattle.noc_view.specs.View.{idle_beat}
 use Rattle.noc_net.specs.declared.room.Room.{Room}
 use Rattle.noc_net.specs.Room.{opening_wires, wire_beats, wires_in}
 use Rattle.noc_theory.proofs.runs.PostLemmas.{same_post}

@@ -3,8 +3,8 @@ use Rattle.std.proofs.Math.Nat.{mod-lt}
 use Rattle.std.specs.Prelude.{slice_set}
 use Rattle.noc_topo.specs.Shape.{Grid, neighbour, distance, ports}
 use Rattle.noc_route.specs.Routes.{set_at}
-use Rattle.noc_route.specs.Ranks.{is_place, rank_index, rank_count}
-use Rattle.noc_rank.proofs.PlaceLemmas.{input-port, is_place-true}
+use Rattle.noc_route.specs.Ranks.{is_port_channel, rank_index, rank_count}
+use Rattle.noc_rank.proofs.IndexLemmas.{input-port, is_port_channel-true}
 use Rattle.noc_rank.specs.LeastAhead.{IsLeastOf, outputs}
 use Rattle.noc_rank.specs.Filled.{IsFilled, IsFoundIn}
 use Rattle.noc_rank.proofs.AheadLemmas.{least-more, least-none_here}
@@ -22,8 +22,8 @@ returns-in-Some c =
     = ap (λ v. neighbour routes.grid b (i / v)) (sym vcs) ∙ ap (λ g. neighbour g b (i / c.vcs-vcs.result)) (sym c.shape.ensures.value) ∙ sym c.neighbour.ensures.value ∙ c.in-Some.is in
     let set : c.permitted-set.result ≡ set_at routes s.class b (i / routes.vcs) (i % routes.vcs) s.dst = c.permitted-set.ensures.value ∙ ap (λ v. set_at routes s.class b (i / v) (i % v) s.dst) vcs in
     let value = subst (λ (bits : ℕ). IsLeastOf (IsFoundIn s least b bits (outputs routes)) c.least_of-value.result) set c.least_of-value.ensures in
-    let place : c.place.result ≡ rank_index routes.grid routes.vcs c.in-Some.sender c.in-Some.out_port (i % routes.vcs)
-    = c.place.ensures.value ∙ ap (λ g. rank_index g c.vcs-vcs.result c.in-Some.sender c.in-Some.out_port (i % c.vcs-vcs.result)) c.shape-in-Some.ensures.value ∙ ap (λ v. rank_index routes.grid v c.in-Some.sender c.in-Some.out_port (i % v)) vcs in
+    let place : c.rank_index.result ≡ rank_index routes.grid routes.vcs c.in-Some.sender c.in-Some.out_port (i % routes.vcs)
+    = c.rank_index.ensures.value ∙ ap (λ g. rank_index g c.vcs-vcs.result c.in-Some.sender c.in-Some.out_port (i % c.vcs-vcs.result)) c.shape-in-Some.ensures.value ∙ ap (λ v. rank_index routes.grid v c.in-Some.sender c.in-Some.out_port (i % v)) vcs in
     subst (λ n. IsFilled s (distance routes.grid b s.dst) b (i + 1) (slice_set least n c.least_of-value.result)) (sym place)
     (least-more s c.vcs-vcs.ensures.built b i c.in-Some.sender c.in-Some.out_port least c.least_of-value.result c.requires.router c.requires.input link c.requires.before value)
 
@@ -64,17 +64,17 @@ permitted-set-requires-clause-in_vc c =
 pub least_of-value-requires-clause-least : goal.least_of-value-requires-clause-least
 least_of-value-requires-clause-least c = c.requires.before.long ∙ sym c.args.self.now.all_ranks
 
-pub place-requires-clause-place : goal.place-requires-clause-place
-place-requires-clause-place c =
+pub rank_index-requires-clause-channel : goal.rank_index-requires-clause-channel
+rank_index-requires-clause-channel c =
     let some : 0 < c.vcs-vcs.result = omega (arith, c.vcs-vcs.ensures.value, c.vcs-vcs.ensures.built.table.some_vcs) in
-    let P : Grid → Type 0 = λ g. is_place g c.vcs-vcs.result c.in-Some.sender c.in-Some.out_port (c.args.input % c.vcs-vcs.result) ≡ true in
+    let P : Grid → Type 0 = λ g. is_port_channel g c.vcs-vcs.result c.in-Some.sender c.in-Some.out_port (c.args.input % c.vcs-vcs.result) ≡ true in
     subst P (c.shape.ensures.value ∙ sym c.shape-in-Some.ensures.value)
-    (is_place-true c.shape.result.now c.vcs-vcs.result c.in-Some.sender c.in-Some.out_port (c.args.input % c.vcs-vcs.result) c.in-Some.ensures.range.0 c.in-Some.ensures.range.1 (mod-lt c.args.input some))
+    (is_port_channel-true c.shape.result.now c.vcs-vcs.result c.in-Some.sender c.in-Some.out_port (c.args.input % c.vcs-vcs.result) c.in-Some.ensures.range.0 c.in-Some.ensures.range.1 (mod-lt c.args.input some))
 
-pub bounds-least-place : goal.bounds-least-place
-bounds-least-place c =
+pub bounds-least-rank_index : goal.bounds-least-rank_index
+bounds-least-rank_index c =
     let routes = c.args.self.now.relation.now in
     let count : rank_count c.shape-in-Some.result.now c.vcs-vcs.result ≡ length c.args.least.now
     = ap (λ g. rank_count g c.vcs-vcs.result) c.shape-in-Some.ensures.value ∙ ap (λ v. rank_count routes.grid v) c.vcs-vcs.ensures.value ∙ sym c.requires.before.long in
-    let P : ℕ → Type 0 = λ n. c.place.result < n in
-    subst P count c.place.ensures.within
+    let P : ℕ → Type 0 = λ n. c.rank_index.result < n in
+    subst P count c.rank_index.ensures.within

@@ -4,8 +4,8 @@ use Rattle.noc_rank.specs.LeastAhead.{outputs}
 use Rattle.noc_rank.proofs.AheadLemmas.{output-inside, least-member}
 use Rattle.noc_rank.proofs.ahead.Search.least_of.Goals as goal
 
-pub counted-value-requires-clause-place : goal.counted-value-requires-clause-place
-counted-value-requires-clause-place c =
+pub counted-value-requires-clause-within : goal.counted-value-requires-clause-within
+counted-value-requires-clause-within c =
     let s = c.args.self.now in
     let routes = s.relation.now in
     let count : c.link_ports.result * c.vcs.result ≡ outputs routes

@@ -2,7 +2,7 @@ use Rattle.std.proofs.Common.{◌≡◌, ℕ, ◌*◌, ◌/◌, ◌%◌, ◌<◌
 use Rattle.std.proofs.Math.Nat.{mod-lt, mul-le-mul_right}
 use Rattle.noc_route.specs.Ranks.{rank_count}
 use Rattle.noc_rank.specs.Formulated.{AreByFormula}
-use Rattle.noc_rank.proofs.FormulaLemmas.{vcs-few, by_formula-push, place-known}
+use Rattle.noc_rank.proofs.FormulaLemmas.{vcs-few, by_formula-push, rank_index-known}
 use Rattle.noc_rank.proofs.generated.Formula.ranks.Goals as goal
 
 pub overflow_mul-count : goal.overflow_mul-count
@@ -18,21 +18,21 @@ pub rank_at-requires-clause-router : goal.rank_at-requires-clause-router
 rank_at-requires-clause-router c =
     let f = c.args.self.now in
     let count : c.all_ports.result * f.vcs ≡ rank_count f.shape.now f.vcs = ap (λ n. n * f.vcs) c.all_ports.ensures.value in
-    place-known f.shape.now f.vcs c.link_ports-ports.result c.loop-place.place (vcs-few f.shape.now f.vcs f.classes f.rule.now f.ruled).0 c.link_ports-ports.ensures.some c.link_ports-ports.ensures.value (omega (arith, count, c.loop-place-test.true))
+    rank_index-known f.shape.now f.vcs c.link_ports-ports.result c.loop-index.index (vcs-few f.shape.now f.vcs f.classes f.rule.now f.ruled).0 c.link_ports-ports.ensures.some c.link_ports-ports.ensures.value (omega (arith, count, c.loop-index-test.true))
 
 pub rank_at-requires-clause-port : goal.rank_at-requires-clause-port
 rank_at-requires-clause-port c =
     let ports : 0 < c.link_ports-ports.result = omega (arith, c.link_ports-ports.ensures.some) in
-    let P : ℕ → Type 0 = λ n. c.loop-place.place / c.args.self.now.vcs % c.link_ports-ports.result < n in
-    subst P c.link_ports-ports.ensures.value (mod-lt (c.loop-place.place / c.args.self.now.vcs) ports)
+    let P : ℕ → Type 0 = λ n. c.loop-index.index / c.args.self.now.vcs % c.link_ports-ports.result < n in
+    subst P c.link_ports-ports.ensures.value (mod-lt (c.loop-index.index / c.args.self.now.vcs) ports)
 
-pub loop-place-preserved : goal.loop-place-preserved
-loop-place-preserved c =
-    by_formula-push c.args.self.now c.link_ports-ports.result c.loop-place.place c.loop-place.ranks.items c.push.new.self.items c.rank_at.result c.link_ports-ports.ensures.value c.loop-place.invariant c.in_ok-push.ensures.items c.rank_at.ensures.value c.rank_at.ensures.within
+pub loop-index-preserved : goal.loop-index-preserved
+loop-index-preserved c =
+    by_formula-push c.args.self.now c.link_ports-ports.result c.loop-index.index c.loop-index.ranks.items c.push.new.self.items c.rank_at.result c.link_ports-ports.ensures.value c.loop-index.invariant c.in_ok-push.ensures.items c.rank_at.ensures.value c.rank_at.ensures.within
 
 pub returns-clause-ranks : goal.returns-clause-ranks
 returns-clause-ranks c =
     let f = c.args.self.now in
     let count : c.all_ports.result * f.vcs ≡ rank_count f.shape.now f.vcs = ap (λ n. n * f.vcs) c.all_ports.ensures.value in
-    let last : c.loop-place.place ≡ rank_count f.shape.now f.vcs = omega (arith, count, c.loop-place.auto.place-end, c.loop-place-test.false) in
-    subst (λ n. AreByFormula f n c.loop-place.ranks.items) last c.loop-place.invariant
+    let last : c.loop-index.index ≡ rank_count f.shape.now f.vcs = omega (arith, count, c.loop-index.auto.index-end, c.loop-index-test.false) in
+    subst (λ n. AreByFormula f n c.loop-index.ranks.items) last c.loop-index.invariant

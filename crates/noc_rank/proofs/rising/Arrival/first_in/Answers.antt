@@ -2,7 +2,7 @@ use Rattle.std.proofs.Common.{◌≡◌, false, ap, ◌∙◌, arith}
 use borrow.Author.Count.{below_more}
 use Rattle.noc_topo.specs.Shape.{local_port}
 use Rattle.noc_rank.specs.Arriving.{falls_in}
-use Rattle.noc_rank.proofs.PlaceLemmas.{index-known, index-past, index-few}
+use Rattle.noc_rank.proofs.IndexLemmas.{index-known, index-past, index-few}
 use Rattle.noc_rank.proofs.rising.Arrival.first_in.Goals as goal
 
 pub falls_to-requires-clause-index : goal.falls_to-requires-clause-index

@@ -27,8 +27,8 @@ overflow_add-ring c =
     let ring = ring-known c.self.invariant.0 c.self.view_is c.requires in
     omega (arith, ring.few_slots, slot ring _ ring.head_below)
 
-pub get-requires-clause-place : goal.get-requires-clause-place
-get-requires-clause-place c = let ring = ring-known c.self.invariant.0 c.self.view_is c.requires in slot ring _ ring.head_below
+pub get-requires-clause-slot : goal.get-requires-clause-slot
+get-requires-clause-slot c = let ring = ring-known c.self.invariant.0 c.self.view_is c.requires in slot ring _ ring.head_below
 
 pub get-requires-clause-holds : goal.get-requires-clause-holds
 get-requires-clause-holds c =

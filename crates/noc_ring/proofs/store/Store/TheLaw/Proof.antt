@@ -1,4 +1,4 @@
--- A `&` to the places is one to their block. Assumes `Logic`.
+-- A `&` to the slots is one to their block. Assumes `Logic`.
 use denote.SharingLaws.{nothing_shr_laws}
 use denote.Struct.Lending.{of_Lends, Lends-nothing}
 use Rattle.noc_ring.proofs.store.Block.TheLaws as block

@@ -1,7 +1,7 @@
 use Rattle.std.proofs.Common.{◌+◌, ◌*◌, ◌/◌, ◌%◌, ◌≤◌, ◌∙◌, ℕ, List, ap, subst, sym, arith}
 use Rattle.noc_topo.specs.Shape.{distance}
 use Rattle.noc_route.specs.Trimming.{routes_in}
-use Rattle.noc_route.proofs.PlaceLemmas.{pair-first, pair-second}
+use Rattle.noc_route.proofs.EntryLemmas.{pair-first, pair-second}
 use Rattle.noc_route.proofs.TrimLemmas.{IsRingDone, IsRingDone-none, IsRingDone-more, IsRingDone-passed, IsRingDone-all}
 use Rattle.noc_route.proofs.gather.Table.gather_at.Goals as goal
 use Rattle.noc_route.proofs.gather.Table.gather_at.Goals.{then-distance, else-distance}
@@ -10,16 +10,16 @@ pub loop-pair-init : goal.loop-pair-init
 loop-pair-init c = IsRingDone-none _ c.args.outs.now c.args.distance c.requires
 
 pub distance-requires-clause-from : goal.distance-requires-clause-from
-distance-requires-clause-from c = let f = c.args.self.now.map.now.frame in pair-first f.node_count _ c.loop-pair.pair f.all_nodes (omega (arith, f.some_nodes)) c.loop-pair-test.true
+distance-requires-clause-from c = let f = c.args.self.now.map.now.sizes in pair-first f.node_count _ c.loop-pair.pair f.all_nodes (omega (arith, f.some_nodes)) c.loop-pair-test.true
 
 pub distance-requires-clause-to : goal.distance-requires-clause-to
-distance-requires-clause-to c = let f = c.args.self.now.map.now.frame in pair-second f.node_count _ c.loop-pair.pair f.all_nodes (omega (arith, f.some_nodes))
+distance-requires-clause-to c = let f = c.args.self.now.map.now.sizes in pair-second f.node_count _ c.loop-pair.pair f.all_nodes (omega (arith, f.some_nodes))
 
 pub gather_pair-requires-clause-router : goal.gather_pair-requires-clause-router
-gather_pair-requires-clause-router c = let f = c.args.self.now.map.now.frame in pair-first f.node_count _ c.loop-pair.pair f.all_nodes (omega (arith, f.some_nodes)) c.loop-pair-test.true
+gather_pair-requires-clause-router c = let f = c.args.self.now.map.now.sizes in pair-first f.node_count _ c.loop-pair.pair f.all_nodes (omega (arith, f.some_nodes)) c.loop-pair-test.true
 
 pub gather_pair-requires-clause-dst : goal.gather_pair-requires-clause-dst
-gather_pair-requires-clause-dst c = let f = c.args.self.now.map.now.frame in pair-second f.node_count _ c.loop-pair.pair f.all_nodes (omega (arith, f.some_nodes))
+gather_pair-requires-clause-dst c = let f = c.args.self.now.map.now.sizes in pair-second f.node_count _ c.loop-pair.pair f.all_nodes (omega (arith, f.some_nodes))
 
 pub gather_pair-requires-clause-outs : goal.gather_pair-requires-clause-outs
 gather_pair-requires-clause-outs c = c.loop-pair.invariant.lists
@@ -29,7 +29,7 @@ gather_pair-requires-clause-farther c = λ m r place l. c.loop-pair.invariant.fa
 
 pub loop-pair-preserved : goal.loop-pair-preserved
 loop-pair-preserved c =
-    let f = c.args.self.now.map.now.frame in
+    let f = c.args.self.now.map.now.sizes in
     let routes = routes_in f c.args.self.now.sets.now in
     let P : List ℕ → Type 0 = λ outs. IsRingDone routes outs c.args.distance (c.loop-pair.pair + 1) in
     elim c.if-distance.branch [
@@ -40,6 +40,6 @@ loop-pair-preserved c =
 
 pub returns : goal.returns
 returns c =
-    let f = c.args.self.now.map.now.frame in
+    let f = c.args.self.now.map.now.sizes in
     let P : ℕ → Type 0 = λ n. n * n ≤ c.loop-pair.pair in
     IsRingDone-all (routes_in f c.args.self.now.sets.now) c.loop-pair.outs c.args.distance c.loop-pair.pair (subst P f.all_nodes c.loop-pair-test.false) c.loop-pair.invariant

@@ -3,4 +3,4 @@ use Rattle.noc_route.proofs.TrimLemmas.{IsRingDone}
 use Rattle.noc_route.proofs.gather.Table.gather_at.Given as goal
 
 abbrev pub invariant-loop-pair : goal.invariant-loop-pair
-invariant-loop-pair l = IsRingDone (routes_in l.self.map.now.frame l.self.sets.now) l.outs l.distance l.pair
+invariant-loop-pair l = IsRingDone (routes_in l.self.map.now.sizes l.self.sets.now) l.outs l.distance l.pair

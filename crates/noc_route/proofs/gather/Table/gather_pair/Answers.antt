@@ -13,7 +13,7 @@ leaving-out-requires-clause-outs c = c.loop-class.invariant.lists.long
 pub loop-class-preserved : goal.loop-class-preserved
 loop-class-preserved c =
     let table = c.args.self.now in
-    let f = table.map.now.frame in
+    let f = table.map.now.sizes in
     let routes = routes_in f table.sets.now in
     let P : ℕ → Type 0 = λ page. IsPairDone routes c.args.outs.now (set c.loop-class.outs page c.leaving-out.result) c.args.router c.args.dst (c.loop-class.class + 1) in
     subst P (sym c.page.ensures.value)
@@ -23,5 +23,5 @@ loop-class-preserved c =
 pub returns : goal.returns
 returns c =
     let table = c.args.self.now in
-    let last : c.loop-class.class ≡ table.map.now.frame.classes = omega (arith, c.loop-class.auto.class-end, c.loop-class-test.false) in
-    subst (IsPairDone (routes_in table.map.now.frame table.sets.now) c.args.outs.now c.loop-class.outs c.args.router c.args.dst) last c.loop-class.invariant
+    let last : c.loop-class.class ≡ table.map.now.sizes.classes = omega (arith, c.loop-class.auto.class-end, c.loop-class-test.false) in
+    subst (IsPairDone (routes_in table.map.now.sizes table.sets.now) c.args.outs.now c.loop-class.outs c.args.router c.args.dst) last c.loop-class.invariant

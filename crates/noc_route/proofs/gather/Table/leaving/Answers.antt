@@ -16,7 +16,7 @@ bounds-self-slot c = let P : ℕ → Type 0 = λ n. c.slot.result < n in subst P
 
 pub loop-input-preserved : goal.loop-input-preserved
 loop-input-preserved c =
-    let f = c.args.self.now.map.now.frame in
+    let f = c.args.self.now.map.now.sizes in
     let sets = c.args.self.now.sets.now in
     let within : c.slot.result < length sets = let P : ℕ → Type 0 = λ n. c.slot.result < n in subst P (sym c.args.self.now.long) c.slot.ensures.within in
     let set = get_or_default sets c.slot.result c.index-self-slot.result 0 within
@@ -26,7 +26,7 @@ loop-input-preserved c =
 
 pub returns : goal.returns
 returns c =
-    let f = c.args.self.now.map.now.frame in
+    let f = c.args.self.now.map.now.sizes in
     let P : ℕ → Type 0 = λ n. IsGathered (routes_in f c.args.self.now.sets.now) c.args.outs.now c.args.class c.args.router c.args.dst n c.loop-input.all in
     let all : c.loop-input.input ≡ width f.shape f.vcs = omega (arith, c.loop-input.auto.input-end, c.loop-input-test.false, c.width-input-end.ensures.value) in
     subst P all c.loop-input.invariant

@@ -10,7 +10,7 @@ returns-then-not-is_in_block c = λ r t w.
 
 pub returns-then-port-ge-LINKS : goal.returns-then-port-ge-LINKS
 returns-then-port-ge-LINKS c = λ r t w.
-    let f = c.args.routing.now.map.now.frame in
+    let f = c.args.routing.now.map.now.sizes in
     sym
     (is_led-past (parts_of c.args.routing.now) c.args.class r t c.args.port c.args.vc c.args.routing.now.right (sym w.arrived ∙ c.if-self.false)
     (omega (arith, c.if-port-ge-LINKS.true, f.few_ports, f.all_ports)))

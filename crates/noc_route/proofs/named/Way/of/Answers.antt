@@ -4,19 +4,19 @@ use Rattle.noc_route.proofs.named.Way.of.Goals as goal
 
 pub dor_port-requires-clause-here : goal.dor_port-requires-clause-here
 dor_port-requires-clause-here c =
-    rw (c.coordinates-here.ensures.value, c.args.map.now.corner) (λ i l. padded-below c.args.map.now.frame.shape c.args.router i c.coordinates-here.ensures.grid l)
+    rw (c.coordinates-here.ensures.value, c.args.map.now.corner) (λ i l. padded-below c.args.map.now.sizes.shape c.args.router i c.coordinates-here.ensures.grid l)
 
 pub dor_port-requires-clause-there : goal.dor_port-requires-clause-there
 dor_port-requires-clause-there c =
-    rw (c.coordinates-there.ensures.value, c.args.map.now.corner) (λ i l. padded-below c.args.map.now.frame.shape c.args.dst i c.coordinates-there.ensures.grid l)
+    rw (c.coordinates-there.ensures.value, c.args.map.now.corner) (λ i l. padded-below c.args.map.now.sizes.shape c.args.dst i c.coordinates-there.ensures.grid l)
 
 pub nearer_ports-requires-clause-here : goal.nearer_ports-requires-clause-here
 nearer_ports-requires-clause-here c =
-    rw (c.coordinates-here.ensures.value, c.args.map.now.corner) (λ i l. padded-below c.args.map.now.frame.shape c.args.router i c.coordinates-here.ensures.grid l)
+    rw (c.coordinates-here.ensures.value, c.args.map.now.corner) (λ i l. padded-below c.args.map.now.sizes.shape c.args.router i c.coordinates-here.ensures.grid l)
 
 pub nearer_ports-requires-clause-there : goal.nearer_ports-requires-clause-there
 nearer_ports-requires-clause-there c =
-    rw (c.coordinates-there.ensures.value, c.args.map.now.corner) (λ i l. padded-below c.args.map.now.frame.shape c.args.dst i c.coordinates-there.ensures.grid l)
+    rw (c.coordinates-there.ensures.value, c.args.map.now.corner) (λ i l. padded-below c.args.map.now.sizes.shape c.args.dst i c.coordinates-there.ensures.grid l)
 
 pub returns : goal.returns
 returns c = record {

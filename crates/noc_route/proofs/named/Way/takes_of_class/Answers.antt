@@ -3,25 +3,25 @@ use Rattle.std.specs.Prelude.{nat_eq}
 use Rattle.noc_topo.specs.Shape.{coordinates}
 use Rattle.noc_topo.proofs.LinkLemmas.{get_or-padded}
 use Rattle.noc_route.specs.Relation.{is_right, dateline_class, resource_class, takes_of_class}
-use Rattle.noc_route.proofs.PlaceLemmas.{half-some, adaptive-some}
+use Rattle.noc_route.proofs.EntryLemmas.{half-some, adaptive-some}
 use Rattle.noc_route.proofs.named.Way.takes_of_class.Goals as goal
 
 pub resource_class-requires : goal.resource_class-requires
 resource_class-requires c =
-    let f = c.args.routing.now.map.now.frame in
+    let f = c.args.routing.now.map.now.sizes in
     half-some f.shape f.vcs f.classes (sym (ap (is_right f.shape f.vcs f.classes) c.in-Dateline.is) ∙ c.args.routing.now.right)
 
-pub nonzero_div-place : goal.nonzero_div-place
-nonzero_div-place c = c.args.routing.now.map.now.frame.some_classes
+pub nonzero_div-index : goal.nonzero_div-index
+nonzero_div-index c = c.args.routing.now.map.now.sizes.some_classes
 
-pub nonzero_rem-place : goal.nonzero_rem-place
-nonzero_rem-place c =
-    let f = c.args.routing.now.map.now.frame in
+pub nonzero_rem-index : goal.nonzero_rem-index
+nonzero_rem-index c =
+    let f = c.args.routing.now.map.now.sizes in
     adaptive-some f.shape f.vcs f.classes (sym (ap (is_right f.shape f.vcs f.classes) c.in-Adaptive.is) ∙ c.args.routing.now.right)
 
 pub returns-in-Dateline : goal.returns-in-Dateline
 returns-in-Dateline c = λ r t w.
-    let f = c.args.routing.now.map.now.frame in
+    let f = c.args.routing.now.map.now.sizes in
     let i = c.args.port / 2 in
     let xs = coordinates f.shape.radix r in
     let ts = coordinates f.shape.radix t in

@@ -6,7 +6,7 @@ use Rattle.noc_route.specs.Relation.{RelationParts, IsFaultOf, is_right}
 use Rattle.noc_route.specs.Routes.{IsRelation}
 use Rattle.noc_route.specs.Trimming.{routes_in}
 use Rattle.noc_route.specs.declared.sizes.Sizes.{Sizes}
-use Rattle.noc_route.proofs.WayLemmas.{routing_in-frame}
+use Rattle.noc_route.proofs.WayLemmas.{routing_in-sizes}
 use Rattle.noc_route.proofs.relation.Relation.build.Goals as goal
 
 pub invariant_of-routing : goal.invariant_of-routing
@@ -14,7 +14,7 @@ invariant_of-routing c =
     let s = c.in-Some.ensures.some in
     let P : Sizes → Type 0 = λ f. is_right f.shape f.vcs f.classes c.args.rule ≡ true in
     let Q : RelationParts → Type 0 = λ g. is_right g.grid g.vcs g.classes g.rule ≡ true in
-    record { right = subst P (sym c.in_ok-map.ensures) (subst Q (sym (routing_in-frame c.in-Some.frame c.args.shape.now c.args.vcs c.args.classes c.args.rule s.1 s.2 s.3)) s.0) }
+    record { right = subst P (sym c.in_ok-map.ensures) (subst Q (sym (routing_in-sizes c.in-Some.sizes c.args.shape.now c.args.vcs c.args.classes c.args.rule s.1 s.2 s.3)) s.0) }
 
 pub returns-in_default-clause-exact : goal.returns-in_default-clause-exact
 returns-in_default-clause-exact c = c.in_default.ensures.none
@@ -29,7 +29,7 @@ returns-in_err-sets_of-clause-exact c =
     let P : Sizes → Type 0 = λ f. IsFaultOf (routing_in f c.args.rule) c.in_err-sets_of.field-0.0 in
     let Q : RelationParts → Type 0 = λ g. IsFaultOf g c.in_err-sets_of.field-0.0 in
     rw (p.1, p.2)
-    (subst Q (routing_in-frame c.in-Some.frame c.args.shape.now c.args.vcs c.args.classes c.args.rule s.1 s.2 s.3)
+    (subst Q (routing_in-sizes c.in-Some.sizes c.args.shape.now c.args.vcs c.args.classes c.args.rule s.1 s.2 s.3)
     (subst P c.in_ok-map.ensures c.in_err-sets_of.ensures))
 
 pub invariant_of-result : goal.invariant_of-result
@@ -40,8 +40,8 @@ returns-clause-exact c =
     let s = c.in-Some.ensures.some in
     let items = c.in_ok-sets_of.field-0.items in
     let P : Sizes → Type 0 = λ f. IsRelationOfRule (routing_in f c.args.rule) (routes_in f items) in
-    let Q : RelationParts → Type 0 = λ g. IsRelationOfRule g (routes_in c.in-Some.frame items) in
-    subst Q (routing_in-frame c.in-Some.frame c.args.shape.now c.args.vcs c.args.classes c.args.rule s.1 s.2 s.3) (subst P c.in_ok-map.ensures c.in_ok-sets_of.ensures)
+    let Q : RelationParts → Type 0 = λ g. IsRelationOfRule g (routes_in c.in-Some.sizes items) in
+    subst Q (routing_in-sizes c.in-Some.sizes c.args.shape.now c.args.vcs c.args.classes c.args.rule s.1 s.2 s.3) (subst P c.in_ok-map.ensures c.in_ok-sets_of.ensures)
 
 pub returns-clause-built : goal.returns-clause-built
 returns-clause-built c = let P : Sizes → Type 0 = λ f. IsRelation (routes_in f c.in_ok-sets_of.field-0.items) in subst P c.in_ok-map.ensures c.in_ok-sets_of.ensures.built

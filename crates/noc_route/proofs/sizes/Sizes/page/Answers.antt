@@ -1,6 +1,6 @@
 use Rattle.std.proofs.Common.{◌+◌, ◌*◌, ◌<◌, ap, arith}
 use Rattle.noc_topo.specs.Shape.{nodes}
-use Rattle.noc_route.proofs.PlaceLemmas.{flat-below, page-few}
+use Rattle.noc_route.proofs.EntryLemmas.{flat-below, page-few}
 use Rattle.noc_route.proofs.sizes.Sizes.page.Goals as goal
 
 few : (c : goal.Start) → (c.args.router * c.args.self.now.classes + c.args.class < 1024) × ((c.args.router * c.args.self.now.classes + c.args.class) * c.args.self.now.node_count + c.args.dst < 262144)

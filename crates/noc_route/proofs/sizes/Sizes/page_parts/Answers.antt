@@ -1,7 +1,7 @@
 use Rattle.std.proofs.Common.{arith}
 use Rattle.std.proofs.Math.Nat.{mod-lt}
 use Rattle.noc_topo.specs.Shape.{nodes}
-use Rattle.noc_route.proofs.PlaceLemmas.{page-router}
+use Rattle.noc_route.proofs.EntryLemmas.{page-router}
 use Rattle.noc_route.proofs.sizes.Sizes.page_parts.Goals as goal
 
 pub returns-clause-range : goal.returns-clause-range

@@ -1,4 +1,4 @@
-use Rattle.noc_route.proofs.PlaceLemmas.{flat-below}
+use Rattle.noc_route.proofs.EntryLemmas.{flat-below}
 use Rattle.noc_route.proofs.sizes.Sizes.slot.Goals as goal
 
 pub returns-clause-within : goal.returns-clause-within

@@ -3,7 +3,7 @@ use Rattle.noc_vc.specs.Input.{Input}
 use Rattle.noc_vc.specs.Output.{is_free}
 use Rattle.noc_router.specs.Sound.{asked_in, nth_output}
 use Rattle.noc_router.proofs.ChannelLemmas.{read-at}
-use Rattle.noc_router.proofs.FindLemmas.{find-least}
+use Rattle.noc_view.proofs.FindLemmas.{find-least}
 use Rattle.noc_router.proofs.channels.Channels.asked.Goals as goal
 
 pub returns-in-Waiting-clause-value : goal.returns-in-Waiting-clause-value

@@ -11,18 +11,18 @@ use Rattle.noc_router.proofs.channels.Channels.new.Goals as goal
 pub invariant_of-result-clause-sound : goal.invariant_of-result-clause-sound
 invariant_of-result-clause-sound c =
     let none = c.empty-none.ensures.members in
-    AreSound-opening c.args.size c.args.links c.args.places _ c.in_ok-bank.bank c.resize.new.self.items c.in_ok-outputs.outputs.items
+    AreSound-opening c.args.size c.args.links c.args.depth _ c.in_ok-bank.bank c.resize.new.self.items c.in_ok-outputs.outputs.items
     c.requires.few_links none none none none c.all_channels-every.ensures c.in_ok-bank.ensures (grind (arith, common_steps, c.in_ok-resize.ensures.items)) c.in_ok-outputs.ensures
 
 pub invariant_of-result-clause-an_output_each : goal.invariant_of-result-clause-an_output_each
 invariant_of-result-clause-an_output_each c =
-    let links : List Output = replicate c.args.links (link_output c.args.places) in
+    let links : List Output = replicate c.args.links (link_output c.args.depth) in
     let others : List Output = replicate (c.args.size - c.args.links) ejection_output in
-    omega (arith, c.requires.few_links, ap length c.in_ok-outputs.ensures, length-append links others, length-replicate c.args.links (link_output c.args.places), length-replicate (c.args.size - c.args.links) ejection_output, c.in_ok-outputs.outputs.ok.0)
+    omega (arith, c.requires.few_links, ap length c.in_ok-outputs.ensures, length-append links others, length-replicate c.args.links (link_output c.args.depth), length-replicate (c.args.size - c.args.links) ejection_output, c.in_ok-outputs.outputs.ok.0)
 
 pub returns : goal.returns
 returns c =
-    let opened = opening_states c.args.size c.args.links c.args.places in
+    let opened = opening_states c.args.size c.args.links c.args.depth in
     let inputs : c.resize.new.self.items ≡ replicate c.args.size idle_input = grind (arith, common_steps, c.in_ok-resize.ensures.items) in
     ap (λ (b : Buffers). record opened { bank = b; inputs = c.resize.new.self.items; outputs = c.in_ok-outputs.outputs.items }) c.in_ok-bank.ensures
     ∙ ap (λ (xs : List Input). record opened { inputs = xs; outputs = c.in_ok-outputs.outputs.items }) inputs

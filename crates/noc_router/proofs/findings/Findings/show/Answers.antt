@@ -2,11 +2,12 @@ use Rattle.std.proofs.Common.{◌≡◌, ◌<◌, ℕ, true, List, length, ap, s
 use Rattle.std.specs.Prelude.{◌⊎◌}
 use Rattle.noc_packet.specs.Set.{has_bit}
 use Rattle.noc_ring.specs.Buffers.{buffer_at}
-use Rattle.noc_topo.specs.Words.{tabulate}
-use Rattle.noc_topo.proofs.WordLemmas.{length-tabulate}
+use Rattle.noc_topo.specs.Lists.{tabulate}
+use Rattle.noc_topo.proofs.ListLemmas.{length-tabulate}
 use Rattle.noc_router.specs.Settled.{finding_by}
-use Rattle.noc_router.specs.Tally.{AreFindings, IsPlanOf, finding_at}
-use Rattle.noc_router.specs.declared.verdict.Finding.{Finding}
+use Rattle.noc_router.specs.Tally.{AreFindings, IsPlanOf}
+use Rattle.noc_view.specs.Found.{finding_at}
+use Rattle.noc_view.specs.declared.finding.Finding.{Finding}
 use Rattle.noc_router.proofs.TallyLemmas.{either-none, either-some, shown-findings, vacant-by, written-back}
 use Rattle.noc_router.proofs.findings.Findings.show.Goals as goal
 

@@ -14,19 +14,19 @@ loop-port-preserved c =
     let g = c.args.shape.now in
     let node = c.args.node in
     let port = c.loop-port.port in
-    let old = c.loop-port.places in
-    let new = c.if-port-ports.places in
+    let old = c.loop-port.neighbours in
+    let new = c.if-port-ports.neighbours in
     elim c.if-port-ports.branch [
       | then-port-ports w ↦ (
-        leads-more g node port old new c.loop-port.invariant.0 (λ k l. set-kept old new port k w.lead.result w.places-is (omega arith))
-            (set-here old new port w.lead.result w.places-is (omega (arith, c.loop-port.invariant.2)) ∙ w.lead.ensures),
-        (λ k l. set-kept old new port k w.lead.result w.places-is (omega arith) ∙ c.loop-port.invariant.1 k (omega arith)),
-        ap length w.places-is ∙ length-set old port w.lead.result ∙ c.loop-port.invariant.2,
+        leads-more g node port old new c.loop-port.invariant.0 (λ k l. set-kept old new port k w.lead.result w.neighbours-is (omega arith))
+            (set-here old new port w.lead.result w.neighbours-is (omega (arith, c.loop-port.invariant.2)) ∙ w.lead.ensures),
+        (λ k l. set-kept old new port k w.lead.result w.neighbours-is (omega arith) ∙ c.loop-port.invariant.1 k (omega arith)),
+        ap length w.neighbours-is ∙ length-set old port w.lead.result ∙ c.loop-port.invariant.2,
       )
       | else-port-ports w ↦ (
-        leads-more g node port old new c.loop-port.invariant.0 (λ k l. ap (λ zs. get_or zs k None) w.places-is)
-            (ap (λ zs. get_or zs port None) w.places-is ∙ c.loop-port.invariant.1 port (omega arith) ∙ sym (no_lead g node port (omega arith))),
-        (λ k l. ap (λ zs. get_or zs k None) w.places-is ∙ c.loop-port.invariant.1 k (omega arith)),
-        ap length w.places-is ∙ c.loop-port.invariant.2,
+        leads-more g node port old new c.loop-port.invariant.0 (λ k l. ap (λ zs. get_or zs k None) w.neighbours-is)
+            (ap (λ zs. get_or zs port None) w.neighbours-is ∙ c.loop-port.invariant.1 port (omega arith) ∙ sym (no_lead g node port (omega arith))),
+        (λ k l. ap (λ zs. get_or zs k None) w.neighbours-is ∙ c.loop-port.invariant.1 k (omega arith)),
+        ap length w.neighbours-is ∙ c.loop-port.invariant.2,
       )
     ]

@@ -1,6 +1,6 @@
 use Rattle.std.proofs.Common.{◌≡◌, ◌<◌, ℕ, List, ap, arith, get_or, length, subst, sym, ◌∙◌}
 use Rattle.noc_alloc.specs.Arbiter.{RoundRobin}
-use Rattle.noc_router.specs.View.{PlanContents}
+use Rattle.noc_view.specs.View.{PlanContents}
 use Rattle.noc_router.proofs.plan.Plan.advance.Goals as goal
 
 pub advance-requires : goal.advance-requires

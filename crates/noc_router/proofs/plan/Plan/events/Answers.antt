@@ -1,10 +1,10 @@
 use Rattle.std.proofs.Common.{◌∙◌, ap, get_or, sym}
 use Rattle.std.specs.Prelude.{◌||◌}
 use Rattle.noc_packet.specs.Set.{has_bit}
-use Rattle.noc_router.specs.Verdict.{is_event}
-use Rattle.noc_router.specs.View.{PlanContents}
-use Rattle.noc_router.specs.declared.verdict.Verdict.TheVariants.{Empty}
-use Rattle.noc_router.proofs.VerdictSetLemmas.{event-at, event-by}
+use Rattle.noc_view.specs.Verdict.{is_event}
+use Rattle.noc_view.specs.View.{PlanContents}
+use Rattle.noc_view.specs.declared.verdict.Verdict.TheVariants.{Empty}
+use Rattle.noc_router.proofs.PlanSetLemmas.{event-at, event-by}
 use Rattle.noc_router.proofs.plan.Plan.events.Goals as goal
 
 pub returns : goal.returns

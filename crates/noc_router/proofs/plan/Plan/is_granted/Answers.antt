@@ -1,7 +1,7 @@
 use Rattle.std.proofs.Common.{◌∙◌, sym, ap}
 use Rattle.std.specs.Prelude.{not, ◌&&◌}
 use Rattle.noc_packet.specs.Set.{has_bit}
-use Rattle.noc_router.proofs.VerdictSetLemmas.{plan-granted}
+use Rattle.noc_router.proofs.PlanSetLemmas.{plan-granted}
 use Rattle.noc_router.proofs.plan.Plan.is_granted.Goals as goal
 
 pub returns-then-not-contains : goal.returns-then-not-contains

@@ -1,5 +1,5 @@
 use Rattle.std.proofs.Common.{◌∙◌}
-use Rattle.noc_router.proofs.VerdictSetLemmas.{plan-moved}
+use Rattle.noc_router.proofs.PlanSetLemmas.{plan-moved}
 use Rattle.noc_router.proofs.plan.Plan.is_moved.Goals as goal
 
 pub returns : goal.returns

@@ -1,6 +1,6 @@
 use Rattle.std.proofs.Common.{ap, get_or, ◌∙◌}
 use Rattle.noc_alloc.specs.Requests.{Requested}
-use Rattle.noc_alloc.proofs.PlaceLemmas.{kept-none}
+use Rattle.noc_alloc.proofs.SparseLemmas.{kept-none}
 use Rattle.noc_router.specs.Asked.{RequestLists, no_requests}
 use Rattle.noc_router.proofs.requests.Requests.clear.Goals as goal
 

@@ -1,6 +1,6 @@
 use Rattle.std.proofs.Common.{arith, get_or, sym, ◌∙◌}
 use Rattle.std.proofs.lemmas.List.{get_or_default}
-use Rattle.noc_alloc.proofs.PlaceLemmas.{kept-empty, kept-full}
+use Rattle.noc_alloc.proofs.SparseLemmas.{kept-empty, kept-full}
 use Rattle.noc_router.proofs.requests.Requests.route.Goals as goal
 
 pub returns-then-contains : goal.returns-then-contains

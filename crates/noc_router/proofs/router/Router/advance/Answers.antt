@@ -5,10 +5,10 @@ use Rattle.std.proofs.lemmas.List.{length-map, take-replicate}
 use Rattle.noc_topo.specs.Shape.{local_port}
 use Rattle.noc_router.specs.Inside.{view_of}
 use Rattle.noc_router.specs.Tally.{TallyContents}
-use Rattle.noc_router.specs.View.{View, counts_after, idle_beat, idle_beats}
-use Rattle.noc_router.specs.declared.verdict.Verdict.TheVariants.{Empty}
+use Rattle.noc_view.specs.View.{View, counts_after, idle_beat, idle_beats}
+use Rattle.noc_view.specs.declared.verdict.Verdict.TheVariants.{Empty}
 use Rattle.noc_router.proofs.RouterLemmas.{IsRouter-counted}
-use Rattle.noc_router.proofs.VacantLemmas.{vacant-committed}
+use Rattle.noc_view.proofs.VacantLemmas.{vacant-committed}
 use Rattle.noc_router.proofs.router.Router.advance.Goals as goal
 
 pub invariant_of-self : goal.invariant_of-self

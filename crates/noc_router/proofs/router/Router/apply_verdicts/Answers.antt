@@ -5,7 +5,7 @@ use Rattle.noc_packet.specs.Set.{has_bit}
 use Rattle.noc_router.specs.Settled.{decisions_by, planned_verdict}
 use Rattle.noc_router.proofs.LinkLemmas.{none_below-more, none_from_search}
 use Rattle.noc_router.proofs.OutcomeLemmas.{can_take, outcome-decided, effect_first, effect_more}
-use Rattle.noc_router.proofs.PassedLemmas.{can_take-turns, each-view, effect-turns, passed-all, passing-more, passing_first, with_turns}
+use Rattle.noc_router.proofs.PassedLemmas.{can_take-arbiters, each-view, effect-arbiters, passed-all, passing-more, passing_first, with_arbiters}
 use Rattle.noc_alloc.proofs.RequestLemmas.{least_member}
 use Rattle.noc_router.proofs.EffectLemmas.{none_left}
 use Rattle.noc_router.proofs.WholeLemmas.{whole_view, size_view}
@@ -34,8 +34,8 @@ apply_verdict-requires-clause-can c =
     let p = c.args.plan.now in
     let v = c.args.self.now in
     let i = c.in-Some.index in
-    can_take-turns p v.arbiters c.loop.self i (planned_verdict p i)
-    (can_take p v (with_turns v.arbiters c.loop.self) c.loop.rest c.without-rest.result i c.loop.invariant.whole c.requires.plan c.without-rest.ensures.members
+    can_take-arbiters p v.arbiters c.loop.self i (planned_verdict p i)
+    (can_take p v (with_arbiters v.arbiters c.loop.self) c.loop.rest c.without-rest.result i c.loop.invariant.whole c.requires.plan c.without-rest.ensures.members
     (least_member c.loop.rest i c.in-Some.ensures.least) c.loop.invariant.settling)
 
 pub loop-preserved : goal.loop-preserved
@@ -47,8 +47,8 @@ loop-preserved c =
     record {
       whole = c.loop.invariant.whole;
       each = c.loop.invariant.each;
-      settling = effect_more p v (with_turns v.arbiters c.loop.self) c.loop.rest c.without-rest.result i (with_turns v.arbiters c.apply_verdict.new.self) c.loop.invariant.whole c.requires.plan c.without-rest.ensures.members
-          member c.loop.invariant.settling (ap (with_turns v.arbiters) c.apply_verdict.ensures ∙ effect-turns p v.arbiters c.loop.self i (planned_verdict p i));
+      settling = effect_more p v (with_arbiters v.arbiters c.loop.self) c.loop.rest c.without-rest.result i (with_arbiters v.arbiters c.apply_verdict.new.self) c.loop.invariant.whole c.requires.plan c.without-rest.ensures.members
+          member c.loop.invariant.settling (ap (with_arbiters v.arbiters) c.apply_verdict.ensures ∙ effect-arbiters p v.arbiters c.loop.self i (planned_verdict p i));
       passing = passing-more p v c.loop.self c.loop.rest c.without-rest.result i c.apply_verdict.new.self c.loop.invariant.whole c.requires.plan c.without-rest.ensures.members member c.loop.invariant.settling c.loop.invariant.passing c.apply_verdict.ensures;
       below = none_below-more c.loop.counter i c.loop.rest c.without-rest.result c.in-Some.ensures.least c.without-rest.ensures.members c.loop.invariant.below;
       events = λ k e. c.loop.invariant.events k (and_parts (not (nat_eq k i)) (has_bit c.loop.rest k) (sym (c.without-rest.ensures.members k) ∙ e)).1;
@@ -59,7 +59,7 @@ returns-after-loop c =
     let v = c.args.self.now in
     let d = decisions_by c.args.plan.now v in
     passed-all c.args.plan.now v c.loop.self c.loop.rest c.loop.invariant.whole c.loop.invariant.each c.requires.plan
-    (none_left d v (with_turns v.arbiters c.loop.self) c.loop.rest c.loop.invariant.settling (λ k l. c.loop.invariant.below k (omega (arith, c.loop-test.false, size_view c.self.inside v c.self.view_is c.self.invariant))))
+    (none_left d v (with_arbiters v.arbiters c.loop.self) c.loop.rest c.loop.invariant.settling (λ k l. c.loop.invariant.below k (omega (arith, c.loop-test.false, size_view c.self.inside v c.self.view_is c.self.invariant))))
     c.loop.invariant.settling c.loop.invariant.passing
 
 pub returns-in_default : goal.returns-in_default

@@ -1,8 +1,8 @@
 use Rattle.std.proofs.Common.{◌≡◌, ℕ, ◌<◌, true, false}
 use Rattle.noc_packet.specs.Set.{has_bit}
 use Rattle.noc_router.specs.Settled.{decisions_by, planned_verdict}
-use Rattle.noc_router.specs.Verdict.{is_event}
-use Rattle.noc_router.proofs.PassedLemmas.{AreEach, IsPassing, with_turns}
+use Rattle.noc_view.specs.Verdict.{is_event}
+use Rattle.noc_router.proofs.PassedLemmas.{AreEach, IsPassing, with_arbiters}
 use Rattle.noc_router.proofs.SettleLemmas.{IsSettling, IsWhole}
 use Rattle.noc_router.proofs.router.Router.apply_verdicts.Given as goal
 
@@ -11,7 +11,7 @@ abbrev pub invariant-loop : goal.invariant-loop
 invariant-loop l = record {
   whole : IsWhole l.fn.self;
   each : AreEach l.fn.self;
-  settling : IsSettling (decisions_by l.plan l.fn.self) l.fn.self l.rest (with_turns l.fn.self.arbiters l.self);
+  settling : IsSettling (decisions_by l.plan l.fn.self) l.fn.self l.rest (with_arbiters l.fn.self.arbiters l.self);
   passing : IsPassing (decisions_by l.plan l.fn.self) l.fn.self l.rest l.self.arbiters;
   below : (k : ℕ) → k < l.counter → has_bit l.rest k ≡ false;
   events : (k : ℕ) → has_bit l.rest k ≡ true → is_event (planned_verdict l.plan k) ≡ true;

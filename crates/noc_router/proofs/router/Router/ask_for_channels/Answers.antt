@@ -1,11 +1,12 @@
 use Rattle.std.proofs.Common.{◌≡◌, ◌<◌, Some, None, ap, arith, set, sym, ◌∙◌}
 use Rattle.noc_router.specs.Asked.{RequestLists, lists_in}
-use Rattle.noc_router.specs.Verdict.{ask_of}
-use Rattle.noc_router.specs.View.{size_of, view_claim}
+use Rattle.noc_view.specs.Verdict.{ask_of}
+use Rattle.noc_view.specs.View.{size_of, view_claim}
 use Rattle.noc_router.proofs.FilledLemmas.{filled-last, filled-next, filled-skip}
 use Rattle.noc_router.proofs.MemberLemmas.{without-member}
 use Rattle.noc_alloc.proofs.RequestLemmas.{least_member, none_left}
-use Rattle.noc_router.proofs.StandLemmas.{asked-view, asks_of-stands}
+use Rattle.noc_router.proofs.AskedLemmas.{asked-view}
+use Rattle.noc_view.proofs.StandLemmas.{asks_of-stands}
 use Rattle.noc_router.proofs.WholeLemmas.{size_view}
 use Rattle.noc_router.proofs.router.Router.ask_for_channels.Goals as goal
 

@@ -1,8 +1,8 @@
 use Rattle.std.proofs.Common.{◌≡◌, None}
 use Rattle.noc_router.specs.Asked.{lists_in}
 use Rattle.noc_router.specs.Requests.{AreAmong, IsFilled}
-use Rattle.noc_router.specs.Verdict.{ask_of}
-use Rattle.noc_router.specs.View.{size_of, view_claim}
+use Rattle.noc_view.specs.Verdict.{ask_of}
+use Rattle.noc_view.specs.View.{size_of, view_claim}
 use Rattle.noc_router.proofs.router.Router.ask_for_channels.Given as goal
 
 -- what the waiting channels ask for is there, but for the rest

@@ -1,9 +1,9 @@
 use Rattle.std.proofs.Common.{◌≡◌, ◌<◌, ◌+◌, None, arith, ap, refl, subst, sym, ◌∙◌}
 use Rattle.noc_topo.specs.Shape.{ports}
-use Rattle.noc_topo.specs.Words.{tabulate}
+use Rattle.noc_topo.specs.Lists.{tabulate}
 use Rattle.noc_router.specs.Asked.{RequestLists, lists_in}
-use Rattle.noc_router.specs.Standing.{picked_vc, picked_way}
-use Rattle.noc_router.specs.View.{View}
+use Rattle.noc_router.specs.Ready.{picked_vc, picked_way}
+use Rattle.noc_view.specs.View.{View}
 use Rattle.noc_router.proofs.FilledLemmas.{IsFilledTo, filled_to-first, filled_to-last}
 use Rattle.noc_router.proofs.SwitchLemmas.{HavePicked, have-picked-next, have-picked-none}
 use Rattle.noc_router.proofs.router.Router.ask_for_ports.Goals as goal

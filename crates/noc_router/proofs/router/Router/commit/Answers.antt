@@ -1,12 +1,13 @@
 use Rattle.std.proofs.Common.{◌≡◌, ◌*◌, length, ap, sym, ◌∙◌, arith, subst}
-use Rattle.noc_topo.specs.Words.{tabulate}
+use Rattle.noc_topo.specs.Lists.{tabulate}
 use Rattle.noc_router.specs.Inside.{IsRouter, view_of}
 use Rattle.noc_router.specs.Settled.{AreContentsFor, decisions_by, finding_by}
 use Rattle.noc_router.specs.Tally.{TallyContents}
-use Rattle.noc_router.specs.View.{Decisions, PlanContents, View, decisions_of, plan_contents, size_of, view_after_commit}
+use Rattle.noc_view.specs.View.{Decisions, PlanContents, View, decisions_of, plan_contents, size_of, view_after_commit}
 use Rattle.noc_router.specs.declared.router.Router.TheInside.{Inside}
 use Rattle.noc_router.proofs.OutcomeLemmas.{committed-from-shown, decisions-are, found-outcome, outcome-decided, outcome-occupied, outcome-shown, outcome_of-shown}
-use Rattle.noc_router.proofs.SiteLemmas.{committed-shown}
+use Rattle.noc_view.proofs.SiteLemmas.{committed-site}
+use Rattle.noc_router.proofs.CommitLemmas.{committed-shown}
 use Rattle.noc_router.proofs.WholeLemmas.{size_view}
 use Rattle.noc_router.proofs.router.Router.commit.Goals as goal
 
@@ -42,8 +43,8 @@ take_effect-requires c =
     let v = c.args.self.now in
     subst (AreContentsFor p) (sym (shown c.self.inside v p c.show.new.self c.self.view_is c.self.invariant c.requires c.show.ensures)) (outcome_of-shown p v (decisions_by p v).findings c.requires)
 
-pub returns : goal.returns
-returns c = λ relation is.
+pub returns-clause-view : goal.returns-clause-view
+returns-clause-view c = λ relation is.
     let p = c.args.plan.now in
     let v = c.args.self.now in
     let findings = (decisions_by p v).findings in
@@ -53,3 +54,8 @@ returns c = λ relation is.
     ∙ ap (λ (x : View). record x { findings = findings }) (committed-from-shown relation v findings)
     ∙ ap (λ (d : Decisions). record (view_after_commit (decisions_of relation v) v) { findings = d.findings }) (decisions-are relation p v is)
     ∙ committed-shown (decisions_of relation v) v
+
+pub returns-clause-site : goal.returns-clause-site
+returns-clause-site c =
+    let v = c.args.self.now in
+    ap (λ (x : View). x.site) (returns-clause-view c c.requires.relation c.requires.is) ∙ committed-site (decisions_of c.requires.relation v) v

@@ -1,12 +1,12 @@
 use Rattle.std.proofs.Common.{◌≡◌, ◌*◌, length, ap, sym, ◌∙◌, arith, take}
 use Rattle.std.proofs.lemmas.List.{take-replicate}
 use Rattle.std.proofs.lemmas.Bool.{false≢true}
-use Rattle.noc_topo.proofs.WordLemmas.{length-map_indexed}
+use Rattle.noc_topo.proofs.ListLemmas.{length-map_indexed}
 use Rattle.noc_topo.specs.Shape.{local_port}
 use Rattle.noc_router.specs.Inside.{view_of}
 use Rattle.noc_router.specs.Settled.{decisions_by, planned_verdict, view_after_tally}
 use Rattle.noc_router.specs.Tally.{TallyContents}
-use Rattle.noc_router.specs.View.{counts_after, idle_beat, size_of}
+use Rattle.noc_view.specs.View.{counts_after, idle_beat, size_of}
 use Rattle.noc_router.proofs.OutcomeLemmas.{counted-outcome, outcome-decided}
 use Rattle.noc_router.proofs.WholeLemmas.{size_view}
 use Rattle.noc_router.proofs.RouterLemmas.{IsRouter-counted}

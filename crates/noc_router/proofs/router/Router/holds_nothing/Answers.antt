@@ -1,8 +1,8 @@
 use Rattle.std.proofs.Common.{◌≡◌, ◌*◌, refl, sym, ◌∙◌, arith, subst}
 use Rattle.noc_router.specs.Inside.{view_of}
-use Rattle.noc_router.specs.View.{View, size_of}
+use Rattle.noc_view.specs.View.{View, size_of}
 use Rattle.noc_router.proofs.WholeLemmas.{size_view}
-use Rattle.noc_router.proofs.VacantLemmas.{IsVacant}
+use Rattle.noc_view.proofs.VacantLemmas.{IsVacant}
 use Rattle.noc_router.proofs.router.Router.holds_nothing.Goals as goal
 
 pub returns : goal.returns

@@ -1,8 +1,8 @@
 use Rattle.std.proofs.Common.{◌≡◌, false, ap, sym}
 use Rattle.std.specs.Prelude.{not}
-use Rattle.noc_router.specs.Still.{takes_effect}
-use Rattle.noc_router.proofs.StillLemmas.{still-is}
-use Rattle.noc_router.proofs.VacantLemmas.{no_event}
+use Rattle.noc_view.specs.Still.{takes_effect}
+use Rattle.noc_router.proofs.NoEffectLemmas.{still-is}
+use Rattle.noc_view.proofs.VacantLemmas.{no_event}
 use Rattle.noc_router.proofs.router.Router.is_still.Goals as goal
 
 pub returns-then-holds_nothing : goal.returns-then-holds_nothing

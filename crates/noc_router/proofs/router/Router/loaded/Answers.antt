@@ -1,8 +1,7 @@
 use Rattle.std.proofs.Common.{ap, ◌∙◌, arith, subst}
 use Rattle.std.specs.Prelude.{not}
 use Rattle.noc_topo.specs.Shape.{IsGrid, local_port}
-use Rattle.noc_router.specs.Links.{is_idle_beat}
-use Rattle.noc_router.specs.View.{View, beat_to_put}
+use Rattle.noc_view.specs.View.{is_idle_beat, View, beat_to_put}
 use Rattle.noc_router.proofs.PutLemmas.{loaded-at}
 use Rattle.noc_router.proofs.router.Router.loaded.Goals as goal
 

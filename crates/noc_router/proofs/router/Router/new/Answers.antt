@@ -2,10 +2,10 @@ use Rattle.std.proofs.Common.{◌*◌, ap, arith, length, replicate, sym, ◌∙
 use Rattle.std.proofs.lemmas.Bool.{false≢true}
 use Rattle.std.proofs.lemmas.List.{length-replicate}
 use Rattle.noc_topo.specs.Shape.{Grid, nodes}
-use Rattle.noc_router.specs.Asked.{Turns}
+use Rattle.noc_router.specs.Asked.{SizedArbiters}
 use Rattle.noc_router.specs.Parts.{ChannelStates}
 use Rattle.noc_router.specs.Tally.{TallyContents}
-use Rattle.noc_router.specs.View.{opening_view}
+use Rattle.noc_view.specs.View.{opening_view}
 use Rattle.noc_router.proofs.OpeningLemmas.{opening-is}
 use Rattle.noc_router.proofs.router.Router.new.Goals as goal
 
@@ -17,23 +17,23 @@ invariant_of-result c = record {
   some_vc = omega arith;
   few_vcs = omega arith;
   channels = ap (λ (s : ChannelStates). s.size) c.in_ok-channels.ensures;
-  places = ap (λ (s : ChannelStates). s.bank.capacity) c.in_ok-channels.ensures;
+  depth = ap (λ (s : ChannelStates). s.bank.capacity) c.in_ok-channels.ensures;
   leads = c.new-6.ensures;
   loaded = λ k e. absurd (false≢true (sym (c.new-7.ensures.loaded k) ∙ e));
   sending = λ vc e. absurd (cc (c.new-5.ensures.vc));
   awaiting = λ vc e. absurd (cc (c.new-5.ensures.vc));
   counts = ap (λ (t : TallyContents). length t.counts) c.in_ok-tally.ensures ∙ length-replicate (c.ports-ports.result * c.vcs-vcs.result) (replicate 10 0);
-  arbiter_ports = ap (λ (t : Turns). t.ports) c.in_ok-arbiters.ensures;
-  arbiter_vcs = ap (λ (t : Turns). t.vcs) c.in_ok-arbiters.ensures;
+  arbiter_ports = ap (λ (t : SizedArbiters). t.ports) c.in_ok-arbiters.ensures;
+  arbiter_vcs = ap (λ (t : SizedArbiters). t.vcs) c.in_ok-arbiters.ensures;
   index_vcs = c.new-8.ensures;
 }
 
 pub returns : goal.returns
 returns c =
-    opening-is c.args.node c.ports-ports.result c.vcs-vcs.result c.args.places c.shape.result.now c.new-5.result c.in_ok-channels.channels c.new-6.result c.new-7.result c.in_ok-tally.tally c.in_ok-arbiters.arbiters c.in_ok-arrivals.arrivals c.new-8.result c.args.starts.items c.args.ends.items
+    opening-is c.args.node c.ports-ports.result c.vcs-vcs.result c.args.depth c.shape.result.now c.new-5.result c.in_ok-channels.channels c.new-6.result c.new-7.result c.in_ok-tally.tally c.in_ok-arbiters.arbiters c.in_ok-arrivals.arrivals c.new-8.result c.args.starts.items c.args.ends.items
     c.ports-ports.ensures.grid c.ports-ports.ensures.value c.new-5.ensures.queue c.new-5.ensures.vc
     c.in_ok-channels.ensures c.new-7.ensures.beats
     c.in_ok-tally.ensures
     c.in_ok-arbiters.ensures c.in_ok-arrivals.ensures
-    ∙ ap (λ (g : Grid). opening_view (record { grid = g; node = c.args.node; vcs = c.vcs-vcs.result; places = c.args.places }) c.args.starts.items c.args.ends.items) c.shape.ensures.value
-    ∙ ap (λ n. opening_view (record { grid = c.args.relation.now.grid; node = c.args.node; vcs = n; places = c.args.places }) c.args.starts.items c.args.ends.items) c.vcs-vcs.ensures.value
+    ∙ ap (λ (g : Grid). opening_view (record { grid = g; node = c.args.node; vcs = c.vcs-vcs.result; depth = c.args.depth }) c.args.starts.items c.args.ends.items) c.shape.ensures.value
+    ∙ ap (λ n. opening_view (record { grid = c.args.relation.now.grid; node = c.args.node; vcs = n; depth = c.args.depth }) c.args.starts.items c.args.ends.items) c.vcs-vcs.ensures.value

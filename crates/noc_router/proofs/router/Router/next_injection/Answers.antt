@@ -3,7 +3,7 @@ use Rattle.std.specs.Prelude.{nat_lt}
 use Rattle.noc_ring.specs.Buffers.{buffer_at}
 use Rattle.noc_route.proofs.OptionLemmas.{no-value, some-value}
 use Rattle.noc_router.specs.Injection.{vacant_vc}
-use Rattle.noc_router.specs.View.{View, view_after_inject, local_channel, view_buffer}
+use Rattle.noc_view.specs.View.{View, view_after_inject, local_channel, view_buffer}
 use Rattle.noc_router.specs.Inside.{view_of}
 use Rattle.noc_router.proofs.InjectLemmas.{never-due, held-begun, goes-begun, held-early, held-crowded, goes-due}
 use Rattle.noc_router.proofs.RouterLemmas.{local-index}
@@ -24,9 +24,9 @@ pub returns-then-room-clause-due : goal.returns-then-room-clause-due
 returns-then-room-clause-due c = λ held.
     let r = c.self.inside in
     let bank = r.channels.bank in
-    let room : nat_lt (length (view_buffer (view_of r) (local_channel (view_of r).site c.in-Some.vc))) r.places ≡ c.has_room-room.result =
+    let room : nat_lt (length (view_buffer (view_of r) (local_channel (view_of r).site c.in-Some.vc))) r.depth ≡ c.has_room-room.result =
     sym (c.has_room-room.ensures ∙ ap (λ k. nat_lt (length (buffer_at bank k)) bank.capacity) (local-index r c.in-Some.vc c.self.invariant)
-    ∙ ap (nat_lt (length (view_buffer (view_of r) (local_channel (view_of r).site c.in-Some.vc)))) c.self.invariant.places) in
+    ∙ ap (nat_lt (length (view_buffer (view_of r) (local_channel (view_of r).site c.in-Some.vc)))) c.self.invariant.depth) in
     goes (view_of r) c.args.self.now 0 c.self.view_is
     (goes-begun r c.in_ok-due.due c.self.invariant (sym c.next_due.ensures ∙ c.in_ok-due.was) c.in-Some.vc c.has_room-room.result c.in-Some.is room c.if-room.true 0)
     (held 0 (omega arith))
@@ -35,9 +35,9 @@ pub returns-else-room-clause-before : goal.returns-else-room-clause-before
 returns-else-room-clause-before c = λ end before n l.
     let r = c.self.inside in
     let bank = r.channels.bank in
-    let room : nat_lt (length (view_buffer (view_of r) (local_channel (view_of r).site c.in-Some.vc))) r.places ≡ c.has_room-room.result =
+    let room : nat_lt (length (view_buffer (view_of r) (local_channel (view_of r).site c.in-Some.vc))) r.depth ≡ c.has_room-room.result =
     sym (c.has_room-room.ensures ∙ ap (λ k. nat_lt (length (buffer_at bank k)) bank.capacity) (local-index r c.in-Some.vc c.self.invariant)
-    ∙ ap (nat_lt (length (view_buffer (view_of r) (local_channel (view_of r).site c.in-Some.vc)))) c.self.invariant.places) in
+    ∙ ap (nat_lt (length (view_buffer (view_of r) (local_channel (view_of r).site c.in-Some.vc)))) c.self.invariant.depth) in
     stays (view_of r) c.args.self.now n c.self.view_is
     (held-begun r c.in_ok-due.due c.self.invariant (sym c.next_due.ensures ∙ c.in_ok-due.was) c.in-Some.vc c.has_room-room.result c.in-Some.is room c.if-room.false n)
 

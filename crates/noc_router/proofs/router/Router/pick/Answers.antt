@@ -3,7 +3,7 @@ use Rattle.std.proofs.lemmas.Bool.{false≢true}
 use Rattle.noc_vc.specs.Input.{is_active}
 use Rattle.noc_vc.specs.declared.input.InputState.{InputState}
 use Rattle.noc_vc.specs.declared.input.InputState.TheVariants.{Idle, Waiting, Active}
-use Rattle.noc_router.specs.View.{View, view_input}
+use Rattle.noc_view.specs.View.{View, view_input}
 use Rattle.noc_router.proofs.SwitchLemmas.{at-pick, pick-view}
 use Rattle.noc_router.proofs.router.Router.pick.Goals as goal
 
@@ -19,7 +19,7 @@ returns-in-Active-clause-pick c =
     let at = at-pick r v c.args.ready c.args.port c.pick.result c.in_ok-vc.vc c.self.view_is c.self.invariant c.requires.ready c.requires.port c.pick.ensures.pick c.in_ok-vc.was in
     let phase : (view_input v (c.args.port * r.vcs + c.in_ok-vc.vc)).phase ≡ Active c.in-Active.next =
     ap (λ (w : View). (view_input w (c.args.port * r.vcs + c.in_ok-vc.vc)).phase) (sym c.self.view_is) ∙ sym c.in-Active.ensures.value in
-    (at.pick, (at.goes c.in-Active.next phase).0 ∙ ap Some (sym (ap (λ (p : ℕ × ℕ). p.0) c.place.ensures)))
+    (at.pick, (at.goes c.in-Active.next phase).0 ∙ ap Some (sym (ap (λ (p : ℕ × ℕ). p.0) c.split.ensures)))
 
 never : (phase state : InputState) → is_active phase ≡ true → state ≡ phase → ((n : ℕ) → state ≡ Active n → ⊥) → ⊥
 never Idle state e is other = false≢true e

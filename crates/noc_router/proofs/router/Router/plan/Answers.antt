@@ -1,23 +1,23 @@
 use Rattle.std.proofs.Common.{◌≡◌, ap, arith, refl, ◌∙◌}
-use Rattle.noc_topo.proofs.WordLemmas.{get_or-tabulate, length-tabulate}
+use Rattle.noc_topo.proofs.ListLemmas.{get_or-tabulate, length-tabulate}
 use Rattle.noc_router.specs.Asked.{RequestLists, lists_in}
-use Rattle.noc_router.specs.Standing.{IsStanding}
-use Rattle.noc_router.specs.VerdictSets.{verdict_by}
-use Rattle.noc_router.specs.View.{size_of}
-use Rattle.noc_router.specs.declared.verdict.Verdict.TheVariants.{Empty}
+use Rattle.noc_view.specs.ReadySets.{AreReadySetsOf}
+use Rattle.noc_view.specs.VerdictSets.{verdict_by}
+use Rattle.noc_view.specs.View.{size_of}
+use Rattle.noc_view.specs.declared.verdict.Verdict.TheVariants.{Empty}
 use Rattle.noc_router.proofs.PlannedLemmas.{asked-made, lists-made, outcome-parts, planned_lists}
-use Rattle.noc_router.proofs.StandLemmas.{standing-view}
+use Rattle.noc_router.proofs.AskedLemmas.{ready-view}
 use Rattle.noc_router.proofs.SwitchLemmas.{picks-below}
 use Rattle.noc_router.proofs.router.Router.plan.Goals as goal
 
 pub route_heads-requires-clause-heads : goal.route_heads-requires-clause-heads
 route_heads-requires-clause-heads c =
-    let s : IsStanding c.args.self.now c.standing-standing.result = standing-view c.self.inside c.args.self.now c.standing-standing.result c.self.view_is c.self.invariant c.standing-standing.ensures in
+    let s : AreReadySetsOf c.args.self.now c.ready_sets-sets.result = ready-view c.self.inside c.args.self.now c.ready_sets-sets.result c.self.view_is c.self.invariant c.ready_sets-sets.ensures in
     record { below = s.heads_below; each = s.heads }
 
 pub ask_for_ports-requires-clause-ready : goal.ask_for_ports-requires-clause-ready
 ask_for_ports-requires-clause-ready c =
-    let s : IsStanding c.args.self.now c.standing-standing.result = standing-view c.self.inside c.args.self.now c.standing-standing.result c.self.view_is c.self.invariant c.standing-standing.ensures in
+    let s : AreReadySetsOf c.args.self.now c.ready_sets-sets.result = ready-view c.self.inside c.args.self.now c.ready_sets-sets.result c.self.view_is c.self.invariant c.ready_sets-sets.ensures in
     record { below = s.ready_below; each = s.ready }
 
 pub verdicts-plan-inside-requires-clause-requests : goal.verdicts-plan-inside-requires-clause-requests

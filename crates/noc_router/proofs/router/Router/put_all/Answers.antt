@@ -1,7 +1,7 @@
 use Rattle.std.proofs.Common.{ap, refl, arith}
 use Rattle.noc_topo.specs.Shape.{local_port}
-use Rattle.noc_router.specs.View.{View}
-use Rattle.noc_router.proofs.SiteLemmas.{put-first, put-more, put-view, put-beats, beats_count, links_view}
+use Rattle.noc_view.specs.View.{View}
+use Rattle.noc_router.proofs.CommitLemmas.{put-first, put-more, put-view, put-beats, beats_count, links_view}
 use Rattle.noc_router.proofs.router.Router.put_all.Goals as goal
 
 pub loop-port-init : goal.loop-port-init

@@ -1,5 +1,5 @@
 use Rattle.noc_topo.specs.Shape.{local_port}
-use Rattle.noc_router.proofs.SiteLemmas.{ArePut}
+use Rattle.noc_router.proofs.CommitLemmas.{ArePut}
 use Rattle.noc_router.proofs.router.Router.put_all.Given as goal
 
 -- the beats of the ports so far are put

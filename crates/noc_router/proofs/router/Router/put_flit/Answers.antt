@@ -4,7 +4,7 @@ use Rattle.std.proofs.lemmas.Bool.{lt-ltb}
 use Rattle.noc_topo.specs.Shape.{local_port}
 use Rattle.noc_router.specs.Inside.{view_of}
 use Rattle.noc_router.specs.Settled.{flit_put, with_flit_at}
-use Rattle.noc_router.specs.View.{with_arrival}
+use Rattle.noc_view.specs.View.{with_arrival}
 use Rattle.noc_router.proofs.PutLemmas.{relinked, below-with, take-flit}
 use Rattle.noc_router.proofs.router.Router.put_flit.Goals as goal
 

@@ -1,8 +1,8 @@
 use Rattle.std.proofs.Common.{◌≡◌, ◌<◌, ℕ, ap, arith, subst, sym, ◌∙◌}
 use Rattle.std.proofs.lemmas.Bool.{lt-ltb}
 use Rattle.noc_topo.specs.Shape.{Grid, nodes, ports}
-use Rattle.noc_router.specs.View.{View}
-use Rattle.noc_router.proofs.StandLemmas.{port-below}
+use Rattle.noc_view.specs.View.{View}
+use Rattle.noc_router.proofs.AskedLemmas.{port-below}
 use Rattle.noc_router.proofs.WholeLemmas.{size_view}
 use Rattle.noc_router.proofs.router.Router.route_for.Goals as goal
 
@@ -17,7 +17,7 @@ permitted-requires c =
     record {
       class = omega arith;
       router = subst (λ (s : Grid). r.node < nodes s) shape h.node;
-      in_port = omega (arith, port-below r c.args.index h (lt-ltb _ _ within), ap (λ (p : ℕ × ℕ). p.0) c.place-port.ensures, ap ports shape);
-      in_vc = omega (arith, ap (λ (p : ℕ × ℕ). p.1) c.place-port.ensures);
+      in_port = omega (arith, port-below r c.args.index h (lt-ltb _ _ within), ap (λ (p : ℕ × ℕ). p.0) c.split-port.ensures, ap ports shape);
+      in_vc = omega (arith, ap (λ (p : ℕ × ℕ). p.1) c.split-port.ensures);
       dst = omega (arith, ap nodes c.shape.ensures.value);
     }

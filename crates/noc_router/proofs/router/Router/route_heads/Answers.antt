@@ -1,12 +1,12 @@
 use Rattle.std.proofs.Common.{◌≡◌, ◌<◌, true, ap, arith, set, ◌∙◌}
 use Rattle.noc_packet.specs.Set.{has_bit}
 use Rattle.noc_router.specs.Asked.{RequestLists, lists_in, routes_in}
-use Rattle.noc_router.specs.View.{route_of, size_of}
+use Rattle.noc_view.specs.View.{route_of, size_of}
 use Rattle.noc_router.proofs.FilledLemmas.{filled-last, filled-next}
 use Rattle.noc_router.proofs.MemberLemmas.{without-member}
-use Rattle.noc_router.proofs.PlaceLemmas.{length-sets}
+use Rattle.noc_router.proofs.SparseSetLemmas.{length-sets}
 use Rattle.noc_alloc.proofs.RequestLemmas.{least_member, none_left}
-use Rattle.noc_router.proofs.StandLemmas.{head-route}
+use Rattle.noc_router.proofs.AskedLemmas.{head-route}
 use Rattle.noc_router.proofs.router.Router.route_heads.Goals as goal
 
 pub loop-index-preserved : goal.loop-index-preserved

@@ -1,7 +1,7 @@
 use Rattle.std.proofs.Common.{◌≡◌}
 use Rattle.noc_router.specs.Asked.{lists_in, routes_in}
 use Rattle.noc_router.specs.Requests.{AreAmong, IsFilled}
-use Rattle.noc_router.specs.View.{route_of, size_of}
+use Rattle.noc_view.specs.View.{route_of, size_of}
 use Rattle.noc_router.proofs.router.Router.route_heads.Given as goal
 
 -- the sets of the heads are there, but for the rest

@@ -1,5 +1,5 @@
 use Rattle.std.proofs.Common.{◌≡◌, take}
-use Rattle.noc_router.specs.View.{view_after_takes_from}
+use Rattle.noc_view.specs.View.{view_after_takes_from}
 use Rattle.noc_router.proofs.router.Router.take_all.Given as goal
 
 -- the beats so far are taken

@@ -3,7 +3,7 @@ use Rattle.std.specs.Prelude.{is_some}
 use Rattle.std.proofs.lemmas.Bool.{lt-ltb}
 use Rattle.noc_topo.specs.Shape.{local_port}
 use Rattle.noc_alloc.proofs.SwitchLemmas.{in_ready}
-use Rattle.noc_router.specs.View.{View, with_credit}
+use Rattle.noc_view.specs.View.{View, with_credit}
 use Rattle.noc_router.proofs.TakeLemmas.{credited-view, with_credit-fits}
 use Rattle.noc_router.specs.Inside.{IsRouter, view_of}
 use Rattle.noc_router.specs.declared.router.Router.TheInside.{Inside}

@@ -1,14 +1,14 @@
 use Rattle.std.proofs.Common.{◌≡◌, ap, refl, sym, ◌∙◌, subst}
 use Rattle.noc_topo.specs.Shape.{ports}
-use Rattle.noc_router.specs.Asked.{Turns, channels_past}
+use Rattle.noc_router.specs.Asked.{SizedArbiters, channels_past}
 use Rattle.noc_router.specs.Decided.{IsDecidedFor}
 use Rattle.noc_router.specs.Inside.{view_of}
 use Rattle.noc_router.specs.Settled.{AreContentsFor, decisions_by, view_after_verdicts}
-use Rattle.noc_router.specs.Verdict.{arbiters_after}
-use Rattle.noc_router.specs.View.{Site, View, view_after_commit}
+use Rattle.noc_view.specs.Verdict.{arbiters_after}
+use Rattle.noc_view.specs.View.{Site, View, view_after_commit}
 use Rattle.noc_router.proofs.OutcomeLemmas.{decisions-are, outcome-decided, outcome-tallied}
 use Rattle.noc_router.proofs.RouterLemmas.{IsRouter-kept}
-use Rattle.noc_router.proofs.SiteLemmas.{closed_with, committed-is, settled-site}
+use Rattle.noc_router.proofs.CommitLemmas.{closed_with, committed-is, settled-site}
 use Rattle.noc_router.proofs.router.Router.take_effect.Goals as goal
 
 pub apply_verdicts-requires-clause-plan : goal.apply_verdicts-requires-clause-plan
@@ -32,8 +32,8 @@ advance-requires c =
 pub invariant_of-self : goal.invariant_of-self
 invariant_of-self c =
     let r = c.self.inside in
-    let turns = c.advance.ensures in
-    IsRouter-kept r (record r { arbiters = c.advance.new.arbiters }) c.self.invariant refl refl refl refl refl refl refl refl (λ i h. h) refl c.self.invariant.loaded refl (ap (λ (t : Turns). t.ports) turns) (ap (λ (t : Turns). t.vcs) turns) refl
+    let arbiters = c.advance.ensures in
+    IsRouter-kept r (record r { arbiters = c.advance.new.arbiters }) c.self.invariant refl refl refl refl refl refl refl refl (λ i h. h) refl c.self.invariant.loaded refl (ap (λ (t : SizedArbiters). t.ports) arbiters) (ap (λ (t : SizedArbiters). t.vcs) arbiters) refl
 
 pub returns : goal.returns
 returns c = λ relation is.
@@ -41,7 +41,7 @@ returns c = λ relation is.
     let v = c.args.self.now in
     let d = decisions_by p v in
     c.end_cycle.ensures
-    ∙ ap (λ (x : View). closed_with x.arbiters x) (ap (λ (t : Turns). record (view_of c.self.inside) { arbiters = t.states }) c.advance.ensures ∙ ap (λ (x : View). record x { arbiters = channels_past d.round x.arbiters }) c.self.view_is)
+    ∙ ap (λ (x : View). closed_with x.arbiters x) (ap (λ (t : SizedArbiters). record (view_of c.self.inside) { arbiters = t.states }) c.advance.ensures ∙ ap (λ (x : View). record x { arbiters = channels_past d.round x.arbiters }) c.self.view_is)
     ∙ ap (λ (x : View). closed_with (channels_past d.round x.arbiters) x)
     (c.apply_verdicts.ensures ∙ ap (λ (x : View). record (view_after_verdicts (decisions_by p x) x) { arbiters = record (arbiters_after p.round x.arbiters) { channels = x.arbiters.channels } }) c.count.ensures)
     ∙ committed-is d v

@@ -4,7 +4,7 @@ use Rattle.std.proofs.lemmas.Bool.{lt-ltb, le-ltb}
 use Rattle.noc_ring.specs.Buffers.{buffer_at}
 use Rattle.noc_vc.specs.Input.{fits}
 use Rattle.noc_router.specs.Sound.{nth_input}
-use Rattle.noc_router.specs.View.{View, with_flit, saturating_next}
+use Rattle.noc_view.specs.View.{View, with_flit, saturating_next}
 use Rattle.noc_router.specs.Inside.{IsRouter, view_of}
 use Rattle.noc_router.specs.declared.router.Router.TheInside.{Inside}
 use Rattle.noc_alloc.proofs.SwitchLemmas.{in_ready}
@@ -21,7 +21,7 @@ returns-then-land c =
     ∙ sym (with_flit-lands c.args.relation.now c.args.port c.args.vc c.args.flit.now (view_of r)
     (ap is_some (sym (c.neighbour.ensures ∙ c.self.invariant.leads c.args.port small)) ∙ sym c.if-is_some.ensures)
     (lt-ltb c.args.vc r.vcs c.if-vc-self.true)
-    (ap (λ n. fits c.args.relation.now r.node c.args.port c.args.vc n (buffer_at r.channels.bank (c.args.port * r.vcs + c.args.vc)) (nth_input r.channels.inputs.items (c.args.port * r.vcs + c.args.vc)) c.args.flit.now) (sym c.self.invariant.places)
+    (ap (λ n. fits c.args.relation.now r.node c.args.port c.args.vc n (buffer_at r.channels.bank (c.args.port * r.vcs + c.args.vc)) (nth_input r.channels.inputs.items (c.args.port * r.vcs + c.args.vc)) c.args.flit.now) (sym c.self.invariant.depth)
     ∙ sym c.if-land.ensures.fits))
     ∙ ap (λ (v : View). with_flit c.args.relation.now c.args.port (Some (c.args.vc, c.args.flit.now)) v) c.self.view_is
 
@@ -37,7 +37,7 @@ returns-else-vc-self c =
           (c.saturating_add-self-inside.ensures ∙ ap (λ (i : Inside). saturating_next i.misfits) w.self-inside-is)
           ∙ sym (with_flit-turned c.args.relation.now c.args.port c.args.vc c.args.flit.now (view_of r)
           (no_fit c.args.relation.now c.args.port c.args.vc c.args.flit.now (view_of r)
-          (ap (λ k. fits c.args.relation.now r.node c.args.port c.args.vc k (buffer_at r.channels.bank (c.args.port * r.vcs + c.args.vc)) (nth_input r.channels.inputs.items (c.args.port * r.vcs + c.args.vc)) c.args.flit.now) (sym c.self.invariant.places)
+          (ap (λ k. fits c.args.relation.now r.node c.args.port c.args.vc k (buffer_at r.channels.bank (c.args.port * r.vcs + c.args.vc)) (nth_input r.channels.inputs.items (c.args.port * r.vcs + c.args.vc)) c.args.flit.now) (sym c.self.invariant.depth)
           ∙ sym w.if-land.ensures.fits)))
           ∙ whole
       | else-vc-self-via-then-vc-self+else-is_some w ↦

@@ -2,13 +2,13 @@ use Rattle.std.proofs.Common.{◌≡◌, ℕ, suc, ◌+◌, ◌-◌, ◌*◌, �
 use Rattle.std.specs.Prelude.{◌&&◌, nat_lt, nat_le, find}
 use Rattle.std.proofs.lemmas.Bool.{lt-ltb, le-leb, leb-true, ltb-true, and_parts}
 use Rattle.std.proofs.Math.Nat.{suc-mul}
-use Rattle.noc_topo.specs.Words.{below}
+use Rattle.noc_topo.specs.Lists.{below}
 use Rattle.noc_packet.specs.Set.{has_bit, has_from}
 use Rattle.noc_ring.specs.Buffers.{buffer_at}
 use Rattle.noc_vc.specs.Input.{is_empty, is_idle_phase}
 use Rattle.noc_router.specs.Sound.{nth_input}
-use Rattle.noc_router.specs.View.{View, is_vacant}
-use Rattle.noc_router.proofs.FindLemmas.{find-below, find-none}
+use Rattle.noc_view.specs.View.{View, is_vacant}
+use Rattle.noc_view.proofs.FindLemmas.{find-below, find-none}
 use Rattle.noc_router.proofs.RouterLemmas.{local-index}
 use Rattle.noc_router.specs.Inside.{view_of, IsRouter}
 use Rattle.noc_router.specs.declared.router.Router.TheInside.{Inside}

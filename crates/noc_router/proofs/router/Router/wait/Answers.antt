@@ -1,16 +1,16 @@
 use Rattle.std.proofs.Common.{◌≡◌, ℕ, ◌-◌, ◌*◌, length, refl, ap, sym, ◌∙◌}
-use Rattle.noc_topo.proofs.WordLemmas.{length-map_indexed}
+use Rattle.noc_topo.proofs.ListLemmas.{length-map_indexed}
 use Rattle.noc_route.specs.Routes.{Routes}
 use Rattle.noc_router.specs.Inside.{view_of}
 use Rattle.noc_router.specs.Settled.{AreContentsFor, planned_verdict}
-use Rattle.noc_router.specs.Still.{counted_times, view_after_waiting}
+use Rattle.noc_view.specs.Still.{counted_times, view_after_waiting}
 use Rattle.noc_router.specs.Tally.{TallyContents}
-use Rattle.noc_router.specs.View.{View, plan_contents, size_of, view_round}
+use Rattle.noc_view.specs.View.{View, plan_contents, size_of, view_round}
 use Rattle.noc_router.proofs.OutcomeLemmas.{outcome-decided}
 use Rattle.noc_router.proofs.RouterLemmas.{IsRouter-counted}
 use Rattle.noc_router.proofs.WholeLemmas.{size_view}
-use Rattle.noc_router.proofs.StillLemmas.{counted-planned}
-use Rattle.noc_router.proofs.VacantLemmas.{vacant-counted}
+use Rattle.noc_router.proofs.NoEffectLemmas.{counted-planned}
+use Rattle.noc_view.proofs.VacantLemmas.{vacant-counted}
 use Rattle.noc_router.proofs.router.Router.wait.Goals as goal
 
 -- the cycle changes nothing of what is decided

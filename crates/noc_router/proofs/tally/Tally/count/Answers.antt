@@ -1,11 +1,11 @@
 use Rattle.std.proofs.Common.{◌≡◌, ℕ, ◌+◌, ◌-◌, ◌^◌, List, [], length, refl, ap, sym, ◌∙◌, arith, subst}
 use Rattle.std.specs.Prelude.{min, if◌then◌else◌}
 use Rattle.std.proofs.lemmas.List.{length-map}
-use Rattle.noc_topo.specs.Words.{map_indexed}
+use Rattle.noc_topo.specs.Lists.{map_indexed}
 use Rattle.noc_router.specs.Settled.{planned_verdict}
 use Rattle.noc_router.specs.Tally.{TallyContents, counts_in}
-use Rattle.noc_router.specs.View.{counts_after}
-use Rattle.noc_router.specs.declared.verdict.Verdict.{Verdict}
+use Rattle.noc_view.specs.View.{counts_after}
+use Rattle.noc_view.specs.declared.verdict.Verdict.{Verdict}
 use Rattle.noc_router.proofs.CountLemmas.{counted-room}
 use Rattle.noc_router.proofs.TallyLemmas.{plan-risen}
 use Rattle.noc_router.proofs.WaitLemmas.{others-zero, waiting-counts, waiting-tally}

@@ -1,12 +1,12 @@
 use Rattle.std.proofs.Common.{◌≡◌, ℕ, ◌+◌, ◌-◌, ◌^◌, List, [], map, refl, ap, sym, ◌∙◌, arith}
 use Rattle.std.specs.Prelude.{min, if◌then◌else◌}
 use Rattle.std.proofs.lemmas.List.{get_or-map, length-map}
-use Rattle.noc_topo.specs.Words.{map_indexed}
-use Rattle.noc_topo.proofs.WordLemmas.{map_indexed-from_each}
-use Rattle.noc_router.specs.Still.{counted_times}
+use Rattle.noc_topo.specs.Lists.{map_indexed}
+use Rattle.noc_topo.proofs.ListLemmas.{map_indexed-from_each}
+use Rattle.noc_view.specs.Still.{counted_times}
 use Rattle.noc_router.specs.Tally.{IsTally, TallyContents, counts_in}
-use Rattle.noc_router.specs.declared.verdict.Verdict.TheVariants.{Empty}
-use Rattle.noc_router.specs.declared.verdict.Finding.{Finding}
+use Rattle.noc_view.specs.declared.verdict.Verdict.TheVariants.{Empty}
+use Rattle.noc_view.specs.declared.finding.Finding.{Finding}
 use Rattle.noc_router.proofs.WaitLemmas.{AreWaited, others-none, waiting-counts, waiting-tally}
 use Rattle.noc_router.proofs.tally.Tally.count_empty.Goals as goal
 

@@ -1,6 +1,6 @@
 use Rattle.std.proofs.Common.{◌≡◌, ◌<◌, [], List, ℕ, length, map, replicate, ap, sym, ◌∙◌, arith}
 use Rattle.std.proofs.lemmas.List.{ext_get_or, get_or-map, get_or-replicate, length-map, length-replicate}
-use Rattle.noc_router.specs.Found.{empty_finding}
+use Rattle.noc_view.specs.Found.{empty_finding}
 use Rattle.noc_router.specs.Tally.{counts_in}
 use Rattle.noc_router.proofs.WaitLemmas.{first-counted}
 use Rattle.noc_router.proofs.tally.Tally.new.Goals as goal

@@ -1,10 +1,10 @@
 use Rattle.std.proofs.Common.{◌≡◌, List, ℕ, length, map, ap, sym, ◌∙◌, subst}
 use Rattle.std.proofs.lemmas.List.{length-map}
-use Rattle.noc_topo.specs.Words.{tabulate}
-use Rattle.noc_topo.proofs.WordLemmas.{length-tabulate}
+use Rattle.noc_topo.specs.Lists.{tabulate}
+use Rattle.noc_topo.proofs.ListLemmas.{length-tabulate}
 use Rattle.noc_router.specs.Settled.{finding_by}
 use Rattle.noc_router.specs.Tally.{IsPlanOf, TallyContents, counts_in}
-use Rattle.noc_router.specs.declared.verdict.Finding.{Finding}
+use Rattle.noc_view.specs.declared.finding.Finding.{Finding}
 use Rattle.noc_router.proofs.tally.Tally.show.Goals as goal
 
 pub show-requires : goal.show-requires

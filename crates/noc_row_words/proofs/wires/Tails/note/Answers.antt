@@ -1,5 +1,5 @@
 use Rattle.std.proofs.Common.{◌≡◌, ◌+◌, ◌%◌, ap, ap₂, ◌∙◌, set, length, rules}
-use Rattle.noc_counts.specs.Counts.{one_if}
+use Rattle.noc_topo.specs.Lists.{one_if}
 use Rattle.noc_row_words.proofs.WireLemmas.{noted, noted-is}
 use Rattle.noc_row_words.proofs.wires.Tails.note.Goals as goal
 

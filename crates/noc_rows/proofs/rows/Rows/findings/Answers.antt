@@ -1,5 +1,5 @@
 use Rattle.std.proofs.Common.{◌≡◌, ◌+◌, ◌-◌, ◌*◌, ◌%◌, ◌^◌, ◌≤◌, zero, suc, List, length, take, drop, ap, ◌∙◌, arith}
-use Rattle.noc_router.specs.declared.verdict.Finding.{Finding}
+use Rattle.noc_view.specs.declared.finding.Finding.{Finding}
 use Rattle.noc_theory.specs.Network.{size}
 use Rattle.noc_rows.proofs.found.FoundReaderLemmas.{channels-are, found-part}
 use Rattle.noc_rows.proofs.rows.Rows.findings.Goals as goal

@@ -11,7 +11,7 @@ use Rattle.noc_rows.proofs.rows.Rows.new.Goals as goal
 
 pub returns-clause-rows : goal.returns-clause-rows
 returns-clause-rows c given relation places packets good =
-    let net : Setup = record { relation = c.args.relation.now; places = c.args.places; packets = c.args.packets.now } in
+    let net : Setup = record { relation = c.args.relation.now; depth = c.args.places; packets = c.args.packets.now } in
     let same : given ≡ net = same-setup given c.args.relation.now c.args.places c.args.packets.now relation places packets in
     let setup : IsGoodSetup net = subst IsGoodSetup same good in
     let frame = c.in-Some.ensures.frame in

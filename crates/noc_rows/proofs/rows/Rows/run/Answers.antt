@@ -1,6 +1,6 @@
 use Rattle.std.proofs.Common.{Vec, Global, ◌≡◌, ◌+◌, ◌-◌, ap, arith, length, refl, subst, ◌∙◌, ⊎_elim}
 use Rattle.std.proofs.lemmas.Bool.{cases_lt}
-use Rattle.noc_router.specs.declared.verdict.Finding.{Finding}
+use Rattle.noc_view.specs.declared.finding.Finding.{Finding}
 use Rattle.noc_row_words.specs.Column.{place_of}
 use Rattle.noc_rows.specs.Found.{finding_at}
 use Rattle.noc_rows.specs.Whole.{IsRows, ShowsNetwork}

@@ -1,0 +1,17 @@
+pub mod GatherLemmas
+pub mod InjectLemmas
+pub mod MoveLemmas
+pub mod StepLemmas
+pub mod StillLemmas
+pub mod LoopLemmas
+pub mod OwnerLemmas
+pub mod AskedLemmas
+pub mod GrantLemmas
+pub mod RouteLemmas
+pub mod ReleaseLemmas
+pub mod BeginLemmas
+pub mod SendLemmas
+pub mod SwitchedLemmas
+pub mod DecidedLemmas
+pub mod AllottedLemmas
+pub mod NumberedLemmas

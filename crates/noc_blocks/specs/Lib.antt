@@ -1,0 +1,12 @@
+pub mod Ports
+pub mod Routers
+pub mod Steps
+pub mod Marks
+pub mod Numbered
+pub mod Granting
+pub mod Routing
+pub mod Begins
+pub mod Release
+pub mod Supply
+pub mod Allotted
+pub mod Sides

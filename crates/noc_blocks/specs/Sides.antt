@@ -1,0 +1,43 @@
+-- What the links bring to a block out of a row of what has left all routers.
+use Rattle.std.specs.Prelude.{◌≡◌, ℕ, ◌+◌, ◌%◌, ◌<◌, ◌≤◌, Bool, true, false, List, bit_and, bit_or, nat_eq, slice_index}
+use Rattle.noc_topo.specs.Shape.{Grid, local_port, nodes}
+use Rattle.noc_sets.specs.Gather.{goes_round, goes_straight, mask_where, place_round, place_straight}
+use Rattle.noc_sets.specs.Sets.{down_by}
+use Rattle.noc_lanes.specs.Lanes.{word}
+use Rattle.noc_lanes.specs.Words.{up_within}
+use Rattle.noc_lanes.specs.declared.lanes.TheConstants.{LANES}
+use Rattle.noc_blocks.specs.Ports.{by_port}
+use Rattle.noc_blocks.specs.declared.links.Sides.{Sides}
+use Rattle.noc_blocks.specs.declared.links.TheConstants.{ROOM, ROW}
+
+-- the words of a block from these places on are in a row
+pub record FitsRow (links : ℕ) (near far : List ℕ) : Type 0 where
+  pub straight : (q : ℕ) → q < links → slice_index near q + LANES ≤ ROW
+  pub round : (q : ℕ) → q < links → slice_index far q + LANES ≤ ROW
+
+-- those are the sides of the block whose first router has this number: where its neighbours stand,
+-- and of which channels
+pub record AreSides {A : Type 0} (value : A → ℕ) (g : Grid) (vcs first : ℕ) (sides : Sides (List A)) : Type 0 where
+  pub straight : (q k : ℕ) → q < local_port g → k < LANES
+      → slice_index sides.straight q + k ≡ place_straight g ROOM (first + k) q
+  pub round : (q k : ℕ) → q < local_port g → k < LANES
+      → slice_index sides.round q + k ≡ place_round g ROOM (first + k) q
+  pub straight_masks : (q k : ℕ) → q < local_port g → k < LANES → first + k < nodes g
+      → by_port value sides.straight_masks k q ≡ mask_where vcs q (goes_straight g (first + k) q)
+  pub round_masks : (q k : ℕ) → q < local_port g → k < LANES → first + k < nodes g
+      → by_port value sides.round_masks k q ≡ mask_where vcs q (goes_round g (first + k) q)
+
+-- the channels of the port at the other end, put where those of this port are, in words of w bits
+abbrev pub moved_by : ℕ → ℕ → Bool → ℕ → ℕ
+moved_by w vcs true word = down_by word vcs
+moved_by w vcs false word = up_within w word vcs
+
+-- of the word at a place these channels
+abbrev pub brought_from : {A : Type 0} → (A → ℕ) → ℕ → ℕ → Bool → List A → ℕ → ℕ → ℕ
+brought_from value w vcs down row place mask = bit_and (moved_by w vcs down (word value place row)) mask
+
+-- what port q brings to router k of the block
+abbrev pub brought_by : {A : Type 0} → (A → ℕ) → ℕ → ℕ → Sides (List A) → List A → ℕ → ℕ → ℕ
+brought_by value w vcs sides row k q =
+    bit_or (brought_from value w vcs (nat_eq (q % 2) 0) row (slice_index sides.straight q + k) (by_port value sides.straight_masks k q))
+    (brought_from value w vcs (nat_eq (q % 2) 0) row (slice_index sides.round q + k) (by_port value sides.round_masks k q))

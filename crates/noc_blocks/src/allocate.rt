@@ -1,0 +1,277 @@
+//! Output channels are granted to waiting input channels.
+
+ghost use Rattle.std.specs.Prelude.{◌≡◌, ◌≢◌, ℕ, ◌^◌, ◌<◌, true, false, nat_lt, if◌then◌else◌};
+ghost use Rattle.noc_packet.specs.Set.{has_bit};
+ghost use Rattle.noc_sets.specs.Column.{Column};
+ghost use Rattle.noc_sets.specs.Grants.{AreAsks, HasAllocated, HasGranted};
+ghost use Rattle.noc_sets.specs.Planes.{plane_number};
+ghost use Rattle.noc_sets.specs.Turns.{first_bit};
+ghost use Rattle.noc_lanes.specs.Channels.{inputs_by, outputs_by};
+ghost use Rattle.noc_lanes.specs.Lanes.{word};
+ghost use Rattle.noc_lanes.specs.declared.channels.Source.{Source};
+ghost use Rattle.noc_blocks.specs.Allotted.{HasAllotted, IsUnallotted, allotment_at};
+ghost use Rattle.noc_blocks.specs.Granting.{AreApart, AreNumbered, HasBound, IsSameSends, allocated, allocated_by, before};
+ghost use Rattle.noc_blocks.specs.Marks.{marks_by};
+ghost use Rattle.noc_blocks.specs.Numbered.{port_in, vc_in};
+ghost use Rattle.noc_blocks.specs.Ports.{by_port, digits_of};
+ghost use Rattle.noc_blocks.specs.Routers.{column_of};
+
+use crate::joins::{join, write_digits};
+use crate::marks::{Marks, PLACES, entry, note};
+use crate::numbering::Numbering;
+use crate::sends::Sends;
+use noc_lanes::{
+    Decided, Inputs, LANES, Lanes, Outputs, Word, alike, at, first_in_turn, put, where_some,
+};
+
+// The requests for each output channel, and an entry for none.
+const REQUESTS: usize = PLACES + 1;
+
+// What is asked for.
+#[derive(Clone, Copy)]
+struct Asked<W> {
+    // The output channels that are asked for.
+    outs: W,
+    // The input channels that ask.
+    inputs: W,
+    // The sets of all waiting channels.
+    wanted: W,
+}
+
+// Each waiting channel asks for the least idle channel of its set.
+fn ask<W: Word>(waiting: W, idle: W, sets: &[W; PLACES], requests: &mut [W; REQUESTS]) -> Asked<W>
+    requires { (o : ℕ) → word W.value o requests.old ≡ 0 }
+    ensures { AreAsks (has_bit (W.value waiting)) (W.value idle) (λ k. word W.value k sets.now)
+        (λ o. word W.value o requests.new) (W.value result.outs) (W.value result.inputs)
+        (W.value result.wanted) }
+{
+    let mut rest = waiting;
+    let mut outs = W::none();
+    let mut inputs = W::none();
+    let mut wanted = W::none();
+    while !rest.is_none() {
+        let input = rest.least();
+        let set = entry(sets, input);
+        let free = set.and(idle);
+        let asks = where_some(free, W::one(input));
+        let out = free.least_or_bits();
+        let others = entry(requests, out);
+        note(requests, out, others.or(asks));
+        outs = outs.or(free.lowest());
+        inputs = inputs.or(asks);
+        wanted = wanted.or(set);
+        rest = rest.but_lowest();
+    }
+    Asked {
+        outs,
+        inputs,
+        wanted,
+    }
+}
+
+// The input channels after one, of which a set has it alone.
+#[inline(always)]
+fn past<W: Word>(bit: W) -> W
+    ensures { (k i : ℕ) → W.value bit ≡ 2 ^ k → i < W.bits
+        → has_bit (W.value result) i ≡ nat_lt k i }
+{
+    W::all().less(bit.or(bit.minus(W::one(0))))
+}
+
+// A channel is granted to the first that asks for it, from its pointer on, and around.
+#[inline(always)]
+fn grant<W: Word>(
+    numbering: &Numbering,
+    lane: usize,
+    out: usize,
+    requests: W,
+    marks: &mut Marks<W>,
+    sends: &mut Sends<Lanes<W>>,
+) -> W
+    requires lane { lane < LANES }
+    requires out { out < W.bits }
+    requires some { 0 < W.value requests }
+    ensures first { W.value result ≡ first_bit (W.value requests)
+        (word W.value out marks.old.turn) }
+    ensures here { (port_turn : ℕ → ℕ) (k : ℕ) → W.value result ≡ 2 ^ k
+        → HasBound W.bits (marks_by W.value marks.old (by_port W.value sends.old.to_port lane)
+        port_turn) (marks_by W.value marks.new (by_port W.value sends.new.to_port lane) port_turn)
+        out k (port_in numbering.now out) }
+    ensures vc { (i : ℕ) → plane_number (digits_of (word W.value lane) sends.new.vc) i
+        ≡ (if has_bit (W.value result) i then vc_in numbering.now out else plane_number
+        (digits_of (word W.value lane) sends.old.vc) i) }
+    ensures others { (j : ℕ) → j ≢ lane → IsSameSends W.value sends.old sends.new j }
+{
+    let bit = first_in_turn(requests, entry(&marks.turn, out));
+    let input = bit.least();
+    marks.owner[out] = input as u8;
+    note(&mut marks.taken, input, W::one(out));
+    note(&mut marks.turn, out, past(bit));
+    let port = usize::from(numbering.port[out]);
+    join(&mut sends.to_port, lane, port, bit);
+    write_digits(&mut sends.vc, lane, bit, numbering.vc[out]);
+    bit
+}
+
+// Each channel that is asked for is granted. The answer is the input channels that have one.
+fn grant_all<W: Word>(
+    numbering: &Numbering,
+    lane: usize,
+    outs: W,
+    requests: &[W; REQUESTS],
+    marks: &mut Marks<W>,
+    sends: &mut Sends<Lanes<W>>,
+) -> W
+    requires lane { lane < LANES }
+    requires some { (o : ℕ) → has_bit (W.value outs) o ≡ true → 0 < word W.value o requests.now }
+    requires apart { AreApart (λ o. word W.value o requests.now) }
+    ensures here { (port_turn : ℕ → ℕ) → HasGranted W.bits (has_bit (W.value outs))
+        (λ o. word W.value o requests.now) (port_in numbering.now)
+        (marks_by W.value marks.old (by_port W.value sends.old.to_port lane) port_turn)
+        (marks_by W.value marks.new (by_port W.value sends.new.to_port lane) port_turn)
+        (W.value result) }
+    ensures vcs { AreNumbered (W.value result) (λ k. word W.value k marks.new.taken)
+        (vc_in numbering.now) (plane_number (digits_of (word W.value lane) sends.old.vc))
+        (plane_number (digits_of (word W.value lane) sends.new.vc)) }
+    ensures others { (j : ℕ) → j ≢ lane → IsSameSends W.value sends.old sends.new j }
+{
+    let mut rest = outs;
+    let mut granted = W::none();
+    while !rest.is_none() {
+        let out = rest.least();
+        let bit = grant(numbering, lane, out, entry(requests, out), marks, sends);
+        granted = granted.or(bit);
+        rest = rest.but_lowest();
+    }
+    granted
+}
+
+/// What allocation gives the waiting channels of a router.
+#[derive(Clone, Copy)]
+pub struct Allocated<T> {
+    /// The output channels that are granted.
+    pub outs: T,
+    /// The sets of all waiting channels.
+    pub wanted: T,
+    /// The input channels that are granted one.
+    pub granted: T,
+    /// The input channels that ask for one and are not granted it.
+    pub lost: T,
+}
+
+// The waiting channels of one router ask, and each channel that is asked for is granted.
+fn allocate_router<W: Word>(
+    numbering: &Numbering,
+    lane: usize,
+    waiting: W,
+    idle: W,
+    marks: &mut Marks<W>,
+    sends: &mut Sends<Lanes<W>>,
+) -> Allocated<W>
+    requires { lane < LANES }
+    ensures here { (c : Column) (port_turn : ℕ → ℕ) → c.waiting ≡ W.value waiting
+        → c.idle ≡ W.value idle → HasAllocated W.bits (port_in numbering.now)
+        (before c (marks_by W.value marks.old (by_port W.value sends.old.to_port lane) port_turn))
+        (allocated c (marks_by W.value marks.new (by_port W.value sends.new.to_port lane) port_turn)
+        (allocated_by W.value result)) }
+    ensures vcs { AreNumbered (W.value result.granted) (λ k. word W.value k marks.new.taken)
+        (vc_in numbering.now) (plane_number (digits_of (word W.value lane) sends.old.vc))
+        (plane_number (digits_of (word W.value lane) sends.new.vc)) }
+    ensures others { (j : ℕ) → j ≢ lane → IsSameSends W.value sends.old sends.new j }
+{
+    let mut requests = [W::none(); REQUESTS];
+    let asked = ask(waiting, idle, &marks.set, &mut requests);
+    let granted = grant_all(numbering, lane, asked.outs, &requests, marks, sends);
+    Allocated {
+        outs: asked.outs,
+        wanted: asked.wanted,
+        granted,
+        lost: asked.inputs.less(granted),
+    }
+}
+
+// .. of one router of a block.
+fn allocate_lane<W: Word>(
+    numbering: &Numbering,
+    lane: usize,
+    inputs: &mut Inputs<Lanes<W>>,
+    outputs: &mut Outputs<Lanes<W>>,
+    marks: &mut Marks<W>,
+    sends: &mut Sends<Lanes<W>>,
+) -> Allocated<W>
+    requires { lane < LANES }
+    ensures allocated { (s : Source ℕ) (port_turn : ℕ → ℕ)
+        → HasAllocated W.bits (port_in numbering.now)
+        (before (column_of (inputs_by (word W.value lane) inputs.old)
+        (outputs_by (word W.value lane) outputs.old) s)
+        (marks_by W.value marks.old (by_port W.value sends.old.to_port lane) port_turn))
+        (record {
+          column = column_of (inputs_by (word W.value lane) inputs.new)
+              (outputs_by (word W.value lane) outputs.new) s;
+          marks = marks_by W.value marks.new (by_port W.value sends.new.to_port lane) port_turn;
+          granted = W.value result.granted;
+          lost = W.value result.lost;
+        }) }
+    ensures numbered { AreNumbered (W.value result.granted) (λ k. word W.value k marks.new.taken)
+        (vc_in numbering.now) (plane_number (digits_of (word W.value lane) sends.old.vc))
+        (plane_number (digits_of (word W.value lane) sends.new.vc)) }
+    ensures inputs { inputs.new ≡ record inputs.old { supplied = inputs.new.supplied } }
+    ensures outputs { outputs.new ≡ record outputs.old {
+      wanted = outputs.new.wanted;
+      idle =
+          outputs.new.idle;
+    } }
+    ensures supplied { (j : ℕ) → j ≢ lane → word W.value j inputs.new.supplied
+        ≡ word W.value j inputs.old.supplied }
+    ensures wanted { (j : ℕ) → j ≢ lane → word W.value j outputs.new.wanted
+        ≡ word W.value j outputs.old.wanted }
+    ensures idle { (j : ℕ) → j ≢ lane → word W.value j outputs.new.idle
+        ≡ word W.value j outputs.old.idle }
+    ensures others { (j : ℕ) → j ≢ lane → IsSameSends W.value sends.old sends.new j }
+{
+    let waiting = at(&inputs.waiting, lane);
+    let idle = at(&outputs.idle, lane);
+    let supplied = at(&inputs.supplied, lane);
+    let got = allocate_router(numbering, lane, waiting, idle, marks, sends);
+    put(&mut outputs.wanted, lane, got.wanted);
+    put(&mut outputs.idle, lane, idle.less(got.outs));
+    put(&mut inputs.supplied, lane, supplied.or(got.granted));
+    got
+}
+
+/// In each of these lanes the waiting channels ask, and one that asks for a channel is granted it.
+pub fn allocate_all<W: Word>(
+    numbering: &Numbering,
+    asking: u32,
+    inputs: &mut Inputs<Lanes<W>>,
+    outputs: &mut Outputs<Lanes<W>>,
+    marks: &mut [Marks<W>; LANES],
+    sends: &mut Sends<Lanes<W>>,
+) -> Decided<Lanes<W>>
+    ensures here { (k : ℕ) → k < LANES → has_bit asking k ≡ true
+        → HasAllotted W.bits (port_in numbering.now) (vc_in numbering.now)
+        (allotment_at W.value inputs.old outputs.old marks.old sends.old k)
+        (allotment_at W.value inputs.new outputs.new marks.new sends.new k)
+        (word W.value k result.granted) (word W.value k result.lost) }
+    ensures others { (k : ℕ) → k < LANES → has_bit asking k ≡ false
+        → IsUnallotted (allotment_at W.value inputs.old outputs.old marks.old sends.old k)
+        (allotment_at W.value inputs.new outputs.new marks.new sends.new k)
+        (word W.value k result.granted) (word W.value k result.lost) }
+{
+    let none = alike(W::none());
+    let mut decided = Decided {
+        granted: none,
+        lost: none,
+        released: none,
+        freed: none,
+    };
+    let mut rest = asking;
+    while !rest.is_none() {
+        let lane = rest.least();
+        let got = allocate_lane(numbering, lane, inputs, outputs, &mut marks[lane], sends);
+        put(&mut decided.granted, lane, got.granted);
+        put(&mut decided.lost, lane, got.lost);
+        rest = rest.but_lowest();
+    }
+    decided
+}

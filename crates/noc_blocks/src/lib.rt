@@ -1,0 +1,47 @@
+//! Blocks of 32 routers side by side: one cycle of each of them by words.
+//!
+//! What is the same work for each channel is done for all routers of a block at once, lane by lane.
+//! What few channels need is done one by one. What the words of a router are stands in `noc_sets`.
+#![tactic(auto)]
+
+mod allocate;
+mod begins;
+mod credits;
+mod flits;
+mod frame;
+mod joins;
+mod links;
+mod marks;
+mod moves;
+mod numbered;
+mod numbering;
+mod owners;
+mod ports;
+mod release;
+mod route;
+mod sends;
+mod settle;
+mod sources;
+mod standing;
+mod verdicts;
+
+pub use allocate::{Allocated, allocate_all};
+pub use begins::{advance, begin};
+pub use credits::take_credits;
+pub use flits::{Coming, land_head, take_flits};
+pub use frame::{Frame, PORTS};
+pub use joins::{join, leave, write_digits};
+pub use links::{ROOM, ROW, Sides, gather};
+pub use marks::{Marks, PLACES, entry, note};
+pub use moves::move_by_ports;
+pub use numbered::numbering_of;
+pub use numbering::Numbering;
+pub use owners::supply_all;
+pub use ports::Ports;
+pub use release::{arrive, release_all};
+pub use route::route_router;
+pub use sends::{Digits, Sends};
+pub use settle::{settle_inputs, settle_outputs};
+pub use sources::{END, NEVER, Start};
+pub use standing::{Pending, stand};
+pub use verdicts::note_verdicts;

@@ -1,0 +1,10 @@
+use Rattle.std.proofs.Common.{◌≡◌, ◌%◌, ◌^◌, Some, arith, subst, sym}
+use Rattle.std.specs.Int.{trailing_zeros, w64}
+use Rattle.noc_packet.specs.Set.{IsLeast, has_bit}
+use Rattle.noc_lanes.proofs.SetLemmas.{least-is}
+use Rattle.noc_lanes.proofs.word.U64Word.least.Goals as goal
+
+pub returns-clause-least : goal.returns-clause-least
+returns-clause-least c =
+    let e : c.args.self % 2 ^ 64 ≡ c.args.self = omega (arith, c.ranges.self.fits) in
+    subst (λ x. IsLeast (has_bit x) (Some (trailing_zeros w64 c.args.self))) (sym e) (least-is w64 c.args.self (omega (arith, e, c.requires)) (omega (arith, c.ranges.self.fits)))

@@ -1,0 +1,47 @@
+-- What the channels of a router ask for is what those of its view ask for.
+use Rattle.std.proofs.Common.{◌≡◌, ℕ, ◌*◌, ◌/◌, ◌<◌, true, Option, refl, ap, sym, ◌∙◌, arith, subst, ltb-true}
+use Rattle.std.specs.Prelude.{not, ◌&&◌, find, nat_lt, if◌then◌else◌}
+use Rattle.std.proofs.Math.Nat.{div-lt_iff_lt-mul}
+use Rattle.std.proofs.lemmas.Bool.{and_parts}
+use Rattle.noc_topo.specs.Lists.{below}
+use Rattle.noc_packet.specs.Set.{has_bit}
+use Rattle.noc_route.specs.Routes.{Routes}
+use Rattle.noc_vc.specs.Input.{is_empty, is_idle_phase}
+use Rattle.noc_vc.specs.Output.{is_free}
+use Rattle.noc_vc.specs.declared.input.InputState.{InputState}
+use Rattle.noc_vc.specs.declared.input.InputState.TheVariants.{Idle, Waiting, Active}
+use Rattle.noc_view.specs.declared.sets.ReadySets.{ReadySets}
+use Rattle.noc_router.specs.declared.router.Router.TheInside.{Inside}
+use Rattle.noc_router.specs.Inside.{IsRouter, view_of}
+use Rattle.noc_view.specs.ReadySets.{AreReadySets, AreReadySetsOf}
+use Rattle.noc_router.specs.Sound.{asked_in, nth_input, nth_output}
+use Rattle.noc_router.specs.Ready.{AreHeads}
+use Rattle.noc_view.specs.Verdict.{ask_of}
+use Rattle.noc_view.specs.View.{View, claim_in, first_flit, route_for, route_of, size_of, view_buffer, view_claim, view_input}
+
+-- what the channels of a router can go on with is that of its view
+pub ready-view : (r : Inside) (v : View) (s : ReadySets) → view_of r ≡ v → IsRouter r → AreReadySets r.channels.size r.channels.bank.rings r.channels.inputs.items r.channels.outputs.items s → AreReadySetsOf v s
+ready-view r v s view is sets =
+    subst (λ w. AreReadySetsOf w s) view (subst (λ n. AreReadySets n r.channels.bank.rings r.channels.inputs.items r.channels.outputs.items s) (is.channels ∙ ap (λ p. p * r.vcs) is.ports) sets)
+
+-- the route of a head that is not routed
+pub head-route : (relation : Routes) (v : View) (set i : ℕ) → AreHeads v set → i < size_of v.site → has_bit set i ≡ true → route_for relation v i (first_flit v i) ≡ route_of relation v i
+head-route relation v set i heads l here =
+    sym (ap (λ b. if b then route_for relation v i (first_flit v i) else 0) (and_parts (is_idle_phase (view_input v i).phase) (not (is_empty (view_buffer v i))) (sym (heads.each i l) ∙ here)).0)
+
+ask_in : (r : Inside) (phase : InputState) → IsRouter r → asked_in r.channels.size r.channels.outputs.items phase ≡ ask_of (claim_in (view_of r) phase)
+ask_in r Idle is = refl
+ask_in r (Waiting set) is = ap (λ n. find (λ o. has_bit set o && is_free (nth_output r.channels.outputs.items o).holder) (below n)) (is.channels ∙ ap (λ p. p * r.vcs) is.ports)
+ask_in r (Active o) is = refl
+
+-- what a channel asks for, by the channels of a router
+pub asked-view : (r : Inside) (v : View) (i : ℕ) (x : Option ℕ) → view_of r ≡ v → IsRouter r
+    → x ≡ asked_in r.channels.size r.channels.outputs.items (nth_input r.channels.inputs.items i).phase → x ≡ ask_of (view_claim v i)
+asked-view r v i x view is asked = asked ∙ subst (λ w. asked_in r.channels.size r.channels.outputs.items (nth_input r.channels.inputs.items i).phase ≡ ask_of (view_claim w i)) view (ask_in r (nth_input r.channels.inputs.items i).phase is)
+
+-- the output port of an output channel
+pub port-below : (r : Inside) (o : ℕ) → IsRouter r → nat_lt o r.channels.size ≡ true → o / r.indices.vcs < r.ports
+port-below r o is within =
+    let l : o < r.channels.size = ltb-true o r.channels.size within in
+    let some : 0 < r.indices.vcs = omega (arith, is.index_vcs, is.some_vc) in
+    (div-lt_iff_lt-mul some).1 (subst (λ n. o < n) (is.channels ∙ ap (λ n. r.ports * n) (sym is.index_vcs)) l)

@@ -1,0 +1,8 @@
+-- What is worked out of a router in a cycle besides its words.
+use Rattle.std.specs.Prelude.{ℕ, Bool}
+
+pub record Surroundings : Type 0 where
+  pub tail : ℕ → Bool  -- by input channel with a flit, whether the first is a tail
+  pub filled : ℕ  -- the input channels with a flit
+  pub picked : ℕ  -- of those that are ready the ones that the input ports pick
+  pub ahead : ℕ  -- the pointers of the input ports after the cycle

@@ -1,0 +1,216 @@
+-- A cycle of all routers: where the words of each show its view at a count, those after the cycle
+-- show the next.
+use Rattle.std.proofs.Common.{◌≡◌, ℕ, suc, ◌+◌, ◌*◌, ◌/◌, ◌%◌, ◌<◌, ◌≤◌, List, Option, refl, ap, sym, ◌∙◌, subst, arith, inl, inr, mul-le-mul_right, Some, None, true}
+use Rattle.std.specs.Prelude.{◌⊎◌, IfSome, is_some, slice_index_or}
+use Rattle.std.proofs.lemmas.Nat.{div-add-mod', mod_below}
+use Rattle.std.proofs.lemmas.Bool.{false≢true}
+use Rattle.noc_topo.specs.Shape.{IsGrid, nodes, ports, neighbour}
+use Rattle.noc_topo.proofs.LinkLemmas.{link_back}
+use Rattle.noc_packet.specs.Set.{has_bit}
+use Rattle.noc_packet.specs.declared.packet.Beat.{Beat}
+use Rattle.noc_packet.proofs.SetLemmas.{has_bit-zero}
+use Rattle.noc_alloc.specs.Sparse.{AreBelow}
+use Rattle.noc_view.specs.View.{Site, View, size_of, is_tail, view_round}
+use Rattle.noc_view.specs.Found.{empty_finding}
+use Rattle.noc_theory.specs.declared.limits.TheConstants.{CYCLE_LIMIT}
+use Rattle.noc_theory.specs.Good.{IsGoodSetup}
+use Rattle.noc_theory.specs.Lockstep.{beats_at, beats_in, has_event_at, site_at, view_at, findings_before}
+use Rattle.noc_theory.specs.Network.{Setup, frozen_at, size, state_at}
+use Rattle.noc_theory.proofs.join.ViewLemmas.{view_at-seen}
+use Rattle.noc_sets.specs.Column.{Column, IsColumn, RouterMarks}
+use Rattle.noc_sets.specs.Counts.{ByVerdict, ShowsCounts}
+use Rattle.noc_sets.specs.Cycle.{HasSlept, HasWorked, Links, Router, Still, Turn, came_in, packets_in, still_of}
+use Rattle.noc_sets.specs.Ended.{ShowsEnded}
+use Rattle.noc_sets.specs.Gather.{comes_over, gathered}
+use Rattle.noc_sets.specs.Layout.{IsLayoutOf, Layout}
+use Rattle.noc_sets.specs.Source.{ShowsSource, Source, Start}
+use Rattle.noc_sets.specs.Taken.{credit_from, flit_from}
+use Rattle.noc_sets.proofs.GatherLemmas.{gathered-is, gathered-links}
+use Rattle.noc_theory_bits.specs.Network.{HasGathered, HasTurned, ShowsRouter, permitted}
+use Rattle.noc_theory_bits.specs.Owners.{ShowsHolders, frozen_of, holder_at, told_by, told_over}
+use Rattle.noc_theory_bits.specs.Wires.{ShowsLeaving, ShowsWires}
+use Rattle.noc_theory_bits.proofs.bits.AsleepLemmas.{column-rests, counts-rest, ended-rests, event-rests, grants-nothing, holders-rest, leaves-nothing, source-rests, found-nothing}
+use Rattle.noc_theory_bits.proofs.bits.CameLemmas.{came-event}
+use Rattle.noc_theory_bits.proofs.bits.CountedLemmas.{counts-next, event-next}
+use Rattle.noc_theory_bits.proofs.bits.CycleLemmas.{column-next, ended-after, grants-are, leaves, source-after}
+use Rattle.noc_theory_bits.proofs.bits.FreezeLemmas.{ShowsStill, shows-still}
+use Rattle.noc_theory_bits.proofs.bits.HolderLemmas.{holders-told, link-size as link-over}
+use Rattle.noc_theory_bits.proofs.bits.PacketLemmas.{with-packets}
+use Rattle.noc_theory_bits.proofs.bits.WireLemmas.{credits-over, flits-over, tails-over}
+use Rattle.noc_theory_bits.proofs.network.NetworkLemmas.{frozen-seen, frozen_view, good}
+use Rattle.noc_theory_bits.proofs.bits.ArrivedLemmas.{ShowsArrived, arrived-shows}
+use Rattle.noc_theory_bits.proofs.network.ArrivalLemmas.{GoesOut}
+use Rattle.noc_theory_bits.proofs.network.MovingLemmas.{moves-are}
+use Rattle.noc_theory_bits.proofs.bits.FoundLemmas.{found-is, found-next}
+
+-- router r is through a cycle: its words after it, but for the numbers of packets that it is told,
+-- and what leaves it
+pub record IsThrough (count : ℕ) (net : Setup) (n r : ℕ) (starts : List Start) (packets : ℕ → ℕ) (t : Turn) : Type 0 where
+  pub column : IsColumn count t.column t.marks (view_at net (suc n) r)
+  pub tails : ShowsEnded t.ended (view_at net (suc n) r)
+  pub queue : ShowsSource starts t.source (view_at net (suc n) r)
+  pub counts : ShowsCounts (suc n) t.counts (view_at net (suc n) r)
+  pub leaves : ShowsLeaving (frozen_of net n r) t.left
+  pub holders : ShowsHolders net (frozen_at net n) r packets
+  pub granted : (o : ℕ) → o < size net → t.grants o ≡ slice_index_or (view_round (frozen_of net n r)).grants o None
+  pub happened : t.happened ≡ has_event_at net n r
+  pub arrived : ShowsArrived net n r packets t.arrived
+  pub found : (i : ℕ) → i < size net → t.found i ≡ slice_index_or (findings_before net (suc n) r) i empty_finding
+
+module _ {count : ℕ} (net : Setup) (setup : IsGoodSetup net) (n : ℕ) (few : n < CYCLE_LIMIT) (layout : Layout) (is_layout : IsLayoutOf count net.relation net.depth layout) (starts : List Start) (r : ℕ) (l : r < nodes net.relation.grid)
+    (b : Router) (shows : ShowsRouter count net n r starts b) (t : Turn) where
+  abbrev Works : Type 0
+  Works = HasWorked (ports net.relation.grid) net.relation.vcs layout starts (permitted net r) n b t
+
+  abbrev Through : Type 0
+  Through = IsThrough count net n r starts (packets_in layout starts n b) t
+
+  abbrev pub still : HasWorked (ports net.relation.grid) net.relation.vcs layout starts (permitted net r) n b t → Still
+  still k = still_of layout starts n k.up b
+
+  pub still-shows : (k : HasWorked (ports net.relation.grid) net.relation.vcs layout starts (permitted net r) n b t)
+      → ShowsStill count net n r starts (frozen_view net setup n r l) (still k).column (still k).marks (still k).ended (still k).filled (still k).source
+  still-shows k = shows-still net setup n r l starts b shows few layout k.up is_layout k.ups k.up_fits
+
+  awake : HasWorked (ports net.relation.grid) net.relation.vcs layout starts (permitted net r) n b t → Through
+  awake k = record {
+    column = column-next net setup n r l layout is_layout starts few (still k) (still-shows k) k.before k.chosen k.picked k.ahead k.effects t.column t.marks t.ended k.decided;
+    tails = ended-after net setup n r l layout is_layout starts few (still k) (still-shows k) k.before k.chosen k.picked k.ahead k.effects t.column t.marks t.ended k.decided;
+    queue =
+        subst (λ (s : Source). ShowsSource starts s (view_at net (suc n) r)) (sym k.source_is)
+        (source-after net setup n r l layout is_layout starts few (still k) (still-shows k) k.before k.chosen k.picked k.ahead k.effects t.column t.marks t.ended k.decided);
+    counts =
+        counts-next net setup n r l layout is_layout starts few (still k) (still-shows k) k.before k.chosen k.picked k.ahead k.effects t.column t.marks t.ended k.decided b.counts t.counts k.counted shows.counts;
+    leaves =
+        subst (ShowsLeaving (frozen_view net setup n r l)) (sym k.left_is)
+        (leaves net setup n r l layout is_layout starts few (still k) (still-shows k) k.before k.chosen k.picked k.ahead k.effects t.column t.marks t.ended k.decided);
+    holders = (still-shows k).holders;
+    granted = λ o u.
+        k.grants_are o u ∙ grants-are net setup n r l layout is_layout starts few (still k) (still-shows k) k.before k.chosen k.picked k.ahead k.effects t.column t.marks t.ended k.decided o u;
+    happened =
+        k.happened_is
+        ∙ event-next net setup n r l layout is_layout starts few (still k) (still-shows k) k.before k.chosen k.picked k.ahead k.effects t.column t.marks t.ended k.decided (came_in layout n b)
+        (came-event net setup n r l starts b shows few layout k.up is_layout k.ups k.up_fits);
+    arrived =
+        subst (ShowsArrived net n r (packets_in layout starts n b)) (sym k.arrived_are)
+        (arrived-shows net setup n r l layout is_layout starts few (still k) (still-shows k) k.before k.chosen k.picked k.ahead k.effects t.column t.marks t.ended k.decided);
+    found = λ i u.
+        k.found_are i u
+        ∙ found-is net setup n r l layout is_layout starts few (still k) (still-shows k) k.before k.chosen k.picked k.ahead k.effects t.column t.marks t.ended k.decided i u
+        ∙ found-next net setup n r l few i u;
+  }
+
+  -- of one that sleeps nothing moves
+  nothing : HasSlept n b t → (i : ℕ) → GoesOut net n r i → has_bit 0 i ≡ true
+  nothing k i y =
+      let u : i < size_of (frozen_of net n r).site = subst (λ (s : Site). i < size_of s) (sym (frozen-seen net setup n r l).site) y.mover.channel in
+      (leaves-nothing net setup n r l few starts b shows k.waiting k.active k.injecting k.due k.flits k.credits).credits i u ∙ sym ((moves-are (frozen_of net n r)).each i u) ∙ y.bit
+
+  asleep : HasSlept n b t → Through
+  asleep k = subst (λ (u : Turn). IsThrough count net n r starts (packets_in layout starts n b) u) (sym k.is) (record {
+    column = column-rests net setup n r l few starts b shows k.waiting k.active k.injecting k.due k.flits k.credits;
+    tails = ended-rests net setup n r l few starts b shows k.waiting k.active k.injecting k.due k.flits k.credits;
+    queue = source-rests net setup n r l few starts b shows k.waiting k.active k.injecting k.due k.flits k.credits;
+    counts = counts-rest net setup n r l few starts b shows k.waiting k.active k.injecting k.due k.flits k.credits;
+    leaves = leaves-nothing net setup n r l few starts b shows k.waiting k.active k.injecting k.due k.flits k.credits;
+    holders = holders-rest net setup n r l few starts b shows k.waiting k.active k.injecting k.due k.flits k.credits layout;
+    granted = λ o u. grants-nothing net setup n r l few starts b shows k.waiting k.active k.injecting k.due k.flits k.credits o u;
+    happened = event-rests net setup n r l few starts b shows k.waiting k.active k.injecting k.due k.flits k.credits;
+    arrived = record {
+      goes = λ i u h. absurd (false≢true (sym (has_bit-zero i) ∙ h));
+      comes = λ i y last. absurd (false≢true (sym (has_bit-zero i) ∙ nothing k i y));
+    };
+    found = λ i u. found-nothing net setup n r l few starts b shows k.waiting k.active k.injecting k.due k.flits k.credits i u;
+  })
+
+  pub through : Works ⊎ HasSlept n b t → Through
+  through (inl k) = awake k
+  through (inr k) = asleep k
+
+-- where all are, and each has what left the others
+module _ {count : ℕ} (net : Setup) (setup : IsGoodSetup net) (n : ℕ) (few : n < CYCLE_LIMIT) (starts : List Start) (packets : ℕ → ℕ → ℕ) (t : ℕ → Turn)
+    (all : (r : ℕ) → r < nodes net.relation.grid → IsThrough count net n r starts (packets r) (t r)) where
+  abbrev left : ℕ → Links
+  left s = (t s).left
+
+  leaves-are : (r : ℕ) → r < nodes net.relation.grid → ShowsLeaving (frozen_of net n r) (t r).left
+  leaves-are r l = (all r l).leaves
+
+  holders-still : (r : ℕ) → r < nodes net.relation.grid → ShowsHolders net (frozen_at net n) r (packets r)
+  holders-still r l = (all r l).holders
+
+  module _ (next : ℕ → Router) (r : ℕ) (l : r < nodes net.relation.grid) (have : HasGathered net.relation.grid net.relation.vcs (λ s. (t s).left) (λ s. (t s).grants) packets r (next r)) where
+    abbrev v : View
+    v = view_at net (suc n) r
+
+    abbrev row : List Beat
+    row = beats_at (beats_in net (state_at net (suc n))) r
+
+    grid : IsGrid net.relation.grid
+    grid = (good net setup).relation.table.grid
+
+    some-vcs : 0 < net.relation.vcs
+    some-vcs = (good net setup).relation.table.some_vcs
+
+    site : (view_at net (suc n) r).site ≡ site_at net r
+    site = (view_at-seen net (suc n) r).site
+
+    -- a channel of a link is one of the router
+    link-size : (words : ℕ → ℕ) → AreBelow (size net) (gathered net.relation.grid net.relation.vcs words r)
+    link-size words k e =
+        let link = gathered-links net.relation.grid grid net.relation.vcs some-vcs words r l k e in
+        let m : (k / net.relation.vcs + 1) * net.relation.vcs ≤ ports net.relation.grid * net.relation.vcs = mul-le-mul_right net.relation.vcs (omega (arith, link)) in
+        let rest = mod_below k net.relation.vcs some-vcs in
+        let whole : k / net.relation.vcs * net.relation.vcs + k % net.relation.vcs ≡ k = div-add-mod' k net.relation.vcs in
+        omega (arith, m, rest, whole)
+
+    over : (words : ℕ → ℕ) (i : ℕ) → has_bit (gathered net.relation.grid net.relation.vcs words r) i ≡ comes_over net.relation.grid net.relation.vcs words r i
+    over words i = gathered-is net.relation.grid grid net.relation.vcs some-vcs words r l i
+
+    abbrev Wires : Site → Type 0
+    Wires s = ((i : ℕ) → i < size_of s → has_bit (next r).links.flits i ≡ is_some (flit_from s.vcs 0 row i)) × AreBelow (size_of s) (next r).links.flits
+        × ((i : ℕ) → i < size_of s → has_bit (next r).links.tails i ≡ is_tail (flit_from s.vcs 0 row i)) × AreBelow (size_of s) (next r).links.tails
+        × ((o : ℕ) → o < size_of s → has_bit (next r).links.credits o ≡ credit_from s.vcs 0 row o) × AreBelow (size_of s) (next r).links.credits
+
+    wires-at : Wires (site_at net r)
+    wires-at = (
+      λ i u. ap (λ k. has_bit k i) have.flits ∙ over (λ s. (t s).left.flits) i ∙ sym (flits-over net setup n few left leaves-are r l i),
+      subst (AreBelow (size net)) (sym have.flits) (link-size (λ s. (t s).left.flits)),
+      λ i u. ap (λ k. has_bit k i) have.tails ∙ over (λ s. (t s).left.tails) i ∙ sym (tails-over net setup n few left leaves-are r l i),
+      subst (AreBelow (size net)) (sym have.tails) (link-size (λ s. (t s).left.tails)),
+      λ o u. ap (λ k. has_bit k o) have.credits ∙ over (λ s. (t s).left.credits) o ∙ sym (credits-over net setup n few left leaves-are r l o),
+      subst (AreBelow (size net)) (sym have.credits) (link-size (λ s. (t s).left.credits)),
+    )
+
+    pub wires-are : ShowsWires (view_at net (suc n) r) (next r).links.flits (next r).links.tails (next r).links.credits (beats_at (beats_in net (state_at net (suc n))) r)
+    wires-are =
+        let all = subst Wires (sym site) wires-at in
+        record { comes = all.0; comes_below = all.1; tail_comes = all.2; tail_comes_below = all.3; returns = all.4; returns_below = all.5 }
+
+    pub holders-are : ShowsHolders net (state_at net (suc n)) r (next r).marks.packet
+    holders-are i u =
+        subst (λ k. IfSome (holder_at net (state_at net (suc n)) r i) (λ p. k ≡ p)) (sym (have.packet i u ∙ same (neighbour net.relation.grid r (i / net.relation.vcs)) refl))
+        (holders-told net setup n packets holders-still r l i u)
+      where
+        -- what is told by the words is told by the round
+        same : (o : Option (ℕ × ℕ)) → neighbour net.relation.grid r (i / net.relation.vcs) ≡ o
+            → told_over net.relation.vcs (λ s. (t s).grants) packets (packets r i) (i % net.relation.vcs) o
+            ≡ told_over net.relation.vcs (λ s o. slice_index_or (view_round (frozen_of net n s)).grants o None) packets (packets r i) (i % net.relation.vcs) o
+        same None e = refl
+        same (Some (to, port)) e =
+            ap (told_by (packets to) (packets r i))
+            ((all to (link_back net.relation.grid r (i / net.relation.vcs) to port grid l e).node).granted (port * net.relation.vcs + i % net.relation.vcs) (link-over net setup r l i to port e))
+
+    -- all of it
+    pub router-next : HasTurned (t r) (next r) → ShowsRouter count net (suc n) r starts (next r)
+    router-next turned = record {
+      column =
+          subst (λ (d : Column). IsColumn count d (next r).marks v) (sym turned.column)
+          (subst (λ (m : RouterMarks). IsColumn count (t r).column m v) (sym turned.marks)
+          (with-packets net (state_at net (suc n)) r v (view_at-seen net (suc n) r) count (t r).column (t r).marks (next r).marks.packet (all r l).column holders-are));
+      ended = subst (λ k. ShowsEnded k v) (sym turned.ended) (all r l).tails;
+      holders = holders-are;
+      wires = wires-are;
+      source = subst (λ (s : Source). ShowsSource starts s v) (sym turned.source) (all r l).queue;
+      counts = subst (λ (c : ℕ → ByVerdict). ShowsCounts (suc n) c v) (sym turned.counts) (all r l).counts;
+    }

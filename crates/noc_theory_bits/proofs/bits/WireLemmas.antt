@@ -1,0 +1,144 @@
+-- What leaves the routers of a network in a cycle is on the wires at the next count, bit by bit.
+use Rattle.std.proofs.Common.{◌≡◌, ℕ, suc, ◌+◌, ◌*◌, ◌/◌, ◌%◌, ◌<◌, Bool, true, false, List, Option, Some, None, refl, ap, ap₂, sym, ◌∙◌, subst, arith}
+use Rattle.std.specs.Prelude.{option_and_then, option_map, is_some, nat_eq, if◌then◌else◌}
+use Rattle.std.proofs.lemmas.Bool.{eq-eqb, eqb-true}
+use Rattle.std.proofs.lemmas.Nat.{div-add-mod', div-mul-add, mod-mul-add, mod_below, mul-add-lt}
+use Rattle.noc_topo.specs.Lists.{is_some_of}
+use Rattle.noc_topo.specs.Shape.{IsLinkBack, nodes, ports, neighbour}
+use Rattle.noc_topo.proofs.LinkLemmas.{link_back}
+use Rattle.noc_packet.specs.Set.{has_bit}
+use Rattle.noc_packet.specs.declared.packet.Beat.{Beat}
+use Rattle.noc_packet.specs.declared.packet.Flit.{Flit}
+use Rattle.noc_route.specs.Routes.{Routes}
+use Rattle.noc_view.specs.Verdict.{Claim, out_of}
+use Rattle.noc_view.specs.View.{Site, View, size_of, view_claim, view_round, first_flit, flit_out, is_tail, beat_out, mover, mover_to, decisions_of}
+use Rattle.noc_view.proofs.PlanLemmas.{Mover, lists_of_round, mover-is}
+use Rattle.noc_view.proofs.MoverLemmas.{flit-first}
+use Rattle.noc_theory.specs.declared.limits.TheConstants.{CYCLE_LIMIT}
+use Rattle.noc_theory.specs.Good.{IsGoodSetup}
+use Rattle.noc_theory.specs.Lockstep.{beats_at, beats_in, site_at}
+use Rattle.noc_theory.specs.Network.{Setup, size, state_at}
+use Rattle.noc_sets.specs.Taken.{flit_from, flit_on_vc, credit_from}
+use Rattle.noc_sets.specs.Cycle.{Links}
+use Rattle.noc_sets.specs.Gather.{comes_over, is_over}
+use Rattle.noc_theory_bits.proofs.network.NetworkLemmas.{good, frozen-seen}
+use Rattle.noc_theory_bits.proofs.network.PutLemmas.{credit-put}
+use Rattle.noc_theory_bits.proofs.network.SteadyLemmas.{same-truth}
+use Rattle.noc_theory_bits.proofs.wiring.LinkLemmas.{put_by, flit-came, credit-came}
+use Rattle.noc_theory_bits.specs.Wires.{ShowsLeaving, is_tail_of}
+use Rattle.noc_theory_bits.specs.Owners.{frozen_of}
+
+-- ---- of one router: the flit on a virtual channel of a beat, and the input channel that moves to the output channel
+module _ (relation : Routes) (v : View) (port vc : ℕ) (low : port < ports v.site.grid) (u : vc < v.site.vcs) where
+  -- a test of both that a flit passes as its channel does
+  same-left : (test : Option Flit → Bool) (test_at : Option ℕ → Bool) → test None ≡ false → test_at None ≡ false
+      → ((i : ℕ) (f : Flit) → first_flit v i ≡ Some f → test (Some f) ≡ test_at (Some i))
+      → test (flit_on_vc vc (beat_out (decisions_of relation v) v port).flit) ≡ test_at (mover_to v (view_round v) (port * v.site.vcs + vc))
+  unfolding decisions_of
+  same-left test test_at none none_at same = by (mover v.site (view_round v) port) refl
+    where
+      Out : Option ℕ → Option (ℕ × Flit)
+      Out m = option_and_then (λ i. option_and_then (λ o. option_map (λ f. (o % v.site.vcs, f)) (first_flit v i)) (out_of (view_claim v i))) m
+
+      To : Option ℕ → Option ℕ
+      To m = option_and_then (λ i. if is_some_of (out_of (view_claim v i)) (port * v.site.vcs + vc) then Some i else None) m
+
+      to : mover_to v (view_round v) (port * v.site.vcs + vc) ≡ To (mover v.site (view_round v) port)
+      to = ap (λ q. To (mover v.site (view_round v) q)) (div-mul-add port v.site.vcs vc u)
+
+      by : (m : Option ℕ) → mover v.site (view_round v) port ≡ m → test (flit_on_vc vc (flit_out v (view_round v) port)) ≡ test_at (mover_to v (view_round v) (port * v.site.vcs + vc))
+      by None e = ap (λ m. test (flit_on_vc vc (Out m))) e ∙ none ∙ sym (ap test_at (to ∙ ap To e) ∙ none_at)
+      by (Some i) e =
+          let m : Mover (decisions_of relation v) v port i = mover-is (decisions_of relation v) v port i (lists_of_round relation v) low e in
+          let f = flit-first v i m.flit in
+          let out : Out (Some i) ≡ Some (m.out % v.site.vcs, f.0) = ap (λ (c : Claim). option_and_then (λ o. option_map (λ f. (o % v.site.vcs, f)) (first_flit v i)) (out_of c)) m.claim ∙ ap (option_map (λ f. (m.out % v.site.vcs, f))) f.1 in
+          let in_of : To (Some i) ≡ (if nat_eq m.out (port * v.site.vcs + vc) then Some i else None) = ap (λ (c : Claim). if is_some_of (out_of c) (port * v.site.vcs + vc) then Some i else None) m.claim in
+          ap (λ m. test (flit_on_vc vc (Out m))) e ∙ ap (λ (x : Option (ℕ × Flit)). test (flit_on_vc vc x)) out ∙ ap (λ b. test (if b then Some f.0 else None)) (place m.out m.to)
+          ∙ either (nat_eq m.out (port * v.site.vcs + vc)) f.0 f.1 ∙ sym (ap test_at (to ∙ ap To e ∙ in_of))
+        where
+          place : (o : ℕ) → o / v.site.vcs ≡ port → nat_eq (o % v.site.vcs) vc ≡ nat_eq o (port * v.site.vcs + vc)
+          place o t =
+              same-truth (nat_eq (o % v.site.vcs) vc) (nat_eq o (port * v.site.vcs + vc))
+              (λ a. eq-eqb o (port * v.site.vcs + vc) (sym (div-add-mod' o v.site.vcs) ∙ ap₂ (λ q w. q * v.site.vcs + w) t (eqb-true (o % v.site.vcs) vc a)))
+              (λ a. eq-eqb (o % v.site.vcs) vc (ap (λ k. k % v.site.vcs) (eqb-true o (port * v.site.vcs + vc) a) ∙ mod-mul-add port v.site.vcs vc u))
+
+          either : (b : Bool) (f : Flit) → first_flit v i ≡ Some f → test (if b then Some f else None) ≡ test_at (if b then Some i else None)
+          either true f first = same i f first
+          either false f first = none ∙ sym none_at
+
+  pub flit-left : is_some (flit_on_vc vc (beat_out (decisions_of relation v) v port).flit) ≡ is_some (mover_to v (view_round v) (port * v.site.vcs + vc))
+  flit-left = same-left (λ f. is_some f) (λ m. is_some m) refl refl (λ i f e. refl)
+
+  pub tail-left : is_tail (flit_on_vc vc (beat_out (decisions_of relation v) v port).flit) ≡ is_tail_of v (mover_to v (view_round v) (port * v.site.vcs + vc))
+  tail-left = same-left is_tail (is_tail_of v) refl refl (λ i f e. ap is_tail (sym e))
+
+-- ---- of all routers
+module _ (net : Setup) (setup : IsGoodSetup net) (n : ℕ) (few : n < CYCLE_LIMIT) (left : ℕ → Links)
+    (shows : (s : ℕ) → s < nodes net.relation.grid → ShowsLeaving (frozen_of net n s) (left s)) (r : ℕ) (l : r < nodes net.relation.grid) where
+  some-vcs : 0 < net.relation.vcs
+  some-vcs = (good net setup).relation.table.some_vcs
+
+  same-site : (s : ℕ) → s < nodes net.relation.grid → (frozen_of net n s).site ≡ site_at net s
+  same-site s k = (frozen-seen net setup n s k).site
+
+  back : (i to port : ℕ) → neighbour net.relation.grid r (i / net.relation.vcs) ≡ Some (to, port) → IsLinkBack net.relation.grid r (i / net.relation.vcs) to port
+  back i to port e = link_back net.relation.grid r (i / net.relation.vcs) to port (good net setup).relation.table.grid l e
+
+  abbrev Out : ℕ → ℕ → ℕ → Option Flit
+  Out to port vc = flit_on_vc vc (beat_out (decisions_of net.relation (frozen_of net n to)) (frozen_of net n to) port).flit
+
+  -- what leaves the channel at the other end
+  module _ (i to port : ℕ) (e : neighbour net.relation.grid r (i / net.relation.vcs) ≡ Some (to, port)) where
+    low : port < ports net.relation.grid
+    low = let k = (back i to port e).port in omega (arith, k)
+
+    in-size : port * net.relation.vcs + i % net.relation.vcs < size net
+    in-size = let m = mul-add-lt port net.relation.vcs (i % net.relation.vcs) (ports net.relation.grid) low (mod_below i net.relation.vcs some-vcs) in omega (arith, m)
+
+    abbrev Says : Site → Type 0
+    Says site = port < ports site.grid → i % net.relation.vcs < site.vcs → port * site.vcs + i % net.relation.vcs < size_of site
+        → (is_some (Out to port (i % net.relation.vcs)) ≡ has_bit (left to).flits (port * site.vcs + i % net.relation.vcs))
+        × (is_tail (Out to port (i % net.relation.vcs)) ≡ has_bit (left to).tails (port * site.vcs + i % net.relation.vcs))
+        × (is_some_of (beat_out (decisions_of net.relation (frozen_of net n to)) (frozen_of net n to) port).credit (i % net.relation.vcs) ≡ has_bit (left to).credits (port * site.vcs + i % net.relation.vcs))
+
+    says : Says (site_at net to)
+    says =
+        subst Says (same-site to (back i to port e).node)
+        (λ p u k. (
+          flit-left net.relation (frozen_of net n to) port (i % net.relation.vcs) p u ∙ sym (one.flits (port * (frozen_of net n to).site.vcs + i % net.relation.vcs) k),
+          tail-left net.relation (frozen_of net n to) port (i % net.relation.vcs) p u ∙ sym (one.tails (port * (frozen_of net n to).site.vcs + i % net.relation.vcs) k),
+          credit-put net.relation (frozen_of net n to) (left to).credits (subst (λ (x : Site). 0 < x.vcs) (sym (same-site to (back i to port e).node)) some-vcs) (record { each = one.credits }) port (i % net.relation.vcs) p u,
+        ))
+      where
+        one : ShowsLeaving (frozen_of net n to) (left to)
+        one = shows to (back i to port e).node
+
+    pub over : (is_some (Out to port (i % net.relation.vcs)) ≡ has_bit (left to).flits (port * net.relation.vcs + i % net.relation.vcs))
+        × (is_tail (Out to port (i % net.relation.vcs)) ≡ has_bit (left to).tails (port * net.relation.vcs + i % net.relation.vcs))
+        × (is_some_of (beat_out (decisions_of net.relation (frozen_of net n to)) (frozen_of net n to) port).credit (i % net.relation.vcs) ≡ has_bit (left to).credits (port * net.relation.vcs + i % net.relation.vcs))
+    over = says low (mod_below i net.relation.vcs some-vcs) in-size
+
+  abbrev pub next : List Beat
+  next = beats_at (beats_in net (state_at net (suc n))) r
+
+  -- the flits that come, the tails among them, and the credits
+  pub flits-over : (i : ℕ) → is_some (flit_from net.relation.vcs 0 next i) ≡ comes_over net.relation.grid net.relation.vcs (λ s. (left s).flits) r i
+  flits-over i = ap (λ (f : Option Flit). is_some f) (flit-came net setup n few r l i) ∙ by (neighbour net.relation.grid r (i / net.relation.vcs)) refl
+    where
+      by : (o : Option (ℕ × ℕ)) → neighbour net.relation.grid r (i / net.relation.vcs) ≡ o → is_some (flit_on_vc (i % net.relation.vcs) (put_by net setup n o).flit) ≡ is_over net.relation.vcs (λ s. (left s).flits) (i % net.relation.vcs) o
+      by None e = refl
+      by (Some (to, port)) e = (over i to port e).0
+
+  pub tails-over : (i : ℕ) → is_tail (flit_from net.relation.vcs 0 next i) ≡ comes_over net.relation.grid net.relation.vcs (λ s. (left s).tails) r i
+  tails-over i = ap is_tail (flit-came net setup n few r l i) ∙ by (neighbour net.relation.grid r (i / net.relation.vcs)) refl
+    where
+      by : (o : Option (ℕ × ℕ)) → neighbour net.relation.grid r (i / net.relation.vcs) ≡ o → is_tail (flit_on_vc (i % net.relation.vcs) (put_by net setup n o).flit) ≡ is_over net.relation.vcs (λ s. (left s).tails) (i % net.relation.vcs) o
+      by None e = refl
+      by (Some (to, port)) e = (over i to port e).1
+
+  pub credits-over : (o : ℕ) → credit_from net.relation.vcs 0 next o ≡ comes_over net.relation.grid net.relation.vcs (λ s. (left s).credits) r o
+  credits-over o = credit-came net setup n few r l o ∙ by (neighbour net.relation.grid r (o / net.relation.vcs)) refl
+    where
+      by : (x : Option (ℕ × ℕ)) → neighbour net.relation.grid r (o / net.relation.vcs) ≡ x → is_some_of (put_by net setup n x).credit (o % net.relation.vcs) ≡ is_over net.relation.vcs (λ s. (left s).credits) (o % net.relation.vcs) x
+      by None e = refl
+      by (Some (to, port)) e = (over o to port e).2

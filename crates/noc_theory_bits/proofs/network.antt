@@ -1,0 +1,10 @@
+pub mod ArrivalLemmas
+pub mod FlitLemmas
+pub mod GiveBackLemmas
+pub mod MovingLemmas
+pub mod NetworkLemmas
+pub mod PointerLemmas
+pub mod PresentLemmas
+pub mod PutLemmas
+pub mod SteadyLemmas
+pub mod TidyLemmas

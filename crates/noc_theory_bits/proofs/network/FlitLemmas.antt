@@ -1,0 +1,55 @@
+-- The flits in the buffers of a router, and on the wires to it, are flits of packets within the
+-- limits: they fit the bits of a word.
+use Rattle.std.proofs.Common.{◌≡◌, ℕ, ◌^◌, ◌<◌, List, Option, Some, None, sym, subst, arith}
+use Rattle.noc_topo.specs.Lists.{Has}
+use Rattle.noc_topo.specs.Shape.{nodes}
+use Rattle.noc_packet.specs.Packet.{flit_at}
+use Rattle.noc_packet.specs.declared.packet.Flit.{Flit}
+use Rattle.noc_view.specs.View.{View, view_buffer}
+use Rattle.noc_theory.specs.Good.{IsGoodSetup, IsValid}
+use Rattle.noc_theory.specs.Lockstep.{seen_flits}
+use Rattle.noc_theory.specs.Network.{Setup, State, Located, size, arriving, packet_at, is_in, buffer_of, frozen_at}
+use Rattle.noc_theory.proofs.worms.MemberLemmas.{Has-filter, Has-map}
+use Rattle.noc_theory.specs.Seen.{IsSeen}
+use Rattle.noc_theory_bits.proofs.network.NetworkLemmas.{good, frozen_view, frozen-seen, steady-still}
+use Rattle.noc_theory_bits.proofs.network.SteadyLemmas.{IsSteady}
+
+-- the bits that a word has for each part of a flit
+abbrev pub FitsBits : Flit → Type 0
+FitsBits f = (f.packet < 2 ^ 64) × (f.index < 2 ^ 7) × (f.dst < 2 ^ 8) × (f.class < 2 ^ 2)
+
+module _ (net : Setup) (setup : IsGoodSetup net) where
+  -- a flit of a packet of the network
+  pub record IsFlitOf (f : Flit) : Type 0 where
+    pub packet : ℕ
+    pub index : ℕ
+    pub valid : IsValid net packet index
+    pub is : f ≡ flit_at (packet_at net packet) packet index
+
+  pub flit-fits : (f : Flit) → IsFlitOf f → FitsBits f
+  flit-fits f one =
+      let p = (good net setup).packets one.packet one.valid.0 in
+      let few = setup.few_packets in
+      let number = one.valid.0 in
+      let index = one.valid.1 in
+      let length = p.length in
+      let nodes = setup.relation.table.grid.few_nodes in
+      let goal = p.destination in
+      let class = p.class in
+      let classes = setup.relation.table.few_classes in
+      subst (λ (g : Flit). FitsBits g) (sym one.is) (omega (arith, few, number), omega (arith, index, length), omega (arith, goal, nodes), omega (arith, class, classes))
+
+  -- the flits in a buffer
+  pub buffer-flits : (S : State) → IsSteady net (good net setup) S → (r : ℕ) (v : View) → IsSeen net S r v → (i : ℕ) → i < size net → (f : Flit) → Has f (view_buffer v i) → IsFlitOf f
+  buffer-flits S x r v seen i l f h = at (arriving net r i) (subst (λ (fs : List Flit). Has f fs) (seen.buffer i l) h)
+    where
+      at : (c : Option Rattle.noc_route.specs.Channel.Channel) → Has f (seen_flits net S c) → IsFlitOf f
+      at None k = elim k [ ]
+      at (Some c) k =
+          let one = Has-map (λ (g : Located). flit_at (packet_at net g.packet) g.packet g.index) f (buffer_of net S c) k in
+          let there = Has-filter (λ (g : Located). is_in c g.place) one.0 S.at one.1 in
+          record { packet = one.0.packet; index = one.0.index; valid = x.keyed.valid one.0 there.0; is = sym one.2 }
+
+  module _ (n r : ℕ) (l : r < nodes net.relation.grid) where
+    pub frozen-flits : (i : ℕ) → i < size net → (f : Flit) → Has f (view_buffer (frozen_view net setup n r l) i) → IsFlitOf f
+    frozen-flits = buffer-flits (frozen_at net n) (steady-still net setup n) r (frozen_view net setup n r l) (frozen-seen net setup n r l)

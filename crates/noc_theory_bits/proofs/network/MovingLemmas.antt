@@ -1,0 +1,70 @@
+-- The channels whose flits move in a cycle, as a set.
+use Rattle.std.proofs.Common.{◌≡◌, ℕ, ◌/◌, ◌%◌, ◌^◌, ◌<◌, ◌≤◌, Bool, true, false, None, refl, ap, sym, ◌∙◌, arith, inl, inr}
+use Rattle.std.specs.Prelude.{◌⊎◌, ◌&&◌, ◌||◌, nat_eq, nat_lt, slice_index_or, if◌then◌else◌}
+use Rattle.std.proofs.lemmas.Bool.{and_parts, cases_lt, eq-eqb, le-ltb, lt-ltb, ltb-true, ne_eqb}
+use Rattle.noc_topo.specs.Lists.{is_some_of}
+use Rattle.noc_packet.specs.Set.{has_bit}
+use Rattle.noc_packet.proofs.SetLemmas.{has_bit-zero}
+use Rattle.noc_alloc.specs.Sparse.{AreBelow}
+use Rattle.noc_view.specs.States.{is_won_from}
+use Rattle.noc_view.specs.View.{View, size_of, view_input, view_round}
+use Rattle.noc_theory.specs.Network.{Setup}
+use Rattle.noc_sets.specs.Unions.{some_below, union_from}
+use Rattle.noc_sets.proofs.MemberLemmas.{power-members}
+use Rattle.noc_sets.proofs.SwitchLemmas.{AreMoved}
+use Rattle.noc_sets.proofs.UnionLemmas.{some-none, some-one, union-members}
+use Rattle.noc_theory_bits.specs.Owners.{frozen_of}
+
+-- ---- a set by a test
+
+-- the numbers below n of which a test holds
+abbrev pub set_below : ℕ → (ℕ → Bool) → ℕ
+set_below n test = union_from 0 n (λ i. if test i then 2 ^ i else 0)
+
+pub set-members : (n : ℕ) (test : ℕ → Bool) (k : ℕ) → has_bit (set_below n test) k ≡ (nat_lt k n && test k)
+set-members n test k =
+    union-members 0 n (λ i. if test i then 2 ^ i else 0) k
+    ∙ ap (λ b. b || some_below n (λ q. has_bit (if test q then 2 ^ q else 0) k)) (has_bit-zero k)
+    ∙ at (cases_lt k n)
+  where
+    one : (q : ℕ) (b : Bool) → has_bit (if b then 2 ^ q else 0) k ≡ (b && nat_eq k q)
+    one q true = power-members q k
+    one q false = has_bit-zero k
+
+    and-true : (b : Bool) → (b && true) ≡ b
+    and-true true = refl
+    and-true false = refl
+
+    and-false : (b : Bool) → (b && false) ≡ false
+    and-false true = refl
+    and-false false = refl
+
+    at : (k < n) ⊎ (n ≤ k) → some_below n (λ q. has_bit (if test q then 2 ^ q else 0) k) ≡ (nat_lt k n && test k)
+    at (inl l) =
+        some-one n k (λ q. has_bit (if test q then 2 ^ q else 0) k) l
+        (λ q u other. one q (test q) ∙ ap (λ b. test q && b) (ne_eqb k q (λ e. other (sym e))) ∙ and-false (test q))
+        ∙ one k (test k) ∙ ap (λ b. test k && b) (eq-eqb k k refl) ∙ and-true (test k) ∙ sym (ap (λ b. b && test k) (lt-ltb k n l))
+    at (inr u) =
+        some-none n (λ q. has_bit (if test q then 2 ^ q else 0) k)
+        (λ q v. one q (test q) ∙ ap (λ b. test q && b) (ne_eqb k q (λ e. absurd (omega (arith, e, u, v)))) ∙ and-false (test q))
+        ∙ sym (ap (λ b. b && test k) (le-ltb k n u))
+
+-- ---- the channels that move
+
+-- whether the round of a view moves the flit of channel k
+abbrev pub is_moving_in : View → ℕ → Bool
+is_moving_in v k = is_some_of (slice_index_or (view_round v).picks (k / v.site.vcs) None) (k % v.site.vcs) && is_won_from v (view_round v) k (view_input v k).phase
+
+-- the channels of which it does
+abbrev pub moves_in : View → ℕ
+moves_in v = set_below (size_of v.site) (is_moving_in v)
+
+pub moves-are : (v : View) → AreMoved v (moves_in v)
+moves-are v = record { each = λ k l. set-members (size_of v.site) (is_moving_in v) k ∙ ap (λ b. b && is_moving_in v k) (lt-ltb k (size_of v.site) l) }
+
+pub moves-below : (v : View) → AreBelow (size_of v.site) (moves_in v)
+moves-below v k e = ltb-true k (size_of v.site) (and_parts (nat_lt k (size_of v.site)) (is_moving_in v k) (sym (set-members (size_of v.site) (is_moving_in v) k) ∙ e)).0
+
+-- by router, the channels that move in cycle n of a network
+abbrev pub moves_at : Setup → ℕ → ℕ → ℕ
+moves_at net n r = moves_in (frozen_of net n r)

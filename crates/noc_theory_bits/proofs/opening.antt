@@ -1,0 +1,4 @@
+pub mod ListedLemmas
+pub mod OpeningLemmas
+pub mod OpeningWireLemmas
+pub mod StartLemmas

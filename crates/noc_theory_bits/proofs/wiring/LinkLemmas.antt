@@ -1,0 +1,102 @@
+-- What goes over the links of a network in a cycle: the flits that have gone to their targets, and
+-- the credits that went back for them.
+use Rattle.std.proofs.Common.{◌≡◌, ℕ, suc, ◌+◌, ◌-◌, ◌*◌, ◌/◌, ◌%◌, ◌<◌, ◌≤◌, Bool, true, false, List, [], length, Option, Some, None, refl, ap, sym, ◌∙◌, subst, arith, inl, inr, get_or}
+use Rattle.std.specs.Prelude.{◌⊎◌, nat_eq, if◌then◌else◌}
+use Rattle.std.proofs.lemmas.Bool.{cases_lt, eqb-true}
+use Rattle.std.proofs.lemmas.List.{get_or_past}
+use Rattle.std.proofs.lemmas.Nat.{div-mul-add, mod-mul-add, mul-add-lt}
+use Rattle.std.proofs.lemmas.Option.{none-some, same_Some}
+use Rattle.noc_topo.specs.Lists.{tabulate, is_some_of}
+use Rattle.noc_topo.specs.Shape.{IsGrid, IsLinkBack, nodes, ports, local_port, neighbour}
+use Rattle.noc_topo.proofs.LinkLemmas.{hop_of, link_back}
+use Rattle.noc_topo.proofs.ListLemmas.{get_or-tabulate, length-tabulate}
+use Rattle.noc_packet.specs.declared.packet.Beat.{Beat}
+use Rattle.noc_packet.specs.declared.packet.Flit.{Flit}
+use Rattle.noc_view.specs.View.{Site, idle_beat, decisions_of, beat_out}
+use Rattle.noc_theory.specs.declared.limits.TheConstants.{CYCLE_LIMIT}
+use Rattle.noc_theory.specs.Good.{IsGoodSetup}
+use Rattle.noc_theory.specs.Lockstep.{beats_at, beats_in, beat_by, site_at}
+use Rattle.noc_theory.specs.Network.{Setup, size, state_at}
+use Rattle.noc_theory.proofs.join.JoinLemmas.{next-beats}
+use Rattle.noc_theory.proofs.join.JoinedLemmas.{phases}
+use Rattle.noc_theory.proofs.join.OrderedStateLemmas.{ordered-state, ordered-mid, ordered-frozen}
+use Rattle.noc_sets.specs.Taken.{flit_from, flit_on_vc, credit_from}
+use Rattle.noc_theory_bits.proofs.network.PutLemmas.{beat-next}
+use Rattle.noc_theory_bits.proofs.network.NetworkLemmas.{good, frozen-seen}
+use Rattle.noc_theory_bits.proofs.wiring.WireLemmas.{flit-at, credit-at}
+use Rattle.noc_theory_bits.specs.Owners.{frozen_of}
+
+-- a flit on a virtual channel
+on_vc-some : (vc : ℕ) (o : Option (ℕ × Flit)) (f : Flit) → flit_on_vc vc o ≡ Some f → o ≡ Some (vc, f)
+on_vc-some vc None f e = absurd (none-some f e)
+on_vc-some vc (Some (w, g)) f e = by (nat_eq w vc) refl e
+  where
+    by : (b : Bool) → nat_eq w vc ≡ b → (if b then Some g else None) ≡ Some f → ◌≡◌ {A = Option (ℕ × Flit)} (Some (w, g)) (Some (vc, f))
+    by true t h = ap (λ x. Some (x, g)) (eqb-true w vc t) ∙ ap (λ (x : Flit). Some (vc, x)) (same_Some g f h)
+    by false t h = absurd (none-some f h)
+
+module _ (net : Setup) (setup : IsGoodSetup net) where
+  -- a channel by its port and virtual channel
+  index : (port vc : ℕ) → port < ports net.relation.grid → vc < net.relation.vcs
+      → (port * net.relation.vcs + vc < size net) × ((port * net.relation.vcs + vc) / net.relation.vcs ≡ port) × ((port * net.relation.vcs + vc) % net.relation.vcs ≡ vc)
+  index port vc l u =
+      let m : port * net.relation.vcs + vc < net.relation.vcs * ports net.relation.grid = mul-add-lt port net.relation.vcs vc (ports net.relation.grid) l u in
+      (omega (arith, m), div-mul-add port net.relation.vcs vc u, mod-mul-add port net.relation.vcs vc u)
+
+  some-vcs : 0 < net.relation.vcs
+  some-vcs = (good net setup).relation.table.some_vcs
+
+  is-grid : IsGrid net.relation.grid
+  is-grid = (good net setup).relation.table.grid
+
+  module _ (n : ℕ) where
+    same-site : (r : ℕ) → r < nodes net.relation.grid → (frozen_of net n r).site ≡ site_at net r
+    same-site r l = (frozen-seen net setup n r l).site
+
+    -- ---- the beats of the next count
+    -- what the router at the other end of a link has put
+    abbrev pub put_by : Option (ℕ × ℕ) → Beat
+    put_by None = idle_beat
+    put_by (Some (to, port)) = beat_out (decisions_of net.relation (frozen_of net n to)) (frozen_of net n to) port
+
+    module _ (few : n < CYCLE_LIMIT) (r : ℕ) (l : r < nodes net.relation.grid) where
+      abbrev pub next_beats : List Beat
+      next_beats = beats_at (beats_in net (state_at net (suc n))) r
+
+      row : next_beats ≡ tabulate (local_port net.relation.grid) (λ q. beat_by net (state_at net (suc n)) r q (neighbour net.relation.grid r q))
+      unfolding beats_in
+      row = get_or-tabulate (nodes net.relation.grid) r (λ s. tabulate (local_port net.relation.grid) (λ q. beat_by net (state_at net (suc n)) s q (neighbour net.relation.grid s q))) [] l
+
+      here : (q : ℕ) → q < local_port net.relation.grid → get_or next_beats q idle_beat ≡ beat_by net (state_at net (suc n)) r q (neighbour net.relation.grid r q)
+      here q u = ap (λ (beats : List Beat). get_or beats q idle_beat) row ∙ get_or-tabulate (local_port net.relation.grid) q (λ p. beat_by net (state_at net (suc n)) r p (neighbour net.relation.grid r p)) idle_beat u
+
+      beat-came : (q : ℕ) → get_or next_beats q idle_beat ≡ put_by (neighbour net.relation.grid r q)
+      beat-came q = by (neighbour net.relation.grid r q) refl
+        where
+          by : (o : Option (ℕ × ℕ)) → neighbour net.relation.grid r q ≡ o → get_or next_beats q idle_beat ≡ put_by o
+          by None e = at (cases_lt q (local_port net.relation.grid))
+            where
+              at : (q < local_port net.relation.grid) ⊎ (local_port net.relation.grid ≤ q) → get_or next_beats q idle_beat ≡ idle_beat
+              at (inl u) = here q u ∙ ap (beat_by net (state_at net (suc n)) r q) e
+              at (inr past) = get_or_past next_beats q idle_beat (let k : length next_beats ≡ local_port net.relation.grid = ap length row ∙ length-tabulate (local_port net.relation.grid) _ in omega (arith, k, past))
+          by (Some (to, port)) e =
+              let back : IsLinkBack net.relation.grid r q to port = link_back net.relation.grid r q to port is-grid l e in
+              let link : q < local_port net.relation.grid = (hop_of net.relation.grid r q to port is-grid e).link in
+              let out : port < local_port (frozen_of net n to).site.grid = subst (λ (x : Site). port < local_port x.grid) (sym (same-site to back.node)) back.port in
+              here q link
+              ∙ ap (beat_by net (state_at net (suc n)) r q) e
+              ∙ sym (next-beats net (phases net (good net setup)) n to back.node (omega (arith, few)) (ordered-state net (good net setup) n) (ordered-mid net (good net setup) n) (ordered-frozen net (good net setup) n) port r q e l)
+              ∙ beat-next net.relation (frozen_of net n to) port out
+
+      -- the flit that comes to an input channel, and whether a credit comes to an output channel
+      pub flit-came : (i : ℕ) → flit_from net.relation.vcs 0 next_beats i ≡ flit_on_vc (i % net.relation.vcs) (put_by (neighbour net.relation.grid r (i / net.relation.vcs))).flit
+      flit-came i =
+          flit-at net.relation.vcs 0 next_beats i (omega arith)
+          ∙ ap (λ k. flit_on_vc (i % net.relation.vcs) (get_or next_beats k idle_beat).flit) (let z : i / net.relation.vcs - 0 ≡ i / net.relation.vcs = omega arith in z)
+          ∙ ap (λ (b : Beat). flit_on_vc (i % net.relation.vcs) b.flit) (beat-came (i / net.relation.vcs))
+
+      pub credit-came : (o : ℕ) → credit_from net.relation.vcs 0 next_beats o ≡ is_some_of (put_by (neighbour net.relation.grid r (o / net.relation.vcs))).credit (o % net.relation.vcs)
+      credit-came o =
+          credit-at net.relation.vcs 0 next_beats o (omega arith)
+          ∙ ap (λ k. is_some_of (get_or next_beats k idle_beat).credit (o % net.relation.vcs)) (let z : o / net.relation.vcs - 0 ≡ o / net.relation.vcs = omega arith in z)
+          ∙ ap (λ (b : Beat). is_some_of b.credit (o % net.relation.vcs)) (beat-came (o / net.relation.vcs))

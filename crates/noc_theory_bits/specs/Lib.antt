@@ -1,0 +1,4 @@
+pub mod Owners
+pub mod Wires
+pub mod Network
+pub mod Starts

@@ -1,0 +1,14 @@
+pub mod ColumnLemmas
+pub mod FindLemmas
+pub mod LandLemmas
+pub mod MoverLemmas
+pub mod PlanLemmas
+pub mod SinkLemmas
+pub mod SiteLemmas
+pub mod StandLemmas
+pub mod StepExamples
+pub mod StillLemmas
+pub mod VacantLemmas
+pub mod VerdictExamples
+pub mod VerdictOrderLemmas
+pub mod VerdictSetLemmas

@@ -1,0 +1,11 @@
+pub mod Arrivals
+pub mod Finish
+pub mod Found
+pub mod Names
+pub mod ReadySets
+pub mod Start
+pub mod States
+pub mod Still
+pub mod Verdict
+pub mod VerdictSets
+pub mod View

@@ -1,0 +1,27 @@
+-- The verdict of an input channel, by the sets of those that have each verdict.
+use Rattle.std.specs.Prelude.{ℕ, ◌+◌, if◌then◌else◌}
+use Rattle.noc_packet.specs.Set.{has_bit}
+use Rattle.noc_topo.specs.Lists.{one_if}
+use Rattle.noc_view.specs.declared.sets.VerdictSets.{VerdictSets}
+use Rattle.noc_view.specs.declared.verdict.Verdict.{Verdict}
+use Rattle.noc_view.specs.declared.verdict.Verdict.TheVariants.{Empty, Routed, Granted, Moved, NoFlit, NoIdleChannel, LostChannel, NoCredit, LostInput, LostSwitch}
+
+-- the first verdict in whose set channel i is
+abbrev pub verdict_by : VerdictSets → ℕ → Verdict
+verdict_by sets i =
+    if has_bit sets.moved i then Moved
+    else if has_bit sets.granted i then Granted
+    else if has_bit sets.routed i then Routed
+    else if has_bit sets.no_flit i then NoFlit
+    else if has_bit sets.no_idle_channel i then NoIdleChannel
+    else if has_bit sets.lost_channel i then LostChannel
+    else if has_bit sets.no_credit i then NoCredit
+    else if has_bit sets.lost_input i then LostInput
+    else if has_bit sets.lost_switch i then LostSwitch
+    else Empty
+
+-- in how many of the sets channel i is
+abbrev pub sets_with : VerdictSets → ℕ → ℕ
+sets_with sets i =
+    one_if (has_bit sets.moved i) + one_if (has_bit sets.granted i) + one_if (has_bit sets.routed i) + one_if (has_bit sets.no_flit i) + one_if (has_bit sets.no_idle_channel i)
+    + one_if (has_bit sets.lost_channel i) + one_if (has_bit sets.no_credit i) + one_if (has_bit sets.lost_input i) + one_if (has_bit sets.lost_switch i)

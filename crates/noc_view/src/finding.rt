@@ -1,0 +1,31 @@
+//! What a router finds of an input channel, and whether it records that.
+
+use crate::verdict::Verdict;
+
+/// What a router found of one input channel in one cycle: the packet of the channel, if it holds
+/// one, and the output channel (port, virtual channel) that the packet owns, is granted or asks
+/// for.
+#[derive(Clone, Copy, Debug, PartialEq, Eq)]
+pub struct Finding {
+    pub verdict: Verdict,
+    pub packet: Option<u32>,
+    pub out: Option<(usize, usize)>,
+}
+
+impl Finding {
+    /// What is found of a channel that holds nothing.
+    pub const EMPTY: Finding = Finding {
+        verdict: Verdict::Empty,
+        packet: None,
+        out: None,
+    };
+}
+
+/// Whether a router records what it finds in a cycle.
+#[derive(Clone, Copy, Debug, PartialEq, Eq)]
+pub enum Recording {
+    /// Its findings are those of this cycle.
+    Record,
+    /// Its findings stay as they were.
+    Leave,
+}
