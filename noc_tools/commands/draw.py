@@ -1,0 +1,84 @@
+"""Draws results of a study again: any column against any other, of all runs or of some.
+
+FILE is results.csv or saturation.csv of a study. A curve goes along a setting, from point to point by its value: along
+the load of results.csv, or the traffic where there is one load alone. Along buffer, as one example, a curve goes over
+the lines of saturation.csv that differ by buffer. The other settings by which lines differ make the curves, and the
+seeds make a mean with a bar from the least to the most.
+
+--frames names settings of which each value has a frame of its own, --colour and --dash the settings by which curves
+have their colours and dashes. Without these, patterns and traffics have frames, and so have further settings until
+no frame has more than eight curves. --where takes only lines with this value of a setting, and with several words for
+one setting those that have any of them.
+"""
+import sys
+from argparse import ArgumentParser, Namespace
+
+from ..combinations import Row
+from ..drawing import pictures_of
+from ..errors import Refused
+from ..files import named_rows, read_lines
+from ..plan import View
+from ..settings import NONE, SETTINGS
+from .curves import check_top
+
+
+def settings(words: str) -> list[str]:
+    """Settings with commas between them."""
+    return words.split(",")
+
+
+def add_arguments(parser: ArgumentParser) -> None:
+    parser.add_argument("file", metavar="FILE", help="results.csv or saturation.csv of a study")
+    parser.add_argument("--x", metavar="COLUMN", default="accepted", help="what lies across; by default accepted")
+    parser.add_argument("--y", metavar="COLUMN", default="mean", help="what lies upwards; by default mean")
+    parser.add_argument("--where", metavar="SETTING=VALUE", nargs="+", default=[], help="only lines that have this")
+    parser.add_argument("--along", metavar="SETTING", help="along which setting a curve goes; by default load")
+    frames = "each of their values has a frame"
+    parser.add_argument("--frames", metavar="SETTING,..", type=settings, help=frames)
+    parser.add_argument("--colour", metavar="SETTING", help="each of its values has a colour")
+    parser.add_argument("--dash", metavar="SETTING", help="each of its values has a kind of line")
+    parser.add_argument("--top", metavar="NUMBER", type=float, help="where the vertical axis ends")
+
+
+def chosen(rows: list[dict[str, str]], words: list[str]) -> list[Row]:
+    """The rows that have one of the values for each setting that these words name."""
+    wanted: dict[str, set[str]] = {}
+    for word in words:
+        key, equals, value = word.partition("=")
+        if not equals or key not in rows[0]:
+            raise Refused(f"'{word}' is no COLUMN=VALUE of the file, whose columns are {', '.join(rows[0])}")
+        wanted.setdefault(key, set()).add(value)
+    found: list[Row] = [row for row in rows if all(row[key] in values for key, values in wanted.items())]
+    if not found:
+        raise Refused(f"no line has {' '.join(words)}")
+    return found
+
+
+def check(rows: list[dict[str, str]], options: Namespace) -> None:
+    """Refuses columns and settings that the file does not have."""
+    for name in (options.x, options.y):
+        if name not in rows[0]:
+            raise Refused(f"{options.file} has no column '{name}': its columns are {', '.join(rows[0])}")
+        for row in rows:
+            try:
+                row[name] == NONE or float(row[name])
+            except ValueError:
+                raise Refused(f"{options.file}: '{row[name]}' of the column '{name}' is no number") from None
+    for key in [*(options.frames or []), options.colour, options.dash, options.along]:
+        if key is not None and (key not in SETTINGS or key not in rows[0]):
+            raise Refused(f"'{key}' is no setting of {options.file}")
+
+
+def main(options: Namespace) -> int:
+    check_top(options.top)
+    rows = named_rows(read_lines(options.file, "file of results"), [], "file of results", options.file)
+    if not rows:
+        raise Refused(f"{options.file} has no results")
+    check(rows, options)
+    view = View(options.frames, options.colour, options.dash)
+    drawn = list(pictures_of(chosen(rows, options.where), view, options.x, options.y, options.top, options.along))
+    if len(drawn) != 1:
+        told = "there is no point to draw" if not drawn else f"{len(drawn)} pictures are needed for all curves"
+        raise Refused(f"{told}: --where takes some lines alone")
+    sys.stdout.write(drawn[0])
+    return 0

@@ -1,0 +1,84 @@
+"""Makes traffic of a plain trace, such as a program writes that watches another simulator or a chip.
+
+TRACE is CSV, and its first line has the names of its columns, in any order: time, source, destination, bytes, and kind
+where packets are of several kinds. Other columns are not looked at. A packet is due in the cycle time * FACTOR, rounded
+down, from the first one of the trace on, with --from A from that at time A. It has as many flits as its bytes take, the
+last of them filled up, and one at least; one of more than 64 flits goes as several packets. Its class is the one that
+--kind gives to its kind, else 0. What a node sends to itself is left out.
+
+Where there are more than the 20,000 packets that noc takes, the last cycles are left out, and a line to standard error
+says so.
+"""
+import sys
+from argparse import ArgumentParser, ArgumentTypeError, Namespace
+from collections.abc import Iterator, Mapping
+
+from ..arguments import add_config, warn
+from ..errors import Refused
+from ..files import named_rows, read_lines
+from ..network import Network, read_bounded_network
+from ..traffic import LATEST_DUE, LONGEST, MOST_PACKETS, Row, fitting, traffic_text
+
+TRACE_COLUMNS = ["time", "source", "destination", "bytes"]
+
+
+def kind_of(words: str) -> tuple[str, int]:
+    """A kind and the class of its packets."""
+    name, equals, number = words.rpartition("=")
+    if not equals or not number.isdecimal():
+        raise ArgumentTypeError(f"'{words}' is no KIND=CLASS, as reply=1")
+    return name, int(number)
+
+
+def add_arguments(parser: ArgumentParser) -> None:
+    add_config(parser)
+    parser.add_argument("trace", metavar="TRACE", help="the trace")
+    parser.add_argument("flit_bytes", metavar="BYTES", type=int, help="the bytes of a flit")
+    faster = "how many cycles a unit of time has (1)"
+    parser.add_argument("--factor", metavar="FACTOR", type=float, default=1, help=faster)
+    parser.add_argument("--from", dest="first", metavar="A", type=float, default=0, help="the time of cycle 0")
+    classes = "the classes of kinds; by default 0"
+    parser.add_argument("--kind", metavar="KIND=CLASS", nargs="+", type=kind_of, default=[], help=classes)
+
+
+def lengths_of(size: int, flit_bytes: int) -> Iterator[int]:
+    """The lengths of the packets that take so many bytes."""
+    flits = max(1, -(-size // flit_bytes))
+    while flits > LONGEST:
+        yield LONGEST
+        flits -= LONGEST
+    yield flits
+
+
+def rows_of(options: Namespace, network: Network, classes: Mapping[str, int]) -> Iterator[Row]:
+    """The packets of the trace."""
+    lines = named_rows(read_lines(options.trace, "trace"), TRACE_COLUMNS, "trace", options.trace)
+    for number, line in enumerate(lines, 2):
+        try:
+            due = int((float(line["time"]) - options.first) * options.factor)
+            source, destination, size = (int(line[name]) for name in ("source", "destination", "bytes"))
+        except (ValueError, OverflowError):
+            raise Refused(f"{options.trace}: line {number} has no time, nodes and bytes") from None
+        if not (0 <= source < network.nodes and 0 <= destination < network.nodes):
+            raise Refused(f"{options.trace}: line {number} has a node that the network has not")
+        if not 0 <= due <= LATEST_DUE:
+            raise Refused(f"{options.trace}: line {number} is due in cycle {due}: noc takes 0 to {LATEST_DUE}")
+        if source != destination:
+            message_class = classes.get(line.get("kind", ""), 0)
+            for length in lengths_of(size, options.flit_bytes):
+                yield source, destination, message_class, length, due
+
+
+def main(options: Namespace) -> int:
+    network, classes = read_bounded_network(options.config), dict(options.kind)
+    if options.flit_bytes < 1 or not 0 < options.factor < float("inf"):
+        raise Refused("BYTES is a whole number above 0, and FACTOR a number above 0")
+    if not all(number < network.classes for number in classes.values()):
+        raise Refused(f"a class does not exist: the classes are 0 to {network.classes - 1}")
+    rows = list(rows_of(options, network, classes))
+    kept, end = fitting(rows, LATEST_DUE)
+    sys.stdout.write(traffic_text(kept))
+    if len(kept) < len(rows):
+        told = f"noc takes {MOST_PACKETS} packets, so of {len(rows)} the {len(kept)} due before cycle {end} are kept"
+        warn(options, [told])
+    return 0

@@ -1,0 +1,46 @@
+"""Finds ranks for the channels of a network, as a rank file for 'noc check'; or shows why there are none.
+
+Ranks rise along every step from one link channel to the next that the routing relation permits (docs/FORMATS.md,
+Ranks). Where such steps close a circle there are none: it is shown step by step, each with a class and a destination
+whose packets may take it, and the status is 1.
+
+With --escape the channels with the numbers C of each link are its escape channels, and all others are 'adaptive':
+packets must always be permitted an escape channel, and ranks rise from one escape channel to the next that packets
+come to, directly or by adaptive channels. Without numbers the lowest channel of the block of each class is tried,
+then the lowest two, and so on; where none of these will do, it says why the lowest alone does not.
+
+CONFIG and F are read twice, so they are files and no pipes.
+"""
+from argparse import ArgumentParser, Namespace
+
+from ..arguments import add_config, add_table, numbers, table_words
+from ..network import Network
+from ..program import report
+from ..ranks import escape_choices, first_found, rank_file
+from ..relation import Channels, of_network
+from ..traffic import traffic_text
+
+
+def channel_numbers(words: str) -> set[int]:
+    """Numbers of channels with commas between them."""
+    return set(numbers(words))
+
+
+def add_arguments(parser: ArgumentParser) -> None:
+    add_config(parser)
+    add_table(parser)
+    parser.add_argument(
+        "--escape", metavar="C,..", nargs="?", const=set(), type=channel_numbers,
+        help="the numbers of the escape channels; without numbers the lowest of each class's channels are tried",
+    )
+
+
+def main(options: Namespace) -> int:
+    network = Network.read(options.config)
+    # What noc refuses it tells of itself; a run without packets makes the relation alone.
+    empty, words = traffic_text([]), table_words(options)
+    report("run", options.config, "/dev/stdin", "--report", "summary", *words, given=empty)
+    channels = Channels(network)
+    ranks = first_found(of_network(channels, options.table), escape_choices(network, options.escape))
+    print("\n".join(rank_file(channels, ranks)))
+    return 0

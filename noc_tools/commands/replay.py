@@ -1,0 +1,27 @@
+"""Makes a page that plays a run: a picture of the network with a slider, in one HTML file that stands alone.
+
+Any browser shows it, from a disk too: it needs no server, no network and no other file. Each router is coloured by
+what its input channels do in the cycle that is shown. A click on a router lists its channels with verdict, packet,
+output channel and the channels that its packet is permitted; a click on a packet follows it.
+PAGE.html#cycle=20&router=1&packet=3 opens it at a moment.
+
+CONFIG, TRAFFIC and F are files, one of them '-' for standard input. With --drain the run goes on until all packets
+are out, as by 'noc run --drain'. The network is traced once. A page has at most 2,000,000 changes of channels, which
+is some 30 MB; of a longer run take the cycles A to B, and the command says which would fit.
+"""
+import sys
+from argparse import ArgumentParser, Namespace
+
+from ..arguments import add_run, add_span, run_of, span_of
+from ..replay import page
+
+
+def add_arguments(parser: ArgumentParser) -> None:
+    add_run(parser)
+    add_span(parser)
+
+
+def main(options: Namespace) -> int:
+    run = run_of(options)
+    sys.stdout.write(page(run, *span_of(run, options)))
+    return 0

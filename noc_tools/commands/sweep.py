@@ -1,0 +1,167 @@
+"""Makes a study: runs all combinations of some settings, keeps a line of results for each run, and draws them.
+
+    sweep STUDY.toml                    makes the runs that have no result yet, and draws
+    sweep STUDY.toml --list             prints a command for each run that has no result yet
+    sweep STUDY.toml --collect FILE..   takes the lines that these commands printed, and draws
+    sweep STUDY.toml --verify N         makes N of the runs again, and compares each line byte for byte
+    sweep --one SETTING=VALUE..         makes one run and prints its line, as the commands of --list do
+
+STUDY.toml gives each setting a value, or a list of values that are combined with those of all others:
+
+    kind, radix, rule, channels, buffer, classes, cycles
+                      as in a configuration (by default 1 class, 3000 cycles). Of a rule of 'noc-tools table' the table
+                      and its ranks are made in FOLDER/tables, and 'noc check' has to accept them
+    table             for the rule 'table' its file, beside STUDY.toml
+    flit_bytes        the bytes of a flit; then all loads, also the measured ones, are in bytes per node and cycle
+    pattern, length, load, seed, spots, share
+                      as for 'noc-tools traffic' (uniform, seed 1, the node in the middle, 0.2); a load may be a text
+                      "A:B:STEP", which stands for the loads from A up to B, and a length a text "1+8", of which each
+                      packet has one, all alike
+    burst             [ON, OFF]: packets in bursts, as by --burst of 'noc-tools traffic'
+    packet_classes    the classes of its packets ([0])
+    traffic           traffic files, beside STUDY.toml; a load is how many times as fast their packets come (1)
+    replies           [TO, BY, LENGTH, DELAY]: packets of the class TO are answered, as by 'noc-tools replies'
+    window            [A, B]: the packets due from A to before B are measured (the middle third of the run)
+    measured_classes  [C, ..]: of these the packets of such classes alone (all)
+    parts             whether queue and network are told apart (true); without, a run takes half as long
+    tolerance         by how many percent the halves of the window may differ (20)
+
+Beside these it may have:
+
+    cases             [{..}, {..}]: tables of settings, each with its own runs; they stand in place of those of all
+    search            AMOUNT: between the last load with which a network keeps up and the first with which it does not,
+                      halves of the span are tried until it is at most AMOUNT; below the lowest load from 0 on
+    at                LOAD: the table tells latencies at this load
+    frames, colour, dash
+                      how curves are told apart, as for 'noc-tools draw'
+
+FOLDER is STUDY without '.toml' where it is not given. Into it go results.csv, a line for each run as it comes: the
+settings, the columns of 'noc-tools load', and the first 16 digits of the SHA-256 of the program, the configuration, the
+traffic and the table. A sweep that was interrupted or killed goes on where it was when it is called again. Lines of
+another program, configuration, traffic or table are not taken by --collect. When all runs are there, latency.svg,
+p95.svg, p99.svg and accepted.svg are drawn, and saturation.csv is written and shown, with a line for each combination,
+whose figures are means over its seeds:
+
+    places                  the flits that the buffers of a link hold: channels by depth
+    latency_load, mean, p95, p99, queue_mean, network_mean
+                            the latency at the lowest load, or at that of `at`, and its parts in queue and network
+    keeps_up_to             what is accepted at the greatest load up to which the network keeps up: all measured packets
+                            come out, and 95 percent of what is offered
+    steady_to               what is accepted at the greatest load up to which all runs are steady, as 'noc-tools
+                            latency --help' says
+    saturation              the greatest accepted load; where the network keeps up with the highest load, it may take
+                            more
+    keeps_up_load, steady_load, saturation_load
+                            the loads of the study at which these are accepted
+    saturation_least, saturation_most
+                            the least and the most that is accepted there of the seeds
+    capacity                what the links across the middle, and the ports of the nodes, allow of uniform traffic
+    of_capacity             the part of it that the saturation is
+    ran, steady             the cycles of the shortest run, and whether it was steady: fewer than those of the study
+                            where noc does not take the packets of all; the window is then the same part of the run
+
+The runs are made side by side, N or as many as processors that may be used. With --files the files of one run are kept.
+"""
+import shlex
+import sys
+import time
+from argparse import ArgumentParser, Namespace
+from pathlib import Path
+
+from ..arguments import warn
+from .curves import check_top
+from ..errors import Refused
+from ..files import csv_line
+from ..program import processors
+from ..results import command_of, line_of
+from ..settings import case_of
+from ..study import Study
+from ..workers import check_jobs
+
+INTERRUPTED = 130
+
+
+def add_arguments(parser: ArgumentParser) -> None:
+    parser.add_argument("study", metavar="STUDY.toml", nargs="?", help="the settings")
+    parser.add_argument("--out", metavar="FOLDER", help="where results and pictures go; by default STUDY")
+    beside = "runs side by side; by default all processors"
+    parser.add_argument("--jobs", metavar="N", type=int, default=processors(), help=beside)
+    parser.add_argument("--top", metavar="LATENCY", type=float, help="where the pictures of latency end")
+    parser.add_argument("--list", action="store_true", help="print a command for each run that has no result yet")
+    parser.add_argument("--collect", metavar="FILE", nargs="+", help="take the lines that these commands printed")
+    again = "make N runs again, spread over all, and compare their lines byte for byte"
+    parser.add_argument("--verify", metavar="N", type=int, help=again)
+    parser.add_argument("--one", metavar="SETTING=VALUE", nargs="+", help="make one run and print its line")
+    kept = "with --one: keep the configuration and the traffic there"
+    parser.add_argument("--files", metavar="FOLDER", help=kept)
+
+
+class Progress:
+    """A line on the terminal that says how far a sweep is."""
+
+    def __init__(self) -> None:
+        self.done, self.start = 0, time.monotonic()
+        self.is_shown = sys.stderr is not None and sys.stderr.isatty()
+
+    def step(self, left: int) -> None:
+        """One run more is there, and so many are left."""
+        self.done += 1
+        passed = time.monotonic() - self.start
+        rest = passed / self.done * left
+        self.say(f"\r{self.done} of {self.done + left} runs, {passed:.0f} s, about {rest:.0f} s to go \033[K")
+
+    def __enter__(self) -> "Progress":
+        return self
+
+    def __exit__(self, *details: object) -> None:
+        self.say("\n" if self.done else "")
+
+    def say(self, words: str) -> None:
+        """Says something where a person sees it."""
+        if self.is_shown:
+            print(words, end="", file=sys.stderr, flush=True)
+
+
+def list_commands(study: Study) -> int:
+    """Prints a command for each run that has no result yet."""
+    for case in study.open_cases():
+        print(shlex.join(command_of(case)))
+    return 0
+
+
+def sweep(study: Study, options: Namespace) -> int:
+    """Makes what is to be made, and shows it."""
+    if options.collect:
+        study.collect(options.collect)
+    try:
+        with Progress() as progress:
+            if options.verify is not None:
+                print(study.verify(options.verify, options.jobs, progress.step))
+                return 0
+            study.make(options.jobs, progress.step)
+    except KeyboardInterrupt:
+        warn(options, ["interrupted; the same command goes on"])
+        return INTERRUPTED
+    warn(options, [study.told_of_short_runs()])
+    study.draw(options.top)
+    sys.stdout.write(study.table_text())
+    return 0
+
+
+def check(options: Namespace) -> None:
+    """Refuses words that do not go together."""
+    if (options.study is None) == (options.one is None):
+        raise Refused("either STUDY.toml or --one is needed")
+    check_jobs(options.jobs)
+    check_top(options.top)
+    if options.files and not options.one:
+        raise Refused("--files is for --one")
+
+
+def main(options: Namespace) -> int:
+    check(options)
+    if options.one:
+        sys.stdout.write(csv_line(line_of(case_of(options.one), Path(options.files) if options.files else None)))
+        return 0
+    with Study(options.study, options.out) as study:
+        return list_commands(study) if options.list else sweep(study, options)

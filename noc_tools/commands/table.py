@@ -1,0 +1,33 @@
+"""Makes a routing table of a rule that noc does not have itself, as a table file for the rule 'table'.
+
+The table has the rows of all entries that packets reach on the network CONFIG. Columns, rows and channels are counted
+from 0. The rules are:
+
+    odd-even           on a mesh of two dimensions: packets choose between their row and their column, but turn from
+                       east to north or south in odd columns alone, and from north or south to west in even ones
+    dateline-balanced  on a torus, as dateline: a packet that has still to cross the ends of a dimension takes the low
+                       half of its class's channels, and one that has crossed them the high half. But a packet that
+                       crosses none takes either half, until it has once taken the high one
+    dateline-even      on a torus, as dateline: but where both ways round a dimension are equally long, packets go up
+                       from even coordinates and down from odd ones, so that both ways carry the same
+"""
+import sys
+from argparse import ArgumentParser, Namespace
+
+from ..arguments import add_config
+from ..network import read_bounded_network
+from ..relation import Channels, of_table_rule
+from ..rules import TABLE_RULES, table_rule
+from ..tables import table_file
+
+
+def add_arguments(parser: ArgumentParser) -> None:
+    add_config(parser)
+    parser.add_argument("rule", metavar="RULE", choices=TABLE_RULES, help=", ".join(TABLE_RULES))
+
+
+def main(options: Namespace) -> int:
+    network = read_bounded_network(options.config)
+    relation = of_table_rule(Channels(network), table_rule(network, options.rule))
+    sys.stdout.writelines(f"{line}\n" for line in table_file(relation))
+    return 0

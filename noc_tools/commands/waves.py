@@ -1,0 +1,99 @@
+"""Writes what the channels of a network do in each cycle as a VCD file, for a viewer of waves such as GTKWave.
+
+A VCD file (value change dump, IEEE 1364) has here a scope for each router, and in it one for each of its input ports
+that has a link: plus_0 and minus_0 for the ports +0 and -0, and so on, and local. Channel n of a port is two
+variables: verdict_n, a string of the ten verdicts, and packet_n, the number of the packet that it holds, or z in all
+bits where it is empty. Strings are no part of IEEE 1364, but GTKWave and other viewers take them. A cycle of the
+network is one unit of time, shown as a nanosecond.
+
+CONFIG, TRAFFIC and F are files, one of them '-' for standard input. With --drain the run goes on until all packets
+are out, as by 'noc run --drain'. The network is traced once, and waves are written as it goes.
+"""
+import sys
+from argparse import ArgumentParser, Namespace
+from collections.abc import Iterable, Iterator, Sequence
+from itertools import chain, groupby
+
+from ..arguments import add_run, add_span, run_of, span_of
+from ..errors import Refused
+from ..findings import Finding, Place, empty
+from ..network import split
+
+# The characters of which VCD makes the signs of its variables.
+FIRST_SIGN, SIGNS = 33, 94
+BITS = 32
+
+
+def add_arguments(parser: ArgumentParser) -> None:
+    add_run(parser)
+    add_span(parser)
+    parser.add_argument("--router", metavar="R", type=int, help="this router alone")
+
+
+def sign_of(number: int) -> str:
+    """A short sign for each number, no two alike."""
+    sign = chr(FIRST_SIGN + number % SIGNS)
+    while number := number // SIGNS:
+        sign += chr(FIRST_SIGN + number % SIGNS)
+    return sign
+
+
+def scope_of(port: str) -> str:
+    """The name of a port's scope."""
+    return port.replace("+", "plus_").replace("-", "minus_")
+
+
+def declarations(signs: dict[Place, tuple[str, str]]) -> Iterator[str]:
+    """The head of the file: a scope for each router and port, and in it the variables of its channels."""
+    yield "$comment The input channels of a network of noc; a unit of time is a cycle. $end"
+    yield "$timescale 1 ns $end"
+    yield "$scope module noc $end"
+    for router, places in groupby(signs, key=lambda place: place[0]):
+        yield f"$scope module router_{router} $end"
+        for port, channels in groupby((split(channel) for _, channel in places), key=lambda channel: channel[0]):
+            yield f"$scope module {scope_of(port)} $end"
+            for _, number in channels:
+                verdict, packet = signs[router, f"{port}.{number}"]
+                yield f"$var string 1 {verdict} verdict_{number} $end"
+                yield f"$var integer {BITS} {packet} packet_{number} $end"
+            yield "$upscope $end"
+        yield "$upscope $end"
+    yield "$upscope $end"
+    yield "$enddefinitions $end"
+
+
+def changes(before: Finding | None, finding: Finding, verdict_sign: str, packet_sign: str) -> Iterator[str]:
+    """What is said of a channel that was not said before."""
+    if before is None or before.verdict != finding.verdict:
+        yield f"s{finding.verdict} {verdict_sign}"
+    if before is None or before.packet != finding.packet:
+        yield f"b{'z' if finding.packet is None else format(finding.packet, 'b')} {packet_sign}"
+
+
+def waves(findings: Iterable[Finding], places: Sequence[Place], first: int, last: int) -> Iterator[str]:
+    """The lines of the file, from a trace of changes. Its first cycle says all of each channel."""
+    signs = {place: (sign_of(2 * number), sign_of(2 * number + 1)) for number, place in enumerate(places)}
+    yield from declarations(signs)
+    nothing = (empty(place, first) for place in places)
+    said: dict[Place, Finding] = {}
+    for cycle, found in groupby(chain(nothing, findings), key=lambda finding: finding.cycle):
+        yield f"#{cycle}"
+        if cycle == first:
+            yield "$dumpvars"
+        for place, finding in {finding.place: finding for finding in found}.items():
+            yield from changes(said.get(place), finding, *signs[place])
+            said[place] = finding
+        if cycle == first:
+            yield "$end"
+    yield f"#{last + 1}"
+
+
+def main(options: Namespace) -> int:
+    run = run_of(options)
+    first, last = span_of(run, options)
+    if options.router is not None and not 0 <= options.router < run.network.nodes:
+        raise Refused(f"there is no router {options.router}: the network has {run.network.nodes}")
+    findings = run.trace(first=first, last=last, router=options.router, changes=True)
+    places = [place for place in run.network.places if options.router in (None, place[0])]
+    sys.stdout.writelines(f"{line}\n" for line in waves(findings, places, first, last))
+    return 0

@@ -1,0 +1,168 @@
+"""Pictures of results: which curves there are, in which frames they stand, and how they are told apart."""
+import re
+from collections.abc import Callable, Iterable, Iterator, Sequence
+from pathlib import Path
+
+from .combinations import LOAD, SEED, Combination, Row, combinations_of, varying
+from .curves import BYTES, COLOURS, DASHES, FLITS, STYLES, Curve, Frame, Point, Style, axes_of, picture
+from .plan import View
+from .settings import NONE, name_of
+
+# What a picture says of all its combinations, where they do not differ by it.
+NAMED_ONCE = ["kind", "radix", "rule", "channels", "buffer", "traffic", "pattern", "length", "cycles", "window"]
+PICTURES = {
+    "latency": ("accepted", "mean"), "p95": ("accepted", "p95"), "p99": ("accepted", "p99"),
+    "accepted": ("offered", "accepted"),
+}
+# Settings of which each value has a frame of its own, where nothing else is said.
+FRAMED = ["pattern", "traffic"]
+MOST_CURVES, MOST_FRAMES = 8, 9
+
+
+def curve_of(combination: Combination, name: str, style: Style, x: str, y: str) -> Curve:
+    """The curve of a combination, of those points that have both figures."""
+    points = []
+    for line in combination.lines:
+        across, figures = line.at(x), line.figures(y)
+        if across is not None and figures:
+            points.append(Point(across, sum(figures) / len(figures), line.is_whole, min(figures), max(figures)))
+    return Curve(name or "all", points, style)
+
+
+# ---- frames and styles
+
+
+def apart_by(combinations: Iterable[Combination], keys: Sequence[str]) -> list[list[Combination]]:
+    """Combinations by their values of some settings."""
+    groups: dict[tuple[str, ...], list[Combination]] = {}
+    for combination in combinations:
+        groups.setdefault(tuple(combination.words[key] for key in keys), []).append(combination)
+    return list(groups.values())
+
+
+def framed(combinations: Sequence[Combination], keys: Sequence[str], view: View) -> list[str]:
+    """The settings of which each value has a frame: those of the view, or as many as make few enough curves."""
+    if view.frames is not None:
+        return view.frames
+    chosen = [key for key in FRAMED if key in keys]
+    spare = [key for key in keys if key not in (*chosen, view.colour, view.dash)]
+    spare.sort(key=lambda key: -len(apart_by(combinations, [key])))
+    # (what is left tells the curves of a frame apart)
+    while spare and len(chosen) + 1 < len(keys) and MOST_CURVES < max(map(len, apart_by(combinations, chosen))):
+        chosen.append(spare.pop())
+    return chosen
+
+
+def most_of(keys: list[str], amount: Callable[[str], int]) -> str | None:
+    """The first of some settings that has most, if there are any."""
+    return max(keys, key=amount) if keys else None
+
+
+def styled(combinations: Sequence[Combination], keys: list[str], view: View) -> dict[str, Style]:
+    """A style for each name of a curve: the colour by one setting, the dashes by another. Where these two do not tell
+    curves apart, one has the next style that is free."""
+    def values(key: str | None) -> list[str]:
+        return list(dict.fromkeys(combination.words[key] for combination in combinations)) if key else []
+
+    def splits(key: str) -> int:
+        return len(apart_by(combinations, [colour, key])) if colour else 0
+
+    colour = view.colour or most_of([key for key in keys if key != view.dash], lambda key: len(values(key)))
+    dash = view.dash or most_of([key for key in keys if key != colour], splits)
+    places = {key: {value: number for number, value in enumerate(values(key))} for key in (colour, dash) if key}
+    found: dict[str, Style] = {}
+    for combination in combinations:
+        name = name_of(combination.words, keys)
+        if name not in found:
+            first = Style(*(
+                places[key][combination.words[key]] % count if key else 0
+                for key, count in ((colour, len(COLOURS)), (dash, len(DASHES)))
+            ))
+            free = [style for style in [first, *STYLES] if style not in found.values()]
+            found[name] = free[0] if free else first
+    return found
+
+
+def frames_of(
+    combinations: Sequence[Combination], view: View, x: str, y: str, along: str
+) -> Iterator[list[Frame]]:
+    """The frames of each picture: several pictures where there are too many frames or names for one."""
+    keys = varying(combinations, along)
+    chosen = framed(combinations, keys, view)
+    rest = [key for key in keys if key not in chosen]
+    groups = [
+        group[first:first + MOST_CURVES]
+        for group in apart_by(combinations, chosen)
+        for first in range(0, len(group), MOST_CURVES)
+    ]
+    while groups:
+        some: list[list[Combination]] = []
+        while groups and len(some) < MOST_FRAMES and len(names_of([*some, groups[0]], rest)) <= len(STYLES):
+            some.append(groups.pop(0))
+        styles = styled([combination for group in some for combination in group], rest, view)
+        frames = [frame_of(group, chosen, rest, styles, x, y) for group in some]
+        drawn = [frame for frame in frames if frame.curves]
+        if drawn:
+            yield drawn
+
+
+def names_of(groups: Iterable[Iterable[Combination]], keys: list[str]) -> set[str]:
+    """The names of the curves of some frames."""
+    return {name_of(combination.words, keys) for group in groups for combination in group}
+
+
+def frame_of(
+    group: Sequence[Combination], chosen: list[str], rest: list[str], styles: dict[str, Style], x: str, y: str
+) -> Frame:
+    """The frame of some combinations, with the curves that have a point."""
+    names = [name_of(combination.words, rest) for combination in group]
+    curves = [curve_of(combination, name, styles[name], x, y) for combination, name in zip(group, names)]
+    return Frame(name_of(group[0].words, chosen), [curve for curve in curves if curve.points])
+
+
+# ---- pictures
+
+
+def subtitle_of(rows: Sequence[Row], keys: Iterable[str]) -> str:
+    """What all curves have in common, and the cycles of the shortest run where noc does not take the packets of all."""
+    parts = [name_of(rows[0], [key for key in NAMED_ONCE if key in rows[0] and key not in keys])]
+    seeds = len({row.get(SEED) for row in rows})
+    if 1 < seeds:
+        parts.append(f"mean over {seeds} seeds")
+    shorter = [int(row["ran"]) for row in rows if "cycles" in row and int(row["ran"]) < int(row["cycles"])]
+    if shorter:
+        parts.append(f"shortest run: {min(shorter)} cycles")
+    return "; ".join(part for part in parts if part)
+
+
+def along_of(rows: Sequence[Row]) -> str:
+    """Along which setting curves go: the load, or where it is always the same the traffic."""
+    return "traffic" if len({row.get(LOAD) for row in rows}) == 1 < len({row.get("traffic") for row in rows}) else LOAD
+
+
+def pictures_of(
+    rows: Sequence[Row], view: View, x: str, y: str, top: float | None, along: str | None = None
+) -> Iterator[str]:
+    """The pictures of one figure against another, several where there are too many curves for one."""
+    along = along or along_of(rows)
+    combinations = combinations_of(rows, along)
+    unit = FLITS if rows[0].get("flit_bytes", NONE) == NONE else BYTES
+    subtitle = subtitle_of(rows, [*varying(combinations, along), along])
+    for frames in frames_of(combinations, view, x, y, along):
+        yield picture(frames, axes_of(frames, x, y, top, unit), subtitle)
+
+
+def remove_pictures(folder: Path, name: str) -> None:
+    """Takes away those of an earlier sweep, which may have been more. Other files of such a name are not a sweep's."""
+    for path in folder.glob(f"{name}*.svg"):
+        if re.fullmatch(rf"{name}(_[1-9][0-9]*)?\.svg", path.name):
+            path.unlink()
+
+
+def draw_study(folder: Path, rows: Sequence[Row], view: View, top: float | None) -> None:
+    """Writes the pictures of a study."""
+    for name, (x, y) in PICTURES.items():
+        remove_pictures(folder, name)
+        for number, drawn in enumerate(pictures_of(rows, view, x, y, None if y == "accepted" else top), 1):
+            path = folder / (f"{name}.svg" if number == 1 else f"{name}_{number}.svg")
+            path.write_text(drawn, encoding="utf-8")

@@ -1,0 +1,208 @@
+"""Calls of noc: where the program is, which one runs, what it reports, and calls that run side by side."""
+import hashlib
+import os
+import shutil
+import subprocess
+from collections.abc import Iterable, Iterator
+from functools import cache
+from itertools import chain
+from pathlib import Path
+from queue import SimpleQueue
+from tempfile import TemporaryFile
+from threading import Thread
+
+from .errors import Refused
+
+DONE, STUCK = 0, 5
+# A joined text that noc takes. A script named noc builds its program for it where that is old.
+SMALLEST = (
+    'kind = "mesh"\nradix = [2]\nchannels = 1\nbuffer = 1\nclasses = 1\nrule = "dor"\ncycles = 1\n'
+    "---\nsource,destination,class,length,due\n"
+)
+# How many digits of a digest tell one file from another here.
+DIGITS = 16
+# The most bytes that are taken from a pipe at once.
+ROOM = 1 << 16
+
+
+def found_program() -> Path:
+    """The program of this package: that of $NOC, else the file noc beside the package, else noc on PATH."""
+    beside = Path(__file__).resolve().parent.parent / "noc"
+    found = os.environ.get("NOC") or (str(beside) if beside.is_file() else shutil.which("noc"))
+    if not found:
+        raise Refused("there is no noc: it is looked for in $NOC, beside the folder of this package, and on PATH")
+    return Path(found).absolute()
+
+
+def is_script(path: Path) -> bool:
+    """Whether a file is a script, which calls another program."""
+    try:
+        with open(path, "rb") as file:
+            return file.read(2) == b"#!"
+    except OSError as error:
+        raise Refused(f"{path}: {error.strerror}") from None
+
+
+def program() -> Path:
+    """The program that runs."""
+    return chosen_by(found_program())
+
+
+@cache
+def chosen_by(found: Path) -> Path:
+    """What runs where this is called: of the script ./noc the program for this processor, and it is built first."""
+    if not is_script(found):
+        return found
+    ready = subprocess.run([found], input=SMALLEST.encode(), stdout=subprocess.DEVNULL)
+    if ready.returncode:
+        raise Refused(f"{found} runs no program", ready.returncode)
+    asked = subprocess.run([found, "--which"], stdin=subprocess.DEVNULL, capture_output=True)
+    return Path(os.fsdecode(asked.stdout.removesuffix(b"\n"))) if asked.returncode == 0 else found
+
+
+def digest_of(data: bytes) -> str:
+    """The first digits of the SHA-256 of some bytes."""
+    return hashlib.sha256(data).hexdigest()[:DIGITS]
+
+
+def digest(path: str | Path) -> str:
+    """That of what is in a file."""
+    try:
+        return digest_of(Path(path).read_bytes())
+    except OSError as error:
+        raise Refused(f"{path}: {error.strerror}") from None
+
+
+@cache
+def known_digest(path: Path, changed: int) -> str:
+    """The digest of a file that was changed then."""
+    return digest(path)
+
+
+def program_digest() -> str:
+    """The digest of the program that runs, which a script must name."""
+    path = program()
+    if is_script(path):
+        raise Refused(f"{path} --which does not say which program it runs")
+    return known_digest(path, path.stat().st_mtime_ns)
+
+
+def processors() -> int:
+    """How many processors this process may use."""
+    return len(os.sched_getaffinity(0))
+
+
+def free_processors() -> int:
+    """How many processors have nothing to do, as far as the system tells how many programs run now."""
+    try:
+        running = int(Path("/proc/loadavg").read_text().split()[3].split("/")[0]) - 1
+    except OSError:
+        running = 0
+    return max(1, (os.cpu_count() or 1) - running)
+
+
+def ended(status: int, error: str) -> None:
+    """Refuses what noc refused, with its line and its status."""
+    if status not in (DONE, STUCK):
+        raise Refused(error.rstrip("\n") or f"noc ended with the status {status}", max(status, 1))
+
+
+def call(*words: str, given: str | None = None) -> tuple[int, str]:
+    """The status and what noc writes; where it refuses, its line is the reason."""
+    ran = subprocess.run([program(), *words], input=given, capture_output=True, encoding="utf-8", errors="replace")
+    ended(ran.returncode, ran.stderr)
+    return ran.returncode, ran.stdout
+
+
+def report(*words: str, given: str | None = None) -> str:
+    """What noc writes; where it refuses, its line is the reason."""
+    return call(*words, given=given)[1]
+
+
+def output(*words: str) -> bytes:
+    """What noc writes, as it is; where it refuses, its line is the reason."""
+    # (one pipe is read at once, and two by turns, which takes far longer)
+    with TemporaryFile() as error:
+        ran = subprocess.run([program(), *words], stdout=subprocess.PIPE, stderr=error)
+        error.seek(0)
+        ended(ran.returncode, error.read().decode(errors="replace"))
+    return ran.stdout
+
+
+def start(*words: str) -> subprocess.Popen[bytes]:
+    """A call of noc that is read while it runs."""
+    return subprocess.Popen([program(), *words], stdout=subprocess.PIPE, stderr=subprocess.PIPE)
+
+
+def error_of(noc: subprocess.Popen[bytes]) -> str:
+    """What a call says of errors, which is a line at most."""
+    assert noc.stderr is not None
+    return noc.stderr.read().decode(errors="replace")
+
+
+def whole_lines(chunks: Iterable[bytes]) -> Iterator[str]:
+    """A text that comes in pieces as pieces of whole lines, without the last line feed of each."""
+    rest = b""
+    for chunk in chunks:
+        whole, end, rest = (rest + chunk).rpartition(b"\n")
+        if end:
+            yield whole.decode()
+
+
+def texts(*words: str) -> Iterator[str]:
+    """What noc writes as it writes it, in whole lines; it is ended where nobody wants more of them."""
+    with start(*words) as noc:
+        assert noc.stdout is not None
+        output = noc.stdout.fileno()
+        try:
+            yield from whole_lines(iter(lambda: os.read(output, ROOM), b""))
+        except GeneratorExit:
+            noc.kill()
+            return
+        error = error_of(noc)
+    ended(noc.returncode, error)
+
+
+def lines_in(texts: Iterable[str]) -> Iterator[str]:
+    """The lines of these texts one by one."""
+    return chain.from_iterable(text.split("\n") for text in texts)
+
+
+def stream(*words: str) -> Iterator[str]:
+    """The lines that noc writes, as it writes them."""
+    return lines_in(texts(*words))
+
+
+class Process:
+    """A call of noc beside others. What it writes is taken in as it comes, so that it never waits for its reader."""
+
+    def __init__(self, *words: str) -> None:
+        self.noc = start(*words)
+        self.chunks: SimpleQueue[bytes] = SimpleQueue()
+        self.reader = Thread(target=self.take_in, daemon=True)
+        try:
+            self.reader.start()
+        except RuntimeError:
+            with self.noc:
+                self.noc.kill()
+            raise Refused("the system gives no further thread") from None
+
+    def take_in(self) -> None:
+        """Takes in all that it writes."""
+        assert self.noc.stdout is not None
+        while chunk := os.read(self.noc.stdout.fileno(), ROOM):
+            self.chunks.put(chunk)
+        self.chunks.put(b"")
+
+    def lines(self) -> Iterator[str]:
+        """Its lines, without their ends."""
+        yield from lines_in(whole_lines(iter(self.chunks.get, b"")))
+        error = error_of(self.noc)
+        ended(self.noc.wait(), error)
+
+    def end(self) -> None:
+        """Ends it, where it still runs."""
+        self.noc.kill()
+        self.reader.join()
+        with self.noc:
+            pass

@@ -1,0 +1,212 @@
+"""Results of a study that are kept: a line for each run as it comes, which an end at any moment leaves whole."""
+import fcntl
+import io
+import os
+import shlex
+import signal
+from collections.abc import Callable, Hashable, Iterable, Iterator, Sequence
+from contextlib import contextmanager
+from pathlib import Path
+from tempfile import TemporaryDirectory
+
+from .errors import Refused
+from .files import csv_line, csv_rows
+from .measure import COLUMNS, Files, check_network
+from .program import digest, digest_of, program_digest
+from .settings import NONE, SEPARATORS, SETTINGS, WORDS, Case
+from .workers import Workers
+
+DIGESTS = ["program_digest", "configuration_digest", "traffic_digest", "table_digest"]
+HEADER = ["run", *SETTINGS, *COLUMNS, *DIGESTS]
+# The columns that are no numbers.
+TEXTS = {"run", *WORDS, *SEPARATORS, "parts", "steady", *DIGESTS}
+LAUNCHER = Path(__file__).resolve().parent.parent / "noc-tools"
+Row = dict[str, str]
+
+
+def whole_lines(data: bytes) -> bytes:
+    """What ends in a line feed, without a last line that was cut off."""
+    return data[: data.rfind(b"\n") + 1]
+
+
+def rows_in(data: bytes, name: str) -> list[list[str]]:
+    """The lines of CSV, each as its fields."""
+    return csv_rows(io.StringIO(data.decode(errors="surrogateescape"), newline="\n"), "file of results", name)
+
+
+def value_of(name: str, word: str) -> str | float | None:
+    """A field of the results as a number, where it is one, and None for a dash."""
+    if word == NONE:
+        return None
+    # (several lengths are a text too)
+    if name in TEXTS or name == "length" and not word.isdecimal():
+        return word
+    return int(word) if word.isdecimal() else float(word)
+
+
+class Results:
+    """The lines of results.csv by the names of their runs; one study has the file at a time."""
+
+    def __init__(self, path: Path) -> None:
+        self.path = path
+        try:
+            path.parent.mkdir(parents=True, exist_ok=True)
+            self.file = os.open(path, os.O_RDWR | os.O_CREAT | os.O_APPEND, 0o666)
+            fcntl.flock(self.file, fcntl.LOCK_EX | fcntl.LOCK_NB)
+        except BlockingIOError:
+            os.close(self.file)
+            raise Refused(f"another sweep is at work on {path}") from None
+        except OSError as error:
+            raise Refused(f"{error.filename or path}: {error.strerror}") from None
+        try:
+            self.rows = {row["run"]: row for row in self.read()}
+        except Refused:
+            self.close()
+            raise
+
+    def close(self) -> None:
+        """Lets another study have the file."""
+        os.close(self.file)
+
+    def read(self) -> list[Row]:
+        """The lines that are there. Of a file of a sweep a last one that was cut off is taken away: its run has no
+        result."""
+        data = self.path.read_bytes()
+        whole = whole_lines(data)
+        rows = rows_in(whole, str(self.path))
+        header = rows.pop(0) if rows else None
+        if header != HEADER and not (header is None and csv_line(HEADER).encode().startswith(data)):
+            raise Refused(f"{self.path} holds other results than those of this sweep: name another folder with --out")
+        for number, row in enumerate(rows, 2):
+            if len(row) != len(HEADER):
+                raise Refused(f"{self.path}: line {number} is not whole")
+        os.ftruncate(self.file, len(whole))
+        if header is None:
+            self.write(HEADER)
+        return [dict(zip(HEADER, row)) for row in rows]
+
+    def write(self, fields: Iterable[str]) -> None:
+        """One line in one write, so that a kill leaves whole lines."""
+        data = csv_line(fields).encode(errors="surrogateescape")
+        try:
+            written = os.write(self.file, data)
+        except OSError as error:
+            raise Refused(f"{self.path}: {error.strerror}") from None
+        if written < len(data):
+            raise Refused(f"{self.path}: there is no room for a whole line")
+
+    def add(self, fields: Sequence[str]) -> None:
+        """Takes the line of a run."""
+        row = dict(zip(HEADER, fields))
+        self.write(fields)
+        self.rows[row["run"]] = row
+
+    def check_program(self, cases: Iterable[Case]) -> None:
+        """Refuses to go on with results of another program."""
+        present = program_digest()
+        for case in cases:
+            made = self.rows.get(case.run, {}).get("program_digest", present)
+            if made != present:
+                told = f"{self.path} has results of the program {made}, and this is {present}"
+                raise Refused(f"{told}: name another folder with --out")
+
+    def collect(self, path: str, find: Callable[[str], Case | None]) -> None:
+        """Takes lines that commands of a study printed, of which `find` gives the run by its name; one that is cut off
+        is none."""
+        try:
+            lines = rows_in(whole_lines(Path(path).read_bytes()), path)
+        except OSError as error:
+            raise Refused(f"{path}: {error.strerror}") from None
+        for number, fields in enumerate(lines, 1):
+            case = find(fields[0]) if len(fields) == len(HEADER) else None
+            if case is None:
+                raise Refused(f"{path}: line {number} is no result of a run of this study")
+            there = self.rows.get(fields[0])
+            if there is None:
+                for name, made, own in digests_apart(dict(zip(HEADER, fields)), case):
+                    raise Refused(f"{path}: line {number} is of another {name}: its digest is {made}, and here {own}")
+                self.add(fields)
+            elif list(there.values()) != fields:
+                raise Refused(f"{path}: line {number} is another result of a run that has one")
+
+
+def digests_apart(row: Row, case: Case) -> Iterator[tuple[str, str, str]]:
+    """What a line is of that is not that of its case here: its name, and the digests of both.
+
+    The traffic of replies is known by a run alone.
+    """
+    experiment = case.experiment
+    own = {
+        "program": program_digest(), "configuration": digest_of(experiment.config_text(int(row["ran"])).encode()),
+        "table": case.table_digest,
+    }
+    if experiment.replies is None:
+        own["traffic"] = digest_of(experiment.made.text.encode())
+    for name, found in own.items():
+        if row[f"{name}_digest"] != found:
+            yield name, row[f"{name}_digest"], found
+
+
+# ---- one run
+
+
+def line_of(case: Case, folder: Path | None = None) -> list[str]:
+    """Makes a run and measures it; its files are kept where a folder is given."""
+    if folder is None:
+        with TemporaryDirectory(prefix="noc-sweep-") as name:
+            return line_of(case, Path(name))
+    folder.mkdir(parents=True, exist_ok=True)
+    case = case.with_table(folder)
+    check_network(case.network, case.table)
+    return line_with(case, case.experiment.files_in(folder))
+
+
+def line_by_worker(folder: Path, case: Case) -> list[str]:
+    """The line of a run of a worker, of a network that noc takes."""
+    return line_with(case, case.experiment.files_in(folder))
+
+
+def line_with(case: Case, files: Files) -> list[str]:
+    """The line of a run of these files."""
+    found = case.experiment.measured(files)
+    digests = [program_digest(), digest(files.config), digest(files.traffic), case.table_digest]
+    return [case.run, *case.words.values(), *found.words(), *digests]
+
+
+def traffic_of(case: Case) -> Hashable:
+    """The traffic of a run, which a worker makes once for those that it makes in succession."""
+    return case.traffic
+
+
+def command_of(case: Case) -> list[str]:
+    """The command that makes this run and prints its line, in whatever folder."""
+    tools = [str(LAUNCHER)] if LAUNCHER.is_file() else ["-m", "noc_tools"]
+    return ["python3", *tools, "sweep", "--one", *(f"{key}={word}" for key, word in case.words.items())]
+
+
+@contextmanager
+def interrupts_held() -> Iterator[Callable[[], bool]]:
+    """Holds interrupts back until this is over, and tells whether one has come."""
+    held = {signal.SIGINT}
+    before = signal.pthread_sigmask(signal.SIG_BLOCK, held)
+    try:
+        yield lambda: bool(held & signal.sigpending())
+    finally:
+        signal.pthread_sigmask(signal.SIG_SETMASK, before)
+
+
+def make_all(
+    cases: Sequence[Case], jobs: int, locked: int, take: Callable[[list[str]], None], step: Callable[[int], None]
+) -> None:
+    """Makes runs side by side, takes the line of each, and says after each how many are left; after an interrupt those
+    that have begun are ended and taken. The workers let go of the file that is locked."""
+    failures: list[str] = []
+    with interrupts_held() as is_interrupted, Workers(line_by_worker, jobs, [locked], traffic_of) as workers:
+        for done, (number, line) in enumerate(workers.made(cases, is_interrupted), 1):
+            if isinstance(line, Exception):
+                failures.append(f"{shlex.join(command_of(cases[number]))}: {line}")
+            else:
+                take(line)
+            step(len(cases) - done)
+    if failures:
+        raise Refused(f"{len(failures)} of {len(cases)} runs failed, the first: {failures[0]}")
