@@ -4,6 +4,9 @@ import tomllib
 
 from fault_lines import TOP
 
+from noc_tools.network import network_of
+from noc_tools.relation import Channels, of_network
+
 EXAMPLES = TOP / "examples"
 KEYS = ["kind", "radix", "channels", "buffer", "classes", "rule", "cycles"]
 HEADERS = {"traffic": "source,destination,class,length,due", "table": "class,router,in_port,in_vc,dst,out_port,out_vc",
@@ -11,42 +14,18 @@ HEADERS = {"traffic": "source,destination,class,length,due", "table": "class,rou
 PORT_COLUMNS = {"traffic": (), "table": (2, 5), "ranks": (1,)}
 GREATEST_NUMBER = 4294967295
 REPORT_HEADER = "packet,source,destination,class,length,due,out,latency\n"
-# The fewest and the most bytes that are left of examples/two_routers.noc, and the answer. The dividing line ends with byte 90, the
-# header with byte 125 and its line feed; with 134 bytes the row has all its commas, and with 135 a number behind the last one.
+# The fewest and the most bytes that are left of examples/two_routers.noc, and the answer. The dividing line ends with
+# byte 90, the header with byte 125 and its line feed; with 134 bytes the row has all its commas, and with 135 a
+# number behind the last one.
 TWO_ROUTERS = [
     (0, 89, "fault joined 13 NoSplit\n"), (90, 124, "fault traffic 9 BadHeader\n"), (125, 126, REPORT_HEADER),
     (127, 133, "fault traffic 10 BadCount row 0\n"), (134, 134, "fault traffic 11 BadNumber row 0 column 4\n"),
     (135, 136, REPORT_HEADER + "0,0,1,0,1,0,5,5\n"),
 ]
-# The first step that does not rise under the example's ranks: the packet to node 1 comes from router 3 and crosses router 0; the
-# packet to node 2 comes from router 1 and turns at router 3.
+# The first step that does not rise under the example's ranks: the packet to node 1 comes from router 3 and crosses
+# router 0; the packet to node 2 comes from router 1 and turns at router 3.
 RING_FALLS = "fault rank 2 NotRising class 0 router 0 port -0 vc 0 dst 1 out +0 vc 0 ranks 4 1\n"
 TURNS_FALL = "fault rank 2 NotRising class 0 router 3 port -1 vc 0 dst 2 out -0 vc 0 ranks 4 1\n"
-
-
-class Shape:
-    """The links of a configuration's network with one channel on each."""
-
-    def __init__(self, config):
-        document = tomllib.loads(config)
-        self.radix, self.is_torus = document["radix"], document["kind"] == "torus"
-        self.ports = [f"{sign}{dimension}" for dimension in range(len(self.radix)) for sign in "+-"] + ["local"]
-        self.nodes = 1
-        for radix in self.radix:
-            self.nodes *= radix
-
-    def neighbour(self, router, port):
-        """The router behind a port, None where no link is."""
-        step = 1
-        for radix in self.radix[:int(port[1])]:
-            step *= radix
-        radix = self.radix[int(port[1])]
-        place = router // step % radix
-        to = place + (1 if port[0] == "+" else -1)
-        return router + (to % radix - place) * step if self.is_torus or 0 <= to < radix else None
-
-    def links(self):
-        return [(router, port) for router in range(self.nodes) for port in self.ports[:-1] if self.neighbour(router, port) is not None]
 
 
 def config_fault(text):
@@ -83,43 +62,27 @@ def traffic_answer(text):
     return fault or REPORT_HEADER + "".join(f"{number},{','.join(row)},-,-\n" for number, row in enumerate(rows))
 
 
-def ranks_answer(text, shape, whole):
+def ranks_answer(text, network, whole):
     """The first link channel without a row, or the answer for the whole text."""
-    fault, rows = read_rows("ranks", text, shape.ports)
+    fault, rows = read_rows("ranks", text, network.ports)
     if fault:
         return fault
-    named = {(int(router), port) for router, port, *_ in rows}
-    missing = [link for link in shape.links() if link not in named]
+    named, channels = {(int(router), port) for router, port, *_ in rows}, Channels(network)
+    missing = [link for link in map(channels.parts, channels.links()) if link[:2] not in named]
     return f"fault rank 7 MissingChannel router {missing[0][0]} port {missing[0][1]} vc 0\n" if missing else whole
 
 
-def reached_entries(rows, shape):
-    """Where packets come by the rows of a table with one class and one channel: router, input port, destination."""
-    hops = {}
-    for _, router, port, _, target, out, _ in rows:
-        hops.setdefault((int(router), port, int(target)), []).append(out)
-    waiting = [(router, "local", target) for router in range(shape.nodes) for target in range(shape.nodes) if router != target]
-    found = set(waiting)
-    while waiting:
-        entry = waiting.pop()
-        for out in hops.get(entry, []):
-            if out != "local":
-                back = ("-" if out[0] == "+" else "+") + out[1]
-                following = (shape.neighbour(entry[0], out), back, entry[2])
-                waiting += [following] if following not in found else []
-                found.add(following)
-    return found, hops
-
-
-def table_answer(text, shape):
+def table_answer(text, network, path):
     """The first entry without a way, by router, port and destination, or that the table has no ranks by formula."""
-    fault, rows = read_rows("table", text, shape.ports)
+    fault, rows = read_rows("table", text, network.ports)
     if fault:
         return fault
-    found, hops = reached_entries(rows, shape)
-    lost = sorted((router, shape.ports.index(port), target) for router, port, target in found if (router, port, target) not in hops)
-    for router, port, target in lost:
-        return f"fault relation 6 NoWay class 0 router {router} port {shape.ports[port]} vc 0 dst {target}\n"
+    channels, ports = Channels(network), network.ports
+    relation = of_network(channels, path)
+    entries = ((*channels.entered(at)[:2], goal) for goal in range(network.nodes) for at in relation.steps(0, goal))
+    reached = {(router, ports.index(port), goal) for router, port, goal in entries}
+    for router, port, goal in sorted(reached - {(int(row[1]), ports.index(row[2]), int(row[4])) for row in rows}):
+        return f"fault relation 6 NoWay class 0 router {router} port {ports[port]} vc 0 dst {goal}\n"
     return "fault rank 1 NoGenerated\n"
 
 
@@ -156,7 +119,8 @@ def cut_traffic(calls):
         calls.put(whole=config.replace(f"cycles = {tomllib.loads(config)['cycles']}", "cycles = 1").encode())
         for text in cuts((EXAMPLES / f"{name}.csv").read_text()):
             calls.put(cut=text.encode())
-            calls.answers(f"{name}.csv cut after {len(text)} bytes", ["run", "whole", "cut"], traffic_answer(text).encode())
+            calls.answers(f"{name}.csv cut after {len(text)} bytes", ["run", "whole", "cut"],
+                          traffic_answer(text).encode())
 
 
 def cut_tables_and_ranks(calls):
@@ -164,13 +128,15 @@ def cut_tables_and_ranks(calls):
     calls.put(turns=turns.encode(), ring=ring.encode(), routes=(EXAMPLES / "turns_table.csv").read_bytes())
     for text in cuts((EXAMPLES / "turns_table.csv").read_text()):
         calls.put(cut=text.encode())
-        answer = table_answer(text, Shape(turns)).encode()
+        answer = table_answer(text, network_of(tomllib.loads(turns)), calls.folder / "cut").encode()
         calls.answers(f"turns_table.csv cut after {len(text)} bytes", ["ranks", "turns", "--table", "cut"], answer)
-    for name, config, more, whole in (("ring", ring, [], RING_FALLS), ("turns", turns, ["--table", "routes"], TURNS_FALL)):
+    for name, config, more, whole in (("ring", ring, [], RING_FALLS),
+                                      ("turns", turns, ["--table", "routes"], TURNS_FALL)):
         for text in cuts((EXAMPLES / f"{name}_ranks.csv").read_text()):
             calls.put(cut=text.encode())
-            answer = ranks_answer(text, Shape(config), whole).encode()
-            calls.answers(f"{name}_ranks.csv cut after {len(text)} bytes", ["check", name, "--ranks", "cut", *more], answer)
+            answer = ranks_answer(text, network_of(tomllib.loads(config)), whole).encode()
+            calls.answers(f"{name}_ranks.csv cut after {len(text)} bytes", ["check", name, "--ranks", "cut", *more],
+                          answer)
 
 
 def cut_texts(calls):

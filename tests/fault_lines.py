@@ -1,8 +1,11 @@
 """The fault lines that docs/FORMATS.md names, each with its exit status."""
 import re
+import sys
 from pathlib import Path
 
 TOP = Path(__file__).resolve().parent.parent
+# The tests of the program write configurations by the package.
+sys.path.append(str(TOP))
 LETTERS = {"HOP": "class c router r port p vc v dst t out q vc w", "ENTRY": "class c router r port p vc v dst t"}
 NUMBER, PORT = "(0|[1-9][0-9]*)", r"([+-][0-2]|local)"
 MEMORY = ["joined 3", "config 3", "table 3", "ranks 3", "traffic 3", "rank 3", "relation 7", "network 6", "run 1"]

@@ -3,11 +3,12 @@
 
     hostile.py PROGRAM [--count N] [--seed N] [--seconds N]
 
-Each call has to end as docs/FORMATS.md says, and never by a signal: with a report alone (0, or 5 where the network is stuck),
-with a text on standard error alone (2) exactly where a word is wrong, with one fault line of that page, its status and nothing on
-standard output (3, 4), or with status 7 where standard output is a full device. The numbers of a configuration are bounded, so
-that no run takes long. The inputs follow from the seed and their number alone; with --seconds they go on for that long. Each
-call that fails is shown with its texts, and the last line is 'N passed, M failed'. The exit status is 0 where all passed, else 1.
+Each call has to end as docs/FORMATS.md says, and never by a signal: with a report alone (0, or 5 where the network is
+stuck), with a text on standard error alone (2) exactly where a word is wrong, with one fault line of that page, its
+status and nothing on standard output (3, 4), or with status 7 where standard output is a full device. The numbers of
+a configuration are bounded, so that no run takes long. The inputs follow from the seed and their number alone; with
+--seconds they go on for that long. Each call that fails is shown with its texts, and the last line is 'N passed, M
+failed'. The exit status is 0 where all passed, else 1.
 """
 import argparse
 import re
@@ -20,14 +21,16 @@ from random import Random
 
 from fault_lines import TOP, status_of
 
-LONGEST_RUN = 20
+LONGEST_RUN = 200
 TABLE = b"class,router,in_port,in_vc,dst,out_port,out_vc\n"
 TRAFFIC = b"source,destination,class,length,due\n"
 TWO_RANKS = b"router,port,vc,rank\n0,+0,0,1\n1,-0,0,1\n"
 TWO = b'kind = "mesh"\nradix = [2]\nchannels = 1\nbuffer = 2\nclasses = 1\nrule = "table"\ncycles = 8\n'
 NUMBERS = [0, 1, 2, 3, 4, 5, 16, 17, 64, 65, 256, 1000, 1001, 2000, 4294967295, 4294967296, 2**63, 2**64, -1]
-PIECES = [b",", b'"', b"\n", b"\r\n", b"\r", b"#", b"=", b"[", b"]", b"{a=1}", b"---\n", b"'''", b"\\u00", b" ", b"\0", b"\xff",
-          b"\xef\xbb\xbf", b"+0", b"-0", b"+1", b"-2", b"local", b"mesh", b"torus", b"dor", b"dateline", b"west-first", b"adaptive", b"table",
+PIECES = [b",", b'"', b"\n", b"\r\n", b"\r", b"#", b"=", b"[", b"]", b"{a=1}", b"---\n", b"'''", b"\\u00", b" ",
+          b"\0", b"\xff",
+          b"\xef\xbb\xbf", b"+0", b"-0", b"+1", b"-2", b"local", b"mesh", b"torus", b"dor", b"dateline",
+          b"west-first", b"adaptive", b"table",
           b"1e9", b"0x10", b"1979-05-27"]
 
 
@@ -50,6 +53,7 @@ def sets():
     yield {"config": adaptive, "traffic": traffic, "ranks": TWO_RANKS + b"0,+0,1,adaptive\n1,-0,1,adaptive\n"}
 
 
+VERDICTS = ["Routed", "Moved,NoCredit", "Empty"]
 SETS = list(sets())
 TEXTS = [text for files in SETS for text in files.values()]
 
@@ -116,6 +120,7 @@ def made_words(random, files):
     if command == "trace":
         for name, below in (("--from", 20), ("--to", 90), ("--router", 6), ("--packet", 6)):
             words += [name, str(random.randrange(below))] if random.randrange(3) == 0 else []
+        words += ["--verdict", random.choice(VERDICTS)] if random.randrange(3) == 0 else []
         words += ["--changes"] if random.randrange(2) else []
     if command and random.randrange(40) == 0:
         words.append("--wrong")

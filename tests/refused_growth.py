@@ -1,7 +1,9 @@
-"""Calls of the program in which one growth of its memory is refused: the first, the second, and so on, until none is left to refuse.
+"""Calls of the program in which one growth of its memory is refused: the first, the second, and so on, until none is
+left to refuse.
 
-Every call ends with want of memory, or of a thread, and nothing written, or with its whole answer. And a network that was built
-grows no more: however many cycles it runs, and whatever is reported of it, the program asks for memory as often.
+Every call ends with want of memory, or of a thread, and nothing written, or with its whole answer. And a network that
+was built grows no more: however many cycles it runs, and whatever is reported of it, the program asks for memory as
+often.
 """
 import os
 import re
@@ -9,6 +11,8 @@ import shutil
 import subprocess
 import sys
 from pathlib import Path
+
+from noc_tools.network import Network
 
 MOST_GROWTHS = 5000
 TRAFFIC_HEADER = "source,destination,class,length,due\n"
@@ -18,12 +22,12 @@ WANT = re.compile(rb"fault (\w+ \d+ Memory|run 2 NoWorker)\n")
 
 
 def config(kind, radix, channels, buffer, rule, cycles):
-    return (f'kind = "{kind}"\nradix = [{radix}]\nchannels = {channels}\nbuffer = {buffer}\nclasses = 1\n'
-            f'rule = "{rule}"\ncycles = {cycles}\n')
+    return Network(kind, radix, channels, buffer, 1, rule, cycles).text()
 
 
 def ring_ranks(size):
-    """Ranks of a ring with two channels per link: along each way round, those of the low channel before those of the high one."""
+    """Ranks of a ring with two channels per link: along each way round, those of the low channel before those of the
+    high one."""
     lines = ["router,port,vc,rank"]
     for router in range(size):
         for port, passed in (("+0", router), ("-0", size - 1 - router)):
@@ -43,21 +47,24 @@ def report(*rows):
 
 
 FILES = {
-    "pair": config("mesh", 2, 1, 2, "dor", 8), "one": TRAFFIC_HEADER + "0,1,0,1,0\n",
-    "ring": config("torus", 4, 2, 1, "dateline", 60), "round": TRAFFIC_HEADER + "0,2,0,4,0\n1,3,0,4,0\n2,0,0,4,0\n3,1,0,4,0\n",
+    "pair": config("mesh", (2,), 1, 2, "dor", 8), "one": TRAFFIC_HEADER + "0,1,0,1,0\n",
+    "ring": config("torus", (4,), 2, 1, "dateline", 60),
+    "round": TRAFFIC_HEADER + "0,2,0,4,0\n1,3,0,4,0\n2,0,0,4,0\n3,1,0,4,0\n",
     "ring_ranks": ring_ranks(4),
-    "adaptive": config("torus", 4, 3, 1, "adaptive", 20), "adaptive_ranks": adaptive_ranks(4),
-    "tabled": config("mesh", 2, 2, 2, "table", 8),
-    "rows": TABLE_HEADER + "0,0,local,0,1,+0,0\n0,0,local,1,1,+0,0\n0,1,local,0,0,-0,0\n0,1,local,1,0,-0,0\n0,1,-0,0,1,local,0\n0,0,+0,0,0,local,0\n",
-    "line": config("mesh", 3, 1, 2, "dor", 20), "two": TRAFFIC_HEADER + "0,2,0,1,0\n1,2,0,1,0\n",
+    "adaptive": config("torus", (4,), 3, 1, "adaptive", 20), "adaptive_ranks": adaptive_ranks(4),
+    "tabled": config("mesh", (2,), 2, 2, "table", 8),
+    "rows": TABLE_HEADER + "0,0,local,0,1,+0,0\n0,0,local,1,1,+0,0\n0,1,local,0,0,-0,0\n"
+    "0,1,local,1,0,-0,0\n0,1,-0,0,1,local,0\n0,0,+0,0,0,local,0\n",
+    "line": config("mesh", (3,), 1, 2, "dor", 20), "two": TRAFFIC_HEADER + "0,2,0,1,0\n1,2,0,1,0\n",
     # Five ports with eight channels each are too many for rows, so workers run this network in threads.
-    "wide": config("mesh", "3, 2", 8, 2, "dor", 20),
+    "wide": config("mesh", (3, 2), 8, 2, "dor", 20),
 }
 PAIR_REPORT = report(("0,1,0,1,0", 5))
 RING_REPORT = report(("0,2,0,4,0", 24), ("1,3,0,4,0", 14), ("2,0,0,4,0", 44), ("3,1,0,4,0", 34))
 LINE_REPORT = report(("0,2,0,1,0", 10), ("1,2,0,1,0", 5))
 WIDE_REPORT = report(("0,2,0,1,0", 8), ("1,2,0,1,0", 5))
-# Words with the text on standard input, the answer, and the families of which want of memory is told: of all that is read and made.
+# Words with the text on standard input, the answer, and the families of which want of memory is told: of all that is
+# read and made.
 ANSWERED = [
     ([], FILES["pair"] + "---\n" + FILES["one"], PAIR_REPORT, "joined config relation traffic network"),
     (["check", "ring", "--ranks", "ring_ranks"], "", "accepted\n", "config relation ranks rank"),
@@ -86,13 +93,15 @@ class Growths:
     def refusing(self, number, words, given=b""):
         """The call with this growth refused (none where it is 0), and how many growths were asked for."""
         self.count.unlink(missing_ok=True)
-        env = os.environ | {"LD_PRELOAD": str(self.library), "REFUSED_GROWTH": str(number), "GROWTH_COUNT": str(self.count)}
+        env = os.environ | {"LD_PRELOAD": str(self.library), "REFUSED_GROWTH": str(number),
+                            "GROWTH_COUNT": str(self.count)}
         ran = self.calls.run(words, given=given, env=env)
         return ran, int.from_bytes(self.count.read_bytes(), sys.byteorder)
 
 
 def each_growth_refused(growths):
-    """Every growth refused in turn: want of memory with nothing written, or the whole answer; without a refusal the answer."""
+    """Every growth refused in turn: want of memory with nothing written, or the whole answer; without a refusal the
+    answer."""
     for words, given, answer, families in ANSWERED:
         wanted, told = (0, answer.encode(), b""), set()
         for number in range(1, MOST_GROWTHS):
@@ -104,7 +113,8 @@ def each_growth_refused(growths):
             growths.calls.count(f"growth {number} refused {words}", said == wanted or is_want, ran)
             if asked < number:
                 break
-        growths.calls.count(f"want of memory is told {words} {told}", told == set(families.split()) and said == wanted, ran)
+        growths.calls.count(f"want of memory is told {words} {told}",
+                            told == set(families.split()) and said == wanted, ran)
 
 
 def no_growth_after_building(growths):

@@ -3,10 +3,10 @@
 
     run_avx2.py RT
 
-crates.txt has no word for a processor, so the gate compiles for the one that rt takes by itself. Here the main of crates/noc is proved
-for AVX2 too, and LLVM and Rattle's own compiler compile it with the libraries. Each program is run on the stored run of crates/noc. That
-of LLVM stays as crates/noc/out/noc_avx2, where ./noc looks for it. Each failure is shown, and the last line is 'N passed, M failed'. The
-exit status is 0 where both passed, else 1.
+crates.txt has no word for a processor, so the gate compiles for the one that rt takes by itself. Here the main of
+crates/noc is proved for AVX2 too, and LLVM and Rattle's own compiler compile it with the libraries. Each program is
+run on the stored run of crates/noc. That of LLVM stays as crates/noc/out/noc_avx2, where ./noc looks for it. Each
+failure is shown, and the last line is 'N passed, M failed'. The exit status is 0 where both passed, else 1.
 """
 import subprocess
 import sys
@@ -19,24 +19,30 @@ CRATE, CPU = TOP / "crates/noc", "x86-64-v3"
 
 def called(*words):
     """Runs a command of the kit in the crate's folder, and ends this where it fails."""
-    ran = subprocess.run(words, cwd=CRATE, stdin=subprocess.DEVNULL, stdout=subprocess.PIPE, stderr=subprocess.STDOUT, text=True)
+    ran = subprocess.run(words, cwd=CRATE, stdin=subprocess.DEVNULL, stdout=subprocess.PIPE, stderr=subprocess.STDOUT,
+                         text=True)
     if ran.returncode:
-        print(f"{ran.stdout[-2000:]}\nrun_avx2: {words[0]} {words[1]} ended with status {ran.returncode}\n0 passed, 1 failed")
+        print(f"{ran.stdout[-2000:]}\nrun_avx2: {words[0]} {words[1]} ended with status {ran.returncode}")
+        print("0 passed, 1 failed")
         sys.exit(1)
 
 
 def programs(kit, room):
     """Proves main over the libraries, and yields what each compiler makes of it."""
     rattle, checked = kit / "bin/rattle", room / "checked"
-    words = ["--crate-name", "noc", "src/main.rt", "--cpu", CPU, "--antt-project", kit / "rattle/logic/antt-project.json"]
-    words += ["--extern", f"std={kit}/rlibs/std.rlib", "--extern", f"noc_program={TOP}/crates/noc_program/out/rlib/noc_program.rlib"]
+    words = ["--crate-name", "noc", "src/main.rt", "--cpu", CPU, "--antt-project",
+             kit / "rattle/logic/antt-project.json"]
+    words += ["--extern", f"std={kit}/rlibs/std.rlib", "--extern",
+              f"noc_program={TOP}/crates/noc_program/out/rlib/noc_program.rlib"]
     words += [word for it in [kit / "rlibs", *TOP.glob("crates/*/out/rlib")] for word in ("-L", f"dependency={it}")]
     called(rattle, "check", *words, "--logic-built", kit / "logic_built", "-o", checked)
     for backend in ("llvm", "rattle"):
         made = room / backend
-        called(rattle, "build", *words, "--crate-checked", checked, "--toolchain", kit / "toolchain", "--backend", backend, "-o", f"{made}.o")
+        called(rattle, "build", *words, "--crate-checked", checked, "--toolchain", kit / "toolchain", "--backend",
+               backend, "-o", f"{made}.o")
         parts = [f"{made}.o", kit / "c/libos_c.a", kit / "c/liblibc_c.a"]
-        called(kit / "bin/rattle-link", "--target", "x86_64-unknown-linux-gnu", "--toolchain", kit / "toolchain", "-o", made, *parts)
+        called(kit / "bin/rattle-link", "--target", "x86_64-unknown-linux-gnu", "--toolchain", kit / "toolchain",
+               "-o", made, *parts)
         yield made
 
 
@@ -49,7 +55,8 @@ def main():
             ran = subprocess.run(made, stdin=(CRATE / "stdin").open(), capture_output=True)
             passed.append((ran.returncode, ran.stdout) == (0, wanted))
             if not passed[-1]:
-                print(f"{made.name} made a program that ended with status {ran.returncode}: {ran.stdout[:500]} {ran.stderr[:500]}")
+                said = f"{ran.stdout[:500]} {ran.stderr[:500]}"
+                print(f"{made.name} made a program that ended with status {ran.returncode}: {said}")
         (Path(room) / "llvm").replace(CRATE / "out/noc_avx2")
     print(f"{passed.count(True)} passed, {passed.count(False)} failed")
     return 0 if all(passed) else 1

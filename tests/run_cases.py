@@ -4,10 +4,10 @@
     run_cases.py PROGRAM FOLDER [--seconds S] [--jobs N]
 
 A case is a folder with the files args (one word of the command line a line), expected_stdout, expected_stderr and
-expected_status, with stdin where something stands there, and with the files that the words name. The program runs inside it.
-Its standard output and its status must be the expected ones, and so must its standard error, except where the status 2 is
-expected: the text about wrong words isn't fixed. Each case that fails is shown, and the last line is 'N passed, M failed'. The
-exit status is 0 where there are cases and all passed, else 1.
+expected_status, with stdin where something stands there, and with the files that the words name. The program runs
+inside it. Its standard output and its status must be the expected ones, and so must its standard error, except where
+the status 2 is expected: the text about wrong words isn't fixed. Each case that fails is shown, and the last line is
+'N passed, M failed'. The exit status is 0 where there are cases and all passed, else 1.
 """
 import argparse
 import os
@@ -57,7 +57,7 @@ def main():
     parser = argparse.ArgumentParser(description="Runs a program on every end-to-end case of a folder.")
     parser.add_argument("program", type=Path)
     parser.add_argument("folder", type=Path)
-    parser.add_argument("--seconds", type=float, default=30, help="time for one case")
+    parser.add_argument("--seconds", type=float, default=300, help="time for one case")
     parser.add_argument("--jobs", type=int, default=os.cpu_count() or 1, help="cases side by side")
     options = parser.parse_args()
     program = options.program.resolve()

@@ -3,9 +3,9 @@
 
     run_process.py PROGRAM
 
-Each call's status, standard output and standard error are given by the rules of docs/FORMATS.md, and never by what PROGRAM said.
-The texts cut after each byte are held against a reader of the formats in cut_texts.py. Each call that fails is shown, and the
-last line is 'N passed, M failed'. The exit status is 0 where all passed, else 1.
+Each call's status, standard output and standard error are given by the rules of docs/FORMATS.md, and never by what
+PROGRAM said. The texts cut after each byte are held against a reader of the formats in cut_texts.py. Each call that
+fails is shown, and the last line is 'N passed, M failed'. The exit status is 0 where all passed, else 1.
 """
 import array
 import fcntl
@@ -27,9 +27,9 @@ from refused_growth import refused_growths
 from worked_texts import worked_texts
 
 LIMIT = 67_108_864
-NOBODY = 65534
+NOBODY, ALONE = 65534, 65533
 PIPE_SIZE = 4096
-SECONDS = 60
+SECONDS = 600
 AMPLE = 1000
 TABLE_HEADER = b"class,router,in_port,in_vc,dst,out_port,out_vc\n"
 TRAFFIC_HEADER = b"source,destination,class,length,due\n"
@@ -44,7 +44,8 @@ TRAFFIC = TRAFFIC_HEADER + b"0,1,0,1,0\n"
 REPORT = REPORT_HEADER + b"0,0,1,0,1,0,5,5\n"
 FILES = {"config": CONFIG, "traffic": TRAFFIC, "table": TABLE, "ranks": RANKS}
 # The stall report of two packets to the end of a line of three routers, after twenty cycles.
-STALLS = b"""router,port,vc,empty,routed,granted,moved,no_flit,no_idle_channel,lost_channel,no_credit,lost_input,lost_switch
+STALLS = b"""router,port,vc,empty,routed,granted,moved,no_flit,no_idle_channel,lost_channel,no_credit,\
+lost_input,lost_switch
 0,+0,0,20,0,0,0,0,0,0,0,0,0
 0,local,0,17,1,1,1,0,0,0,0,0,0
 1,+0,0,20,0,0,0,0,0,0,0,0,0
@@ -64,30 +65,41 @@ TRACE = b"""cycle,router,port,vc,verdict,packet,out,permitted
 """
 # Each command with the files that it takes, in the order in which their faults are looked for, and its answer.
 COMMANDS = {
-    "run": (["run", "config", "traffic", "--table", "table", "--ranks", "ranks"], ["config", "table", "ranks", "traffic"], REPORT),
-    "explain": (["explain", "config", "traffic", "--cycle", "7", "--router", "0", "--table", "table"], ["config", "table", "traffic"],
+    "run": (["run", "config", "traffic", "--table", "table", "--ranks", "ranks"],
+            ["config", "table", "ranks", "traffic"], REPORT),
+    "explain": (["explain", "config", "traffic", "--cycle", "7", "--router", "0", "--table", "table"],
+                ["config", "table", "traffic"],
                 EMPTY_CHANNELS),
     "trace": (["trace", "config", "traffic", "--table", "table"], ["config", "table", "traffic"], TRACE),
     "check": (["check", "config", "--ranks", "ranks", "--table", "table"], ["config", "table", "ranks"], b"accepted\n"),
     "ranks": (["ranks", "config", "--table", "table"], ["config", "table"], b"fault rank 1 NoGenerated\n"),
 }
 NO_WORDS_OF_NOC = [
-    ["walk"], ["run"], ["run", "plain"], ["run", "plain", "traffic", "ranks"], ["run", "plain", "traffic", "--cycle", "1"],
-    ["run", "plain", "traffic", "--workers"], ["run", "plain", "traffic", "--workers", "0"], ["run", "plain", "traffic", "--workers", "17"],
+    ["walk"], ["run"], ["run", "plain"], ["run", "plain", "traffic", "ranks"],
+    ["run", "plain", "traffic", "--cycle", "1"],
+    ["run", "plain", "traffic", "--workers"], ["run", "plain", "traffic", "--workers", "0"],
+    ["run", "plain", "traffic", "--workers", "17"],
     ["run", "plain", "traffic", "--workers", "-1"], ["run", "plain", "traffic", "--workers", "two"],
     ["run", "plain", "traffic", "--workers", ""],
     ["run", "plain", "traffic", "--workers", "1", "--workers", "1"], ["run", "plain", "traffic", "--report", "all"],
-    ["run", "plain", "traffic", "--report"], ["run", "plain", "traffic", "--table"], ["run", "plain", "traffic", "--ranks"],
+    ["run", "plain", "traffic", "--report"], ["run", "plain", "traffic", "--table"],
+    ["run", "plain", "traffic", "--ranks"],
     ["run", "plain", "traffic", "--wrong"], ["run", "-plain", "traffic"], ["explain", "plain", "traffic"],
     ["explain", "plain", "traffic", "--cycle", "1"], ["explain", "plain", "traffic", "--router", "1"],
     ["explain", "plain", "traffic", "--cycle", "18446744073709551616", "--router", "0"],
-    ["explain", "plain", "traffic", "--cycle", "1.0", "--router", "0"], ["explain", "plain", "traffic", "--cycle", " 1", "--router", "0"],
+    ["explain", "plain", "traffic", "--cycle", "1.0", "--router", "0"],
+    ["explain", "plain", "traffic", "--cycle", " 1", "--router", "0"],
     ["explain", "plain", "traffic", "--cycle", "1", "--router", "0", "--ranks", "ranks"], ["trace", "plain"],
-    ["trace", "plain", "traffic", "--ranks", "ranks"], ["trace", "plain", "traffic", "--from", "1.0"], ["trace", "plain", "traffic", "--to"],
+    ["trace", "plain", "traffic", "--ranks", "ranks"], ["trace", "plain", "traffic", "--from", "1.0"],
+    ["trace", "plain", "traffic", "--to"],
     ["trace", "plain", "traffic", "--router", "-1"], ["trace", "plain", "traffic", "--packet", "18446744073709551616"],
-    ["trace", "plain", "traffic", "--changes", "1"], ["trace", "plain", "traffic", "--changes=1"], ["check", "plain"], ["check", "--ranks", "ranks"],
-    ["check", "plain", "traffic", "--ranks", "ranks"], ["ranks"], ["ranks", "plain", "traffic"], ["ranks", "plain", "--ranks", "ranks"],
-    ["--workers", "1"], ["--help"], ["help"], ["run", "--help"], ["plain"], [""], ["run", b"\xff", "traffic"], [b"\xff"],
+    ["trace", "plain", "traffic", "--verdict", "Stalled"], ["trace", "plain", "traffic", "--verdict", "Moved,"],
+    ["trace", "plain", "traffic", "--changes", "1"], ["trace", "plain", "traffic", "--changes=1"], ["check", "plain"],
+    ["check", "--ranks", "ranks"],
+    ["check", "plain", "traffic", "--ranks", "ranks"], ["ranks"], ["ranks", "plain", "traffic"],
+    ["ranks", "plain", "--ranks", "ranks"],
+    ["--workers", "1"], ["--help"], ["help"], ["run", "--help"], ["plain"], [""], ["run", b"\xff", "traffic"],
+    [b"\xff"],
 ]
 
 
@@ -95,7 +107,7 @@ class Calls:
     """Calls of a program in a folder of files, and how many ended as they should."""
 
     def __init__(self, program, folder):
-        self.program, self.folder = folder / "noc", folder
+        self.program, self.folder = folder / "noc_avx2", folder
         shutil.copy(program, self.program)
         for path in (folder, self.program):
             path.chmod(0o755)
@@ -136,6 +148,16 @@ def rights_dropped():
         os.setgroups([])
         os.setgid(NOBODY)
         os.setuid(NOBODY)
+
+
+def no_thread_more():
+    """The call is of a user who may have one process, and so no thread more; where the tests run as root, of another
+    user, who has none."""
+    if os.geteuid() == 0:
+        os.setgroups([])
+        os.setgid(ALONE)
+        os.setuid(ALONE)
+    resource.setrlimit(resource.RLIMIT_NPROC, (1, 1))
 
 
 def inputs_that_cannot_be_read(calls):
@@ -179,10 +201,13 @@ def inputs_at_the_limit(calls):
 
 def names(calls):
     """Names with spaces, line ends and dashes; `-` is a name like another."""
-    given = {"two words": PLAIN, "-c": PLAIN, "-t": TRAFFIC, "--ranks": RANKS, "-": PLAIN, "a\nb": TRAFFIC, "ä": PLAIN, "=": RANKS}
+    given = {"two words": PLAIN, "-c": PLAIN, "-t": TRAFFIC, "--ranks": RANKS, "-": PLAIN, "a\nb": TRAFFIC,
+             "ä": PLAIN, "=": RANKS}
     calls.put(**given)
-    for words in (["two words", "traffic"], ["--", "-c", "-t"], ["./-c", "./-t"], ["-", "traffic"], ["--", "-", "-t"], ["ä", "a\nb"],
-                  ["plain", "traffic", "--ranks", "./--ranks"], ["--ranks=./--ranks", "--", "-c", "-t"], ["--ranks", "=", "-", "a\nb"],
+    for words in (["two words", "traffic"], ["--", "-c", "-t"], ["./-c", "./-t"], ["-", "traffic"], ["--", "-", "-t"],
+                  ["ä", "a\nb"],
+                  ["plain", "traffic", "--ranks", "./--ranks"], ["--ranks=./--ranks", "--", "-c", "-t"],
+                  ["--ranks", "=", "-", "a\nb"],
                   ["--ranks==", "plain", "traffic"]):
         calls.answers("a name", ["run", *words], REPORT)
     calls.answers("a name of standard input", ["run", "/dev/stdin", "traffic"], REPORT, given=PLAIN)
@@ -190,21 +215,27 @@ def names(calls):
 
 
 def wrong_words(calls):
-    """Words that make no sense, or ask for help: a text on standard error, whatever the files hold."""
+    """Words that make no sense, or ask for help: a text on standard error, whatever the files hold. It calls the
+    program noc, which is the name of the launcher, and never by the name of its file."""
     for words in NO_WORDS_OF_NOC:
         ran = calls.run(words)
-        is_right = ran.returncode == 2 and not ran.stdout and ran.stderr.endswith(b"\n")
-        calls.count(f"wrong words {words}", is_right, ran)
+        is_text = not ran.stdout and ran.stderr.endswith(b"\n") and b"noc_avx2" not in ran.stderr
+        calls.count(f"wrong words {words}", ran.returncode == 2 and is_text, ran)
+    for words in (["run", "--help"], ["run", "plain"], ["explain", "--help"], ["trace", "plain"], ["check", "--help"],
+                  ["ranks"]):
+        ran = calls.run(words)
+        calls.count(f"usage of {words}", f"\nUsage: noc {words[0]} ".encode() in ran.stderr, ran)
 
 
 def outputs_that_fail(calls):
     """Standard output closed, a full device, and a pipe that nobody reads: no byte of a report is taken."""
     nothing = b"fault write 1 WriteFailed written 0\n"
     stuck = PLAIN.replace(b"mesh", b"torus").replace(b"[2]", b"[4]")
-    calls.put(stuck=stuck, ring=TRAFFIC_HEADER + b"0,2,0,64,0\n1,3,0,64,0\n2,0,0,64,0\n3,1,0,64,0\n", far=stuck.replace(b" 8", b" 60"))
+    calls.put(stuck=stuck, ring=TRAFFIC_HEADER + b"0,2,0,64,0\n1,3,0,64,0\n2,0,0,64,0\n3,1,0,64,0\n",
+              far=stuck.replace(b" 8", b" 60"))
     wanted = [(words, answer if answer.startswith(b"fault") else nothing) for words, _, answer in COMMANDS.values()]
-    wanted += [([], nothing), (["ranks", "plain"], nothing), (["run", "far", "ring"], nothing), (["run", "missing", "traffic"],
-               b"fault config 1 ReadFailed\n")]
+    wanted += [([], nothing), (["--version"], nothing), (["ranks", "plain"], nothing)]
+    wanted += [(["run", "far", "ring"], nothing), (["run", "missing", "traffic"], b"fault config 1 ReadFailed\n")]
     for words, fault in wanted:
         given = PLAIN + b"---\n" + TRAFFIC
         calls.answers("output closed", words, fault, given=given, preexec_fn=lambda: os.close(1))
@@ -231,7 +262,8 @@ def late_packets(count):
 def trace_cycle_by_cycle(calls):
     """What a trace tells of a cycle goes out before the next cycle: a socket keeps apart what was written apart."""
     ours, theirs = socket.socketpair(socket.AF_UNIX, socket.SOCK_SEQPACKET)
-    ran = subprocess.Popen([calls.program, "trace", "plain", "traffic"], cwd=calls.folder, stdout=theirs, stderr=subprocess.PIPE)
+    ran = subprocess.Popen([calls.program, "trace", "plain", "traffic"], cwd=calls.folder, stdout=theirs,
+                           stderr=subprocess.PIPE)
     theirs.close()
     pieces = []
     while piece := ours.recv(1 << 16):
@@ -245,13 +277,15 @@ def trace_cycle_by_cycle(calls):
 
 
 def pipe_that_closes_early(calls):
-    """The reader takes one byte of a full pipe and goes: the report's first bytes are out, as many as the pipe holds."""
+    """The reader takes one byte of a full pipe and goes: the report's first bytes are out, as many as the pipe
+    holds."""
     traffic, report = late_packets(1000)
     calls.put(late=traffic, short=PLAIN.replace(b" 8", b" 1"))
     calls.answers("late packets", ["run", "short", "late"], report)
     for_reading, for_writing = os.pipe()
     size = fcntl.fcntl(for_writing, fcntl.F_SETPIPE_SZ, PIPE_SIZE)
-    ran = subprocess.Popen([calls.program, "run", "short", "late"], cwd=calls.folder, stdout=for_writing, stderr=subprocess.PIPE)
+    ran = subprocess.Popen([calls.program, "run", "short", "late"], cwd=calls.folder, stdout=for_writing,
+                           stderr=subprocess.PIPE)
     os.close(for_writing)
     held, until = array.array("i", [0]), time.monotonic() + SECONDS
     while held[0] < size and ran.poll() is None and time.monotonic() < until:
@@ -267,7 +301,8 @@ def pipe_that_closes_early(calls):
 
 def reports_cut_off(calls):
     """A file that takes so many bytes and no more: they are the report's first, and the fault counts them."""
-    calls.put(three=PLAIN.replace(b"[2]", b"[3]").replace(b" 8", b" 20"), both=TRAFFIC_HEADER + b"0,2,0,1,0\n1,2,0,1,0\n")
+    calls.put(three=PLAIN.replace(b"[2]", b"[3]").replace(b" 8", b" 20"),
+              both=TRAFFIC_HEADER + b"0,2,0,1,0\n1,2,0,1,0\n")
     for words, report in ((["run", "three", "both", "--report", "stalls"], STALLS), COMMANDS["trace"][::2]):
         calls.answers("the whole report", words, report)
         for size in range(len(report)):
@@ -282,7 +317,8 @@ def reports_cut_off(calls):
 
 
 def fault_lines_in_one_write(calls):
-    """A fault's line goes out in one write, which a socket keeps apart from the next one; and where it can't, the status is the same."""
+    """A fault's line goes out in one write, which a socket keeps apart from the next one; and where it can't, the
+    status is the same."""
     for words, status, line in ((["run", "missing", "traffic"], 3, b"fault config 1 ReadFailed\n"),
                                 (["ranks", "far"], 4, b"fault rank 1 NoGenerated\n")):
         for_reading, for_writing = socket.socketpair(socket.AF_UNIX, socket.SOCK_SEQPACKET)
@@ -290,7 +326,8 @@ def fault_lines_in_one_write(calls):
         for_writing.close()
         writes = list(iter(lambda: for_reading.recv(PIPE_SIZE), b""))
         for_reading.close()
-        calls.count(f"writes of a fault {words} {writes}", (ran.returncode, ran.stdout, writes) == (status, b"", [line]), ran)
+        calls.count(f"writes of a fault {words} {writes}",
+                    (ran.returncode, ran.stdout, writes) == (status, b"", [line]), ran)
         with open("/dev/full", "wb") as full:
             ran = calls.run(words, stderr=full)
         calls.count(f"errors to a full device {words}", (ran.returncode, ran.stdout) == (status, b""), ran)
@@ -308,12 +345,16 @@ def order_of_faults(calls):
     calls.answers("the key before the table", ["run", "bad", "missing", *files], b"fault config 4 BadToml\n")
     calls.answers("the spare table before all", ["run", "plain", "missing", *files], b"fault option 5 SpareTable\n")
     calls.answers("the shape before the table", ["run", "wide", "missing", *files], b"fault shape 2 BadRadix\n")
-    calls.answers("workers before the table", ["run", "config", "missing", *files, "--workers", "3"], b"fault option 3 BadWorkers\n")
-    calls.answers("the header before the relation", ["run", "odd", "missing", "--table", "ranks"], b"fault table 9 BadHeader\n")
+    calls.answers("workers before the table", ["run", "config", "missing", *files, "--workers", "3"],
+                  b"fault option 3 BadWorkers\n")
+    calls.answers("the header before the relation", ["run", "odd", "missing", "--table", "ranks"],
+                  b"fault table 9 BadHeader\n")
     calls.answers("the relation before the ranks", ["run", "odd", "missing", "--table", "table", "--ranks", "missing"],
                   b"fault relation 1 WrongShape\n")
-    calls.answers("the ranks before the traffic", ["run", "plain", "bad", "--ranks", "traffic"], b"fault ranks 9 BadHeader\n")
-    calls.answers("the traffic's packets last", ["run", "plain", "selfish", "--ranks", "ranks"], b"fault network 1 SelfPacket row 0\n")
+    calls.answers("the ranks before the traffic", ["run", "plain", "bad", "--ranks", "traffic"],
+                  b"fault ranks 9 BadHeader\n")
+    calls.answers("the traffic's packets last", ["run", "plain", "selfish", "--ranks", "ranks"],
+                  b"fault network 1 SelfPacket row 0\n")
     joined = {b"": b"joined 13 NoSplit", b"\xff": b"joined 13 NoSplit", b"\xff\n---\n\xff": b"config 4 BadToml",
               CONFIG + b"---\n\xff": b"option 4 NoTable", PLAIN + b"---\n\xff": b"traffic 9 BadHeader"}
     for text, fault in joined.items():
@@ -322,9 +363,11 @@ def order_of_faults(calls):
 
 def bytes_that_are_no_text(calls):
     """A byte that is no UTF-8 is no TOML, no header, no number and no port."""
-    for at, fault in ((0, "config 4 BadToml"), (CONFIG.index(b"mesh"), "config 4 BadToml"), (len(CONFIG), "config 4 BadToml")):
+    for at, fault in ((0, "config 4 BadToml"), (CONFIG.index(b"mesh"), "config 4 BadToml"),
+                      (len(CONFIG), "config 4 BadToml")):
         calls.put(other=CONFIG[:at] + b"\xff" + CONFIG[at + 1:])
-        calls.answers("a byte of the configuration", ["ranks", "other", "--table", "table"], f"fault {fault}\n".encode())
+        calls.answers("a byte of the configuration", ["ranks", "other", "--table", "table"],
+                      f"fault {fault}\n".encode())
     calls.put(other=PLAIN + b"# \xc3\x28\n")
     calls.answers("a byte of a comment", ["ranks", "other"], b"fault config 4 BadToml\n")
     places = {"table": [(0, "9 BadHeader"), (3, "11 BadNumber row 2 column 3"), (2, "12 BadPort row 2 column 2")],
@@ -356,8 +399,9 @@ def rising_ranks(side):
 def bounded_memory(calls):
     """Under each bound on its memory the program answers, or says that memory or a thread was refused.
 
-    Below 4 MB the loader itself may not find the room for the C library, and says so before the program begins. Or the system may not
-    find it for the stack, of which the program needs more than the bound leaves, and ends the program by a signal before it writes.
+    Below 4 MB the loader itself may not find the room for the C library, and says so before the program begins. Or
+    the system may not find it for the stack, of which the program needs more than the bound leaves, and ends the
+    program by a signal before it writes.
     """
     traffic, report = late_packets(20000)
     square = PLAIN.replace(b"[2]", b"[8, 8]")
@@ -365,7 +409,8 @@ def bounded_memory(calls):
     many = PLAIN.replace(b"[2]", b"[2, 2]").replace(b"channels = 1", b"channels = 8")
     calls.put(late=traffic, short=PLAIN.replace(b" 8", b" 1"), square=square, rising=rising_ranks(8), many=many)
     wanted = [([], REPORT), (COMMANDS["run"][0], REPORT), (["run", "short", "late"], report),
-              (["run", "plain", "traffic", "--workers", "2"], REPORT), (["run", "many", "traffic", "--workers", "2"], REPORT),
+              (["run", "plain", "traffic", "--workers", "2"], REPORT),
+              (["run", "many", "traffic", "--workers", "2"], REPORT),
               (["check", "square", "--ranks", "rising"], b"accepted\n")]
     for megabytes in (3, 3.1, 3.3, 3.6, 4, 5, 6, 8, 11, 16, 24, 40, 100, AMPLE):
         bound = (int(megabytes * 2**20), int(megabytes * 2**20))
@@ -374,13 +419,27 @@ def bounded_memory(calls):
                             preexec_fn=lambda: resource.setrlimit(resource.RLIMIT_AS, bound))
             is_refused = (ran.returncode, ran.stdout) == (6, b"") and status_of(ran.stderr) == 6 and megabytes < AMPLE
             is_answer = (ran.returncode, ran.stdout, ran.stderr) == (0, answer, b"")
-            is_loader = (ran.returncode, ran.stdout) == (127, b"") and b"while loading shared libraries" in ran.stderr and megabytes < 4
+            is_said = b"while loading shared libraries" in ran.stderr
+            is_loader = (ran.returncode, ran.stdout) == (127, b"") and is_said and megabytes < 4
             is_stack = (ran.returncode, ran.stdout, ran.stderr) == (-signal.SIGSEGV, b"", b"") and megabytes < 4
             calls.count(f"{megabytes} MB {words}", is_refused or is_answer or is_loader or is_stack, ran)
 
 
-GROUPS = [inputs_that_cannot_be_read, inputs_at_the_limit, names, wrong_words, outputs_that_fail, pipe_that_closes_early, trace_cycle_by_cycle,
-          reports_cut_off, fault_lines_in_one_write, order_of_faults, bytes_that_are_no_text, bounded_memory, refused_growths, cut_texts, worked_texts]
+def threads_refused(calls):
+    """Where no thread may start, a run that wants one says so and writes nothing. All others are as ever."""
+    # Too many channels for rows, so that two workers are two threads.
+    calls.put(many=PLAIN.replace(b"[2]", b"[2, 2]").replace(b"channels = 1", b"channels = 8"))
+    for workers in ("2", "3", "4"):
+        calls.answers("no thread", ["run", "many", "traffic", "--workers", workers], b"fault run 2 NoWorker\n",
+                      preexec_fn=no_thread_more)
+    for words in (["run", "many", "traffic"], ["run", "plain", "traffic"]):
+        calls.answers("no thread is wanted", words, REPORT, preexec_fn=no_thread_more)
+
+
+GROUPS = [inputs_that_cannot_be_read, inputs_at_the_limit, names, wrong_words, outputs_that_fail,
+          pipe_that_closes_early, trace_cycle_by_cycle,
+          reports_cut_off, fault_lines_in_one_write, order_of_faults, bytes_that_are_no_text, bounded_memory,
+          threads_refused, refused_growths, cut_texts, worked_texts]
 
 
 def main():

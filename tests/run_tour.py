@@ -1,15 +1,17 @@
 #!/usr/bin/env python3
 """Runs every command that the pages show, and compares what it prints with what the page says.
 
-    run_tour.py PROGRAM PAGE.. [--seconds S]
+    run_tour.py PROGRAM PAGE.. [--blocks PAGE].. [--seconds S]
 
 A fenced block whose first line begins with '$ ' is a transcript: a line '$ COMMAND', its further lines as '> MORE',
 and then what the command prints, standard error included. A block opened with four backticks may hold lines of three.
 The command must print exactly that. A status other than 0 must be shown by a command '$ echo $?' right after it.
 
-Each page has a folder of its own, with a copy of examples/ and with PROGRAM as ./noc and as crates/noc/out/noc_avx2, so a
-command may write files there. Each command that fails is shown with the difference, and the last line is 'N passed, M
-failed'. The exit status is 0 where there are commands and all passed, else 1.
+Each section of a page has a folder of its own, with a copy of examples/ and of the package, and with PROGRAM as ./noc
+and as crates/noc/out/noc_avx2. A command may write files there, and a section needs none but the commands of the
+page's introduction, which are run before it. In a page behind --blocks each block has a folder of its own instead.
+Each command that fails is shown with the difference, and the last line is 'N passed, M failed'. The exit status is 0
+where there are commands and all passed, else 1.
 """
 import argparse
 import difflib
@@ -23,6 +25,7 @@ from pathlib import Path
 
 TOP = Path(__file__).resolve().parent.parent
 FENCED = re.compile(r"^(```+)[^`\n]*\n(.*?)^\1$", re.MULTILINE | re.DOTALL)
+HEADING = re.compile(r"^##+ ", re.MULTILINE)
 SHOWS_STATUS = "echo $?"
 
 
@@ -34,26 +37,32 @@ class Command:
     shows_status: bool = False
 
 
-def commands_of(page):
-    """The commands of a page in their order, each with what it is said to print."""
+def transcript_of(first_line, body):
+    """The commands of a block in their order, each with what it is said to print."""
     found = []
-    for block in FENCED.finditer(page):
-        body = block[2].splitlines(keepends=True)
-        if not body or not body[0].startswith("$ "):
-            continue
-        first_line = page.count("\n", 0, block.start(2)) + 1
-        transcript = []
-        for number, line in enumerate(body, first_line):
-            if line.startswith("$ "):
-                transcript.append(Command(number, line[2:]))
-            elif line.startswith((">\n", "> ")) and not transcript[-1].output:
-                transcript[-1].words += line[2:] or "\n"
-            else:
-                transcript[-1].output += line
-        for command, following in zip(transcript, transcript[1:]):
-            command.shows_status = following.words.strip() == SHOWS_STATUS
-        found += transcript
+    for number, line in enumerate(body, first_line):
+        if line.startswith("$ "):
+            found.append(Command(number, line[2:]))
+        elif line.startswith((">\n", "> ")) and not found[-1].output:
+            found[-1].words += line[2:] or "\n"
+        else:
+            found[-1].output += line
+    for command, following in zip(found, found[1:]):
+        command.shows_status = following.words.strip() == SHOWS_STATUS
     return found
+
+
+def sections_of(page, by_blocks):
+    """The commands of the introduction, and of each section or block; a line in a block is no heading."""
+    sections, end = [[]], 0
+    for block in FENCED.finditer(page):
+        if by_blocks or HEADING.search(page, end, block.start()):
+            sections.append([])
+        end = block.end()
+        body = block[2].splitlines(keepends=True)
+        if body and body[0].startswith("$ "):
+            sections[-1] += transcript_of(page.count("\n", 0, block.start(2)) + 1, body)
+    return sections
 
 
 def complaints(command, status_before, folder, seconds):
@@ -75,35 +84,53 @@ def complaints(command, status_before, folder, seconds):
     return ran.returncode, found
 
 
-def run_page(program, page, seconds):
+def make_folder(folder, program):
+    for name in ("examples", "noc_tools"):
+        shutil.copytree(TOP / name, folder / name)
+    shutil.copy(TOP / "noc-tools", folder)
+    (folder / "crates/noc/out").mkdir(parents=True)
+    for place in ("noc", "crates/noc/out/noc_avx2"):
+        (folder / place).symlink_to(program)
+
+
+def failures(commands, folder, seconds):
+    """Runs commands one after the other; those that fail, each with the ways in which it does."""
+    found, status = [], 0
+    for command in commands:
+        status, ways = complaints(command, status, folder, seconds)
+        if ways:
+            found.append((command, ways))
+    return found
+
+
+def run_page(program, page, by_blocks, seconds):
     """Returns how many commands of the page passed and how many failed."""
-    commands = commands_of(page.read_text())
-    failed = 0
-    with tempfile.TemporaryDirectory(prefix="noc-tour-") as name:
-        folder = Path(name)
-        shutil.copytree(TOP / "examples", folder / "examples")
-        (folder / "crates/noc/out").mkdir(parents=True)
-        for place in ("noc", "crates/noc/out/noc_avx2"):
-            (folder / place).symlink_to(program)
-        status = 0
-        for command in commands:
-            status, found = complaints(command, status, folder, seconds)
-            if found:
-                print(f"{page.name}, line {command.line}: {command.words.rstrip()}", *found, sep="\n  ")
-                failed += 1
+    introduction, *sections = sections_of(page.read_text(), by_blocks)
+    failed = []
+    for section in [[], *filter(None, sections)]:
+        with tempfile.TemporaryDirectory(prefix="noc-tour-") as name:
+            make_folder(Path(name), program)
+            before = failures(introduction, Path(name), seconds)
+            failed += failures(section, Path(name), seconds) if section else before
+    for command, ways in failed:
+        print(f"{page}, line {command.line}: {command.words.rstrip()}", *ways, sep="\n  ")
+    commands = len(introduction) + sum(map(len, sections))
     if not commands:
-        print(f"{page.name}: no command in it")
-        failed = 1
-    return max(len(commands) - failed, 0), failed
+        print(f"{page}: no command in it")
+        return 0, 1
+    return commands - len(failed), len(failed)
 
 
 def main():
     parser = argparse.ArgumentParser(description="Runs every command that the pages show and compares what it prints.")
     parser.add_argument("program", type=Path)
-    parser.add_argument("pages", type=Path, nargs="+")
-    parser.add_argument("--seconds", type=float, default=30, help="time for one command")
+    parser.add_argument("pages", type=Path, nargs="*")
+    parser.add_argument("--blocks", type=Path, action="append", default=[], metavar="PAGE",
+                        help="a page in which each block of commands works without the others")
+    parser.add_argument("--seconds", type=float, default=300, help="time for one command")
     options = parser.parse_args()
-    counts = [run_page(options.program.resolve(), page, options.seconds) for page in options.pages]
+    program, pages = options.program.resolve(), [*options.blocks, *options.pages]
+    counts = [run_page(program, page, page in options.blocks, options.seconds) for page in pages]
     passed, failed = map(sum, zip(*counts))
     print(f"{passed} passed, {failed} failed")
     return 1 if failed else 0

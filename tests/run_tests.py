@@ -1,0 +1,96 @@
+#!/usr/bin/env python3
+"""Runs the tests of the package with a program: all of tests/test_*.py, or those of these names.
+
+    run_tests.py PROGRAM [-k PATTERN].. [NAME..]
+
+Where no name is given, the modules run side by side, each in a process of its own. What differs is shown for each test
+that fails, and why each one is left out that is. The last line is 'N passed, M failed', and the status is 0 where all
+passed, else 1.
+"""
+import argparse
+import os
+import re
+import subprocess
+import sys
+import unittest
+from concurrent.futures import ThreadPoolExecutor
+from pathlib import Path
+
+FOLDER = Path(__file__).resolve().parent
+COUNTS = re.compile(r"(\d+) passed, (\d+) failed\n\Z")
+
+
+class Counted(unittest.TextTestResult):
+    """The results, with the number of tests that passed and the names of those that did not."""
+
+    def __init__(self, *words):
+        super().__init__(*words)
+        self.passed, self.failed = 0, set()
+
+    def addSuccess(self, test):
+        super().addSuccess(test)
+        self.passed += 1
+
+    def addFailure(self, test, error):
+        super().addFailure(test, error)
+        self.failed.add(test.id())
+
+    def addError(self, test, error):
+        super().addError(test, error)
+        self.failed.add(test.id())
+
+    def addSubTest(self, test, subtest, error):
+        super().addSubTest(test, subtest, error)
+        self.failed.update([test.id()] if error else [])
+
+
+def run_names(names, patterns):
+    """Runs tests in this process, and returns how many passed and how many failed."""
+    loader = unittest.TestLoader()
+    loader.testNamePatterns = [f"*{word}*" for word in patterns] or None
+    runner = unittest.TextTestRunner(resultclass=Counted, stream=sys.stdout, verbosity=0)
+    result = runner.run(loader.loadTestsFromNames(names))
+    for test, reason in result.skipped:
+        print(f"left out: {test.id()}: {reason}")
+    return result.passed, len(result.failed)
+
+
+def run_module(program, module, patterns):
+    """What a process says that runs one module."""
+    words = [sys.executable, __file__, program, module, *(f"-k{word}" for word in patterns)]
+    return subprocess.run(words, stdin=subprocess.DEVNULL, stdout=subprocess.PIPE, stderr=subprocess.STDOUT,
+                          text=True).stdout
+
+
+def run_all(program, patterns):
+    """Runs all modules, the largest first, and shows what is said where a test failed or was left out."""
+    modules = sorted(FOLDER.glob("test_*.py"), key=lambda path: path.stat().st_size, reverse=True)
+    passed = failed = 0
+    with ThreadPoolExecutor(len(os.sched_getaffinity(0))) as pool:
+        for said in pool.map(lambda path: run_module(program, path.stem, patterns), modules):
+            counts = COUNTS.search(said)
+            good, bad = map(int, counts.groups()) if counts else (0, 1)
+            shown = said if bad else "".join(re.findall(r"^left out.*\n", said, re.MULTILINE))
+            print(shown, end="", flush=True)
+            passed, failed = passed + good, failed + bad
+    return passed, failed
+
+
+def main():
+    parser = argparse.ArgumentParser(description=__doc__, formatter_class=argparse.RawDescriptionHelpFormatter)
+    parser.add_argument("program", type=Path)
+    parser.add_argument("names", metavar="NAME", nargs="*", help="a module, or one of its tests: test_why.Lives")
+    parser.add_argument("-k", metavar="PATTERN", action="append", default=[], help="tests with this in their names")
+    options = parser.parse_args()
+    os.environ["NOC"] = str(options.program.resolve())
+    sys.path[:0] = [str(FOLDER), str(FOLDER.parent)]
+    if options.names:
+        passed, failed = run_names(options.names, options.k)
+    else:
+        passed, failed = run_all(options.program, options.k)
+    print(f"{passed} passed, {failed} failed")
+    return 0 if passed and not failed else 1
+
+
+if __name__ == "__main__":
+    sys.exit(main())

@@ -1,0 +1,228 @@
+"""What commands take and refuse, how often they call the program, and how they end."""
+import os
+import sys
+from dataclasses import replace
+from subprocess import DEVNULL, PIPE
+from unittest.mock import patch
+
+from support import HEADER, IN_THE_WAY, LINE, SQUARE, TOP, FolderTest
+from test_load import CURVE
+from test_replay import data_of
+from test_statistics import REPORT, REPORT_HEADER
+from test_sweep import SMALL
+from test_timeline import bars_of
+from test_waves import Dump
+
+from noc_tools import Refused
+from noc_tools.cli import COMMANDS
+from noc_tools.program import Process
+
+# What is given to a command of a run, and a part of the one sentence that it answers. LINE and IN_THE_WAY are the
+# files c and t.
+REFUSED = [
+    ("why", "c t 3", "there is no packet 3: the traffic has 3"),
+    ("why", "c t 0 20", "the run has the cycles 0 to 19"),
+    ("why", "nothing t 0", "nothing: No such file or directory"),
+    ("why", "c nothing 0", "nothing: No such file or directory"),
+    ("why", "t t 0", "t is no configuration"),
+    ("why", "c c 0", "c is no traffic"),
+    ("why", "- - 0", "standard input can be one of the files"),
+    ("why", "c broken 0", "broken is no traffic: row 0 is not five numbers"),
+    ("why", "c late 0", "packet 0 is due in cycle 20, behind the end of the run"),
+    ("why", "c late 0 20", "the run has the cycles 0 to 19"),
+    ("timeline", "c late 0", "packet 0 is due in cycle 20, behind the end of the run"),
+    ("timeline", "c t -1", "there is no packet -1"),
+    ("replay", "c t --from 9 --to 8", "the run has the cycles 0 to 19"),
+    ("replay", "c t --to 20", "the run has the cycles 0 to 19"),
+    ("waves", "c t --from -1", "the run has the cycles 0 to 19"),
+    ("waves", "c t --router 3", "there is no router 3: the network has 3"),
+    ("waves", "c t --drain --to 999", "the run has the cycles 0 to 19"),
+]
+# What noc refuses it tells itself.
+BY_NOC = ["waves c lost --drain", "waves c lost", "why c lost 0", "timeline c lost 0", "limit c lost"]
+# A call of each command that writes something; the files are those of setUp.
+CALLS = {
+    "ranks": "c", "limit": "c t", "table": "plane odd-even", "traffic": "c uniform 0.5 1", "stalls": "c",
+    "replay": "c t", "keys": "c", "timeline": "c t 2", "waves": "c t", "why": "c t 2", "latency": "c r",
+    "load": "c 1 0.1", "curves": "a=curve", "sweep": "small.toml", "draw": "results", "packets": "c seen 16",
+    "replies": "classes t 2 1",
+}
+DEEP = "x = " + "[" * 3000 + "]" * 3000 + "\n"
+STALLS_HEADER = (
+    "router,port,vc,empty,routed,granted,moved,no_flit,no_idle_channel,lost_channel,no_credit,lost_input,lost_switch\n"
+)
+# Input that a library of Python cannot take, by standard input: the command, its words, the input, and a part of its
+# sentence.
+UNREADABLE = [
+    ("keys", "/dev/stdin", DEEP.encode(), "nested too deep"),
+    ("timeline", "- t 0", DEEP.encode(), "nested too deep"),
+    ("table", "/dev/stdin odd-even", DEEP.encode(), "nested too deep"),
+    ("stalls", "c", (STALLS_HEADER + "0" * 140_000 + "\n").encode(), "field larger than field limit"),
+    ("stalls", "c", STALLS_HEADER.encode() + b"\xff", "not UTF-8"),
+    ("why", "c - 0", HEADER.encode() + b"\xff", "standard input is no traffic"),
+    ("why", "c - 0", HEADER.encode() + b"0" * 140_000, "field larger than field limit"),
+    ("latency", "c", REPORT_HEADER.encode() + b"0" * 140_000, "field larger than field limit"),
+    ("latency", "c", REPORT_HEADER.encode() + b"\xff\n", "not UTF-8"),
+    ("latency", "/dev/stdin r", DEEP.encode(), "nested too deep"),
+    ("load", "/dev/stdin 1 0.1", DEEP.encode(), "nested too deep"),
+    ("curves", "a=/dev/stdin", CURVE.encode() + b"0" * 140_000, "field larger than field limit"),
+]
+
+
+class OfARun(FolderTest):
+    def setUp(self):
+        self.put(c=LINE, t=IN_THE_WAY)
+
+    def calls_of(self, *words):
+        """How often a command runs a network by the program."""
+        log = self.folder / "calls"
+        self.environment = self.in_place_of_the_program(f'#!/bin/sh\necho "$1" >> "{log}"\nexec "$PROGRAM" "$@"\n')
+        self.put(calls="")
+        self.tool(words[0], "c", "t", *words[1:])
+        self.doCleanups()
+        return sum(word in ("run", "trace") for word in log.read_text().split())
+
+    def test_one_file_comes_by_standard_input(self):
+        """The configuration or the traffic, or one of them by a pipe: the answers are the same."""
+        for command, *words in [("why", 2), ("why", 2, 5), ("timeline", 2), ("waves", "--router", 1)]:
+            named = self.said(command, "c", "t", *words)
+            given = [self.said(command, "-", "t", *words, given=LINE.text())]
+            given.append(self.said(command, "c", "-", *words, given=IN_THE_WAY))
+            piped = f"./noc-tools {command} <(cat c) t {' '.join(map(str, words))}"
+            self.assertTrue(named)
+            self.assertEqual({named}, {*given, self.called(["bash", "-c", piped]).stdout}, command)
+        given = data_of(self.said("replay", "-", "t", given=LINE.text()))
+        self.assertEqual(given, data_of(self.said("replay", "c", "t")))
+
+    def test_the_program_runs_once(self):
+        """In cycle 1 packet 0 has the one channel of the port local, so packet 2 is in its queue. A life without a wait
+        takes one run, and that of packet 2, which waits at its source alone, takes two."""
+        words = [("timeline", 2), ("why", 2, 5), ("why", 2, 1), ("why", 1), ("waves",), ("replay",), ("why", 2)]
+        self.assertEqual([self.calls_of(*each) for each in words], [1, 1, 1, 1, 1, 1, 2])
+
+    def test_the_program_runs_once_more(self):
+        """Packet 1 waits at two routers, one of which is not its source; and packet 2 is in its queue while a channel
+        is left."""
+        self.put(c=replace(LINE, channels=2, buffer=4), t=HEADER + "0,2,0,4,0\n1,2,0,4,3\n")
+        self.assertEqual(self.calls_of("why", 1), 3)
+        self.put(c=replace(LINE, channels=3), t=HEADER + "0,2,0,4,1\n0,2,0,4,0\n0,2,0,1,2\n")
+        self.assertEqual(self.calls_of("why", 2, 6), 2)
+
+    def test_commands_reach_the_end_of_a_run_that_drains(self):
+        """Two flits over one hop, due in cycle 40, are out in 46, where the configuration has 20 cycles. With the 14
+        events that each packet takes the limit is 68."""
+        self.put(t=HEADER + "0,2,0,1,0\n0,1,0,2,40\n")
+        life = self.said("why", "c", "t", 1, "--drain").splitlines()
+        bars = bars_of(self.said("timeline", "c", "t", 1, "--drain"))
+        times = Dump(self.said("waves", "c", "t", "--from", 45, "--drain")).times
+        step = self.said("why", "c", "t", 1, 41, "--drain")
+        data = data_of(self.said("replay", "-", "t", "--drain", given=LINE.text()))
+        self.assertEqual(life[0], "packet 1, node 0 to node 1, 2 flits: due in cycle 40, out in cycle 46.")
+        self.assertEqual(step, "packet 1, router 0, local.0: Granted. It gets +0.0 in this cycle.\n")
+        drawn = ["cycle 40: routed", "cycle 41: granted", "cycles 42 to 43: moved"]
+        self.assertEqual(bars["router 0, local.0"], drawn)
+        self.assertEqual((times[0], times[-1], data["last"]), (45, 68, 67))
+
+    def test_what_is_refused(self):
+        self.put(late=HEADER + "0,1,0,1,20\n", broken=HEADER + "0,1,0,one,0\n", lost=HEADER + "0,3,0,1,0\n")
+        self.assertEachRefused((f"{command} {words}", {}, sentence) for command, words, sentence in REFUSED)
+        for words in BY_NOC:
+            with self.subTest(words=words):
+                ran = self.tool(*words.split())
+                said = ran.returncode, ran.stdout, ran.stderr
+                self.assertEqual(said, (3, "", "fault network 2 BadNode row 0\n"))
+
+
+class Ends(FolderTest):
+    def setUp(self):
+        self.put(c=LINE, t=IN_THE_WAY, plane=SQUARE, r=REPORT, curve=CURVE, **{"small.toml": SMALL})
+        self.put(stalls=self.noc("run", "c", "t", "--report", "stalls").stdout)
+        self.put(results="kind,load,mean,accepted\nmesh,0.1,9,0.1\n", seen="time,source,destination,bytes\n0,0,1,9\n")
+        self.put(classes=replace(LINE, channels=2, classes=2))
+
+    def ends(self, command, **given):
+        """The status of a command and its words on standard error."""
+        with open(self.folder / "stalls", "rb") as stalls:
+            words = [sys.executable, "noc-tools", command, *CALLS[command].split()]
+            ran = self.called(words, stdin=stalls, capture_output=False, stderr=PIPE, **given)
+        return ran.returncode, ran.stderr
+
+    def test_each_command_writes_something(self):
+        for command in CALLS:
+            self.assertEqual(self.ends(command, stdout=DEVNULL), (0, ""), command)
+
+    def test_a_full_output_is_said(self):
+        for command in CALLS:
+            with open("/dev/full", "wb") as full:
+                ended = self.ends(command, stdout=full)
+            sentence = f"noc-tools {command}: standard output: No space left on device\n"
+            self.assertEqual(ended, (1, sentence))
+
+    def test_a_closed_output_is_said(self):
+        for command in CALLS:
+            ended = self.ends(command, preexec_fn=lambda: os.close(1))
+            self.assertEqual(ended, (1, f"noc-tools {command}: standard output is closed\n"))
+
+    def test_a_reader_that_went_ends_it(self):
+        for command in CALLS:
+            reader, writer = os.pipe()
+            os.close(reader)
+            with open(writer, "wb") as pipe:
+                self.assertEqual(self.ends(command, stdout=pipe), (141, ""), command)
+
+    def test_unreadable_input_is_said(self):
+        """One line that says why; with the environment in which Python reads strictly."""
+        strict = self.environment | {"PYTHONIOENCODING": "utf-8:strict"}
+        for command, words, given, sentence in UNREADABLE:
+            with self.subTest(command=command, sentence=sentence):
+                called = [sys.executable, "noc-tools", command, *words.split()]
+                ran = self.called(called, input=given, text=False, env=strict)
+                said = ran.stderr.decode()
+                self.assertEqual((ran.returncode, ran.stdout, said.count("\n")), (1, b"", 1))
+                self.assertTrue(said.startswith(f"noc-tools {command}: ") and sentence in said, said)
+
+    def guarded(self, body):
+        """How a function ends that runs as a command does, though the caller may have interrupts ignored."""
+        script = (
+            "import signal, sys\nfrom noc_tools.cli import guarded\n"
+            "signal.signal(signal.SIGINT, signal.default_int_handler)\n"
+            f"sys.exit(guarded('x', lambda: {body}))\n"
+        )
+        ran = self.called([sys.executable, "-c", script])
+        return ran.returncode, ran.stdout, ran.stderr
+
+    def test_no_memory_is_said(self):
+        """A number of bytes that no machine has."""
+        self.assertEqual(self.guarded("bytearray(1 << 60)"), (1, "", "x: there is not enough memory\n"))
+
+    def test_an_interrupt_ends_it(self):
+        """What was written before goes out."""
+        body = "print('some') or signal.raise_signal(signal.SIGINT)"
+        self.assertEqual(self.guarded(body), (130, "some\n", ""))
+
+    def test_no_thread_is_said(self):
+        refused = RuntimeError("can't start new thread")
+        with patch("noc_tools.program.Thread.start", side_effect=refused):
+            with self.assertRaisesRegex(Refused, "the system gives no further thread"):
+                Process("run", str(self.folder / "c"), str(self.folder / "t"))
+
+
+class Help(FolderTest):
+    def test_one_help_lists_all_commands(self):
+        """Each with the first line of its own help, which has the whole text of its module."""
+        ran = self.tool("--help")
+        self.assertEqual((ran.returncode, ran.stderr), (0, ""))
+        names = {path.stem for path in (TOP / "noc_tools/commands").glob("*.py")} - {"__init__"}
+        self.assertEqual(set(COMMANDS), names)
+        for name in COMMANDS:
+            with self.subTest(command=name):
+                (line,) = [line for line in ran.stdout.splitlines() if line.startswith(f"  {name} ")]
+                text = (TOP / f"noc_tools/commands/{name}.py").read_text().split('"""')[1]
+                self.assertEqual(line.split(maxsplit=1)[1], text.splitlines()[0])
+                self.assertIn(text.strip(), self.said(name, "--help"))
+
+    def test_another_command_is_refused(self):
+        for words in [], ["wy"]:
+            ran = self.tool(*words)
+            self.assertEqual((ran.returncode, ran.stdout), (2, ""))
+            self.assertIn("a command is one of why, ", ran.stderr)

@@ -1,0 +1,357 @@
+"""What a study may ask for: files and replies, tables made by itself, bytes, a search; and how it is shown again."""
+import re
+import shlex
+import unittest
+import xml.etree.ElementTree as ElementTree
+from collections import Counter
+from itertools import groupby
+
+from support import HEADER, LINE, SVG, FolderTest
+from test_load import texts_of
+from test_sweep import SMALL, SweepTest, lines_of
+
+from noc_tools import Demand, Network, Refused, Study
+from noc_tools.combinations import combinations_of
+from noc_tools.drawing import frames_of, framed
+from noc_tools.plan import View
+from noc_tools.replies import Replies, settled
+from noc_tools.study import halfway
+
+ROW = Network("mesh", (16,), 1, 2, 1, "dor", 4000)
+
+
+class Demands(unittest.TestCase):
+    def test_a_burst_is_of_cycles_in_succession(self):
+        """A node that is on a quarter of the time makes a packet in each of these cycles for a load of 0.25: so packets
+        come in some 320 bursts, which have 50 cycles on average."""
+        due: dict = {}
+        for source, _, _, _, cycle in Demand("uniform", 0.25, 1, burst=(50, 150)).rows(ROW):
+            due.setdefault(source, []).append(cycle)
+        bursts = [
+            len(list(burst)) for cycles in due.values()
+            for _, burst in groupby(enumerate(cycles), key=lambda pair: pair[1] - pair[0])
+        ]
+        self.assertAlmostEqual(sum(bursts) / 16 / 4000, 0.25, delta=0.04)
+        self.assertAlmostEqual(sum(bursts) / len(bursts), 50, delta=10)
+
+    def test_several_lengths_are_as_frequent(self):
+        """One or eight flits, so that a packet has 4.5 on average."""
+        rows = list(Demand("uniform", 0.45, (1, 8)).rows(ROW))
+        lengths = Counter(row[3] for row in rows)
+        self.assertEqual(set(lengths), {1, 8})
+        self.assertAlmostEqual(lengths[1] / len(rows), 0.5, delta=0.02)
+        self.assertAlmostEqual(sum(row[3] for row in rows) / 16 / 4000, 0.45, delta=0.02)
+
+    def test_a_permutation_is_one_to_one(self):
+        """All packets of a node go to the same one, and no two nodes send to one; another seed gives another one."""
+        found = []
+        for seed in (1, 2):
+            ways = {row[:2] for row in Demand("permutation", 0.5, 1, seed).rows(ROW)}
+            self.assertEqual([len({way[end] for way in ways}) for end in (0, 1)], [len(ways)] * 2)
+            self.assertGreater(len(ways), 12)
+            found.append(ways)
+        self.assertNotEqual(*found)
+
+    def test_what_is_refused(self):
+        for demand, sentence in [
+            (Demand("uniform", 0.6, 1, burst=(50, 50)), "a load is 0 or more, and at most 0.5 in these bursts"),
+            (Demand("uniform", 0.1, 1, burst=(0, 5)), "a burst is ON:OFF, each of them 1 cycle or more"),
+            (Demand("uniform", 5, (1, 8)), "a load is 0 or more, and at most the length of a packet"),
+            (Demand("uniform", 0.1, (1, 65)), "a length is 1 to 64"),
+        ]:
+            with self.subTest(sentence), self.assertRaisesRegex(Refused, re.escape(sentence)):
+                demand.check(ROW)
+
+
+class ByReplies(FolderTest):
+    def test_they_come_after_their_requests(self):
+        """A flit over two hops is out in cycle 8, and one over one hop in cycle 5: five cycles later their replies are
+        due. That of a flit that is out in cycle 15 would be due when the run is over."""
+        self.put(c=Network("mesh", (3,), 2, 2, 2, "dor", 20), t=HEADER + "0,2,0,1,0\n0,1,1,2,9\n1,2,0,1,10\n")
+        said = self.said("replies", "c", "t", 4, 5)
+        self.assertEqual(said, HEADER + "0,2,0,1,0\n0,1,1,2,9\n1,2,0,1,10\n2,0,1,4,13\n")
+
+    def test_runs_are_made_until_nothing_changes(self):
+        """In a network in which each reply makes all later packets a cycle later. Without replies the requests are out
+        in cycles 3, 6 and 9, so replies are due in 4, 7 and 10. With these the later ones are out in 7 and 11, so their
+        replies are due in 8 and 12, and that stays."""
+        requests = [(0, 1, 0, 1, due) for due in (0, 3, 6)]
+        runs = []
+
+        def outs(rows):
+            runs.append(len(rows))
+            return [due + 3 + sum(row[2] == 1 and row[4] <= due + 3 for row in rows) for *_, due in rows]
+
+        rows = settled(requests, Replies(0, 1, 2, 1), outs, 100)
+        self.assertEqual([row[4] for row in rows[3:]], [4, 8, 12])
+        self.assertEqual(rows[:3] + [row[:4] for row in rows[3:]], requests + [(1, 0, 1, 2)] * 3)
+        self.assertEqual(runs, [3, 6, 6])
+
+    def test_what_is_refused(self):
+        self.put(c=Network("mesh", (3,), 2, 2, 2, "dor", 20), t=HEADER + "0,2,0,1,0\n", odd=HEADER + "0,2,x,1,0\n")
+        for words, sentence in [
+            ("t 4 5 --by 0", "replies are of another class than requests, and the classes are 0 to 1"),
+            ("t 4 5 --by 2", "replies are of another class than requests"),
+            ("t 65 5", "the length of a reply is 1 to 64"),
+            ("odd 4 5", "odd is no traffic: a row is not five numbers"),
+        ]:
+            with self.subTest(words):
+                self.assertRefused(self.tool("replies", "c", *words.split()), sentence, "replies")
+
+
+TRACE = "kind,bytes,time,source,destination,note\n"
+
+
+class OfTraces(FolderTest):
+    def setUp(self):
+        self.put(c=Network("mesh", (3,), 2, 2, 2, "dor", 20))
+
+    def test_packets_are_those_of_the_trace(self):
+        """Two flits of 16 bytes for 17; 65 flits are two packets; nothing goes to its own node; and half as many cycles
+        as units of time."""
+        self.put(t=TRACE + "a,17,10,0,2,x\nb,1040,13.5,2,1,\na,1,14,1,1,\nb,0,15,1,0,\n")
+        said = self.said("packets", "c", "t", 16, "--from", 10, "--factor", 0.5, "--kind", "b=1")
+        self.assertEqual(said, HEADER + "0,2,0,2,0\n2,1,1,64,1\n2,1,1,1,1\n1,0,1,1,2\n")
+
+    def test_it_is_cut_with_a_word(self):
+        """Of 20,004 packets, three in each cycle, those of the last two cycles are left out."""
+        self.put(t=TRACE + "".join(f"a,1,{number // 3},0,1,\n" for number in range(20004)))
+        ran = self.tool("packets", "c", "t", 16)
+        told = "noc takes 20000 packets, so of 20004 the 19998 due before cycle 6666 are kept"
+        self.assertEqual((ran.stderr, ran.stdout.count("\n")), (f"noc-tools packets: {told}\n", 19999))
+
+    def test_what_is_refused(self):
+        for text, words, sentence in [
+            ("time,source,destination\n", "16", "t is no trace"),
+            (TRACE + "a,1,soon,0,1,\n", "16", "t: line 2 has no time, nodes and bytes"),
+            (TRACE + "a,1,0,0,3,\n", "16", "t: line 2 has a node that the network has not"),
+            (TRACE + "a,1,5,0,1,\n", "16 --from 9", "t: line 2 is due in cycle -4: noc takes 0 to 1000000"),
+            (TRACE, "0", "BYTES is a whole number above 0"),
+            (TRACE, "16 --factor 0", "FACTOR a number above 0"),
+            (TRACE, "16 --kind a=2", "the classes are 0 to 1"),
+        ]:
+            with self.subTest(sentence):
+                self.put(t=text)
+                self.assertRefused(self.tool("packets", "c", "t", *words.split()), sentence, "packets")
+
+
+# A torus of a made table and a mesh, in bytes, with packets of a file and replies to them.
+PLAYED = """\
+radix = [4, 4]
+channels = 4
+buffer = 2
+classes = 2
+flit_bytes = 8
+cycles = 200
+traffic = "t.csv"
+replies = [0, 1, 3, 5]
+measured_classes = [[0], [1]]
+load = [1, 2]
+cases = [{ kind = "mesh", rule = "odd-even" }, { kind = "torus", rule = "dateline-even" }]
+"""
+SEARCHED = SMALL.replace("load = [0.6, 0.1]", "load = 0.5\nsearch = 0.1").replace("cycles = 300", "cycles = 200")
+
+
+class Plans(SweepTest):
+    def test_files_are_played_with_replies(self):
+        """A flit a cycle goes from node 0 to node 1, and twice as fast at the load 2; each is answered by three."""
+        self.put(**{"played.toml": PLAYED, "t.csv": HEADER + "".join(f"0,1,0,1,{due}\n" for due in range(0, 400, 8))})
+        ran = self.sweep("played.toml", "--out", "played.out")
+        self.assertEqual((ran.returncode, ran.stderr), (0, ""))
+        rows = self.results("played.out")
+        offered = {(row["measured_classes"], row["load"]): (row["packets"], float(row["offered"])) for row in rows}
+        flits = {key: float(count) * (1 if key[0] == "0" else 3) for key, (count, _) in offered.items()}
+        self.assertEqual({key: load for key, (_, load) in offered.items()}, {
+            key: round(8 * amount / 16 / 67, 4) for key, amount in flits.items()
+        })
+        self.assertEqual((len(rows), offered["0", "1"][0], offered["0", "2"][0]), (8, "8", "17"))
+        self.assertEqual({row["pattern"] + row["seed"] for row in rows}, {"--"})
+        for row in rows:
+            made = sorted((self.folder / "played.out" / "tables").glob(f"{row['rule']}*_2.csv"))
+            self.assertEqual(len(made), 1)
+        tables = {row["table_digest"] for row in rows}
+        self.assertEqual((len(tables), "-" in tables), (2, False))
+        settings = [f"{key}={word}" for key, word in list(rows[0].items())[1:24]]
+        self.sweep("--one", *settings, "--files", "kept")
+        files = [self.folder / "kept" / name for name in ("config.toml", "traffic.csv")]
+        (table,) = (self.folder / "kept").glob(f"{rows[0]['rule']}*_2.csv")
+        report = self.report("run", *files, "--table", table)
+        answered = [row for row in report if row["class"] == "1"]
+        requests = [row for row in report if row["class"] == "0" and row["out"] != "-"]
+        due = [int(row["out"]) + 5 for row in requests]
+        self.assertEqual([int(row["due"]) for row in answered], [cycle for cycle in due if cycle < 200])
+
+    def test_the_load_at_which_a_network_gives_way_is_searched(self):
+        """By halves between 0 and 0.5, up to a tenth; no run is made twice, and no command is left."""
+        ran = self.sweep("searched.toml", "--out", "searched.out", env=self.watched("calls"))
+        again = self.sweep("searched.toml", "--out", "searched.out", "--list")
+        rows = self.results("searched.out")
+        self.assertEqual((ran.returncode, again.stdout, len(lines_of(self.folder / "calls"))), (0, "", len(rows)))
+        for combination in combinations_of(rows):
+            loads = [line.load for line in combination.lines]
+            kept = [line.load for line in combination.lines if line.keeps_up]
+            failed = [line.load for line in combination.lines if not line.keeps_up]
+            self.assertLessEqual(min(failed) - max([0, *kept]), 0.1)
+            self.assertEqual(set(loads) - {0.5, 0.25, 0.125, 0.375, 0.0625, 0.1875, 0.3125, 0.4375}, set())
+            self.assertIsNone(halfway(combination, 0.1))
+
+    def setUp(self):
+        super().setUp()
+        self.put(**{"searched.toml": SEARCHED})
+
+    def test_a_searched_study_is_collected(self):
+        """In rounds, as --list prints the commands of the next loads; the lines of all rounds may be in one file."""
+        self.sweep("searched.toml", "--out", "searched.out")
+        lines = ""
+        for _ in range(5):
+            commands = self.sweep("searched.toml", "--out", "two.out", "--list").stdout.splitlines()
+            lines += "".join(self.called(shlex.split(command)).stdout for command in commands)
+            self.put(lines=lines)
+            last = self.sweep("searched.toml", "--out", "two.out", "--collect", "lines")
+            if last.returncode == 0:
+                break
+        whole = [sorted(lines_of(self.folder / name / "results.csv")) for name in ("searched.out", "two.out")]
+        self.assertEqual(*whole)
+        self.assertEqual(self.sweep("searched.toml", "--out", "three.out", "--collect", "lines").returncode, 0)
+
+
+class Parts(SweepTest):
+    def test_a_study_may_do_without_parts(self):
+        """Then all other figures are the same, those of queue and network are dashes, and nothing is traced."""
+        self.put(**{"whole.toml": SMALL, "less.toml": "parts = false\n" + SMALL})
+        for name in ("whole", "less"):
+            self.sweep(f"{name}.toml", "--out", f"{name}.out")
+        apart = ("run", "parts", "queue_", "network_")
+        whole, less = (
+            sorted([
+                {key: word for key, word in row.items() if not key.startswith(apart)} for row in self.results(name)
+            ], key=str)
+            for name in ("whole.out", "less.out")
+        )
+        self.assertEqual(whole, less)
+        self.put(**{"mixed.toml": SMALL.replace("length = 2", 'length = "1+3"')})
+        with Study(self.folder / "mixed.toml", self.folder / "mixed.out") as study:
+            row = study.make().rows()[0]
+        self.assertEqual([row[key] for key in ("length", "parts", "radix", "channels")], ["1+3", "yes", "4x4", 2])
+        words = {row[key] for row in self.results("less.out") for key in ("queue_mean", "network_p99")}
+        self.assertEqual((words, "-" in {row["queue_mean"] for row in self.results("whole.out")}), ({"-"}, False))
+
+
+class Audits(SweepTest):
+    def test_lines_of_other_things_are_not_taken(self):
+        """Of another program, configuration, traffic or table."""
+        self.sweep("small.toml", "--out", "one.out")
+        header, line = (row.split(",") for row in lines_of(self.folder / "one.out" / "results.csv")[:2])
+        for name in ("program", "configuration", "traffic", "table"):
+            other = [field if column != f"{name}_digest" else "0" * 16 for column, field in zip(header, line)]
+            self.put(lines=",".join(other) + "\n")
+            ran = self.sweep("small.toml", "--out", f"{name}.out", "--collect", "lines")
+            sentence = f"lines: line 1 is of another {name}: its digest is {'0' * 16}, and here "
+            self.assertRefused(ran, sentence, "sweep")
+
+    def test_lines_are_made_again(self):
+        """All are the same; one whose mean was changed is told."""
+        self.sweep("small.toml", "--out", "one.out")
+        path = self.folder / "one.out" / "results.csv"
+        same = self.sweep("small.toml", "--out", "one.out", "--verify", 3)
+        self.assertEqual((same.returncode, same.stdout), (0, "3 of 8 runs made again have the same bytes\n"))
+        lines = lines_of(path)
+        place = lines[0].split(",").index("mean")
+        changed = lines[1].split(",")
+        changed[place] = "99.9"
+        path.write_text("\n".join([lines[0], ",".join(changed), *lines[2:]]) + "\n")
+        told = f"one.out/results.csv: run {changed[0]} made again has another mean"
+        self.assertRefused(self.sweep("small.toml", "--out", "one.out", "--verify", 8), told, "sweep")
+        self.assertRefused(self.sweep("small.toml", "--out", "one.out", "--verify", 9), "8 runs have results", "sweep")
+
+
+def made_rows(**values):
+    """Results of all combinations of some settings, each with two loads."""
+    rows = [{"load": load, "accepted": load, "mean": "9", "packets": "5", "out": "5"} for load in ("0.1", "0.2")]
+    for key, words in values.items():
+        rows = [{**row, key: word} for word in words for row in rows]
+    return rows
+
+
+class Views(unittest.TestCase):
+    def frames(self, view=View(), **values):
+        """The names of the frames of each picture, and the styles of their curves."""
+        combinations = combinations_of(made_rows(**values))
+        pictures = list(frames_of(combinations, view, "accepted", "mean", "load"))
+        return [[(frame.name, {curve.name: curve.style for curve in frame.curves}) for frame in frames]
+                for frames in pictures]
+
+    def test_each_pattern_has_a_frame(self):
+        """In which colours are those of the setting with most values, and dashes those of the other one."""
+        rules = ["dor", "adaptive", "odd-even"]
+        (frames,) = self.frames(pattern=["uniform", "tornado"], rule=rules, channels=["1", "2"])
+        self.assertEqual([name for name, _ in frames], ["uniform", "tornado"])
+        for _, styles in frames:
+            self.assertEqual(len(styles), 6)
+            self.assertEqual(styles, frames[0][1])
+            for name, style in styles.items():
+                place = rules.index(name.partition(",")[0])
+                self.assertEqual((style.colour, style.dash), (place, int("2 channels" in name)))
+
+    def test_a_frame_has_eight_curves_at_most(self):
+        """Of twenty networks the setting with fewest values gets frames; and where one setting has twelve values, they
+        stand in two frames."""
+        (frames,) = self.frames(channels=list("1248"), buffer=["1", "2", "4", "8", "16"])
+        self.assertEqual([len(styles) for _, styles in frames], [5] * 4)
+        (frames,) = self.frames(buffer=list(map(str, range(1, 13))))
+        self.assertEqual([len(styles) for _, styles in frames], [8, 4])
+        styles = [style for _, styles in frames for style in styles.values()]
+        self.assertEqual(len(set(styles)), 12)
+
+    def test_a_study_says_how_it_is_shown(self):
+        view = View(["channels"], "buffer", "rule")
+        ((one, _),) = [self.frames(view, rule=["dor", "adaptive"], channels=["1", "2"], buffer=["1", "2"])[0]]
+        name, styles = one
+        self.assertEqual(name, "1 channel")
+        found = {(style.colour, style.dash) for style in styles.values()}
+        self.assertEqual((found, styles["adaptive, 1 place"].dash), ({(0, 0), (0, 1), (1, 0), (1, 1)}, 1))
+
+    def test_too_many_frames_make_several_pictures(self):
+        pictures = self.frames(pattern=[f"p{number}" for number in range(12)], channels=["1", "2"])
+        self.assertEqual([len(frames) for frames in pictures], [9, 3])
+
+    def test_what_is_not_framed_is_named(self):
+        combinations = combinations_of(made_rows(pattern=["uniform"], channels=["1", "2"]))
+        self.assertEqual(framed(combinations, ["channels"], View()), [])
+
+
+class Drawings(SweepTest):
+    def test_any_column_is_drawn_again(self):
+        """Of the runs of a mesh alone; over loads with two seeds; and of the table along channels."""
+        plural = SMALL.replace("channels = 2", "channels = [2, 4]")
+        self.put(**{"plural.toml": plural})
+        self.sweep("plural.toml", "--out", "plural.out")
+        results, table = (f"plural.out/{name}.csv" for name in ("results", "saturation"))
+        root = ElementTree.fromstring(self.said("draw", results, "--y", "queue_p99", "--where", "kind=mesh"))
+        texts = set(texts_of(root))
+        self.assertLessEqual({"99th percentile of queue latency, in cycles", "2 channels", "4 channels"}, texts)
+        self.assertFalse([text for text in texts if "torus" in (text or "")])
+        words = ["--x", "places", "--y", "saturation", "--along", "channels"]
+        root = ElementTree.fromstring(self.said("draw", table, *words))
+        curves = [group for group in root.iter(f"{SVG}g") if (group.get("id") or "").startswith("curve-")]
+        marks = [len(list(group)) - 1 for group in curves]
+        self.assertEqual((marks, "flits that the buffers of a link hold" in texts_of(root)), ([2, 2], True))
+
+    def test_what_is_refused(self):
+        self.put(r="kind,load,mean,accepted\nmesh,0.1,-,0.1\ntorus,0.1,much,0.2\n", e="kind,load,mean,accepted\n")
+        for words, sentence in [
+            ("r --y p99", "r has no column 'p99': its columns are kind, load, mean, accepted"),
+            ("r", "r: 'much' of the column 'mean' is no number"),
+            ("r --y load --where kind", "'kind' is no COLUMN=VALUE of the file"),
+            ("r --y load --where kind=ring", "no line has kind=ring"),
+            ("r --y load --colour mean", "'mean' is no setting of r"),
+            ("r --y load --frames channels", "'channels' is no setting of r"),
+            ("e", "e has no results"),
+            ("r --top 0", "--top is a number above 0"),
+        ]:
+            with self.subTest(words):
+                self.assertRefused(self.tool("draw", *words.split()), sentence, "draw")
+
+    def test_nothing_is_drawn_of_nothing(self):
+        self.put(r="kind,load,mean,accepted\nmesh,0.1,-,0.1\n", c=LINE)
+        self.assertRefused(self.tool("draw", "r"), "there is no point to draw", "draw")

@@ -1,0 +1,191 @@
+"""The files of studies: what of others stays, what results are refused, and what is no study."""
+import os
+import shutil
+import unittest
+
+from support import TOP
+from test_sweep import STUDY, SweepTest, lines_of
+
+from noc_tools import Study
+from noc_tools.results import HEADER
+
+# What a results.csv may hold that is none, what of one is left when it is cut off, and one without the later columns.
+FOREIGN = [
+    "my,own,data\n1,2,3\n4,5,6", "my only line, without an end", "my only line\n", "run,kind,mine", "\n",
+    "run,kind,radix,rule,table,channels,buffer,classes,pattern,spots,share,packet_classes,length,cycles,window,"
+    "tolerance,load,seed,ran,packets,flits,out,offered,accepted,mean,median,p95,p99,max,steady,program_digest,"
+    "configuration_digest,traffic_digest,table_digest\n",
+]
+# A study of the network of turns_table.csv, in folders of any name.
+TABLE_STUDY = """\
+kind = "mesh"
+radix = [2, 2]
+rule = "table"
+table = "t.csv"
+channels = 1
+buffer = 2
+length = 2
+load = 0.2
+cycles = 60
+"""
+ODD = ["form\x0cfeed", "\x1c", "\x85", "\u2028", "line\nfeed", "carriage\rreturn", 'quote"\'', "$(x) ;", "comma,"]
+
+
+class Files(SweepTest):
+    def test_files_of_others_stay(self):
+        """A foreign results.csv is refused as it is, and pictures that are named like no picture of a sweep stay."""
+        for number, text in enumerate(FOREIGN):
+            path = self.folder / f"foreign{number}.out" / "results.csv"
+            path.parent.mkdir()
+            path.write_text(text)
+            for more in ([], ["--list"]):
+                with self.subTest(text=text, more=more):
+                    ran = self.sweep("small.toml", "--out", path.parent, *more)
+                    self.assertRefused(ran, "other results than those of this sweep", "sweep")
+                    self.assertEqual(path.read_text(), text)
+        mine = ["latency_by_hand.svg", "p95_02.svg", "accepted_old.svg", "latency_2.svg.bak"]
+        stale = ["latency_2.svg", "p95_10.svg"]
+        (self.folder / "drawn.out").mkdir()
+        for name in mine + stale:
+            (self.folder / "drawn.out" / name).write_text("mine\n")
+        self.sweep("small.toml", "--out", "drawn.out")
+        left = {path.name for path in (self.folder / "drawn.out").iterdir()}
+        own = {"results.csv", "saturation.csv", "latency.svg", "p95.svg", "p99.svg", "accepted.svg"}
+        self.assertEqual(left, own | set(mine))
+
+    def test_a_header_that_was_cut_off_is_written_again(self):
+        self.sweep("small.toml", "--out", "one.out")
+        header = lines_of(self.folder / "one.out" / "results.csv")[0]
+        cut = self.folder / "cut.out" / "results.csv"
+        cut.parent.mkdir()
+        cut.write_text(header[:50])
+        self.assertEqual(self.sweep("small.toml", "--out", "cut.out").returncode, 0)
+        self.assertEqual((lines_of(cut)[0], len(lines_of(cut))), (header, 9))
+
+    def test_one_sweep_has_a_folder_at_a_time(self):
+        with Study(self.folder / "small.toml", self.folder / "one.out"):
+            ran = self.sweep("small.toml", "--out", "one.out")
+        self.assertRefused(ran, "another sweep is at work on one.out/results.csv", "sweep")
+        self.assertEqual(self.sweep("small.toml", "--out", "one.out", "--list").returncode, 0)
+
+    def test_folders_may_have_odd_names(self):
+        """The commands of --list, what they print, and a sweep itself, on a table in such a folder."""
+        for name in ODD:
+            with self.subTest(name=name):
+                path = self.folder / "odd" / name
+                path.mkdir(parents=True)
+                shutil.copy(TOP / "examples" / "turns_table.csv", path / "t.csv")
+                (path / "s.toml").write_text(TABLE_STUDY)
+                given = {"text": False}
+                listed = self.sweep(path / "s.toml", "--out", path / "o", "--list", **given)
+                printed = self.called(["bash", "-c", os.fsdecode(listed.stdout)], **given)
+                (path / "lines").write_bytes(printed.stdout)
+                ran = [listed, self.sweep(path / "s.toml", "--out", path / "o", "--collect", path / "lines", **given)]
+                ran += [self.sweep(path / "s.toml", "--out", path / "o2", **given) for _ in range(2)]
+                self.assertEqual([one.returncode for one in ran], [0] * 4, [one.stderr for one in ran])
+                one, two = ((path / out / "results.csv").read_bytes() for out in ("o", "o2"))
+                self.assertEqual(one, two)
+
+
+class Tables(SweepTest):
+    def test_a_table_is_known_by_what_is_in_it(self):
+        """Beside the same table elsewhere no run is to be made, and beside another one of this name all are."""
+        left = []
+        for name, table in ("here", "turns_table.csv"), ("there", "turns_table.csv"), ("there", "other.csv"):
+            (self.folder / name).mkdir(exist_ok=True)
+            (self.folder / name / "s.toml").write_text(TABLE_STUDY.replace("load = 0.2", "load = [0.1, 0.2]"))
+            text = (self.folder / "examples" / "turns_table.csv").read_text()
+            other = text.replace("0,1,local,0,2,+1,0\n", "0,1,local,0,2,-0,0\n")
+            (self.folder / name / "t.csv").write_text(other if table == "other.csv" else text)
+            if name == "here":
+                self.assertEqual(self.sweep("here/s.toml", "--out", "one.out").returncode, 0)
+            left.append(self.sweep(f"{name}/s.toml", "--out", "one.out", "--list").stdout.count("\n"))
+        self.assertEqual(left, [0, 0, 2])
+
+
+ON_STUDY = [
+    ("", STUDY + "chanels = 2\n", "s.toml has an unknown setting 'chanels': the settings are kind, radix"),
+    ("", STUDY.replace('kind = "mesh"\n', ""), "s.toml: 'kind' is not set"),
+    ("", STUDY.replace("length = 4", "length = 4.5"), "'length' is a whole number of 1 or more, not 4.5"),
+    ("", STUDY.replace("length = 4", "length = 0"), "'length' is a whole number of 1 or more, not 0"),
+    ("", STUDY.replace("[1, 2, 3, 4, 5]", "[1, 1]"), "'seed' has a value twice"),
+    ("", STUDY.replace("[1, 2, 3, 4, 5]", "[]"), "'seed' has no value"),
+    ("", STUDY.replace("[8, 8]", "8"), "'radix' is a list of numbers, not 8"),
+    ("", STUDY.replace('"mesh"', "3"), "'kind' is a text, not 3"),
+    ("", STUDY.replace("0.02", "-0.02"), "'load' is a number of 0 or more, not -0.02"),
+    ("", STUDY + "cases = 3\n", "'cases' is a list of tables of settings"),
+    ("", STUDY + "cases = []\n", "'cases' is a list of tables of settings"),
+    ("", STUDY + "cases = [{ chanels = 3 }]\n", "s.toml: cases has an unknown setting 'chanels'"),
+    ("", STUDY + "cases = [{ flit_bytes = 4 }, { channels = 4 }]\n", "'flit_bytes' is said of some runs and not of"),
+    ("", STUDY + "parts = 1\n", "'parts' is true or false, not 1"),
+    ("", STUDY + "search = 0\n", "'search' is a number above 0, not 0"),
+    ("", STUDY + 'at = "0.1"\n', "'at' is a number above 0, not '0.1'"),
+    ("", STUDY + 'frames = "colour"\n', "'frames', 'colour' and 'dash' are settings, and 'colour' is none"),
+    ("", STUDY + "burst = [5, 0]\n", "'burst' is a whole number of 1 or more, not 0"),
+    ("", STUDY + "burst = [5, 6, 7]\n", "'burst' is 2 numbers with ':' between them, not '5:6:7'"),
+    ("", STUDY + "replies = [0, 1, 4]\n", "'replies' is 4 numbers with ':' between them, not '0:1:4'"),
+    ("", STUDY + "replies = [0, 1, 4, 9]\n", "replies are of another class than requests, and the classes are 0 to 0"),
+    ("", STUDY + "classes = 2\nreplies = [0, 1, 65, 9]\n", "noc takes no kind=mesh"),
+    ("", STUDY.replace("length = 4", 'length = "4+x"'), "a length is a number of flits, or several as 1+8, not '4+x'"),
+    ("", STUDY + 'traffic = "missing.csv"\n', "missing.csv: No such file or directory"),
+    ("", STUDY.replace("load = [0.02, ", "load = [") + 'traffic = "foreign"\n', "foreign is no traffic"),
+    ("", STUDY.replace('"dor"', '"odd-even"').replace("[8, 8]", "[4]"), "odd-even is for a mesh of two dimensions"),
+    ("--verify 1", STUDY, "0 runs have results: so many can be made again, and at least one"),
+    ("", STUDY + 'pattern = "zigzag"\n', "there is no pattern 'zigzag': the patterns are uniform"),
+    ("", STUDY + "window = [100, 151]\n", "B at most the 150 cycles of the run, not [100, 151]"),
+    ("", STUDY.replace('"dor"', '"dateline"'), "noc takes no kind=mesh radix=8x8 rule=dateline"),
+    ("", STUDY.replace('"dor"', '"table"') + 'table = "missing.csv"\n', "missing.csv: No such file or directory"),
+    ("", STUDY.replace("[8, 8]", "[3, 3]") + 'pattern = "shuffle"\n', "9 nodes are no power of two"),
+    ("", STUDY.replace("0.02, ", "5, "), "a load is 0 or more, and at most the length of a packet"),
+    ("", "radix = [8\n", "s.toml is no TOML: "),
+    ("", "x = " + "[" * 3000 + "]" * 3000 + "\n", "nested too deep"),
+    ("--collect lines", STUDY, "lines: line 1 is no result of a run of this study"),
+    ("--collect foreign", STUDY, "foreign: line 1 is no result of a run of this study"),
+    ("--collect long", STUDY, "field larger than field limit"),
+    ("--collect missing", STUDY, "missing: No such file or directory"),
+    ("--jobs 0", STUDY, "at least one job is needed"),
+    ("--top -1", STUDY, "--top is a number above 0"),
+    ("--files kept", STUDY, "--files is for --one"),
+    ("--out lines", STUDY, "lines: File exists"),
+]
+ONE = "--one kind=mesh rule=dor buffer=2 length=1 load=0.1"
+OTHERS = [
+    ("missing.toml", "missing.toml: No such file or directory"),
+    ("s.txt", "a study that does not end in .toml needs --out FOLDER"),
+    ("--one kind=mesh", "'radix' is not set"),
+    (f"{ONE} radix=8x8 channels=1 parts=maybe", "'parts' is yes or no, not 'maybe'"),
+    ("--one channels", "'channels' is no SETTING=VALUE: the settings are kind"),
+    ("--one colour=red", "'colour=red' is no SETTING=VALUE"),
+    (f"{ONE} radix=8x8 channels=one", "'channels' is a number, not 'one'"),
+    (f"{ONE} radix=8y8 channels=1", "'radix' is numbers with 'x' between them, not '8y8'"),
+    ("", "either STUDY.toml or --one is needed"),
+    ("s.txt --one kind=mesh", "either STUDY.toml or --one is needed"),
+]
+
+
+class Refusals(SweepTest):
+    def test_studies_that_make_no_sense(self):
+        one = self.sweep(*ONE.split(), "radix=2x2", "channels=1", "cycles=30").stdout
+        self.assertEqual(len(one.split(",")), len(HEADER))
+        self.put(lines="1,2,3\n", foreign=one, long="0" * 140_000 + "\n")
+        for words, text, sentence in ON_STUDY:
+            with self.subTest(words=words, sentence=sentence):
+                shutil.rmtree(self.folder / "s", ignore_errors=True)
+                self.put(**{"s.toml": text})
+                self.assertRefused(self.sweep("s.toml", *words.split()), sentence, "sweep")
+
+    def test_words_that_make_no_sense(self):
+        for words, sentence in OTHERS:
+            with self.subTest(words=words):
+                self.put(**{"s.txt": STUDY})
+                self.assertRefused(self.sweep(*words.split()), sentence, "sweep")
+
+    def test_what_noc_refuses_has_its_line_and_status(self):
+        words = "kind=mesh radix=2x2 rule=dateline channels=1 buffer=2 length=1 load=0.1"
+        ran = self.sweep("--one", *words.split())
+        self.assertEqual((ran.returncode, ran.stdout), (4, ""))
+        self.assertRegex(ran.stderr, "^fault relation .*\n$")
+
+
+if __name__ == "__main__":
+    unittest.main()

@@ -1,0 +1,477 @@
+"""Studies: no run is lost or made twice, and what the table and the pictures say."""
+import csv
+import hashlib
+import os
+import re
+import shlex
+import shutil
+import signal
+import subprocess
+import sys
+import time
+import unittest
+import xml.etree.ElementTree as ElementTree
+from dataclasses import replace
+from pathlib import Path
+
+from support import LINE, PROGRAM, TOP, FolderTest
+from test_load import COLUMNS, texts_of
+
+from noc_tools import Demand, Network, Refused, Study
+from noc_tools.combinations import combinations_of
+from noc_tools.measure import Experiment
+from noc_tools.settings import SETTINGS, words_of
+from noc_tools.statistics import Window
+from noc_tools.table import capacity, row_of, words_of as table_words
+from noc_tools.workers import Waiting
+
+STUDY = """\
+kind = "mesh"
+radix = [8, 8]
+rule = "dor"
+channels = [1, 2]
+buffer = [2, 4]
+length = 4
+load = [0.02, 0.05, 0.1, 0.2, 0.3]
+seed = [1, 2, 3, 4, 5]
+cycles = 150
+"""
+SMALL = """\
+radix = [4, 4]
+channels = 2
+buffer = 2
+length = 2
+load = [0.6, 0.1]
+seed = [1, 2]
+cycles = 300
+cases = [{ kind = "mesh", rule = "dor" }, { kind = "torus", rule = "dateline" }]
+"""
+# Eight packets of one flit in each cycle of a network of 16 nodes are 20,000 after some 2,500 cycles.
+SHORT = SMALL.replace("load = [0.6, 0.1]", "load = [0.02, 0.5]").replace("length = 2", "length = 1")
+SHORT = SHORT.replace("cycles = 300", "cycles = 4000")
+# Python reads this before it begins. Each process that makes a run says so in a file. Where a path is given at which
+# there is no file yet, the one process that makes that file ends itself at once. Where so many runs are wanted at a
+# time, a process says how many there are, and waits until they are so many or a minute is over. Where so many are to go
+# on, the others wait until there is a file.
+AT_START = """
+import os, signal, sys, time
+from pathlib import Path
+
+def watch(event, details):
+    words = [str(word) for word in details[1]] if event == "subprocess.Popen" and "LOG" in os.environ else [""]
+    log, wanted = Path(os.environ.get("LOG", "")), int(os.environ.get("WANTED", 0))
+    own = log.with_suffix(".now") / str(os.getpid())
+    if "run" in words and "--report" not in words:
+        with open(log, "a") as file:
+            file.write(f"{os.getpid()}\\n")
+            file.flush()
+            place = log.read_text()[:file.tell()].count("\\n")
+        while int(os.environ.get("FIRST", place)) < place and not log.with_suffix(".go").exists():
+            time.sleep(0.05)
+        if "KILLED" in os.environ and is_made(os.environ["KILLED"]):
+            os.kill(os.getpid(), signal.SIGKILL)
+        if wanted:
+            own.mkdir(parents=True)
+            crowd(log, own.parent, wanted)
+    elif "trace" in words and own.exists():
+        own.rmdir()
+
+def is_made(path):
+    try:
+        os.close(os.open(path, os.O_CREAT | os.O_EXCL))
+    except FileExistsError:
+        return False
+    return True
+
+def crowd(log, runs, wanted):
+    for _ in range(1200):
+        there = len(list(runs.iterdir()))
+        with open(log.with_suffix(".most"), "a") as file:
+            file.write(f"{there}\\n")
+        if wanted <= there:
+            log.with_suffix(".full").touch()
+        time.sleep(0.05)
+        if log.with_suffix(".full").exists():
+            break
+
+sys.addaudithook(watch)
+"""
+
+
+def lines_of(path):
+    """The lines of a file, if it is there."""
+    return path.read_text().splitlines() if path.exists() else []
+
+
+def rows_of(path):
+    """The rows of a file of CSV by their names."""
+    with open(path, newline="") as file:
+        return list(csv.DictReader(file))
+
+
+class SweepTest(FolderTest):
+    """A test of studies in the folder."""
+
+    def setUp(self):
+        self.put(**{"study.toml": STUDY, "small.toml": SMALL, "short.toml": SHORT})
+        for path in self.folder.glob("*out"):
+            shutil.rmtree(path)
+
+    def sweep(self, *words, **given):
+        """How a sweep ends."""
+        return self.called([sys.executable, "noc-tools", "sweep", *words], **given)
+
+    def watched(self, log, **more):
+        """The environment in which a run writes a line into a file."""
+        (self.folder / "hooks").mkdir(exist_ok=True)
+        self.put(**{"hooks/sitecustomize.py": AT_START})
+        return self.environment | {"PYTHONPATH": str(self.folder / "hooks"), "LOG": str(self.folder / log)} | more
+
+    def results(self, name):
+        """The rows of a folder's results."""
+        return rows_of(self.folder / name / "results.csv")
+
+
+class Runs(SweepTest):
+    def stopped_after(self, count, number, log):
+        """Starts the sweep, of which so many runs go on, and stops it by a signal as from a terminal when their lines
+        are there; its status, and the lines that it left."""
+        results, environment = self.folder / "study" / "results.csv", self.watched(log, FIRST=str(count))
+        wanted = (len(lines_of(results)) or 1) + count
+        started = subprocess.Popen(
+            [sys.executable, "noc-tools", "sweep", "study.toml", "--jobs", "2"], cwd=self.folder, env=environment,
+            stdout=subprocess.DEVNULL, stderr=subprocess.DEVNULL, start_new_session=True,
+            preexec_fn=lambda: signal.signal(signal.SIGINT, signal.SIG_DFL),
+        )
+        late = time.monotonic() + 300
+        while len(lines_of(results)) < wanted and time.monotonic() < late:
+            time.sleep(0.01)
+        os.killpg(started.pid, number)
+        (self.folder / f"{log}.go").touch()
+        return started.wait(300), lines_of(results)
+
+    def test_a_sweep_goes_on_after_a_kill(self):
+        """Of a hundred runs none is lost and none that has a line is made again, after a kill, an interrupt, by which
+        those that have begun are ended, and a line cut off."""
+        results = self.folder / "study" / "results.csv"
+        killed, left = self.stopped_after(20, signal.SIGKILL, "first")
+        interrupted, more = self.stopped_after(30, signal.SIGINT, "second")
+        made = len(lines_of(self.folder / "second"))
+        results.write_text("\n".join(more)[:-5])
+        ended = self.sweep("study.toml", env=self.watched("third"))
+        whole = lines_of(results)
+        again = self.sweep("study.toml", env=self.watched("third"))
+        calls = len(lines_of(self.folder / "third"))
+        names = [line.split(",")[0] for line in whole[1:]]
+        self.assertEqual((killed, interrupted, ended.returncode, again.returncode), (-9, 130, 0, 0))
+        self.assertEqual(len(left), 21)
+        self.assertIn(len(more), (51, 52, 53))
+        self.assertEqual((more[:len(left)], whole[:len(more) - 1]), (left, more[:-1]))
+        self.assertEqual((len(names), len(set(names))), (100, 100))
+        self.assertEqual((made, calls), (len(more) - len(left), 101 - (len(more) - 1)))
+        self.assertIn(more[-1], whole)
+        self.assertTrue(ended.stdout)
+        self.assertEqual(again.stdout, ended.stdout)
+
+    def test_a_run_that_is_killed_is_named(self):
+        """The others go on, and the next sweep makes it."""
+        environment = self.watched("killed", KILLED=str(self.folder / "is_killed"))
+        ran = self.sweep("small.toml", "--out", "killed.out", env=environment)
+        left = self.sweep("small.toml", "--out", "killed.out", "--list").stdout
+        self.assertRefused(ran, f"1 of 8 runs failed, the first: {left.rstrip()}: it ended with status -9", "sweep")
+        self.assertEqual(len(self.results("killed.out")), 7)
+        again = self.sweep("small.toml", "--out", "killed.out", env=environment)
+        self.assertEqual((again.returncode, len(lines_of(self.folder / "killed"))), (0, 9))
+
+    def test_all_processors_are_used(self):
+        """As many runs at a time as processors that may be used, and with --jobs so many."""
+        wanted = {"room": len(os.sched_getaffinity(0)), "three": 3}
+        seeds = list(range(max(wanted.values()) + 1))
+        crowd = re.sub(r"(?m)^(channels|buffer|load) = .*", r"\1 = 1", STUDY)
+        self.put(**{"crowd.toml": re.sub(r"(?m)^seed = .*", f"seed = {seeds}", crowd)})
+        for name, jobs in wanted.items():
+            more = ["--jobs", 3] if name == "three" else []
+            self.sweep("crowd.toml", "--out", f"{name}.out", *more, env=self.watched(name, WANTED=str(jobs)))
+            self.assertEqual(max(map(int, lines_of(self.folder / f"{name}.most"))), jobs)
+
+    def test_results_hold_what_was_run(self):
+        """Eight runs; the digests are those of the program and of the files that --one keeps, whose figures `load`
+        gives too."""
+        self.assertEqual(self.sweep("small.toml", "--out", "one.out").returncode, 0)
+        rows = self.results("one.out")
+        pairs = {(row["kind"], row["rule"]) for row in rows}
+        (row,) = [row for row in rows if (row["kind"], row["load"], row["seed"]) == ("torus", "0.6", "2")]
+        settings = [f"{key}={word}" for key, word in list(row.items())[1:1 + len(SETTINGS)]]
+        self.sweep("--one", *settings, "--files", "kept")
+        digests = [row[f"{name}_digest"] for name in ("program", "configuration", "traffic", "table")]
+        files = [self.folder / "noc", self.folder / "kept" / "config.toml", self.folder / "kept" / "traffic.csv"]
+        expected = [hashlib.sha256(file.read_bytes()).hexdigest()[:16] for file in files]
+        curve = self.said("load", "kept/config.toml", 2, 0.6, "--seed", 2).splitlines()[1].split(",")
+        self.assertEqual((pairs, len(rows)), ({("mesh", "dor"), ("torus", "dateline")}, 8))
+        self.assertEqual(digests, [*expected, "-"])
+        self.assertEqual(curve[1:], [row[name] for name in COLUMNS[1:]])
+
+    def test_commands_give_the_same_lines(self):
+        """Each command of --list prints its line in whatever folder, and --collect takes them; one that is cut off
+        stays to be made."""
+        self.sweep("small.toml", "--out", "one.out")
+        commands = self.sweep("small.toml", "--out", "two.out", "--list").stdout.splitlines()
+        printed = [self.called(shlex.split(command)).stdout for command in commands]
+        self.put(lines="".join(printed[:5]), rest="".join(printed[5:]), torn="".join(printed[5:])[:-9])
+        part = self.sweep("small.toml", "--out", "two.out", "--collect", "lines", "torn")
+        left = self.sweep("small.toml", "--out", "two.out", "--list").stdout.splitlines()
+        whole = self.sweep("small.toml", "--out", "two.out", "--collect", "lines", "rest")
+        one, two = (sorted(lines_of(self.folder / name / "results.csv")) for name in ("one.out", "two.out"))
+        self.assertEqual((len(commands), left, whole.returncode, one), (8, commands[7:], 0, two))
+        told = "1 of 8 runs have no result yet: --list prints their commands"
+        self.assertRefused(part, told, "sweep")
+
+    def test_commands_run_in_whatever_folder(self):
+        command = self.sweep("small.toml", "--list").stdout.splitlines()[0]
+        printed = subprocess.run(shlex.split(command), cwd="/", env=self.environment, capture_output=True, text=True)
+        self.assertEqual((printed.returncode, printed.stdout.count("\n")), (0, 1))
+
+    def test_a_notebook_has_the_rows(self):
+        """Numbers where the files have them, and None for a dash."""
+        with Study(self.folder / "small.toml", self.folder / "rows.out") as study:
+            rows, table = study.make().rows(), study.table()
+        (first,) = [row for row in self.results("rows.out") if row["run"] == rows[0]["run"]]
+        numbers = [rows[0][name] for name in ("load", "seed", "mean", "queue_mean", "hops_max", "table")]
+        self.assertEqual(len(rows), 8)
+        self.assertEqual(numbers, [0.6, 1, *(float(first[name]) for name in ("mean", "queue_mean", "hops_max")), None])
+        self.assertEqual([(row["kind"], row["ran"]) for row in table], [("mesh", 300), ("torus", 300)])
+
+
+class Loads(SweepTest):
+    def test_a_range_has_both_ends(self):
+        """As sums of tenths and hundredths that no binary number is; with a last step that does not fit, without it."""
+        for words, loads in {
+            "0.05:0.3:0.05": ["0.05", "0.1", "0.15", "0.2", "0.25", "0.3"], "0.1:0.1:1": ["0.1"],
+            "0:0.7:0.3": ["0", "0.3", "0.6"], "0:0.999:0.001": [f"{n / 1000:g}" for n in range(1000)],
+        }.items():
+            self.assertEqual(words_of("load", words), loads)
+        self.assertEqual(words_of("load", [0.02, "0.1:0.2:0.1"]), ["0.02", "0.1", "0.2"])
+
+    def test_what_is_no_range(self):
+        for words in "0.1 1:2 a:b:c 0.2:0.1:0.1 0:1:0 0:1:-1 -1:1:1 0:inf:1 nan:1:1 0:1:0.001".split():
+            with self.subTest(words=words), self.assertRaisesRegex(Refused, "loads are A:B:STEP, .*, not"):
+                words_of("load", words)
+
+    def test_a_study_and_a_curve_take_a_range(self):
+        self.put(**{"range.toml": SMALL.replace("load = [0.6, 0.1]", 'load = "0.1:0.6:0.25"'), "c": LINE})
+        self.assertEqual(self.sweep("range.toml", "--list").stdout.count("\n"), 12)
+        loads = [line.split(",")[0] for line in self.said("load", "c", 1, "0.02", "0.1:0.2:0.1").splitlines()]
+        self.assertEqual(loads, ["load", "0.02", "0.1", "0.2"])
+        self.assertRefused(self.tool("load", "c", 1, "0.1:0.2"), "loads are A:B:STEP", "load")
+
+
+class Kept(unittest.TestCase):
+    def test_a_traffic_is_made_once(self):
+        """For a torus that of a mesh is taken, and for another seed, radix or end another one is made."""
+        mesh = Network("mesh", (4, 4), 2, 2, 1, "dor", 300)
+        torus, demand = replace(mesh, kind="torus", rule="dateline"), Demand("uniform", 0.2, 2)
+        made = [Experiment(network, demand, Window(10, 90)).made for network in (mesh, torus)]
+        others = [
+            (mesh, replace(demand, seed=2)), (replace(mesh, radix=(2, 8)), demand), (replace(mesh, cycles=99), demand),
+        ]
+        self.assertIs(*made)
+        for network, asked in [(mesh, demand), *others]:
+            found = Experiment(network, asked, Window(10, 90)).made
+            self.assertEqual((found.text, found.cycles), (asked.traffic(network), network.cycles))
+
+    def test_a_process_gets_what_shares_something(self):
+        """Of words by their first letter: the others of its letter first, then a letter that none has had, then any."""
+        waiting = Waiting(["ant", "bee", "ape", "cow", "bat"], lambda word: word[0])
+        asked = [None, "a", None, "a", "b"]
+        self.assertEqual([waiting.next(last) for last in asked], [
+            (0, "ant"), (2, "ape"), (1, "bee"), (3, "cow"), (4, "bat"),
+        ])
+        self.assertEqual(waiting.groups, {})
+
+
+def greatest(loads, holds):
+    """The last load before the first for which it does not hold."""
+    up_to = "-"
+    for load in loads:
+        if not holds[load]:
+            break
+        up_to = load
+    return up_to
+
+
+REACHED = ("keeps_up_load", "steady_load", "saturation_load", "keeps_up_to", "steady_to", "saturation")
+
+
+class Table(unittest.TestCase):
+    def row(self, stays, unsteady, at=None, seeds=(0,)):
+        """The row of a network of two channels that accepts 0.28 of 0.3, and nearly all of other loads. At one load a
+        packet stays, and one is not steady. A seed accepts so much more than the others."""
+        words = {"kind": "mesh", "radix": "4x4", "channels": "2", "buffer": "3", "flit_bytes": "-"}
+        pairs = (0.1, 0.1), (0.2, 0.19), (0.3, 0.28), (0.4, 0.4), (0.5, 0.49)
+        rows = [
+            words | {
+                "load": str(load), "seed": str(more), "ran": str(round(300 - load * 10)), "packets": "9",
+                "out": "8" if load == stays else "9", "steady": "no" if load == unsteady else "yes",
+                "offered": str(load), "accepted": str(accepted + more), "mean": str(load * 100), "p95": "-",
+                "p99": "9", "queue_mean": "1.0", "network_mean": "2.0",
+            }
+            for load, accepted in pairs for more in seeds
+        ]
+        (combination,) = combinations_of(rows)
+        return row_of(combination, ["channels"], at)
+
+    def test_it_is_that_of_the_lines(self):
+        row = self.row(stays=0.5, unsteady=0.2)
+        self.assertEqual(row, {
+            "channels": 2, "places": 6, "latency_load": 0.1, "mean": 10, "p95": None, "p99": 9, "queue_mean": 1,
+            "network_mean": 2, "keeps_up_to": 0.19, "keeps_up_load": 0.2, "steady_to": 0.1, "steady_load": 0.1,
+            "saturation": 0.49, "saturation_load": 0.5, "saturation_least": 0.49, "saturation_most": 0.49,
+            "capacity": 1, "of_capacity": 0.49, "ran": 295, "steady": "yes",
+        })
+        self.assertEqual(",".join(table_words(row)), (
+            "2,6,0.1,10.0,-,9,1.0,2.0,0.1900,0.2,0.1000,0.1,0.4900,0.5,0.4900,0.4900,1.0000,0.490,295,yes"
+        ))
+
+    def test_a_packet_that_stays_does_not_keep_up(self):
+        names = ("keeps_up_to", "keeps_up_load", "steady_load")
+        self.assertEqual([self.row(stays=0.2, unsteady=0.1)[name] for name in names], [0.1, 0.1, None])
+
+    def test_latencies_are_at_the_load_that_is_asked_for(self):
+        """At 0.4 the mean is 40, and at 0.35 there is none."""
+        for at, mean in (0.4, 40), (0.35, None):
+            row = self.row(stays=0.5, unsteady=0.5, at=at)
+            self.assertEqual((row["latency_load"], row["mean"], row["steady"]), (at, mean, "no"))
+
+    def test_seeds_have_a_spread(self):
+        row = self.row(stays=0.5, unsteady=0.5, seeds=(0, 0.02))
+        found = [round(row[name], 9) for name in ("saturation", "saturation_least", "saturation_most")]
+        self.assertEqual(found, [0.5, 0.49, 0.51])
+
+    def test_capacity_is_that_of_the_book(self):
+        """Of k nodes in a row, as many rows as there may be: 4/k where k is even, and for uniform traffic of an odd k
+        4k/(k^2 - 1); twice that on a torus; and a node takes one flit in a cycle."""
+        for kind, radix, expected in [
+            ("mesh", (8, 8), 0.5), ("torus", (8, 8), 1), ("mesh", (16, 4), 0.25), ("torus", (16,), 0.5),
+            ("mesh", (5, 5), 20 / 24), ("mesh", (2, 2), 1), ("torus", (4, 4), 1),
+        ]:
+            self.assertEqual(capacity(kind, radix), expected, (kind, radix))
+
+
+class Shown(SweepTest):
+    def picture(self, path):
+        """The words of a picture."""
+        return texts_of(ElementTree.parse(self.folder / path).getroot())
+
+    def borne(self, rows):
+        """What a network bears, by its results: means over two seeds, the greatest accepted load, and what is accepted
+        up to where it keeps up and is steady."""
+        loads = ("0.1", "0.6")
+        mine = {load: [row for row in rows if row["load"] == load] for load in loads}
+        mean, accepted, offered = (
+            {load: sum(float(row[name]) for row in mine[load]) / 2 for load in loads}
+            for name in ("mean", "accepted", "offered")
+        )
+        is_whole = {load: all(row["packets"] == row["out"] for row in mine[load]) for load in loads}
+        keeps_up = {load: is_whole[load] and accepted[load] >= 0.95 * offered[load] for load in loads}
+        steady = {load: all(row["steady"] == "yes" for row in mine[load]) for load in loads}
+        reached = [greatest(loads, keeps_up), greatest(loads, steady), max(accepted, key=accepted.get)]
+        loads = ["-" if load == "-" else f"{accepted[load]:.4f}" for load in reached]
+        return ["0.1", f"{mean['0.1']:.1f}", *reached, *loads, "300"]
+
+    def test_the_table_says_what_a_network_bears(self):
+        said = list(csv.DictReader(self.sweep("small.toml", "--out", "one.out").stdout.splitlines()))
+        rows = self.results("one.out")
+        self.assertEqual(len(said), 2)
+        for line in said:
+            expected = self.borne([row for row in rows if row["kind"] == line["kind"]])
+            self.assertEqual([line[key] for key in ("latency_load", "mean", *REACHED, "ran")], expected)
+        for name in ("latency", "p95", "p99", "accepted"):
+            self.assertLessEqual({"mesh, dor", "torus, dateline"}, set(self.picture(f"one.out/{name}.svg")))
+
+    def test_a_shortened_run_is_told(self):
+        """In the table, in the pictures and on standard error; a study of which no run is shortened is silent."""
+        whole, short = (self.sweep(f"{name}.toml", "--out", f"{name}.out") for name in ("small", "short"))
+        rows = [row for row in self.results("short.out") if row["ran"] != "4000"]
+        least = {kind: min(int(row["ran"]) for row in rows if row["kind"] == kind) for kind in ("mesh", "torus")}
+        shortest = min(least.values())
+        told = "noc-tools sweep: noc takes 20000 packets, so 4 of 8 runs had fewer cycles than asked"
+        self.assertEqual((whole.stderr, short.stderr), ("", f"{told}: the shortest had {shortest} of 4000\n"))
+        table = {line["kind"]: int(line["ran"]) for line in csv.DictReader(short.stdout.splitlines())}
+        self.assertEqual((table, len(rows)), (least, 4))
+        self.assertLess(shortest, 2700)
+        self.assertNotIn("shortest run", self.picture("small.out/latency.svg")[1])
+        self.assertTrue(self.picture("short.out/latency.svg")[1].endswith(f"; shortest run: {shortest} cycles"))
+
+    def test_names_count_rightly(self):
+        """One channel, one place and one flit, and of others more."""
+        plural = SHORT.replace("channels = 2", "channels = [1, 2]").replace("buffer = 2", "buffer = 1")
+        plural = plural.replace(', { kind = "torus", rule = "dateline" }', "")
+        self.put(**{"plural.toml": plural.replace("4000", "400")})
+        self.sweep("plural.toml", "--out", "plural.out")
+        texts = self.picture("plural.out/latency.svg")
+        subtitle = "mesh, 4x4, dor, 1 place, uniform, 1 flit, 400 cycles, window 133:266; mean over 2 seeds"
+        self.assertEqual(texts[1], subtitle)
+        self.assertLessEqual({"1 channel", "2 channels"}, set(texts))
+
+
+def put_program(clone, name, behind):
+    """Puts the program with some bytes behind it in the place of a built one, with what a build keeps beside it."""
+    built = clone / "crates" / "noc" / "out" / name
+    built.write_bytes(PROGRAM.read_bytes() + behind)
+    built.chmod(0o755)
+    listed = subprocess.run([clone / "noc", "--sources"], stdout=subprocess.PIPE).stdout
+    built.with_name(f"{name}.sources").write_bytes(listed)
+    for path in (built, built.with_name(f"{name}.sources")):
+        os.utime(path, ns=(0, 10**18))
+
+
+class Programs(SweepTest):
+    def clone(self):
+        """A clone with both programs built, which differ by their names behind them."""
+        clone = self.folder / "clone"
+        (clone / "crates" / "noc" / "out").mkdir(parents=True)
+        shutil.copytree(TOP / "noc_tools", clone / "noc_tools")
+        for name in ("noc", "noc-tools"):
+            shutil.copy2(TOP / name, clone / name)
+        (clone / "crates.txt").touch()
+        for name in ("noc", "noc_avx2"):
+            put_program(clone, name, name.encode())
+        return clone
+
+    def test_digests_are_of_the_program_that_runs(self):
+        """The launcher of a clone runs one of two programs. A sweep goes on with the same one, and not where it has
+        changed."""
+        clone = self.clone()
+        studies = [clone / name for name in ("small.toml", "larger.toml")]
+        studies[0].write_text(SMALL)
+        studies[1].write_text(SMALL.replace("seed = [1, 2]", "seed = [1, 2, 3]"))
+        command = [sys.executable, "noc-tools", "sweep"]
+        given = {"cwd": clone, "env": self.environment, "capture_output": True, "text": True}
+        for _ in range(2):
+            first = subprocess.run([*command, studies[0], "--out", "one"], **given)
+            self.assertEqual(first.returncode, 0, first.stderr)
+            studies[0].write_text(SMALL.replace("load = [0.6, 0.1]", "load = [0.6, 0.1, 0.2]"))
+        which = subprocess.run(["./noc", "--which"], **given).stdout.removesuffix("\n")
+        digest = hashlib.sha256(Path(which).read_bytes()).hexdigest()[:16]
+        put_program(clone, Path(which).name, b"another")
+        second = subprocess.run([*command, studies[1], "--out", "one"], **given)
+        self.assertEqual([row["program_digest"] for row in rows_of(clone / "one" / "results.csv")], [digest] * 12)
+        self.assertEqual(second.returncode, 1)
+        self.assertIn(f"results of the program {digest}", second.stderr)
+
+    def test_a_script_that_names_no_program_is_refused(self):
+        """In the place of the program, one that passes the word on to a program that does not know it."""
+        environment = self.in_place_of_the_program('#!/bin/bash\nexec "$PROGRAM" "$@"\n')
+        ran = self.sweep("small.toml", "--out", "unnamed.out", env=environment)
+        self.assertRefused(ran, "--which does not say which program it runs", "sweep")
+
+    def test_results_of_another_program_are_refused(self):
+        self.sweep("small.toml", "--out", "one.out")
+        lines = lines_of(self.folder / "one.out" / "results.csv")
+        path = self.folder / "other.out" / "results.csv"
+        path.parent.mkdir()
+        digest = hashlib.sha256(PROGRAM.read_bytes()).hexdigest()[:16]
+        path.write_text("\n".join([lines[0], *(line.replace(digest, "0" * 16) for line in lines[1:4])]) + "\n")
+        ran = self.sweep("small.toml", "--out", "other.out")
+        self.assertRefused(ran, "results of the program 0000000000000000", "sweep")
+        self.assertEqual(len(lines_of(path)), 4)
