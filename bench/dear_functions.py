@@ -1,15 +1,19 @@
 #!/usr/bin/env python3
 """Lists the functions of crates that cost most to check, dearest first.
 
-    dear_functions.py [--most N] [--kept | --goals] CRATE..
+    dear_functions.py [--most N] [--kept | --goals] [--page] [CRATE..]
 
-Each crate is checked from nothing by one job in a copy, whose libraries are those of this checkout; with --kept nothing is checked, and
-the last check from nothing is read, which has to have been by one job. A check keeps what it has proved of a function in a few
-files as it goes, so what a file cost is the time since the one before it. A function's seconds are those of its contract, its code, its
-goals and what was written of its proof; a file of lemmas has a line of its own. The last line of a crate has the sum.
+Each crate is checked from nothing by one job in a copy, whose libraries are those of this checkout; with --kept
+nothing is checked, and the last check from nothing is read, which has to have been by one job. A check keeps what it
+has proved of a function in a few files as it goes, so what a file cost is the time since the one before it. A
+function's seconds are those of its contract, its code, its goals and what was written of its proof; a file of lemmas
+has a line of its own. The last line of a crate has the sum.
 
-With --goals the last check from nothing is read too, by however many jobs, but only what the goals of each function cost: the time from
-the file kept before them, of the same function, to theirs, answers included. DEAR.md beside this script was made so.
+With --goals the last check from nothing is read too, by however many jobs, but only what the goals of each function
+cost: the time from the file kept before them, of the same function, to theirs, answers included.
+
+Where no crate is named, all of crates.txt are taken that have something to read. With --page a page is printed; DEAR.md
+beside this script is what '--goals --page' printed last.
 """
 import argparse
 import re
@@ -18,6 +22,7 @@ import subprocess
 import sys
 import tempfile
 from collections import Counter
+from datetime import date
 from pathlib import Path
 
 TOP = Path(__file__).resolve().parent.parent
@@ -29,7 +34,8 @@ def function_of(module, crate):
     """The function, the type or the file of lemmas that a kept file is about."""
     name = module.removeprefix(f"Rattle-{crate}").lstrip(".-")
     parts = re.sub(r"^(proofs|specs\.contracts|specs\.declared|specs)\.?", "", name).split(".")
-    known = ("Proof", "Answers", "Lts", "Kinds", "Code", "Key", "Tie", "Statement", "Met", "Named", "Symbol", "Layout", "Carried", "Given",
+    known = ("Proof", "Answers", "Lts", "Kinds", "Code", "Key", "Tie", "Statement", "Met", "Named", "Symbol",
+             "Layout", "Carried", "Given",
              "Invariants", "Goals", "View", "TheLink", "TheImpl", "TheVariants", "Reads", "Pair", "Paired", "Mir")
     while len(parts) > 1 and parts[-1].partition("-")[0] in known:
         parts.pop()
@@ -46,7 +52,8 @@ def seconds_of(out, crate):
 
 
 def goals_of(out, crate):
-    """What the goals of each function cost, by the same times: a function is checked by one process, whatever the number of jobs."""
+    """What the goals of each function cost, by the same times: a function is checked by one process, whatever the
+    number of jobs."""
     kept = {}
     for it in out.glob("incremental/*/*.oantt"):
         module = it.stem.removesuffix(".decls")
@@ -55,7 +62,8 @@ def goals_of(out, crate):
     for function, files in kept.items():
         files.sort()
         for (before, kind), (after, next_kind) in zip(files, files[1:]):
-            is_goals = next_kind in ("Answers", "Proof") and kind in ("Tie", "View", "Goals", "Answers", "Named", "Layout")
+            is_goals = next_kind in ("Answers", "Proof") and kind in ("Tie", "View", "Goals", "Answers", "Named",
+                                                                      "Layout")
             if is_goals and after - before < BETWEEN_CHECKS:
                 cost[function] += after - before
     return cost
@@ -68,29 +76,68 @@ def checked(crate, room):
     for name in ("crates.txt", "HANDLES"):
         shutil.copy(TOP / name, room)
     shutil.rmtree(copy / crate / "out", ignore_errors=True)
-    ran = subprocess.run(["rt", "check", "--jobs", "1"], cwd=copy / crate, stdin=subprocess.DEVNULL, capture_output=True, text=True)
+    ran = subprocess.run(["rt", "check", "--jobs", "1"], cwd=copy / crate, stdin=subprocess.DEVNULL,
+                         capture_output=True, text=True)
     if ran.returncode:
         sys.exit(f"{crate} is not proved:\n{ran.stdout[-2000:]}")
     return copy / crate / "out"
 
 
+PAGE = """# The functions whose goals cost most to check
+
+`bench/dear_functions.py --goals --page` printed this page on {day} from the checks that were kept then. A row has the
+seconds in which the goals of a function were proved when its crate was last checked from nothing, above what its code
+and its crate cost by themselves. Other work on the machine makes them higher, so compare them with one another. Crates
+of which no check is kept are missing. The page says where to look first when a crate is slow, and is printed anew
+rather than kept up with the code.
+
+| Function | Crate | Seconds |
+|---|---|--:|
+{functions}
+
+These are the sums over all functions of a crate:
+
+| Crate | Seconds |
+|---|--:|
+{crates}"""
+
+
+def crates_with_goals():
+    """The crates of which a check has kept something, in the order of crates.txt."""
+    names = re.findall(r"^(\w+):", (TOP / "crates.txt").read_text(), re.MULTILINE)
+    return [name for name in names if any((TOP / "crates" / name / "out").glob("incremental/*/*.oantt"))]
+
+
+def show(rows, crates, most, is_page):
+    dear = sorted(rows, reverse=True)[:most]
+    sums = [(sum(it[0] for it in rows if it[1] == crate), crate) for crate in crates]
+    if is_page:
+        functions = "\n".join(f"| `{function}` | `{crate}` | {seconds:.1f} |" for seconds, crate, function in dear)
+        print(PAGE.format(day=date.today(), functions=functions,
+                          crates="\n".join(f"| `{crate}` | {seconds:.1f} |" for seconds, crate in sums)))
+        return
+    for seconds, crate, function in dear:
+        print(f"{seconds:7.1f} s  {crate}  {function}")
+    for seconds, crate in sums:
+        print(f"{seconds:7.1f} s  {crate} in all")
+
+
 def main():
     options = argparse.ArgumentParser(description=__doc__, formatter_class=argparse.RawDescriptionHelpFormatter)
-    options.add_argument("crates", nargs="+", metavar="CRATE")
+    options.add_argument("crates", nargs="*", metavar="CRATE")
     options.add_argument("--most", type=int, default=60, help="how many functions to list (60)")
     options.add_argument("--kept", action="store_true", help="read what the last check kept")
     options.add_argument("--goals", action="store_true", help="read of it what goals cost, whatever the number of jobs")
+    options.add_argument("--page", action="store_true", help="print a page")
     asked = options.parse_args()
-    rows = []
-    for crate in asked.crates:
+    crates, rows = asked.crates or crates_with_goals(), []
+    for crate in crates:
         kept = TOP / "crates" / crate / "out"
         with tempfile.TemporaryDirectory() as room:
-            cost = goals_of(kept, crate) if asked.goals else seconds_of(kept if asked.kept else checked(crate, room), crate)
+            cost = goals_of(kept, crate) if asked.goals else seconds_of(kept if asked.kept else checked(crate, room),
+                                                                        crate)
         rows += [(seconds, crate, function) for function, seconds in cost.items()]
-    for seconds, crate, function in sorted(rows, reverse=True)[: asked.most]:
-        print(f"{seconds:7.1f} s  {crate}  {function}")
-    for crate in asked.crates:
-        print(f"{sum(it[0] for it in rows if it[1] == crate):7.1f} s  {crate} in all")
+    show(rows, crates, asked.most, asked.page)
 
 
 if __name__ == "__main__":

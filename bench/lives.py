@@ -1,12 +1,12 @@
 #!/usr/bin/env python3
-"""Measures why.py and timeline.py on the network of make_saturated.py, with the program of this repository.
+"""Measures the commands why and timeline on the network of make_saturated.py, with the program that runs here.
 
     lives.py FOLDER [--each N] [--times N]
 
-FOLDER has saturated.toml and saturated.csv. N packets of each of these kinds are
-asked about: those that took longest, those in the middle, those that never came in, and those that stand at another router
-than their source in the last cycle. A line is one call: the least of so many times, in seconds of the clock, and whether that
-is within two seconds. The last lines name the worst calls.
+FOLDER has saturated.toml and saturated.csv. N packets of each of these kinds are asked about: those that took
+longest, those in the middle, those that never came in, and those that stand at another router than their source in
+the last cycle. A line is one call: the least of so many times, in seconds of the clock, and whether that is within
+two seconds. The last lines name the worst calls.
 """
 import argparse
 import subprocess
@@ -14,83 +14,89 @@ import sys
 import time
 from pathlib import Path
 
+sys.path.append(str(Path(__file__).resolve().parent.parent))
+from noc_tools import Run  # noqa: E402
+from noc_tools.program import DONE, STUCK, program  # noqa: E402
+
+TOOLS = Path(__file__).resolve().parent.parent / "noc-tools"
 LIMIT = 2.0
+SLOWEST = 5
 
 
-def timed(words, times):
-    best, said = None, ""
-    for _ in range(times):
-        begin = time.perf_counter()
-        ran = subprocess.run(words, stdout=subprocess.PIPE, stderr=subprocess.PIPE, text=True)
-        took = time.perf_counter() - begin
-        if ran.returncode not in (0, 5):
-            sys.exit(f"{' '.join(map(str, words))}: status {ran.returncode}: {ran.stderr}")
-        best, said = took if best is None else min(best, took), ran.stdout
-    return best, said
+class Calls:
+    """Calls, each with the least of some times."""
+
+    def __init__(self, files, times):
+        self.files, self.times, self.took = files, times, []
+
+    def time(self, name, command, *words):
+        """Times a call on the files, says how long it took, and returns what it prints."""
+        called = [*command, *self.files, *map(str, words)]
+        best = float("inf")
+        for _ in range(self.times):
+            begin = time.perf_counter()
+            ran = subprocess.run(called, capture_output=True, text=True)
+            best = min(best, time.perf_counter() - begin)
+            if ran.returncode not in (DONE, STUCK):
+                sys.exit(f"{' '.join(map(str, called))}: status {ran.returncode}: {ran.stderr}")
+        self.took.append((best, name))
+        print(f"{best:6.2f} s  {'ok  ' if best <= LIMIT else 'SLOW'}  {name}", flush=True)
+        return ran.stdout
+
+    def time_packet(self, kind, packet, last):
+        """Times all that can be asked about a packet."""
+        why, timeline = ([TOOLS, command] for command in ("why", "timeline"))
+        number, end = packet.number, last if packet.out is None else packet.out
+        said = self.time(f"why {number}, {kind}", why, number).splitlines()
+        waits = [line for line in said if " cycles of " in line and f" at router {packet.source}," not in line]
+        print(f"          {len(waits)} of the long waits are at other routers than its source")
+        for cycle in (packet.due, (packet.due + end) // 2, min(end + 1, last)):
+            self.time(f"why {number} {cycle}, {kind}", why, number, cycle)
+        self.time(f"timeline {number}, {kind}", timeline, number)
 
 
-def spread(rows, number):
+def spread(packets, number):
     """So many of these, from the first to the last."""
-    return [rows[place * (len(rows) - 1) // max(1, number - 1)] for place in range(min(number, len(rows)))]
+    return [packets[at * (len(packets) - 1) // max(1, number - 1)] for at in range(min(number, len(packets)))]
 
 
-def kinds(noc, files, each):
-    """Packets by kind: the number of each and its row in the latency report."""
-    lines = subprocess.run([noc, "run", *files], stdout=subprocess.PIPE, text=True).stdout.splitlines()[1:]
-    rows = [line.split(",") for line in lines]
-    out = sorted((row for row in rows if row[6] != "-"), key=lambda row: int(row[7]))
-    last = str(int(next(line for line in Path(files[0]).read_text().splitlines() if line.startswith("cycles")).split("=")[1]) - 1)
-    trace = subprocess.run([noc, "trace", *files, "--from", last, "--to", last], stdout=subprocess.PIPE, text=True).stdout.splitlines()[1:]
+def kinds(run, last, each):
+    """Packets by kind."""
+    out = sorted((packet for packet in run.packets if packet.out is not None), key=lambda packet: packet.latency)
     stands = {}
-    for line in trace:
-        cycle, router, port, vc, verdict, packet, *_ = line.split(",")
-        stands.setdefault(int(packet), []).append((int(router), verdict))
-    behind = [rows[number] for number, places in sorted(stands.items()) if any(router != int(rows[number][1]) for router, _ in places)]
-    never = [row for row in rows if row[6] == "-" and int(row[0]) not in stands]
+    for finding in run.trace(first=last, last=last):
+        stands.setdefault(finding.packet, set()).add(finding.router)
+    behind = [run.packets[number] for number in sorted(stands) if stands[number] != {run.packets[number].source}]
+    never = [packet for packet in run.packets if packet.out is None and packet.number not in stands]
     return {
         "took longest": out[-each:],
-        "in the middle": spread(out[len(out) // 4 : 3 * len(out) // 4], each),
+        "in the middle": spread(out[len(out) // 4:3 * len(out) // 4], each),
         "never came in": spread(never, each),
         "stands on its way at the end": spread(behind, each),
-    }, int(last)
+    }
 
 
 def main():
-    parser = argparse.ArgumentParser()
+    parser = argparse.ArgumentParser(description=__doc__, formatter_class=argparse.RawDescriptionHelpFormatter)
     parser.add_argument("folder", type=Path)
     parser.add_argument("--each", type=int, default=3)
     parser.add_argument("--times", type=int, default=2)
     options = parser.parse_args()
-    top = Path(__file__).resolve().parent.parent
-    noc, examples = top / "noc", top / "examples"
-    files = [str(options.folder / "saturated.toml"), str(options.folder / "saturated.csv")]
-    subprocess.run([noc, "--help"], stdout=subprocess.DEVNULL, stderr=subprocess.DEVNULL)
-    asked, last = kinds(noc, files, options.each)
-    calls = []
-
-    def call(name, words):
-        took, said = timed(words, options.times)
-        calls.append((took, name))
-        print(f"{took:6.2f} s  {'ok  ' if took <= LIMIT else 'SLOW'}  {name}", flush=True)
-        return said
-
+    files = [str(options.folder / f"saturated.{end}") for end in ("toml", "csv")]
+    run, noc, calls = Run(*files), program(), Calls(files, options.times)
+    last = run.network.cycles - 1
+    asked = kinds(run, last, options.each)
     first = asked["took longest"][-1]
-    call("noc run", [noc, "run", *files])
-    call("noc trace, last cycle alone", [noc, "trace", *files, "--from", str(last)])
-    call("noc trace --packet", [noc, "trace", *files, "--packet", first[0]])
-    call("noc trace --router", [noc, "trace", *files, "--router", first[1]])
-    call("noc trace --router --changes", [noc, "trace", *files, "--router", first[1], "--changes"])
-    for kind, rows in asked.items():
-        for row in rows:
-            number, source, due, out = row[0], row[1], int(row[5]), last if row[6] == "-" else int(row[6])
-            said = call(f"why.py {number}, {kind}", [sys.executable, examples / "why.py", *files, number])
-            waits = [line for line in said.splitlines() if " cycles of " in line and f" at router {source}," not in line]
-            print(f"          {len(waits)} of the long waits are at other routers than its source")
-            for cycle in (due, (due + out) // 2, min(out + 1, last)):
-                call(f"why.py {number} {cycle}, {kind}", [sys.executable, examples / "why.py", *files, number, str(cycle)])
-            call(f"timeline.py {number}, {kind}", [sys.executable, examples / "timeline.py", *files, number])
+    calls.time("noc run", [noc, "run"])
+    calls.time("noc trace, last cycle alone", [noc, "trace"], "--from", last)
+    calls.time("noc trace --packet", [noc, "trace"], "--packet", first.number)
+    calls.time("noc trace --router", [noc, "trace"], "--router", first.source)
+    calls.time("noc trace --router --changes", [noc, "trace"], "--router", first.source, "--changes")
+    for kind, packets in asked.items():
+        for packet in packets:
+            calls.time_packet(kind, packet, last)
     print("\nthe slowest:")
-    for took, name in sorted(calls, reverse=True)[:5]:
+    for took, name in sorted(calls.took, reverse=True)[:SLOWEST]:
         print(f"{took:6.2f} s  {name}")
 
 

@@ -1,44 +1,42 @@
 #!/usr/bin/env python3
-"""Writes a network to measure why.py and timeline.py with: FOLDER/saturated.toml and FOLDER/saturated.csv.
+"""Writes a network to measure the commands why and timeline with: FOLDER/saturated.toml and FOLDER/saturated.csv.
 
     make_saturated.py FOLDER
 
-A mesh of 16 by 16 with two channels and four places, 20,000 cycles, dimension order; packets of 64 flits, half of them by
-transpose and half of them uniform, at more than the network takes (4.7 flits in 20 cycles at each node). The same bytes on
-every machine. bench/lives.py measures with it.
+A mesh of 16 by 16 with two channels and four places, 20,000 cycles, dimension order; packets of 64 flits, half of them
+by transpose and half of them uniform, at more than the network takes (4.7 flits in 20 cycles at each node). The same
+bytes on every machine. bench/lives.py measures with it.
 """
 import sys
+from itertools import islice
 from pathlib import Path
 from random import Random
 
-CONFIG = """kind = "mesh"
-radix = [16, 16]
-channels = 2
-buffer = 4
-classes = 1
-rule = "dor"
-cycles = 20000
-"""
-NODES, CYCLES, LENGTH, LOAD, MOST = 256, 20000, 64, 0.235, 20000
+sys.path.append(str(Path(__file__).resolve().parent.parent))
+from noc_tools.network import Network  # noqa: E402
+from noc_tools.traffic import LONGEST, MOST_PACKETS, below, traffic_text  # noqa: E402
+
+NETWORK = Network("mesh", (16, 16), 2, 4, 1, "dor", 20000)
+LOAD = 0.235
 
 
 def packets(random):
-    for due in range(CYCLES):
-        for source in range(NODES):
-            if random.random() < LOAD / LENGTH:
+    for due in range(NETWORK.cycles):
+        for source in range(NETWORK.nodes):
+            if random.random() < LOAD / LONGEST:
                 across = source % 16 * 16 + source // 16
-                other = int(random.random() * NODES)
+                other = below(random, NETWORK.nodes)
                 goes_to = across if random.random() < 0.5 else other
                 if goes_to != source:
-                    yield source, goes_to, 0, LENGTH, due
+                    yield source, goes_to, 0, LONGEST, due
 
 
 def main():
     folder = Path(sys.argv[1])
     folder.mkdir(parents=True, exist_ok=True)
-    rows = list(packets(Random(41)))[:MOST]
-    (folder / "saturated.toml").write_text(CONFIG)
-    (folder / "saturated.csv").write_text("\n".join(["source,destination,class,length,due", *(",".join(map(str, row)) for row in rows), ""]))
+    rows = list(islice(packets(Random(41)), MOST_PACKETS))
+    (folder / "saturated.toml").write_text(NETWORK.text())
+    (folder / "saturated.csv").write_text(traffic_text(rows))
     print(f"{len(rows)} packets in {folder}/saturated.csv")
 
 

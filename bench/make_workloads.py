@@ -3,13 +3,18 @@
 
     make_workloads.py FOLDER
 
-What is random comes from the generator below alone, so the files never differ from one machine to the next. Each workload
-stays within the simulator's limits. The load that is offered is in flits per node and cycle.
+What is random comes from the generator below alone, so the files never differ from one machine to the next. Each
+workload stays within the simulator's limits. The load that is offered is in flits per node and cycle.
 """
-import math
 import sys
-from dataclasses import dataclass
+from collections.abc import Callable
+from dataclasses import dataclass, replace
+from functools import cached_property
 from pathlib import Path
+
+sys.path.append(str(Path(__file__).resolve().parent.parent))
+from noc_tools.network import Network  # noqa: E402
+from noc_tools.traffic import MOST_PACKETS, traffic_text  # noqa: E402
 
 MULTIPLIER = 6364136223846793005
 INCREMENT = 1442695040888963407
@@ -69,82 +74,66 @@ def hotspot(nodes, spots, percent):
     return destination
 
 
-def traffic(seed, nodes, classes, lengths, span, pattern, packets=20000):
-    """Rows of packets with uniform sources, due uniformly in the cycles 0 to span-1."""
-    random = Random(seed)
-    rows = []
-    while len(rows) < packets:
-        source = random.below(nodes)
-        destination = pattern(random, source)
-        if destination is not None:
-            # (the order of the draws is part of the workload)
-            message_class, length = random.below(classes), random.one_of(lengths)
-            rows.append((source, destination, message_class, length, random.below(span)))
-    return rows
-
-
 @dataclass
 class Workload:
-    name: str
-    kind: str
-    radix: list
-    channels: int
-    buffer: int
-    classes: int
-    rule: str
-    cycles: int
-    rows: list
+    """A network, and packets with uniform sources that are due uniformly in the cycles 0 to span - 1."""
 
-    def routers(self):
-        return math.prod(self.radix)
+    name: str
+    network: Network
+    seed: int
+    lengths: list
+    span: int
+    pattern: Callable
+    packets: int = MOST_PACKETS
+
+    @cached_property
+    def rows(self):
+        """The rows of the packets."""
+        random = Random(self.seed)
+        rows = []
+        while len(rows) < self.packets:
+            source = random.below(self.network.nodes)
+            destination = self.pattern(random, source)
+            if destination is not None:
+                # (the order of the draws is part of the workload)
+                message_class, length = random.below(self.network.classes), random.one_of(self.lengths)
+                rows.append((source, destination, message_class, length, random.below(self.span)))
+        return rows
 
     def config(self, cycles=None):
         """The configuration's text, by default with the workload's own number of cycles."""
-        return (
-            f'kind = "{self.kind}"\n'
-            f"radix = {self.radix}\n"
-            f"channels = {self.channels}\n"
-            f"buffer = {self.buffer}\n"
-            f"classes = {self.classes}\n"
-            f'rule = "{self.rule}"\n'
-            f"cycles = {cycles or self.cycles}\n"
-        )
+        return replace(self.network, cycles=cycles or self.network.cycles).text()
 
     def traffic(self):
-        lines = ["source,destination,class,length,due", *(",".join(map(str, row)) for row in self.rows)]
-        return "".join(f"{line}\n" for line in lines)
+        """The text of the traffic."""
+        return traffic_text(self.rows)
 
 
 def workloads():
-    uniform_64, uniform_256 = uniform(64), uniform(256)
+    mesh8, mesh16 = Network("mesh", (8, 8), 4, 4, 1, "dor", 0), Network("mesh", (16, 16), 4, 8, 1, "dor", 44000)
     return [
         # 0.11, some 30% of what the network takes
-        Workload("a_long", "mesh", [8, 8], 4, 4, 1, "dor", 182000, traffic(2, 64, 1, [64], 181800, uniform_64)),
+        Workload("a_long", replace(mesh8, cycles=182000), 2, [64], 181800, uniform(64)),
         # the same load in short packets
-        Workload("a_mesh8_30", "mesh", [8, 8], 4, 4, 1, "dor", 11500, traffic(1, 64, 1, [4], 11400, uniform_64)),
+        Workload("a_mesh8_30", replace(mesh8, cycles=11500), 1, [4], 11400, uniform(64)),
         # 0.5, more than it takes; packets are left at the end
-        Workload("b_long", "mesh", [8, 8], 4, 4, 1, "dor", 62000, traffic(4, 64, 1, [64], 40000, uniform_64)),
-        Workload("b_mesh8_sat", "mesh", [8, 8], 4, 4, 1, "dor", 3300, traffic(3, 64, 1, [4], 2500, uniform_64)),
+        Workload("b_long", replace(mesh8, cycles=62000), 4, [64], 40000, uniform(64)),
+        Workload("b_mesh8_sat", replace(mesh8, cycles=3300), 3, [4], 2500, uniform(64)),
         # 0.15
-        Workload("c_torus8", "torus", [8, 8], 2, 4, 1, "dateline", 133500, traffic(5, 64, 1, [64], 133000, uniform_64)),
+        Workload("c_torus8", Network("torus", (8, 8), 2, 4, 1, "dateline", 133500), 5, [64], 133000, uniform(64)),
         # 0.12, more than it takes
-        Workload(
-            "d_transpose16", "mesh", [16, 16], 4, 8, 1, "dor", 44000, traffic(6, 256, 1, [64], 41000, transpose(16))
-        ),
+        Workload("d_transpose16", mesh16, 6, [64], 41000, transpose(16)),
         # ten packets in all
-        Workload(
-            "e_idle16", "mesh", [16, 16], 4, 4, 1, "dor", 20000, traffic(7, 256, 1, [4], 20000, uniform_256, packets=10)
-        ),
+        Workload("e_idle16", replace(mesh16, buffer=4, cycles=20000), 7, [4], 20000, uniform(256), packets=10),
         # 0.15, more than it takes: a fifth of the packets goes to two nodes
         Workload(
-            "f_hotspot8", "mesh", [8, 8], 4, 4, 1, "west-first", 75000,
-            traffic(8, 64, 1, [4, 64], 70800, hotspot(64, [27, 36], 20)),
+            "f_hotspot8", replace(mesh8, rule="west-first", cycles=75000), 8, [4, 64], 70800, hotspot(64, [27, 36], 20)
         ),
         # 0.3
-        Workload("g_mesh444", "mesh", [4, 4, 4], 2, 4, 1, "dor", 67000, traffic(9, 64, 1, [64], 66600, uniform_64)),
+        Workload("g_mesh444", Network("mesh", (4, 4, 4), 2, 4, 1, "dor", 67000), 9, [64], 66600, uniform(64)),
         # 0.2, more than it takes
         Workload(
-            "h_torus16", "torus", [16, 16], 4, 4, 2, "dateline", 20000, traffic(10, 256, 2, [16, 64], 15600, uniform_256)
+            "h_torus16", Network("torus", (16, 16), 4, 4, 2, "dateline", 20000), 10, [16, 64], 15600, uniform(256)
         ),
     ]
 

@@ -3,16 +3,17 @@
 
     measure.py PROGRAM [--against OTHER [--own-clock]] [--repeat N] [--only NAME..]
 
-For each workload of make_workloads.py the program gets the joined text on standard input twice: once with the workload's
-cycles and once with one cycle. What the first takes longer is the time of the cycle loop, since reading, setting up and
-the report are in both. Of each, the least of N runs counts (5 by default). The figure is in router-cycles per second: one
-router that does one cycle is one router-cycle. A table in Markdown goes to standard output.
+For each workload of make_workloads.py the program gets the joined text on standard input twice: once with the
+workload's cycles and once with one cycle. What the first takes longer is the time of the cycle loop, since reading,
+setting up and the report are in both. Of each, the least of N runs counts (5 by default). The figure is in
+router-cycles per second: one router that does one cycle is one router-cycle. A table in Markdown goes to standard
+output.
 
-OTHER is measured in the same way, its runs between those of PROGRAM, so that both meet the same neighbours on the machine.
-With --own-clock OTHER is run as 'OTHER run CONFIG TRAFFIC --time' instead, and must write 'seconds S' with the time of its
-cycle loop to standard error. The latency reports of all runs must be the same, and so must the stall reports of both
-programs, which are called for them as 'run CONFIG TRAFFIC --report stalls' once, without a clock. Reports that differ are
-an error, and so are statuses other than 0 and 5.
+OTHER is measured in the same way, its runs between those of PROGRAM, so that both meet the same neighbours on the
+machine. With --own-clock OTHER is run as 'OTHER run CONFIG TRAFFIC --time' instead, and must write 'seconds S' with
+the time of its cycle loop to standard error. The latency reports of all runs must be the same, and so must the stall
+reports of both programs, which are called for them as 'run CONFIG TRAFFIC --report stalls' once, without a clock.
+Reports that differ are an error, and so are statuses other than 0 and 5.
 """
 import argparse
 import re
@@ -59,7 +60,7 @@ class Joined:
 
     def start(self, load, _):
         tail = b"---\n" + load.traffic().encode()
-        self.texts = [load.config(cycles).encode() + tail for cycles in (load.cycles, 1)]
+        self.texts = [load.config(cycles).encode() + tail for cycles in (load.network.cycles, 1)]
         self.best = [float("inf"), float("inf")]
 
     def round(self):
@@ -69,7 +70,7 @@ class Joined:
         return runs[0][1]
 
     def speed(self, load):
-        return load.routers() * (load.cycles - 1) / max(self.best[0] - self.best[1], 1e-9)
+        return load.network.nodes * (load.network.cycles - 1) / max(self.best[0] - self.best[1], 1e-9)
 
 
 class OwnClock:
@@ -91,7 +92,7 @@ class OwnClock:
         return report
 
     def speed(self, load):
-        return load.routers() * load.cycles / self.best
+        return load.network.nodes * load.network.cycles / self.best
 
 
 def measure(load, sides, repeat, folder):
@@ -127,7 +128,8 @@ def main():
             if options.only and load.name not in options.only:
                 continue
             speeds, reports = measure(load, sides, options.repeat, Path(folder))
-            cells = [load.name, str(load.routers()), str(load.cycles), *(f"{speed / 1e6:.1f}" for speed in speeds)]
+            cells = [load.name, str(load.network.nodes), str(load.network.cycles),
+                     *(f"{speed / 1e6:.1f}" for speed in speeds)]
             if options.against:
                 cells.append(f"{speeds[0] / speeds[1]:.2f}")
             print("|", " | ".join(cells), "|", flush=True)

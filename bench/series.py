@@ -3,28 +3,28 @@
 
     series.py PROGRAM [--repeat N]
 
-The networks are meshes of 4 by 4, 8 by 8 and 16 by 16 routers with one, two and four channels on each link and four places
-in each buffer, under dimension order. The traffic is uniform, in packets of 16 flits. The load that is offered is a part of
-what the links across the middle of the mesh can carry, 4/k flits per node and cycle on a mesh of k by k routers: a
-twentieth, a fifth, and all of it, which no network takes (the sources' queues grow). The same traffic goes to every number of
-channels.
+The networks are meshes of 4 by 4, 8 by 8 and 16 by 16 routers with one, two and four channels on each link and four
+places in each buffer, under dimension order. The traffic is uniform, in packets of 16 flits. The load that is offered
+is a part of what the links across the middle of the mesh can carry, 4/k flits per node and cycle on a mesh of k by k
+routers: a twentieth, a fifth, and all of it, which no network takes (the sources' queues grow). The same traffic goes
+to every number of channels.
 
-Each load has two columns: the flits that come out per node and cycle, and the nanoseconds of a router-cycle, measured as
-measure.py does. A table in Markdown goes to standard output.
+Each load has two columns: the flits that come out per node and cycle, and the nanoseconds of a router-cycle, measured
+as measure.py does. A table in Markdown goes to standard output.
 """
 import argparse
 import csv
 import sys
 
 sys.dont_write_bytecode = True
-from make_workloads import Workload, traffic, uniform  # noqa: E402
+from make_workloads import Network, Workload, uniform  # noqa: E402
 from measure import Joined, measure  # noqa: E402
+from noc_tools.traffic import MOST_PACKETS  # noqa: E402
 
 RADICES = (4, 8, 16)
 CHANNELS = (1, 2, 4)
 LOADS = {"low": 0.05, "middle": 0.2, "saturated": 1.0}
 LENGTH = 16
-MOST_PACKETS = 20000
 
 
 def workload(radix, channels, part):
@@ -32,15 +32,15 @@ def workload(radix, channels, part):
     nodes = radix * radix
     flits_per_cycle = nodes * 4 / radix
     cycles = int(MOST_PACKETS * LENGTH / flits_per_cycle)
-    rows = traffic(radix, nodes, 1, [LENGTH], cycles, uniform(nodes), packets=int(MOST_PACKETS * part))
-    return Workload(f"mesh{radix}", "mesh", [radix, radix], channels, 4, 1, "dor", cycles, rows)
+    network = Network("mesh", (radix, radix), channels, 4, 1, "dor", cycles)
+    return Workload(network.kind, network, radix, [LENGTH], cycles, uniform(nodes), int(MOST_PACKETS * part))
 
 
 def flits_out(load, report):
     """The flits of the packets that came out, per node and cycle."""
     rows = csv.DictReader(report.decode().splitlines())
     flits = sum(int(row["length"]) for row in rows if row["out"] != "-")
-    return flits / load.routers() / load.cycles
+    return flits / load.network.nodes / load.network.cycles
 
 
 def cells(program, radix, channels, repeat):

@@ -3,13 +3,15 @@
 
     workers.py PROGRAM [--workers W..] [--repeat N] [--only NAME..]
 
-For workloads of make_workloads.py on 64 and on 256 routers the program runs with 1, 2 and 4 workers, or those that are named, in
-turn: once for the workload's cycles and once for one cycle. The networks have eight channels here, so that they do not fit into
-rows: one thread runs those that do, whatever the number of workers. What the first takes longer is the time of the cycle loop. Of each,
-the least of N runs counts (5 by default). A table in Markdown goes to standard output: router-cycles per second of the first
-number of workers, and how many times as fast the others are. Reports that differ are an error.
+For workloads of make_workloads.py on 64 and on 256 routers the program runs with 1, 2 and 4 workers, or those that
+are named, in turn: once for the workload's cycles and once for one cycle. The networks have eight channels here, so
+that they do not fit into rows: one thread runs those that do, whatever the number of workers. What the first takes
+longer is the time of the cycle loop. Of each, the least of N runs counts (5 by default). A table in Markdown goes to
+standard output: router-cycles per second of the first number of workers, and how many times as fast the others are.
+Reports that differ are an error.
 
-More workers than free processors do not pay, so what other programs do on the machine shows in every figure: its load comes first.
+More workers than free processors do not pay, so what other programs do on the machine shows in every figure: its load
+comes first.
 """
 import argparse
 import os
@@ -37,7 +39,7 @@ class Workers:
         traffic = folder / f"{load.name}.csv"
         traffic.write_bytes(load.traffic().encode())
         self.runs = []
-        for cycles in (load.cycles, 1):
+        for cycles in (load.network.cycles, 1):
             config = folder / f"{load.name}-{cycles}.toml"
             config.write_bytes(load.config(cycles).encode())
             self.runs.append([self.program, "run", str(config), str(traffic), "--workers", str(self.workers)])
@@ -70,14 +72,15 @@ def main():
         for load in workloads():
             if load.name not in options.only:
                 continue
-            load = replace(load, channels=WIDE)
+            load = replace(load, network=replace(load.network, channels=WIDE))
             sides = [Workers(options.program, workers) for workers in options.workers]
             for side in sides:
                 side.start(load, Path(folder))
             reports = {side.round() for _ in range(options.repeat) for side in sides}
-            speed = load.routers() * (load.cycles - 1) / sides[0].seconds() / 1e6
+            speed = load.network.nodes * (load.network.cycles - 1) / sides[0].seconds() / 1e6
             gains = [f"{sides[0].seconds() / side.seconds():.2f}" for side in sides[1:]]
-            print("|", " | ".join([load.name, str(load.routers()), str(load.cycles), f"{speed:.1f}", *gains]), "|", flush=True)
+            print("|", " | ".join([load.name, str(load.network.nodes), str(load.network.cycles), f"{speed:.1f}",
+                                   *gains]), "|", flush=True)
             if len(reports) > 1:
                 print(f"workers: the reports on {load.name} differ", file=sys.stderr)
                 well = False
