@@ -115,6 +115,7 @@ def made_words(random, files):
         words += ["--ranks", "ranks"]
     if command == "run":
         words += ["--workers", str(random.randrange(1, 4)), "--report", random.choice(["summary", "latency", "stalls"])]
+        words += ["--drain"] if random.randrange(3) == 0 else []
     if command == "explain":
         words += ["--cycle", str(random.randrange(70)), "--router", str(random.randrange(6))]
     if command == "trace":

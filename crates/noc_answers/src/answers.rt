@@ -27,7 +27,7 @@ use std::thread::Threads;
 ///
 /// A `run` with a rank file that ends without a fault is done, and never stuck. Where it is to drain, every packet has arrived.
 ///
-/// A `run` by two or more workers starts threads only where the network does not run by rows (`Network::runs_by_rows`). Workers
+/// A `run` by two or more workers starts threads only where the network does not fit rows (`Network::fits_rows`). Workers
 /// change no report.
 pub fn answer<R: Threads + Wait + Sync, W: Sink>(
     rt: &R,

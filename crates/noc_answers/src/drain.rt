@@ -104,7 +104,7 @@ pub(crate) fn run_stretches<R: Threads + Wait + Sync>(
     Ok(network)
 }
 
-// Runs a stretch of cycles by workers. The caller runs it alone, and no thread is started, where the network runs by rows,
+// Runs a stretch of cycles by workers. The caller runs it alone, and no thread is started, where the network fits rows,
 // since one thread runs rows faster than several run routers, and where nothing happened in the last cycle, since its time jumps.
 fn run_stretch<R: Threads + Wait + Sync>(
     rt: &R,
@@ -118,7 +118,7 @@ fn run_stretch<R: Threads + Wait + Sync>(
     ensures net { IfOk result (λ n. n ≡ record network { count = network.count + cycles }) }
     ensures lost { IfErr result (λ e. e ≢ LostWorker) }
 {
-    if network.runs_by_rows() || was_quiet(&network) {
+    if network.fits_rows() || was_quiet(&network) {
         network.run(cycles);
         Ok(network)
     } else {

@@ -54,7 +54,7 @@ pub use cycles::deliver;
 pub use event_core::Core;
 pub use fault::NetFault;
 pub use limit::MAX_LIMIT;
-pub use network::Network;
+pub use network::{MAX_ROW_CHANNELS, Network};
 pub use noc_theory::{CYCLE_LIMIT, Event, NotReady};
 pub use parts::Parts;
 pub use room::Room;

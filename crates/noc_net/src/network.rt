@@ -38,6 +38,9 @@ use noc_topo::LINKS;
 use std::alloc::Global;
 use std::marker::Model;
 
+/// The most input channels of a router in a network that runs by rows.
+pub const MAX_ROW_CHANNELS: usize = 31;
+
 /// A network of routers with one wire in each direction of each link, run in lockstep.
 ///
 /// It is seen as four values: its relation, the depth of its buffers, its packets, and the count of the
@@ -134,10 +137,19 @@ impl Network {
         }
     }
 
-    /// Whether it runs by rows, which one thread runs faster than several run routers: a network that was made with at most 31
-    /// input channels of a router does (`noc_rows`), and one that was put together from parts does not.
+    /// Whether a network of this relation is made with rows (`Network::new`), which one thread runs faster than several run
+    /// routers: the rows of `noc_rows` hold the input channels of a router in a word.
+    pub fn fits_rows(&self) -> bool
+        ensures { result ≡ nat_le (ports_of self.now.net.relation.grid * self.now.net.relation.vcs) MAX_ROW_CHANNELS }
+    {
+        let relation = &self.parts.relation;
+        relation.shape().ports() * relation.vcs() <= MAX_ROW_CHANNELS
+    }
+
+    /// Whether it runs by rows: a network that was made with them does (`fits_rows`), and one that was put together from parts
+    /// does not.
     pub fn runs_by_rows(&self) -> bool
-        ensures { result ≡ true → ports_of self.now.net.relation.grid * self.now.net.relation.vcs ≤ 31 }
+        ensures { result ≡ true → ports_of self.now.net.relation.grid * self.now.net.relation.vcs ≤ MAX_ROW_CHANNELS }
     {
         self.rows.is_some()
     }
