@@ -85,12 +85,12 @@ def checked(crate, room):
 
 PAGE = """# The functions whose goals cost most to check
 
-`bench/dear_functions.py --goals --page` printed this page on {day}, from what `rt check` had kept in the folders `out/`. A
-row has the seconds that one process took for the goals of a function when its crate was last checked from nothing. What
-the function's code costs, and its crate as a whole, is not in them. Other work on the machine makes them higher, so
-compare them with one another. Crates of which no check is kept are missing. Where a trait is derived for a type, the
-name is of both, as `CommandPartialEq` for `PartialEq` of `Command`. The page says where to look first when a crate is
-slow. It is not kept up with the code, but printed anew when somebody needs it.
+`bench/dear_functions.py --goals --page` printed this page on {day}, from what `rt check` had kept in `out/`. A row
+has the seconds that one process took for the goals of a function when its crate was last checked from nothing. What the
+function's code costs, and its crate as a whole, is not in them. Other work on the machine makes them higher, so compare
+them with one another. Crates of which no check is kept are missing. Where a trait is derived for a type, the name is of
+both, as `CommandPartialEq` for `PartialEq` of `Command`. The page says where to look first when a crate is slow. It is
+not kept up with the code, but printed anew when somebody needs it.
 
 | Function | Crate | Seconds |
 |---|---|--:|

@@ -14,8 +14,9 @@ TOP = Path(__file__).resolve().parent.parent
 HEAD = """# Where each definition stands
 
 What contracts mean is defined in the folders `specs/` of the crates, and [MODEL.md](MODEL.md) tells it in prose. Each
-file is listed with its first comment. Beside it stand the definitions that contracts of public functions name, as
-`tests/definitions.py` prints them.
+file is listed with its first comment, and with its definitions that contracts of public functions name. A file without
+such names serves other definitions or inner functions. Crates stand in the order of `crates.txt`, and
+`tests/definitions.py` prints this page.
 """
 IMPORT = re.compile(r"ghost use Rattle\.(\w+)\.specs\.(\w+)\.\{([^}]*)\}")
 # An item at the left margin, to the brace that closes it.
