@@ -65,10 +65,13 @@ class Waves(FolderTest):
         self.assertEqual(dump.changes, {
             "noc.router_1.plus_0.verdict_0": [(0, "Empty")],
             "noc.router_1.plus_0.packet_0": [(0, None)],
+            "noc.router_1.plus_0.out_0": [(0, "-")],
             "noc.router_1.minus_0.verdict_0": verdicts,
             "noc.router_1.minus_0.packet_0": [(0, None), (3, 0), (8, None), (10, 2), (17, None)],
+            "noc.router_1.minus_0.out_0": [(0, "-"), (6, "+0.0"), (8, "-"), (11, "+0.0"), (17, "-")],
             "noc.router_1.local.verdict_0": [(0, "Routed"), (1, "Granted"), (2, "Moved"), (3, "Empty")],
             "noc.router_1.local.packet_0": [(0, 1), (3, None)],
+            "noc.router_1.local.out_0": [(0, "-"), (1, "+0.0"), (3, "-")],
         })
 
     def test_a_span_says_all_at_its_start(self):
@@ -76,7 +79,8 @@ class Waves(FolderTest):
         dump = self.dump("--from", 5, "--to", 7)
         values = [dump.changes[name] for name in dump.changes if name.startswith("noc.router_1.minus_0")]
         self.assertEqual(dump.times, [5, 6, 7, 8])
-        self.assertEqual(values, [[(5, "NoIdleChannel"), (6, "Granted"), (7, "Moved")], [(5, 0)]])
+        verdicts = [(5, "NoIdleChannel"), (6, "Granted"), (7, "Moved")]
+        self.assertEqual(values, [verdicts, [(5, 0)], [(5, "-"), (6, "+0.0")]])
 
     def test_all_channels_agree_with_the_program(self):
         """On made networks, in some cycles, all channels of all routers."""
@@ -84,9 +88,10 @@ class Waves(FolderTest):
             self.put(c=network, t=traffic)
             dump = self.dump()
             for router, cycle in [(router, cycle) for router in range(network.nodes) for cycle in (0, 7, 19, 33, 39)]:
-                for channel, (verdict, packet, _) in found_by_explain(self, cycle, router).items():
+                for channel, found in found_by_explain(self, cycle, router).items():
                     port, number = channel.replace("+", "plus_").replace("-", "minus_").split(".")
                     scope = f"noc.router_{router}.{port}"
                     holder = dump.at(f"{scope}.packet_{number}", cycle)
-                    said = dump.at(f"{scope}.verdict_{number}", cycle), "-" if holder is None else str(holder)
-                    self.assertEqual(said, (verdict, packet), (network, cycle, scope))
+                    verdict, out = (dump.at(f"{scope}.{said}_{number}", cycle) for said in ("verdict", "out"))
+                    said = verdict, "-" if holder is None else str(holder), out
+                    self.assertEqual(said, found, (network, cycle, scope))

@@ -1,10 +1,11 @@
 """Writes what the channels of a network do in each cycle as a VCD file, for a viewer of waves such as GTKWave.
 
 A VCD file (value change dump, IEEE 1364) has here a scope for each router, and in it one for each of its input ports
-that has a link: plus_0 and minus_0 for the ports +0 and -0, and so on, and local. Channel n of a port is two
-variables: verdict_n, a string of the ten verdicts, and packet_n, the number of the packet that it holds, or z in all
-bits where it is empty. Strings are no part of IEEE 1364, but GTKWave and other viewers take them. A cycle of the
-network is one unit of time, shown as a nanosecond.
+that has a link: plus_0 and minus_0 for the ports +0 and -0, and so on, and local. Channel n of a port is three
+variables: verdict_n, a string of the ten verdicts; packet_n, the number of the packet that it holds, or z in all bits
+where it is empty; and out_n, a string of the output channel that the packet asks for, is granted or owns, or '-'.
+Strings are no part of IEEE 1364, but GTKWave and other viewers take them. A cycle of the network is one unit of time,
+shown as a nanosecond.
 
 CONFIG, TRAFFIC and F are files, one of them '-' for standard input. With --drain the run goes on until all packets
 are out, as by 'noc run --drain'. The network is traced once, and waves are written as it goes.
@@ -12,7 +13,7 @@ are out, as by 'noc run --drain'. The network is traced once, and waves are writ
 import sys
 from argparse import ArgumentParser, Namespace
 from collections.abc import Iterable, Iterator, Sequence
-from itertools import chain, groupby
+from itertools import chain, count, groupby
 
 from ..arguments import add_run, add_span, run_of, span_of
 from ..errors import Refused
@@ -22,6 +23,8 @@ from ..network import split
 # The characters of which VCD makes the signs of its variables.
 FIRST_SIGN, SIGNS = 33, 94
 BITS = 32
+# The signs of a channel's verdict, packet and output channel.
+Signs = tuple[str, str, str]
 
 
 def add_arguments(parser: ArgumentParser) -> None:
@@ -43,7 +46,7 @@ def scope_of(port: str) -> str:
     return port.replace("+", "plus_").replace("-", "minus_")
 
 
-def declarations(signs: dict[Place, tuple[str, str]]) -> Iterator[str]:
+def declarations(signs: dict[Place, Signs]) -> Iterator[str]:
     """The head of the file: a scope for each router and port, and in it the variables of its channels."""
     yield "$comment The input channels of a network of noc; a unit of time is a cycle. $end"
     yield "$timescale 1 ns $end"
@@ -53,26 +56,31 @@ def declarations(signs: dict[Place, tuple[str, str]]) -> Iterator[str]:
         for port, channels in groupby((split(channel) for _, channel in places), key=lambda channel: channel[0]):
             yield f"$scope module {scope_of(port)} $end"
             for _, number in channels:
-                verdict, packet = signs[router, f"{port}.{number}"]
+                verdict, packet, out = signs[router, f"{port}.{number}"]
                 yield f"$var string 1 {verdict} verdict_{number} $end"
                 yield f"$var integer {BITS} {packet} packet_{number} $end"
+                yield f"$var string 1 {out} out_{number} $end"
             yield "$upscope $end"
         yield "$upscope $end"
     yield "$upscope $end"
     yield "$enddefinitions $end"
 
 
-def changes(before: Finding | None, finding: Finding, verdict_sign: str, packet_sign: str) -> Iterator[str]:
+def changes(before: Finding | None, finding: Finding, signs: Signs) -> Iterator[str]:
     """What is said of a channel that was not said before."""
+    verdict_sign, packet_sign, out_sign = signs
     if before is None or before.verdict != finding.verdict:
         yield f"s{finding.verdict} {verdict_sign}"
     if before is None or before.packet != finding.packet:
         yield f"b{'z' if finding.packet is None else format(finding.packet, 'b')} {packet_sign}"
+    if before is None or before.out != finding.out:
+        yield f"s{finding.out} {out_sign}"
 
 
 def waves(findings: Iterable[Finding], places: Sequence[Place], first: int, last: int) -> Iterator[str]:
     """The lines of the file, from a trace of changes. Its first cycle says all of each channel."""
-    signs = {place: (sign_of(2 * number), sign_of(2 * number + 1)) for number, place in enumerate(places)}
+    numbers = count()
+    signs = {place: (sign_of(next(numbers)), sign_of(next(numbers)), sign_of(next(numbers))) for place in places}
     yield from declarations(signs)
     nothing = (empty(place, first) for place in places)
     said: dict[Place, Finding] = {}
@@ -81,7 +89,7 @@ def waves(findings: Iterable[Finding], places: Sequence[Place], first: int, last
         if cycle == first:
             yield "$dumpvars"
         for place, finding in {finding.place: finding for finding in found}.items():
-            yield from changes(said.get(place), finding, *signs[place])
+            yield from changes(said.get(place), finding, signs[place])
             said[place] = finding
         if cycle == first:
             yield "$end"
