@@ -15,8 +15,8 @@ from .errors import Refused
 NAME = "noc-tools"
 # In the order of the help.
 COMMANDS = [
-    "why", "timeline", "replay", "waves", "stalls", "traffic", "packets", "replies", "keys", "limit", "ranks", "table",
-    "latency", "load", "curves", "sweep", "draw",
+    "why", "timeline", "replay", "waves", "compare", "assertions", "stalls", "traffic", "packets", "replies", "keys",
+    "limit", "ranks", "table", "latency", "load", "curves", "sweep", "draw",
 ]
 HELP = f"""usage: {NAME} COMMAND WORD..
 
@@ -107,7 +107,7 @@ def list_commands() -> int:
     sys.stdout.write(HELP)
     for command in COMMANDS:
         first, *_ = (module_of(command).__doc__ or "").splitlines()
-        print(f"  {command:9} {first}")
+        print(f"  {command:10} {first}")
     return 0
 
 

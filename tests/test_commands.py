@@ -45,7 +45,8 @@ CALLS = {
     "ranks": "c", "limit": "c t", "table": "plane odd-even", "traffic": "c uniform 0.5 1", "stalls": "c",
     "replay": "c t", "keys": "c", "timeline": "c t 2", "waves": "c t", "why": "c t 2", "latency": "c r",
     "load": "c 1 0.1", "curves": "a=curve", "sweep": "small.toml", "draw": "results", "packets": "c seen 16",
-    "replies": "classes t 2 1",
+    "replies": "classes t 2 1", "assertions": "c",
+    "compare": "model.vcd examples/rtl_right.vcd --map examples/rtl_map.toml",
 }
 DEEP = "x = " + "[" * 3000 + "]" * 3000 + "\n"
 STALLS_HEADER = (
@@ -139,6 +140,7 @@ class Ends(FolderTest):
         self.put(stalls=self.noc("run", "c", "t", "--report", "stalls").stdout)
         self.put(results="kind,load,mean,accepted\nmesh,0.1,9,0.1\n", seen="time,source,destination,bytes\n0,0,1,9\n")
         self.put(classes=replace(LINE, channels=2, classes=2))
+        self.put(**{"model.vcd": self.said("waves", "examples/rtl.toml", "examples/rtl.csv")})
 
     def ends(self, command, **given):
         """The status of a command and its words on standard error."""

@@ -1,0 +1,210 @@
+"""Compares the waves of a design with those of the model, cycle by cycle, up to the first that differs."""
+import re
+from collections import defaultdict, deque
+from collections.abc import Iterator
+from dataclasses import dataclass
+
+from .errors import Refused
+from .findings import NO_CHANNEL, VERDICTS, Finding, Place
+from .network import LOCAL, split
+from .signals import EDGES, OF_VERDICTS, OUT, PACKET, VERDICT, SignalMap
+from .vcd import Changes, Dump, Signal
+from .words import counted
+
+OF_MODEL = re.compile(r"noc\.router_(\d+)\.(plus_\d+|minus_\d+|local)\.verdict_(\d+)")
+# The variables that the model has for each channel.
+SAID = (VERDICT, PACKET, OUT)
+
+
+class Model:
+    """The waves of the model: the channels that it has, and what it finds of them in each cycle."""
+
+    def __init__(self, dump: Dump) -> None:
+        self.dump = dump
+        self.signs: dict[str, tuple[Place, str]] = {}
+        self.said: dict[Place, dict[str, str]] = {}
+        for name in dump.variables:
+            if found := OF_MODEL.fullmatch(name):
+                port = found[2].replace("plus_", "+").replace("minus_", "-")
+                self.declare((int(found[1]), f"{port}.{found[3]}"), name)
+        if not self.said:
+            raise Refused(f"{dump.name} has no channel of a router as 'noc-tools waves' writes them")
+
+    def declare(self, place: Place, verdict: str) -> None:
+        """Takes in the variables of a channel."""
+        self.said[place] = {}
+        for kind in SAID:
+            name = verdict.replace(VERDICT, kind)
+            signal = self.dump.signal(name)
+            if signal is None:
+                raise Refused(f"{self.dump.name} has no '{name}', as 'noc-tools waves' writes it")
+            self.signs[signal.sign] = place, kind
+
+    @property
+    def places(self) -> list[Place]:
+        """All channels, in the order of the file."""
+        return list(self.said)
+
+    @property
+    def ports(self) -> int:
+        """The ports of a router: two for each dimension, in which each router has a link, and the local one."""
+        names = {split(channel)[0] for _, channel in self.said}
+        return 2 * len({name[1:] for name in names - {LOCAL}}) + 1
+
+    @property
+    def channels(self) -> int:
+        """The channels of a port."""
+        return 1 + max(split(channel)[1] for _, channel in self.said)
+
+    def cycles(self) -> Iterator[tuple[int, set[Place]]]:
+        """Each cycle, with the channels of which something else is said than before; the last time only ends it."""
+        changed: set[Place] = set()
+        cycle: int | None = None
+        for time, changes in self.dump.steps(self.signs):
+            for earlier in range(time if cycle is None else cycle, time):
+                yield earlier, changed
+                changed = set()
+            for sign, value in changes.items():
+                place, kind = self.signs[sign]
+                self.said[place][kind] = value
+                changed.add(place)
+            cycle = time
+
+    def finding(self, cycle: int, place: Place) -> Finding:
+        """What the model finds of a channel."""
+        said = self.said[place]
+        try:
+            packet = None if "z" in said[PACKET] else int(said[PACKET], 2)
+            verdict = VERDICTS[VERDICTS.index(said[VERDICT])]
+            return Finding(cycle, *place, verdict, packet, said[OUT], ())
+        except (KeyError, ValueError):
+            raise Refused(f"{self.dump.name} does not say what router {place[0]}, {place[1]} does") from None
+
+
+class Design:
+    """The waves of a design: the signals of each channel, by a map, and their values in each cycle."""
+
+    def __init__(self, dump: Dump, names: SignalMap, model: Model) -> None:
+        self.dump, self.map = dump, names
+        if names.ports is not None and len(names.ports) != model.ports:
+            raise Refused(f"the map has {counted(len(names.ports), 'port')}, and a router has {model.ports}")
+        self.clock = self.found(names.clock)
+        self.signals: dict[Place, list[tuple[str, Signal, int]]] = defaultdict(list)
+        self.places: dict[tuple[str, int], set[Place]] = defaultdict(set)
+        for place in model.places:
+            for kind, pattern in names.patterns.items():
+                signal = self.found(names.name(pattern, *place, model.ports, model.channels))
+                self.signals[place].append((kind, signal, pattern.delay))
+                self.places[signal.sign, pattern.delay].add(place)
+        # By the delay of signals: their values, and the time of the edge before which they were taken.
+        self.values: dict[int, Changes] = {pattern.delay: {} for pattern in names.patterns.values()}
+        self.times: dict[int, int] = {}
+
+    def found(self, name: str) -> Signal:
+        """The signal of a name."""
+        signal = self.dump.signal(name)
+        if signal is None:
+            raise Refused(f"{self.dump.name} has no signal '{name}', which the map names")
+        return signal
+
+    def samples(self) -> Iterator[tuple[int, Changes]]:
+        """The time of each edge of the clock, and what has changed before it since the last one."""
+        level: str | None = None
+        changed: Changes = {}
+        has_edge = False
+        for time, changes in self.dump.steps({self.clock.sign, *(sign for sign, _ in self.places)}):
+            before, level = level, self.clock.value_in(changes) if self.clock.sign in changes else level
+            if before not in (None, level) and level == EDGES[self.map.edge]:
+                yield time, changed
+                changed, has_edge = {}, True
+            changed.update(changes)
+        if not has_edge:
+            raise Refused(f"the clock '{self.clock.name}' of {self.dump.name} has no {self.map.edge} edge")
+
+    def cycles(self) -> Iterator[tuple[int, set[Place]]]:
+        """Each cycle, and the channels of which a signal may have changed."""
+        latest = max(self.values)
+        kept: deque[tuple[int, Changes]] = deque(maxlen=latest + 1)
+        for cycle, sample in enumerate(self.samples(), -self.map.offset - latest):
+            kept.append(sample)
+            changed: set[Place] = set()
+            for delay, values in self.values.items():
+                ago = latest - delay
+                if ago < len(kept):
+                    self.times[delay], changes = kept[-1 - ago]
+                    values.update(changes)
+                    changed.update(*(self.places[sign, delay] for sign in changes if (sign, delay) in self.places))
+            yield cycle, changed
+
+
+@dataclass(frozen=True)
+class Difference:
+    """Where a design differs first: what the model finds there and at its router, the signal that says something else
+    than it should, and the further channels that differ in this cycle."""
+
+    finding: Finding
+    around: list[Finding]
+    kind: str
+    expected: int
+    signal: Signal
+    value: str
+    time: int
+    others: list[Place]
+
+
+class Comparison:
+    """A model and a design, and the cycles in which they were compared."""
+
+    def __init__(self, model: Model, design: Design) -> None:
+        self.model, self.design = model, design
+        self.cycles = range(0)
+
+    def common(self) -> Iterator[tuple[int, set[Place]]]:
+        """The cycles that both have, each with the channels of which something may have changed."""
+        design = self.design.cycles()
+        changed = set(self.model.places)
+        ahead, touched = next(design)
+        for cycle, said in self.model.cycles():
+            changed |= said
+            while ahead < cycle:
+                following = next(design, None)
+                if following is None:
+                    return
+                ahead, touched = following
+                changed |= touched
+            if ahead == cycle:
+                yield cycle, changed
+                changed = set()
+
+    def expected(self, kind: str, finding: Finding) -> int | None:
+        """What a signal has to say of a channel; None where it may say anything."""
+        names = self.design.map
+        if kind in OF_VERDICTS:
+            return int(finding.verdict == OF_VERDICTS[kind])
+        if kind == VERDICT:
+            return names.verdicts.index(finding.verdict) if finding.verdict in names.verdicts else None
+        if kind == PACKET:
+            return finding.packet
+        return None if finding.out == NO_CHANNEL else names.index(finding.out, self.model.ports, self.model.channels)
+
+    def wrong(self, finding: Finding) -> tuple[str, int, Signal, str, int] | None:
+        """The first signal of a channel that says something else than the model, what it should say, its value, and
+        the time of that."""
+        for kind, signal, delay in self.design.signals[finding.place]:
+            value, expected = signal.value_in(self.design.values[delay]), self.expected(kind, finding)
+            if expected is not None and (not value.isdecimal() or int(value, 2) != expected):
+                return kind, expected, signal, value, self.design.times[delay]
+        return None
+
+    def difference(self) -> Difference | None:
+        """The first difference, by cycle and then in the order of the channels."""
+        for cycle, changed in self.common():
+            self.cycles = range(self.cycles.start if self.cycles else cycle, cycle + 1)
+            findings = (self.model.finding(cycle, place) for place in self.model.places if place in changed)
+            differing = [(finding, found) for finding in findings if (found := self.wrong(finding))]
+            if differing:
+                (first, found), *others = differing
+                at_router = [place for place in self.model.places if place[0] == first.router]
+                around = [self.model.finding(cycle, place) for place in at_router]
+                return Difference(first, around, *found, [finding.place for finding, _ in others])
+        return None
