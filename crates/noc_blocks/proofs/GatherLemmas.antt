@@ -1,12 +1,12 @@
 -- What the links bring to a block is what is gathered from a row.
-use Rattle.std.proofs.Common.{◌≡◌, ℕ, zero, suc, ◌+◌, ◌*◌, ◌%◌, ◌^◌, ◌<◌, ◌≤◌, Bool, true, false, List, [], ◌∷◌, map, refl, ap, ap₂, sym, ◌∙◌, arith, inl, inr, add-one, bit_and, bit_or, length}
-use Rattle.std.specs.Prelude.{◌⊎◌, ◌&&◌, ◌||◌, nat_eq, slice_index}
+use Rattle.std.proofs.Common.{◌≡◌, ℕ, zero, suc, ◌+◌, ◌^◌, ◌<◌, ◌≤◌, Bool, true, false, List, [], ◌∷◌, map, refl, ap, ap₂, sym, ◌∙◌, inl, inr, bit_and, bit_or}
+use Rattle.std.specs.Prelude.{◌⊎◌, ◌&&◌, ◌||◌, slice_index}
 use Rattle.std.proofs.lemmas.Bool.{cases_lt}
 use Rattle.std.proofs.lemmas.Nat.{pow_pos}
 use Rattle.noc_topo.specs.Shape.{Grid, is_plus, local_port, nodes}
 use Rattle.noc_packet.specs.Set.{has_bit}
 use Rattle.noc_packet.proofs.SetLemmas.{both_members, either_members, has_bit-above}
-use Rattle.noc_sets.specs.Gather.{from_row, gathered_row, goes_round, goes_straight, mask_where, place_round, place_straight, shifted}
+use Rattle.noc_sets.specs.Gather.{from_row, gathered_row, shifted}
 use Rattle.noc_sets.specs.Sets.{up_by}
 use Rattle.noc_sets.specs.Unions.{union_from}
 use Rattle.noc_sets.proofs.MemberLemmas.{same-word}

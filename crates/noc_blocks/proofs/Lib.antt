@@ -15,3 +15,10 @@ pub mod SwitchedLemmas
 pub mod DecidedLemmas
 pub mod AllottedLemmas
 pub mod NumberedLemmas
+pub mod LaneLemmas
+pub mod SendingLemmas
+pub mod TakenAllLemmas
+pub mod BeginningLemmas
+pub mod RoutedLemmas
+pub mod ArrivalLemmas
+pub mod WorkedLemmas

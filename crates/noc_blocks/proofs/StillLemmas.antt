@@ -21,18 +21,18 @@ use Rattle.noc_lanes.specs.declared.channels.Source.{Source}
 use Rattle.noc_blocks.specs.Routers.{column_of}
 use Rattle.noc_blocks.specs.Steps.{TakesCredits, TakesFlits, with_head}
 
-zero-or : (a : ℕ) → bit_or 0 a ≡ a
+pub zero-or : (a : ℕ) → bit_or 0 a ≡ a
 zero-or a = or_comm 0 a ∙ or-zero a
 
-zero-and : (a b : ℕ) → a ≡ 0 → bit_and a b ≡ 0
+pub zero-and : (a b : ℕ) → a ≡ 0 → bit_and a b ≡ 0
 zero-and a b z = same-word (bit_and a b) 0 (λ k. both_members a b k ∙ ap (λ x. has_bit x k && has_bit b k) z ∙ ap (λ x. x && has_bit b k) (has_bit-zero k) ∙ sym (has_bit-zero k))
 
-same-if : (b : Bool) (x : ℕ) → (if b then x else x) ≡ x
+pub same-if : (b : Bool) (x : ℕ) → (if b then x else x) ≡ x
 same-if true x = refl
 same-if false x = refl
 
 -- where a packet may begin, nothing is being injected
-none-injecting : (layout : Layout) (cycle : ℕ) (i : Inputs ℕ) (o : Outputs ℕ) (s : Source ℕ) → lane_begins layout.local cycle s.due (column_of i o s) ≢ 0 → s.injecting ≡ 0
+pub none-injecting : (layout : Layout) (cycle : ℕ) (i : Inputs ℕ) (o : Outputs ℕ) (s : Source ℕ) → lane_begins layout.local cycle s.due (column_of i o s) ≢ 0 → s.injecting ≡ 0
 none-injecting layout cycle i o s some = at (cases_eq s.injecting 0)
   where
     off : (b : Bool) → (b && false) ≡ false

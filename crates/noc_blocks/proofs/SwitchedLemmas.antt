@@ -18,14 +18,14 @@ use Rattle.noc_sets.proofs.UnionLemmas.{rest-members, some-one, union-members, u
 use Rattle.noc_blocks.specs.Release.{AreTaken}
 
 -- ---- tests of ports
-some-found : (n : ℕ) (test : ℕ → Bool) → some_below n test ≡ true → (q : ℕ) × (q < n) × (test q ≡ true)
+pub some-found : (n : ℕ) (test : ℕ → Bool) → some_below n test ≡ true → (q : ℕ) × (q < n) × (test q ≡ true)
 some-found zero test e = absurd (false≢true e)
 some-found (suc n) test e = elim (or-cases (some_below n test) (test n) e) [
   | inl here ↦ let found = some-found n test here in (found.0, omega (arith, found.1), found.2)
   | inr here ↦ (n, omega arith, here)
 ]
 
-some-has : (n q : ℕ) (test : ℕ → Bool) → q < n → test q ≡ true → some_below n test ≡ true
+pub some-has : (n q : ℕ) (test : ℕ → Bool) → q < n → test q ≡ true → some_below n test ≡ true
 some-has zero q test l e = absurd (omega arith)
 some-has (suc n) q test l e = elim (cases_eq q n) [
   | inl same ↦ or-right (some_below n test) (test n) (ap test (sym same) ∙ e)

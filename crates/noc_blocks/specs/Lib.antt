@@ -6,7 +6,12 @@ pub mod Numbered
 pub mod Granting
 pub mod Routing
 pub mod Begins
+pub mod Beginning
+pub mod Sending
+pub mod Arrivals
 pub mod Release
 pub mod Supply
 pub mod Allotted
 pub mod Sides
+pub mod Turning
+pub mod Turned

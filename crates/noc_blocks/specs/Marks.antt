@@ -26,6 +26,14 @@ owner_or_none (Some marks) o = slice_index marks.owner o
 abbrev pub owner_at : {A : Type 0} → List (Marks A) → ℕ → ℕ → ℕ
 owner_at block j = owner_or_none (slice_get block j)
 
+-- the numbers of the packets that hold the input channels of router j
+abbrev pub packet_or_none : {A : Type 0} → Option (Marks A) → ℕ → ℕ
+packet_or_none None i = 0
+packet_or_none (Some marks) i = slice_index marks.packet i
+
+abbrev pub packet_at : {A : Type 0} → List (Marks A) → ℕ → ℕ → ℕ
+packet_at block j = packet_or_none (slice_get block j)
+
 -- the output channels of the active input channels of router j
 abbrev pub taken_or_none : {A : Type 0} → (A → ℕ) → Option (Marks A) → ℕ → ℕ
 taken_or_none value None i = 0

@@ -1,5 +1,5 @@
 -- Which channels a head may take.
-use Rattle.std.specs.Prelude.{◌≡◌, ℕ, ◌<◌, true, List, length, slice_index, slice_index_or}
+use Rattle.std.specs.Prelude.{◌≡◌, ℕ, ◌<◌, true, List, length, slice_index_or}
 use Rattle.noc_topo.specs.Shape.{nodes, ports}
 use Rattle.noc_packet.specs.Set.{has_bit}
 use Rattle.noc_packet.specs.declared.packet.Packet.{Packet}
@@ -24,10 +24,10 @@ pub record AreRoutable (relation : Routes) (packets : List Packet) : Type 0 wher
 
 -- each of these is a channel of the router, which one of the packets holds
 pub record AreHeads (relation : Routes) (numbering : Numbering) (packets : List Packet)
-    (heads : ℕ) (packet : List ℕ) : Type 0 where
+    (heads : ℕ) (packet : ℕ → ℕ) : Type 0 where
   pub port : (k : ℕ) → has_bit heads k ≡ true → port_in numbering k < ports relation.grid
   pub vc : (k : ℕ) → has_bit heads k ≡ true → vc_in numbering k < relation.vcs
-  pub held : (k : ℕ) → has_bit heads k ≡ true → slice_index packet k < length packets
+  pub held : (k : ℕ) → has_bit heads k ≡ true → packet k < length packets
 
 -- the set that the relation permits to a packet which came to a node by this port and virtual
 -- channel

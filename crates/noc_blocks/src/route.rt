@@ -1,6 +1,6 @@
 //! Heads are routed.
 
-ghost use Rattle.std.specs.Prelude.{◌≡◌, ℕ, ◌<◌, ◌≤◌, ◌&&◌, bit_or, nat_eq};
+ghost use Rattle.std.specs.Prelude.{◌≡◌, ℕ, ◌<◌, ◌≤◌, ◌&&◌, bit_or, nat_eq, slice_index};
 ghost use Rattle.noc_packet.specs.Set.{has_bit};
 ghost use Rattle.noc_topo.specs.Shape.{nodes, ports};
 ghost use Rattle.noc_route.specs.Routes.{width};
@@ -28,7 +28,7 @@ pub fn route_router<W: Word>(
     requires node { node < nodes relation.now.grid }
     requires packets { AreRoutable relation.now packets.now }
     requires heads { AreHeads relation.now numbering.now packets.now
-        (W.value heads) marks.old.packet }
+        (W.value heads) (slice_index marks.old.packet) }
     ensures { (to_port port_turn : ℕ → ℕ) (wanted : ℕ) → HasRouted (W.value heads)
         (sets_by relation.now numbering.now packets.now node)
         (marks_by W.value marks.old to_port port_turn) (marks_by W.value marks.new to_port

@@ -1,4 +1,4 @@
-use Rattle.std.proofs.Common.{◌≡◌, ◌<◌, ◌∙◌, ap, sym}
+use Rattle.std.proofs.Common.{◌∙◌, ap}
 use Rattle.noc_sets.specs.Unions.{union_from}
 use Rattle.noc_blocks.specs.Sides.{brought_by}
 use Rattle.noc_blocks.proofs.GatherLemmas.{gathered-is}

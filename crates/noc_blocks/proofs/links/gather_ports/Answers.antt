@@ -1,4 +1,4 @@
-use Rattle.std.proofs.Common.{◌≡◌, ℕ, ◌+◌, ◌%◌, ◌<◌, ◌∙◌, ap, sym, add-one}
+use Rattle.std.proofs.Common.{◌+◌, ◌%◌, ◌∙◌, ap, sym, add-one}
 use Rattle.std.specs.Prelude.{nat_eq, slice_index}
 use Rattle.noc_sets.specs.Unions.{union_from}
 use Rattle.noc_lanes.specs.Lanes.{word}
