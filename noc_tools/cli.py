@@ -16,7 +16,7 @@ NAME = "noc-tools"
 # In the order of the help.
 COMMANDS = [
     "why", "timeline", "replay", "waves", "compare", "assertions", "stalls", "traffic", "packets", "replies", "keys",
-    "limit", "ranks", "table", "latency", "load", "curves", "sweep", "draw",
+    "limit", "ranks", "table", "certify", "shrink", "latency", "load", "curves", "sweep", "draw",
 ]
 HELP = f"""usage: {NAME} COMMAND WORD..
 

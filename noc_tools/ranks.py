@@ -3,35 +3,54 @@
 Ranks rise along every step from one link channel to the next that the relation permits. Where some channels are
 adaptive, and have none, they rise from one channel with a rank to the next that packets come to.
 """
-from collections.abc import Iterable, Iterator
+from collections.abc import Collection, Iterable, Iterator, Sequence
 from graphlib import CycleError, TopologicalSorter
+from pathlib import Path
+from typing import NamedTuple
 
 from .errors import Refused
+from .files import named_rows, read_lines
 from .network import Network
 from .relation import Channels, Relation, Steps
 
 # A class and a destination.
 Goal = tuple[int, int]
 Ranks = dict[int, int]
+RANK_COLUMNS = ["router", "port", "vc", "rank"]
+ADAPTIVE = "adaptive"
+
+
+class Dependency(NamedTuple):
+    """One channel depends on another: packets of a class to a destination may go this way from the one to the other."""
+
+    message_class: int
+    destination: int
+    way: list[int]
+
+    def line(self, channels: Channels) -> str:
+        """The dependency in words."""
+        way = " -> ".join(map(channels.name, self.way))
+        return f"class {self.message_class} to node {self.destination}: {way}"
 
 
 class NoRanks(Refused):
-    """Why there are no ranks, line by line."""
+    """Why there are no ranks, line by line; and the dependencies that close a circle, where this is why."""
 
-    def __init__(self, *lines: str) -> None:
+    def __init__(self, *lines: str, circle: Sequence[Dependency] = ()) -> None:
         super().__init__("\n".join([f"there are no ranks: {lines[0]}", *lines[1:]]))
+        self.circle = circle
 
 
 class RankedSteps:
-    """The steps from one channel with a rank to the next; those with another number than `numbered` have none."""
+    """The steps from one channel with a rank to the next, where these channels have one."""
 
-    def __init__(self, relation: Relation, numbered: set[int]) -> None:
+    def __init__(self, relation: Relation, ranked: Collection[int]) -> None:
         self.relation = relation
         self.channels = relation.channels
         network = self.channels.network
         self.goals = [(each, node) for each in range(network.classes) for node in range(network.nodes)]
         count = len(self.channels.ends) * network.channels
-        self.ranked = [channel % network.channels in numbered for channel in range(count)]
+        self.ranked = [channel in ranked for channel in range(count)]
         self.bits = [1 << channel for channel in range(count)]
 
     def ahead(self, steps: Steps) -> dict[int, int]:
@@ -96,8 +115,8 @@ class RankedSteps:
                     ways.append([*way, following])
         return None
 
-    def circle(self, channels: list[int]) -> Iterator[str]:
-        """The lines for a circle, step by step, each with a class and a destination."""
+    def circle(self, channels: list[int]) -> list[Dependency]:
+        """A circle, step by step, each with a class and a destination."""
         wanted = list(zip(channels, channels[1:]))
         ways: dict[tuple[int, int], tuple[Goal, list[int]]] = {}
         for goal in self.goals:
@@ -107,10 +126,7 @@ class RankedSteps:
                     ways[step] = goal, way
             if len(ways) == len(wanted):
                 break
-        yield "these steps close a circle:"
-        for step in wanted:
-            (message_class, destination), way = ways[step]
-            yield f"class {message_class} to node {destination}: " + " -> ".join(map(self.channels.name, way))
+        return [Dependency(*goal, way) for goal, way in map(ways.__getitem__, wanted)]
 
 
 def members(bits: int) -> Iterator[int]:
@@ -140,14 +156,17 @@ def shortest_circle(before: dict[int, list[int]], channel: int) -> list[int]:
 
 def find_ranks(relation: Relation, numbered: set[int]) -> Ranks:
     """The rank of each channel whose number is among `numbered`."""
-    steps = RankedSteps(relation, numbered)
+    channels = relation.channels
+    steps = RankedSteps(relation, {channel for channel in channels.links() if channel % channels.vcs in numbered})
     before = steps.before()
     ranks: Ranks = {}
     try:
         for channel in TopologicalSorter(before).static_order():
             ranks[channel] = 1 + max((ranks[other] for other in before[channel]), default=0)
     except CycleError as error:
-        raise NoRanks(*steps.circle(shortest_circle(before, error.args[1][0]))) from None
+        circle = steps.circle(shortest_circle(before, error.args[1][0]))
+        lines = (dependency.line(channels) for dependency in circle)
+        raise NoRanks("these steps close a circle:", *lines, circle=circle) from None
     return ranks
 
 
@@ -182,7 +201,16 @@ def first_found(relation: Relation, choices: list[set[int]]) -> Ranks:
 
 def rank_file(channels: Channels, ranks: Ranks) -> Iterator[str]:
     """The lines of a rank file."""
-    yield "router,port,vc,rank"
+    yield ",".join(RANK_COLUMNS)
     for channel in channels.links():
         router, port, vc = channels.parts(channel)
-        yield f"{router},{port},{vc},{ranks.get(channel, 'adaptive')}"
+        yield f"{router},{port},{vc},{ranks.get(channel, ADAPTIVE)}"
+
+
+def read_ranks(channels: Channels, path: str | Path) -> Ranks:
+    """The ranks in a rank file that noc accepts for this network."""
+    return {
+        channels.number(int(row["router"]), row["port"], int(row["vc"])): int(row["rank"])
+        for row in named_rows(read_lines(path, "rank file"), RANK_COLUMNS, "rank file", str(path))
+        if row["rank"] != ADAPTIVE
+    }

@@ -12,7 +12,9 @@ from pathlib import Path
 from .errors import Refused
 from .files import csv_rows, read_lines
 from .network import LOCAL, Network, opposite
+from .program import report
 from .rules import RULES, TableRule, Way
+from .traffic import traffic_text
 
 TABLE_HEADER = "class,router,in_port,in_vc,dst,out_port,out_vc"
 # The link channels by which a packet may go on: from its class, the channel on which it is, the router at which that
@@ -137,6 +139,15 @@ class Relation:
 def of_network(channels: Channels, table: str | Path | None = None) -> Relation:
     """The relation of a configuration, with its routing table where the rule is 'table'."""
     return Relation(channels, of_table(channels, table) if table else of_rule(channels))
+
+
+def checked_relation(config: str, table: str | None = None) -> Relation:
+    """The relation of a configuration in a file. What noc refuses it tells of itself: a run without packets makes the
+    relation alone."""
+    words = ["--table", table] if table else []
+    network = Network.read(config)
+    report("run", config, "/dev/stdin", "--report", "summary", *words, given=traffic_text([]))
+    return of_network(Channels(network), table)
 
 
 def of_rule(channels: Channels) -> Permitted:

@@ -13,12 +13,9 @@ CONFIG and F are read twice, so they are files and no pipes.
 """
 from argparse import ArgumentParser, Namespace
 
-from ..arguments import add_config, add_table, numbers, table_words
-from ..network import Network
-from ..program import report
+from ..arguments import add_config, add_table, numbers
 from ..ranks import escape_choices, first_found, rank_file
-from ..relation import Channels, of_network
-from ..traffic import traffic_text
+from ..relation import checked_relation
 
 
 def channel_numbers(words: str) -> set[int]:
@@ -36,11 +33,8 @@ def add_arguments(parser: ArgumentParser) -> None:
 
 
 def main(options: Namespace) -> int:
-    network = Network.read(options.config)
-    # What noc refuses it tells of itself; a run without packets makes the relation alone.
-    empty, words = traffic_text([]), table_words(options)
-    report("run", options.config, "/dev/stdin", "--report", "summary", *words, given=empty)
-    channels = Channels(network)
-    ranks = first_found(of_network(channels, options.table), escape_choices(network, options.escape))
+    relation = checked_relation(options.config, options.table)
+    channels = relation.channels
+    ranks = first_found(relation, escape_choices(channels.network, options.escape))
     print("\n".join(rank_file(channels, ranks)))
     return 0

@@ -1,0 +1,39 @@
+"""Finds the smallest jam: a traffic that gets stuck, of which no packet can be left out and none be a flit shorter.
+
+    shrink CONFIG --out FILE            a traffic is made for a circle of the channel dependency graph, which is found
+                                        as by 'noc-tools ranks', and cut down; there is none where ranks are found
+    shrink CONFIG TRAFFIC --out FILE    TRAFFIC, a run of which gets stuck, is cut down
+
+A run is stuck where 'noc run CONFIG FILE' ends with status 5, so within the cycles of CONFIG. Of FILE each packet alone
+is needed, and each of its flits: without any one of them the run no longer gets stuck. There may be other traffics
+that are smaller still. Packets keep their order and their due times.
+
+CONFIG, TRAFFIC and F are read many times, so they are files and no pipes.
+"""
+from argparse import ArgumentParser, Namespace
+from pathlib import Path
+
+from ..arguments import add_config, add_table
+from ..jam import Jam, jam_of_circle, jam_within
+from ..traffic import traffic_text
+
+
+def add_arguments(parser: ArgumentParser) -> None:
+    add_config(parser)
+    parser.add_argument("traffic", metavar="TRAFFIC", nargs="?", help="packets that get stuck")
+    add_table(parser)
+    parser.add_argument("--out", metavar="FILE", required=True, help="where the traffic goes that is found")
+
+
+def found(options: Namespace) -> Jam:
+    """The jam that is asked for."""
+    if options.traffic is None:
+        return jam_of_circle(options.config, options.table)
+    return jam_within(options.config, options.traffic, options.table)
+
+
+def main(options: Namespace) -> int:
+    jam = found(options)
+    Path(options.out).write_text(traffic_text(jam.rows))
+    print(jam.told())
+    return 0
