@@ -15,10 +15,10 @@ from .relation import Channels, Relation
 from .words import counted
 
 # More boxes or arrows than that are drawn as a square.
-MOST_BOXES, MOST_ARROWS = 300, 1200
-BOX_WIDTH, BOX_HEIGHT, ROW, GAP = 84, 20, 30, 90
+MOST_BOXES, MOST_ARROWS = 200, 500
+BOX_WIDTH, BOX_HEIGHT, ROW, GAP = 84, 20, 30, 58
 LEFT, TOP, BOTTOM = 24, 84, 40
-SQUARE, CORNER = 720, 110
+SQUARE, CORNER, KEY_WIDTH = 720, 110, 900
 # The ports of each dimension in two shades of a colour that all eyes tell from the others.
 COLOURS = {
     "+0": "#0072b2", "-0": "#56b4e9", "+1": "#d55e00", "-1": "#e69f00", "+2": "#007a56", "-2": "#59c39b",
@@ -101,8 +101,8 @@ def box_at(x: float, y: float, channels: Channels, numbers: Sequence[int], title
 
 def key_of(channels: Channels, x: float, y: float) -> list[str]:
     """What colours and names mean."""
-    said = "12 +0.1: router 12, output port +0, virtual channel 1. Colour of a box, and of its arrows, by port:"
-    parts, x = [text(x, y, said, 12, "start")], x + 6.6 * len(said)
+    said = "12 +0.1 is router 12, output port +0, virtual channel 1. Colours are those of ports:"
+    parts, x = [text(x, y, said, 12, "start")], x + 6.1 * len(said)
     for port in channels.ports[:-1]:
         parts += [rectangle(x, y - 9, 12, 10, f'fill="{COLOURS[port]}"'), text(x + 16, y, port, 12, "start")]
         x += 48
@@ -159,7 +159,7 @@ class Columns:
     def picture(self) -> Iterator[str]:
         """The picture."""
         channels, boxes = self.graph.channels, [box for column in self.columns for box in column]
-        width = max(LEFT * 2 + len(self.columns) * (BOX_WIDTH + GAP) - GAP, 960)
+        width = max(LEFT * 2 + len(self.columns) * (BOX_WIDTH + GAP) - GAP, KEY_WIDTH)
         parts = [bold(LEFT, 24, f"The channel dependency graph in the order of the ranks: {self.graph.size()}", 15)]
         parts += key_of(channels, LEFT, 46)
         for rank, place in self.place.items():
@@ -211,7 +211,7 @@ def circle_picture(channels: Channels, circle: Sequence[Dependency]) -> str:
     """The dependencies of a circle, as arrows from channel to channel round it."""
     way = [channel for dependency in circle for channel in dependency.way[:-1]]
     radius = max(130, len(way) * 26)
-    across, height = radius + BOX_WIDTH + 110, 2 * radius + 150
+    across, height = max(radius + BOX_WIDTH + 110, KEY_WIDTH / 2), 2 * radius + 150
     middle = radius + 90
 
     def at(number: float, far: float) -> tuple[float, float]:

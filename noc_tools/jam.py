@@ -12,7 +12,7 @@ from .errors import Refused
 from .network import LOCAL, Network
 from .patterns import UNIFORM, below
 from .program import STUCK, call
-from .ranks import Dependency, NoRanks, Ranks, first_found, lowest
+from .ranks import Dependency, NoRanks, ranks_found
 from .relation import Relation, Steps, checked_relation
 from .runs import Config, Run, config_file
 from .traffic import LONGEST, MOST_PACKETS, Demand, Packet, Row, traffic_text
@@ -174,13 +174,6 @@ def size_of(rows: Sequence[Row]) -> str:
 def cut(trials: Trials, rows: list[Row], circle: Sequence[Dependency] = ()) -> Jam:
     """The jam that is left of a traffic that gets stuck."""
     return Jam(smallest(trials.without_bystanders(rows), trials.is_stuck), rows, circle)
-
-
-def ranks_found(relation: Relation) -> Ranks:
-    """The ranks of a relation: of all channels, or else of escape channels, as the lowest of each class; where there
-    are none, the reason is a circle of dependencies among all channels."""
-    network = relation.channels.network
-    return first_found(relation, [set(range(network.channels)), *lowest(network)])
 
 
 def jam_of_circle(config: str, table: str | None = None) -> Jam:

@@ -60,9 +60,14 @@ def chosen_by(found: Path) -> Path:
     return Path(os.fsdecode(asked.stdout.removesuffix(b"\n"))) if asked.returncode == 0 else found
 
 
+def sha256_of(data: bytes) -> str:
+    """The SHA-256 of some bytes."""
+    return hashlib.sha256(data).hexdigest()
+
+
 def digest_of(data: bytes) -> str:
     """The first digits of the SHA-256 of some bytes."""
-    return hashlib.sha256(data).hexdigest()[:DIGITS]
+    return sha256_of(data)[:DIGITS]
 
 
 def digest(path: str | Path) -> str:

@@ -199,6 +199,13 @@ def first_found(relation: Relation, choices: list[set[int]]) -> Ranks:
     raise reasons[0]
 
 
+def ranks_found(relation: Relation) -> Ranks:
+    """The ranks of a relation: of all channels, or else of escape channels, as the lowest of each class; where there
+    are none, the reason is a circle of dependencies among all channels."""
+    network = relation.channels.network
+    return first_found(relation, [set(range(network.channels)), *lowest(network)])
+
+
 def rank_file(channels: Channels, ranks: Ranks) -> Iterator[str]:
     """The lines of a rank file."""
     yield ",".join(RANK_COLUMNS)

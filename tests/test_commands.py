@@ -8,6 +8,7 @@ from unittest.mock import patch
 from support import HEADER, IN_THE_WAY, LINE, SQUARE, TOP, FolderTest
 from test_load import CURVE
 from test_replay import data_of
+from test_shrink import RING
 from test_statistics import REPORT, REPORT_HEADER
 from test_sweep import SMALL
 from test_timeline import bars_of
@@ -45,7 +46,7 @@ CALLS = {
     "ranks": "c", "limit": "c t", "table": "plane odd-even", "traffic": "c uniform 0.5 1", "stalls": "c",
     "replay": "c t", "keys": "c", "timeline": "c t 2", "waves": "c t", "why": "c t 2", "latency": "c r",
     "load": "c 1 0.1", "curves": "a=curve", "sweep": "small.toml", "draw": "results", "packets": "c seen 16",
-    "replies": "classes t 2 1", "assertions": "c",
+    "replies": "classes t 2 1", "assertions": "c", "certify": "--verify certificate", "shrink": "ring --out jam",
     "compare": "model.vcd examples/rtl_right.vcd --map examples/rtl_map.toml",
 }
 DEEP = "x = " + "[" * 3000 + "]" * 3000 + "\n"
@@ -139,8 +140,9 @@ class Ends(FolderTest):
         self.put(c=LINE, t=IN_THE_WAY, plane=SQUARE, r=REPORT, curve=CURVE, **{"small.toml": SMALL})
         self.put(stalls=self.noc("run", "c", "t", "--report", "stalls").stdout)
         self.put(results="kind,load,mean,accepted\nmesh,0.1,9,0.1\n", seen="time,source,destination,bytes\n0,0,1,9\n")
-        self.put(classes=replace(LINE, channels=2, classes=2))
+        self.put(classes=replace(LINE, channels=2, classes=2), ring=RING)
         self.put(**{"model.vcd": self.said("waves", "examples/rtl.toml", "examples/rtl.csv")})
+        self.tool("certify", "c", "--out", "certificate")
 
     def ends(self, command, **given):
         """The status of a command and its words on standard error."""

@@ -1,0 +1,64 @@
+"""Makes a certificate of deadlock freedom: a folder with a page, and all that is needed to repeat what it says.
+
+    certify CONFIG --out FOLDER              by the ranks of the rule's formula (dor on a mesh, dateline, west-first,
+                                             adaptive)
+    certify CONFIG --out FOLDER --ranks F    by the ranks in a file
+    certify CONFIG --out FOLDER --find       by ranks that are found, as by 'noc-tools ranks': of all channels, or else
+                                             of the lowest channels of each class as escape channels
+    certify --verify FOLDER                  makes all files again, compares them byte by byte, and names each that
+                                             differs or is missing, with status 1
+
+With the rule 'table' --table names the table. 'noc check' has to accept the ranks, and what it refuses is refused here,
+with its line and status. FOLDER is empty or not there. It gets the configuration, the table, the ranks, the answer of
+'noc check', program.txt (version, kit, logic and digest of the program), SHA256SUMS with the digests of all files, and
+the page: certificate.html, which stands alone, and certificate.md with graph.svg. The page is a function of the other
+files and of the program.
+
+Where --find finds a circle in place of ranks, the status is 1, and FOLDER shows why: the circle hop by hop, the
+smallest traffic that gets stuck on it, as 'noc-tools shrink' finds it, and replay.html, the page that plays it.
+
+CONFIG and the F are read many times, so they are files and no pipes.
+"""
+from argparse import ArgumentParser, Namespace
+
+from ..arguments import add_table, warn
+from ..certificate import CERTIFICATE, COUNTEREXAMPLE, Inputs, made_with_ranks, stuck, verify, write
+from ..errors import Refused
+from ..jam import jam_of_circle
+from ..ranks import NoRanks
+
+
+def add_arguments(parser: ArgumentParser) -> None:
+    parser.add_argument("config", metavar="CONFIG", nargs="?", help="the configuration")
+    parser.add_argument("--out", metavar="FOLDER", help="where the certificate goes")
+    add_table(parser)
+    ranks = parser.add_mutually_exclusive_group()
+    ranks.add_argument("--ranks", metavar="F", help="a rank file; without one the ranks of the rule's formula")
+    ranks.add_argument("--find", action="store_true", help="find ranks, or a circle")
+    parser.add_argument("--verify", metavar="FOLDER", help="make the files of a folder again, and compare")
+
+
+def verified(options: Namespace) -> int:
+    """Says whether a folder is what it was."""
+    if options.config or options.out or options.table or options.ranks or options.find:
+        raise Refused("--verify takes a folder and nothing else")
+    lines = verify(options.verify)
+    print("\n".join(lines) or "each file is as it was made")
+    return 1 if lines else 0
+
+
+def main(options: Namespace) -> int:
+    if options.verify:
+        return verified(options)
+    if not (options.config and options.out):
+        raise Refused("CONFIG and --out FOLDER are needed, or --verify FOLDER")
+    inputs = Inputs(options.config, options.table, options.ranks)
+    try:
+        write(made_with_ranks(inputs, options.find), options.out)
+    except NoRanks as reason:
+        jam = jam_of_circle(options.config, options.table)
+        write(stuck(inputs, jam), options.out)
+        warn(options, [str(reason), f"{jam.told()}: {options.out}/{COUNTEREXAMPLE}.html"])
+        return 1
+    print(f"accepted, and certified in {options.out}/{CERTIFICATE}.html")
+    return 0

@@ -1,0 +1,335 @@
+"""The folder of a certificate: what its files say, that each changed byte in it is found, and its picture."""
+import re
+import shutil
+import subprocess
+import unittest
+import xml.etree.ElementTree as ET
+from unittest.mock import patch
+
+from support import LINE, PROGRAM, SVG, TOP, FolderTest
+from test_replay import data_of
+from test_shrink import RING
+
+from noc_tools import claims, dependencies
+from noc_tools.certificate import LOGIC
+from noc_tools.network import Network
+from noc_tools.page import Heading, Items, Lines, Link, Table, Words, html, markdown
+from noc_tools.ranks import NoRanks, ranks_found
+from noc_tools.relation import Channels, of_network
+
+DATELINE, ADAPTIVE, BY_TABLE = "examples/ring_dateline.toml", "examples/adaptive.toml", "examples/turns.toml"
+# The table of the four left turns, in which one packet goes the other way.
+OTHER_WAY = ("0,1,local,0,2,+1,0", "0,1,local,0,2,-0,0")
+CERTIFICATE = {
+    "configuration.toml", "ranks.csv", "answer.txt", "graph.svg", "program.txt", "certificate.html", "certificate.md",
+    "SHA256SUMS",
+}
+JAM = {
+    "configuration.toml", "circle.txt", "traffic.csv", "graph.svg", "replay.html", "program.txt",
+    "counterexample.html", "counterexample.md", "SHA256SUMS",
+}
+
+
+class CertificateTest(FolderTest):
+    def setUp(self):
+        self.out = self.folder / "out"
+        self.addCleanup(shutil.rmtree, self.out, ignore_errors=True)
+
+    def certify(self, *words, folder="out", status=0):
+        """Makes a folder, and returns its texts by the names of its files."""
+        ran = self.tool("certify", *words, "--out", folder)
+        self.assertEqual(ran.returncode, status, ran.stderr)
+        return {path.name: path.read_text() for path in (self.folder / folder).iterdir()}
+
+    def certify_table(self):
+        """The same of a table with given ranks."""
+        turns = (TOP / "examples/turns_table.csv").read_text()
+        self.put(table=turns.replace(*OTHER_WAY))
+        return self.certify(BY_TABLE, "--table", "table", "--ranks", "examples/turns_ranks.csv")
+
+    def sums_hold(self):
+        """Whether the digests are those of the files, as another program sees it."""
+        ran = subprocess.run(["sha256sum", "--check", "--quiet", "SHA256SUMS"], cwd=self.out, capture_output=True)
+        return ran.returncode == 0
+
+
+class Folders(CertificateTest):
+    def test_a_rule_with_a_formula(self):
+        files = self.certify(DATELINE)
+        self.assertEqual(set(files), CERTIFICATE)
+        self.assertEqual(files["configuration.toml"], (TOP / DATELINE).read_text())
+        self.assertEqual(files["ranks.csv"], self.noc("ranks", DATELINE).stdout)
+        self.assertEqual(files["answer.txt"], "accepted\n")
+        self.assertTrue(self.sums_hold())
+
+    def test_a_table_with_ranks(self):
+        files = self.certify_table()
+        self.assertEqual(set(files), CERTIFICATE | {"table.csv"})
+        self.assertEqual(files["table.csv"], (self.folder / "table").read_text())
+        self.assertEqual(files["ranks.csv"], (TOP / "examples/turns_ranks.csv").read_text())
+        command = "$ noc check configuration.toml --table table.csv --ranks ranks.csv\naccepted\n"
+        self.assertIn(command, files["certificate.md"])
+
+    def test_ranks_that_are_found(self):
+        """With escape channels, where no ranks of all channels are."""
+        files = self.certify(ADAPTIVE, "--find")
+        self.assertEqual(files["ranks.csv"], self.said("ranks", ADAPTIVE, "--escape"))
+
+    def test_the_program_is_told(self):
+        said = dict(line.split(" ", 1) for line in self.certify(DATELINE)["program.txt"].splitlines())
+        digest = subprocess.run(["sha256sum", PROGRAM], capture_output=True, text=True).stdout.split()[0]
+        version = dict(line.split(" ", 1) for line in self.noc("--version").stdout.splitlines())
+        self.assertEqual(said, {**version, "logic": LOGIC, "sha256": digest})
+
+    def test_the_logic_is_that_of_the_page(self):
+        source = (TOP / "crates/noc_cli/src/version.rt").read_text()
+        kit = re.search(r'pub const KIT: &str = "(.*)";', source)[1]
+        self.assertIn(f"(`{kit}`, with `logic {LOGIC}`)", (TOP / "docs/PROVED.md").read_text())
+
+    def test_a_circle_in_place_of_ranks(self):
+        self.put(c=RING)
+        ran = self.tool("certify", "c", "--find", "--out", "out")
+        circle = self.tool("ranks", "c").stderr.splitlines()[1:]
+        self.assertEqual((ran.returncode, ran.stdout, ran.stderr.splitlines()[1:5]), (1, "", circle))
+        self.assertIn("4 packets of 4 flits in all get stuck", ran.stderr.splitlines()[5])
+        files = {path.name: path.read_text() for path in self.out.iterdir()}
+        self.assertEqual(set(files), JAM)
+        self.assertEqual(files["circle.txt"].splitlines(), circle)
+        self.assertEqual(self.noc("run", "out/configuration.toml", "out/traffic.csv").returncode, 5)
+        self.assertTrue(self.sums_hold())
+        page = files["counterexample.md"]
+        self.assertIn("So these packets wait for one another: 0, 1, 2, 3.", page)
+        self.assertIn("| 3 | 3 | 1 | 0 | 1 | 0 |", page)
+
+    def test_the_replay_shows_the_end_of_the_jam(self):
+        """Ten cycles after the last event, and no more."""
+        self.put(c=RING)
+        page = self.certify("c", "--find", status=1)["replay.html"]
+        counts = dict(line.split() for line in
+                      self.noc("run", "c", "out/traffic.csv", "--report", "summary").stdout.splitlines())
+        self.assertEqual(data_of(page)["last"], int(counts["last_event"]) + 10)
+        self.assertIn("configuration.toml, traffic.csv: torus of 4", page)
+
+    def test_what_is_refused(self):
+        self.put(c=LINE, file="", ring=RING, t=Network("mesh", (2, 2), 1, 2, 1, "table", 60))
+        (self.folder / "empty").mkdir(exist_ok=True)
+        cases = [
+            ("certify", "CONFIG and --out FOLDER are needed"),
+            ("certify c", "CONFIG and --out FOLDER are needed"),
+            ("certify --out out", "CONFIG and --out FOLDER are needed"),
+            ("certify c --out examples", "examples is there, and is no empty folder"),
+            ("certify c --out file", "file is there, and is no empty folder"),
+            ("certify nothing --out out", "nothing: No such file or directory"),
+            ("certify ring --out out", "dor on a torus has no ranks by formula: give --ranks F, or --find"),
+            ("certify t --table examples/turns_table.csv --out out", "a table has no ranks by formula"),
+            ("certify c --verify empty", "--verify takes a folder and nothing else"),
+            ("certify --find --verify empty", "--verify takes a folder and nothing else"),
+            ("certify --verify nothing", "nothing is no folder"),
+            ("certify --verify file", "file is no folder"),
+            ("certify --verify empty", "empty: SHA256SUMS: No such file or directory"),
+        ]
+        self.assertEachRefused((words, {}, sentence) for words, sentence in cases)
+        self.assertFalse(self.out.exists())
+
+    def test_what_noc_refuses(self):
+        """Nothing is made then."""
+        rising = "fault rank 2 NotRising class 0 router 3 port -1 vc 0 dst 2 out -0 vc 0 ranks 4 1\n"
+        words = "--table", "examples/turns_table.csv", "--ranks", "examples/turns_ranks.csv", "--out", "out"
+        ran = self.tool("certify", BY_TABLE, *words)
+        self.assertEqual((ran.returncode, ran.stdout, ran.stderr), (4, "", rising))
+        cases = {"--find": "fault option 4 NoTable\n", f"--find --table {BY_TABLE}": "fault table 9 BadHeader\n"}
+        for words, line in cases.items():
+            ran = self.tool("certify", BY_TABLE, *words.split(), "--out", "out")
+            self.assertEqual((ran.returncode, ran.stdout, ran.stderr), (3, "", line))
+        ran = self.tool("certify", DATELINE, "--ranks", "nothing", "--out", "out")
+        self.assertEqual((ran.returncode, ran.stdout, ran.stderr), (3, "", "fault ranks 1 ReadFailed\n"))
+        self.assertFalse(self.out.exists())
+
+
+class Verified(CertificateTest):
+    def verify(self, **given):
+        ran = self.called(["python3", "noc-tools", "certify", "--verify", "out"], **given)
+        return ran.returncode, ran.stdout
+
+    def look_at_each_file(self, names, parts):
+        """A changed byte in any of these files is found in this file, at places that are these parts of it."""
+        self.assertEqual(self.verify(), (0, "each file is as it was made\n"))
+        for name in sorted(names):
+            path = self.out / name
+            data = path.read_bytes()
+            for place in {int((len(data) - 1) * part) for part in parts}:
+                with self.subTest(name=name, place=place):
+                    path.write_bytes(data[:place] + bytes([data[place] ^ 1]) + data[place + 1:])
+                    self.assertEqual(self.verify(), (1, f"{name} differs\n"))
+            path.write_bytes(data)
+
+    def test_each_changed_byte_of_a_certificate(self):
+        self.look_at_each_file(self.certify_table(), (0, 0.5, 1))
+
+    def test_each_changed_byte_of_a_jam(self):
+        self.put(c=RING)
+        self.look_at_each_file(self.certify("c", "--find", status=1), (0.5,))
+
+    def test_other_inputs_that_are_right_too(self):
+        """A comment, or a length of a run, with which all could have been made; and ranks that are accepted."""
+        self.certify(DATELINE)
+        changes = {"configuration.toml": ("cycles = 60", "cycles = 61"), "ranks.csv": (",8\n", ",9\n")}
+        for name, change in changes.items():
+            path = self.out / name
+            text = path.read_text()
+            path.write_text(text.replace(*change))
+            self.assertNotEqual(path.read_text(), text)
+            self.assertEqual(self.verify(), (1, f"{name} differs\n"))
+            path.write_text(text)
+
+    def test_a_missing_file_and_one_more(self):
+        for name in self.certify_table():
+            path = self.out / name
+            data = path.read_bytes()
+            path.unlink()
+            status, said = self.verify()
+            self.assertEqual(status, 1)
+            self.assertEqual(said, "" if name == "SHA256SUMS" else f"{name} is missing\n")
+            path.write_bytes(data)
+        self.put(**{"out/more.txt": "more"})
+        self.assertEqual(self.verify(), (1, "more.txt does not belong to it\n"))
+
+    def test_another_program(self):
+        """The same program with a byte more at its end."""
+        self.certify(DATELINE)
+        other = self.folder / "other"
+        other.write_bytes(PROGRAM.read_bytes() + b"\0")
+        other.chmod(0o755)
+        found = self.verify(env=self.environment | {"NOC": str(other)})
+        self.assertEqual(found, (1, "program.txt differs: this program is another one than that of the folder\n"))
+
+    def test_the_same_inputs_make_the_same_bytes(self):
+        """Wherever they are, and whatever their names: no path is told, nor when it was."""
+        self.put(c=RING, **{"renamed": RING})
+        (self.folder / "deep").mkdir(exist_ok=True)
+        self.addCleanup(shutil.rmtree, self.folder / "deep")
+        for words, status in ((DATELINE,), 0), (("c", "--find"), 1):
+            with self.subTest(words=words):
+                one = self.certify(*words, status=status)
+                name = words[0].replace("c", "renamed") if status else words[0]
+                absolute = self.folder / name, *words[1:]
+                other = self.certify(*absolute, folder=self.folder / "deep/other", status=status)
+                self.assertEqual(one, other)
+                self.assertNotIn(str(self.folder), "".join(one.values()))
+                shutil.rmtree(self.out)
+                shutil.rmtree(self.folder / "deep/other")
+
+
+class Pages(CertificateTest):
+    def test_it_says_which_network_and_why(self):
+        """Three by three routers have 12 links, so 24 directions with two channels each: 48, and 24 of them escape."""
+        page = self.certify(ADAPTIVE)["certificate.md"]
+        self.assertTrue(page.startswith("# Certificate of deadlock freedom: mesh of 3 by 3, adaptive\n"))
+        self.assertIn("| shape | mesh of 3 by 3, 9 routers |\n| routes | the rule `adaptive` |", page)
+        self.assertIn("Of the 48 link channels 24 have a rank and are escape channels", page)
+        self.assertIn("(Duato)", page)
+        self.assertNotIn("Dally", page)
+
+    def test_all_channels_ranked_is_the_other_condition(self):
+        page = self.certify(DATELINE)["certificate.md"]
+        self.assertIn("Each of the 16 link channels has a rank", page)
+        self.assertNotIn("Duato", page)
+
+    def test_it_stands_alone(self):
+        self.put(c=RING)
+        for words, name, files in (
+            ((DATELINE,), "certificate.html", set()), (("c", "--find"), "counterexample.html", {"replay.html"}),
+        ):
+            page = self.certify(*words, status=len(files))[name]
+            self.assertEqual(set(re.findall(r'(?:src|href)="([^"]*)"', page)), files)
+            self.assertEqual(set(re.findall(r"\w+://[^\"' ]+", page)), {"http://www.w3.org/2000/svg"})
+            self.assertIn((self.out / "graph.svg").read_text(), page)
+            shutil.rmtree(self.out)
+
+    def test_what_it_names_is_proved(self):
+        """Each contract and each crate stands on the page of what is proved, in the crate that is named with it."""
+        proved = (TOP / "docs/PROVED.md").read_text()
+        sections = dict(re.findall(r"^### `(\w+)`\n(.*?)(?=^##)", proved, re.MULTILINE | re.DOTALL))
+        for item in claims.CONTRACTS:
+            names = re.findall(r"`([\w:]+)`", item.split(":", 1)[0] if "::" not in item else item.split(": ")[0])
+            *contracts, crate = names
+            self.assertTrue(contracts)
+            for contract in contracts:
+                self.assertIn(f"`{contract}`", sections[crate])
+
+    def test_blocks_in_both_forms(self):
+        blocks = [
+            Heading("A"), Words("see `x<y`"), Items(["one", "two"]), Table(["k", "v"], [["a", "`b`"]]),
+            Lines(["$ a < b"]), Link("there", "file"),
+        ]
+        text = markdown("T & U", blocks)
+        self.assertEqual(text, (
+            "# T & U\n\n## A\n\nsee `x<y`\n\n- one\n- two\n\n| k | v |\n| --- | --- |\n| a | `b` |\n\n"
+            "```\n$ a < b\n```\n\n[there](file)\n"
+        ))
+        page = html("T & U", blocks)
+        for part in (
+            "<h1>T &amp; U</h1>", "<h2>A</h2>", "<p>see <code>x&lt;y</code></p>",
+            "<ul>\n<li>one</li>\n<li>two</li>\n</ul>",
+            "<tr><th>k</th><th>v</th></tr>\n<tr><td>a</td><td><code>b</code></td></tr>", "<pre>$ a &lt; b</pre>",
+            '<p><a href="file">there</a></p>',
+        ):
+            self.assertIn(part, page)
+
+
+def graph_of(network):
+    """The graph of a network by the ranks that are found."""
+    relation = of_network(Channels(network))
+    return dependencies.Graph(relation, ranks_found(relation))
+
+
+def titles(picture):
+    """What each arrow or cell of a picture says."""
+    found = ET.fromstring(picture).iter(f"{SVG}g")
+    return [group.find(f"{SVG}title").text for group in found if group.get("class") == "dependency"]
+
+
+class Pictures(unittest.TestCase):
+    def test_a_dateline(self):
+        """Up the ring four steps follow one another, from channel 0 to channel 1 behind router 3; down it packets go
+        one hop, and so none."""
+        picture = graph_of(Network("torus", (4,), 2, 1, 1, "dateline", 60)).picture()
+        self.assertEqual(titles(picture), [
+            "2 +0.0 -> 3 +0.0", "3 +0.0 -> 0 +0.1", "0 +0.1 -> 1 +0.1", "1 +0.1 -> 2 +0.1",
+        ])
+
+    def test_channels_that_are_alike_share_a_box(self):
+        """A line of three routers with two channels: two steps, each from both channels to both."""
+        graph = graph_of(Network("mesh", (3,), 2, 1, 1, "dor", 60))
+        self.assertEqual(graph.dependencies, 8)
+        self.assertEqual(titles(graph.picture()), ["0 +0.0,1 -> 1 +0.0,1", "2 -0.0,1 -> 1 -0.0,1"])
+
+    def test_each_arrow_leads_to_the_right(self):
+        for network in (Network("mesh", (4, 4), 2, 2, 1, "dor", 60), Network("mesh", (3, 3), 2, 2, 1, "adaptive", 60)):
+            picture = graph_of(network).picture()
+            paths = re.findall(r'<path d="M([\d.]+),\S+ C\S+ \S+ ([\d.]+),', picture)
+            self.assertEqual(len(paths), len(titles(picture)))
+            self.assertTrue(all(float(start) < float(end) for start, end in paths))
+
+    def test_no_two_boxes_lie_on_one_another(self):
+        picture = graph_of(Network("mesh", (4, 4), 2, 2, 1, "dor", 60)).picture()
+        places = re.findall(r'<rect x="([\d.]+)" y="([\d.]+)" width="84"', picture)
+        self.assertEqual((len(places), len(set(places))), (48, 48))
+
+    def test_a_large_graph_is_a_square(self):
+        """All eight dependencies of a line of three routers lead from rank 1 to rank 2."""
+        graph = graph_of(Network("mesh", (3,), 2, 1, 1, "dor", 60))
+        with patch.object(dependencies, "MOST_BOXES", 0):
+            picture = graph.picture()
+        self.assertEqual(titles(picture), ["rank 1 to rank 2: 8 dependencies"])
+
+    def test_a_circle(self):
+        """Each arrow says whose packets go along it."""
+        relation = of_network(Channels(RING))
+        with self.assertRaises(NoRanks) as caught:
+            ranks_found(relation)
+        picture = dependencies.circle_picture(relation.channels, caught.exception.circle)
+        words = [text.text for text in ET.fromstring(picture).iter(f"{SVG}text")]
+        for node in range(4):
+            self.assertIn(f"class 0 to node {node}", words)
+            self.assertIn(f"{node} +0.0", words)

@@ -1,0 +1,161 @@
+"""The smallest jam: what delta debugging leaves of rows, and which packets get stuck on networks that have a circle."""
+import unittest
+from dataclasses import replace
+from unittest.mock import patch
+
+from support import HEADER, LINE, FolderTest
+
+from noc_tools import jam
+from noc_tools.network import Network
+from noc_tools.relation import Channels, Relation
+from noc_tools.rules import nearer_ports
+from noc_tools.tables import table_file
+from noc_tools.traffic import read_traffic
+
+RING = Network("torus", (4,), 1, 1, 1, "dor", 60)
+# Each of them holds one of the four channels of the ring, whichever way it is cut.
+OF_THE_RING = [(0, 2, 0, 1, 0), (1, 3, 0, 1, 0), (2, 0, 0, 1, 0), (3, 1, 0, 1, 0)]
+
+
+def rows_of(path):
+    """The packets of a traffic file."""
+    return [tuple(map(int, row)) for row in read_traffic(path)]
+
+
+def minimal_adaptive(network):
+    """The table by which packets may go any minimal way on all channels, without an escape."""
+    channels = Channels(network)
+
+    def permitted(message_class, _, router, destination):
+        ports = nearer_ports(network, router, destination)
+        return [channels.number(router, port, vc) for port in ports for vc in network.block(message_class)]
+
+    return "".join(f"{line}\n" for line in table_file(Relation(channels, permitted)))
+
+
+class OfRows(unittest.TestCase):
+    """Rows with a predicate in the place of a run; a row is known by its source."""
+
+    def setUp(self):
+        self.calls = 0
+
+    def stuck_where(self, holds):
+        """A predicate of the sources and lengths of rows, whose calls are counted."""
+        def is_stuck(rows):
+            self.calls += 1
+            return holds({row[0]: row[3] for row in rows})
+        return is_stuck
+
+    @staticmethod
+    def rows(*lengths):
+        return [(source, 99, 0, length, 0) for source, length in enumerate(lengths)]
+
+    def test_what_is_needed_is_left(self):
+        """Three of 1000, by fewer calls than one for each tenth of them."""
+        is_stuck = self.stuck_where(lambda found: {3, 500, 998} <= set(found))
+        left = jam.fewest(self.rows(*[1] * 1000), is_stuck)
+        self.assertEqual([row[0] for row in left], [3, 500, 998])
+        self.assertLess(self.calls, 100)
+
+    def test_all_that_is_needed_is_left(self):
+        left = jam.fewest(self.rows(*[1] * 5), self.stuck_where(lambda found: len(found) == 5))
+        self.assertEqual(len(left), 5)
+
+    def test_one_packet_is_left_where_each_does(self):
+        left = jam.fewest(self.rows(*[1] * 7), self.stuck_where(lambda found: True))
+        self.assertEqual(len(left), 1)
+
+    def test_a_packet_that_was_needed_for_another_is_left_out(self):
+        """Packet 1 is needed only as long as 2 is there."""
+        needed = self.stuck_where(lambda found: 0 in found and (1 in found or 2 not in found))
+        self.assertEqual([row[0] for row in jam.fewest(self.rows(1, 1, 1), needed)], [0])
+
+    def test_lengths_fall_to_what_is_needed(self):
+        is_stuck = self.stuck_where(lambda found: found[0] >= 3 and found[1] >= 17 and found[2] >= 1)
+        left = jam.shortest(self.rows(64, 64, 64), is_stuck)
+        self.assertEqual([row[3] for row in left], [3, 17, 1])
+        self.assertLess(self.calls, 40)
+
+    def test_a_shorter_packet_may_make_another_one_needless(self):
+        """Packet 1 is needed only where packet 0 has more than two flits."""
+        is_stuck = self.stuck_where(lambda found: 0 in found and (1 in found or found[0] <= 2))
+        self.assertEqual(jam.smallest(self.rows(8, 1), is_stuck), self.rows(1))
+
+
+class OfNetworks(FolderTest):
+    def is_stuck(self, rows, *words):
+        self.put(tried=HEADER + "".join("%d,%d,%d,%d,%d\n" % row for row in rows))
+        return self.noc("run", "c", "tried", *words).returncode == 5
+
+    def look_at(self, rows, *words):
+        """The packets get stuck; not so without one of them, nor with one a flit shorter."""
+        self.assertTrue(self.is_stuck(rows, *words))
+        for number, (source, destination, message_class, length, due) in enumerate(rows):
+            before, behind = rows[:number], rows[number + 1:]
+            self.assertFalse(self.is_stuck(before + behind, *words))
+            if 1 < length:
+                shorter = source, destination, message_class, length - 1, due
+                self.assertFalse(self.is_stuck([*before, shorter, *behind], *words))
+
+    def test_a_ring(self):
+        """Three packets leave a channel free, so four are needed; and a flit each holds its channel."""
+        self.put(c=RING)
+        said = self.said("shrink", "c", "--out", "jam")
+        self.assertEqual(rows_of(self.folder / "jam"), OF_THE_RING)
+        cut = "4 packets of 4 flits in all get stuck, cut from 4 packets of 256 flits in all"
+        self.assertEqual(said, f"{cut} made for a circle of 4 dependencies\n")
+        self.look_at(OF_THE_RING)
+
+    def test_a_traffic_that_is_given(self):
+        """The packets that go the other way round, a hop far, are not needed, and the others keep their order."""
+        others = "".join(f"{node},{(node - 1) % 4},0,9,{due}\n" for node in range(4) for due in (0, 5))
+        needed = "".join(f"{node},{(node + 2) % 4},0,7,0\n" for node in (2, 0, 3, 1))
+        self.put(c=RING, t=HEADER + others + needed)
+        said = self.said("shrink", "c", "t", "--out", "jam")
+        self.assertEqual(rows_of(self.folder / "jam"), [OF_THE_RING[node] for node in (2, 0, 3, 1)])
+        self.assertEqual(said, "4 packets of 4 flits in all get stuck, cut from 12 packets of 100 flits in all\n")
+
+    def test_four_turns(self):
+        """Each of the four packets turns left."""
+        words = "--table", "examples/turns_table.csv"
+        self.said("shrink", "examples/turns.toml", *words, "--out", "jam")
+        found = {row[:4] for row in rows_of(self.folder / "jam")}
+        self.assertEqual(found, {(0, 3, 0, 1), (1, 2, 0, 1), (3, 0, 0, 1), (2, 1, 0, 1)})
+
+    def test_two_channels_on_each_link(self):
+        """Both channels of each of the four links are to be held, by a packet each."""
+        self.put(c=replace(RING, channels=2, buffer=2))
+        self.said("shrink", "c", "--out", "jam")
+        self.assertEqual(sorted(rows_of(self.folder / "jam")), sorted(OF_THE_RING * 2))
+
+    def test_minimal_adaptive_routing_without_escape(self):
+        """On 6 by 6 routers, by fewer than 250 runs."""
+        for channels in (1, 2):
+            network = Network("mesh", (6, 6), channels, 2, 1, "table", 300)
+            self.put(c=network, table=minimal_adaptive(network))
+            config, table = str(self.folder / "c"), str(self.folder / "table")
+            with patch.object(jam, "call", wraps=jam.call) as call:
+                found = jam.jam_of_circle(config, table)
+            self.assertLess(call.call_count, 250)
+            self.assertLessEqual(len(found.rows), 30)
+            self.look_at(found.rows, "--table", "table")
+
+    def test_what_is_refused(self):
+        self.put(out=HEADER + "0,1,0,1,0\n")
+        short = replace(RING, cycles=3)
+        cases = [
+            ("shrink c --out jam", LINE, "no traffic gets stuck: the network has ranks"),
+            ("shrink c out --out jam", RING, "a run of out does not get stuck"),
+            ("shrink c nothing --out jam", RING, "nothing: No such file or directory"),
+            ("shrink nothing --out jam", RING, "nothing: No such file or directory"),
+            ("shrink c --out nowhere/jam", RING, "nowhere/jam: No such file or directory"),
+            ("shrink c --out jam", short, "no traffic that was made for it gets stuck within 3 cycles"),
+        ]
+        self.assertEachRefused((words, {"c": given}, sentence) for words, given, sentence in cases)
+
+    def test_what_noc_refuses(self):
+        self.put(c=replace(RING, rule="table"), broken=HEADER + "0,4,0,1,0\n", ring=RING)
+        lines = {"c": "fault option 4 NoTable\n", "ring broken": "fault network 2 BadNode row 0\n"}
+        for words, line in lines.items():
+            ran = self.tool("shrink", *words.split(), "--out", "jam")
+            self.assertEqual((ran.returncode, ran.stdout, ran.stderr), (3, "", line))
