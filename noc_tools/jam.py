@@ -162,13 +162,13 @@ class Jam:
 
     def told(self) -> str:
         """What it is, in a sentence."""
-        made = f" made for a circle of {len(self.circle)} dependencies" if self.circle else ""
-        return f"{size_of(self.rows)} get stuck, cut from {size_of(self.cut_from)}{made}"
+        made = f", made for a circle of {len(self.circle)} dependencies" if self.circle else ""
+        return f"{size_of(self.rows)} get stuck (cut from {size_of(self.cut_from)}{made})"
 
 
 def size_of(rows: Sequence[Row]) -> str:
     """How many packets and flits there are."""
-    return f"{counted(len(rows), 'packet')} of {counted(sum(row[3] for row in rows), 'flit')} in all"
+    return f"{counted(len(rows), 'packet')} with {counted(sum(row[3] for row in rows), 'flit')} in all"
 
 
 def cut(trials: Trials, rows: list[Row], circle: Sequence[Dependency] = ()) -> Jam:

@@ -91,7 +91,7 @@ class Folders(CertificateTest):
         ran = self.tool("certify", "c", "--find", "--out", "out")
         circle = self.tool("ranks", "c").stderr.splitlines()[1:]
         self.assertEqual((ran.returncode, ran.stdout, ran.stderr.splitlines()[1:5]), (1, "", circle))
-        self.assertIn("4 packets of 4 flits in all get stuck", ran.stderr.splitlines()[5])
+        self.assertIn("4 packets with 4 flits in all get stuck", ran.stderr.splitlines()[5])
         files = {path.name: path.read_text() for path in self.out.iterdir()}
         self.assertEqual(set(files), JAM)
         self.assertEqual(files["circle.txt"].splitlines(), circle)

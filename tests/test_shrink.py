@@ -102,8 +102,8 @@ class OfNetworks(FolderTest):
         self.put(c=RING)
         said = self.said("shrink", "c", "--out", "jam")
         self.assertEqual(rows_of(self.folder / "jam"), OF_THE_RING)
-        cut = "4 packets of 4 flits in all get stuck, cut from 4 packets of 256 flits in all"
-        self.assertEqual(said, f"{cut} made for a circle of 4 dependencies\n")
+        cut = "4 packets with 4 flits in all get stuck (cut from 4 packets with 256 flits in all"
+        self.assertEqual(said, f"{cut}, made for a circle of 4 dependencies)\n")
         self.look_at(OF_THE_RING)
 
     def test_a_traffic_that_is_given(self):
@@ -113,7 +113,7 @@ class OfNetworks(FolderTest):
         self.put(c=RING, t=HEADER + others + needed)
         said = self.said("shrink", "c", "t", "--out", "jam")
         self.assertEqual(rows_of(self.folder / "jam"), [OF_THE_RING[node] for node in (2, 0, 3, 1)])
-        self.assertEqual(said, "4 packets of 4 flits in all get stuck, cut from 12 packets of 100 flits in all\n")
+        self.assertEqual(said, "4 packets with 4 flits in all get stuck (cut from 12 packets with 100 flits in all)\n")
 
     def test_four_turns(self):
         """Each of the four packets turns left."""

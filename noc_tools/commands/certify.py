@@ -58,7 +58,7 @@ def main(options: Namespace) -> int:
     except NoRanks as reason:
         jam = jam_of_circle(options.config, options.table)
         write(stuck(inputs, jam), options.out)
-        warn(options, [str(reason), f"{jam.told()}: {options.out}/{COUNTEREXAMPLE}.html"])
+        warn(options, [str(reason), f"{jam.told()}, shown in {options.out}/{COUNTEREXAMPLE}.html"])
         return 1
     print(f"accepted, and certified in {options.out}/{CERTIFICATE}.html")
     return 0
