@@ -28,7 +28,7 @@ from pathlib import Path
 TOP = Path(__file__).resolve().parent
 OUT = TOP / "crates/noc/out"
 LOG, LIBRARIES, DIGESTS, TEXTS = OUT / "build.log", OUT / "libs", OUT / "digests", OUT / "texts"
-KIT = "rattle-kit-13b"
+KIT = "rattle-kit-13f"
 WITHOUT_KIT = f"""The simulator is proved and built by the Rattle kit ({KIT}), a folder that its makers hand out: put
 its bin on PATH, or the path of its rt into RT. What works without it: a folder that './noc --install DIR' makes where
 the kit is, NOC=PROGRAM before ./noc-tools, and, with no program at all, './noc-tools traffic', 'table', 'keys' and

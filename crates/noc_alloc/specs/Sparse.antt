@@ -1,4 +1,5 @@
--- How a sparse list is kept: how long it is, the set of the indices that hold something, and room for 56.
+-- How a sparse list is kept: its length, the set of the indices that hold something, and room for
+-- 56, as many channels as a router may have.
 use Rattle.std.specs.Prelude.{◌≡◌, ℕ, ◌<◌, ◌≤◌, true, List, Option, Some, None, length, slice_index_or, if◌then◌else◌}
 use Rattle.noc_topo.specs.Lists.{tabulate}
 use Rattle.noc_packet.specs.Set.{has_bit}

@@ -19,7 +19,7 @@ pub data DrainsBy (net : Setup) (limit cycles : ℕ) : ℕ → Type 0 where
   once_out : (k : ℕ) → look cycles k < limit → is_out_at net (look cycles k) ≡ true → ((j : ℕ) → j < k → is_out_at net (look cycles j) ≡ false) → DrainsBy net limit cycles (look cycles k)
   at_limit : cycles < limit → ((j : ℕ) → look cycles j < limit → is_out_at net (look cycles j) ≡ false) → DrainsBy net limit cycles limit
 
--- the limit at which every packet is out, or at the limit of the network where there is none
+-- a run that drains ends at `end`, by the limit of its network
 pub record DrainsAt (net : Setup) (cycles end : ℕ) : Type 0 where
   pub limit : ℕ
   pub is_limit : IsLimit net limit

@@ -1,4 +1,4 @@
--- The source of one router, and the packets of all.
+-- The source of one router as words, and the list of all packets that start.
 use Rattle.std.specs.Prelude.{ℕ, List, map}
 use Rattle.noc_sets.specs.Source.{Source, Start}
 use Rattle.noc_lanes.specs.declared.channels.Source.{Source as Words}

@@ -1,4 +1,4 @@
--- What one router of a block has by channel.
+-- What one router of a block keeps by channel, in tables that are read and written one by one.
 use Rattle.std.specs.Prelude.{ℕ, List, Option, Some, None, slice_get, slice_index}
 use Rattle.noc_sets.specs.Column.{RouterMarks}
 use Rattle.noc_lanes.specs.Lanes.{word}

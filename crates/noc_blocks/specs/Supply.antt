@@ -1,4 +1,4 @@
--- Input channels that come to be supplied.
+-- Input channels whose output channel has a credit again.
 use Rattle.std.specs.Prelude.{◌≡◌, ℕ, ◌^◌, ◌<◌, bit_or}
 use Rattle.noc_sets.specs.Passes.{AreOwners}
 

@@ -7,4 +7,4 @@ pub const VERSION: &str = "1.0.0";
 pub const FORMATS: &str = "1";
 
 /// The kit with which the program is proved.
-pub const KIT: &str = "rattle-kit-13b";
+pub const KIT: &str = "rattle-kit-13f";

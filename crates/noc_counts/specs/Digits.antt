@@ -1,4 +1,5 @@
--- The digits of the counts, and what is written down.
+-- How counts are kept: three digits to the base 8, bit by bit, with the sets that are still to be
+-- added to each, and rows of 64-bit counts to which the carries go.
 use Rattle.std.specs.Prelude.{◌≡◌, ℕ, ◌+◌, ◌*◌, ◌^◌, ◌<◌, ◌≤◌, List, [], Option, None, Some, take, length, slice_index, slice_index_or}
 use Rattle.std.specs.List.{sum_by}
 use Rattle.noc_packet.specs.declared.limits.TheConstants.{INDICES}

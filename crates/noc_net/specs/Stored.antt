@@ -1,4 +1,4 @@
--- What a core's fields are seen as, and what is true of them.
+-- Which event core the fields of a core stand for, and what is true of these fields.
 use Rattle.std.specs.Prelude.{◌≡◌, vec_len}
 use Rattle.noc_topo.specs.Shape.{local_port, nodes}
 use Rattle.noc_net.specs.declared.event_core.Core.TheInside.{Inside}

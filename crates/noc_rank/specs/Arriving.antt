@@ -1,4 +1,5 @@
--- Steps that packets take who come to a router on a channel with a rank.
+-- Steps of packets that came to a router on a channel with a rank, and the first of them that does
+-- not rise.
 use Rattle.std.specs.Prelude.{ℕ, ◌<◌, Bool}
 use Rattle.noc_topo.specs.Shape.{nodes}
 use Rattle.noc_route.specs.Routes.{set_at}

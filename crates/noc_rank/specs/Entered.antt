@@ -1,4 +1,4 @@
--- A list of ranks while rows are entered.
+-- A list of ranks as it is filled row by row, and the first channel that no row names.
 use Rattle.std.specs.Prelude.{◌≡◌, ℕ, ◌<◌, Bool, true, false, List, Option, None, length, take, slice_index_or}
 use Rattle.noc_topo.specs.Shape.{Grid}
 use Rattle.noc_topo.specs.Lists.{Each}

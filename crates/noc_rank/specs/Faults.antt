@@ -1,4 +1,4 @@
--- Why a relation is not accepted.
+-- Why ranks are not accepted for a relation.
 use Rattle.std.specs.Prelude.{◌≡◌, ◌≢◌, ℕ, ◌≤◌, List, [], ◌∷◌, false, Some, None, IsTrue}
 use Rattle.noc_route.specs.Channel.{Channel, Link, arrival_of, channel_vc}
 use Rattle.noc_route.specs.Order.{numbers_before, entry_numbers}

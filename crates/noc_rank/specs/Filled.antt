@@ -1,4 +1,4 @@
--- What a search has filled in, and what it finds.
+-- What the search for the least mark ahead of each channel (`LeastAhead`) has filled in so far.
 use Rattle.std.specs.Prelude.{ℕ, List, Option}
 use Rattle.noc_rank.specs.LeastAhead.{AreLeast, AreAllLeast, IsValueIn}
 use Rattle.noc_rank.specs.declared.ahead.Search.{Search}

@@ -1,4 +1,5 @@
--- What lies ahead of a channel, through adaptive channels.
+-- The least mark among the channels with a rank to which steps lead from a channel, directly or
+-- through adaptive channels.
 use Rattle.std.specs.Prelude.{◌≡◌, ℕ, ◌+◌, ◌*◌, ◌<◌, ◌≤◌, ◌⊎◌, true, List, Option, Some, None, min, is_some, slice_index_or, length, if◌then◌else◌, IsTrue}
 use Rattle.noc_packet.specs.Set.{has_bit}
 use Rattle.noc_topo.specs.Shape.{local_port, neighbour, distance}

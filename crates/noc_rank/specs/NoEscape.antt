@@ -1,4 +1,4 @@
--- Entries at which no channel with a rank is permitted, by numbers.
+-- Entries at which something is permitted, but no channel with a rank, and entries by number.
 use Rattle.std.specs.Prelude.{◌≡◌, ◌≢◌, ℕ, ◌*◌, ◌/◌, ◌%◌, ◌<◌, true, is_some}
 use Rattle.noc_packet.specs.Set.{has_bit}
 use Rattle.noc_topo.specs.Shape.{nodes, ports, local_port}

@@ -1,4 +1,5 @@
--- Descents, by the indices of channels.
+-- Descents, where steps lead from a channel with a rank to one of no greater rank, with channels
+-- named by their indices.
 use Rattle.std.specs.Prelude.{◌≡◌, ℕ, ◌*◌, ◌/◌, ◌%◌, ◌<◌, ◌≤◌, Bool, true, false, List, Option, Some, None, nat_le, slice_index_or, length, if◌then◌else◌}
 use Rattle.noc_topo.specs.Shape.{nodes, local_port}
 use Rattle.noc_route.specs.Ranks.{is_port_channel, is_channel, rank_index, rank_at}

@@ -1,4 +1,4 @@
--- How a bank keeps its rings in one list of slots.
+-- How a bank keeps its circular buffers in one list of slots.
 use Rattle.std.specs.Prelude.{◌≡◌, ℕ, ◌+◌, ◌*◌, ◌%◌, ◌<◌, ◌≤◌, Bool, true, false, List, map, length, slice_index_or}
 use Rattle.std.specs.List.{range_with_len}
 use Rattle.noc_packet.specs.declared.limits.TheConstants.{INDICES, MAX_BUFFER}

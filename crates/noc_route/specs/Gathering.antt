@@ -1,4 +1,5 @@
--- How the channels by which packets leave routers are found.
+-- The output channels by which packets leave each router, by class and destination: how they are
+-- found, the routers farthest from the destination first.
 use Rattle.std.specs.Prelude.{◌≡◌, ℕ, ◌*◌, ◌<◌, ◌≤◌, List, length, replicate}
 use Rattle.noc_topo.specs.Shape.{distance}
 use Rattle.noc_route.specs.Routes.{Routes, width, pages}

@@ -1,4 +1,4 @@
--- What packets can come to under a table of sets, and how it is found.
+-- The entries that packets reach under a table of sets, and how they are found.
 use Rattle.std.specs.Prelude.{◌≡◌, ◌≢◌, ℕ, zero, suc, ◌+◌, ◌*◌, ◌/◌, ◌%◌, ◌<◌, Bool, true, false, ◌&&◌, ◌||◌, not, List, Option, Some, None, nat_eq, slice_index, if◌then◌else◌, ◌⊎◌}
 use Rattle.noc_topo.specs.Shape.{nodes, local_port, neighbour, distance}
 use Rattle.noc_packet.specs.Set.{has_bit}

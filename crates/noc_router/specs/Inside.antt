@@ -1,4 +1,4 @@
--- What a router's fields are seen as, and what is true of them.
+-- Which view the fields of a router stand for, and what is true of these fields.
 use Rattle.std.specs.Prelude.{◌≡◌, ℕ, ◌+◌, ◌-◌, ◌*◌, ◌<◌, ◌≤◌, true, List, length, take, Option, None, slice_index_or}
 use Rattle.std.specs.Option.{ForSome}
 use Rattle.std.specs.List.{zip}

@@ -1,4 +1,4 @@
--- States of channels of a router with n channels.
+-- Whether the output channel that an input channel owns is one of its router's.
 use Rattle.std.specs.Prelude.{ℕ, Bool, true, nat_lt}
 use Rattle.noc_vc.specs.declared.input.InputState.{InputState}
 use Rattle.noc_vc.specs.declared.input.InputState.TheVariants.{Idle, Waiting, Active}

@@ -1,4 +1,5 @@
--- The flits of a block that go through the switch: what they make of the wires, the rings and the tails, among all that move in a cycle.
+-- The flits of a block that go through the switch, among all that move in a cycle: what they change
+-- of the wires and the buffers, and which of them are tails.
 use Rattle.std.specs.Prelude.{◌≡◌, ◌≢◌, ℕ, ◌+◌, ◌*◌, ◌/◌, ◌%◌, ◌<◌, ◌≤◌, Bool, true, false, ◌&&◌, ◌||◌, not, List, length, nat_eq, slice_index, if◌then◌else◌}
 use Rattle.std.specs.Int.{trailing_zeros, w32}
 use Rattle.noc_packet.specs.Set.{has_bit}

@@ -1,4 +1,5 @@
--- The words and the marks of a router in which nothing is.
+-- The words of a router before the first cycle, when it holds nothing, and its marks, which are
+-- what it keeps channel by channel.
 use Rattle.std.specs.Prelude.{◌≡◌, ℕ, ◌-◌, ◌*◌, ◌^◌, ◌<◌, ◌&&◌, List, [], ◌∷◌, map, bit_and, bit_or, nat_le, nat_lt}
 use Rattle.noc_topo.specs.Shape.{Grid, ports, local_port}
 use Rattle.noc_packet.specs.Set.{has_bit}

@@ -1,4 +1,5 @@
--- The counts of a sheet: for a verdict, the channels of recent cycles, the bits of the counts, and what is pending at each bit.
+-- The counts of one verdict, bit by bit: four cycles are added to the two lowest bits at once, and
+-- a carry waits at each higher bit until it is added there.
 use Rattle.std.specs.Prelude.{ℕ, zero, suc, ◌+◌, ◌*◌, ◌^◌, ◌&&◌, List, [], slice_index_or, bit_and, bit_or, bit_xor}
 use Rattle.noc_packet.specs.Set.{has_bit}
 use Rattle.noc_topo.specs.Lists.{one_if}

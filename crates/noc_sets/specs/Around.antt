@@ -1,4 +1,5 @@
--- What is worked out of a router in a cycle besides its words.
+-- What a cycle works out of one router besides its words: tails, the channels with a flit, the
+-- picks of the input ports, and their pointers after the cycle.
 use Rattle.std.specs.Prelude.{ℕ, Bool}
 
 pub record Surroundings : Type 0 where

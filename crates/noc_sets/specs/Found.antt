@@ -1,5 +1,5 @@
--- What is found of an input channel in a cycle, by the words of its router before the verdicts take
--- effect.
+-- What is found of an input channel in a cycle, that is its verdict, packet and output channel, by
+-- the words of its router before the verdicts take effect.
 use Rattle.std.specs.Prelude.{ℕ, ◌/◌, ◌%◌, Option, Some, None, option_map, bit_or, if◌then◌else◌}
 use Rattle.noc_packet.specs.Set.{has_bit}
 use Rattle.noc_view.specs.VerdictSets.{verdict_by}

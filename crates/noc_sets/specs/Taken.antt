@@ -1,4 +1,4 @@
--- A router that has taken beats all of which fit, channel by channel.
+-- A router that has taken beats, all of which fit, channel by channel.
 use Rattle.std.specs.Prelude.{◌≡◌, ℕ, ◌+◌, ◌/◌, ◌%◌, ◌<◌, Bool, true, false, List, [], ◌∷◌, ◌++◌, length, Option, Some, None, IfSome, nat_eq, if◌then◌else◌}
 use Rattle.noc_topo.specs.Lists.{is_some_of}
 use Rattle.noc_packet.specs.declared.packet.Flit.{Flit}

@@ -1,4 +1,5 @@
--- What a network has that was made, so that all laws hold of it, and words on its flits and buffers.
+-- A good setup, of which alone a network is made and for which all laws hold, and words for the
+-- flits of its packets and the slots of its buffers.
 use Rattle.std.specs.Prelude.{ℕ, ◌≢◌, ◌+◌, ◌<◌, ◌≤◌, length, if◌then◌else◌}
 use Rattle.std.specs.List.{All}
 use Rattle.noc_topo.specs.Shape.{nodes}

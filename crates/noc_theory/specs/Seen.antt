@@ -1,4 +1,5 @@
--- A view that shows a router as a state of the whole network has it, whatever it has counted and noted.
+-- A view as far as a state of the whole network determines it: all but what its router has counted
+-- and recorded.
 use Rattle.std.specs.Prelude.{◌≡◌, ℕ, ◌<◌, filter, map, length}
 use Rattle.noc_view.specs.View.{View, view_buffer, view_input, view_output}
 use Rattle.noc_theory.specs.Lockstep.{Lockstep, lockstep_at, view_at, beats_in, site_at, starts_at, ends_at, seen_flits, seen_input, seen_output, seen_sending, has_flit_at_source}

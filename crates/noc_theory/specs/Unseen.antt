@@ -1,4 +1,4 @@
--- Cycles whose findings nobody reads: all else stays in step with the lockstep run.
+-- Runs in which findings may be left out: all else is that of the lockstep run.
 use Rattle.std.specs.Prelude.{◌≡◌, ℕ, List, [], map}
 use Rattle.noc_packet.specs.declared.packet.Beat.{Beat}
 use Rattle.noc_view.specs.View.{View}

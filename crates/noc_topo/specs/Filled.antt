@@ -1,4 +1,4 @@
--- Three sizes in place of one to three.
+-- The sizes of all three dimensions: where a shape has fewer, the missing ones are 1.
 use Rattle.std.specs.Prelude.{List, [], ◌∷◌, ◌++◌, ℕ, take}
 
 -- the sizes of all three dimensions, 1 where one is missing

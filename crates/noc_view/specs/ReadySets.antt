@@ -1,4 +1,5 @@
--- What the input channels of a router can go on with, as sets of channels.
+-- The input channels of a router, as sets by what they can do: heads that are not routed, those
+-- that wait, those without a flit or without a credit, and those that can send.
 use Rattle.std.specs.Prelude.{◌≡◌, ℕ, ◌<◌, ◌&&◌, not, List, [], slice_index_or}
 use Rattle.noc_packet.specs.Set.{has_bit}
 use Rattle.noc_packet.specs.declared.packet.Flit.{Flit}
