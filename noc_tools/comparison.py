@@ -3,17 +3,20 @@ import re
 from collections import defaultdict, deque
 from collections.abc import Iterator
 from dataclasses import dataclass
+from functools import cached_property
 
 from .errors import Refused
-from .findings import NO_CHANNEL, VERDICTS, Finding, Place
+from .findings import EMPTY, GRANTED, LOST_CHANNEL, NO_CHANNEL, OWNING, VERDICTS, Finding, Place
 from .network import LOCAL, split
-from .signals import EDGES, OF_VERDICTS, OUT, PACKET, VERDICT, SignalMap
-from .vcd import Changes, Dump, Signal
+from .signals import EDGES, OF_VERDICTS, OUT, PACKET, VERDICT, SignalMap, port_number
+from .vcd import Changes, Dump, Signal, number_in
 from .words import counted
 
 OF_MODEL = re.compile(r"noc\.router_(\d+)\.(plus_\d+|minus_\d+|local)\.verdict_(\d+)")
-# The variables that the model has for each channel.
+OF_CHANNEL = re.compile(r"([+-]\d|local)\.(\d)")
+# The variables that the model has for each channel, and the verdicts beside which it has an output channel.
 SAID = (VERDICT, PACKET, OUT)
+WITH_OUT = {*OWNING, GRANTED, LOST_CHANNEL}
 
 
 class Model:
@@ -40,18 +43,18 @@ class Model:
                 raise Refused(f"{self.dump.name} has no '{name}', as 'noc-tools waves' writes it")
             self.signs[signal.sign] = place, kind
 
-    @property
+    @cached_property
     def places(self) -> list[Place]:
         """All channels, in the order of the file."""
         return list(self.said)
 
-    @property
+    @cached_property
     def ports(self) -> int:
         """The ports of a router: two for each dimension, in which each router has a link, and the local one."""
         names = {split(channel)[0] for _, channel in self.said}
         return 2 * len({name[1:] for name in names - {LOCAL}}) + 1
 
-    @property
+    @cached_property
     def channels(self) -> int:
         """The channels of a port."""
         return 1 + max(split(channel)[1] for _, channel in self.said)
@@ -70,15 +73,21 @@ class Model:
                 changed.add(place)
             cycle = time
 
+    def has_channel(self, name: str) -> bool:
+        """Whether a router may have an output channel of this name."""
+        found = OF_CHANNEL.fullmatch(name)
+        if found is None or self.channels <= int(found[2]):
+            return False
+        return found[1] == LOCAL or port_number(found[1], self.ports) < self.ports - 1
+
     def finding(self, cycle: int, place: Place) -> Finding:
         """What the model finds of a channel."""
-        said = self.said[place]
-        try:
-            packet = None if "z" in said[PACKET] else int(said[PACKET], 2)
-            verdict = VERDICTS[VERDICTS.index(said[VERDICT])]
-            return Finding(cycle, *place, verdict, packet, said[OUT], ())
-        except (KeyError, ValueError):
-            raise Refused(f"{self.dump.name} does not say what router {place[0]}, {place[1]} does") from None
+        verdict, packet, out = (self.said[place].get(kind, "") for kind in SAID)
+        holder = number_in(packet)
+        is_whole = verdict in VERDICTS and (packet == "z" if verdict == EMPTY else holder is not None)
+        if not is_whole or not (self.has_channel(out) if verdict in WITH_OUT else out == NO_CHANNEL):
+            raise Refused(f"{self.dump.name} does not say what router {place[0]}, {place[1]} does in cycle {cycle}")
+        return Finding(cycle, *place, verdict, holder, out, ())
 
 
 class Design:
@@ -192,7 +201,7 @@ class Comparison:
         the time of that."""
         for kind, signal, delay in self.design.signals[finding.place]:
             value, expected = signal.value_in(self.design.values[delay]), self.expected(kind, finding)
-            if expected is not None and (not value.isdecimal() or int(value, 2) != expected):
+            if expected is not None and number_in(value) != expected:
                 return kind, expected, signal, value, self.design.times[delay]
         return None
 

@@ -1,5 +1,6 @@
 """The first difference between a design and the model, in words."""
 from collections.abc import Iterator, Sequence
+from contextlib import suppress
 
 from .comparison import Difference
 from .findings import (
@@ -7,12 +8,21 @@ from .findings import (
 )
 from .network import LOCAL
 from .signals import OF_VERDICTS, OUT, VERDICT
+from .vcd import number_in
 from .words import counted
 
 # What a design does where its signal of a verdict is 1; what else has such a signal is a stall.
 ACTS = {EMPTY: "holds nothing", ROUTED: "routes a head", GRANTED: "grants an output channel", MOVED: "moves a flit"}
 # So many of the further channels are named.
 NAMED = 3
+
+
+def winner(finding: Finding, around: Sequence[Finding]) -> str:
+    """The channel that won what this one lost, in brackets."""
+    if finding.verdict in WINNING:
+        with suppress(StopIteration):
+            return f" ({winner_of(finding, around).channel})"
+    return ""
 
 
 def reason(finding: Finding, around: Sequence[Finding]) -> str:
@@ -27,13 +37,7 @@ def reason(finding: Finding, around: Sequence[Finding]) -> str:
     if verdict == MOVED:
         return f"{packet} has {out} there, a flit{'' if out.startswith(LOCAL) else ', a credit'}, and wins the switch"
     before = "waits" if verdict == NO_IDLE_CHANNEL else f"{'asks for' if verdict == LOST_CHANNEL else 'has'} {out}"
-    winner = f" ({winner_of(finding, around).channel})" if verdict in WINNING else ""
-    return f"{packet} {before} there, but {REASONS[snake(verdict)]}{winner}"
-
-
-def number_in(value: str) -> int | None:
-    """The number that bits are, where all of them are known."""
-    return int(value, 2) if value.isdecimal() else None
+    return f"{packet} {before} there, but {REASONS[snake(verdict)]}{winner(finding, around)}"
 
 
 def sides(found: Difference, verdicts: Sequence[str]) -> str:

@@ -15,6 +15,11 @@ Changes = dict[str, str]
 SCALARS, VECTORS = frozenset("01xXzZ"), frozenset("bBrRs")
 
 
+def number_in(value: str) -> int | None:
+    """The number that bits are, where all of them are known."""
+    return int(value, 2) if value and set(value) <= {"0", "1"} else None
+
+
 @dataclass(frozen=True)
 class Signal:
     """Some bits of a variable, counted from the left one, by its name and by its sign in the file."""

@@ -57,6 +57,15 @@ class Compares(FolderTest):
         agreed = "4 cycles (cycles 0 to 3) of 2 channels agree: moved.\n"
         self.assertEqual(self.compared(), (0, agreed, ""))
 
+    def test_only_cycles_that_both_have_are_compared(self):
+        """The last edge, at 55, ends cycle 2 with this offset, before which the model has moved."""
+        later = {time + 20 if time else 0: change for time, change in GOOD.items()}
+        said = self.compared(values=later, head=MAP.replace("offset = 1", "offset = 3"))[1]
+        self.assertEqual(said, "3 cycles (cycles 0 to 2) of 2 channels agree: moved.\n")
+        earlier = {0: "b0 m", 5: "b100 m", 15: "b0 m"}
+        said = self.compared(values=earlier, head=MAP.replace("offset = 1", "offset = -1"))[1]
+        self.assertEqual(said, "3 cycles (cycles 1 to 3) of 2 channels agree: moved.\n")
+
     def test_a_move_that_is_missing(self):
         """What changes at the time of an edge is there for the next one."""
         self.assertEqual(self.compared(values={0: "b0 m"})[:2], (8, (
@@ -90,6 +99,7 @@ class Compares(FolderTest):
     def test_an_unknown_value_differs(self):
         line = "cycle 2, router 1, local.0: the model has moved 1 (Moved), and the design x."
         self.assertDiffers(line, values={0: "b0 m", 25: "bx00 m", 35: "b0 m"})
+        self.assertDiffers(line.replace("design x", "design 2"), values={0: "b0 m", 25: "b200 m", 35: "b0 m"})
 
     def test_an_offset_moves_cycle_0(self):
         later = {time + 20 if time else 0: change for time, change in GOOD.items()}
@@ -219,7 +229,15 @@ class Refuses(FolderTest):
             self.refused(sentence, dut=text)
         self.refused("r.vcd has no channel of a router as 'noc-tools waves' writes them", model=design(GOOD))
         self.refused("r.vcd has no 'noc.router_1.plus_0.out_0', as", model=MODEL.replace("out_0", "way_0"))
-        self.refused("r.vcd does not say what router 1, +0.0 does", model=MODEL.replace("sEmpty ! bz", "sOdd ! bz"))
+        for old, new in [
+            ("sEmpty !", "sOdd !"), ('bz "', 'b1 "'), ("s- #", "s+0.0 #"), ("s- #", ""),
+            ("sRouted $ b101", "sRouted $ bz"), ("sRouted $ b101", "sRouted $ b3"),
+        ]:
+            place = "+0.0" if "!" in old or '"' in old or "#" in old else "local.0"
+            self.refused(f"r.vcd does not say what router 1, {place} does in cycle 0", model=MODEL.replace(old, new))
+        for out in "s+1.0 &", "s+0.1 &", "s+0 &", "s- &":
+            sentence = "r.vcd does not say what router 1, local.0 does in cycle 1"
+            self.refused(sentence, model=MODEL.replace("s+0.0 &", out))
         self.assertRefused(self.tool("compare", "no.vcd", "d.vcd", "--map", "m"), "no.vcd", "compare")
 
 
