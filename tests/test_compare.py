@@ -97,8 +97,10 @@ class Compares(FolderTest):
         ])
 
     def test_an_unknown_value_differs(self):
+        """The bits on the left that a value leaves out are as its first one, where that is unknown, and else 0."""
         line = "cycle 2, router 1, local.0: the model has moved 1 (Moved), and the design x."
         self.assertDiffers(line, values={0: "b0 m", 25: "bx00 m", 35: "b0 m"})
+        self.assertDiffers(line, values={0: "b0 m", 25: "bx0 m", 35: "b0 m"})
         self.assertDiffers(line.replace("design x", "design 2"), values={0: "b0 m", 25: "b200 m", 35: "b0 m"})
 
     def test_an_offset_moves_cycle_0(self):
