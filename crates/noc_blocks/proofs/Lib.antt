@@ -22,3 +22,4 @@ pub mod BeginningLemmas
 pub mod RoutedLemmas
 pub mod ArrivalLemmas
 pub mod WorkedLemmas
+pub mod ShownLemmas

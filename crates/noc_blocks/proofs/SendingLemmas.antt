@@ -8,7 +8,7 @@ use Rattle.std.proofs.lemmas.Bool.{and_parts, cases_Bool, eqb-true, false≢true
 use Rattle.noc_packet.specs.Set.{has_bit}
 use Rattle.noc_packet.proofs.SetLemmas.{either_members, has_bit-below}
 use Rattle.noc_sets.specs.Column.{Column, RouterMarks}
-use Rattle.noc_sets.specs.Grants.{Allocation, HasAllocated, IsBound, winner}
+use Rattle.noc_sets.specs.Grants.{Allocation, HasAllocated, IsBound, KeepsInput, winner}
 use Rattle.noc_sets.specs.Planes.{plane_number}
 use Rattle.noc_sets.specs.Sets.{differ, least, less}
 use Rattle.noc_sets.specs.Unions.{some_below}
@@ -60,9 +60,24 @@ module _ (vcs ports : ℕ) (vc : ℕ → ℕ) (old new : List ℕ) (a b : Alloca
       at (inr f) = f
       at (inl t) = absurd (true≢false (sym (active.active q i l t) ∙ active.apart i (granted-waits i o h w)))
 
-  pub sends-granted : SendsRight vcs ports new b.marks
-  sends-granted = record { taken = λ q i l e. (each q i l e (cases_Bool (has_bit b.granted i))).0; number = λ q i l e. (each q i l e (cases_Bool (has_bit b.granted i))).1 }
+  kept-not : (i : ℕ) → has_bit b.granted i ≡ false → KeepsInput a.marks b.marks i
+  kept-not i n = grants.marks.inputs i (λ o h. no o h (cases_Bool (has_bit (winner grants.requests a.marks o) i)))
     where
+      no : (o : ℕ) → has_bit grants.outs o ≡ true → (has_bit (winner grants.requests a.marks o) i ≡ true) ⊎ (has_bit (winner grants.requests a.marks o) i ≡ false) → has_bit (winner grants.requests a.marks o) i ≡ false
+      no o h (inr f) = f
+      no o h (inl t) = absurd (true≢false (sym (grants.marks.given o i h t) ∙ n))
+
+  pub sends-granted : SendsRight vcs ports new b.marks
+  sends-granted = record {
+    below = λ q i l e. below q i l e (cases_Bool (has_bit b.granted i));
+    taken = λ q i l e. (each q i l e (cases_Bool (has_bit b.granted i))).0;
+    number = λ q i l e. (each q i l e (cases_Bool (has_bit b.granted i))).1;
+  }
+    where
+      below : (q i : ℕ) → q < ports → has_bit (b.marks.to_port q) i ≡ true → (has_bit b.granted i ≡ true) ⊎ (has_bit b.granted i ≡ false) → i < ports * vcs
+      below q i l e (inl g) = let one = granted-by i g in active.waiting i (granted-waits i one.0 one.1 one.2)
+      below q i l e (inr n) = sends.below q i l (sym ((kept-not i n).to_port q) ∙ e)
+
       each : (q i : ℕ) → q < ports → has_bit (b.marks.to_port q) i ≡ true → (has_bit b.granted i ≡ true) ⊎ (has_bit b.granted i ≡ false)
           → (b.marks.taken i ≡ 2 ^ (q * vcs + plane_number new i)) × (plane_number new i < vcs)
       each q i l e (inl g) = (bound.taken ∙ ap (λ n. 2 ^ n) place, subst (λ n. n < vcs) (sym number) (omega arith))
@@ -92,19 +107,16 @@ module _ (vcs ports : ℕ) (vc : ℕ → ℕ) (old new : List ℕ) (a b : Alloca
               whole : (n v : ℕ) → 0 < v → n ≡ n / v * v + n % v
               whole n v s = sym (div-add-mod' n v)
       each q i l e (inr n) =
-          let keeps = grants.marks.inputs i (λ o h. no o h (cases_Bool (has_bit (winner grants.requests a.marks o) i))) in
+          let keeps = kept-not i n in
           let sent : has_bit (a.marks.to_port q) i ≡ true = sym (keeps.to_port q) ∙ e in
           let same : plane_number new i ≡ plane_number old i = numbered.kept i n in
           (keeps.taken ∙ sends.taken q i l sent ∙ ap (λ x. 2 ^ (q * vcs + x)) (sym same), subst (λ x. x < vcs) (sym same) (sends.number q i l sent))
-        where
-          no : (o : ℕ) → has_bit grants.outs o ≡ true → (has_bit (winner grants.requests a.marks o) i ≡ true) ⊎ (has_bit (winner grants.requests a.marks o) i ≡ false) → has_bit (winner grants.requests a.marks o) i ≡ false
-          no o h (inr f) = f
-          no o h (inl t) = absurd (true≢false (sym (grants.marks.given o i h t) ∙ n))
 
 -- ---- tails leave
 pub sends-released : (vcs ports : ℕ) (vc : List ℕ) (port : ℕ → ℕ) (m w : RouterMarks) (released freed : ℕ) → HasReleased port released m.taken m.to_port w.to_port freed → w ≡ record m { to_port = w.to_port }
     → SendsRight vcs ports vc m → SendsRight vcs ports vc w
 sends-released vcs ports vc port m w released freed has same sends = record {
+  below = λ q i l e. sends.below q i l (was q i e);
   taken = λ q i l e. ap (λ (x : RouterMarks). x.taken i) same ∙ sends.taken q i l (was q i e);
   number = λ q i l e. sends.number q i l (was q i e);
 }
@@ -143,6 +155,7 @@ pub active-credited : (vcs ports : ℕ) (c d : Column) (m w : RouterMarks) (home
 active-credited vcs ports c d m w home waiting active idle draining to_port is = record {
   active = λ q i l e. ap (λ n. has_bit n i) active ∙ is.active q i l (ap (λ (f : ℕ → ℕ). has_bit (f q) i) (sym to_port) ∙ e);
   apart = λ i e. ap (λ n. has_bit n i) active ∙ is.apart i (ap (λ n. has_bit n i) (sym waiting) ∙ e);
+  waiting = λ i e. is.waiting i (ap (λ n. has_bit n i) (sym waiting) ∙ e);
   idle = λ o e. from o (or-cases (has_bit c.idle o) (has_bit (less c.draining home) o) (sym (either_members c.idle (less c.draining home) o) ∙ ap (λ n. has_bit n o) (sym idle) ∙ e));
   draining = λ o e. is.draining o (still o (cases_Bool (has_bit c.draining o)) (ap (λ n. has_bit n o) (sym draining) ∙ e));
 }

@@ -245,7 +245,7 @@ module _ (vcs ports : ℕ) (layout : Layout) (starts : List Start) (cycle : ℕ)
   -- it sends as it did
   pub still-sends : SendsRight vcs ports a.vc a.marks → SendsRight vcs ports b.vc b.marks
   still-sends sends =
-      subst (λ (v : List ℕ). SendsRight vcs ports v b.marks) (sym taken.vc) (subst (λ (m : RouterMarks). SendsRight vcs ports a.vc m) (sym is-still.marks) (record { taken = sends.taken; number = sends.number }))
+      subst (λ (v : List ℕ). SendsRight vcs ports v b.marks) (sym taken.vc) (subst (λ (m : RouterMarks). SendsRight vcs ports a.vc m) (sym is-still.marks) (record { below = sends.below; taken = sends.taken; number = sends.number }))
 
   pub still-active : SendsActive vcs ports (column_in a) a.marks → SendsActive vcs ports (column_in b) b.marks
   still-active active =

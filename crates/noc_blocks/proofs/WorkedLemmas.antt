@@ -56,7 +56,7 @@ module _ (w vcs ports : ℕ) (port vc : ℕ → ℕ) (layout : Layout) (sets : �
       at (inr some) = sends-granted vcs ports vc s.vc d.vc (before (column_in s) s.marks) g room.some room.vc_is words.idle (asked some) (decides.asked some).1 sends active
 
   pub decided-sends : SendsRight vcs ports d.vc d.marks
-  decided-sends = subst (λ (m : RouterMarks). SendsRight vcs ports d.vc m) (sym decides.marks) (record { taken = granted-sends.taken; number = granted-sends.number })
+  decided-sends = subst (λ (m : RouterMarks). SendsRight vcs ports d.vc m) (sym decides.marks) (record { below = granted-sends.below; taken = granted-sends.taken; number = granted-sends.number })
 
   pub after-sends : SendsRight vcs ports b.vc b.marks
   after-sends = subst (λ (v : List ℕ). SendsRight vcs ports v b.marks) (sym concludes.vc)

@@ -37,7 +37,10 @@ pub use frame::{Frame, PORTS};
 pub use heads::{Guide, route_all};
 pub use injection::{Sources, advance_all, begin_all};
 pub use joins::{join, leave, write_digits};
-pub use laws::{passes_are_a_cycle, passes_keep_the_digits, routers_left_alone_sleep};
+pub use laws::{
+    passes_are_a_cycle, passes_keep_the_digits, raised_channels_are_owned,
+    routers_left_alone_sleep, starts_go_on, words_of_a_view_are_ready,
+};
 pub use links::{ROOM, ROW, Sides, gather};
 pub use marks::{Marks, PLACES, entry, note};
 pub use moves::move_by_ports;
