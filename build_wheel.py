@@ -7,7 +7,7 @@ from pathlib import Path
 from typing import Any
 
 TOP = Path(__file__).resolve().parent
-KINDS = (".py", ".html", ".sv")
+KINDS = (".py", ".html", ".css", ".js", ".sv")
 
 
 def recorded(name: str, data: bytes) -> str:

@@ -8,14 +8,18 @@ from pathlib import Path
 from typing import Any
 
 from .errors import Refused
-from .findings import NO_CHANNEL, VERDICTS, Finding, Place, finding_of, snake
-from .network import Network, split
+from .findings import NO_CHANNEL, OWNING, ROUTED, VERDICTS, WINNING, Finding, Place, finding_of, snake
+from .life import QUEUE
+from .network import LOCAL, Network, split
 from .picture import WHITE
 from .runs import Run
 from .timeline import KINDS
 
-FRAME = Path(__file__).resolve().with_name("replay_page.html")
+# The parts of the page: a frame, which says by their names where the others go.
+PARTS = Path(__file__).resolve().with_name("replay_page")
+FRAME = "frame.html"
 MOST_CHANGES = 2_000_000
+NONE = -1
 
 
 class Names:
@@ -31,20 +35,21 @@ class Names:
 
 def changes_of(
     findings: Iterable[Finding], places: Sequence[Place], first: int, names: Names
-) -> tuple[list[list[int]], list[int]]:
+) -> tuple[list[list[int]], dict[int, int]]:
     """The changes of each channel, five numbers each: the cycles since the one before (or the first), the verdict, the
-    packet or -1, the output channel, and the channels that are permitted. And all packets."""
+    packet or -1, the output channel, and the channels that are permitted. And each packet with its first cycle."""
     changes: dict[Place, list[int]] = {place: [] for place in places}
     since = dict.fromkeys(places, first)
-    packets = set()
+    came: dict[int, int] = {}
     for finding in findings:
         place = finding.place
         out, permitted = names.number(finding.out), names.number(" ".join(finding.permitted) or NO_CHANNEL)
-        packet = -1 if finding.packet is None else finding.packet
+        packet = NONE if finding.packet is None else finding.packet
         changes[place] += finding.cycle - since[place], VERDICTS.index(finding.verdict), packet, out, permitted
         since[place] = finding.cycle
-        packets.add(packet)
-    return list(changes.values()), sorted(packets - {-1})
+        came.setdefault(packet, finding.cycle)
+    came.pop(NONE, None)
+    return list(changes.values()), came
 
 
 def changes_within(run: Run, first: int, last: int) -> Iterator[Finding]:
@@ -61,19 +66,32 @@ def data_of(run: Run, first: int, last: int) -> dict[str, Any]:
     """All that the page shows."""
     network = run.network
     names = Names(NO_CHANNEL)
-    changes, numbers = changes_of(changes_within(run, first, last), network.places, first, names)
+    changes, came = changes_of(changes_within(run, first, last), network.places, first, names)
     kinds = [KINDS.get(snake(verdict), (WHITE, "it holds no packet")) for verdict in VERDICTS]
-    packets = [run.packet(number) for number in numbers]
     places = ((router, *split(channel)) for router, channel in network.places)
     return {
         "radix": network.radix, "nodes": network.nodes, "vcs": network.channels, "ports": network.ports,
         "first": first, "last": last,
         "verdicts": VERDICTS, "colours": [colour for colour, _ in kinds], "meanings": [meaning for _, meaning in kinds],
+        "queue": KINDS[QUEUE][0],
+        "owning": sorted(OWNING), "winning": {lost: sorted(winning) for lost, winning in WINNING.items()},
         "links": links_of(network),
         "channels": [[router, network.ports.index(port), number] for router, port, number in places],
         "names": list(names.numbers),
-        "packets": {each.number: [each.source, each.destination, each.length, each.due] for each in packets},
+        "packets": packets_of(run, first, last, came),
         "changes": changes,
+    }
+
+
+def packets_of(run: Run, first: int, last: int, came: dict[int, int]) -> dict[int, list[int]]:
+    """Each packet that is in a channel or a queue in these cycles: source, destination, length, due cycle, and the
+    first of these cycles in which it is in a channel, or -1."""
+    heads = run.trace(last=first - 1, verdicts=(ROUTED,)) if first else ()
+    gone = {finding.packet for finding in heads if finding.channel.startswith(LOCAL)}
+    packets = map(run.packet, range(len(run.rows)))
+    return {
+        each.number: [each.source, each.destination, each.length, each.due, came.get(each.number, NONE)]
+        for each in packets if each.number in came or (each.due <= last and each.number not in gone)
     }
 
 
@@ -99,7 +117,9 @@ def title_of(run: Run, first: int, last: int) -> str:
 
 
 def page(run: Run, first: int, last: int) -> str:
-    """The frame with title and data put in, at once: a title may look like the place of the data."""
+    """The frame with the other parts, title and data put in, at once: a title may look like the place of the data."""
+    parts = {f"@{path.name}@": path.read_text(encoding="utf-8") for path in PARTS.iterdir() if path.name != FRAME}
     text = json.dumps(data_of(run, first, last), separators=(",", ":")).replace("<", "\\u003c")
-    put_in = {"@TITLE@": escape(title_of(run, first, last)), "@DATA@": text}
-    return re.sub("|".join(put_in), lambda place: put_in[place[0]], FRAME.read_text(encoding="utf-8"))
+    put_in = {**parts, "@TITLE@": escape(title_of(run, first, last)), "@DATA@": text}
+    frame = (PARTS / FRAME).read_text(encoding="utf-8")
+    return re.sub("|".join(map(re.escape, put_in)), lambda place: put_in[place[0]], frame)

@@ -3,14 +3,17 @@ import json
 import re
 import shutil
 import unittest
+import xml.etree.ElementTree as ET
 from html.parser import HTMLParser
 from unittest.mock import patch
 
-from support import IN_THE_WAY, LINE, FolderTest, made_networks
+from support import HEADER, IN_THE_WAY, LINE, SVG, TOP, FolderTest, made_networks
 from test_waves import AT_ROUTER_1, found_by_explain
 
 from noc_tools import Refused, replay
+from noc_tools.network import Network
 from noc_tools.runs import Run
+from noc_tools.waiting import Snapshot, waiting_lines
 
 CHROMIUM = next(filter(None, map(shutil.which, ("chromium", "chromium-browser", "google-chrome"))), None)
 
@@ -43,8 +46,20 @@ class Replay(FolderTest):
         changes = changes_in(data)
         self.assertEqual((data["first"], data["last"], data["nodes"]), (0, 19, 3))
         self.assertEqual((changes[1, "-0.0"], changes[1, "+0.0"]), (AT_ROUTER_1, []))
-        self.assertEqual(data["packets"], {"0": [0, 2, 1, 0], "1": [1, 2, 1, 0], "2": [0, 2, 3, 0]})
+        self.assertEqual(data["packets"], {"0": [0, 2, 1, 0, 0], "1": [1, 2, 1, 0, 0], "2": [0, 2, 3, 0, 3]})
         self.assertEqual(sorted(data["links"]), [[0, "+0", 1], [1, "+0", 2], [1, "-0", 0], [2, "-0", 1]])
+
+    def test_it_has_the_packets_of_queues(self):
+        """Packet 2 comes in when packet 0 has left local.0, in cycle 3. In 8 packet 1 is out and packet 0 is not. The
+        last packet is due in cycle 19, and comes in then."""
+        self.put(late=f"{IN_THE_WAY}2,0,0,1,19\n")
+        spans = {
+            (0, 2): {"0": 0, "1": 0, "2": -1}, (1, 3): {"0": 1, "1": 1, "2": 3}, (8, 9): {"0": 8, "2": 8},
+            (18, 18): {}, (18, 19): {"3": 19},
+        }
+        for (first, last), came in spans.items():
+            packets = data_of(self.said("replay", "c", "late", "--from", first, "--to", last))["packets"]
+            self.assertEqual({number: packet[-1] for number, packet in packets.items()}, came)
 
     def test_it_agrees_with_the_program(self):
         for network, traffic in made_networks(4):
@@ -91,7 +106,7 @@ class Shown(HTMLParser):
 
     def __init__(self, text):
         super().__init__()
-        self.tables, self.words, self.attributes, self.bodies = {}, {}, {}, {}
+        self.tables, self.words, self.attributes, self.bodies, self.tips = {}, {}, {}, {}, {}
         self.table = self.name = None
         self.feed(text)
 
@@ -100,7 +115,7 @@ class Shown(HTMLParser):
         if tag == "table":
             self.table = self.tables.setdefault(attributes["id"], [])
         elif "id" in attributes:
-            self.name = attributes["id"]
+            self.name, self.kind = attributes["id"], tag
             self.words[self.name], self.attributes[self.name] = "", attributes
         elif tag == "tr":
             self.table.append([])
@@ -108,12 +123,18 @@ class Shown(HTMLParser):
             self.table[-1].append("")
         elif attributes.get("class") == "body":
             self.bodies[self.name] = attributes["fill"]
+        elif attributes.get("class") == "tip":
+            self.tips[self.name] = attributes["d"].count("Z")
 
     def handle_endtag(self, tag):
         if tag == "table":
             self.table = None
-        elif tag in ("h2", "p", "button"):
+        elif self.name and tag == self.kind:
             self.name = None
+
+    def arrows(self):
+        """How many arrows of each kind are drawn: each tip is a closed line."""
+        return {kind: self.tips[f"arrows-{kind}"] for kind in ("own", "other", "followed", "circle")}
 
     def handle_data(self, words):
         if self.table:
@@ -130,12 +151,14 @@ click(document.getElementById("forward"));
 """
 KEYS = """
 const forward = document.getElementById("forward"), seen = [];
-const press = (kind, key, target) => {
-  const event = new KeyboardEvent(kind, { key, bubbles: true, cancelable: true });
+const press = (kind, key, target, more) => {
+  const event = new KeyboardEvent(kind, { key, bubbles: true, cancelable: true, ...more });
   target.dispatchEvent(event);
   return event.defaultPrevented;
 };
 const now = () => document.getElementById("cycle").value;
+"""
+STEPS = KEYS + """
 forward.click();
 press("keydown", "ArrowRight", forward);
 seen.push(now());
@@ -144,6 +167,27 @@ seen.push(now());
 seen.push(press("keydown", " ", forward) && press("keyup", " ", forward), document.getElementById("play").textContent);
 document.getElementById("play").click();
 document.getElementById("router-name").textContent = seen.join(" ");
+"""
+CHANGES = KEYS + """
+for (const cycle of [8, 17]) {
+  go(cycle);
+  for (const id of ["behind", "behind", "before", "before"]) {
+    document.getElementById("change-" + id).click();
+    seen.push(now());
+  }
+  for (const key of ["ArrowRight", "ArrowLeft", "ArrowLeft"]) {
+    press("keydown", key, forward, { shiftKey: true });
+    seen.push(now());
+  }
+}
+document.getElementById("router-name").textContent = seen.join(" ");
+"""
+MIDDLES = """
+const drawn = [11, 12, 13].map((cycle) => {
+  go(cycle);
+  return document.getElementById("stands").getAttribute("d").split("Z").length - 1;
+});
+document.getElementById("router-name").textContent = drawn.join(" ");
 """
 ADDRESS = """
 document.getElementById("forward").click();
@@ -155,42 +199,145 @@ const field = document.getElementById("follow");
 field.value = -1;
 field.dispatchEvent(new Event("change"));
 """
+NO_ARROWS = """
+const field = document.getElementById("arrows");
+field.value = "none";
+field.dispatchEvent(new Event("change"));
+"""
+SAVE = """
+URL.createObjectURL = (blob) => {
+  blob.text().then((text) => { document.getElementById("router-name").textContent = text; });
+  return "#";
+};
+document.getElementById("save").click();
+"""
+# What the page says of these packets in these cycles: the places step by step, and the sentence at their end.
+ALL_STEPS = """
+const found = [];
+for (const [cycle, packet] of ASKED) {
+  go(cycle);
+  follow(packet);
+  const rows = [...document.querySelectorAll("#steps-table tr")].slice(1);
+  const steps = rows.map((row) => [...row.cells].slice(0, 3).map((cell) => cell.textContent).join(" "));
+  found.push([...steps, document.getElementById("steps-end").textContent]);
+}
+document.getElementById("router-name").textContent = JSON.stringify(found);
+"""
+# A step in the words of 'why': the packet, and the queue's node or the router and its channel.
+STEP = re.compile(r"packet (\d+), (?:the queue of node (\d+)|router (\d+), ([^:]+)):")
+
+
+def steps_of(lines):
+    """The steps in the words of 'why' as the page has them, and the sentence at their end."""
+    found = [STEP.match(line) for line in lines]
+    steps = [f"{step[1]} {step[2] or step[3]} {step[4] or 'queue'}" for step in found if step]
+    end = lines[-1] if lines[-1].startswith("So ") else ""
+    return [*steps, end]
 
 
 @unittest.skipUnless(CHROMIUM, "there is no Chromium here")
 class InABrowser(FolderTest):
-    def shown(self, moment, acts=""):
-        """What Chromium shows of the page of the line that is opened at a moment, after some acts."""
+    def setUp(self):
         self.put(c=LINE, t=IN_THE_WAY)
-        page = self.said("replay", "c", "t").replace("</body>", f"<script>{acts}</script></body>")
+
+    def shown(self, moment, acts="", files=("c", "t")):
+        """What Chromium shows of the page of the line or of other files, opened at a moment, after some acts."""
+        page = self.said("replay", *files).replace("</body>", f"<script>{acts}</script></body>")
         self.put(**{"page.html": page})
         address = f"{(self.folder / 'page.html').as_uri()}#{moment}"
         words = ["--headless", "--no-sandbox", "--disable-gpu", "--virtual-time-budget=6000", "--dump-dom", address]
         return Shown(self.called([CHROMIUM, *words]).stdout)
 
     def test_a_moment(self):
-        """Cycle 5: packet 0 waits at router 1, and packet 2 at router 0, which has the colour of that stall too."""
+        """Cycle 5: packet 0 waits at router 1, and packet 2 at router 0, which has the colour of that stall too. Both
+        wait for the second cycle. Nobody has +0.0 of router 1, but packet 1 has not left the buffer behind it."""
         seen = self.shown("cycle=5&router=1&packet=2")
         self.assertEqual(seen.words["router-name"], "Router 1 in cycle 5")
         self.assertEqual(seen.tables["router-table"][1:], [
-            ["+0.0", "Empty", "-", "-", "-"], ["-0.0", "NoIdleChannel", "0", "-", "+0.0"],
-            ["local.0", "Empty", "-", "-", "-"],
+            ["+0.0", "Empty", "-", "-", "-", "-", "-"], ["-0.0", "NoIdleChannel", "2", "0", "-", "+0.0", "1"],
+            ["local.0", "Empty", "-", "-", "-", "-", "-"],
         ])
-        self.assertEqual(seen.tables["packet-table"][1:], [["0", "local.0", "NoIdleChannel", "-", "+0.0"]])
+        self.assertEqual(seen.tables["packet-table"][1:], [["0", "local.0", "NoIdleChannel", "2", "-", "+0.0"]])
         self.assertIn("From node 0 to node 2, 3 flits, due in cycle 0.", seen.words["packet-state"])
         self.assertEqual(seen.attributes["channel-2--0.0"]["data-verdict"], "Moved")
         self.assertEqual(seen.bodies["router-0"], seen.bodies["router-1"])
         self.assertNotEqual(seen.bodies["router-1"], seen.bodies["router-2"])
         self.assertIn("followed", seen.attributes["channel-0-local.0"]["class"].split())
 
+    def test_the_steps_of_a_packet(self):
+        """Packet 2 waits for packet 0, and that for packet 1, which leaves the network: two purple arrows."""
+        seen = self.shown("cycle=5&packet=2")
+        self.assertEqual(seen.tables["steps-table"][1:], [
+            ["2", "0", "local.0", "NoIdleChannel", "2"], ["0", "1", "-0.0", "NoIdleChannel", "2"],
+            ["1", "2", "-0.0", "Moved", "-"],
+        ])
+        self.assertEqual(seen.words["steps-end"], "So packet 2 waits for packet 1, which goes on.")
+        self.assertEqual(seen.arrows(), {"own": 0, "other": 0, "followed": 2, "circle": 0})
+        self.assertEqual(self.shown("cycle=5").arrows(), {"own": 0, "other": 2, "followed": 0, "circle": 0})
+
+    def test_a_queue(self):
+        """Packet 2 waits at node 0 until packet 0 has left local.0; in cycle 2 it comes in next, and waits for none."""
+        seen = self.shown("cycle=1&router=0&packet=2")
+        self.assertEqual(seen.words["queue"], "In the queue of node 0: 1 packet, first 2")
+        self.assertEqual([seen.words[f"queue-{node}"] for node in range(3)], ["1", "", ""])
+        self.assertIn("It waits in the queue of node 0, behind 0 packets.", seen.words["packet-state"])
+        self.assertEqual(seen.words["steps-end"], "So packet 2 waits for packet 0, which goes on.")
+        self.assertEqual(seen.tables["steps-table"][1], ["2", "0", "queue"])
+        self.assertEqual(self.shown("cycle=2&packet=2").words["steps-end"], "")
+        self.assertEqual(self.shown("cycle=3&router=0").words["queue"], "Nothing waits in the queue of node 0.")
+
+    def test_a_circle(self):
+        """Each packet of the ring has come to the next router in cycle 3, and in 4 asks there for the link of the next
+        packet. So from then on eight channels wait in a circle."""
+        files = "examples/ring.toml", "examples/ring.csv"
+        seen = self.shown("cycle=20&packet=0", files=files)
+        self.assertEqual(seen.words["circles"], "Packets wait for one another from cycle 4 on (red): 0, 1, 2, 3.")
+        self.assertEqual(seen.words["steps-end"], "So these packets wait for one another: 0, 1, 2, 3.")
+        self.assertEqual([row[:3] for row in seen.tables["steps-table"][1:]], [
+            ["0", "1", "-0.0"], ["1", "1", "local.0"], ["1", "2", "-0.0"], ["2", "2", "local.0"],
+            ["2", "3", "-0.0"], ["3", "3", "local.0"], ["3", "0", "-0.0"], ["0", "0", "local.0"],
+        ])
+        self.assertEqual(seen.arrows(), {"own": 0, "other": 0, "followed": 0, "circle": 8})
+        before = self.shown("cycle=3", files=files)
+        self.assertEqual(before.words["circles"], "Packets wait for one another from cycle 4 on (red).")
+        self.assertEqual(before.arrows()["circle"], 0)
+        self.assertEqual(sum(self.shown("cycle=20", NO_ARROWS, files).arrows().values()), 0)
+
+    def test_it_stands_whatever_the_reason(self):
+        """Two heads ask for one link in cycle 4. The one that loses stands from then on, though its verdict changes."""
+        self.put(t=HEADER + "0,2,0,1,0\n1,2,0,1,3\n")
+        for cycle, stands in (4, {"Granted": "-", "LostChannel": "1"}), (5, {"Moved": "-", "NoIdleChannel": "2"}):
+            rows = self.shown(f"cycle={cycle}&router=1").tables["router-table"][1:]
+            self.assertEqual({row[1]: row[2] for row in rows}, {"Empty": "-", **stands})
+
+    def test_it_darkens(self):
+        """In the ring four channels wait from cycle 3 on without credit, and four more from cycle 4 on."""
+        files = "examples/ring.toml", "examples/ring.csv"
+        self.assertEqual(self.shown("", MIDDLES, files).words["router-name"], "0 4 8")
+
+    def test_it_says_what_why_says(self):
+        """Of all packets in networks of all rules with more traffic than they take, in cycles before their last; and in
+        a ring with two channels on a link, in which packets that go half way round are stuck."""
+        ring = Network("torus", (6,), 2, 1, 1, "dor", 40)
+        rows = [f"{node},{(node + 3) % 6},0,6,0\n" for node in range(6)]
+        for network, traffic in [*made_networks(4), (ring, HEADER + 4 * "".join(rows))]:
+            self.put(c=network, t=traffic)
+            run = Run(self.folder / "c", self.folder / "t")
+            moments = {cycle: Snapshot(run, cycle) for cycle in range(5, 38, 3)}
+            asked = [(cycle, packet) for cycle in moments for packet in range(len(run.rows))]
+            told = [steps_of(waiting_lines(moments[cycle], run.packet(packet))) for cycle, packet in asked]
+            acts = f"const ASKED = {json.dumps(asked)};{ALL_STEPS}"
+            self.assertEqual(json.loads(self.shown("", acts).words["router-name"]), told)
+        self.assertTrue(any("wait for one another" in steps[-1] for steps in told))
+
     def test_clicks_list_a_router_and_follow_a_packet(self):
         """From cycle 4, when packet 1 is granted local.0 at router 2, one cycle on: then it moves."""
         seen = self.shown("cycle=4", CLICKS)
         names = seen.words["router-name"], seen.words["packet-name"]
         self.assertEqual(names, ("Router 2 in cycle 5", "Packet 1 in cycle 5"))
-        at_router = [["-0.0", "Moved", "1", "local.0", "-"], ["local.0", "Empty", "-", "-", "-"]]
+        at_router = [["-0.0", "Moved", "-", "1", "local.0", "-", "-"], ["local.0", "Empty", "-", "-", "-", "-", "-"]]
         self.assertEqual(seen.tables["router-table"][1:], at_router)
-        self.assertEqual(seen.tables["packet-table"][1:], [["2", "-0.0", "Moved", "local.0", "-"]])
+        self.assertEqual(seen.tables["packet-table"][1:], [["2", "-0.0", "Moved", "-", "local.0", "-"]])
 
     def test_a_page_plays_to_its_end(self):
         """Twenty cycles at 8 in a second are over in three."""
@@ -201,7 +348,12 @@ class InABrowser(FolderTest):
     def test_keys_work_where_a_button_was_clicked(self):
         """From cycle 4 two steps on; an arrow in the field for the cycle is the field's own. The space bar plays, and
         does not press the button too, which it would do unless both its events are taken from it."""
-        self.assertEqual(self.shown("cycle=4", KEYS).words["router-name"], "6 6 true Stop")
+        self.assertEqual(self.shown("cycle=4", STEPS).words["router-name"], "6 6 true Stop")
+
+    def test_it_goes_from_change_to_change(self):
+        """Router 1 changes in 7, 8, 10, 11, 12, 14, 16 and at last in 17. Shift and an arrow do what the buttons do."""
+        seen = self.shown("router=1", CHANGES).words["router-name"]
+        self.assertEqual(seen, "10 11 10 8 10 8 7 17 17 16 14 16 14 12")
 
     def test_the_address_is_that_of_the_moment(self):
         moments = {
@@ -217,3 +369,19 @@ class InABrowser(FolderTest):
         classes = {found.get("class") for name, found in seen.attributes.items() if name.startswith("channel-")}
         self.assertTrue(seen.words["packet-name"].startswith("Click on a packet"))
         self.assertEqual(classes, {"channel"})
+
+    def test_a_picture_is_saved(self):
+        """A picture that stands alone: its style, all seven channels, its title, and a key for each of two verdicts."""
+        picture = ET.fromstring(self.shown("cycle=5&packet=2", SAVE).words["router-name"])
+        channels = [found for found in picture.iter(f"{SVG}rect") if "channel" in found.get("class", "").split()]
+        self.assertEqual(len(channels), 7)
+        self.assertIn(".channel", picture.find(f"{SVG}style").text)
+        words = [found.text for found in picture.findall(f"{SVG}text")]
+        self.assertTrue(words[0].startswith("c, t: mesh of 3, dor"), words)
+        self.assertEqual(words[1], "cycle 5, packet 2 in purple")
+        self.assertEqual([key.split(":")[0] for key in words[2:]], ["Empty", "Moved", "NoIdleChannel"])
+
+    def test_the_pages_show_pictures_that_were_saved(self):
+        for name, moment in ("blocked", "cycle=20&packet=3"), ("ring", "cycle=20"):
+            saved = self.shown(moment, SAVE, (f"examples/{name}.toml", f"examples/{name}.csv")).words["router-name"]
+            self.assertEqual(saved, (TOP / f"examples/{name}_20.svg").read_text())

@@ -1,9 +1,11 @@
 """Makes a page that plays a run: a picture of the network with a slider, in one HTML file that stands alone.
 
 Any browser shows it, from a disk too: it needs no server, no network and no other file. Each router is coloured by
-what its input channels do in the cycle that is shown. A click on a router lists its channels with verdict, packet,
-output channel and the channels that its packet is permitted; a click on a packet follows it.
-PAGE.html#cycle=20&router=1&packet=3 opens it at a moment.
+what its input channels do in the cycle that is shown. Arrows lead from each channel that waits to the one that holds
+what it waits for, and are red where packets wait for one another in a circle. A click on a router lists its channels
+with verdict, packet, output channel, the channels that its packet is permitted, and the packets that it waits for; a
+click on a packet follows it, step by step to the packet that keeps it. PAGE.html#cycle=20&router=1&packet=3 opens the
+page at a moment, and its picture can be saved as an SVG file.
 
 CONFIG, TRAFFIC and F are files, one of them '-' for standard input. With --drain the run goes on until all packets
 are out, as by 'noc run --drain'. The network is traced once. A page has at most 2,000,000 changes of channels, which
