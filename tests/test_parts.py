@@ -1,5 +1,6 @@
 """./test and its parts, in a copy whose scripts do nothing but write down that they were called."""
 import os
+import shutil
 import subprocess
 import tempfile
 import unittest
@@ -96,3 +97,24 @@ class Parts(unittest.TestCase):
         self.write("crates/noc/out/noc.sources", "other sources\n")
         self.assertEqual(self.run_test("cases")[:2], (0, "2 passed, 0 failed"))
         self.assertIn("crates/noc/out/noc is not of the sources as they stand", self.said)
+
+    def ci(self, user):
+        """What .ci/run says, where a user has no program that tests want, and apt-get has all of them but one."""
+        self.write(".ci/run", (TOP / ".ci/run").read_text())
+        self.write("test", "#!/bin/sh\necho 2 passed, 0 failed\n")
+        shutil.rmtree(self.top / "bin")
+        self.write("bin/id", f"#!/bin/sh\necho {user}\n")
+        installs = 'case "$*" in update* | *mypy) exit 1;; esac; for name; do :; done; ln -s id "bin/$name"'
+        self.write("bin/apt-get", f'#!/bin/sh\necho "$1" >> journal; {installs}\n')
+        for name in ("bash", "sh", "dirname", "readlink", "timeout", "ln"):
+            (self.top / "bin" / name).symlink_to(shutil.which(name))
+        (self.top / "journal").write_text("")
+        alone = {"PATH": str(self.top / "bin")}
+        ran = subprocess.run([self.top / ".ci/run"], env=alone, capture_output=True, text=True)
+        return ran.stdout.splitlines(), (self.top / "journal").read_text().split()
+
+    def test_ci_installs_what_it_can(self):
+        """One that is refused keeps none of the others; and only root may install."""
+        last, told = "2 passed, 0 failed", "ci: not installed:"
+        self.assertEqual(self.ci(0), ([f"{told} mypy", last], ["update", *["install"] * 4]))
+        self.assertEqual(self.ci(1000), ([f"{told} chromium iverilog mypy flake8", last], []))
