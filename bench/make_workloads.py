@@ -109,6 +109,14 @@ class Workload:
         return traffic_text(self.rows)
 
 
+def texts_in(folder, load):
+    """Writes the two texts of a workload into files; returns their names."""
+    names = [folder / f"{load.name}.toml", folder / f"{load.name}.csv"]
+    for name, text in zip(names, (load.config(), load.traffic())):
+        name.write_bytes(text.encode())
+    return [str(name) for name in names]
+
+
 def workloads():
     mesh8, mesh16 = Network("mesh", (8, 8), 4, 4, 1, "dor", 0), Network("mesh", (16, 16), 4, 8, 1, "dor", 44000)
     return [
@@ -144,8 +152,7 @@ def main():
     folder = Path(sys.argv[1])
     folder.mkdir(parents=True, exist_ok=True)
     for load in workloads():
-        (folder / f"{load.name}.toml").write_bytes(load.config().encode())
-        (folder / f"{load.name}.csv").write_bytes(load.traffic().encode())
+        texts_in(folder, load)
 
 
 if __name__ == "__main__":

@@ -24,7 +24,7 @@ import time
 from pathlib import Path
 
 sys.dont_write_bytecode = True
-from make_workloads import workloads  # noqa: E402
+from make_workloads import texts_in, workloads  # noqa: E402
 
 ENDED_WELL = (0, 5)
 
@@ -39,14 +39,6 @@ def timed_run(words, text):
     return seconds, ran.stdout, ran.stderr.decode(errors="replace")
 
 
-def texts_in(folder, load):
-    """Writes the two texts of a workload into files; returns their names."""
-    names = [folder / f"{load.name}.toml", folder / f"{load.name}.csv"]
-    for name, text in zip(names, (load.config(), load.traffic())):
-        name.write_bytes(text.encode())
-    return [str(name) for name in names]
-
-
 def stalls(program, load, folder):
     """The stall report of a program."""
     return timed_run([program, "run", *texts_in(folder, load), "--report", "stalls"], b"")[1]
@@ -57,15 +49,16 @@ class Joined:
 
     def __init__(self, program):
         self.program = str(Path(program).resolve())
+        self.words = [self.program]
 
-    def start(self, load, _):
-        tail = b"---\n" + load.traffic().encode()
-        self.texts = [load.config(cycles).encode() + tail for cycles in (load.network.cycles, 1)]
+    def start(self, load, _, tail=None):
+        tail = "---\n" + load.traffic() if tail is None else tail
+        self.texts = [(load.config(cycles) + tail).encode() for cycles in (load.network.cycles, 1)]
         self.best = [float("inf"), float("inf")]
 
     def round(self):
         """Makes one measurement; returns the report."""
-        runs = [timed_run([self.program], text) for text in self.texts]
+        runs = [timed_run(self.words, text) for text in self.texts]
         self.best = [min(best, run[0]) for best, run in zip(self.best, runs)]
         return runs[0][1]
 
@@ -73,11 +66,8 @@ class Joined:
         return load.network.nodes * (load.network.cycles - 1) / max(self.best[0] - self.best[1], 1e-9)
 
 
-class OwnClock:
+class OwnClock(Joined):
     """A program that measures its cycle loop itself."""
-
-    def __init__(self, program):
-        self.program = str(Path(program).resolve())
 
     def start(self, load, folder):
         self.words = [self.program, "run", *texts_in(folder, load), "--time"]

@@ -21,38 +21,23 @@ from dataclasses import replace
 from pathlib import Path
 
 sys.dont_write_bytecode = True
-from make_workloads import workloads  # noqa: E402
-from measure import timed_run  # noqa: E402
+from make_workloads import texts_in, workloads  # noqa: E402
+from measure import Joined, measure  # noqa: E402
 
 WIDE = 8
 WORKLOADS = ["a_long", "b_long", "d_transpose16", "h_torus16"]
 
 
-class Workers:
-    """A program with so many workers."""
+class Workers(Joined):
+    """A program with so many workers, which gets the configuration on standard input and the traffic by a file."""
 
     def __init__(self, program, workers):
-        self.program = str(Path(program).resolve())
-        self.workers = workers
+        super().__init__(program)
+        self.workers = str(workers)
 
     def start(self, load, folder):
-        traffic = folder / f"{load.name}.csv"
-        traffic.write_bytes(load.traffic().encode())
-        self.runs = []
-        for cycles in (load.network.cycles, 1):
-            config = folder / f"{load.name}-{cycles}.toml"
-            config.write_bytes(load.config(cycles).encode())
-            self.runs.append([self.program, "run", str(config), str(traffic), "--workers", str(self.workers)])
-        self.best = [float("inf"), float("inf")]
-
-    def round(self):
-        """Makes one measurement; returns the report."""
-        runs = [timed_run(words, b"") for words in self.runs]
-        self.best = [min(best, run[0]) for best, run in zip(self.best, runs)]
-        return runs[0][1]
-
-    def seconds(self):
-        return max(self.best[0] - self.best[1], 1e-9)
+        super().start(load, folder, tail="")
+        self.words = [self.program, "run", "/dev/stdin", texts_in(folder, load)[1], "--workers", self.workers]
 
 
 def main():
@@ -63,8 +48,8 @@ def main():
     parser.add_argument("--only", nargs="+", metavar="NAME", default=WORKLOADS, help="these workloads")
     options = parser.parse_args()
     print(f"Load before: {os.getloadavg()[0]:.1f} on {os.cpu_count()} processors.\n")
-    first, *others = options.workers
-    heads = ["workload", "routers", "cycles", f"M router-cycles/s by {first}", *(f"by {workers}" for workers in others)]
+    least, *others = options.workers
+    heads = ["workload", "routers", "cycles", f"M router-cycles/s by {least}", *(f"by {workers}" for workers in others)]
     print("|", " | ".join(heads), "|")
     print("|---|" + "--:|" * (len(heads) - 1))
     well = True
@@ -74,13 +59,10 @@ def main():
                 continue
             load = replace(load, network=replace(load.network, channels=WIDE))
             sides = [Workers(options.program, workers) for workers in options.workers]
-            for side in sides:
-                side.start(load, Path(folder))
-            reports = {side.round() for _ in range(options.repeat) for side in sides}
-            speed = load.network.nodes * (load.network.cycles - 1) / sides[0].seconds() / 1e6
-            gains = [f"{sides[0].seconds() / side.seconds():.2f}" for side in sides[1:]]
-            print("|", " | ".join([load.name, str(load.network.nodes), str(load.network.cycles), f"{speed:.1f}",
-                                   *gains]), "|", flush=True)
+            (first, *more), reports = measure(load, sides, options.repeat, Path(folder))
+            figures = [f"{first / 1e6:.1f}", *(f"{speed / first:.2f}" for speed in more)]
+            cells = [load.name, str(load.network.nodes), str(load.network.cycles), *figures]
+            print("|", " | ".join(cells), "|", flush=True)
             if len(reports) > 1:
                 print(f"workers: the reports on {load.name} differ", file=sys.stderr)
                 well = False

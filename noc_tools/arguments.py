@@ -2,11 +2,13 @@
 import sys
 from argparse import ArgumentParser, ArgumentTypeError, Namespace
 from collections.abc import Iterable
+from typing import Any
 
 from .errors import Refused
-from .patterns import PATTERN_NAMES
+from .program import processors
 from .runs import Run
-from .traffic import SHARE, Demand, lengths_in
+from .statistics import TOLERANCE
+from .traffic import PATTERN_NAMES, SHARE, Demand, lengths_in
 
 
 def numbers(words: str) -> tuple[int, ...]:
@@ -25,11 +27,6 @@ def burst(words: str) -> tuple[int, int]:
     return int(on), int(off)
 
 
-def add_length(parser: ArgumentParser) -> None:
-    """The lengths of packets."""
-    parser.add_argument("length", metavar="LENGTH", type=lengths, help="flits of a packet; 1+8: one or eight, alike")
-
-
 def lengths(words: str) -> tuple[int, ...]:
     """The lengths of packets."""
     try:
@@ -38,14 +35,26 @@ def lengths(words: str) -> tuple[int, ...]:
         raise ArgumentTypeError(str(reason)) from None
 
 
+def add(parser: Any, words: str, told: str, **more: Any) -> None:
+    """An argument by its name and what stands for its value, as '--table F'; an option without that is a flag."""
+    name, _, metavar = words.partition(" ")
+    how = {"metavar": metavar} if metavar else {"action": "store_true"}
+    parser.add_argument(name, help=told, **how, **more)
+
+
+def add_length(parser: ArgumentParser) -> None:
+    """The lengths of packets."""
+    add(parser, "length LENGTH", "flits of a packet; 1+8: one or eight, alike", type=lengths)
+
+
 def add_config(parser: ArgumentParser) -> None:
     """The configuration."""
-    parser.add_argument("config", metavar="CONFIG", help="the configuration")
+    add(parser, "config CONFIG", "the configuration")
 
 
 def add_table(parser: ArgumentParser) -> None:
     """The routing table."""
-    parser.add_argument("--table", metavar="F", help="the routing table, where the rule is 'table'")
+    add(parser, "--table F", "the routing table, where the rule is 'table'")
 
 
 def table_words(options: Namespace) -> list[str]:
@@ -55,11 +64,10 @@ def table_words(options: Namespace) -> list[str]:
 
 def add_run(parser: ArgumentParser) -> None:
     """A run."""
-    parser.add_argument("config", metavar="CONFIG", help="the configuration ('-' is standard input, here and below)")
-    parser.add_argument("traffic", metavar="TRAFFIC", help="the packets")
+    add(parser, "config CONFIG", "the configuration ('-' is standard input, here and below)")
+    add(parser, "traffic TRAFFIC", "the packets")
     add_table(parser)
-    drain = "a run that goes on until all packets are out, as by 'noc run --drain'"
-    parser.add_argument("--drain", action="store_true", help=drain)
+    add(parser, "--drain", "a run that goes on until all packets are out, as by 'noc run --drain'")
 
 
 def run_of(options: Namespace) -> Run:
@@ -72,14 +80,13 @@ PACKET_HELP = "its number: its row in the traffic"
 
 def add_packet(parser: ArgumentParser) -> None:
     """A packet of the run."""
-    parser.add_argument("packet", metavar="PACKET", type=int, help=PACKET_HELP)
+    add(parser, "packet PACKET", PACKET_HELP, type=int)
 
 
 def add_span(parser: ArgumentParser) -> None:
     """A span of the run."""
-    first, last = "the first cycle; 0 where not given", "the last cycle; that of the run where not given"
-    parser.add_argument("--from", dest="first", metavar="A", type=int, default=0, help=first)
-    parser.add_argument("--to", dest="last", metavar="B", type=int, help=last)
+    add(parser, "--from A", "the first cycle; 0 where not given", dest="first", type=int, default=0)
+    add(parser, "--to B", "the last cycle; that of the run where not given", dest="last", type=int)
 
 
 def span_of(run: Run, options: Namespace) -> tuple[int, int]:
@@ -92,21 +99,38 @@ def span_of(run: Run, options: Namespace) -> tuple[int, int]:
     return options.first, last
 
 
+def add_measured(parser: ArgumentParser, by_default: str) -> None:
+    """The window in which packets are measured, and when it is steady."""
+    add(parser, "--window A:B", f"measure the packets due in the cycles A to B - 1; by default {by_default}")
+    told = f"by how much the halves of the window may differ ({TOLERANCE:g})"
+    add(parser, "--tolerance PERCENT", told, type=float, default=TOLERANCE)
+
+
+def add_jobs(parser: ArgumentParser) -> None:
+    """How many runs are made at a time."""
+    add(parser, "--jobs N", "runs side by side; by default all processors", type=int, default=processors())
+
+
+def add_top(parser: ArgumentParser, words: str = "--top NUMBER", told: str = "where the vertical axis ends") -> None:
+    """Where an axis ends."""
+    add(parser, words, told, type=float)
+
+
+def check_top(top: float | None) -> None:
+    """Refuses an end of an axis that is none."""
+    if top is not None and not 0 < top < float("inf"):
+        raise Refused("--top is a number above 0")
+
+
 def add_demand(parser: ArgumentParser) -> None:
     """What traffic is asked for, but for its pattern, load and length."""
-    parser.add_argument("--seed", metavar="N", type=int, default=1, help="what the packets follow from (1)")
-    parser.add_argument("--cycles", metavar="N", type=int, help="packets are due before this cycle; by default all")
-    parser.add_argument(
-        "--classes", metavar="C,..", type=numbers, default=(0,), help="the classes that packets have, all alike (0)"
-    )
-    parser.add_argument(
-        "--spots", metavar="NODE,..", type=numbers, help="the nodes of hot-spot; by default the middle one"
-    )
-    parser.add_argument(
-        "--share", metavar="P", type=float, default=SHARE, help=f"the part of the packets for them ({SHARE:g})"
-    )
+    add(parser, "--seed N", "what the packets follow from (1)", type=int, default=1)
+    add(parser, "--cycles N", "packets are due before this cycle; by default all", type=int)
+    add(parser, "--classes C,..", "the classes that packets have, all alike (0)", type=numbers, default=(0,))
+    add(parser, "--spots NODE,..", "the nodes of hot-spot; by default the middle one", type=numbers)
+    add(parser, "--share P", f"the part of the packets for them ({SHARE:g})", type=float, default=SHARE)
     in_bursts = "make packets in bursts: so many cycles a node is on, and then off, on average"
-    parser.add_argument("--burst", metavar="ON:OFF", type=burst, help=in_bursts)
+    add(parser, "--burst ON:OFF", in_bursts, type=burst)
 
 
 def demand_of(options: Namespace, load: float) -> Demand:

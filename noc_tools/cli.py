@@ -2,12 +2,11 @@
 import csv
 import os
 import sys
-from argparse import ArgumentParser, Namespace, RawDescriptionHelpFormatter
+from argparse import ArgumentParser, RawDescriptionHelpFormatter
 from collections.abc import Callable, Sequence
 from importlib import import_module
 from io import BufferedWriter, FileIO, TextIOWrapper
 from signal import SIGINT, SIGPIPE
-from types import ModuleType
 from typing import Any
 
 from .errors import Refused
@@ -97,7 +96,7 @@ def guarded(name: str, run: Callable[[], int]) -> int:
         return 1
 
 
-def module_of(command: str) -> ModuleType:
+def module_of(command: str) -> Any:
     """The module of a command."""
     return import_module(f"{__package__}.commands.{command}")
 
@@ -111,19 +110,13 @@ def list_commands() -> int:
     return 0
 
 
-def options_of(command: ModuleType, name: str, words: Sequence[str]) -> Namespace:
-    """What these words ask of a command, whose help is the text of its module."""
+def run_command(name: str, words: Sequence[str]) -> int:
+    """Runs one command by its words; its help is the text of its module."""
+    command = module_of(words[0])
     parser = ArgumentParser(prog=name, description=command.__doc__, formatter_class=RawDescriptionHelpFormatter)
     command.add_arguments(parser)
     parser.set_defaults(name=name)
-    return parser.parse_args(words)
-
-
-def run_command(name: str, words: Sequence[str]) -> int:
-    """Runs one command by its words."""
-    command = module_of(words[0])
-    status: int = command.main(options_of(command, name, words[1:]))
-    return status
+    return command.main(parser.parse_args(words[1:])) or 0
 
 
 def main(words: Sequence[str] | None = None) -> int:

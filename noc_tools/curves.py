@@ -1,9 +1,9 @@
 """Curves of one figure against another, such as latency against load, in one picture."""
 import math
 from collections.abc import Sequence
-from dataclasses import dataclass, field
+from typing import NamedTuple
 
-from .errors import Refused
+from .errors import Refused, refusing
 from .files import named_rows, read_lines
 from .measure import COLUMNS
 from .picture import BLACK, GREY, WHITE, bold, line, svg, text, upwards
@@ -52,8 +52,7 @@ FAINT = "#e4e4e4"
 LETTER = 0.62
 
 
-@dataclass(frozen=True)
-class Point:
+class Point(NamedTuple):
     """A point of a curve, whether all packets that were measured were out, and where it is a mean of several the least
     and the most of these."""
 
@@ -64,8 +63,7 @@ class Point:
     most: float | None = None
 
 
-@dataclass(frozen=True)
-class Style:
+class Style(NamedTuple):
     """How a curve is drawn: the numbers of its colour and its dashes."""
 
     colour: int
@@ -92,8 +90,7 @@ class Style:
 STYLES = [Style(colour, dash) for dash in range(len(DASHES)) for colour in range(len(COLOURS))]
 
 
-@dataclass(frozen=True)
-class Curve:
+class Curve(NamedTuple):
     """The points of one name, from left to right."""
 
     name: str
@@ -101,8 +98,7 @@ class Curve:
     style: Style = STYLES[0]
 
 
-@dataclass(frozen=True)
-class Frame:
+class Frame(NamedTuple):
     """Curves between axes of their own; a frame that is one of several has a name."""
 
     name: str
@@ -125,32 +121,27 @@ def number_of(words: str) -> float:
     return number
 
 
-@dataclass(frozen=True)
-class Measured:
+class Measured(NamedTuple):
     """What 'noc-tools load' wrote."""
 
     name: str
     path: str
-    rows: list[dict[str, str]] = field(repr=False)
+    rows: list[dict[str, str]]
 
     def curve(self, x: str, y: str, style: Style) -> Curve:
         """The curve of two figures in the order of its loads, without those points where one is a dash."""
-        try:
+        with refusing(ValueError, f"{self.path}: "):
             rows = sorted(self.rows, key=lambda row: number_of(row["load"]))
             shown = [row for row in rows if "-" not in (row[x], row[y])]
             points = [Point(number_of(row[x]), number_of(row[y]), row["packets"] == row["out"]) for row in shown]
-        except ValueError as error:
-            raise Refused(f"{self.path}: {error}") from None
         if not points:
             raise Refused(f"{self.path} has no '{y}' that is a number")
         return Curve(self.name or self.path, points, style)
 
     def cycles(self) -> list[float]:
         """The cycles of each run."""
-        try:
+        with refusing(ValueError, f"{self.path}: "):
             return [number_of(row["ran"]) for row in self.rows]
-        except ValueError as error:
-            raise Refused(f"{self.path}: {error}") from None
 
 
 def read_curve(word: str) -> Measured:
@@ -202,8 +193,7 @@ def end_of(curve: Curve, top: float) -> float:
     return reach
 
 
-@dataclass(frozen=True)
-class Axes:
+class Axes(NamedTuple):
     """The axes that all frames of a picture have: of which columns they are, and where they end."""
 
     x: str

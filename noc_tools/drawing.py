@@ -3,10 +3,9 @@ import re
 from collections.abc import Callable, Iterable, Iterator, Sequence
 from pathlib import Path
 
-from .combinations import LOAD, SEED, Combination, Row, combinations_of, varying
 from .curves import BYTES, COLOURS, DASHES, FLITS, STYLES, Curve, Frame, Point, Style, axes_of, picture
-from .plan import View
-from .settings import NONE, name_of
+from .plan import NONE, View, name_of
+from .table import LOAD, SEED, Combination, Row, combinations_of, varying
 
 # What a picture says of all its combinations, where they do not differ by it.
 NAMED_ONCE = ["kind", "radix", "rule", "channels", "buffer", "traffic", "pattern", "length", "cycles", "window"]
@@ -64,11 +63,9 @@ def styled(combinations: Sequence[Combination], keys: list[str], view: View) -> 
     def values(key: str | None) -> list[str]:
         return list(dict.fromkeys(combination.words[key] for combination in combinations)) if key else []
 
-    def splits(key: str) -> int:
-        return len(apart_by(combinations, [colour, key])) if colour else 0
-
     colour = view.colour or most_of([key for key in keys if key != view.dash], lambda key: len(values(key)))
-    dash = view.dash or most_of([key for key in keys if key != colour], splits)
+    splits = [key for key in keys if key != colour]
+    dash = view.dash or most_of(splits, lambda key: len(apart_by(combinations, [colour, key])) if colour else 0)
     places = {key: {value: number for number, value in enumerate(values(key))} for key in (colour, dash) if key}
     found: dict[str, Style] = {}
     for combination in combinations:
@@ -135,16 +132,14 @@ def subtitle_of(rows: Sequence[Row], keys: Iterable[str]) -> str:
     return "; ".join(part for part in parts if part)
 
 
-def along_of(rows: Sequence[Row]) -> str:
-    """Along which setting curves go: the load, or where it is always the same the traffic."""
-    return "traffic" if len({row.get(LOAD) for row in rows}) == 1 < len({row.get("traffic") for row in rows}) else LOAD
-
-
 def pictures_of(
     rows: Sequence[Row], view: View, x: str, y: str, top: float | None, along: str | None = None
 ) -> Iterator[str]:
     """The pictures of one figure against another, several where there are too many curves for one."""
-    along = along or along_of(rows)
+    if along is None:
+        # (where the load is always the same, curves go along the traffic)
+        is_one = len({row.get(LOAD) for row in rows}) == 1 < len({row.get("traffic") for row in rows})
+        along = "traffic" if is_one else LOAD
     combinations = combinations_of(rows, along)
     unit = FLITS if rows[0].get("flit_bytes", NONE) == NONE else BYTES
     subtitle = subtitle_of(rows, [*varying(combinations, along), along])
@@ -152,17 +147,13 @@ def pictures_of(
         yield picture(frames, axes_of(frames, x, y, top, unit), subtitle)
 
 
-def remove_pictures(folder: Path, name: str) -> None:
-    """Takes away those of an earlier sweep, which may have been more. Other files of such a name are not a sweep's."""
-    for path in folder.glob(f"{name}*.svg"):
-        if re.fullmatch(rf"{name}(_[1-9][0-9]*)?\.svg", path.name):
-            path.unlink()
-
-
 def draw_study(folder: Path, rows: Sequence[Row], view: View, top: float | None) -> None:
-    """Writes the pictures of a study."""
+    """Writes the pictures of a study in place of those of an earlier sweep, which may have been more. Other files of
+    such a name are not a sweep's."""
     for name, (x, y) in PICTURES.items():
-        remove_pictures(folder, name)
+        for path in folder.glob(f"{name}*.svg"):
+            if re.fullmatch(rf"{name}(_[1-9][0-9]*)?\.svg", path.name):
+                path.unlink()
         for number, drawn in enumerate(pictures_of(rows, view, x, y, None if y == "accepted" else top), 1):
             path = folder / (f"{name}.svg" if number == 1 else f"{name}_{number}.svg")
             path.write_text(drawn, encoding="utf-8")

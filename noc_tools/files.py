@@ -6,7 +6,7 @@ from io import StringIO
 from pathlib import Path
 from typing import TextIO
 
-from .errors import Refused
+from .errors import Refused, refusing
 
 STANDARD_INPUT = "-"
 
@@ -18,14 +18,16 @@ def standard_input() -> TextIO:
     return sys.stdin
 
 
+def read_bytes(path: str | Path, name: str | None = None) -> bytes:
+    """What is in a file; a sentence calls it by `name`."""
+    with refusing(OSError, f"{name or path}: "):
+        return Path(path).read_bytes()
+
+
 def read_text(path: str | Path, kind: str, name: str | None = None) -> str:
     """The text of a file of some kind in UTF-8, with or without a byte order mark; a sentence calls it by `name`."""
-    try:
-        return Path(path).read_bytes().decode("utf-8-sig")
-    except OSError as error:
-        raise Refused(f"{name or path}: {error.strerror}") from None
-    except UnicodeDecodeError as error:
-        raise Refused(f"{name or path} is no {kind}: {error}") from None
+    with refusing(UnicodeDecodeError, f"{name or path} is no {kind}: "):
+        return read_bytes(path, name).decode("utf-8-sig")
 
 
 def read_lines(path: str | Path, kind: str, name: str | None = None) -> Iterable[str]:
@@ -35,12 +37,9 @@ def read_lines(path: str | Path, kind: str, name: str | None = None) -> Iterable
 
 def csv_rows(lines: Iterable[str], kind: str, name: str) -> list[list[str]]:
     """The rows of CSV of some kind, without empty ones."""
-    try:
+    unread = f"{name} is no {kind}: "
+    with refusing(csv.Error, unread), refusing(UnicodeDecodeError, f"{unread}it is not UTF-8"):
         return [row for row in csv.reader(lines) if row]
-    except csv.Error as error:
-        raise Refused(f"{name} is no {kind}: {error}") from None
-    except UnicodeDecodeError:
-        raise Refused(f"{name} is no {kind}: it is not UTF-8") from None
 
 
 def named_rows(lines: Iterable[str], header: Sequence[str], kind: str, name: str) -> list[dict[str, str]]:

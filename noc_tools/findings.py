@@ -1,6 +1,5 @@
 """Findings of noc: what an input channel does in a cycle, as a line of a trace tells it (docs/FORMATS.md)."""
 from collections.abc import Iterable, Iterator
-from dataclasses import dataclass, replace
 from itertools import chain
 from typing import NamedTuple
 
@@ -77,8 +76,7 @@ def snake(verdict: str) -> str:
     return "".join("_" + letter.lower() if letter.isupper() else letter for letter in verdict).removeprefix("_")
 
 
-@dataclass(frozen=True)
-class Selection:
+class Selection(NamedTuple):
     """Which findings of a run are asked for, without a word all; of changes only those that change something; and of
     some verdicts only those with one of them."""
 
@@ -110,7 +108,7 @@ class ParallelTrace:
     def __init__(self, files: list[str], chosen: Selection, first: int, last: int, number: int) -> None:
         self.parts: list[tuple[int, Process]] = []
         for begin, end in parts_of(first, last + 1, number):
-            words = replace(chosen, first=begin, last=end - 1).words()
+            words = chosen._replace(first=begin, last=end - 1).words()
             self.parts.append((begin, Process("trace", *files, *words)))
 
     def findings(self) -> Iterator[Finding]:

@@ -10,12 +10,11 @@ from random import Random
 
 from .errors import Refused
 from .network import LOCAL, Network
-from .patterns import UNIFORM, below
 from .program import STUCK, call
 from .ranks import Dependency, NoRanks, ranks_found
 from .relation import Relation, Steps, checked_relation
 from .runs import Config, Run, config_file
-from .traffic import LONGEST, MOST_PACKETS, Demand, Packet, Row, traffic_text
+from .traffic import LONGEST, MOST_PACKETS, UNIFORM, Demand, Packet, Row, below, traffic_text
 from .words import counted
 
 # The traffics that are tried for a circle: so many packets for each of its dependencies and each channel of a link, of

@@ -151,8 +151,7 @@ def stays_of(findings: Iterable[Finding], packet: Packet) -> list[Stay]:
 # ---- what a packet waited for
 
 
-@dataclass
-class Wait:
+class Wait(NamedTuple):
     """The cycles of a packet that are charged to one verdict at one place."""
 
     router: int

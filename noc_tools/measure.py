@@ -1,25 +1,72 @@
-"""A measured run: a network under a traffic."""
+"""A measured run: a network under a traffic, and under replies to it, which are due when the request was out."""
 from collections.abc import Callable, Iterable, Iterator, Sequence
-from dataclasses import dataclass, replace
+from dataclasses import replace
 from functools import lru_cache
 from pathlib import Path
 from tempfile import TemporaryDirectory
+from typing import NamedTuple
 
-from .columns import outs_in
+from .errors import Refused
 from .network import Network
 from .program import output, report
-from .replies import Replies, settled
 from .runs import columns_of_run, with_entries
-from .statistics import LATENCY_NAMES, PART_NAMES, TOLERANCE, Figures, Number, Sample, Window, warnings, word_of
-from .traffic import MOST_PACKETS, Demand, Played, Row, alone, fitting, traffic_text
+from .statistics import (
+    LATENCY_NAMES, NEVER, PART_NAMES, TOLERANCE, Figures, Number, Sample, Window, outs_in, warnings, word_of,
+)
+from .traffic import LONGEST, MOST_PACKETS, Demand, Played, Row, alone, fitting, traffic_text
 from .workers import made_in_order
+
+# From packets to the cycles in which they were out, in the order of the packets.
+Outs = Callable[[Sequence[Row]], Sequence[int]]
+
+
+class Replies(NamedTuple):
+    """Each packet of the class `to` is answered by one of the class `by`, due so many cycles after it was out."""
+
+    to: int
+    by: int
+    length: int
+    delay: int
+
+    def check(self, network: Network) -> None:
+        """Refuses what cannot be had of a network."""
+        if self.to == self.by or not all(number < network.classes for number in (self.to, self.by)):
+            raise Refused(f"replies are of another class than requests, and the classes are 0 to {network.classes - 1}")
+        if not 1 <= self.length <= LONGEST:
+            raise Refused(f"the length of a reply is 1 to {LONGEST}")
+
+    def weight(self, row: Row) -> int:
+        """For how many packets one counts with its reply."""
+        return 2 if row[2] == self.to else 1
+
+    def rows(self, requests: Sequence[Row], outs: Sequence[int], cycles: int) -> list[Row]:
+        """The replies that are due before the end of the run, in the order of the requests."""
+        return [
+            (destination, source, self.by, self.length, out + self.delay)
+            for (source, destination, message_class, _, _), out in zip(requests, outs)
+            if message_class == self.to and out + self.delay < cycles and out < NEVER
+        ]
+
+
+def settled(requests: Sequence[Row], replies: Replies, outs: Outs, cycles: int) -> list[Row]:
+    """The requests, and behind them the replies as they come in a run of both.
+
+    Runs are made until no reply is due in another cycle than in the run before. What is due from some cycle on does
+    not change what was before: so each run brings at least one cycle more that stays, and this ends.
+    """
+    made: list[Row] = []
+    while True:
+        again = replies.rows(requests, outs([*requests, *made]), cycles)
+        if again == made:
+            return [*requests, *made]
+        made = again
+
 
 # The columns of a measured run: the cycles that it had, the figures of the latency, and then what it is made of.
 COLUMNS = ["ran", *LATENCY_NAMES, "steady", *PART_NAMES]
 
 
-@dataclass(frozen=True)
-class Files:
+class Files(NamedTuple):
     """The files of one run, the packets of its traffic, and how many cycles it has."""
 
     config: Path
@@ -33,8 +80,7 @@ class Files:
         return [str(self.config), str(self.traffic), *(["--table", self.table] if self.table else [])]
 
 
-@dataclass(frozen=True)
-class Measurement:
+class Measurement(NamedTuple):
     """What was measured of a run of so many cycles."""
 
     ran: int
@@ -49,8 +95,7 @@ class Measurement:
         return [words[name] for name in COLUMNS]
 
 
-@dataclass(frozen=True)
-class Experiment:
+class Experiment(NamedTuple):
     """What is measured: a network under a traffic, in a window of its run."""
 
     network: Network
@@ -90,7 +135,7 @@ class Experiment:
         if self.replies is None:
             return files
         rows = settled(made.rows, self.replies, lambda some: outs_of(files, some), made.cycles)
-        return replace(files, rows=rows)
+        return files._replace(rows=rows)
 
     def measured(self, files: Files) -> Measurement:
         """The figures of a run of these files; of a shorter run the window is the same part."""
@@ -105,8 +150,7 @@ class Experiment:
         return Measurement(files.cycles, found, not warnings(sample, self.tolerance))
 
 
-@dataclass(frozen=True)
-class Made:
+class Made(NamedTuple):
     """A traffic as packets and as text, for so many cycles of a run."""
 
     rows: list[Row]

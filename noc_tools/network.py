@@ -12,7 +12,7 @@ from functools import cache, cached_property
 from pathlib import Path
 from typing import Any
 
-from .errors import Refused
+from .errors import Refused, refusing
 from .files import read_text
 
 # What noc takes of a network (docs/FORMATS.md).
@@ -37,10 +37,8 @@ class Network:
     @classmethod
     def read(cls, path: str | Path) -> "Network":
         """The configuration in a file that noc accepts; with a byte order mark, as noc does."""
-        try:
+        with refusing(ValueError, f"{path} is no configuration: "):
             network = network_of(settings_of(read_text(path, "configuration")))
-        except ValueError as error:
-            raise Refused(f"{path} is no configuration: {error}") from None
         numbers = [*network.radix, network.channels, network.buffer, network.classes, network.cycles]
         if not all(0 < number for number in numbers):
             raise Refused(f"{path} is no configuration: a value is no number above 0")
@@ -181,16 +179,11 @@ def read_bounded_network(path: str | Path) -> Network:
     """Reads a configuration where noc is not asked whether it takes it."""
     network = Network.read(path)
     pairs = [
-        (len(network.radix), MOST_DIMENSIONS), (network.channels, MOST_CHANNELS), (network.buffer, MOST_PLACES),
-        (network.classes, MOST_CLASSES), (network.cycles, MOST_CYCLES),
+        (len(network.radix), MOST_DIMENSIONS), (network.nodes, MOST_ROUTERS), (network.channels, MOST_CHANNELS),
+        (network.buffer, MOST_PLACES), (network.classes, MOST_CLASSES), (network.channels % network.classes, 0),
+        (network.cycles, MOST_CYCLES), *((k, MOST_RADIX) for k in network.radix),
+        *((LEAST_RADIX, k) for k in network.radix),
     ]
-    is_bounded = (
-        network.kind in KINDS
-        and all(number <= most for number, most in pairs)
-        and all(LEAST_RADIX <= k <= MOST_RADIX for k in network.radix)
-        and network.nodes <= MOST_ROUTERS
-        and network.channels % network.classes == 0
-    )
-    if not is_bounded:
+    if network.kind not in KINDS or not all(number <= most for number, most in pairs):
         raise Refused(f"{path} is no network that noc takes: its limits are in docs/FORMATS.md")
     return network

@@ -14,17 +14,13 @@ NO_XML = re.compile("[^\t\n\r -\ud7ff\ue000-\ufffd\U00010000-\U0010ffff]")
 
 def text(x: float, y: float, words: str, size: int = 13, anchor: str = "middle", fill: str = BLACK) -> str:
     """A line of words."""
-    return written(x, y, words, f'font-size="{size}" text-anchor="{anchor}" fill="{fill}" font-weight="normal"')
+    style = f'font-size="{size}" text-anchor="{anchor}" fill="{fill}" font-weight="normal"'
+    return f'<text x="{x:g}" y="{y:g}" {style}>{escape(NO_XML.sub(chr(0xFFFD), words))}</text>'
 
 
 def bold(x: float, y: float, words: str, size: int = 13, anchor: str = "start", fill: str = BLACK) -> str:
     """A line of bold words."""
-    return written(x, y, words, f'font-size="{size}" text-anchor="{anchor}" fill="{fill}" font-weight="bold"')
-
-
-def written(x: float, y: float, words: str, style: str) -> str:
-    """A line of words in a style."""
-    return f'<text x="{x:g}" y="{y:g}" {style}>{escape(NO_XML.sub(chr(0xFFFD), words))}</text>'
+    return text(x, y, words, size, anchor, fill).replace(' font-weight="normal">', ' font-weight="bold">', 1)
 
 
 def upwards(x: float, y: float, words: str) -> list[str]:

@@ -1,21 +1,280 @@
-"""The file of a study: the runs that it names, the load that it searches, and how it is shown."""
+"""The file of a study: the runs that its settings name, the load that it searches, and how it is shown."""
+import hashlib
 import tomllib
 from collections.abc import Mapping
-from dataclasses import dataclass
+from dataclasses import dataclass, replace
+from decimal import Decimal
+from functools import cached_property
 from itertools import product
 from pathlib import Path
-from typing import Any
+from typing import Any, NamedTuple
 
-from .errors import Refused
+from .errors import Refused, refusing
 from .files import read_text
-from .settings import NONE, PATHS, SETTINGS, Case, normal, words_of
+from .measure import Experiment, Replies
+from .network import Network
+from .program import DIGITS, digest
+from .ranks import checked_table
+from .rules import TABLE_RULES
+from .statistics import TOLERANCE, Window, middle_window
+from .traffic import HOT_SPOT, SHARE, Demand, Played, lengths_in
+
+# What is between the numbers of a setting that has several.
+SEPARATORS = {
+    "radix": "x", "spots": "+", "packet_classes": "+", "measured_classes": "+", "burst": ":", "replies": ":",
+    "window": ":",
+}
+# Of these a study may name files beside it; a run is known by what is in them.
+PATHS = ["table", "traffic"]
+WORDS = ["kind", "rule", "pattern", *PATHS]
+AMOUNTS = ["load", "share", "tolerance"]
+SETTINGS = [
+    "kind", "radix", "rule", "table", "channels", "buffer", "classes", "flit_bytes", "traffic", "pattern", "spots",
+    "share", "burst", "packet_classes", "length", "replies", "cycles", "window", "measured_classes", "parts",
+    "tolerance", "load", "seed",
+]
+# What says nothing of a traffic that is a file.
+OF_DEMANDS = ["pattern", "spots", "share", "burst", "packet_classes", "length", "seed"]
+NONE = "-"
+# The most loads of a range.
+MOST_LOADS = 1000
+BY_DEFAULT = {
+    "table": NONE, "classes": "1", "flit_bytes": NONE, "traffic": NONE, "pattern": "uniform", "spots": NONE,
+    "share": f"{SHARE:g}", "burst": NONE, "packet_classes": "0", "replies": NONE, "cycles": "3000", "window": NONE,
+    "measured_classes": NONE, "parts": "yes", "tolerance": f"{TOLERANCE:g}", "seed": "1",
+}
+# How a run is named by its settings: by the value alone, or by how many there are of what; else by the setting and its
+# value.
+BY_VALUE = ["kind", "radix", "rule", "pattern", "traffic"]
+COUNTED = {
+    "channels": ("channel", "channels"), "buffer": ("place", "places"), "length": ("flit", "flits"),
+    "classes": ("class", "classes"), "cycles": ("cycle", "cycles"),
+    "flit_bytes": ("byte for a flit", "bytes for a flit"),
+}
+
+
+def number_word(key: str, value: Any) -> str:
+    """One number of a setting as a word."""
+    if key in AMOUNTS:
+        if type(value) in (int, float) and 0 <= value < float("inf"):
+            return f"{value:.12g}"
+        raise Refused(f"'{key}' is a number of 0 or more, not {value!r}")
+    least = 0 if key in ("seed", "spots", "packet_classes", "measured_classes", "replies", "window") else 1
+    if type(value) is not int or value < least:
+        raise Refused(f"'{key}' is a whole number of {least} or more, not {value!r}")
+    return str(value)
+
+
+def word_of(key: str, value: Any) -> str:
+    """A value of a setting as a word."""
+    if key in WORDS:
+        if not isinstance(value, str) or not value or not value.isprintable():
+            raise Refused(f"'{key}' is a text, not {value!r}")
+        return value
+    if key == "parts":
+        if not isinstance(value, bool):
+            raise Refused(f"'parts' is true or false, not {value!r}")
+        return "yes" if value else "no"
+    if key == "length" and isinstance(value, str):
+        return "+".join(map(str, lengths_in(value)))
+    if key not in SEPARATORS:
+        return number_word(key, value)
+    if not isinstance(value, list) or not value:
+        raise Refused(f"'{key}' is a list of numbers, not {value!r}")
+    return SEPARATORS[key].join(number_word(key, number) for number in value)
+
+
+def load_range(words: str) -> list[str]:
+    """The loads A:B:STEP as words, from A up to B."""
+    wanted = f"A:B:STEP, as 0.05:0.6:0.05, with at most {MOST_LOADS} loads from A up to B"
+    with refusing((ValueError, ArithmeticError), f"loads are {wanted}, not '{words}'"):
+        first, last, step = map(Decimal, words.split(":"))
+        if not (first.is_finite() and last.is_finite() and 0 <= first <= last < first + MOST_LOADS * step):
+            raise ValueError
+        return [f"{float(first + number * step):.12g}" for number in range(int((last - first) / step) + 1)]
+
+
+def words_of(key: str, value: Any) -> list[str]:
+    """The values of a setting, one or a list of them, as words."""
+    has_several = isinstance(value, list)
+    if key in SEPARATORS:
+        has_several = has_several and any(isinstance(part, list) for part in value)
+    words: list[str] = []
+    for one in value if has_several else [value]:
+        words += load_range(one) if key == "load" and isinstance(one, str) else [word_of(key, one)]
+    if not words or len(set(words)) < len(words):
+        raise Refused(f"'{key}' has {'a value twice' if words else 'no value'}")
+    return words
+
+
+def numbers_in(key: str, word: str, count: int | None = None) -> tuple[int, ...]:
+    """The numbers of a setting that has several, as many as are wanted."""
+    amount = "numbers" if count is None else f"{count} numbers"
+    with refusing(ValueError, f"'{key}' is {amount} with '{SEPARATORS[key]}' between them, not '{word}'"):
+        found = tuple(map(int, word.split(SEPARATORS[key])))
+        if count not in (None, len(found)):
+            raise ValueError
+    return found
+
+
+@dataclass(frozen=True)
+class Case:
+    """One run: a word for each setting, a dash for one that says nothing here; and a table that was made for it."""
+
+    words: dict[str, str]
+    made_table: str | None = None
+
+    def whole(self, key: str) -> int:
+        """A setting that is a whole number."""
+        with refusing(ValueError, f"'{key}' is a number, not '{self.words[key]}'"):
+            return int(self.words[key])
+
+    def amount(self, key: str) -> float:
+        """A setting that is any number."""
+        with refusing(ValueError, f"'{key}' is a number, not '{self.words[key]}'"):
+            return float(self.words[key])
+
+    def several(self, key: str, count: int | None = None) -> tuple[int, ...] | None:
+        """A setting that is some numbers, if it says something."""
+        return None if self.words[key] == NONE else numbers_in(key, self.words[key], count)
+
+    @cached_property
+    def network(self) -> Network:
+        """The network of the run as noc takes it."""
+        words, radix = self.words, numbers_in("radix", self.words["radix"])
+        channels, buffer, classes = (self.whole(key) for key in ("channels", "buffer", "classes"))
+        rule = "table" if self.made_rule else words["rule"]
+        return Network(words["kind"], radix, channels, buffer, classes, rule, self.whole("cycles"))
+
+    @property
+    def made_rule(self) -> str | None:
+        """The rule of which a table is made, where noc does not have it."""
+        return self.words["rule"] if self.words["rule"] in TABLE_RULES else None
+
+    @property
+    def table(self) -> str | None:
+        """The path of its routing table: one that was made, or else given."""
+        return self.made_table or (None if self.words["table"] == NONE else self.words["table"])
+
+    def with_table(self, folder: Path) -> "Case":
+        """The case with its table, which is made in a folder where noc does not have the rule."""
+        if self.made_rule is None:
+            return self
+        return replace(self, made_table=checked_table(self.network, self.made_rule, folder))
+
+    @property
+    def table_digest(self) -> str:
+        """The digest of its table."""
+        return digest(self.table) if self.table else NONE
+
+    @cached_property
+    def traffic(self) -> Demand | Played:
+        """What traffic it has."""
+        words, load = self.words, self.amount("load")
+        if words["traffic"] != NONE:
+            return Played(words["traffic"], load)
+        lengths, classes = lengths_in(words["length"]), numbers_in("packet_classes", words["packet_classes"])
+        share = SHARE if words["share"] == NONE else self.amount("share")
+        burst = self.several("burst", 2)
+        return Demand(
+            words["pattern"], load / (self.flit_bytes or 1), lengths, self.whole("seed"), None, classes,
+            self.several("spots"), share, (burst[0], burst[1]) if burst else None,
+        )
+
+    @property
+    def flit_bytes(self) -> int | None:
+        """How many bytes a flit has, where loads are in bytes."""
+        return None if self.words["flit_bytes"] == NONE else self.whole("flit_bytes")
+
+    @cached_property
+    def experiment(self) -> Experiment:
+        """What is measured."""
+        window = Window(*numbers_in("window", self.words["window"]))
+        replies = self.several("replies", 4)
+        return Experiment(
+            self.network, self.traffic, window, self.table, self.amount("tolerance"),
+            Replies(*replies) if replies else None, self.several("measured_classes"), self.flit_bytes,
+            self.words["parts"] == "yes",
+        )
+
+    @cached_property
+    def run(self) -> str:
+        """The name of the run: digits of a digest of its settings, with what is in its files instead of where they
+        are."""
+        words = self.words | {key: digest(self.words[key]) for key in PATHS if self.words[key] != NONE}
+        lines = "\n".join(f"{key}={word}" for key, word in words.items())
+        return hashlib.sha256(lines.encode()).hexdigest()[:DIGITS]
+
+    @property
+    def combination(self) -> tuple[str, ...]:
+        """All settings but load and seed."""
+        return tuple(word for key, word in self.words.items() if key not in ("load", "seed"))
+
+
+def normal(given: dict[str, str]) -> Case:
+    """A case from a word for each setting: those that say nothing here have a dash, and the window is said."""
+    words = {**BY_DEFAULT, **given}
+    if words["traffic"] != NONE:
+        words = {"load": "1", **words, **dict.fromkeys(OF_DEMANDS, NONE)}
+    elif words["pattern"] != HOT_SPOT:
+        words["spots"] = words["share"] = NONE
+    missing = [key for key in SETTINGS if key not in words]
+    if missing:
+        raise Refused(f"'{missing[0]}' is not set")
+    if words["parts"] not in ("yes", "no"):
+        raise Refused(f"'parts' is yes or no, not '{words['parts']}'")
+    if words["rule"] != "table":
+        words["table"] = NONE
+    case = Case({key: words[key] for key in SETTINGS})
+    cycles = case.whole("cycles")
+    if words["window"] == NONE:
+        window = middle_window(cycles)
+        case.words["window"] = f"{window.first}:{window.end}"
+    bounds = numbers_in("window", case.words["window"])
+    if len(bounds) != 2 or not 0 <= bounds[0] < bounds[1] <= cycles:
+        wanted = f"[A, B] with A below B, and B at most the {cycles} cycles of the run"
+        raise Refused(f"a window is {wanted}, not {list(bounds)}")
+    return case
+
+
+def case_of(settings: list[str]) -> Case:
+    """The case of words SETTING=VALUE, with the others as they are by default."""
+    words = {}
+    for setting in settings:
+        key, equals, word = setting.partition("=")
+        if key not in SETTINGS or not equals:
+            raise Refused(f"'{setting}' is no SETTING=VALUE: the settings are {', '.join(SETTINGS)}")
+        words[key] = word
+    return normal(words)
+
+
+# ---- names
+
+
+def shown(words: Mapping[str, str], key: str) -> str:
+    """A setting as it is shown: of a file its name."""
+    return Path(words[key]).name if key in PATHS else words[key]
+
+
+def named(words: Mapping[str, str], key: str) -> str:
+    """A setting with what it is."""
+    value = shown(words, key)
+    if key in COUNTED:
+        one, more = COUNTED[key]
+        return f"{value} {one if value == '1' else more}"
+    return value if key in BY_VALUE else f"{key} {value}"
+
+
+def name_of(words: Mapping[str, str], keys: list[str]) -> str:
+    """The name of what has these settings."""
+    return ", ".join(named(words, key) for key in keys if words[key] != NONE)
+
 
 # What a study says beside its settings.
 OTHERS = ["cases", "search", "at", "frames", "colour", "dash"]
 
 
-@dataclass(frozen=True)
-class View:
+class View(NamedTuple):
     """How curves are told apart: the settings of which each value has a frame of its own, and those of colours and
     dashes; where these are not given, they are chosen."""
 
@@ -24,8 +283,7 @@ class View:
     dash: str | None = None
 
 
-@dataclass(frozen=True)
-class Plan:
+class Plan(NamedTuple):
     """What a study asks for."""
 
     cases: list[Case]
@@ -37,10 +295,8 @@ class Plan:
 
 def read_document(path: str) -> dict[str, Any]:
     """The settings as they stand in the file."""
-    try:
+    with refusing(ValueError, f"{path} is no TOML: "):
         return tomllib.loads(read_text(path, "TOML"))
-    except ValueError as error:
-        raise Refused(f"{path} is no TOML: {error}") from None
 
 
 def known(settings: Mapping[str, Any], path: str, name: str) -> dict[str, list[str]]:

@@ -11,7 +11,8 @@ from queue import SimpleQueue
 from tempfile import TemporaryFile
 from threading import Thread
 
-from .errors import Refused
+from .errors import Refused, refusing
+from .files import read_bytes
 
 DONE, STUCK = 0, 5
 # A joined text that noc takes. A script named noc builds its program for it where that is old.
@@ -36,11 +37,8 @@ def found_program() -> Path:
 
 def is_script(path: Path) -> bool:
     """Whether a file is a script, which calls another program."""
-    try:
-        with open(path, "rb") as file:
-            return file.read(2) == b"#!"
-    except OSError as error:
-        raise Refused(f"{path}: {error.strerror}") from None
+    with refusing(OSError, f"{path}: "), open(path, "rb") as file:
+        return file.read(2) == b"#!"
 
 
 def program() -> Path:
@@ -72,10 +70,7 @@ def digest_of(data: bytes) -> str:
 
 def digest(path: str | Path) -> str:
     """That of what is in a file."""
-    try:
-        return digest_of(Path(path).read_bytes())
-    except OSError as error:
-        raise Refused(f"{path}: {error.strerror}") from None
+    return digest_of(read_bytes(path))
 
 
 @cache
@@ -112,26 +107,30 @@ def ended(status: int, error: str) -> None:
         raise Refused(error.rstrip("\n") or f"noc ended with the status {status}", max(status, 1))
 
 
-def call(*words: str, given: str | None = None) -> tuple[int, str]:
-    """The status and what noc writes; where it refuses, its line is the reason."""
-    ran = subprocess.run([program(), *words], input=given, capture_output=True, encoding="utf-8", errors="replace")
-    ended(ran.returncode, ran.stderr)
+def called(words: Iterable[str], given: bytes | None = None) -> tuple[int, bytes]:
+    """The status and what noc writes, as it is; where it refuses, its line is the reason."""
+    # (one pipe is read at once, and two by turns, which takes far longer)
+    with TemporaryFile() as error:
+        ran = subprocess.run([program(), *words], input=given, stdout=subprocess.PIPE, stderr=error)
+        error.seek(0)
+        ended(ran.returncode, error.read().decode(errors="replace"))
     return ran.returncode, ran.stdout
 
 
-def report(*words: str, given: str | None = None) -> str:
-    """What noc writes; where it refuses, its line is the reason."""
-    return call(*words, given=given)[1]
-
-
 def output(*words: str) -> bytes:
-    """What noc writes, as it is; where it refuses, its line is the reason."""
-    # (one pipe is read at once, and two by turns, which takes far longer)
-    with TemporaryFile() as error:
-        ran = subprocess.run([program(), *words], stdout=subprocess.PIPE, stderr=error)
-        error.seek(0)
-        ended(ran.returncode, error.read().decode(errors="replace"))
-    return ran.stdout
+    """What noc writes, as it is."""
+    return called(words)[1]
+
+
+def call(*words: str, given: str | None = None) -> tuple[int, str]:
+    """The status and what noc writes, as text."""
+    status, written = called(words, None if given is None else given.encode())
+    return status, written.decode(errors="replace")
+
+
+def report(*words: str, given: str | None = None) -> str:
+    """What noc writes, as text."""
+    return call(*words, given=given)[1]
 
 
 def start(*words: str) -> subprocess.Popen[bytes]:
@@ -171,11 +170,6 @@ def texts(*words: str) -> Iterator[str]:
 def lines_in(texts: Iterable[str]) -> Iterator[str]:
     """The lines of these texts one by one."""
     return chain.from_iterable(text.split("\n") for text in texts)
-
-
-def stream(*words: str) -> Iterator[str]:
-    """The lines that noc writes, as it writes them."""
-    return lines_in(texts(*words))
 
 
 class Process:

@@ -4,6 +4,7 @@ Ranks rise along every step from one link channel to the next that the relation 
 adaptive, and have none, they rise from one channel with a rank to the next that packets come to.
 """
 from collections.abc import Collection, Iterable, Iterator, Sequence
+from dataclasses import replace
 from graphlib import CycleError, TopologicalSorter
 from pathlib import Path
 from typing import NamedTuple
@@ -11,7 +12,9 @@ from typing import NamedTuple
 from .errors import Refused
 from .files import named_rows, read_lines
 from .network import Network
-from .relation import Channels, Relation, Steps
+from .program import report
+from .relation import TABLE_HEADER, Channels, Relation, Steps, of_table_rule
+from .rules import table_rule
 
 # A class and a destination.
 Goal = tuple[int, int]
@@ -221,3 +224,25 @@ def read_ranks(channels: Channels, path: str | Path) -> Ranks:
         for row in named_rows(read_lines(path, "rank file"), RANK_COLUMNS, "rank file", str(path))
         if row["rank"] != ADAPTIVE
     }
+
+
+def table_file(relation: Relation) -> Iterator[str]:
+    """The lines of a table file."""
+    yield TABLE_HEADER
+    yield from (",".join(map(str, row)) for row in relation.rows())
+
+
+def checked_table(network: Network, rule: str, folder: Path) -> str:
+    """The path of the table of a rule for a network, which is made in a folder, and of which noc accepts the ranks."""
+    channels = Channels(network)
+    relation = of_table_rule(channels, table_rule(network, rule))
+    shape = "x".join(map(str, network.radix))
+    name = f"{rule}_{network.kind}_{shape}_channels_{network.channels}_classes_{network.classes}"
+    folder.mkdir(parents=True, exist_ok=True)
+    table, config, ranks = (folder / f"{name}{end}" for end in (".csv", ".toml", "_ranks.csv"))
+    table.write_text("".join(f"{line}\n" for line in table_file(relation)))
+    config.write_text(replace(network, rule="table").text())
+    found = find_ranks(relation, set(range(network.channels)))
+    ranks.write_text("".join(f"{line}\n" for line in rank_file(channels, found)))
+    report("check", str(config), "--table", str(table), "--ranks", str(ranks))
+    return str(table)

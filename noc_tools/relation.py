@@ -9,7 +9,7 @@ from collections.abc import Callable, Collection, Iterator
 from functools import cache
 from pathlib import Path
 
-from .errors import Refused
+from .errors import refusing
 from .files import csv_rows, read_lines
 from .network import LOCAL, Network, opposite
 from .program import report
@@ -98,11 +98,6 @@ class Relation:
         self.permitted = permitted
         self.nodes = range(channels.network.nodes)
 
-    def inwards(self, destination: int) -> list[int]:
-        """All routers, the farthest from a destination first."""
-        distance = self.channels.network.distance
-        return sorted(self.nodes, key=lambda router: -distance(router, destination))
-
     def steps(self, message_class: int, destination: int) -> Steps:
         """Each channel that such packets reach, with the link channels to which it leads; the farthest come first.
 
@@ -111,7 +106,8 @@ class Relation:
         found: Steps = {}
         arrived = [dict.fromkeys(self.channels.injection(router)) for router in self.nodes]
         arrived[destination] = {}
-        for router in self.inwards(destination):
+        hops = self.channels.network.hop_table[destination]
+        for router in sorted(self.nodes, key=lambda router: -hops[router]):
             last: Collection[int] | None = None
             for channel in arrived[router]:
                 is_there = router == destination
@@ -186,13 +182,11 @@ def read_rows(channels: Channels, path: str | Path) -> dict[tuple[int, int], dic
     """For each class and destination the link channels to which a table leads from each channel."""
     found: dict[tuple[int, int], dict[int, dict[int, None]]] = {}
     lines = csv_rows(read_lines(path, "table"), "table", str(path))
-    try:
+    with refusing((ValueError, KeyError), f"{path} is no table of this network: "):
         for message_class, router, in_port, in_vc, destination, out_port, out_vc in lines[1:]:
             if out_port != LOCAL:
                 goal = int(message_class), int(destination)
                 channel = channels.entering(int(router), in_port, int(in_vc))
                 following = channels.number(int(router), out_port, int(out_vc))
                 found.setdefault(goal, {}).setdefault(channel, {})[following] = None
-    except (ValueError, KeyError) as error:
-        raise Refused(f"{path} is no table of this network: {error}") from None
     return found

@@ -4,16 +4,17 @@ import io
 import os
 import shlex
 import signal
-from collections.abc import Callable, Hashable, Iterable, Iterator, Sequence
+from collections.abc import Callable, Iterable, Iterator, Sequence
 from contextlib import contextmanager
+from operator import attrgetter
 from pathlib import Path
 from tempfile import TemporaryDirectory
 
-from .errors import Refused
-from .files import csv_line, csv_rows
-from .measure import COLUMNS, Files, check_network
+from .errors import Refused, refusing
+from .files import csv_line, csv_rows, read_bytes
+from .measure import COLUMNS, check_network
+from .plan import NONE, SEPARATORS, SETTINGS, WORDS, Case
 from .program import digest, digest_of, program_digest
-from .settings import NONE, SEPARATORS, SETTINGS, WORDS, Case
 from .workers import Workers
 
 DIGESTS = ["program_digest", "configuration_digest", "traffic_digest", "table_digest"]
@@ -88,10 +89,8 @@ class Results:
     def write(self, fields: Iterable[str]) -> None:
         """One line in one write, so that a kill leaves whole lines."""
         data = csv_line(fields).encode(errors="surrogateescape")
-        try:
+        with refusing(OSError, f"{self.path}: "):
             written = os.write(self.file, data)
-        except OSError as error:
-            raise Refused(f"{self.path}: {error.strerror}") from None
         if written < len(data):
             raise Refused(f"{self.path}: there is no room for a whole line")
 
@@ -113,10 +112,7 @@ class Results:
     def collect(self, path: str, find: Callable[[str], Case | None]) -> None:
         """Takes lines that commands of a study printed, of which `find` gives the run by its name; one that is cut off
         is none."""
-        try:
-            lines = rows_in(whole_lines(Path(path).read_bytes()), path)
-        except OSError as error:
-            raise Refused(f"{path}: {error.strerror}") from None
+        lines = rows_in(whole_lines(read_bytes(path)), path)
         for number, fields in enumerate(lines, 1):
             case = find(fields[0]) if len(fields) == len(HEADER) else None
             if case is None:
@@ -158,24 +154,15 @@ def line_of(case: Case, folder: Path | None = None) -> list[str]:
     folder.mkdir(parents=True, exist_ok=True)
     case = case.with_table(folder)
     check_network(case.network, case.table)
-    return line_with(case, case.experiment.files_in(folder))
+    return line_in(folder, case)
 
 
-def line_by_worker(folder: Path, case: Case) -> list[str]:
-    """The line of a run of a worker, of a network that noc takes."""
-    return line_with(case, case.experiment.files_in(folder))
-
-
-def line_with(case: Case, files: Files) -> list[str]:
-    """The line of a run of these files."""
+def line_in(folder: Path, case: Case) -> list[str]:
+    """The line of a run of a network that noc takes, whose files are written into a folder."""
+    files = case.experiment.files_in(folder)
     found = case.experiment.measured(files)
     digests = [program_digest(), digest(files.config), digest(files.traffic), case.table_digest]
     return [case.run, *case.words.values(), *found.words(), *digests]
-
-
-def traffic_of(case: Case) -> Hashable:
-    """The traffic of a run, which a worker makes once for those that it makes in succession."""
-    return case.traffic
 
 
 def command_of(case: Case) -> list[str]:
@@ -201,7 +188,7 @@ def make_all(
     """Makes runs side by side, takes the line of each, and says after each how many are left; after an interrupt those
     that have begun are ended and taken. The workers let go of the file that is locked."""
     failures: list[str] = []
-    with interrupts_held() as is_interrupted, Workers(line_by_worker, jobs, [locked], traffic_of) as workers:
+    with interrupts_held() as is_interrupted, Workers(line_in, jobs, [locked], attrgetter("traffic")) as workers:
         for done, (number, line) in enumerate(workers.made(cases, is_interrupted), 1):
             if isinstance(line, Exception):
                 failures.append(f"{shlex.join(command_of(cases[number]))}: {line}")

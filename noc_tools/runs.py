@@ -8,13 +8,13 @@ from io import BytesIO
 from pathlib import Path
 from typing import IO, Any
 
-from .columns import NEVER, Columns, entries_in, outs_in
-from .errors import Refused
+from .errors import Refused, refusing
 from .files import STANDARD_INPUT, standard_input
 from .findings import ROUTED, Finding, ParallelTrace, Selection, finding_of, without_header
 from .network import MOST_CYCLES, Network
-from .program import Process, call, free_processors, output, report, stream
-from .traffic import Demand, Packet, Row, read_latencies, read_traffic, traffic_text
+from .program import Process, call, free_processors, lines_in, output, report, texts
+from .statistics import NEVER, Columns, entries_in, outs_in
+from .traffic import Demand, Packet, Row, numbers_in, read_latencies, read_traffic, traffic_text
 
 # A span is long where it has so many cycles, each router counted by itself: noc takes some tenth of a second for it.
 # A trace of a long span has several parts, three at most.
@@ -108,11 +108,8 @@ class Run:
         """A packet as the traffic has it."""
         if not 0 <= number < len(self.rows):
             raise Refused(f"there is no packet {number}: the traffic has {len(self.rows)}")
-        try:
-            source, destination, message_class, length, due = map(int, self.rows[number])
-        except ValueError:
-            raise Refused(f"{self.traffic.name} is no traffic: row {number} is not five numbers") from None
-        return Packet(number, source, destination, message_class, length, due)
+        with refusing(ValueError, f"{self.traffic.name} is no traffic: row {number} is not five numbers"):
+            return Packet(number, *numbers_in(self.rows[number]))
 
     def due_packet(self, number: int) -> Packet:
         """A packet that is due before the end of the run."""
@@ -169,7 +166,7 @@ class Run:
 
     def trace_lines(self, **chosen: Any) -> Iterator[str]:
         """The lines of a trace, as noc writes them; what is chosen has the names of a Selection."""
-        return without_header(stream("trace", *self.files, *Selection(**chosen).words()))
+        return without_header(lines_in(texts("trace", *self.files, *Selection(**chosen).words())))
 
     def trace(self, **chosen: Any) -> Iterator[Finding]:
         """The findings of a trace, one after the other; what is chosen has the names of a Selection."""

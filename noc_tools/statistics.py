@@ -1,14 +1,64 @@
 """The figures of a run that a study reports: loads, latency in queue and network, hops, and if it was steady."""
 import math
+import re
 from collections import Counter
 from collections.abc import Callable, Iterable, Sequence
-from dataclasses import asdict, dataclass, replace
+from dataclasses import dataclass, replace
 from itertools import compress
 from operator import sub
+from typing import NamedTuple
 
-from .columns import NEVER, Columns
 from .errors import Refused
 from .network import Network
+from .traffic import Packet
+
+# The cycle of what did not happen, and of what is not known: later than all cycles.
+NEVER = 1 << 62
+# The last field of a line of a latency report; and in a trace the cycle and the packet where a head is routed that came
+# in at its node.
+LATENCY = re.compile(rb",([0-9]+|-)\n")
+CAME_IN = re.compile(rb"\n([0-9]+),[0-9]+,local,[0-9],Routed,([0-9]+)")
+
+
+class Columns(NamedTuple):
+    """A list for each fact, in the order of the packets."""
+
+    sources: Sequence[int]
+    destinations: Sequence[int]
+    classes: Sequence[int]
+    lengths: Sequence[int]
+    dues: Sequence[int]
+    outs: Sequence[int]
+    entries: Sequence[int]
+
+    def chosen(self, flags: Iterable[bool]) -> "Columns":
+        """The packets that have a true flag."""
+        kept = list(flags)
+        return Columns(*(list(compress(column, kept)) for column in self))
+
+    @classmethod
+    def of_packets(cls, packets: Iterable[Packet]) -> "Columns":
+        """The columns of packets."""
+        rows = [
+            (*packet.row, *(NEVER if cycle is None else cycle for cycle in (packet.out, packet.came_in)))
+            for packet in packets
+        ]
+        return cls(*zip(*rows)) if rows else cls(*([()] * len(cls._fields)))
+
+
+def outs_in(report: bytes, dues: Iterable[int]) -> list[int]:
+    """When packets that are due then were out, by a latency report."""
+    latencies = LATENCY.findall(report)
+    return [NEVER if latency == b"-" else due + int(latency) for due, latency in zip(dues, latencies)]
+
+
+def entries_in(trace: bytes, count: int) -> list[int]:
+    """When each of so many packets came in by the lines of a trace: in the cycle in which its head is routed first."""
+    found = [NEVER] * count
+    for cycle, packet in CAME_IN.findall(trace):
+        found[int(packet)] = int(cycle)
+    return found
+
 
 TOLERANCE = 20.0
 # A network that brings out less than this part of what is offered does not keep up. Two counts that only chance tells
@@ -23,8 +73,7 @@ UNKNOWN = NEVER // 2
 Number = int | float | None
 
 
-@dataclass(frozen=True)
-class Window:
+class Window(NamedTuple):
     """The cycles from `first` to before `end`."""
 
     first: int
@@ -88,8 +137,7 @@ def percentile(ordered: Sequence[int], count: int, percent: int) -> int | None:
     return ordered[rank - 1] if rank <= len(ordered) else None
 
 
-@dataclass(frozen=True)
-class Spread:
+class Spread(NamedTuple):
     """How a number is spread over some packets; None where there is no such figure."""
 
     mean: float | None
@@ -105,18 +153,12 @@ def spread(numbers: Iterable[int], count: int) -> Spread:
     return Spread(mean(ordered), *(percentile(ordered, count, percent) for percent in PERCENTS.values()))
 
 
-@dataclass(frozen=True)
-class Range:
+class Range(NamedTuple):
     """The least, the mean and the most of some numbers; None where there are none."""
 
     least: float | None
     mean: float | None
     most: float | None
-
-
-def range_of(numbers: Sequence[float]) -> Range:
-    """Their range."""
-    return Range(min(numbers, default=None), mean(numbers), max(numbers, default=None))
 
 
 @dataclass(frozen=True)
@@ -140,14 +182,14 @@ class Figures:
         found: dict[str, Number] = {}
         for name, value in vars(self).items():
             if isinstance(value, (Spread, Range)):
-                found |= {column_name(name, part): number for part, number in asdict(value).items()}
+                found |= {column_name(name, part): number for part, number in value._asdict().items()}
             else:
                 found[name] = value
         return found
 
     def times(self, amount: int) -> "Figures":
         """The same with loads in another unit, of which a flit has so many."""
-        sources = Range(*(None if load is None else amount * load for load in asdict(self.sources).values()))
+        sources = Range(*(None if load is None else amount * load for load in self.sources))
         return replace(self, offered=amount * self.offered, accepted=amount * self.accepted, sources=sources)
 
     def words(self) -> list[str]:
@@ -200,6 +242,7 @@ class Sample:
         measured, arrived = self.measured, self.arrived
         count, places = len(measured.dues), nodes * self.window.cycles
         hops = network.hop_table
+        loads = [self.accepted[source] / self.window.cycles for source in set(measured.sources)]
         # (queue and network of the same packets as the latency: so their means add up to its mean)
         return Figures(
             count, self.offered, len(arrived.dues), self.offered / places, self.accepted.total() / places,
@@ -208,7 +251,7 @@ class Sample:
             # (where entries are not known this is below zero)
             spread([time for time in map(sub, arrived.outs, arrived.entries) if 0 <= time], count),
             spread([hops[source][goal] for source, goal in zip(measured.sources, measured.destinations)], count),
-            range_of([self.accepted[source] / self.window.cycles for source in set(measured.sources)]),
+            Range(min(loads, default=None), mean(loads), max(loads, default=None)),
         )
 
 

@@ -3,15 +3,13 @@ from collections.abc import Callable, Iterable
 from dataclasses import replace
 from pathlib import Path
 
-from .combinations import Combination, Value, combinations_of
 from .drawing import draw_study
 from .errors import Refused
 from .measure import check_network, told_of_short_runs
-from .plan import read_plan
+from .plan import Case, read_plan
 from .program import processors
 from .results import HEADER, Results, Row, make_all, value_of
-from .settings import Case
-from .table import rows_of, table_text
+from .table import Combination, Value, combinations_of, rows_of, table_text
 
 
 def try_cases(cases: Iterable[Case]) -> None:
@@ -21,7 +19,8 @@ def try_cases(cases: Iterable[Case]) -> None:
         try:
             check_network(case.network, case.table)
         except Refused as reason:
-            told = case.told("kind", "radix", "rule", "channels", "buffer", "classes", "cycles")
+            keys = "kind", "radix", "rule", "channels", "buffer", "classes", "cycles"
+            told = " ".join(f"{key}={case.words[key]}" for key in keys)
             raise Refused(f"noc takes no {told}: {reason}; 'cases' can do without it") from None
     for case in cases:
         case.experiment.check()

@@ -1,4 +1,4 @@
-"""Packets and traffic: reading and writing them, and making traffic of a pattern and a load."""
+"""Packets and traffic: reading and writing them, patterns, and making traffic of a pattern and a load."""
 from collections.abc import Callable, Iterable, Iterator, Sequence
 from dataclasses import dataclass
 from itertools import islice, repeat
@@ -6,12 +6,106 @@ from operator import itemgetter
 from pathlib import Path
 from random import Random
 
-from .errors import Refused
+from .errors import Refused, refusing
 from .files import csv_rows, named_rows, read_lines
 from .network import Network
-from .patterns import (
-    FIXED, HOT_SPOT, PATTERN_NAMES, PERMUTATION, UNIFORM, Pattern, below, fixed, hot_spot, middle, permutation, uniform,
-)
+
+# A pattern gives the destination of a packet from the generator and its source.
+Pattern = Callable[[Random, int], int]
+
+
+def below(random: Random, bound: int) -> int:
+    """A number from 0 to bound - 1, all alike, by one draw."""
+    return int(random.random() * bound)
+
+
+def uniform(nodes: int) -> Pattern:
+    """All other nodes alike."""
+    def destination(random: Random, source: int) -> int:
+        other = below(random, nodes - 1)
+        return other + 1 if other >= source else other
+
+    return destination
+
+
+def hot_spot(nodes: int, spots: Sequence[int], share: float) -> Pattern:
+    """One of some nodes for a share of the packets, and else uniform."""
+    elsewhere = uniform(nodes)
+
+    def destination(random: Random, source: int) -> int:
+        is_hot, spot = random.random() < share, spots[below(random, len(spots))]
+        other = elsewhere(random, source)
+        return spot if is_hot and spot != source else other
+
+    return destination
+
+
+def permutation(nodes: int, random: Random) -> Pattern:
+    """For each node always the same one, and for no two the same: one of all such choices, all alike."""
+    goals = list(range(nodes))
+    for place in range(nodes - 1, 0, -1):
+        other = below(random, place + 1)
+        goals[place], goals[other] = goals[other], goals[place]
+    return lambda _, source: goals[source]
+
+
+def by_bits(network: Network, bit_of: Callable[[int, int, list[int]], int]) -> Pattern:
+    """The pattern in which `bit_of` gives each bit of the destination from its number, b and the bits of the source."""
+    b = network.nodes.bit_length() - 1
+    if network.nodes != 1 << b:
+        raise Refused(f"{network.nodes} nodes are no power of two, which a pattern by bits needs")
+
+    def destination(_: Random, source: int) -> int:
+        bits = [source >> i & 1 for i in range(b)]
+        return sum(bit_of(i, b, bits) << i for i in range(b))
+
+    return destination
+
+
+def by_coordinates(network: Network, moved: Callable[[int, int], int]) -> Pattern:
+    """The pattern in which `moved` gives each coordinate of the destination from the radix and that of the source."""
+    def destination(_: Random, source: int) -> int:
+        return network.node_at([moved(k, x) % k for k, x in zip(network.radix, network.coordinates(source))])
+
+    return destination
+
+
+def transpose(network: Network) -> Pattern:
+    """Over the diagonal of a square, and by bits elsewhere; both are the same where a radix is a power of two."""
+    if len(network.radix) == 2 and network.radix[0] == network.radix[1]:
+        return lambda _, source: network.node_at(network.coordinates(source)[::-1])
+    pattern = by_bits(network, lambda i, b, bits: bits[(i + b // 2) % b])
+    if network.nodes.bit_length() % 2 == 0:
+        needs = "transpose needs a square, or nodes with an even number of bits"
+        raise Refused(f"{needs}, which {network.nodes} nodes do not have")
+    return pattern
+
+
+# In these a node sends always to the same one, which its number or its place says.
+FIXED: dict[str, Callable[[Network], Pattern]] = {
+    "bit-complement": lambda network: by_bits(network, lambda i, b, bits: 1 - bits[i]),
+    "bit-reverse": lambda network: by_bits(network, lambda i, b, bits: bits[b - 1 - i]),
+    "bit-rotation": lambda network: by_bits(network, lambda i, b, bits: bits[(i + 1) % b]),
+    "shuffle": lambda network: by_bits(network, lambda i, b, bits: bits[(i - 1) % b]),
+    "transpose": transpose,
+    "tornado": lambda network: by_coordinates(network, lambda k, x: x + (k + 1) // 2 - 1),
+    "neighbour": lambda network: by_coordinates(network, lambda k, x: x + 1),
+}
+UNIFORM, PERMUTATION, HOT_SPOT = "uniform", "permutation", "hot-spot"
+PATTERN_NAMES = [UNIFORM, *FIXED, PERMUTATION, HOT_SPOT]
+
+
+def fixed(network: Network, name: str) -> Pattern:
+    """A fixed pattern, with each destination worked out once."""
+    pattern, nothing = FIXED[name](network), Random()
+    goals = [pattern(nothing, node) for node in range(network.nodes)]
+    return lambda _, source: goals[source]
+
+
+def middle(network: Network) -> int:
+    """The node in the middle."""
+    return network.node_at([k // 2 for k in network.radix])
+
 
 COLUMNS = ["source", "destination", "class", "length", "due"]
 HEADER = ",".join(COLUMNS)
@@ -68,6 +162,12 @@ def traffic_text(rows: Iterable[Row]) -> str:
     return "".join([HEADER, "\n", *("%d,%d,%d,%d,%d\n" % row for row in rows)])
 
 
+def numbers_in(row: Iterable[str]) -> Row:
+    """The five numbers of a row; a ValueError where they are none."""
+    source, destination, message_class, length, due = map(int, row)
+    return source, destination, message_class, length, due
+
+
 def read_traffic(path: str | Path, name: str | None = None) -> list[list[str]]:
     """The rows of a traffic file, as texts. What they say is looked at by noc."""
     name = name or str(path)
@@ -82,22 +182,19 @@ def read_latencies(lines: Iterable[str], network: Network, name: str) -> list[Pa
     packets = []
     for number, row in enumerate(named_rows(lines, REPORT_COLUMNS, "latency report", name)):
         try:
-            source, destination, message_class, length, due = map(int, fields(row))
-            out = None if row["out"] == "-" else int(row["out"])
+            found = Packet(number, *numbers_in(fields(row)), None if row["out"] == "-" else int(row["out"]))
         except ValueError:
             raise Refused(f"{name} has no packet in line {number + 2}") from None
-        if not (0 <= source < network.nodes and 0 <= destination < network.nodes):
+        if not (0 <= found.source < network.nodes and 0 <= found.destination < network.nodes):
             raise Refused(f"{name} has a node in line {number + 2} that the network has not")
-        packets.append(Packet(number, source, destination, message_class, length, due, out))
+        packets.append(found)
     return packets
 
 
 def lengths_in(words: str) -> tuple[int, ...]:
     """The lengths of packets: one, or several that are as frequent."""
-    try:
-        return tuple(int(number) for number in words.split("+"))
-    except ValueError:
-        raise Refused(f"a length is a number of flits, or several as 1+8, not '{words}'") from None
+    with refusing(ValueError, f"a length is a number of flits, or several as 1+8, not '{words}'"):
+        return tuple(map(int, words.split("+")))
 
 
 # ---- what noc takes
@@ -135,14 +232,9 @@ class Played:
 
     def first_rows(self, network: Network) -> list[Row]:
         """Its packets."""
-        try:
-            packets = [map(int, row) for row in read_traffic(self.path)]
-            return [
-                (source, destination, message_class, length, int(due / self.speed))
-                for source, destination, message_class, length, due in packets
-            ]
-        except ValueError:
-            raise Refused(f"{self.path} is no traffic: a row is not five numbers") from None
+        with refusing(ValueError, f"{self.path} is no traffic: a row is not five numbers"):
+            rows = map(numbers_in, read_traffic(self.path))
+            return [(*row[:4], int(row[4] / self.speed)) for row in rows]
 
 
 # ---- traffic of a pattern and a load

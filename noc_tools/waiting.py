@@ -1,6 +1,6 @@
 """Who waits for whom in one cycle: from a packet step by step to one that moves, or round a circle."""
-from collections.abc import Callable, Iterable
-from dataclasses import dataclass
+from collections.abc import Callable
+from typing import NamedTuple
 
 from .findings import (
     GRANTED, LOST_CHANNEL, LOST_INPUT, LOST_SWITCH, MOVED, NO_CREDIT, NO_FLIT, NO_IDLE_CHANNEL, OWNING, ROUTED, Finding,
@@ -12,8 +12,7 @@ from .runs import ArrivalTimes, Run
 from .traffic import Packet
 
 
-@dataclass(frozen=True)
-class Place:
+class Place(NamedTuple):
     """A packet in an input channel of a router, or in the queue of its source."""
 
     packet: int
@@ -21,8 +20,7 @@ class Place:
     channel: str
 
 
-@dataclass
-class Step:
+class Step(NamedTuple):
     """What is to be said of a place, and the places that it waits for. It moves where there are none."""
 
     place: Place
@@ -104,16 +102,11 @@ class Snapshot:
             return Step(place, "", "it comes in in the next cycle", [])
         local, inside = self.inside(place.router)
         if len(inside) == len(local):
-            said = f"it needs a channel of the port local, and {owners(zip(inside, local))}"
-            return Step(place, "", said, inside)
+            owners = ", and ".join(f"packet {found.packet} has {channel}" for found, channel in zip(inside, local))
+            return Step(place, "", f"it needs a channel of the port local, and {owners}", inside)
         # (a node brings in one packet at a time, by due time and then by number)
         first = max(inside, key=lambda found: self.run.turn(found.packet))
         return Step(place, "", f"packet {first.packet} comes in first", [first])
-
-
-def owners(pairs: Iterable[tuple[Place, str]]) -> str:
-    """Who has which channel, in words."""
-    return ", and ".join(f"packet {place.packet} has {channel}" for place, channel in pairs)
 
 
 # ---- a step for each verdict: what is said, and what is waited for

@@ -179,24 +179,18 @@ class Workers(Generic[Item, Made]):
         return number, found
 
 
-def in_order(pairs: Iterable[tuple[int, Made]]) -> Iterator[Made]:
-    """What comes with its place, in the order of the places."""
-    found: dict[int, Made] = {}
-    place = 0
-    for number, value in pairs:
-        found[number] = value
-        while place in found:
-            yield found.pop(place)
-            place += 1
-
-
 def made_in_order(make: Make[Item, Made], items: Sequence[Item], jobs: int) -> Iterator[Made]:
     """What is made of the items, in their order, so many at a time; why one of them is not made is raised."""
+    found: dict[int, Made | Exception] = {}
+    place = 0
     with Workers(make, jobs) as workers:
-        for made in in_order(workers.made(items)):
-            if isinstance(made, Exception):
-                raise made
-            yield made
+        for number, found[number] in workers.made(items):
+            while place in found:
+                made = found.pop(place)
+                if isinstance(made, Exception):
+                    raise made
+                yield made
+                place += 1
 
 
 def check_jobs(jobs: int) -> None:

@@ -2,18 +2,16 @@
 docs/FORMATS.md, for texts without quotes, empty lines and carriage returns, or by ranges worked out by hand."""
 import tomllib
 
-from fault_lines import TOP
+from fault_lines import HEADERS, TOP
 
 from noc_tools.network import network_of
 from noc_tools.relation import Channels, of_network
 
 EXAMPLES = TOP / "examples"
 KEYS = ["kind", "radix", "channels", "buffer", "classes", "rule", "cycles"]
-HEADERS = {"traffic": "source,destination,class,length,due", "table": "class,router,in_port,in_vc,dst,out_port,out_vc",
-           "ranks": "router,port,vc,rank"}
 PORT_COLUMNS = {"traffic": (), "table": (2, 5), "ranks": (1,)}
 GREATEST_NUMBER = 4294967295
-REPORT_HEADER = "packet,source,destination,class,length,due,out,latency\n"
+REPORT_HEADER = HEADERS["latency"]
 # The fewest and the most bytes that are left of examples/two_routers.noc, and the answer. The dividing line ends with
 # byte 90, the header with byte 125 and its line feed; with 134 bytes the row has all its commas, and with 135 a
 # number behind the last one.
@@ -40,7 +38,7 @@ def config_fault(text):
 def read_rows(kind, text, ports=()):
     """The fault of a CSV text, or None, and its rows."""
     header, *lines = text.splitlines() or [""]
-    if header != HEADERS[kind]:
+    if header + "\n" != HEADERS[kind]:
         return f"fault {kind} 9 BadHeader\n", []
     rows = [line.split(",") for line in lines]
     for number, row in enumerate(rows):

@@ -1,4 +1,4 @@
-"""The fault lines that docs/FORMATS.md names, each with its exit status."""
+"""The fault lines that docs/FORMATS.md names, each with its exit status, and the headers of its files."""
 import re
 import sys
 from pathlib import Path
@@ -6,6 +6,11 @@ from pathlib import Path
 TOP = Path(__file__).resolve().parent.parent
 # The tests of the program write configurations by the package.
 sys.path.append(str(TOP))
+# The first line of each kind of file and report of packets.
+HEADERS = {
+    "traffic": "source,destination,class,length,due\n", "table": "class,router,in_port,in_vc,dst,out_port,out_vc\n",
+    "ranks": "router,port,vc,rank\n", "latency": "packet,source,destination,class,length,due,out,latency\n",
+}
 LETTERS = {"HOP": "class c router r port p vc v dst t out q vc w", "ENTRY": "class c router r port p vc v dst t"}
 NUMBER, PORT = "(0|[1-9][0-9]*)", r"([+-][0-2]|local)"
 MEMORY = ["joined 3", "config 3", "table 3", "ranks 3", "traffic 3", "rank 3", "relation 7", "network 6", "run 1"]

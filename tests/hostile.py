@@ -19,19 +19,16 @@ import time
 from pathlib import Path
 from random import Random
 
-from fault_lines import TOP, status_of
+from fault_lines import HEADERS, TOP, status_of
 
 LONGEST_RUN = 200
-TABLE = b"class,router,in_port,in_vc,dst,out_port,out_vc\n"
-TRAFFIC = b"source,destination,class,length,due\n"
+TABLE, TRAFFIC = HEADERS["table"].encode(), HEADERS["traffic"].encode()
 TWO_RANKS = b"router,port,vc,rank\n0,+0,0,1\n1,-0,0,1\n"
 TWO = b'kind = "mesh"\nradix = [2]\nchannels = 1\nbuffer = 2\nclasses = 1\nrule = "table"\ncycles = 8\n'
 NUMBERS = [0, 1, 2, 3, 4, 5, 16, 17, 64, 65, 256, 1000, 1001, 2000, 4294967295, 4294967296, 2**63, 2**64, -1]
-PIECES = [b",", b'"', b"\n", b"\r\n", b"\r", b"#", b"=", b"[", b"]", b"{a=1}", b"---\n", b"'''", b"\\u00", b" ",
-          b"\0", b"\xff",
-          b"\xef\xbb\xbf", b"+0", b"-0", b"+1", b"-2", b"local", b"mesh", b"torus", b"dor", b"dateline",
-          b"west-first", b"adaptive", b"table",
-          b"1e9", b"0x10", b"1979-05-27"]
+PIECES = [b"\n", b"\r\n", b"\r", b"---\n", b" ", b"\0", b"\xff", b"\xef\xbb\xbf", *(
+    b", \" # = [ ] {a=1} ''' \\u00 +0 -0 +1 -2 local mesh torus dor dateline west-first adaptive table 1e9 0x10 "
+    b"1979-05-27").split()]
 
 
 def sets():

@@ -12,12 +12,12 @@ import subprocess
 import sys
 from pathlib import Path
 
+from fault_lines import HEADERS
+
 from noc_tools.network import Network
 
 MOST_GROWTHS = 5000
-TRAFFIC_HEADER = "source,destination,class,length,due\n"
-REPORT_HEADER = "packet,source,destination,class,length,due,out,latency\n"
-TABLE_HEADER = "class,router,in_port,in_vc,dst,out_port,out_vc\n"
+TRAFFIC_HEADER, REPORT_HEADER, TABLE_HEADER = (HEADERS[kind] for kind in ("traffic", "latency", "table"))
 WANT = re.compile(rb"fault (\w+ \d+ Memory|run 2 NoWorker)\n")
 
 

@@ -22,7 +22,7 @@ import time
 from pathlib import Path
 
 from cut_texts import cut_texts
-from fault_lines import status_of
+from fault_lines import HEADERS, status_of
 from refused_growth import refused_growths
 from worked_texts import worked_texts
 
@@ -31,9 +31,7 @@ NOBODY, ALONE = 65534, 65533
 PIPE_SIZE = 4096
 SECONDS = 600
 AMPLE = 1000
-TABLE_HEADER = b"class,router,in_port,in_vc,dst,out_port,out_vc\n"
-TRAFFIC_HEADER = b"source,destination,class,length,due\n"
-REPORT_HEADER = b"packet,source,destination,class,length,due,out,latency\n"
+TABLE_HEADER, TRAFFIC_HEADER, REPORT_HEADER = (HEADERS[kind].encode() for kind in ("table", "traffic", "latency"))
 EMPTY_CHANNELS = b"port,vc,verdict,packet,out\n+0,0,Empty,-,-\nlocal,0,Empty,-,-\n"
 # Two routers with the routes of a table file, ranks that rise, and one packet, which is out after five cycles.
 CONFIG = b'kind = "mesh"\nradix = [2]\nchannels = 1\nbuffer = 2\nclasses = 1\nrule = "table"\ncycles = 8\n'
@@ -65,41 +63,30 @@ TRACE = b"""cycle,router,port,vc,verdict,packet,out,permitted
 """
 # Each command with the files that it takes, in the order in which their faults are looked for, and its answer.
 COMMANDS = {
-    "run": (["run", "config", "traffic", "--table", "table", "--ranks", "ranks"],
-            ["config", "table", "ranks", "traffic"], REPORT),
-    "explain": (["explain", "config", "traffic", "--cycle", "7", "--router", "0", "--table", "table"],
-                ["config", "table", "traffic"],
-                EMPTY_CHANNELS),
-    "trace": (["trace", "config", "traffic", "--table", "table"], ["config", "table", "traffic"], TRACE),
-    "check": (["check", "config", "--ranks", "ranks", "--table", "table"], ["config", "table", "ranks"], b"accepted\n"),
-    "ranks": (["ranks", "config", "--table", "table"], ["config", "table"], b"fault rank 1 NoGenerated\n"),
+    "run": ("run config traffic --table table --ranks ranks", "config table ranks traffic", REPORT),
+    "explain": ("explain config traffic --cycle 7 --router 0 --table table", "config table traffic", EMPTY_CHANNELS),
+    "trace": ("trace config traffic --table table", "config table traffic", TRACE),
+    "check": ("check config --ranks ranks --table table", "config table ranks", b"accepted\n"),
+    "ranks": ("ranks config --table table", "config table", b"fault rank 1 NoGenerated\n"),
 }
-NO_WORDS_OF_NOC = [
-    ["walk"], ["run"], ["run", "plain"], ["run", "plain", "traffic", "ranks"],
-    ["run", "plain", "traffic", "--cycle", "1"],
-    ["run", "plain", "traffic", "--workers"], ["run", "plain", "traffic", "--workers", "0"],
-    ["run", "plain", "traffic", "--workers", "17"],
-    ["run", "plain", "traffic", "--workers", "-1"], ["run", "plain", "traffic", "--workers", "two"],
-    ["run", "plain", "traffic", "--workers", ""],
-    ["run", "plain", "traffic", "--workers", "1", "--workers", "1"], ["run", "plain", "traffic", "--report", "all"],
-    ["run", "plain", "traffic", "--report"], ["run", "plain", "traffic", "--table"],
-    ["run", "plain", "traffic", "--ranks"],
-    ["run", "plain", "traffic", "--wrong"], ["run", "-plain", "traffic"], ["explain", "plain", "traffic"],
-    ["explain", "plain", "traffic", "--cycle", "1"], ["explain", "plain", "traffic", "--router", "1"],
-    ["explain", "plain", "traffic", "--cycle", "18446744073709551616", "--router", "0"],
-    ["explain", "plain", "traffic", "--cycle", "1.0", "--router", "0"],
+COMMANDS = {name: (words.split(), files.split(), answer) for name, (words, files, answer) in COMMANDS.items()}
+# Words in one text stand apart by spaces.
+NO_WORDS_OF_NOC = [text.split() for text in (
+    "walk", "run", "run plain", "run plain traffic ranks", "run plain traffic --cycle 1", "run plain traffic --workers",
+    *(f"run plain traffic --workers {number}" for number in ("0", "17", "-1", "two", "1 --workers 1")),
+    "run plain traffic --report all", "run plain traffic --report", "run plain traffic --table",
+    "run plain traffic --ranks", "run plain traffic --wrong", "run -plain traffic", "explain plain traffic",
+    "explain plain traffic --cycle 1", "explain plain traffic --router 1",
+    *(f"explain plain traffic --router 0 --cycle {word}" for word in (str(1 << 64), "1.0", "1 --ranks ranks")),
+    "trace plain", "trace plain traffic --ranks ranks", "trace plain traffic --from 1.0", "trace plain traffic --to",
+    "trace plain traffic --router -1", "trace plain traffic --packet 18446744073709551616",
+    "trace plain traffic --verdict Stalled", "trace plain traffic --verdict Moved,", "trace plain traffic --changes 1",
+    "trace plain traffic --changes=1", "check plain", "check --ranks ranks", "check plain traffic --ranks ranks",
+    "ranks", "ranks plain traffic", "ranks plain --ranks ranks", "--workers 1", "--help", "help", "run --help", "plain",
+)]
+NO_WORDS_OF_NOC += [
+    ["run", "plain", "traffic", "--workers", ""], [""], ["run", b"\xff", "traffic"], [b"\xff"],
     ["explain", "plain", "traffic", "--cycle", " 1", "--router", "0"],
-    ["explain", "plain", "traffic", "--cycle", "1", "--router", "0", "--ranks", "ranks"], ["trace", "plain"],
-    ["trace", "plain", "traffic", "--ranks", "ranks"], ["trace", "plain", "traffic", "--from", "1.0"],
-    ["trace", "plain", "traffic", "--to"],
-    ["trace", "plain", "traffic", "--router", "-1"], ["trace", "plain", "traffic", "--packet", "18446744073709551616"],
-    ["trace", "plain", "traffic", "--verdict", "Stalled"], ["trace", "plain", "traffic", "--verdict", "Moved,"],
-    ["trace", "plain", "traffic", "--changes", "1"], ["trace", "plain", "traffic", "--changes=1"], ["check", "plain"],
-    ["check", "--ranks", "ranks"],
-    ["check", "plain", "traffic", "--ranks", "ranks"], ["ranks"], ["ranks", "plain", "traffic"],
-    ["ranks", "plain", "--ranks", "ranks"],
-    ["--workers", "1"], ["--help"], ["help"], ["run", "--help"], ["plain"], [""], ["run", b"\xff", "traffic"],
-    [b"\xff"],
 ]
 
 
@@ -142,21 +129,18 @@ class Calls:
         self.count(f"{name} {words}", (ran.returncode, ran.stdout or b"", ran.stderr or b"") == wanted, ran)
 
 
-def rights_dropped():
+def as_user(number):
     """Where the tests run as root, which may read all, the call is another user's."""
     if os.geteuid() == 0:
         os.setgroups([])
-        os.setgid(NOBODY)
-        os.setuid(NOBODY)
+        os.setgid(number)
+        os.setuid(number)
 
 
 def no_thread_more():
     """The call is of a user who may have one process, and so no thread more; where the tests run as root, of another
     user, who has none."""
-    if os.geteuid() == 0:
-        os.setgroups([])
-        os.setgid(ALONE)
-        os.setuid(ALONE)
+    as_user(ALONE)
     resource.setrlimit(resource.RLIMIT_NPROC, (1, 1))
 
 
@@ -171,7 +155,7 @@ def inputs_that_cannot_be_read(calls):
             for other in ("missing", ".", "", "plain/file"):
                 calls.answers(f"{name} on no {kind}", [other if word == kind else word for word in words], fault)
             locked = ["locked" if word == kind else word for word in words]
-            calls.answers(f"{name} on a locked {kind}", locked, fault, preexec_fn=rights_dropped)
+            calls.answers(f"{name} on a locked {kind}", locked, fault, preexec_fn=lambda: as_user(NOBODY))
     closed = b"fault joined 1 ReadFailed\n"
     calls.answers("standard input closed", [], closed, preexec_fn=lambda: os.close(0))
     folder = os.open(calls.folder, os.O_RDONLY)
@@ -205,10 +189,8 @@ def names(calls):
              "ä": PLAIN, "=": RANKS}
     calls.put(**given)
     for words in (["two words", "traffic"], ["--", "-c", "-t"], ["./-c", "./-t"], ["-", "traffic"], ["--", "-", "-t"],
-                  ["ä", "a\nb"],
-                  ["plain", "traffic", "--ranks", "./--ranks"], ["--ranks=./--ranks", "--", "-c", "-t"],
-                  ["--ranks", "=", "-", "a\nb"],
-                  ["--ranks==", "plain", "traffic"]):
+                  ["ä", "a\nb"], ["plain", "traffic", "--ranks", "./--ranks"], ["--ranks=./--ranks", "--", "-c", "-t"],
+                  ["--ranks", "=", "-", "a\nb"], ["--ranks==", "plain", "traffic"]):
         calls.answers("a name", ["run", *words], REPORT)
     calls.answers("a name of standard input", ["run", "/dev/stdin", "traffic"], REPORT, given=PLAIN)
     calls.answers("a name of 5000 letters", ["run", "a" * 5000, "traffic"], b"fault config 1 ReadFailed\n")
@@ -437,9 +419,8 @@ def threads_refused(calls):
 
 
 GROUPS = [inputs_that_cannot_be_read, inputs_at_the_limit, names, wrong_words, outputs_that_fail,
-          pipe_that_closes_early, trace_cycle_by_cycle,
-          reports_cut_off, fault_lines_in_one_write, order_of_faults, bytes_that_are_no_text, bounded_memory,
-          threads_refused, refused_growths, cut_texts, worked_texts]
+          pipe_that_closes_early, trace_cycle_by_cycle, reports_cut_off, fault_lines_in_one_write, order_of_faults,
+          bytes_that_are_no_text, bounded_memory, threads_refused, refused_growths, cut_texts, worked_texts]
 
 
 def main():

@@ -20,39 +20,17 @@ FOLDER = Path(__file__).resolve().parent
 COUNTS = re.compile(r"(\d+) passed, (\d+) failed\n\Z")
 
 
-class Counted(unittest.TextTestResult):
-    """The results, with the number of tests that passed and the names of those that did not."""
-
-    def __init__(self, *words):
-        super().__init__(*words)
-        self.passed, self.failed = 0, set()
-
-    def addSuccess(self, test):
-        super().addSuccess(test)
-        self.passed += 1
-
-    def addFailure(self, test, error):
-        super().addFailure(test, error)
-        self.failed.add(test.id())
-
-    def addError(self, test, error):
-        super().addError(test, error)
-        self.failed.add(test.id())
-
-    def addSubTest(self, test, subtest, error):
-        super().addSubTest(test, subtest, error)
-        self.failed.update([test.id()] if error else [])
-
-
 def run_names(names, patterns):
     """Runs tests in this process, and returns how many passed and how many failed."""
     loader = unittest.TestLoader()
     loader.testNamePatterns = [f"*{word}*" for word in patterns] or None
-    runner = unittest.TextTestRunner(resultclass=Counted, stream=sys.stdout, verbosity=0)
-    result = runner.run(loader.loadTestsFromNames(names))
+    result = unittest.TextTestRunner(stream=sys.stdout, verbosity=0).run(loader.loadTestsFromNames(names))
     for test, reason in result.skipped:
         print(f"left out: {test.id()}: {reason}")
-    return result.passed, len(result.failed)
+    # (a part of a test counts as the test, and what is set up for a class is no test that ran)
+    failed = {getattr(test, "test_case", test) for test, _ in result.failures + result.errors}
+    ran = result.testsRun - len(result.skipped)
+    return ran - sum(isinstance(test, unittest.TestCase) for test in failed), len(failed)
 
 
 def run_module(program, module, patterns):

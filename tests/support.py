@@ -6,6 +6,7 @@ import subprocess
 import sys
 import tempfile
 import unittest
+import xml.etree.ElementTree as ElementTree
 from pathlib import Path
 from random import Random
 
@@ -26,6 +27,7 @@ class FolderTest(unittest.TestCase):
     """A test in a folder with a copy of the package, the launcher and the program side by side, and the examples."""
 
     maxDiff = None
+    FILES: dict = {"c": LINE, "t": IN_THE_WAY}
 
     @classmethod
     def setUpClass(cls):
@@ -35,6 +37,9 @@ class FolderTest(unittest.TestCase):
         shutil.copy(TOP / "noc-tools", cls.folder)
         (cls.folder / "noc").symlink_to(PROGRAM)
         cls.environment = {name: value for name, value in os.environ.items() if name != "NOC"}
+
+    def setUp(self):
+        self.put(**self.FILES)
 
     def put(self, **files):
         """Writes files: texts, bytes or configurations."""
@@ -55,6 +60,10 @@ class FolderTest(unittest.TestCase):
         """What a command of the package prints."""
         return self.tool(*words, given=given).stdout
 
+    def drawn(self, *words, **given):
+        """The picture that a command draws."""
+        return ElementTree.fromstring(self.said(*words, **given))
+
     def noc(self, *words):
         """How the program ends."""
         return self.called([self.folder / "noc", *words])
@@ -74,12 +83,20 @@ class FolderTest(unittest.TestCase):
         self.assertIn(sentence, ran.stderr)
         self.assertTrue(ran.stderr.startswith(f"noc-tools {name}: "), ran.stderr)
 
-    def assertEachRefused(self, cases):
-        """Each case is a command with its words, files, and a part of the one sentence that answers it."""
-        for words, files, sentence in cases:
+    def assertEachRefused(self, cases, given=None):
+        """Each case is a command with its words, files where it needs some, and a part of the one sentence that answers
+        it."""
+        for words, *files, sentence in cases:
             with self.subTest(words=words, sentence=sentence):
-                self.put(**files)
-                self.assertRefused(self.tool(*words.split()), sentence, words.split()[0])
+                self.put(**dict(*files))
+                self.assertRefused(self.tool(*words.split(), given=given), sentence, words.split()[0])
+
+    def assertRefusedByNoc(self, words, status, line):
+        """What noc refuses it tells itself, by its line and its status."""
+        with self.subTest(words=words, line=line):
+            ran = self.tool(*words.split())
+            self.assertEqual((ran.returncode, ran.stdout), (status, ""))
+            self.assertRegex(ran.stderr, f"^{line}\n$")
 
     def in_place_of_the_program(self, script):
         """Puts a script where the package looks for the program, until the test is over; the environment of a call,
@@ -92,6 +109,11 @@ class FolderTest(unittest.TestCase):
         self.put(noc=script)
         noc.chmod(0o755)
         return self.environment | {"PROGRAM": str(program)}
+
+
+def texts_of(root):
+    """The words of a picture."""
+    return [text.text for text in root.iter(f"{SVG}text")]
 
 
 def made_networks(count):

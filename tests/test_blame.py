@@ -6,13 +6,13 @@ from random import Random
 from unittest.mock import patch
 
 import noc_tools
-from noc_tools import causes, record
+from noc_tools import causes
 from noc_tools.findings import MOVED, NO_CREDIT, NO_FLIT, OWNING
 from noc_tools.life import QUEUE
 from noc_tools.network import LOCAL, Network, opposite, split
 from noc_tools.runs import Run
 
-from support import HEADER, IN_THE_WAY, LINE, TOP, FolderTest
+from support import HEADER, LINE, TOP, FolderTest
 
 # Networks of one to three dimensions, with more traffic than they take; the tori with dimension order jam.
 SHAPES = [
@@ -163,7 +163,7 @@ class Shares(FolderTest):
             self.put(c=network, t=made_traffic(network, random))
             run = Run(self.folder / "c", self.folder / "t")
             before = shares_by_packet(run)
-            with patch.object(record, "STEP", 1), patch.object(causes, "MOST_FOLLOWED", number):
+            with patch.object(causes, "STEP", 1), patch.object(causes, "MOST_FOLLOWED", number):
                 self.assertEqual(shares_by_packet(run), before)
 
 
@@ -174,7 +174,6 @@ class Slowest(FolderTest):
     def test_rows(self):
         """From its end back, its last flit leaves router 2 in 17, and two before it in 16 and 15; so what was before is
         the life of the head."""
-        self.put(c=LINE, t=IN_THE_WAY)
         self.assertEqual(self.said("why", "c", "t", "--slowest", 1, "--csv").splitlines(), [
             "packet,cause,router,channel,by,cycles", "2,queue,0,-,0,3", "2,Routed,0,local.0,-,1",
             "2,NoIdleChannel,0,local.0,0,4", "2,Granted,0,local.0,-,1", "2,Moved,0,local.0,-,1",
@@ -184,7 +183,6 @@ class Slowest(FolderTest):
 
     def test_words(self):
         """Of the port of node 0 packet 0 has three cycles for its one flit."""
-        self.put(c=LINE, t=IN_THE_WAY)
         self.assertEqual(self.said("why", "c", "t", "--slowest", "1%").splitlines(), [
             "Where the cycles went of the slowest 1 of 3 packets, with latencies from 17 to 17:",
             "       11   61.1 %  its own way",
@@ -243,8 +241,8 @@ class Slowest(FolderTest):
         self.assertIn(" of the slowest 4 of 4 packets, 4 not out:", self.said("why", *ring, "--slowest", "100%"))
 
     def test_what_it_refuses(self):
-        self.put(c=LINE, t=IN_THE_WAY, late=HEADER + "0,2,0,1,99\n", none=HEADER)
-        self.assertEachRefused((f"why c {words}", {}, sentence) for words, sentence in [
+        self.put(late=HEADER + "0,2,0,1,99\n", none=HEADER)
+        self.assertEachRefused((f"why c {words}", sentence) for words, sentence in [
             ("t --slowest 0", "the slowest are a number of packets, or a part of them as 1%, not '0'"),
             ("t --slowest 1.5", "not '1.5'"),
             ("t --slowest 101%", "not '101%'"),

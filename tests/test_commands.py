@@ -21,23 +21,23 @@ from noc_tools.program import Process
 # What is given to a command of a run, and a part of the one sentence that it answers. LINE and IN_THE_WAY are the
 # files c and t.
 REFUSED = [
-    ("why", "c t 3", "there is no packet 3: the traffic has 3"),
-    ("why", "c t 0 20", "the run has the cycles 0 to 19"),
-    ("why", "nothing t 0", "nothing: No such file or directory"),
-    ("why", "c nothing 0", "nothing: No such file or directory"),
-    ("why", "t t 0", "t is no configuration"),
-    ("why", "c c 0", "c is no traffic"),
-    ("why", "- - 0", "standard input can be one of the files"),
-    ("why", "c broken 0", "broken is no traffic: row 0 is not five numbers"),
-    ("why", "c late 0", "packet 0 is due in cycle 20, behind the end of the run"),
-    ("why", "c late 0 20", "the run has the cycles 0 to 19"),
-    ("timeline", "c late 0", "packet 0 is due in cycle 20, behind the end of the run"),
-    ("timeline", "c t -1", "there is no packet -1"),
-    ("replay", "c t --from 9 --to 8", "the run has the cycles 0 to 19"),
-    ("replay", "c t --to 20", "the run has the cycles 0 to 19"),
-    ("waves", "c t --from -1", "the run has the cycles 0 to 19"),
-    ("waves", "c t --router 3", "there is no router 3: the network has 3"),
-    ("waves", "c t --drain --to 999", "the run has the cycles 0 to 19"),
+    ("why c t 3", "there is no packet 3: the traffic has 3"),
+    ("why c t 0 20", "the run has the cycles 0 to 19"),
+    ("why nothing t 0", "nothing: No such file or directory"),
+    ("why c nothing 0", "nothing: No such file or directory"),
+    ("why t t 0", "t is no configuration"),
+    ("why c c 0", "c is no traffic"),
+    ("why - - 0", "standard input can be one of the files"),
+    ("why c broken 0", "broken is no traffic: row 0 is not five numbers"),
+    ("why c late 0", "packet 0 is due in cycle 20, behind the end of the run"),
+    ("why c late 0 20", "the run has the cycles 0 to 19"),
+    ("timeline c late 0", "packet 0 is due in cycle 20, behind the end of the run"),
+    ("timeline c t -1", "there is no packet -1"),
+    ("replay c t --from 9 --to 8", "the run has the cycles 0 to 19"),
+    ("replay c t --to 20", "the run has the cycles 0 to 19"),
+    ("waves c t --from -1", "the run has the cycles 0 to 19"),
+    ("waves c t --router 3", "there is no router 3: the network has 3"),
+    ("waves c t --drain --to 999", "the run has the cycles 0 to 19"),
 ]
 # What noc refuses it tells itself.
 BY_NOC = ["waves c lost --drain", "waves c lost", "why c lost 0", "timeline c lost 0", "limit c lost"]
@@ -72,9 +72,6 @@ UNREADABLE = [
 
 
 class OfARun(FolderTest):
-    def setUp(self):
-        self.put(c=LINE, t=IN_THE_WAY)
-
     def calls_of(self, *words):
         """How often a command runs a network by the program."""
         log = self.folder / "calls"
@@ -127,20 +124,21 @@ class OfARun(FolderTest):
 
     def test_what_is_refused(self):
         self.put(late=HEADER + "0,1,0,1,20\n", broken=HEADER + "0,1,0,one,0\n", lost=HEADER + "0,3,0,1,0\n")
-        self.assertEachRefused((f"{command} {words}", {}, sentence) for command, words, sentence in REFUSED)
+        self.assertEachRefused(REFUSED)
         for words in BY_NOC:
-            with self.subTest(words=words):
-                ran = self.tool(*words.split())
-                said = ran.returncode, ran.stdout, ran.stderr
-                self.assertEqual(said, (3, "", "fault network 2 BadNode row 0\n"))
+            self.assertRefusedByNoc(words, 3, "fault network 2 BadNode row 0")
 
 
 class Ends(FolderTest):
+    FILES = FolderTest.FILES | {
+        "plane": SQUARE, "classes": replace(LINE, channels=2, classes=2), "r": REPORT, "curve": CURVE,
+        "small.toml": SMALL, "results": "kind,load,mean,accepted\nmesh,0.1,9,0.1\n",
+        "seen": "time,source,destination,bytes\n0,0,1,9\n", "ring": RING,
+    }
+
     def setUp(self):
-        self.put(c=LINE, t=IN_THE_WAY, plane=SQUARE, r=REPORT, curve=CURVE, **{"small.toml": SMALL})
+        super().setUp()
         self.put(stalls=self.noc("run", "c", "t", "--report", "stalls").stdout)
-        self.put(results="kind,load,mean,accepted\nmesh,0.1,9,0.1\n", seen="time,source,destination,bytes\n0,0,1,9\n")
-        self.put(classes=replace(LINE, channels=2, classes=2), ring=RING)
         self.put(**{"model.vcd": self.said("waves", "examples/rtl.toml", "examples/rtl.csv")})
         self.tool("certify", "c", "--out", "certificate")
 

@@ -4,19 +4,17 @@ import re
 import signal
 import sys
 import time
-import xml.etree.ElementTree as ElementTree
 from dataclasses import replace
 from subprocess import PIPE, Popen, TimeoutExpired
 
-from support import LINE, SQUARE, SVG, FolderTest
+from support import LINE, SQUARE, SVG, FolderTest, texts_of
 from test_statistics import FIGURES, PARTS
 
 COLUMNS = ["load", "ran", *FIGURES, "steady", *PARTS]
 
 
 class Curves(FolderTest):
-    def setUp(self):
-        self.put(c=SQUARE)
+    FILES = {"c": SQUARE, "line": LINE}
 
     def lines(self, *words):
         """The lines of a curve as fields."""
@@ -91,21 +89,17 @@ class Curves(FolderTest):
     def test_they_take_a_table(self):
         words = ["examples/turns.toml", 2, 0.1]
         self.assertEqual(len(self.lines(*words, "--table", "examples/turns_table.csv")), 2)
-        ran = self.tool("load", *words)
-        self.assertEqual((ran.returncode, ran.stdout, ran.stderr), (3, "", "fault option 4 NoTable\n"))
+        self.assertRefusedByNoc("load examples/turns.toml 2 0.1", 3, "fault option 4 NoTable")
 
     def test_what_is_refused(self):
-        for words, sentence in [
-            ("c 1 much", "a load is a number, not 'much'"),
-            ("c 1 nan", "a load is 0 or more"),
-            ("c 0 0.1", "a length is 1 to 64"),
-            ("c 1 0.1 --window 1", "a window is A:B with A below B"),
-            ("c 1 0.1 --jobs 0", "at least one job is needed"),
-            ("line 1 0.1 --pattern shuffle", "3 nodes are no power of two"),
-        ]:
-            with self.subTest(words=words):
-                self.put(line=LINE)
-                self.assertRefused(self.tool("load", *words.split()), sentence, "load")
+        self.assertEachRefused([
+            ("load c 1 much", "a load is a number, not 'much'"),
+            ("load c 1 nan", "a load is 0 or more"),
+            ("load c 0 0.1", "a length is 1 to 64"),
+            ("load c 1 0.1 --window 1", "a window is A:B with A below B"),
+            ("load c 1 0.1 --jobs 0", "at least one job is needed"),
+            ("load line 1 0.1 --pattern shuffle", "3 nodes are no power of two"),
+        ])
 
 
 # Stands for the program, and with packets waits for ten minutes.
@@ -117,8 +111,10 @@ exec sleep 600
 
 
 class Ends(FolderTest):
+    FILES = {"c": SQUARE}
+
     def setUp(self):
-        self.put(c=SQUARE)
+        super().setUp()
         self.environment = self.in_place_of_the_program(SLOW)
 
     def ended_by(self, number, log):
@@ -189,29 +185,19 @@ ROWS = [
 CURVE = "".join(f"{line}\n" for line in [",".join(COLUMNS), *(f"{row},5.3,5,9,9,9,0.1,0.2,0.3" for row in ROWS)])
 
 
-def texts_of(root):
-    """The words of a picture."""
-    return [text.text for text in root.iter(f"{SVG}text")]
-
-
 class Pictures(FolderTest):
-    def setUp(self):
-        self.put(curve=CURVE)
-
-    def drawn(self, *words):
-        """The picture of curves."""
-        return ElementTree.fromstring(self.said("curves", *words))
+    FILES = {"curve": CURVE}
 
     def marks(self, *words):
         """The marks of the first curve, and whether each is filled."""
-        (group,) = [group for group in self.drawn(*words).iter(f"{SVG}g") if group.get("id") == "curve-0"]
+        (group,) = [group for group in self.drawn("curves", *words).iter(f"{SVG}g") if group.get("id") == "curve-0"]
         circles = group.iter(f"{SVG}circle")
         return [(float(mark.get("cx")), float(mark.get("cy")), mark.get("fill") != "#ffffff") for mark in circles]
 
     def test_axes_have_names_and_numbers_at_their_ends(self):
         """Upwards four times 20 cycles, or what was asked for: 47.5 is between 30 and 60 at a load of 0.317, so 0.35 is
         the other end."""
-        default, given = (texts_of(self.drawn("a=curve", *more)) for more in ([], ["--top", "47.5"]))
+        default, given = (texts_of(self.drawn("curves", "a=curve", *more)) for more in ([], ["--top", "47.5"]))
         named = {"mean latency, in cycles", "load, in flits per node and cycle", "0.4", "80"}
         self.assertLessEqual(named, set(default))
         self.assertLessEqual({"47.5", "0.35"}, set(given))
@@ -238,7 +224,7 @@ class Pictures(FolderTest):
             "sources_least": ("least accepted load of a source, in flits per cycle", "0.1"),
         }
         for figure, words in names.items():
-            texts = set(texts_of(self.drawn("a=curve", "--y", figure)))
+            texts = set(texts_of(self.drawn("curves", "a=curve", "--y", figure)))
             self.assertLessEqual(set(words), texts)
             self.assertEqual("40" in texts, figure == "network_mean", figure)
         queue, network = (self.marks("a=curve", "--y", f"{part}_mean", "--top", 40) for part in ("queue", "network"))
@@ -247,13 +233,14 @@ class Pictures(FolderTest):
     def test_long_names_are_whole(self):
         """At 13 points a letter of these fonts is 8.2 wide on average at most."""
         name = "a torus of eight by eight routers with a dateline, four channels of two places, transpose"
-        root = self.drawn(f"{name}=curve")
+        root = self.drawn("curves", f"{name}=curve")
         (text,) = [text for text in root.iter(f"{SVG}text") if text.text == name]
         self.assertLessEqual(float(text.get("x")) + 8.2 * len(name), float(root.get("width")))
 
     def test_curves_that_leave_do_not_empty_the_picture(self):
         """The curve leaves the picture between the loads 0.2 and 0.4, so the axis ends before 0.4."""
-        shown = [word for word in texts_of(self.drawn("a=curve", "--top", "35")) if re.fullmatch(r"0\.\d+", word)]
+        texts = texts_of(self.drawn("curves", "a=curve", "--top", "35"))
+        shown = [word for word in texts if re.fullmatch(r"0\.\d+", word)]
         self.assertEqual(len(self.marks("a=curve", "--top", "35")), 2)
         self.assertTrue(0.2 < max(map(float, shown)) < 0.3, shown)
 
@@ -262,14 +249,14 @@ class Pictures(FolderTest):
         self.put(short=CURVE.replace("0.4,99", "0.4,88"))
         for words, span in (["a=short"], "88 to 99"), (["a=short", "b=curve"], "88 to 99"), (["b=curve"], "99"):
             told = f"Of the packets that were measured, in runs of {span} cycles."
-            self.assertEqual(texts_of(self.drawn(*words))[1], told)
+            self.assertEqual(texts_of(self.drawn("curves", *words))[1], told)
 
     def test_what_is_refused(self):
         old = "load,ran,packets,flits,out,offered,accepted,mean,median,p95,p99,max,steady\n"
         old += "0.1,99,50,50,50,0.1000,0.1000,20.0,19,30,40,41,yes\n"
         last = ROWS[-1] + ",5.3,5,9,9,9,0.1,0.2,0.3\n"
         many = " ".join(["a=curve"] * 33)
-        for words, text, sentence in [
+        self.assertEachRefused((f"curves {words}", {"curve": text}, sentence) for words, text, sentence in [
             ("a=curve", old, "curve is no curve of noc-tools load with all its columns"),
             ("a=curve", CURVE + "0.5,99,90\n", "curve: line 5 has not the 31 fields of the header"),
             ("a=curve", CURVE + last.replace("60.0", "much"), "curve: could not convert string to float: 'much'"),
@@ -278,7 +265,4 @@ class Pictures(FolderTest):
             ("a=curve --top 0", CURVE, "--top is a number above 0"),
             ("a=missing", CURVE, "missing: No such file or directory"),
             (many, CURVE, "a picture has at most 32 curves"),
-        ]:
-            with self.subTest(words=words, sentence=sentence):
-                self.put(curve=text)
-                self.assertRefused(self.tool("curves", *words.split()), sentence, "curves")
+        ])

@@ -9,14 +9,14 @@ from importlib.util import find_spec
 import noc_tools
 from noc_tools import program
 
-from support import IN_THE_WAY, LINE, PROGRAM, TOP, FolderTest
+from support import LINE, PROGRAM, TOP, FolderTest
 
 TINY = replace(LINE, cycles=4)
 
 
 class Library(FolderTest):
     def setUp(self):
-        self.put(c=LINE, t=IN_THE_WAY)
+        super().setUp()
         self.files = self.folder / "c", self.folder / "t"
 
     def test_a_run_has_packets_and_counts(self):
@@ -122,7 +122,6 @@ class Installed(FolderTest):
         self.assertEqual(ran.returncode, 0, ran.stderr)
         self.assertEqual(sorted(self.folder.iterdir()), sorted([*before, target]))
         environment = {**self.environment, "PYTHONPATH": str(target), "NOC": str(PROGRAM)}
-        self.put(c=LINE, t=IN_THE_WAY)
         page, same = (self.called([*words, "replay", "c", "t"], env=environment).stdout for words in
                       ([target / "bin/noc-tools"], [sys.executable, "noc-tools"]))
         self.assertIn("<h1>c, t: mesh of 3", page)

@@ -2,19 +2,17 @@
 import re
 import shlex
 import unittest
-import xml.etree.ElementTree as ElementTree
 from collections import Counter
 from itertools import groupby
 
-from support import HEADER, LINE, SVG, FolderTest
-from test_load import texts_of
+from support import HEADER, SVG, FolderTest, texts_of
 from test_sweep import SMALL, SweepTest, lines_of
 
 from noc_tools import Demand, Network, Refused, Study
-from noc_tools.combinations import combinations_of
+from noc_tools.table import combinations_of
 from noc_tools.drawing import frames_of, framed
 from noc_tools.plan import View
-from noc_tools.replies import Replies, settled
+from noc_tools.measure import Replies, settled
 from noc_tools.study import halfway
 
 ROW = Network("mesh", (16,), 1, 2, 1, "dor", 4000)
@@ -88,23 +86,20 @@ class ByReplies(FolderTest):
         self.assertEqual(runs, [3, 6, 6])
 
     def test_what_is_refused(self):
-        self.put(c=Network("mesh", (3,), 2, 2, 2, "dor", 20), t=HEADER + "0,2,0,1,0\n", odd=HEADER + "0,2,x,1,0\n")
-        for words, sentence in [
-            ("t 4 5 --by 0", "replies are of another class than requests, and the classes are 0 to 1"),
-            ("t 4 5 --by 2", "replies are of another class than requests"),
-            ("t 65 5", "the length of a reply is 1 to 64"),
-            ("odd 4 5", "odd is no traffic: a row is not five numbers"),
-        ]:
-            with self.subTest(words):
-                self.assertRefused(self.tool("replies", "c", *words.split()), sentence, "replies")
+        self.put(c=Network("mesh", (3,), 2, 2, 2, "dor", 20), odd=HEADER + "0,2,x,1,0\n")
+        self.assertEachRefused([
+            ("replies c t 4 5 --by 0", "replies are of another class than requests, and the classes are 0 to 1"),
+            ("replies c t 4 5 --by 2", "replies are of another class than requests"),
+            ("replies c t 65 5", "the length of a reply is 1 to 64"),
+            ("replies c odd 4 5", "odd is no traffic: a row is not five numbers"),
+        ])
 
 
 TRACE = "kind,bytes,time,source,destination,note\n"
 
 
 class OfTraces(FolderTest):
-    def setUp(self):
-        self.put(c=Network("mesh", (3,), 2, 2, 2, "dor", 20))
+    FILES = {"c": Network("mesh", (3,), 2, 2, 2, "dor", 20)}
 
     def test_packets_are_those_of_the_trace(self):
         """Two flits of 16 bytes for 17; 65 flits are two packets; nothing goes to its own node; and half as many cycles
@@ -121,7 +116,7 @@ class OfTraces(FolderTest):
         self.assertEqual((ran.stderr, ran.stdout.count("\n")), (f"noc-tools packets: {told}\n", 19999))
 
     def test_what_is_refused(self):
-        for text, words, sentence in [
+        self.assertEachRefused((f"packets c t {words}", {"t": text}, sentence) for text, words, sentence in [
             ("time,source,destination\n", "16", "t is no trace"),
             (TRACE + "a,1,soon,0,1,\n", "16", "t: line 2 has no time, nodes and bytes"),
             (TRACE + "a,1,0,0,3,\n", "16", "t: line 2 has a node that the network has not"),
@@ -129,10 +124,7 @@ class OfTraces(FolderTest):
             (TRACE, "0", "BYTES is a whole number above 0"),
             (TRACE, "16 --factor 0", "FACTOR a number above 0"),
             (TRACE, "16 --kind a=2", "the classes are 0 to 1"),
-        ]:
-            with self.subTest(sentence):
-                self.put(t=text)
-                self.assertRefused(self.tool("packets", "c", "t", *words.split()), sentence, "packets")
+        ])
 
 
 # A torus of a made table and a mesh, in bytes, with packets of a file and replies to them.
@@ -153,6 +145,8 @@ SEARCHED = SMALL.replace("load = [0.6, 0.1]", "load = 0.5\nsearch = 0.1").replac
 
 
 class Plans(SweepTest):
+    FILES = SweepTest.FILES | {"searched.toml": SEARCHED}
+
     def test_files_are_played_with_replies(self):
         """A flit a cycle goes from node 0 to node 1, and twice as fast at the load 2; each is answered by three."""
         self.put(**{"played.toml": PLAYED, "t.csv": HEADER + "".join(f"0,1,0,1,{due}\n" for due in range(0, 400, 8))})
@@ -194,10 +188,6 @@ class Plans(SweepTest):
             self.assertLessEqual(min(failed) - max([0, *kept]), 0.1)
             self.assertEqual(set(loads) - {0.5, 0.25, 0.125, 0.375, 0.0625, 0.1875, 0.3125, 0.4375}, set())
             self.assertIsNone(halfway(combination, 0.1))
-
-    def setUp(self):
-        super().setUp()
-        self.put(**{"searched.toml": SEARCHED})
 
     def test_a_searched_study_is_collected(self):
         """In rounds, as --list prints the commands of the next loads; the lines of all rounds may be in one file."""
@@ -327,19 +317,18 @@ class Drawings(SweepTest):
         self.put(**{"plural.toml": plural})
         self.sweep("plural.toml", "--out", "plural.out")
         results, table = (f"plural.out/{name}.csv" for name in ("results", "saturation"))
-        root = ElementTree.fromstring(self.said("draw", results, "--y", "queue_p99", "--where", "kind=mesh"))
-        texts = set(texts_of(root))
+        texts = set(texts_of(self.drawn("draw", results, "--y", "queue_p99", "--where", "kind=mesh")))
         self.assertLessEqual({"99th percentile of queue latency, in cycles", "2 channels", "4 channels"}, texts)
         self.assertFalse([text for text in texts if "torus" in (text or "")])
-        words = ["--x", "places", "--y", "saturation", "--along", "channels"]
-        root = ElementTree.fromstring(self.said("draw", table, *words))
+        root = self.drawn("draw", table, "--x", "places", "--y", "saturation", "--along", "channels")
         curves = [group for group in root.iter(f"{SVG}g") if (group.get("id") or "").startswith("curve-")]
         marks = [len(list(group)) - 1 for group in curves]
         self.assertEqual((marks, "flits that the buffers of a link hold" in texts_of(root)), ([2, 2], True))
 
     def test_what_is_refused(self):
-        self.put(r="kind,load,mean,accepted\nmesh,0.1,-,0.1\ntorus,0.1,much,0.2\n", e="kind,load,mean,accepted\n")
-        for words, sentence in [
+        self.put(r="kind,load,mean,accepted\nmesh,0.1,-,0.1\ntorus,0.1,much,0.2\n", e="kind,load,mean,accepted\n",
+                 n="kind,load,mean,accepted\nmesh,0.1,-,0.1\n")
+        self.assertEachRefused((f"draw {words}", sentence) for words, sentence in [
             ("r --y p99", "r has no column 'p99': its columns are kind, load, mean, accepted"),
             ("r", "r: 'much' of the column 'mean' is no number"),
             ("r --y load --where kind", "'kind' is no COLUMN=VALUE of the file"),
@@ -348,10 +337,5 @@ class Drawings(SweepTest):
             ("r --y load --frames channels", "'channels' is no setting of r"),
             ("e", "e has no results"),
             ("r --top 0", "--top is a number above 0"),
-        ]:
-            with self.subTest(words):
-                self.assertRefused(self.tool("draw", *words.split()), sentence, "draw")
-
-    def test_nothing_is_drawn_of_nothing(self):
-        self.put(r="kind,load,mean,accepted\nmesh,0.1,-,0.1\n", c=LINE)
-        self.assertRefused(self.tool("draw", "r"), "there is no point to draw", "draw")
+            ("n", "there is no point to draw"),
+        ])

@@ -289,26 +289,27 @@ class Ranks(RankTest):
                 self.put(c=network)
                 self.assertAccepted(*words.split())
 
-    def test_circles_are_those_of_the_relation(self):
+    def assertCircle(self, made, said, numbers):
         """Each step begins where the one before ends, its class and destination permit it, and the channels within have
-        no rank."""
+        no rank: their numbers are some of these."""
+        channels = made.channels
+        names = {channels.name(channel): channel for channel in channels.links()}
+        steps = [(goal, [names[name] for name in way]) for *goal, way in steps_of(said)]
+        ways = [way for _, way in steps]
+        self.assertGreaterEqual(len(ways), 2)
+        self.assertEqual([way[-1] for way in ways], [way[0] for way in ways[1:] + ways[:1]])
+        self.assertLessEqual({channels.parts(channel)[2] for way in ways for channel in way[1:-1]}, numbers)
+        for goal, way in steps:
+            for before, after in zip(way, way[1:]):
+                self.assertIn(after, made.steps(*goal).get(before, ()))
+
+    def test_circles_are_those_of_the_relation(self):
         for network, words in CIRCLES:
-            channels = self.put_network(network)
-            made = of_network(channels)
-            names = {channels.name(channel): channel for channel in channels.links()}
+            made = of_network(self.put_network(network))
             ran = self.tool("ranks", "c", *words.split())
             self.assertEqual((ran.returncode, ran.stdout), (1, ""))
-            if "no escape channel" in ran.stderr:
-                continue
-            steps = steps_of(ran.stderr)
-            ways = [[names[name] for name in way] for _, _, way in steps]
-            self.assertGreaterEqual(len(ways), 2)
-            self.assertEqual([way[-1] for way in ways], [way[0] for way in ways[1:] + ways[:1]])
-            within = {channels.parts(channel)[2] for way in ways for channel in way[1:-1]}
-            self.assertLessEqual(within, {1, 2} if words == "--escape 0" else set())
-            for (message_class, destination, _), way in zip(steps, ways):
-                for before, after in zip(way, way[1:]):
-                    self.assertIn(after, made.steps(message_class, destination).get(before, ()))
+            if "no escape channel" not in ran.stderr:
+                self.assertCircle(made, ran.stderr, {1, 2} if words == "--escape 0" else set())
 
     def test_the_first_reason_is_told(self):
         """Without any numbers the first hop has no escape; with number 0 the ring is a circle."""
@@ -329,34 +330,18 @@ class Ranks(RankTest):
             for router in (2, 3, 0, 1)
         ])
 
-    def test_the_circle_of_four_turns_is_shown(self):
-        ran = self.tool("ranks", "examples/turns.toml", "--table", "examples/turns_table.csv")
-        self.assertEqual((ran.returncode, ran.stdout), (1, ""))
-        self.assertEqual(sorted(ran.stderr.splitlines()[1:]), [
-            "class 0 to node 0: router 3, -0.0 -> router 2, -1.0",
-            "class 0 to node 1: router 2, -1.0 -> router 0, +0.0",
-            "class 0 to node 2: router 1, +1.0 -> router 3, -0.0",
-            "class 0 to node 3: router 0, +0.0 -> router 1, +1.0",
-        ])
-
     def test_random_tables_have_ranks_or_a_circle(self):
         """What is found is accepted, and a circle is one of the relation; with escape channels too, where each step
         goes from one of these to the next by others alone."""
         ends = set()
         for made, _, _ in self.random_tables():
-            names = {made.channels.name(channel): channel for channel in made.channels.links()}
             for words in [()] + [("--escape", "0")] * (made.channels.vcs == 2):
                 ran = self.tool("ranks", "c", "--table", "table", *words)
                 ends.add(ran.returncode)
                 if ran.returncode == 0:
                     self.assertEqual(self.check(ran.stdout, "--table", "table"), "accepted\n")
                 elif "circle" in ran.stderr:
-                    for message_class, destination, way in steps_of(ran.stderr):
-                        steps, way = made.steps(message_class, destination), [names[name] for name in way]
-                        for before, after in zip(way, way[1:]):
-                            self.assertIn(after, steps[before])
-                        within = {made.channels.parts(channel)[2] for channel in way[1:-1]}
-                        self.assertLessEqual(within, {1} if words else set())
+                    self.assertCircle(made, ran.stderr, {1} if words else set())
         self.assertIn(1, ends)
         self.assertLessEqual(ends, {0, 1})
 
@@ -429,11 +414,11 @@ WRONG = [
 ]
 # What noc refuses it tells itself.
 BY_NOC = [
-    ("ranks c", replace(LINE, rule="dateline"), 4, "fault relation 1 WrongShape\n"),
-    ("ranks c", replace(LINE, rule="table"), 3, "fault option 4 NoTable\n"),
-    ("ranks c --table c", LINE, 3, "fault option 5 SpareTable\n"),
-    ("ranks c --table c", replace(LINE, rule="table"), 3, "fault table 9 BadHeader\n"),
-    ("ranks c", replace(LINE, channels=9), 3, "fault config 8 BadValue key channels\n"),
+    ("ranks c", replace(LINE, rule="dateline"), 4, "fault relation 1 WrongShape"),
+    ("ranks c", replace(LINE, rule="table"), 3, "fault option 4 NoTable"),
+    ("ranks c --table c", LINE, 3, "fault option 5 SpareTable"),
+    ("ranks c --table c", replace(LINE, rule="table"), 3, "fault table 9 BadHeader"),
+    ("ranks c", replace(LINE, channels=9), 3, "fault config 8 BadValue key channels"),
 ]
 
 
@@ -443,7 +428,5 @@ class Refused(RankTest):
 
     def test_what_noc_refuses(self):
         for words, given, status, line in BY_NOC:
-            with self.subTest(line=line):
-                self.put(c=given)
-                ran = self.tool(*words.split())
-                self.assertEqual((ran.returncode, ran.stdout, ran.stderr), (status, "", line))
+            self.put(c=given)
+            self.assertRefusedByNoc(words, status, line)

@@ -9,7 +9,7 @@ from noc_tools import jam
 from noc_tools.network import Network
 from noc_tools.relation import Channels, Relation
 from noc_tools.rules import nearer_ports
-from noc_tools.tables import table_file
+from noc_tools.ranks import table_file
 from noc_tools.traffic import read_traffic
 
 RING = Network("torus", (4,), 1, 1, 1, "dor", 60)

@@ -7,7 +7,7 @@ import re
 import xml.etree.ElementTree as ElementTree
 from dataclasses import replace
 
-from support import HEADER, IN_THE_WAY, LINE, SVG, FolderTest
+from support import HEADER, SVG, FolderTest
 
 from noc_tools.network import Network
 
@@ -298,7 +298,7 @@ class OtherPictures(Drawn):
     def test_a_run_is_made_and_a_window_of_it(self):
         """Two flits go from node 0 to node 1 and are out in cycle 6; three go from node 2 to node 1, due in cycle 10,
         leave router 2 from 12 on, and are out in 17."""
-        self.put(c=LINE, t=HEADER + "0,1,0,2,0\n2,1,0,3,10\n")
+        self.put(t=HEADER + "0,1,0,2,0\n2,1,0,3,10\n")
         self.assertEqual(self.uses(), ([
             "router 0, +0, to router 1: 10.0 %", "node 0 to its router: 10.0 %", "router 1, local, to its node: 25.0 %",
             "router 2, -0, to router 1: 15.0 %", "node 2 to its router: 15.0 %",
@@ -309,7 +309,6 @@ class OtherPictures(Drawn):
         ], ["mesh 3, dor, 1 channel of 2 places, cycles 12 to 19"]))
 
     def test_a_run_that_is_made_is_drawn_as_its_report(self):
-        self.put(c=LINE, t=IN_THE_WAY)
         report = self.noc("run", "c", "t", "--report", "stalls").stdout
         self.assertEqual(self.said("stalls", "c", "--traffic", "t"), self.said("stalls", "c", given=report))
 
@@ -373,19 +372,14 @@ class OtherPictures(Drawn):
     def test_what_is_refused(self):
         for what, network, stalls, sentence in REFUSED:
             with self.subTest(what):
-                self.put(c=network)
-                self.assertRefused(self.tool("stalls", "c", given=stalls), sentence, "stalls")
+                self.assertEachRefused([("stalls c", {"c": network}, sentence)], given=stalls)
 
     def test_a_scale_has_an_extent(self):
-        """And one of no more than all."""
-        self.put(c=NETWORK)
-        self.assertEachRefused((f"stalls c {words}", {}, "--top is a number above 0") for words in
-                               ("--top 0", "--links --top 101"))
-
-    def test_a_window_is_one_of_the_run(self):
-        self.put(c=LINE, t=IN_THE_WAY)
+        """And one of no more than all; and a window is one of the run."""
         self.assertEachRefused([
-            ("stalls c --window 0:5", {}, "--table and --window are for --traffic"),
-            ("stalls c --table t", {}, "--table and --window are for --traffic"),
-            ("stalls c --traffic t --window 5:30", {}, "B at most the 20 cycles of the run, not '5:30'"),
+            ("stalls c --top 0", "--top is a number above 0"),
+            ("stalls c --links --top 101", "--top is a number above 0"),
+            ("stalls c --window 0:5", "--table and --window are for --traffic"),
+            ("stalls c --table t", "--table and --window are for --traffic"),
+            ("stalls c --traffic t --window 5:30", "B at most the 20 cycles of the run, not '5:30'"),
         ])

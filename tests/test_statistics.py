@@ -46,8 +46,7 @@ TWENTY = REPORT_HEADER + "".join(f"{n},0,1,0,1,0,{n + 1},{n + 1}\n" for n in ran
 
 
 class Figures(FolderTest):
-    def setUp(self):
-        self.put(c=LINE, r=REPORT, t=IN_THE_WAY)
+    FILES = FolderTest.FILES | {"r": REPORT}
 
     def test_they_are_those_of_the_definitions(self):
         names = [word for name in ("class", "distance", "source", "destination") for word in ("--by", name)]
@@ -88,9 +87,6 @@ class QueueAndNetwork(FolderTest):
     router 1 until cycle 6 for the channel of packet 1, and is out in 10. So packet 2 comes in in cycle 3. It is granted
     the channel that drains of packet 0 in 8, and the next in 11. Its second flit moves in 10, its third, for want of a
     place, in 13; this one leaves router 1 in 16, and the network in 17."""
-
-    def setUp(self):
-        self.put(c=LINE, t=IN_THE_WAY)
 
     def test_each_has_its_figures(self):
         line = self.said("latency", "c", "--traffic", "t").splitlines()[1]
@@ -179,7 +175,7 @@ class Steady(FolderTest):
 
     def test_halves_that_differ_are_told(self):
         """Latencies 5, 10 and 4 are due from 4 to 7, and 7 is from 8 to 11: 6.3 and 7.0, a tenth of 6.5 apart."""
-        self.put(c=LINE, r=REPORT)
+        self.put(r=REPORT)
         warned = [self.warned("r", "--window", "4:12", "--tolerance", share) for share in (11, 10)]
         said = "the mean latency is 6.3 in the first half of the window and 7.0 in the second"
         self.assertEqual(warned, ["", f"noc-tools latency: no steady state: {said}\n"])
@@ -198,7 +194,7 @@ class Steady(FolderTest):
     def test_an_overload_of_five_percent_is_none(self):
         """400 packets come out in the window. These are 94.8 percent of 422 that are due in it, and 95.01 percent of
         421."""
-        self.put(c=LINE, **{f"late{late}": report_of([(5, 6)] * 400 + [(9, 12)] * late) for late in (22, 21)})
+        self.put(**{f"late{late}": report_of([(5, 6)] * 400 + [(9, 12)] * late) for late in (22, 21)})
         warned = [self.warned(f"late{late}", "--window", "2:10", "--tolerance", 200) for late in (22, 21)]
         self.assertIn("94.8 percent of what is offered", warned[0])
         self.assertEqual(warned[1], "")
@@ -223,12 +219,8 @@ REFUSED = [
 
 class Refusals(FolderTest):
     def test_what_is_refused(self):
-        for words, report, sentence in REFUSED:
-            with self.subTest(words=words, sentence=sentence):
-                self.put(c=LINE, t=HEADER, r=report)
-                self.assertRefused(self.tool("latency", *words.split()), sentence, "latency")
+        self.assertEachRefused((f"latency {words}", {"r": report}, sentence) for words, report, sentence in REFUSED)
 
     def test_what_noc_refuses_has_its_line_and_status(self):
-        self.put(c=LINE, t=HEADER + "0,3,0,1,0\n")
-        ran = self.tool("latency", "c", "--traffic", "t")
-        self.assertEqual((ran.returncode, ran.stdout, ran.stderr), (3, "", "fault network 2 BadNode row 0\n"))
+        self.put(t=HEADER + "0,3,0,1,0\n")
+        self.assertRefusedByNoc("latency c --traffic t", 3, "fault network 2 BadNode row 0")

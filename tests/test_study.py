@@ -1,7 +1,6 @@
 """The files of studies: what of others stays, what results are refused, and what is no study."""
 import os
 import shutil
-import unittest
 
 from support import TOP
 from test_sweep import STUDY, SweepTest, lines_of
@@ -169,23 +168,13 @@ class Refusals(SweepTest):
         self.assertEqual(len(one.split(",")), len(HEADER))
         self.put(lines="1,2,3\n", foreign=one, long="0" * 140_000 + "\n")
         for words, text, sentence in ON_STUDY:
-            with self.subTest(words=words, sentence=sentence):
-                shutil.rmtree(self.folder / "s", ignore_errors=True)
-                self.put(**{"s.toml": text})
-                self.assertRefused(self.sweep("s.toml", *words.split()), sentence, "sweep")
+            shutil.rmtree(self.folder / "s", ignore_errors=True)
+            self.assertEachRefused([(f"sweep s.toml {words}", {"s.toml": text}, sentence)])
 
     def test_words_that_make_no_sense(self):
-        for words, sentence in OTHERS:
-            with self.subTest(words=words):
-                self.put(**{"s.txt": STUDY})
-                self.assertRefused(self.sweep(*words.split()), sentence, "sweep")
+        self.put(**{"s.txt": STUDY})
+        self.assertEachRefused((f"sweep {words}", sentence) for words, sentence in OTHERS)
 
     def test_what_noc_refuses_has_its_line_and_status(self):
         words = "kind=mesh radix=2x2 rule=dateline channels=1 buffer=2 length=1 load=0.1"
-        ran = self.sweep("--one", *words.split())
-        self.assertEqual((ran.returncode, ran.stdout), (4, ""))
-        self.assertRegex(ran.stderr, "^fault relation .*\n$")
-
-
-if __name__ == "__main__":
-    unittest.main()
+        self.assertRefusedByNoc(f"sweep --one {words}", 4, "fault relation .*")

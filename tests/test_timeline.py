@@ -2,7 +2,7 @@
 import re
 import xml.etree.ElementTree as ElementTree
 
-from support import HEADER, IN_THE_WAY, LINE, SVG, FolderTest
+from support import HEADER, SVG, FolderTest
 
 
 def bars_of(svg):
@@ -15,14 +15,9 @@ def bars_of(svg):
 
 
 class Timeline(FolderTest):
-    def drawn(self):
-        """The picture of packet 2 of the line."""
-        self.put(c=LINE, t=IN_THE_WAY)
-        return ElementTree.fromstring(self.said("timeline", "c", "t", 2))
-
     def test_a_packet_alone(self):
         """A head is routed, granted a channel and moved in three cycles, and is in the next buffer in the fourth."""
-        self.put(c=LINE, t=HEADER + "0,1,0,2,4\n")
+        self.put(t=HEADER + "0,1,0,2,4\n")
         self.assertEqual(bars_of(self.said("timeline", "c", "t", 0)), {
             "router 0, local.0": ["cycle 4: routed", "cycle 5: granted", "cycles 6 to 7: moved"],
             "router 1, -0.0": ["cycle 7: routed", "cycle 8: granted", "cycles 9 to 10: moved"],
@@ -34,7 +29,7 @@ class Timeline(FolderTest):
         Packet 1 leaves router 2 in cycle 5 and its credit is back in 6. So packet 0 is granted its channel in 6 and
         leaves router 1 in 7, its credit is back in 8, and packet 2 is granted its channel in 8.
         """
-        bars = bars_of(ElementTree.tostring(self.drawn()))
+        bars = bars_of(self.said("timeline", "c", "t", 2))
         self.assertEqual(list(bars), ["node 0, queue", "router 0, local.0", "router 1, -0.0", "router 2, -0.0"])
         self.assertEqual(bars["node 0, queue"], ["cycles 0 to 2: queue"])
         self.assertEqual(bars["router 0, local.0"][:2], ["cycle 3: routed", "cycles 4 to 7: no_idle_channel"])
@@ -42,7 +37,7 @@ class Timeline(FolderTest):
     def test_numbers_at_its_ends(self):
         """The axis begins with the due cycle and ends behind the last; each row says its cycles, and why the packet
         stood still longest."""
-        root = self.drawn()
+        root = self.drawn("timeline", "c", "t", 2)
         ends = [group.findall(f"{SVG}text")[-1].text for group in root.iter(f"{SVG}g")]
         inside = {text for group in root.iter(f"{SVG}g") for text in group.iter(f"{SVG}text")}
         numbers = [int(text.text) for text in root.iter(f"{SVG}text") if text not in inside and text.text.isdigit()]
@@ -52,7 +47,7 @@ class Timeline(FolderTest):
 
     def test_bars_lie_at_their_cycles(self):
         """The bars of a row follow one another, each as wide as its cycles, and stay within the picture."""
-        root = ElementTree.fromstring(self.said("timeline", "examples/blocked.toml", "examples/blocked.csv", 3))
+        root = self.drawn("timeline", "examples/blocked.toml", "examples/blocked.csv", 3)
         scales, ends = set(), []
         for bar in root.iter(f"{SVG}rect"):
             title = bar.find(f"{SVG}title")
@@ -65,7 +60,7 @@ class Timeline(FolderTest):
 
     def test_no_two_bars_look_alike(self):
         """Each verdict, and the queue, has a colour of its own, which is not that of the paper."""
-        root = self.drawn()
+        root = self.drawn("timeline", "c", "t", 2)
         inside = {rect for group in root.iter(f"{SVG}g") for rect in group.iter(f"{SVG}rect")}
         paper, *legend = [rect.get("fill") for rect in root.iter(f"{SVG}rect") if rect not in inside]
         self.assertEqual((len(legend), len({paper, *legend})), (10, 11))

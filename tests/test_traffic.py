@@ -18,24 +18,23 @@ OF_13 = {
     "neighbour": 6 + 8 * 2,
 }
 WRONG = [
-    ("three nodes by bits", LINE, "shuffle 0.1 1", "no power of two"),
-    ("eight nodes for transpose", replace(LINE, radix=(2, 4)), "transpose 0.1 1", "transpose needs a square"),
-    ("eight nodes in a row", replace(LINE, radix=(8,)), "transpose 0.1 1", "transpose needs a square"),
-    ("65 flits", LINE, "uniform 0.1 65", "a length is 1 to 64"),
-    ("more than a flit in a cycle", LINE, "uniform 1.5 1", "a load is 0 or more, and at most the length"),
-    ("a class that does not exist", LINE, "uniform 0.1 1 --classes 1", "the classes are 0 to 0"),
-    ("a spot that does not exist", LINE, "hot-spot 0.1 1 --spots 3", "the nodes are 0 to 2"),
-    ("more packets than noc takes", replace(SQUARE, cycles=900), "uniform 1 1", "more than 20000 packets"),
-    ("more routers than noc takes", replace(LINE, radix=(999, 999, 999)), "uniform 0.1 1", "no network that noc takes"),
-    ("classes of unequal channels", replace(LINE, channels=3, classes=2), "uniform 0.1 1", "no network that noc takes"),
-    ("no document", "kind = 1 2", "uniform 0.1 1", "c is no configuration"),
-    ("a radix of letters", LINE.text().replace("[3]", '"33"'), "uniform 0.1 1", "the value of 'radix' is not a list"),
+    (LINE, "shuffle 0.1 1", "no power of two"),
+    (replace(LINE, radix=(2, 4)), "transpose 0.1 1", "transpose needs a square"),
+    (replace(LINE, radix=(8,)), "transpose 0.1 1", "transpose needs a square"),
+    (LINE, "uniform 0.1 65", "a length is 1 to 64"),
+    (LINE, "uniform 1.5 1", "a load is 0 or more, and at most the length"),
+    (LINE, "uniform 0.1 1 --classes 1", "the classes are 0 to 0"),
+    (LINE, "hot-spot 0.1 1 --spots 3", "the nodes are 0 to 2"),
+    (replace(SQUARE, cycles=900), "uniform 1 1", "more than 20000 packets"),
+    (replace(LINE, radix=(999, 999, 999)), "uniform 0.1 1", "no network that noc takes"),
+    (replace(LINE, channels=3, classes=2), "uniform 0.1 1", "no network that noc takes"),
+    ("kind = 1 2", "uniform 0.1 1", "c is no configuration"),
+    (LINE.text().replace("[3]", '"33"'), "uniform 0.1 1", "the value of 'radix' is not a list"),
 ]
 
 
 class Patterns(FolderTest):
-    def setUp(self):
-        self.put(c=SQUARE)
+    FILES = {"c": SQUARE}
 
     def test_patterns_are_those_of_the_book(self):
         found = {pattern: {row[1] for row in self.made(pattern, 1, 8) if row[0] == 13} for pattern in OF_13}
@@ -103,10 +102,7 @@ class Patterns(FolderTest):
         self.assertEqual(Random(1).random(), 0.13436424411240122)
 
     def test_what_is_refused(self):
-        for what, network, words, sentence in WRONG:
-            with self.subTest(what):
-                self.put(c=network)
-                self.assertRefused(self.tool("traffic", "c", *words.split()), sentence, "traffic")
+        self.assertEachRefused((f"traffic c {words}", {"c": network}, sentence) for network, words, sentence in WRONG)
 
     def test_too_many_packets_are_refused_early(self):
         """Of some 38 million packets no more than 20,001 are made, and it is said how many cycles fit."""

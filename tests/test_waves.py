@@ -1,5 +1,5 @@
 """The VCD files of 'waves', read back: by hand from docs/MODEL.md, and beside the program."""
-from support import IN_THE_WAY, LINE, FolderTest, made_networks
+from support import FolderTest, made_networks
 
 # What the channel -0.0 of router 1 says, where the packets of IN_THE_WAY come by: from a cycle on, with packet, out and
 # permitted.
@@ -57,7 +57,6 @@ class Waves(FolderTest):
 
     def test_a_router_is_read_back(self):
         """Each value once, from the first cycle on, and only where it changes; port +0 of router 1 stays empty."""
-        self.put(c=LINE, t=IN_THE_WAY)
         dump = self.dump("--router", 1)
         verdicts = [(0, "Empty")] + [(cycle, verdict) for cycle, verdict, *_ in AT_ROUTER_1]
         self.assertTrue(dump.is_whole)
@@ -75,7 +74,6 @@ class Waves(FolderTest):
         })
 
     def test_a_span_says_all_at_its_start(self):
-        self.put(c=LINE, t=IN_THE_WAY)
         dump = self.dump("--from", 5, "--to", 7)
         values = [dump.changes[name] for name in dump.changes if name.startswith("noc.router_1.minus_0")]
         self.assertEqual(dump.times, [5, 6, 7, 8])

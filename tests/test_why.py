@@ -25,7 +25,6 @@ class Why(FolderTest):
 class Steps(Why):
     def test_a_channel_that_drains(self):
         """Packet 1 moved on in cycle 2, and its flit leaves router 2 in cycle 5; packet 0 came to router 1 in 3."""
-        self.put(c=LINE, t=IN_THE_WAY)
         self.assertTells([0, 5], [
             "packet 0, router 1, -0.0: NoIdleChannel. It needs +0.0, which drains: "
             "the end of packet 1 is still at router 2.",
@@ -36,7 +35,6 @@ class Steps(Why):
 
     def test_the_queue(self):
         """Packet 0 has the injection channel in cycles 0 to 2, so packet 2 comes in in cycle 3."""
-        self.put(c=LINE, t=IN_THE_WAY)
         self.assertTells([2, 0], [
             "packet 2, the queue of node 0: it needs a channel of the port local, and packet 0 has local.0.",
             "packet 0, router 0, local.0: Routed. Its head is routed in this cycle.",
@@ -47,31 +45,28 @@ class Steps(Why):
     def test_who_comes_in_first(self):
         """Packet 1 is due before packet 0. Its four flits come in in cycles 0, 1, 3 and 4, since the buffer has two
         places, and it leaves local.0 in 7. Packet 0 comes in from cycle 5 on by local.1. One channel is left, but
-        packet 2 has to wait for its tail."""
+        packet 2 has to wait for its tail.
+
+        Flits of packet 0 come in in cycles 5 and 6, and in 9 and 10: in 7 the tail of packet 1 is picked at the port
+        local, so its head leaves in 8. Packet 2 comes in in 11."""
         self.put(c=replace(LINE, channels=3), t=HEADER + "0,2,0,4,1\n0,2,0,4,0\n0,2,0,1,2\n")
         self.assertTells([2, 6], [
             "packet 2, the queue of node 0: packet 0 comes in first.",
             "packet 0, router 0, local.1: Granted. It gets +0.1 in this cycle.",
             "So packet 2 waits for packet 0, which goes on.",
         ])
-
-    def test_who_came_in_first(self):
-        """As before. Flits of packet 0 come in in cycles 5 and 6, and in 9 and 10: in 7 the tail of packet 1 is picked
-        at the port local, so its head leaves in 8. Packet 2 comes in in 11."""
-        self.put(c=replace(LINE, channels=3), t=HEADER + "0,2,0,4,1\n0,2,0,4,0\n0,2,0,1,2\n")
         line = "9 cycles in the queue of node 0 (2 to 10): packet 0 came in first in 6, packet 1 came in first in 3."
         self.assertIn(line, self.said("why", "c", "t", 2).splitlines())
 
     def test_what_is_no_wait(self):
         """Packet 1 is due in cycle 2, before packet 0 comes to its router, and takes five cycles over one hop."""
-        self.put(c=LINE, t=IN_THE_WAY.replace("1,2,0,1,0", "1,2,0,1,2"))
+        self.put(t=IN_THE_WAY.replace("1,2,0,1,0", "1,2,0,1,2"))
         self.assertTells([1, 1], ["Packet 1 is due in cycle 2."])
         self.assertTells([1, 2], ["packet 1, router 1, local.0: Routed. Its head is routed in this cycle."])
         self.assertTells([1, 8], ["Packet 1 was out in cycle 7."])
 
     def test_the_head_comes_first(self):
         """Packet 2 is at routers 0 to 2 in cycle 13, where its head is routed, as its life says by hand below."""
-        self.put(c=LINE, t=IN_THE_WAY)
         self.assertTells([2, 13], ["packet 2, router 2, -0.0: Routed. Its head is routed in this cycle."])
 
     def test_a_credit_goes_back_to_another_router(self):
@@ -93,14 +88,14 @@ class Steps(Why):
 
     def test_a_configuration_is_read_as_the_program_does(self):
         """With a byte order mark, and with an escape of TOML 1.1."""
-        self.put(c="\ufeff" + LINE.text().replace("mesh", "\\x6desh"), t=IN_THE_WAY)
+        self.put(c="\ufeff" + LINE.text().replace("mesh", "\\x6desh"))
         self.assertTrue(self.said("why", "c", "t", 1, 5).startswith("packet 1, router 2, -0.0: Moved."))
 
 
 class Lives(Why):
     def test_a_life_that_is_cut_off(self):
         """In cycle 16 two of the three flits of packet 2 are out."""
-        self.put(c=replace(LINE, cycles=17), t=IN_THE_WAY)
+        self.put(c=replace(LINE, cycles=17))
         title = "packet 2, node 0 to node 2, 3 flits: due in cycle 0, not out in cycle 16, the last."
         self.assertEqual(self.said("why", "c", "t", 2).splitlines()[0], title)
 
@@ -115,7 +110,6 @@ class Lives(Why):
         left by it in cycle 2, stands in router 1 until 7, and its credit is back in 8. In cycles 11 and 12 two flits of
         packet 2 fill the buffer of router 1, so its third one has no credit; in 14 and 15 they fill that of router 2.
         """
-        self.put(c=LINE, t=IN_THE_WAY)
         self.assertTells([2], [
             "packet 2, node 0 to node 2, 3 flits: due in cycle 0, out in cycle 17.",
             "queue of node 0, cycles 0 to 2.",

@@ -2,10 +2,11 @@
 number of cycles."""
 from dataclasses import replace
 
+from fault_lines import HEADERS
+
 from noc_tools.network import Network
 
-TRAFFIC_HEADER = "source,destination,class,length,due\n"
-REPORT_HEADER = "packet,source,destination,class,length,due,out,latency\n"
+TRAFFIC_HEADER, REPORT_HEADER = HEADERS["traffic"], HEADERS["latency"]
 MOST_PACKETS = 20000
 # Traffic on a line of two routers with one channel and one class, and its first fault.
 BAD_TRAFFIC = [

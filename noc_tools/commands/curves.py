@@ -9,26 +9,24 @@ At a hollow mark not all packets that were measured were out at the end, so the 
 among those has no mark. Curves end where they leave the picture, at the NUMBER on the vertical axis: by default four
 times the lowest latency, and all of the other figures. The line below the title says how many cycles the runs had.
 """
-import math
-import sys
 from argparse import ArgumentParser, Namespace
 
+from ..arguments import add, add_top, check_top
 from ..curves import FLITS, HEADER, STYLES, Frame, axes_of, picture, read_curve, subtitle_of
 from ..errors import Refused
 
 
 def add_arguments(parser: ArgumentParser) -> None:
-    files = "a name, and a file that 'noc-tools load' wrote"
-    parser.add_argument("curves", metavar="NAME=CURVE.csv", nargs="+", help=files)
+    add(parser, "curves NAME=CURVE.csv", "a name, and a file that 'noc-tools load' wrote", nargs="+")
     across = "what lies along the horizontal axis; by default load"
     parser.add_argument("--x", choices=("load", "offered", "accepted"), default="load", help=across)
     upwards = "what lies along the vertical axis, such as p95 or queue_mean; by default mean"
     figures = [name for name in HEADER if name not in ("load", "ran", "steady", "packets", "flits", "out", "offered")]
-    parser.add_argument("--y", metavar="FIGURE", choices=figures, default="mean", help=upwards)
-    parser.add_argument("--top", metavar="NUMBER", type=float, help="where the vertical axis ends")
+    add(parser, "--y FIGURE", upwards, choices=figures, default="mean")
+    add_top(parser)
 
 
-def main(options: Namespace) -> int:
+def main(options: Namespace) -> None:
     check_top(options.top)
     if len(STYLES) < len(options.curves):
         raise Refused(f"a picture has at most {len(STYLES)} curves")
@@ -36,11 +34,4 @@ def main(options: Namespace) -> int:
     curves = [one.curve(options.x, options.y, style) for one, style in zip(given, STYLES)]
     frames = [Frame("", curves)]
     axes = axes_of(frames, options.x, options.y, options.top, FLITS)
-    sys.stdout.write(picture(frames, axes, subtitle_of(given)))
-    return 0
-
-
-def check_top(top: float | None) -> None:
-    """Refuses an end of an axis that is none."""
-    if top is not None and not 0 < top < math.inf:
-        raise Refused("--top is a number above 0")
+    print(picture(frames, axes, subtitle_of(given)), end="")

@@ -10,34 +10,26 @@ have their colours and dashes. Without these, patterns and traffics have frames,
 no frame has more than eight curves. --where takes only lines with this value of a setting, and with several words for
 one setting those that have any of them.
 """
-import sys
 from argparse import ArgumentParser, Namespace
 
-from ..combinations import Row
+from ..arguments import add, add_top, check_top
 from ..drawing import pictures_of
-from ..errors import Refused
+from ..errors import Refused, refusing
 from ..files import named_rows, read_lines
-from ..plan import View
-from ..settings import NONE, SETTINGS
-from .curves import check_top
-
-
-def settings(words: str) -> list[str]:
-    """Settings with commas between them."""
-    return words.split(",")
+from ..plan import NONE, SETTINGS, View
+from ..table import Row
 
 
 def add_arguments(parser: ArgumentParser) -> None:
-    parser.add_argument("file", metavar="FILE", help="results.csv or saturation.csv of a study")
-    parser.add_argument("--x", metavar="COLUMN", default="accepted", help="what lies across; by default accepted")
-    parser.add_argument("--y", metavar="COLUMN", default="mean", help="what lies upwards; by default mean")
-    parser.add_argument("--where", metavar="SETTING=VALUE", nargs="+", default=[], help="only lines that have this")
-    parser.add_argument("--along", metavar="SETTING", help="along which setting a curve goes; by default load")
-    frames = "each of their values has a frame"
-    parser.add_argument("--frames", metavar="SETTING,..", type=settings, help=frames)
-    parser.add_argument("--colour", metavar="SETTING", help="each of its values has a colour")
-    parser.add_argument("--dash", metavar="SETTING", help="each of its values has a kind of line")
-    parser.add_argument("--top", metavar="NUMBER", type=float, help="where the vertical axis ends")
+    add(parser, "file FILE", "results.csv or saturation.csv of a study")
+    add(parser, "--x COLUMN", "what lies across; by default accepted", default="accepted")
+    add(parser, "--y COLUMN", "what lies upwards; by default mean", default="mean")
+    add(parser, "--where SETTING=VALUE", "only lines that have this", nargs="+", default=[])
+    add(parser, "--along SETTING", "along which setting a curve goes; by default load")
+    add(parser, "--frames SETTING,..", "each of their values has a frame", type=lambda words: words.split(","))
+    add(parser, "--colour SETTING", "each of its values has a colour")
+    add(parser, "--dash SETTING", "each of its values has a kind of line")
+    add_top(parser)
 
 
 def chosen(rows: list[dict[str, str]], words: list[str]) -> list[Row]:
@@ -60,16 +52,14 @@ def check(rows: list[dict[str, str]], options: Namespace) -> None:
         if name not in rows[0]:
             raise Refused(f"{options.file} has no column '{name}': its columns are {', '.join(rows[0])}")
         for row in rows:
-            try:
+            with refusing(ValueError, f"{options.file}: '{row[name]}' of the column '{name}' is no number"):
                 row[name] == NONE or float(row[name])
-            except ValueError:
-                raise Refused(f"{options.file}: '{row[name]}' of the column '{name}' is no number") from None
     for key in [*(options.frames or []), options.colour, options.dash, options.along]:
         if key is not None and (key not in SETTINGS or key not in rows[0]):
             raise Refused(f"'{key}' is no setting of {options.file}")
 
 
-def main(options: Namespace) -> int:
+def main(options: Namespace) -> None:
     check_top(options.top)
     rows = named_rows(read_lines(options.file, "file of results"), [], "file of results", options.file)
     if not rows:
@@ -80,5 +70,4 @@ def main(options: Namespace) -> int:
     if len(drawn) != 1:
         told = "there is no point to draw" if not drawn else f"{len(drawn)} pictures are needed for all curves"
         raise Refused(f"{told}: --where takes some lines alone")
-    sys.stdout.write(drawn[0])
-    return 0
+    print(drawn[0], end="")

@@ -6,13 +6,12 @@ counts. All seven keys are printed, a line for each, without the comments of CON
 set. Where CONFIG is a joined text (docs/FORMATS.md), its dividing line and its traffic follow as they are.
 """
 import re
-import sys
 import tomllib
 from argparse import ArgumentParser, Namespace
 from typing import Any
 
-from ..arguments import add_config
-from ..errors import Refused
+from ..arguments import add, add_config
+from ..errors import Refused, refusing
 from ..files import read_text
 from ..network import network_of, settings_of
 
@@ -22,7 +21,7 @@ WORD = re.compile(r"[a-z]+(-[a-z]+)*")
 
 def add_arguments(parser: ArgumentParser) -> None:
     add_config(parser)
-    parser.add_argument("words", metavar="KEY=VALUE", nargs="*", help="a value as in TOML; a word needs no quotes")
+    add(parser, "words KEY=VALUE", "a value as in TOML; a word needs no quotes", nargs="*")
 
 
 def setting(word: str) -> tuple[str, Any]:
@@ -40,13 +39,10 @@ def setting(word: str) -> tuple[str, Any]:
     return key, read["value"]
 
 
-def main(options: Namespace) -> int:
+def main(options: Namespace) -> None:
     words = dict(map(setting, options.words))
     text = read_text(options.config, "configuration")
     divided = DIVIDING_LINE.search(text)
-    try:
+    with refusing(ValueError, f"{options.config}: "):
         network = network_of(settings_of(text[:divided.start()] if divided else text) | words)
-    except ValueError as error:
-        raise Refused(f"{options.config}: {error}") from None
-    sys.stdout.write(network.text() + (text[divided.start():] if divided else ""))
-    return 0
+    print(network.text() + (text[divided.start():] if divided else ""), end="")

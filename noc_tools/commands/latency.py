@@ -40,36 +40,31 @@ null for a dash.
 """
 import json
 from argparse import ArgumentParser, Namespace
-from dataclasses import dataclass
+from typing import NamedTuple
 
-from ..arguments import add_config, add_table, warn
-from ..columns import Columns
+from ..arguments import add, add_config, add_measured, add_table, warn
 from ..errors import Refused
 from ..files import read_lines, standard_input
 from ..network import Network
 from ..runs import Run
 from ..statistics import (
-    GROUPS, NAMES, TOLERANCE, Figures, Sample, Window, end_of, grouped_figures, warnings, window_within,
+    GROUPS, NAMES, Columns, Figures, Sample, Window, end_of, grouped_figures, warnings, window_within,
 )
 from ..traffic import read_latencies
 
 
 def add_arguments(parser: ArgumentParser) -> None:
     add_config(parser)
-    parser.add_argument("report", metavar="REPORT", nargs="?", help="its latency report; by default standard input")
-    parser.add_argument("--traffic", metavar="TRAFFIC", help="make the run of these packets, in place of REPORT")
+    add(parser, "report REPORT", "its latency report; by default standard input", nargs="?")
+    add(parser, "--traffic TRAFFIC", "make the run of these packets, in place of REPORT")
     add_table(parser)
-    parser.add_argument("--drain", action="store_true", help="with --traffic: go on until all packets are out")
-    measured = "measure the packets due in the cycles A to B - 1; by default all"
-    parser.add_argument("--window", metavar="A:B", help=measured)
+    add(parser, "--drain", "with --traffic: go on until all packets are out")
     parser.add_argument("--by", choices=GROUPS, action="append", default=[], help="also for each of these")
-    differ = f"by how much the halves may differ ({TOLERANCE:g})"
-    parser.add_argument("--tolerance", metavar="PERCENT", type=float, default=TOLERANCE, help=differ)
-    parser.add_argument("--json", action="store_true", help="JSON instead of CSV")
+    add_measured(parser, "all")
+    add(parser, "--json", "JSON instead of CSV")
 
 
-@dataclass(frozen=True)
-class Measured:
+class Measured(NamedTuple):
     """What is measured: the packets of a run, its network, and how many cycles its configuration gives it."""
 
     packets: Columns
@@ -107,7 +102,7 @@ def as_json(window: Window, found: dict[str, Figures], warned: list[str]) -> str
     return json.dumps({"window": [window.first, window.end], "figures": groups, "warnings": warned}, indent=2)
 
 
-def main(options: Namespace) -> int:
+def main(options: Namespace) -> None:
     made = of_report(options) if options.traffic is None else of_traffic(options)
     packets, network = made.packets, made.network
     window = window_within(options.window, end_of(packets, network)) if options.window else Window(0, made.cycles)
@@ -115,9 +110,8 @@ def main(options: Namespace) -> int:
     warned = warnings(Sample(packets, window), options.tolerance)
     if options.json:
         print(as_json(window, found, warned))
-        return 0
+        return
     print(",".join(["group", *NAMES]))
     for name, value in found.items():
         print(",".join([name, *value.words()]))
     warn(options, warned)
-    return 0

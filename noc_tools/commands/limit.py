@@ -6,7 +6,7 @@ dash for the cycles where packets stay in the network.
 from argparse import ArgumentParser, Namespace
 from collections.abc import Iterable
 
-from ..arguments import add_config, add_table, table_words
+from ..arguments import add, add_config, add_table, table_words
 from ..network import Network
 from ..program import report
 from ..traffic import Packet, read_latencies
@@ -14,7 +14,7 @@ from ..traffic import Packet, read_latencies
 
 def add_arguments(parser: ArgumentParser) -> None:
     add_config(parser)
-    parser.add_argument("traffic", metavar="TRAFFIC", help="the packets")
+    add(parser, "traffic TRAFFIC", "the packets")
     add_table(parser)
 
 
@@ -31,11 +31,10 @@ def cycles_taken(packets: Iterable[Packet]) -> int | None:
     return max(there, default=-1) + 1 if len(there) == len(outs) else None
 
 
-def main(options: Namespace) -> int:
+def main(options: Namespace) -> None:
     network = Network.read(options.config)
     found = report("run", options.config, options.traffic, "--drain", *table_words(options))
     packets = read_latencies(found.splitlines(), network, "the report of noc")
     limit = max((packet.due for packet in packets), default=0) + sum(events(network, packet) for packet in packets)
     took = cycles_taken(packets)
     print(f"limit {limit}, all out after {'-' if took is None else took} cycles")
-    return 0

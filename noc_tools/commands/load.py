@@ -21,14 +21,15 @@ The runs are made side by side, on N processors or all that may be used.
 from argparse import ArgumentParser, Namespace
 from collections.abc import Iterable
 
-from ..arguments import PATTERN_HELP, add_config, add_demand, add_length, add_table, demand_of, warn
-from ..errors import Refused
+from ..arguments import (
+    PATTERN_HELP, add, add_config, add_demand, add_jobs, add_length, add_measured, add_table, demand_of, warn,
+)
+from ..errors import refusing
 from ..measure import COLUMNS, Experiment, check_network, measured_side_by_side, told_of_short_runs
 from ..network import Network
-from ..patterns import PATTERN_NAMES
-from ..program import processors
-from ..settings import load_range
-from ..statistics import TOLERANCE, middle_window, window_within
+from ..plan import load_range
+from ..statistics import middle_window, window_within
+from ..traffic import PATTERN_NAMES
 from ..workers import check_jobs
 
 
@@ -36,31 +37,18 @@ def add_arguments(parser: ArgumentParser) -> None:
     add_config(parser)
     add_length(parser)
     each = "flits per node and cycle; A:B:STEP stands for the loads from A up to B"
-    parser.add_argument("loads", metavar="LOAD", nargs="+", help=each)
-    parser.add_argument(
-        "--pattern", metavar="PATTERN", choices=PATTERN_NAMES, default="uniform", help=PATTERN_HELP
-    )
+    add(parser, "loads LOAD", each, nargs="+")
+    add(parser, "--pattern PATTERN", PATTERN_HELP, choices=PATTERN_NAMES, default="uniform")
     add_demand(parser)
     add_table(parser)
-    measured = "measure the packets due in the cycles A to B - 1; by default the middle third"
-    parser.add_argument("--window", metavar="A:B", help=measured)
-    differ = f"by how much its halves may differ ({TOLERANCE:g})"
-    parser.add_argument("--tolerance", metavar="PERCENT", type=float, default=TOLERANCE, help=differ)
-    beside = "runs side by side; by default all processors"
-    parser.add_argument("--jobs", metavar="N", type=int, default=processors(), help=beside)
-
-
-def loads_of(words: str) -> list[str]:
-    """A load, or those of a range."""
-    return load_range(words) if ":" in words else [words]
+    add_measured(parser, "the middle third")
+    add_jobs(parser)
 
 
 def number(words: str) -> float:
     """A load."""
-    try:
+    with refusing(ValueError, f"a load is a number, not '{words}'"):
         return float(words)
-    except ValueError:
-        raise Refused(f"a load is a number, not '{words}'") from None
 
 
 def experiments_of(options: Namespace, loads: Iterable[str], network: Network) -> list[Experiment]:
@@ -72,10 +60,10 @@ def experiments_of(options: Namespace, loads: Iterable[str], network: Network) -
     return [Experiment(network, demand, window, options.table, options.tolerance) for demand in demands]
 
 
-def main(options: Namespace) -> int:
+def main(options: Namespace) -> None:
     check_jobs(options.jobs)
     network = Network.read(options.config)
-    loads = [load for words in options.loads for load in loads_of(words)]
+    loads = [load for words in options.loads for load in (load_range(words) if ":" in words else [words])]
     experiments = experiments_of(options, loads, network)
     check_network(network, options.table)
     print(",".join(["load", *COLUMNS]), flush=True)
@@ -84,4 +72,3 @@ def main(options: Namespace) -> int:
         print(",".join([load, *found.words()]), flush=True)
         ran.append((found.ran, network.cycles))
     warn(options, [told_of_short_runs(ran)])
-    return 0

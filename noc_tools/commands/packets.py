@@ -9,12 +9,11 @@ last of them filled up, and one at least; one of more than 64 flits goes as seve
 Where there are more than the 20,000 packets that noc takes, the last cycles are left out, and a line to standard error
 says so.
 """
-import sys
 from argparse import ArgumentParser, ArgumentTypeError, Namespace
 from collections.abc import Iterator, Mapping
 
-from ..arguments import add_config, warn
-from ..errors import Refused
+from ..arguments import add, add_config, warn
+from ..errors import Refused, refusing
 from ..files import named_rows, read_lines
 from ..network import Network, read_bounded_network
 from ..traffic import LATEST_DUE, LONGEST, MOST_PACKETS, Row, fitting, traffic_text
@@ -32,13 +31,11 @@ def kind_of(words: str) -> tuple[str, int]:
 
 def add_arguments(parser: ArgumentParser) -> None:
     add_config(parser)
-    parser.add_argument("trace", metavar="TRACE", help="the trace")
-    parser.add_argument("flit_bytes", metavar="BYTES", type=int, help="the bytes of a flit")
-    faster = "how many cycles a unit of time has (1)"
-    parser.add_argument("--factor", metavar="FACTOR", type=float, default=1, help=faster)
-    parser.add_argument("--from", dest="first", metavar="A", type=float, default=0, help="the time of cycle 0")
-    classes = "the classes of kinds; by default 0"
-    parser.add_argument("--kind", metavar="KIND=CLASS", nargs="+", type=kind_of, default=[], help=classes)
+    add(parser, "trace TRACE", "the trace")
+    add(parser, "flit_bytes BYTES", "the bytes of a flit", type=int)
+    add(parser, "--factor FACTOR", "how many cycles a unit of time has (1)", type=float, default=1)
+    add(parser, "--from A", "the time of cycle 0", dest="first", type=float, default=0)
+    add(parser, "--kind KIND=CLASS", "the classes of kinds; by default 0", nargs="+", type=kind_of, default=[])
 
 
 def lengths_of(size: int, flit_bytes: int) -> Iterator[int]:
@@ -54,11 +51,9 @@ def rows_of(options: Namespace, network: Network, classes: Mapping[str, int]) ->
     """The packets of the trace."""
     lines = named_rows(read_lines(options.trace, "trace"), TRACE_COLUMNS, "trace", options.trace)
     for number, line in enumerate(lines, 2):
-        try:
+        with refusing((ValueError, OverflowError), f"{options.trace}: line {number} has no time, nodes and bytes"):
             due = int((float(line["time"]) - options.first) * options.factor)
             source, destination, size = (int(line[name]) for name in ("source", "destination", "bytes"))
-        except (ValueError, OverflowError):
-            raise Refused(f"{options.trace}: line {number} has no time, nodes and bytes") from None
         if not (0 <= source < network.nodes and 0 <= destination < network.nodes):
             raise Refused(f"{options.trace}: line {number} has a node that the network has not")
         if not 0 <= due <= LATEST_DUE:
@@ -69,7 +64,7 @@ def rows_of(options: Namespace, network: Network, classes: Mapping[str, int]) ->
                 yield source, destination, message_class, length, due
 
 
-def main(options: Namespace) -> int:
+def main(options: Namespace) -> None:
     network, classes = read_bounded_network(options.config), dict(options.kind)
     if options.flit_bytes < 1 or not 0 < options.factor < float("inf"):
         raise Refused("BYTES is a whole number above 0, and FACTOR a number above 0")
@@ -77,8 +72,7 @@ def main(options: Namespace) -> int:
         raise Refused(f"a class does not exist: the classes are 0 to {network.classes - 1}")
     rows = list(rows_of(options, network, classes))
     kept, end = fitting(rows, LATEST_DUE)
-    sys.stdout.write(traffic_text(kept))
+    print(traffic_text(kept), end="")
     if len(kept) < len(rows):
         told = f"noc takes {MOST_PACKETS} packets, so of {len(rows)} the {len(kept)} due before cycle {end} are kept"
         warn(options, [told])
-    return 0

@@ -13,28 +13,21 @@ CONFIG and F are read twice, so they are files and no pipes.
 """
 from argparse import ArgumentParser, Namespace
 
-from ..arguments import add_config, add_table, numbers
+from ..arguments import add, add_config, add_table, numbers
 from ..ranks import escape_choices, first_found, rank_file
 from ..relation import checked_relation
-
-
-def channel_numbers(words: str) -> set[int]:
-    """Numbers of channels with commas between them."""
-    return set(numbers(words))
 
 
 def add_arguments(parser: ArgumentParser) -> None:
     add_config(parser)
     add_table(parser)
-    parser.add_argument(
-        "--escape", metavar="C,..", nargs="?", const=set(), type=channel_numbers,
-        help="the numbers of the escape channels; without numbers the lowest of each class's channels are tried",
-    )
+    escape = "the numbers of the escape channels; without numbers the lowest of each class's channels are tried"
+    add(parser, "--escape C,..", escape, nargs="?", const=(), type=numbers)
 
 
-def main(options: Namespace) -> int:
+def main(options: Namespace) -> None:
     relation = checked_relation(options.config, options.table)
     channels = relation.channels
-    ranks = first_found(relation, escape_choices(channels.network, options.escape))
+    escape = None if options.escape is None else set(options.escape)
+    ranks = first_found(relation, escape_choices(channels.network, escape))
     print("\n".join(rank_file(channels, ranks)))
-    return 0

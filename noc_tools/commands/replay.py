@@ -23,7 +23,6 @@ def add_arguments(parser: ArgumentParser) -> None:
     add_span(parser)
 
 
-def main(options: Namespace) -> int:
+def main(options: Namespace) -> None:
     run = run_of(options)
     sys.stdout.write(page(run, *span_of(run, options)))
-    return 0

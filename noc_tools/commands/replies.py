@@ -6,32 +6,30 @@ come out later; so the network is run again and again, until no reply is due in 
 Then the traffic of requests and replies goes to standard output, the replies behind all others. A reply that would be
 due after the end of the run is left out.
 """
-import sys
 from argparse import ArgumentParser, Namespace
 from pathlib import Path
 from tempfile import TemporaryDirectory
 
-from ..arguments import add_config, add_table
+from ..arguments import add, add_config, add_table
 from ..errors import Refused
-from ..measure import Experiment
+from ..measure import Experiment, Replies
 from ..network import Network
-from ..replies import Replies
 from ..statistics import Window
 from ..traffic import Played
 
 
 def add_arguments(parser: ArgumentParser) -> None:
     add_config(parser)
-    parser.add_argument("traffic", metavar="TRAFFIC", help="the packets but for replies")
-    parser.add_argument("length", metavar="LENGTH", type=int, help="flits of a reply")
+    add(parser, "traffic TRAFFIC", "the packets but for replies")
+    add(parser, "length LENGTH", "flits of a reply", type=int)
     delay = "cycles from the one in which a request was out to that in which its reply is due"
-    parser.add_argument("delay", metavar="DELAY", type=int, help=delay)
-    parser.add_argument("--to", metavar="C", type=int, default=0, help="the class of requests (0)")
-    parser.add_argument("--by", metavar="C", type=int, default=1, help="the class of replies (1)")
+    add(parser, "delay DELAY", delay, type=int)
+    add(parser, "--to C", "the class of requests (0)", type=int, default=0)
+    add(parser, "--by C", "the class of replies (1)", type=int, default=1)
     add_table(parser)
 
 
-def main(options: Namespace) -> int:
+def main(options: Namespace) -> None:
     network = Network.read(options.config)
     replies = Replies(options.to, options.by, options.length, options.delay)
     window = Window(0, network.cycles)
@@ -41,5 +39,4 @@ def main(options: Namespace) -> int:
         files = experiment.files_in(Path(folder))
         if files.cycles < network.cycles:
             raise Refused(f"with replies these are more packets than noc takes: those of {files.cycles} cycles fit")
-        sys.stdout.write(files.traffic.read_text())
-    return 0
+        print(files.traffic.read_text(), end="")

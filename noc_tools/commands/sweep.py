@@ -68,13 +68,11 @@ import time
 from argparse import ArgumentParser, Namespace
 from pathlib import Path
 
-from ..arguments import warn
-from .curves import check_top
+from ..arguments import add, add_jobs, add_top, check_top, warn
 from ..errors import Refused
 from ..files import csv_line
-from ..program import processors
+from ..plan import case_of
 from ..results import command_of, line_of
-from ..settings import case_of
 from ..study import Study
 from ..workers import check_jobs
 
@@ -82,18 +80,15 @@ INTERRUPTED = 130
 
 
 def add_arguments(parser: ArgumentParser) -> None:
-    parser.add_argument("study", metavar="STUDY.toml", nargs="?", help="the settings")
-    parser.add_argument("--out", metavar="FOLDER", help="where results and pictures go; by default STUDY")
-    beside = "runs side by side; by default all processors"
-    parser.add_argument("--jobs", metavar="N", type=int, default=processors(), help=beside)
-    parser.add_argument("--top", metavar="LATENCY", type=float, help="where the pictures of latency end")
-    parser.add_argument("--list", action="store_true", help="print a command for each run that has no result yet")
-    parser.add_argument("--collect", metavar="FILE", nargs="+", help="take the lines that these commands printed")
-    again = "make N runs again, spread over all, and compare their lines byte for byte"
-    parser.add_argument("--verify", metavar="N", type=int, help=again)
-    parser.add_argument("--one", metavar="SETTING=VALUE", nargs="+", help="make one run and print its line")
-    kept = "with --one: keep the configuration and the traffic there"
-    parser.add_argument("--files", metavar="FOLDER", help=kept)
+    add(parser, "study STUDY.toml", "the settings", nargs="?")
+    add(parser, "--out FOLDER", "where results and pictures go; by default STUDY")
+    add_jobs(parser)
+    add_top(parser, "--top LATENCY", "where the pictures of latency end")
+    add(parser, "--list", "print a command for each run that has no result yet")
+    add(parser, "--collect FILE", "take the lines that these commands printed", nargs="+")
+    add(parser, "--verify N", "make N runs again, spread over all, and compare their lines byte for byte", type=int)
+    add(parser, "--one SETTING=VALUE", "make one run and print its line", nargs="+")
+    add(parser, "--files FOLDER", "with --one: keep the configuration and the traffic there")
 
 
 class Progress:
@@ -120,13 +115,6 @@ class Progress:
         """Says something where a person sees it."""
         if self.is_shown:
             print(words, end="", file=sys.stderr, flush=True)
-
-
-def list_commands(study: Study) -> int:
-    """Prints a command for each run that has no result yet."""
-    for case in study.open_cases():
-        print(shlex.join(command_of(case)))
-    return 0
 
 
 def sweep(study: Study, options: Namespace) -> int:
@@ -164,4 +152,8 @@ def main(options: Namespace) -> int:
         sys.stdout.write(csv_line(line_of(case_of(options.one), Path(options.files) if options.files else None)))
         return 0
     with Study(options.study, options.out) as study:
-        return list_commands(study) if options.list else sweep(study, options)
+        if not options.list:
+            return sweep(study, options)
+        for case in study.open_cases():
+            print(shlex.join(command_of(case)))
+    return 0

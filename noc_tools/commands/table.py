@@ -11,23 +11,21 @@ from 0. The rules are:
     dateline-even      on a torus, as dateline: but where both ways round a dimension are equally long, packets go up
                        from even coordinates and down from odd ones, so that both ways carry the same
 """
-import sys
 from argparse import ArgumentParser, Namespace
 
-from ..arguments import add_config
+from ..arguments import add, add_config
 from ..network import read_bounded_network
+from ..ranks import table_file
 from ..relation import Channels, of_table_rule
 from ..rules import TABLE_RULES, table_rule
-from ..tables import table_file
 
 
 def add_arguments(parser: ArgumentParser) -> None:
     add_config(parser)
-    parser.add_argument("rule", metavar="RULE", choices=TABLE_RULES, help=", ".join(TABLE_RULES))
+    add(parser, "rule RULE", ", ".join(TABLE_RULES), choices=TABLE_RULES)
 
 
-def main(options: Namespace) -> int:
+def main(options: Namespace) -> None:
     network = read_bounded_network(options.config)
     relation = of_table_rule(Channels(network), table_rule(network, options.rule))
-    sys.stdout.writelines(f"{line}\n" for line in table_file(relation))
-    return 0
+    print(*table_file(relation), sep="\n")

@@ -10,7 +10,6 @@ CONFIG, TRAFFIC and F are files, one of them '-' for standard input. With --drai
 are out, as by 'noc run --drain'. The network is traced once; where that takes long, by several processes side by
 side, as far as processors are free, each of which traces a part.
 """
-import sys
 from argparse import ArgumentParser, Namespace
 
 from ..arguments import add_packet, add_run, run_of
@@ -23,7 +22,6 @@ def add_arguments(parser: ArgumentParser) -> None:
     add_packet(parser)
 
 
-def main(options: Namespace) -> int:
+def main(options: Namespace) -> None:
     run = run_of(options)
-    sys.stdout.write(picture(life_of(run, options.packet)))
-    return 0
+    print(picture(life_of(run, options.packet)), end="")

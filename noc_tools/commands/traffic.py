@@ -25,23 +25,21 @@ on average. Where nothing else is said, packets are due in all cycles of the run
 middle, and P is 0.2. The same words give the same bytes: all that is random is drawn by random.random(), which gives
 the same numbers for a seed in every version of Python.
 """
-import sys
 from argparse import ArgumentParser, Namespace
 
-from ..arguments import PATTERN_HELP, add_config, add_demand, add_length, demand_of
+from ..arguments import PATTERN_HELP, add, add_config, add_demand, add_length, demand_of
 from ..network import read_bounded_network
-from ..patterns import PATTERN_NAMES
+from ..traffic import PATTERN_NAMES
 
 
 def add_arguments(parser: ArgumentParser) -> None:
     add_config(parser)
-    parser.add_argument("pattern", metavar="PATTERN", choices=PATTERN_NAMES, help=PATTERN_HELP)
-    parser.add_argument("load", metavar="LOAD", type=float, help="flits per node and cycle")
+    add(parser, "pattern PATTERN", PATTERN_HELP, choices=PATTERN_NAMES)
+    add(parser, "load LOAD", "flits per node and cycle", type=float)
     add_length(parser)
     add_demand(parser)
 
 
-def main(options: Namespace) -> int:
+def main(options: Namespace) -> None:
     network = read_bounded_network(options.config)
-    sys.stdout.write(demand_of(options, options.load).traffic(network))
-    return 0
+    print(demand_of(options, options.load).traffic(network), end="")

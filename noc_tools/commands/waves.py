@@ -15,7 +15,7 @@ from argparse import ArgumentParser, Namespace
 from collections.abc import Iterable, Iterator, Sequence
 from itertools import chain, count, groupby
 
-from ..arguments import add_run, add_span, run_of, span_of
+from ..arguments import add, add_run, add_span, run_of, span_of
 from ..errors import Refused
 from ..findings import Finding, Place, empty
 from ..network import split
@@ -30,7 +30,7 @@ Signs = tuple[str, str, str]
 def add_arguments(parser: ArgumentParser) -> None:
     add_run(parser)
     add_span(parser)
-    parser.add_argument("--router", metavar="R", type=int, help="this router alone")
+    add(parser, "--router R", "this router alone", type=int)
 
 
 def sign_of(number: int) -> str:
@@ -96,7 +96,7 @@ def waves(findings: Iterable[Finding], places: Sequence[Place], first: int, last
     yield f"#{last + 1}"
 
 
-def main(options: Namespace) -> int:
+def main(options: Namespace) -> None:
     run = run_of(options)
     first, last = span_of(run, options)
     if options.router is not None and not 0 <= options.router < run.network.nodes:
@@ -104,4 +104,3 @@ def main(options: Namespace) -> int:
     findings = run.trace(first=first, last=last, router=options.router, changes=True)
     places = [place for place in run.network.places if options.router in (None, place[0])]
     sys.stdout.writelines(f"{line}\n" for line in waves(findings, places, first, last))
-    return 0

@@ -40,7 +40,7 @@ from argparse import ArgumentParser, Namespace
 from collections import Counter
 from collections.abc import Callable, Iterable, Iterator
 
-from ..arguments import PACKET_HELP, add_run, run_of
+from ..arguments import PACKET_HELP, add, add_run, run_of
 from ..causes import Blame, Share, blame_of, candidates, slowest
 from ..errors import Refused
 from ..findings import GRANTED, MOVED, NO_CHANNEL, ROUTED
@@ -58,14 +58,13 @@ OWN_WAY = (MOVED, ROUTED, GRANTED)
 
 def add_arguments(parser: ArgumentParser) -> None:
     add_run(parser)
-    parser.add_argument("packet", metavar="PACKET", type=int, nargs="?", help=PACKET_HELP)
-    cycle = "the cycle; the whole life where it is not given"
-    parser.add_argument("cycle", metavar="CYCLE", type=int, nargs="?", help=cycle)
+    add(parser, "packet PACKET", PACKET_HELP, type=int, nargs="?")
+    add(parser, "cycle CYCLE", "the cycle; the whole life where it is not given", type=int, nargs="?")
     many = parser.add_argument_group("in place of PACKET")
-    many.add_argument("--slowest", metavar="N|P%", help="the packets with the longest latencies, as 20 or 1%%")
-    many.add_argument("--class", dest="message_class", metavar="C", type=int, help="of the packets of this class")
-    many.add_argument("--window", metavar="A:B", help="of those due in the cycles A to B - 1; by default in all")
-    many.add_argument("--csv", action="store_true", help="all shares as rows")
+    add(many, "--slowest N|P%", "the packets with the longest latencies, as 20 or 1%%")
+    add(many, "--class C", "of the packets of this class", dest="message_class", type=int)
+    add(many, "--window A:B", "of those due in the cycles A to B - 1; by default in all")
+    add(many, "--csv", "all shares as rows")
 
 
 def place_name(stay: Stay) -> str:
@@ -221,6 +220,5 @@ def lines_of(run: Run, options: Namespace) -> Iterable[str]:
     return cycle_lines(run, packet, options.cycle)
 
 
-def main(options: Namespace) -> int:
+def main(options: Namespace) -> None:
     sys.stdout.writelines(f"{line}\n" for line in lines_of(run_of(options), options))
-    return 0
