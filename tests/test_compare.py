@@ -1,5 +1,6 @@
 """'compare' on waves that are written by hand: a packet that goes through a router, and a design beside it."""
 import re
+from dataclasses import replace
 
 from support import IN_THE_WAY, LINE, TOP, FolderTest
 
@@ -216,8 +217,15 @@ class Refuses(FolderTest):
         ]:
             self.refused(sentence, map=text)
 
+    def test_a_channel_that_the_design_has_not(self):
+        self.put(c=replace(LINE, channels=2), t=IN_THE_WAY)
+        self.refused(
+            "d.vcd has no signal 'top.moved_1', which the map names", model=self.said("waves", "c", "t"),
+            dut=design(GOOD, "$var wire 1 m moved_0 $end"), map=MAP + "moved = 'moved_{channel}'\n",
+        )
+
     def test_dumps(self):
-        head, body = design(GOOD).split("#0", 1)
+        head, _ = design(GOOD).split("#0", 1)
         for text, sentence in [
             ("", "d.vcd is no VCD file: it has no $enddefinitions"),
             (b"\xff\xfe\x00", "d.vcd is no VCD file: '"),
