@@ -25,32 +25,32 @@ DRAINS = HEADER + "0,2,0,1,0\n1,2,0,1,0\n"
 IN_TURN = HEADER + "0,2,0,4,0\n1,2,0,4,3\n"
 TWO_CHANNELS = replace(LINE, channels=2)
 # What is wrong in each mutant: a text of a source, what stands in its place, a run that shows it, the first difference,
-# and the assertion that finds it too, if one does.
+# the cycle of the first one where moves alone are compared, and the assertion that finds it too, if one does.
 MUTANTS = {
     "a credit too many": (
         "router", "if (reset) credits[o] <= BUFFER;", "if (reset) credits[o] <= BUFFER + 1;", LINE, FULL,
-        "cycle 4, router 0, local.0: the design moves a flit, and the model does not (NoCredit).", "credit_room",
+        "cycle 4, router 0, local.0: the design moves a flit, and the model does not (NoCredit).", 4, "credit_room",
     ),
     "fixed priority": (
         "round_robin", "pointer <= (choice + 1) % SIZE;", "pointer <= 0;", TWO_CHANNELS, IN_TURN,
-        "cycle 6, router 1, -0.0: the design moves a flit, and the model does not (LostSwitch).", "output_pointer",
+        "cycle 6, router 1, -0.0: the design moves a flit, and the model does not (LostSwitch).", 6, "output_pointer",
     ),
     "a channel that is freed at the tail": (
         "router", "output_state[o] <= P == LOCAL ? FREE : DRAINING;", "output_state[o] <= FREE;", LINE, DRAINS,
         "cycle 4, router 1, -0.0: the design grants an output channel, and the model does not (NoIdleChannel).",
-        "freed",
+        5, "freed",
     ),
     "a move without a credit": (
         "router", "count[i] != 0 && has_credit[i];", "count[i] != 0;", LINE, FULL,
-        "cycle 4, router 0, local.0: the design moves a flit, and the model does not (NoCredit).", "move_credit",
+        "cycle 4, router 0, local.0: the design moves a flit, and the model does not (NoCredit).", 4, "move_credit",
     ),
     "a flit that is dropped where the buffer is read": (
         "router", ".write(lands)", ".write(lands && !moved[i])", LINE, FULL,
-        "cycle 4, router 0, local.0: the model says NoCredit, and the design NoFlit.", "flits_kept",
+        "cycle 4, router 0, local.0: the model says NoCredit, and the design NoFlit.", 9, "flits_kept",
     ),
     "a flit that is lost on a link": (
         "network", "= node[OTHER].flit_out_valid[BACK];", "= 0;", LINE, FULL,
-        "cycle 3, router 1, -0.0: the model says Routed, and the design Empty.", None,
+        "cycle 3, router 1, -0.0: the model says Routed, and the design Empty.", 5, None,
     ),
 }
 # Packets of both other nodes go to node 2, and back.
@@ -104,10 +104,10 @@ class Rtl(FolderTest):
         self.assertEqual(ran.returncode, 0, ran.stderr)
         return ran.stdout
 
-    def compared(self):
-        """How the design compares with the model."""
+    def compared(self, names="examples/rtl_map.toml"):
+        """How the design compares with the model, by a map."""
         self.put(**{"model.vcd": self.said("waves", "c", "t")})
-        ran = self.tool("compare", "model.vcd", "dump.vcd", "--map", "examples/rtl_map.toml")
+        ran = self.tool("compare", "model.vcd", "dump.vcd", "--map", names)
         return ran.returncode, ran.stdout.splitlines()
 
     def assertAgrees(self, network, channels, *words):
@@ -144,13 +144,16 @@ class Rtl(FolderTest):
         self.assertAgrees(WIDE, 112, 1, "1+5", "--classes", "0,1")
 
     def test_what_is_wrong_is_found(self):
-        for name, (source, old, new, network, traffic, line, assertion) in MUTANTS.items():
+        moves, _, _ = (TOP / "examples/rtl_map.toml").read_text().partition("granted = ")
+        for name, (source, old, new, network, traffic, line, cycle, assertion) in MUTANTS.items():
             with self.subTest(name):
                 self.assertNotIn("ERROR", self.simulated(network, traffic, checks=True))
                 self.assertEqual(self.compared()[0], 0)
                 said = self.simulated(network, traffic, (source, old, new), checks=True)
                 status, (first, *_) = self.compared()
                 self.assertEqual((status, first), (8, line))
+                self.put(moves=moves)
+                self.assertTrue(self.compared("moves")[1][0].startswith(f"cycle {cycle}, "), self.compared("moves"))
                 self.assertTrue(assertion in broken_by(said) if assertion else not broken_by(said), said)
 
     def test_each_assertion_fails_for_something(self):
