@@ -89,7 +89,8 @@ def stuck(inputs: Inputs, jam: Jam) -> Files:
         run.config.name, run.traffic.name = CONFIGURATION, TRAFFIC
         last = min(run.network.cycles - 1, (run.counts["last_event"] or 0) + STILL)
         files[REPLAY] = replay.page(run, 0, last).encode()
-        waiting = waiting_lines(Snapshot(run, run.network.cycles - 1), run.packet(0))
+        still_there = next(packet for packet in run.packets if packet.out is None)
+        waiting = waiting_lines(Snapshot(run, run.network.cycles - 1), still_there)
     blocks = claims.counterexample(channels, jam, waiting, TABLE if inputs.table else None)
     words = " ".join(["$ noc run", CONFIGURATION, TRAFFIC, *inputs.table_words(TABLE), "--report summary > /dev/null"])
     title = claims.title_of(claims.STUCK, channels.network)

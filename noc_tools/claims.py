@@ -8,6 +8,7 @@ from .dependencies import Graph, circle_picture
 from .jam import Jam, size_of
 from .network import Network
 from .page import Block, Heading, Items, Lines, Link, Picture, Table, Words
+from .ranks import lowest
 from .relation import Channels
 from .traffic import COLUMNS, LATEST_DUE, LONGEST, MOST_PACKETS
 from .words import counted
@@ -126,19 +127,21 @@ def counterexample(channels: Channels, jam: Jam, waiting: Sequence[str], table: 
     """What the page says of a network that gets stuck, but for digests."""
     lines = [dependency.line(channels) for dependency in jam.circle]
     picture = Picture("The circle of dependencies", GRAPH, circle_picture(channels, jam.circle))
+    network = channels.network
+    escape = " Nor were ranks found with the lowest channels of each class as escape channels."
     more = [Words(f"All {len(jam.rows)} packets are in `{TRAFFIC}`.")] if SHOWN < len(jam.rows) else []
     return [
         Heading("What was found"),
         Words(
             f"The channel dependency graph has a circle of {len(jam.circle)} dependencies, so no ranks rise along all "
-            "of them. Nor were ranks found with the lowest channels of each class as escape channels."
+            f"of them.{escape if lowest(network) else ''}"
         ),
         Words(
             f"The network does get stuck: `noc run` of the {counted(len(jam.rows), 'packet')} in `{TRAFFIC}` ends with "
-            f"status 5 within its {counted(channels.network.cycles, 'cycle')}. Packets that are due wait, and nothing "
+            f"status 5 within its {counted(network.cycles, 'cycle')}. Packets that are due wait, and nothing "
             "happens any more."
         ),
-        *network_blocks(channels.network, table),
+        *network_blocks(network, table),
         Heading("The circle, hop by hop"),
         Words("A packet of this class and destination that holds the one channel may ask for the other:"),
         Lines(lines), picture,

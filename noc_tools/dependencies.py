@@ -9,6 +9,7 @@ from collections.abc import Iterable, Iterator, Sequence
 from dataclasses import dataclass, field
 from html import escape
 
+from .errors import Refused
 from .picture import BLACK, GREY, WHITE, bold, colour_of, hexadecimal, line, rectangle, svg, text, upwards
 from .ranks import Dependency, RankedSteps, Ranks
 from .relation import Channels, Relation
@@ -42,6 +43,8 @@ class Graph:
     def __init__(self, relation: Relation, ranks: Ranks) -> None:
         self.channels, self.ranks = relation.channels, ranks
         self.before = RankedSteps(relation, ranks).before()
+        if any(ranks[channel] <= ranks[other] for channel, behind in self.before.items() for other in behind):
+            raise Refused("the ranks do not rise along the channel dependency graph")
         self.dependencies = sum(map(len, self.before.values()))
         self.levels = sorted(set(ranks.values()))
 

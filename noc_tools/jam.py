@@ -101,7 +101,8 @@ def jam_on(relation: Relation, circle: Sequence[Dependency], is_stuck: IsStuck) 
         if is_stuck(rows):
             return rows
     cycles = counted(network.cycles, "cycle")
-    raise Refused(f"there is a circle of dependencies, but no traffic that was made for it gets stuck within {cycles}")
+    made = f"there is a circle of dependencies, but no traffic that was made for it gets stuck within {cycles}"
+    raise Refused(f"{made}; other escape channels may have ranks (noc-tools ranks --escape C,..)")
 
 
 # ---- and what is cut from it

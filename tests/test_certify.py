@@ -8,9 +8,9 @@ from unittest.mock import patch
 
 from support import LINE, PROGRAM, SVG, TOP, FolderTest
 from test_replay import data_of
-from test_shrink import RING
+from test_shrink import RING, minimal_adaptive
 
-from noc_tools import claims, dependencies
+from noc_tools import Refused, claims, dependencies
 from noc_tools.certificate import LOGIC
 from noc_tools.network import Network
 from noc_tools.page import Heading, Items, Lines, Link, Table, Words, html, markdown
@@ -100,6 +100,20 @@ class Folders(CertificateTest):
         page = files["counterexample.md"]
         self.assertIn("So these packets wait for one another: 0, 1, 2, 3.", page)
         self.assertIn("| 3 | 3 | 1 | 0 | 1 | 0 |", page)
+        self.assertNotIn("escape", page)
+
+    def test_packets_that_are_out_do_not_wait(self):
+        """Packet 0 is out, but holds the others up as they come; it is not told of at the end, where two channels for
+        each class leave room for escape channels."""
+        network = Network("mesh", (3, 3), 2, 2, 1, "table", 300)
+        self.put(c=network, table=minimal_adaptive(network))
+        page = self.certify("c", "--table", "table", "--find", status=1)["counterexample.md"]
+        self.assertIn("Nor were ranks found with the lowest channels of each class as escape channels.", page)
+        waiting = page.split("## Who waits for whom at the end")[1].split("\n## ")[0]
+        told = re.findall(r"^packet (\d+),", waiting, re.MULTILINE)
+        report = self.report("run", "c", "out/traffic.csv", "--table", "table")
+        self.assertTrue(told)
+        self.assertEqual({report[int(number)]["out"] for number in told}, {"-"})
 
     def test_the_replay_shows_the_end_of_the_jam(self):
         """Ten cycles after the last event, and no more."""
@@ -304,12 +318,24 @@ class Pictures(unittest.TestCase):
         self.assertEqual(graph.dependencies, 8)
         self.assertEqual(titles(graph.picture()), ["0 +0.0,1 -> 1 +0.0,1", "2 -0.0,1 -> 1 -0.0,1"])
 
+    def test_the_arrows_are_all_dependencies(self):
+        """An arrow stands for as many as its two boxes have channels, multiplied; some channels of one link and rank
+        lead on to others, and some do not."""
+        graph = graph_of(Network("torus", (4, 4), 2, 1, 1, "dateline", 60))
+        ends = [[1 + name.count(",") for name in title.split(" -> ")] for title in titles(graph.picture())]
+        self.assertEqual(sum(one * other for one, other in ends), graph.dependencies)
+
     def test_each_arrow_leads_to_the_right(self):
         for network in (Network("mesh", (4, 4), 2, 2, 1, "dor", 60), Network("mesh", (3, 3), 2, 2, 1, "adaptive", 60)):
             picture = graph_of(network).picture()
             paths = re.findall(r'<path d="M([\d.]+),\S+ C\S+ \S+ ([\d.]+),', picture)
             self.assertEqual(len(paths), len(titles(picture)))
             self.assertTrue(all(float(start) < float(end) for start, end in paths))
+
+    def test_ranks_that_do_not_rise_are_refused(self):
+        relation = of_network(Channels(LINE))
+        with self.assertRaisesRegex(Refused, "the ranks do not rise along the channel dependency graph"):
+            dependencies.Graph(relation, dict.fromkeys(relation.channels.links(), 1))
 
     def test_no_two_boxes_lie_on_one_another(self):
         picture = graph_of(Network("mesh", (4, 4), 2, 2, 1, "dor", 60)).picture()
