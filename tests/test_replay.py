@@ -245,8 +245,10 @@ class InABrowser(FolderTest):
         page = self.said("replay", *files).replace("</body>", f"<script>{acts}</script></body>")
         self.put(**{"page.html": page})
         address = f"{(self.folder / 'page.html').as_uri()}#{moment}"
-        words = ["--headless", "--no-sandbox", "--disable-gpu", "--virtual-time-budget=6000", "--dump-dom", address]
-        return Shown(self.called([CHROMIUM, *words]).stdout)
+        # (a profile of its own, since one that another browser has open would not be opened again)
+        words = ["--headless", "--no-sandbox", "--disable-gpu", "--disable-dev-shm-usage", "--virtual-time-budget=6000"]
+        profile = f"--user-data-dir={self.folder / 'profile'}"
+        return Shown(self.called([CHROMIUM, *words, profile, "--dump-dom", address]).stdout)
 
     def test_a_moment(self):
         """Cycle 5: packet 0 waits at router 1, and packet 2 at router 0, which has the colour of that stall too. Both
