@@ -16,3 +16,4 @@ pub mod PacketLemmas
 pub mod ThroughLemmas
 pub mod TimesLemmas
 pub mod WireLemmas
+pub mod KnownLemmas

@@ -9,6 +9,9 @@ ghost use Rattle.std.specs.Prelude.{
   ◌/◌,
   ◌%◌,
   ◌<◌,
+  ◌^◌,
+  true,
+  length,
   List,
   ◌∷◌,
   None,
@@ -19,10 +22,17 @@ ghost use Rattle.noc_packet.specs.declared.packet.Flit.{Flit};
 ghost use Rattle.noc_topo.specs.Shape.{nodes, neighbour};
 ghost use Rattle.noc_vc.specs.declared.output.OutputState.TheVariants.{Owned};
 ghost use Rattle.noc_view.specs.View.{view_buffer, view_output};
+ghost use Rattle.noc_packet.specs.Set.{has_bit};
+ghost use Rattle.noc_sets.specs.Cycle.{Router, packets_in, still_of};
+ghost use Rattle.noc_sets.specs.Layout.{IsLayoutOf, Layout};
+ghost use Rattle.noc_sets.specs.Passes.{AreOwners, lane_raised};
+ghost use Rattle.noc_sets.specs.Source.{Start};
 ghost use Rattle.noc_sets.specs.Taken.{flit_from};
 ghost use Rattle.noc_theory.specs.Good.{IsGoodSetup};
 ghost use Rattle.noc_theory.specs.Lockstep.{beats_at, beats_in, view_at};
 ghost use Rattle.noc_theory.specs.Network.{Setup, frozen_at, size, state_at};
+ghost use Rattle.noc_theory.specs.declared.limits.TheConstants.{CYCLE_LIMIT};
+ghost use Rattle.noc_theory_bits.specs.Network.{ShowsRouter};
 ghost use Rattle.noc_theory_bits.specs.Owners.{ShowsHolders, frozen_of, grants_of, holder_at, told};
 
 /// A flit on a wire is of the packet that holds the channel to which it comes.
@@ -70,4 +80,15 @@ pub fn grants_go_to_channels_that_nobody_holds()
         → neighbour net.relation.grid s (o / net.relation.vcs) ≡ Some (r, port)
         → holder_at net (frozen_at net n) r (port * net.relation.vcs + o % net.relation.vcs)
         ≡ None }
+{}
+
+/// The number that a still router keeps of a channel with a flit is that of a packet.
+pub fn numbers_of_filled_channels_are_packets()
+    ensures { (count : ℕ) (net : Setup) (layout : Layout) (starts : List Start) (n r i up : ℕ)
+        (b : Router)
+        → IsGoodSetup net → n < CYCLE_LIMIT → IsLayoutOf count net.relation net.depth layout
+        → r < nodes net.relation.grid → ShowsRouter count net n r starts b
+        → AreOwners (lane_raised b.links.credits b.column) b.marks.owner up → up < 2 ^ 64
+        → has_bit (still_of layout starts n up b).filled i ≡ true
+        → (i < size net) × (packets_in layout starts n b i < length net.packets) }
 {}

@@ -17,7 +17,8 @@ pub use cycles::{
 };
 pub use holders::{
     first_flits_are_of_their_holder, flits_come_to_their_holder,
-    grants_go_to_channels_that_nobody_holds, grants_tell_the_holder, senders_know_the_holder,
+    grants_go_to_channels_that_nobody_holds, grants_tell_the_holder,
+    numbers_of_filled_channels_are_packets, senders_know_the_holder,
 };
 pub use readers::{counts_are_those_of_the_network, findings_are_those_of_the_network};
 pub use worms::{buffers_hold_consecutive_flits, tails_are_told_by_two_bits};
