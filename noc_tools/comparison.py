@@ -2,8 +2,8 @@
 import re
 from collections import defaultdict, deque
 from collections.abc import Iterator
-from dataclasses import dataclass
 from functools import cached_property
+from typing import NamedTuple
 
 from .errors import Refused
 from .findings import EMPTY, GRANTED, LOST_CHANNEL, NO_CHANNEL, OWNING, VERDICTS, Finding, Place
@@ -146,8 +146,7 @@ class Design:
             yield cycle, changed
 
 
-@dataclass(frozen=True)
-class Difference:
+class Difference(NamedTuple):
     """Where a design differs first: what the model finds there and at its router, the signal that says something else
     than it should, and the further channels that differ in this cycle."""
 
@@ -194,7 +193,7 @@ class Comparison:
             return names.verdicts.index(finding.verdict) if finding.verdict in names.verdicts else None
         if kind == PACKET:
             return finding.packet
-        return None if finding.out == NO_CHANNEL else names.index(finding.out, self.model.ports, self.model.channels)
+        return None if finding.out == NO_CHANNEL else names.index_of(finding.out, self.model.ports, self.model.channels)
 
     def wrong(self, finding: Finding) -> tuple[str, int, Signal, str, int] | None:
         """The first signal of a channel that says something else than the model, what it should say, its value, and

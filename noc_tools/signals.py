@@ -4,11 +4,10 @@ import operator
 import re
 import tomllib
 from collections.abc import Callable
-from dataclasses import dataclass
 from pathlib import Path
-from typing import Any
+from typing import Any, NamedTuple
 
-from .errors import Refused
+from .errors import refusing
 from .files import read_text
 from .findings import VERDICTS, snake
 from .network import LOCAL, split
@@ -25,6 +24,7 @@ OPERATORS: dict[type, Callable[[int, int], int]] = {
     ast.Add: operator.add, ast.Sub: operator.sub, ast.Mult: operator.mul, ast.Div: operator.floordiv,
     ast.Mod: operator.mod,
 }
+NO_ARITHMETIC = (ValueError, SyntaxError, ZeroDivisionError, RecursionError)
 Names = dict[str, int | str]
 
 
@@ -50,25 +50,20 @@ def value_of(node: ast.expr, names: Names) -> int | str:
 def filled(pattern: str, names: Names) -> str:
     """A pattern with what stands in its braces put in."""
     def value(found: re.Match[str]) -> str:
-        try:
+        with refusing(NO_ARITHMETIC, f"'{found[0]}' is no arithmetic of {', '.join(names)} and whole numbers"):
             return str(value_of(ast.parse(found[1].strip(), mode="eval").body, names))
-        except (ValueError, SyntaxError, ZeroDivisionError, RecursionError):
-            known = ", ".join(names)
-            raise Refused(f"'{found[0]}' is no arithmetic of {known} and whole numbers") from None
 
     return IN_BRACES.sub(value, pattern)
 
 
-@dataclass(frozen=True)
-class Pattern:
+class Pattern(NamedTuple):
     """The name of a signal for each channel, and by how many edges it shows a cycle later than others."""
 
     name: str
     delay: int = 0
 
 
-@dataclass(frozen=True)
-class SignalMap:
+class SignalMap(NamedTuple):
     """A map: the clock, which edge of it ends cycle 0, and the patterns of the signals."""
 
     clock: str
@@ -82,16 +77,14 @@ class SignalMap:
     @classmethod
     def read(cls, path: str | Path) -> "SignalMap":
         """The map in a file."""
-        try:
+        with refusing(ValueError, f"{path} is no map: "):
             return map_of(tomllib.loads(read_text(path, "map")))
-        except ValueError as error:
-            raise Refused(f"{path} is no map: {error}") from None
 
     def port(self, number: int) -> int | str:
         """What stands for a port in the names of the design."""
         return number if self.ports is None else self.ports[number]
 
-    def index(self, channel: str, ports: int, channels: int) -> int:
+    def index_of(self, channel: str, ports: int, channels: int) -> int:
         """The index of a channel of the design, port by port."""
         port, number = split(channel)
         place = port_number(port, ports)
@@ -103,7 +96,7 @@ class SignalMap:
         port, number = split(channel)
         names: Names = {
             "router": router, "port": self.port(port_number(port, ports)), "channel": number,
-            "index": self.index(channel, ports, channels),
+            "index": self.index_of(channel, ports, channels),
         }
         return ".".join(filter(None, [self.scope, filled(pattern.name, names)]))
 

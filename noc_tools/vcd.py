@@ -1,9 +1,8 @@
 """Reads VCD files (value change dump, IEEE 1364): those of 'waves', and those of RTL simulators."""
 import re
 from collections.abc import Collection, Iterator
-from dataclasses import dataclass
 from pathlib import Path
-from typing import IO
+from typing import IO, NamedTuple
 
 from .errors import Refused
 
@@ -20,8 +19,7 @@ def number_in(value: str) -> int | None:
     return int(value, 2) if value and set(value) <= {"0", "1"} else None
 
 
-@dataclass(frozen=True)
-class Signal:
+class Signal(NamedTuple):
     """Some bits of a variable, counted from the left one, by its name and by its sign in the file."""
 
     name: str

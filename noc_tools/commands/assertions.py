@@ -9,7 +9,7 @@ import sys
 from argparse import ArgumentParser, Namespace
 from pathlib import Path
 
-from ..arguments import add_config
+from ..arguments import add, add_config
 from ..network import LOCAL, Network, read_bounded_network
 
 TEMPLATE = Path(__file__).resolve().parent.parent / "assertions.sv"
@@ -17,7 +17,7 @@ TEMPLATE = Path(__file__).resolve().parent.parent / "assertions.sv"
 
 def add_arguments(parser: ArgumentParser) -> None:
     add_config(parser)
-    parser.add_argument("--out", metavar="FILE", help="the file to write; standard output where not given")
+    add(parser, "--out FILE", "the file to write; standard output where not given")
 
 
 def links(network: Network) -> int:
@@ -40,10 +40,9 @@ def checker(network: Network) -> str:
     return text
 
 
-def main(options: Namespace) -> int:
+def main(options: Namespace) -> None:
     text = checker(read_bounded_network(options.config))
     if options.out is None:
         sys.stdout.write(text)
     else:
         Path(options.out).write_text(text)
-    return 0

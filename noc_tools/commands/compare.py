@@ -19,6 +19,7 @@ told: the cycle, the router and the channel, what the model does there and why, 
 """
 from argparse import ArgumentParser, Namespace
 
+from ..arguments import add
 from ..comparison import Comparison, Design, Model
 from ..difference import lines_of
 from ..errors import Refused
@@ -30,12 +31,12 @@ DIFFERS = 8
 
 
 def add_arguments(parser: ArgumentParser) -> None:
-    parser.add_argument("reference", metavar="REFERENCE.vcd", help="the waves of the model")
-    parser.add_argument("design", metavar="DUT.vcd", help="the waves of the design")
-    parser.add_argument("--map", metavar="FILE", required=True, help="the map of signals")
+    add(parser, "reference REFERENCE.vcd", "the waves of the model")
+    add(parser, "design DUT.vcd", "the waves of the design")
+    add(parser, "--map FILE", "the map of signals", required=True)
 
 
-def main(options: Namespace) -> int:
+def main(options: Namespace) -> int | None:
     names = SignalMap.read(options.map)
     model = Model(Dump(options.reference))
     compared = Comparison(model, Design(Dump(options.design), names, model))
@@ -48,4 +49,4 @@ def main(options: Namespace) -> int:
         raise Refused(f"{options.reference} and {options.design} have no cycle in common: is the offset right?")
     span, channels = stretch(cycles.start, cycles.stop - 1), counted(len(model.places), "channel")
     print(f"{counted(len(cycles), 'cycle')} ({span}) of {channels} agree: {', '.join(names.patterns)}.")
-    return 0
+    return None
