@@ -4,6 +4,9 @@ from dataclasses import replace
 
 from support import IN_THE_WAY, LINE, TOP, FolderTest
 
+from noc_tools.difference import reason
+from noc_tools.findings import Finding
+
 # Packet 5 comes in at router 1, which has the ports +0 and local, and goes on by +0.0: routed in cycle 0, granted in 1,
 # and its one flit moves in 2.
 MODEL = """$scope module noc $end $scope module router_1 $end
@@ -181,6 +184,25 @@ class Compares(FolderTest):
             "cycle 4, router 1, -0.0: the model stalls by NoIdleChannel, and the design does not.",
             "In the model packet 0 waits there, but no channel that it may take is free.",
         ])
+
+    def test_each_reason(self):
+        """Who won is named; a flit that leaves the network needs no credit."""
+        at_router = {
+            channel: Finding(4, 1, channel, verdict, packet, out, ()) for channel, verdict, packet, out in [
+                ("+0.0", "LostChannel", 6, "local.0"), ("+0.1", "Granted", 7, "local.0"), ("-0.0", "Moved", 3, "+0.0"),
+                ("+0.2", "Moved", 8, "local.1"), ("-0.1", "LostInput", 4, "+0.1"), ("-0.2", "NoFlit", 9, "+0.2"),
+                ("local.0", "LostSwitch", 5, "+0.3"), ("local.1", "NoCredit", 2, "-0.0"),
+            ]
+        }
+        for channel, said in {
+            "+0.0": "packet 6 asks for local.0 there, but another packet was granted the channel (+0.1)",
+            "+0.2": "packet 8 has local.1 there, a flit, and wins the switch",
+            "-0.1": "packet 4 has +0.1 there, but another channel of its port went first (-0.0)",
+            "-0.2": "packet 9 has +0.2 there, but its next flit has not come yet",
+            "local.0": "packet 5 has +0.3 there, but another port went first (-0.0)",
+            "local.1": "packet 2 has -0.0 there, but the next buffer has no place for it",
+        }.items():
+            self.assertEqual(reason(at_router[channel], [*at_router.values()]), said)
 
 
 class Refuses(FolderTest):
