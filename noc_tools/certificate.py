@@ -15,7 +15,7 @@ from .errors import Refused
 from .jam import Jam, jam_of_circle
 from .network import Network
 from .page import Block
-from .program import program, report, sha256_of
+from .program import program_file, report, sha256_of
 from .ranks import rank_file, read_ranks, ranks_found
 from .relation import checked_relation
 from .runs import Run
@@ -57,7 +57,7 @@ class Inputs:
 def version() -> dict[str, str]:
     """What tells one program from another: what it says of its version, the logic of its kit, and its digest."""
     said = dict(line.split(" ", 1) for line in report("--version").splitlines())
-    return {**said, "logic": LOGIC, "sha256": sha256_of(program().read_bytes())}
+    return {**said, "logic": LOGIC, "sha256": sha256_of(program_file().read_bytes())}
 
 
 def certified(inputs: Inputs) -> Files:

@@ -7,7 +7,7 @@ from collections.abc import Iterator, Sequence
 from .dependencies import Graph, circle_picture
 from .jam import Jam, size_of
 from .network import Network
-from .page import Block, Heading, Items, Lines, Link, Picture, Table, Words
+from .page import Block, heading, linked, listed, paragraph, pictured, tabled, verbatim
 from .ranks import lowest
 from .relation import Channels
 from .traffic import COLUMNS, LATEST_DUE, LONGEST, MOST_PACKETS
@@ -19,17 +19,17 @@ GRAPH, REPLAY, TRAFFIC = "graph.svg", "replay.html", "traffic.csv"
 SHOWN = 40
 
 PROVED = [
-    Words(
+    paragraph(
         "Whatever the traffic, this network is never stuck: in every cycle in which a packet that is due waits, "
         "something happens. A flit is injected, lands or moves, a credit arrives, or a packet is routed or granted a "
         "virtual channel."
     ),
-    Words(
+    paragraph(
         "So all packets come out, and there is a bound. Over d hops a flit takes 3·d + 2 of these events and a packet "
         "2·(d + 1) more, and each event leaves one less to come. All packets are out as many cycles after the last due "
         "one as the traffic takes events."
     ),
-    Words(
+    paragraph(
         f"The traffic is any that noc takes: up to {MOST_PACKETS} packets of 1 to {LONGEST} flits, of all classes, "
         f"from any node to any other one, due in any cycles up to {LATEST_DUE}. The length of a run (`cycles`) does "
         "not matter."
@@ -102,18 +102,18 @@ def condition(graph: Graph) -> str:
 
 def network_blocks(network: Network, table: str | None) -> list[Block]:
     """Which network the page is about."""
-    return [Heading("Of which network"), Table(["", ""], shape_rows(network, table))]
+    return [heading("Of which network"), tabled(["", ""], shape_rows(network, table))]
 
 
 def certificate(graph: Graph, table: str | None) -> list[Block]:
     """What a certificate says, but for digests."""
-    picture = Picture("The channel dependency graph in the order of the ranks", GRAPH, graph.picture())
+    picture = pictured("The channel dependency graph in the order of the ranks", GRAPH, graph.picture())
     return [
-        Heading("What is proved"), *PROVED, *network_blocks(graph.channels.network, table),
-        Heading("Why it is so"), Words(condition(graph)), picture,
-        Heading("By which contracts"), Items(CONTRACTS),
-        Heading("Under which premises"), Items(PREMISES),
-        Heading("What is not said"), Items(NOT_SAID),
+        heading("What is proved"), *PROVED, *network_blocks(graph.channels.network, table),
+        heading("Why it is so"), paragraph(condition(graph)), picture,
+        heading("By which contracts"), listed(CONTRACTS),
+        heading("Under which premises"), listed(PREMISES),
+        heading("What is not said"), listed(NOT_SAID),
     ]
 
 
@@ -126,34 +126,34 @@ def packet_rows(jam: Jam) -> Iterator[list[str]]:
 def counterexample(channels: Channels, jam: Jam, waiting: Sequence[str], table: str | None) -> list[Block]:
     """What the page says of a network that gets stuck, but for digests."""
     lines = [dependency.line(channels) for dependency in jam.circle]
-    picture = Picture("The circle of dependencies", GRAPH, circle_picture(channels, jam.circle))
+    picture = pictured("The circle of dependencies", GRAPH, circle_picture(channels, jam.circle))
     network = channels.network
     escape = " Nor were ranks found with the lowest channels of each class as escape channels."
-    more = [Words(f"All {len(jam.rows)} packets are in `{TRAFFIC}`.")] if SHOWN < len(jam.rows) else []
+    more = [paragraph(f"All {len(jam.rows)} packets are in `{TRAFFIC}`.")] if SHOWN < len(jam.rows) else []
     return [
-        Heading("What was found"),
-        Words(
+        heading("What was found"),
+        paragraph(
             f"The channel dependency graph has a circle of {len(jam.circle)} dependencies, so no ranks rise along all "
             f"of them.{escape if lowest(network) else ''}"
         ),
-        Words(
+        paragraph(
             f"The network does get stuck: `noc run` of the {counted(len(jam.rows), 'packet')} in `{TRAFFIC}` ends with "
             f"status 5 within its {counted(network.cycles, 'cycle')}. Packets that are due wait, and nothing "
             "happens any more."
         ),
         *network_blocks(network, table),
-        Heading("The circle, hop by hop"),
-        Words("A packet of this class and destination that holds the one channel may ask for the other:"),
-        Lines(lines), picture,
-        Heading("The smallest traffic that was found"),
-        Words(
+        heading("The circle, hop by hop"),
+        paragraph("A packet of this class and destination that holds the one channel may ask for the other:"),
+        verbatim(lines), picture,
+        heading("The smallest traffic that was found"),
+        paragraph(
             f"It has {size_of(jam.rows)}. Without any one of its packets, or with any packet a flit shorter, the run "
             "no longer gets stuck. Another traffic may be smaller still."
         ),
-        Table(["packet", *COLUMNS], list(packet_rows(jam))), *more,
-        Heading("Who waits for whom at the end"), Lines(waiting), Link("The page that plays this run", REPLAY),
-        Heading("What is proved of this"),
-        Items([
+        tabled(["packet", *COLUMNS], list(packet_rows(jam))), *more,
+        heading("Who waits for whom at the end"), verbatim(waiting), linked("The page that plays this run", REPLAY),
+        heading("What is proved of this"),
+        listed([
             "Status 5 is proved of the run: the network is stuck, and stays so until another packet is due "
             "(`answer` of `noc_answers`, `Network::stuck` of `noc_net`, `a_stuck_network_stays_stuck` of "
             "`noc_theory`).",
@@ -164,7 +164,7 @@ def counterexample(channels: Channels, jam: Jam, waiting: Sequence[str], table: 
 
 def trusted(version: dict[str, str]) -> list[Block]:
     """What is trusted."""
-    return [Heading("What is trusted"), Items([
+    return [heading("What is trusted"), listed([
         f"The Rattle kit `{version['kit']}` (`logic {version['logic']}`): its prover and compilers, what it states of "
         "C functions, and the contracts of its crates (`docs/PROVED.md`).",
         "The C library, and the operating system for what files hold.",
@@ -176,15 +176,15 @@ def trusted(version: dict[str, str]) -> list[Block]:
 def repeated(by_hand: Sequence[str]) -> list[Block]:
     """How to repeat it."""
     return [
-        Heading("How to repeat it"),
-        Words("In the folder of this page; noc-tools makes all files again and compares them byte by byte:"),
-        Lines([*by_hand, "$ sha256sum --check --quiet SHA256SUMS", "$ noc-tools certify --verify ."]),
+        heading("How to repeat it"),
+        paragraph("In the folder of this page; noc-tools makes all files again and compares them byte by byte:"),
+        verbatim([*by_hand, "$ sha256sum --check --quiet SHA256SUMS", "$ noc-tools certify --verify ."]),
     ]
 
 
 def digest_block(digests: Sequence[tuple[str, str]]) -> list[Block]:
     """The digests."""
     return [
-        Heading("Digests"), Words("SHA-256 of the program, and of the files beside this page:"),
-        Table(["", ""], [[f"`{name}`", f"`{digest}`"] for name, digest in digests]),
+        heading("Digests"), paragraph("SHA-256 of the program, and of the files beside this page:"),
+        tabled(["", ""], [[f"`{name}`", f"`{digest}`"] for name, digest in digests]),
     ]

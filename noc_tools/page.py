@@ -1,9 +1,8 @@
 """Pages that are written twice: as HTML that stands alone, and as Markdown. Words between backticks are code."""
 import re
 from collections.abc import Iterable, Sequence
-from dataclasses import dataclass
 from html import escape
-from typing import Protocol
+from typing import NamedTuple
 
 STYLE = """
   body { font: 15px/1.5 "DejaVu Sans", Arial, sans-serif; margin: 24px auto; padding: 0 16px; max-width: 1160px; }
@@ -22,122 +21,61 @@ def in_html(words: str) -> str:
     return re.sub(r"`([^`]*)`", r"<code>\1</code>", escape(words))
 
 
-class Block(Protocol):
-    """A part of a page."""
+class Block(NamedTuple):
+    """A part of a page, in both forms."""
 
-    def html(self) -> str:
-        """The part as HTML."""
-
-    def markdown(self) -> str:
-        """The part as Markdown."""
+    html: str
+    markdown: str
 
 
-@dataclass(frozen=True)
-class Heading:
+def heading(words: str) -> Block:
     """A heading."""
-
-    words: str
-
-    def html(self) -> str:
-        return f"<h2>{in_html(self.words)}</h2>"
-
-    def markdown(self) -> str:
-        return f"## {self.words}"
+    return Block(f"<h2>{in_html(words)}</h2>", f"## {words}")
 
 
-@dataclass(frozen=True)
-class Words:
+def paragraph(words: str) -> Block:
     """A paragraph."""
-
-    words: str
-
-    def html(self) -> str:
-        return f"<p>{in_html(self.words)}</p>"
-
-    def markdown(self) -> str:
-        return self.words
+    return Block(f"<p>{in_html(words)}</p>", words)
 
 
-@dataclass(frozen=True)
-class Items:
+def listed(items: Sequence[str]) -> Block:
     """A list."""
-
-    items: Sequence[str]
-
-    def html(self) -> str:
-        return "\n".join(["<ul>", *(f"<li>{in_html(item)}</li>" for item in self.items), "</ul>"])
-
-    def markdown(self) -> str:
-        return "\n".join(f"- {item}" for item in self.items)
+    lines = [f"<li>{in_html(item)}</li>" for item in items]
+    return Block("\n".join(["<ul>", *lines, "</ul>"]), "\n".join(f"- {item}" for item in items))
 
 
-@dataclass(frozen=True)
-class Table:
+def tabled(header: Sequence[str], rows: Sequence[Sequence[str]]) -> Block:
     """A table below a header."""
+    def row(cells: Sequence[str], tag: str) -> str:
+        return "<tr>" + "".join(f"<{tag}>{in_html(cell)}</{tag}>" for cell in cells) + "</tr>"
 
-    header: Sequence[str]
-    rows: Sequence[Sequence[str]]
-
-    def html(self) -> str:
-        def row(cells: Sequence[str], tag: str) -> str:
-            return "<tr>" + "".join(f"<{tag}>{in_html(cell)}</{tag}>" for cell in cells) + "</tr>"
-
-        return "\n".join(["<table>", row(self.header, "th"), *(row(cells, "td") for cells in self.rows), "</table>"])
-
-    def markdown(self) -> str:
-        lines = [self.header, ["---"] * len(self.header), *self.rows]
-        return "\n".join(f"| {' | '.join(cells)} |" for cells in lines)
+    lines = [row(header, "th"), *(row(cells, "td") for cells in rows)]
+    plain = [f"| {' | '.join(cells)} |" for cells in [header, ["---"] * len(header), *rows]]
+    return Block("\n".join(["<table>", *lines, "</table>"]), "\n".join(plain))
 
 
-@dataclass(frozen=True)
-class Lines:
+def verbatim(lines: Sequence[str]) -> Block:
     """Lines of files and commands, as they are."""
-
-    lines: Sequence[str]
-
-    def html(self) -> str:
-        return f"<pre>{escape(chr(10).join(self.lines))}</pre>"
-
-    def markdown(self) -> str:
-        return "\n".join(["```", *self.lines, "```"])
+    return Block(f"<pre>{escape(chr(10).join(lines))}</pre>", "\n".join(["```", *lines, "```"]))
 
 
-@dataclass(frozen=True)
-class Picture:
+def pictured(words: str, file: str, svg: str) -> Block:
     """A picture, which the Markdown takes from a file."""
-
-    words: str
-    file: str
-    svg: str
-
-    def html(self) -> str:
-        return f'<div class="picture">\n{self.svg}</div>'
-
-    def markdown(self) -> str:
-        return f"![{self.words}]({self.file})"
+    return Block(f'<div class="picture">\n{svg}</div>', f"![{words}]({file})")
 
 
-@dataclass(frozen=True)
-class Link:
+def linked(words: str, file: str) -> Block:
     """A link to a file beside the page."""
-
-    words: str
-    file: str
-
-    def html(self) -> str:
-        return f'<p><a href="{escape(self.file)}">{in_html(self.words)}</a></p>'
-
-    def markdown(self) -> str:
-        return f"[{self.words}]({self.file})"
+    return Block(f'<p><a href="{escape(file)}">{in_html(words)}</a></p>', f"[{words}]({file})")
 
 
 def html(title: str, blocks: Iterable[Block]) -> str:
     """A page as HTML."""
     head = f'<!DOCTYPE html>\n<html lang="en">\n<head>\n<meta charset="utf-8">\n<title>{escape(title)}</title>'
-    body = "\n".join(block.html() for block in blocks)
+    body = "\n".join(block.html for block in blocks)
     return f"{head}\n<style>{STYLE}</style>\n</head>\n<body>\n<h1>{escape(title)}</h1>\n{body}\n</body>\n</html>\n"
 
 
 def markdown(title: str, blocks: Iterable[Block]) -> str:
     """A page as Markdown."""
-    return "\n\n".join([f"# {title}", *(block.markdown() for block in blocks)]) + "\n"
+    return "\n\n".join([f"# {title}", *(block.markdown for block in blocks)]) + "\n"

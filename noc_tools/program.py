@@ -79,11 +79,17 @@ def known_digest(path: Path, changed: int) -> str:
     return digest(path)
 
 
-def program_digest() -> str:
-    """The digest of the program that runs, which a script must name."""
+def program_file() -> Path:
+    """The program that runs, which a script must name."""
     path = program()
     if is_script(path):
         raise Refused(f"{path} --which does not say which program it runs")
+    return path
+
+
+def program_digest() -> str:
+    """The digest of the program that runs."""
+    path = program_file()
     return known_digest(path, path.stat().st_mtime_ns)
 
 

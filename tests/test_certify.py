@@ -2,6 +2,7 @@
 import re
 import shutil
 import subprocess
+import sys
 import unittest
 import xml.etree.ElementTree as ET
 from unittest.mock import patch
@@ -13,7 +14,7 @@ from test_shrink import RING, minimal_adaptive
 from noc_tools import Refused, claims, dependencies
 from noc_tools.certificate import LOGIC
 from noc_tools.network import Network
-from noc_tools.page import Heading, Items, Lines, Link, Table, Words, html, markdown
+from noc_tools.page import heading, html, linked, listed, markdown, paragraph, tabled, verbatim
 from noc_tools.ranks import NoRanks, ranks_found
 from noc_tools.relation import Channels, of_network
 
@@ -159,10 +160,17 @@ class Folders(CertificateTest):
         self.assertEqual((ran.returncode, ran.stdout, ran.stderr), (3, "", "fault ranks 1 ReadFailed\n"))
         self.assertFalse(self.out.exists())
 
+    def test_a_script_that_names_no_program_is_refused(self):
+        """Its digest would not be that of the program."""
+        self.put(c=LINE)
+        environment = self.in_place_of_the_program('#!/bin/sh\nexec "$PROGRAM" "$@"\n')
+        ran = self.called([sys.executable, "noc-tools", "certify", "c", "--out", "out"], env=environment)
+        self.assertRefused(ran, "noc --which does not say which program it runs", "certify")
+
 
 class Verified(CertificateTest):
     def verify(self, **given):
-        ran = self.called(["python3", "noc-tools", "certify", "--verify", "out"], **given)
+        ran = self.called([sys.executable, "noc-tools", "certify", "--verify", "out"], **given)
         return ran.returncode, ran.stdout
 
     def look_at_each_file(self, names, parts):
@@ -273,8 +281,8 @@ class Pages(CertificateTest):
 
     def test_blocks_in_both_forms(self):
         blocks = [
-            Heading("A"), Words("see `x<y`"), Items(["one", "two"]), Table(["k", "v"], [["a", "`b`"]]),
-            Lines(["$ a < b"]), Link("there", "file"),
+            heading("A"), paragraph("see `x<y`"), listed(["one", "two"]), tabled(["k", "v"], [["a", "`b`"]]),
+            verbatim(["$ a < b"]), linked("there", "file"),
         ]
         text = markdown("T & U", blocks)
         self.assertEqual(text, (

@@ -21,7 +21,7 @@ CONFIG and the F are read many times, so they are files and no pipes.
 """
 from argparse import ArgumentParser, Namespace
 
-from ..arguments import add_table, warn
+from ..arguments import add, add_table, warn
 from ..certificate import CERTIFICATE, COUNTEREXAMPLE, Inputs, made_with_ranks, stuck, verify, write
 from ..errors import Refused
 from ..jam import jam_of_circle
@@ -29,13 +29,13 @@ from ..ranks import NoRanks
 
 
 def add_arguments(parser: ArgumentParser) -> None:
-    parser.add_argument("config", metavar="CONFIG", nargs="?", help="the configuration")
-    parser.add_argument("--out", metavar="FOLDER", help="where the certificate goes")
+    add(parser, "config CONFIG", "the configuration", nargs="?")
+    add(parser, "--out FOLDER", "where the certificate goes")
     add_table(parser)
     ranks = parser.add_mutually_exclusive_group()
-    ranks.add_argument("--ranks", metavar="F", help="a rank file; without one the ranks of the rule's formula")
-    ranks.add_argument("--find", action="store_true", help="find ranks, or a circle")
-    parser.add_argument("--verify", metavar="FOLDER", help="make the files of a folder again, and compare")
+    add(ranks, "--ranks F", "a rank file; without one the ranks of the rule's formula")
+    add(ranks, "--find", "find ranks, or a circle")
+    add(parser, "--verify FOLDER", "make the files of a folder again, and compare")
 
 
 def verified(options: Namespace) -> int:

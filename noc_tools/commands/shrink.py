@@ -13,16 +13,16 @@ CONFIG, TRAFFIC and F are read many times, so they are files and no pipes.
 from argparse import ArgumentParser, Namespace
 from pathlib import Path
 
-from ..arguments import add_config, add_table
+from ..arguments import add, add_config, add_table
 from ..jam import Jam, jam_of_circle, jam_within
 from ..traffic import traffic_text
 
 
 def add_arguments(parser: ArgumentParser) -> None:
     add_config(parser)
-    parser.add_argument("traffic", metavar="TRAFFIC", nargs="?", help="packets that get stuck")
+    add(parser, "traffic TRAFFIC", "packets that get stuck", nargs="?")
     add_table(parser)
-    parser.add_argument("--out", metavar="FILE", required=True, help="where the traffic goes that is found")
+    add(parser, "--out FILE", "where the traffic goes that is found", required=True)
 
 
 def found(options: Namespace) -> Jam:
@@ -32,8 +32,7 @@ def found(options: Namespace) -> Jam:
     return jam_within(options.config, options.traffic, options.table)
 
 
-def main(options: Namespace) -> int:
+def main(options: Namespace) -> None:
     jam = found(options)
     Path(options.out).write_text(traffic_text(jam.rows))
     print(jam.told())
-    return 0
