@@ -1,0 +1,71 @@
+-- Heads are routed as the relation permits it to their packets.
+use Rattle.std.proofs.Common.{◌≡◌, ℕ, ◌/◌, ◌^◌, ◌<◌, Bool, true, false, List, length, refl, ap₂, sym, ◌∙◌, subst}
+use Rattle.std.specs.Prelude.{◌&&◌, not, bit_or}
+use Rattle.std.proofs.lemmas.Bool.{false≢true}
+use Rattle.std.proofs.lemmas.Nat.{div_below, mod_below}
+use Rattle.noc_topo.specs.Shape.{nodes, ports}
+use Rattle.noc_packet.specs.Set.{has_bit}
+use Rattle.noc_sets.specs.Column.{RouterMarks}
+use Rattle.noc_sets.specs.Cycle.{Router, Still, packets_in, still_of}
+use Rattle.noc_sets.specs.Layout.{IsLayoutOf, Layout}
+use Rattle.noc_sets.specs.Passes.{AreOwners, lane_heads, lane_raised}
+use Rattle.noc_sets.specs.Routed.{HasRouted}
+use Rattle.noc_sets.specs.Source.{Start}
+use Rattle.noc_sets.specs.Sets.{less}
+use Rattle.noc_sets.proofs.MemberLemmas.{less_members}
+use Rattle.noc_theory.specs.Good.{IsGoodPacket, IsGoodSetup}
+use Rattle.noc_theory.specs.Network.{Setup, packet_at, size}
+use Rattle.noc_theory.specs.declared.limits.TheConstants.{CYCLE_LIMIT}
+use Rattle.noc_theory_bits.specs.Network.{ShowsRouter, permitted}
+use Rattle.noc_theory_bits.proofs.bits.KnownLemmas.{filled-known}
+use Rattle.noc_blocks.specs.Routing.{AreHeads, AreRoutable, NOTHING, packet_in, set_by, sets_by}
+use Rattle.noc_blocks.specs.declared.numbering.Numbering.{Numbering}
+use Rattle.noc_theory_blocks.specs.Channels.{IsNumbered}
+
+-- ---- packets
+pub routable : (net : Setup) → IsGoodSetup net → AreRoutable net.relation net.packets
+routable net setup = record { each = λ p l. let good : IsGoodPacket net.relation (packet_in net.packets p) = setup.packets p NOTHING l in record { class = good.class; destination = good.destination } }
+
+-- ---- heads
+both-left : (a b : Bool) → (a && b) ≡ true → a ≡ true
+both-left true b e = refl
+both-left false b e = absurd (false≢true e)
+
+-- a channel with a head has a flit
+pub head-filled : (filled others k : ℕ) → has_bit (less filled others) k ≡ true → has_bit filled k ≡ true
+head-filled filled others k e = both-left (has_bit filled k) (not (has_bit others k)) (sym (less_members filled others k) ∙ e)
+
+module _ (count : ℕ) (net : Setup) (layout : Layout) (starts : List Start) (numbering : Numbering) (n r up : ℕ) (b : Router) (setup : IsGoodSetup net) (few : n < CYCLE_LIMIT) (laid : IsLayoutOf count net.relation net.depth layout)
+    (numbered : IsNumbered (size net) net.relation.vcs numbering) (l : r < nodes net.relation.grid) (shows : ShowsRouter count net n r starts b) (ups : AreOwners (lane_raised b.links.credits b.column) b.marks.owner up) (fits : up < 2 ^ 64) where
+  abbrev still : Still
+  still = still_of layout starts n up b
+
+  known : (k : ℕ) → has_bit (lane_heads still.filled still.column) k ≡ true → (k < size net) × (packets_in layout starts n b k < length net.packets)
+  known k e = filled-known count net layout starts n r k up b setup few laid l shows ups fits (head-filled still.filled (bit_or still.column.waiting still.column.active) k e)
+
+  some-vcs : 0 < net.relation.vcs
+  some-vcs = setup.relation.table.some_vcs
+
+  port-below : (k : ℕ) → k < size net → k / net.relation.vcs < ports net.relation.grid
+  port-below k u = div_below k net.relation.vcs (ports net.relation.grid) some-vcs u
+
+  pub heads-known : AreHeads net.relation numbering net.packets (lane_heads still.filled still.column) (packets_in layout starts n b)
+  heads-known = record {
+    port = λ k e. let u = (known k e).0 in subst (λ p. p < ports net.relation.grid) (sym (numbered.port k u)) (port-below k u);
+    vc = λ k e. let u = (known k e).0 in subst (λ p. p < net.relation.vcs) (sym (numbered.vc k u)) (mod_below k net.relation.vcs some-vcs);
+    held = λ k e. (known k e).1;
+  }
+
+-- ---- routes
+module _ (net : Setup) (numbering : Numbering) (r heads wanted all : ℕ) (m w : RouterMarks) (numbered : IsNumbered (size net) net.relation.vcs numbering) where
+  same-set : (k p : ℕ) → k < size net → sets_by net.relation numbering net.packets r k p ≡ permitted net r k p
+  same-set k p l = ap₂ (λ (port vc : ℕ). set_by net.relation (packet_at net p) r port vc) (numbered.port k l) (numbered.vc k l)
+
+  pub routed-permitted : ((k : ℕ) → has_bit heads k ≡ true → k < size net) → HasRouted heads (sets_by net.relation numbering net.packets r) m w wanted all → HasRouted heads (permitted net r) m w wanted all
+  routed-permitted below routed = record {
+    each = λ k e. routed.each k e ∙ same-set k (m.packet k) (below k e);
+    wants = routed.wants;
+    still = routed.still;
+    kept = routed.kept;
+    rest = routed.rest;
+  }

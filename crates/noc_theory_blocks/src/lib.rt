@@ -1,0 +1,18 @@
+//! What the blocks of all routers make of a network. Nothing here runs.
+//!
+//! `noc_blocks` has the passes over the routers of a block, and `noc_theory_bits` what the words of
+//! all routers show of a network. `specs/` has what stands between them: the rows of what left
+//! (`Rows`), the numbering of the channels (`Channels`), and how grants are told one by one
+//! (`Tells`). The laws are the contracts of the functions here.
+#![tactic(auto)]
+
+mod heads;
+mod rows;
+mod tells;
+
+pub use heads::{heads_are_routed_as_permitted, heads_of_a_router_are_heads, packets_are_routable};
+pub use rows::{rows_bring_what_left, rows_take_the_words_of_a_block};
+pub use tells::{
+    grants_are_all_told, grants_are_told_over_links, grants_without_a_link_are_told_nobody,
+    no_grant_is_told, numbers_of_granted_channels_stay,
+};

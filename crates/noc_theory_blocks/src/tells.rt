@@ -1,0 +1,50 @@
+//! Grants are told one by one, in any order, to the routers at the other end of the links.
+
+ghost use Rattle.std.specs.Prelude.{◌≡◌, ℕ, ◌+◌, ◌*◌, ◌/◌, ◌%◌, ◌<◌, None, Option, Some};
+ghost use Rattle.noc_topo.specs.Shape.{Grid, IsGrid, neighbour, nodes, ports};
+ghost use Rattle.noc_theory.specs.Good.{IsGoodSetup};
+ghost use Rattle.noc_theory.specs.Network.{Setup, size};
+ghost use Rattle.noc_theory_bits.specs.Owners.{grants_of, told};
+ghost use Rattle.noc_theory_blocks.specs.Tells.{AreSome, AreTold, HasAdded, HasNoted};
+
+/// Before any grant is told, the numbers are what they were.
+pub fn no_grant_is_told()
+    ensures { (g : Grid) (vcs : ℕ) (packets : ℕ → ℕ → ℕ)
+        → AreTold g vcs (λ s o. None) packets packets }
+{}
+
+/// A grant is told over its link: the number of its packet is written at the other end.
+pub fn grants_are_told_over_links()
+    ensures { (g : Grid) (vcs s o k r port : ℕ) (some more : ℕ → ℕ → Option ℕ)
+        (packets now next : ℕ → ℕ → ℕ)
+        → IsGrid g → 0 < vcs → s < nodes g → neighbour g s (o / vcs) ≡ Some (r, port)
+        → HasAdded s o k some more → AreTold g vcs some packets now
+        → now s k ≡ packets s k → HasNoted r (port * vcs + o % vcs) (now s k) now next
+        → AreTold g vcs more packets next }
+{}
+
+/// Where there is no link, nobody is told.
+pub fn grants_without_a_link_are_told_nobody()
+    ensures { (g : Grid) (vcs s o k : ℕ) (some more : ℕ → ℕ → Option ℕ)
+        (packets now : ℕ → ℕ → ℕ)
+        → IsGrid g → 0 < vcs → neighbour g s (o / vcs) ≡ None
+        → HasAdded s o k some more → AreTold g vcs some packets now
+        → AreTold g vcs more packets now }
+{}
+
+/// Once all grants of the routers are told, the numbers are those that they tell.
+pub fn grants_are_all_told()
+    ensures { (g : Grid) (vcs : ℕ) (some all : ℕ → ℕ → Option ℕ) (packets now : ℕ → ℕ → ℕ)
+        → IsGrid g → 0 < vcs → AreTold g vcs some packets now
+        → ((s o : ℕ) → s < nodes g → o < ports g * vcs → some s o ≡ all s o)
+        → AreTold g vcs all packets now }
+{}
+
+/// In a network the number of a channel that has a grant stays while others are told, so it can be
+/// read at any time.
+pub fn numbers_of_granted_channels_stay()
+    ensures { (net : Setup) (n s o k : ℕ) (some : ℕ → ℕ → Option ℕ) (packets : ℕ → ℕ → ℕ)
+        → IsGoodSetup net → s < nodes net.relation.grid → o < size net
+        → grants_of net n s o ≡ Some k → AreSome (grants_of net n) some
+        → told net.relation.grid net.relation.vcs some packets s k ≡ packets s k }
+{}
