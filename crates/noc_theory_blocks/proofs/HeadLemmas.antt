@@ -1,11 +1,12 @@
 -- Heads are routed as the relation permits it to their packets.
-use Rattle.std.proofs.Common.{◌≡◌, ℕ, ◌/◌, ◌^◌, ◌<◌, Bool, true, false, List, length, refl, ap₂, sym, ◌∙◌, subst}
+use Rattle.std.proofs.Common.{◌≡◌, ℕ, ◌/◌, ◌^◌, ◌<◌, Bool, true, false, List, length, refl, ap, ap₂, sym, ◌∙◌, subst}
 use Rattle.std.specs.Prelude.{◌&&◌, not, bit_or}
 use Rattle.std.proofs.lemmas.Bool.{false≢true}
 use Rattle.std.proofs.lemmas.Nat.{div_below, mod_below}
 use Rattle.noc_topo.specs.Shape.{nodes, ports}
 use Rattle.noc_packet.specs.Set.{has_bit}
 use Rattle.noc_sets.specs.Column.{RouterMarks}
+use Rattle.noc_sets.specs.Counts.{ByVerdict}
 use Rattle.noc_sets.specs.Cycle.{Router, Still, packets_in, still_of}
 use Rattle.noc_sets.specs.Layout.{IsLayoutOf, Layout}
 use Rattle.noc_sets.specs.Passes.{AreOwners, lane_heads, lane_raised}
@@ -19,6 +20,11 @@ use Rattle.noc_theory.specs.declared.limits.TheConstants.{CYCLE_LIMIT}
 use Rattle.noc_theory_bits.specs.Network.{ShowsRouter, permitted}
 use Rattle.noc_theory_bits.proofs.bits.KnownLemmas.{filled-known}
 use Rattle.noc_blocks.specs.Routing.{AreHeads, AreRoutable, NOTHING, packet_in, set_by, sets_by}
+use Rattle.noc_lanes.specs.declared.channels.Returned.{Returned}
+use Rattle.noc_blocks.specs.Begins.{source_by}
+use Rattle.noc_blocks.specs.Turned.{IsReady, Working}
+use Rattle.noc_blocks.specs.Turning.{HasTakenAll, Lane, column_in, router_in}
+use Rattle.noc_blocks.proofs.TakenAllLemmas.{taken-still}
 use Rattle.noc_blocks.specs.declared.numbering.Numbering.{Numbering}
 use Rattle.noc_theory_blocks.specs.Channels.{IsNumbered}
 
@@ -55,6 +61,40 @@ module _ (count : ℕ) (net : Setup) (layout : Layout) (starts : List Start) (nu
     vc = λ k e. let u = (known k e).0 in subst (λ p. p < net.relation.vcs) (sym (numbered.vc k u)) (mod_below k net.relation.vcs some-vcs);
     held = λ k e. (known k e).1;
   }
+
+-- ---- of a router of a block that has taken what comes
+module _ (count : ℕ) (net : Setup) (layout : Layout) (starts : List Start) (n r : ℕ) (counts : ℕ → ByVerdict) (a s : Lane) (returned : Returned ℕ) (x : Working)
+    (setup : IsGoodSetup net) (few : n < CYCLE_LIMIT) (laid : IsLayoutOf count net.relation net.depth layout) (l : r < nodes net.relation.grid)
+    (shows : ShowsRouter count net n r starts (router_in a x.links counts)) (ready : IsReady net.relation.vcs (ports net.relation.grid) a)
+    (takes : HasTakenAll net.relation.vcs (ports net.relation.grid) layout starts n x.links a s returned x.arrived x.standing) where
+  abbrev pub lane-still : Still
+  lane-still = record { column = column_in s; marks = s.marks; ended = s.inputs.ended; filled = x.arrived.filled; source = source_by (λ y. y) s.words s.queue }
+
+  pub is-lane-still : still_of layout starts n takes.supplies.up (router_in a x.links counts) ≡ lane-still
+  is-lane-still = taken-still net.relation.vcs (ports net.relation.grid) layout starts n x.links counts a s returned x.arrived x.standing takes ready.left
+
+  pub lane-ups : AreOwners (lane_raised x.links.credits (column_in a)) a.marks.owner takes.supplies.up
+  lane-ups = subst (λ w. AreOwners w a.marks.owner takes.supplies.up) (takes.credits.raised a.inputs a.words) takes.supplies.are
+
+  -- its channels with a flit hold packets
+  pub lane-known : (i : ℕ) → has_bit x.arrived.filled i ≡ true → s.marks.packet i < length net.packets
+  lane-known i e =
+      ap-less (ap (λ (y : Still). y.marks.packet i) is-lane-still)
+      (filled-known count net layout starts n r i takes.supplies.up (router_in a x.links counts) setup few laid l shows lane-ups takes.supplies.fits
+      (ap (λ (y : Still). has_bit y.filled i) is-lane-still ∙ e)).1
+    where
+      ap-less : {p q : ℕ} → p ≡ q → p < length net.packets → q < length net.packets
+      ap-less same low = subst (λ k. k < length net.packets) same low
+
+module _ (count : ℕ) (net : Setup) (layout : Layout) (starts : List Start) (numbering : Numbering) (n r : ℕ) (counts : ℕ → ByVerdict) (a s : Lane) (returned : Returned ℕ) (x : Working)
+    (setup : IsGoodSetup net) (few : n < CYCLE_LIMIT) (laid : IsLayoutOf count net.relation net.depth layout) (numbered : IsNumbered (size net) net.relation.vcs numbering) (l : r < nodes net.relation.grid)
+    (shows : ShowsRouter count net n r starts (router_in a x.links counts)) (ready : IsReady net.relation.vcs (ports net.relation.grid) a)
+    (takes : HasTakenAll net.relation.vcs (ports net.relation.grid) layout starts n x.links a s returned x.arrived x.standing) where
+  pub standing-heads : AreHeads net.relation numbering net.packets x.standing.heads s.marks.packet
+  standing-heads =
+      subst (λ w. AreHeads net.relation numbering net.packets w s.marks.packet) (sym (takes.stands.heads s.outputs s.words))
+      (subst (λ (y : Still). AreHeads net.relation numbering net.packets (lane_heads y.filled y.column) y.marks.packet) (is-lane-still count net layout starts n r counts a s returned x setup few laid l shows ready takes)
+      (heads-known count net layout starts numbering n r takes.supplies.up (router_in a x.links counts) setup few laid numbered l shows (lane-ups count net layout starts n r counts a s returned x setup few laid l shows ready takes) takes.supplies.fits))
 
 -- ---- routes
 module _ (net : Setup) (numbering : Numbering) (r heads wanted all : ℕ) (m w : RouterMarks) (numbered : IsNumbered (size net) net.relation.vcs numbering) where

@@ -1,3 +1,4 @@
 pub mod RowLemmas
 pub mod HeadLemmas
 pub mod TellLemmas
+pub mod ArrivalLemmas

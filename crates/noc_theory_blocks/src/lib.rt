@@ -6,13 +6,18 @@
 //! (`Tells`). The laws are the contracts of the functions here.
 #![tactic(auto)]
 
+mod arrivals;
 mod heads;
 mod rows;
 mod tells;
 
-pub use heads::{heads_are_routed_as_permitted, heads_of_a_router_are_heads, packets_are_routable};
+pub use arrivals::tails_leave_channels_of_packets;
+pub use heads::{
+    heads_are_routed_as_permitted, heads_of_a_router_are_heads, packets_are_routable,
+    standing_heads_are_heads,
+};
 pub use rows::{rows_bring_what_left, rows_take_the_words_of_a_block};
 pub use tells::{
     grants_are_all_told, grants_are_told_over_links, grants_without_a_link_are_told_nobody,
-    no_grant_is_told, numbers_of_granted_channels_stay,
+    no_grant_is_told, numbers_of_granted_channels_stay, turns_grant_as_the_network,
 };

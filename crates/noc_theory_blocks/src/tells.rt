@@ -1,9 +1,14 @@
 //! Grants are told one by one, in any order, to the routers at the other end of the links.
 
-ghost use Rattle.std.specs.Prelude.{◌≡◌, ℕ, ◌+◌, ◌*◌, ◌/◌, ◌%◌, ◌<◌, None, Option, Some};
+ghost use Rattle.std.specs.Prelude.{◌≡◌, ◌⊎◌, ℕ, ◌+◌, ◌*◌, ◌/◌, ◌%◌, ◌<◌, List, None, Option, Some};
 ghost use Rattle.noc_topo.specs.Shape.{Grid, IsGrid, neighbour, nodes, ports};
+ghost use Rattle.noc_sets.specs.Cycle.{HasSlept, HasWorked, Router, Turn};
+ghost use Rattle.noc_sets.specs.Layout.{IsLayoutOf, Layout};
+ghost use Rattle.noc_sets.specs.Source.{Start};
 ghost use Rattle.noc_theory.specs.Good.{IsGoodSetup};
 ghost use Rattle.noc_theory.specs.Network.{Setup, size};
+ghost use Rattle.noc_theory.specs.declared.limits.TheConstants.{CYCLE_LIMIT};
+ghost use Rattle.noc_theory_bits.specs.Network.{ShowsRouter, permitted};
 ghost use Rattle.noc_theory_bits.specs.Owners.{grants_of, told};
 ghost use Rattle.noc_theory_blocks.specs.Tells.{AreSome, AreTold, HasAdded, HasNoted};
 
@@ -38,6 +43,17 @@ pub fn grants_are_all_told()
         → IsGrid g → 0 < vcs → AreTold g vcs some packets now
         → ((s o : ℕ) → s < nodes g → o < ports g * vcs → some s o ≡ all s o)
         → AreTold g vcs all packets now }
+{}
+
+/// What a router that shows a network grants in a cycle is what the network grants.
+pub fn turns_grant_as_the_network()
+    ensures { (count : ℕ) (net : Setup) (layout : Layout) (starts : List Start) (n r o : ℕ)
+        (b : Router) (t : Turn)
+        → IsGoodSetup net → n < CYCLE_LIMIT → IsLayoutOf count net.relation net.depth layout
+        → r < nodes net.relation.grid → o < size net → ShowsRouter count net n r starts b
+        → HasWorked (ports net.relation.grid) net.relation.vcs layout starts (permitted net r) n b t
+        ⊎ HasSlept n b t
+        → t.grants o ≡ grants_of net n r o }
 {}
 
 /// In a network the number of a channel that has a grant stays while others are told, so it can be
