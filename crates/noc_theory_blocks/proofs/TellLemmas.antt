@@ -1,11 +1,11 @@
 -- Grants are told one by one.
-use Rattle.std.proofs.Common.{◌≡◌, ◌≢◌, ℕ, ◌+◌, ◌*◌, ◌/◌, ◌%◌, ◌<◌, Option, Some, None, refl, ap, ap₂, sym, ◌∙◌, arith, inl, inr}
-use Rattle.std.specs.Prelude.{◌⊎◌}
-use Rattle.std.proofs.lemmas.Bool.{cases_eq}
+use Rattle.std.proofs.Common.{Bool, true, false, zero, suc, ◌≡◌, ◌≢◌, ℕ, ◌+◌, ◌*◌, ◌/◌, ◌%◌, ◌<◌, Option, Some, None, refl, ap, ap₂, sym, ◌∙◌, arith, inl, inr}
+use Rattle.std.specs.Prelude.{◌-◌, if◌then◌else◌, ◌⊎◌}
+use Rattle.std.proofs.lemmas.Bool.{cases_eq, false≢true}
 use Rattle.std.proofs.lemmas.Nat.{div-add-mod', div-mul-add, mod-mul-add, mod_below, mul-add-lt}
 use Rattle.std.proofs.lemmas.Option.{none-some, same_Some}
-use Rattle.noc_topo.specs.Shape.{Grid, IsGrid, neighbour, nodes, ports}
-use Rattle.noc_topo.proofs.LinkLemmas.{link_back}
+use Rattle.noc_topo.specs.Shape.{Grid, IsGrid, is_plus, neighbour, nodes, ports}
+use Rattle.noc_topo.proofs.LinkLemmas.{hop_of, link_back}
 use Rattle.noc_theory.specs.Good.{IsGoodSetup}
 use Rattle.noc_theory.specs.Network.{Setup, frozen_at, size}
 use Rattle.noc_theory_bits.specs.Owners.{grants_of, holder_at, told, told_by, told_over}
@@ -98,6 +98,25 @@ module _ (g : Grid) (vcs s o k : ℕ) (some more : ℕ → ℕ → Option ℕ) (
         by (inr d) b = elsewhere t i l u (inl d)
         by (inl a) (inr d) = elsewhere t i l u (inr d)
         by (inl a) (inl b) = ap₂ next a b ∙ noted.here ∙ stays ∙ sym told-here ∙ sym (ap₂ (λ x y. told g vcs more packets x y) a b)
+
+-- ---- the other end of a link
+module _ (g : Grid) (vcs s o r port : ℕ) (sound : IsGrid g) (vc : 0 < vcs) (link : neighbour g s (o / vcs) ≡ Some (r, port)) where
+  back-one : (p m d : ℕ) → is_plus p ≡ false → p * vcs + m ≡ d → (p - 1) * vcs + m ≡ d - vcs
+  back-one zero m d e whole = absurd (false≢true (sym e))
+  back-one (suc j) m d e whole =
+      let same : suc j - 1 ≡ j = omega arith in
+      let less_one : j * vcs + m ≡ d - vcs = omega (arith, whole) in
+      ap (λ x. x * vcs + m) same ∙ less_one
+
+  pub other-end : port * vcs + o % vcs ≡ (if is_plus (o / vcs) then o + vcs else o - vcs)
+  other-end = ap (λ q. q * vcs + o % vcs) (hop_of g s (o / vcs) r port sound link).port ∙ at (is_plus (o / vcs)) refl
+    where
+      whole : o / vcs * vcs + o % vcs ≡ o
+      whole = div-add-mod' o vcs
+
+      at : (b : Bool) → is_plus (o / vcs) ≡ b → (if b then o / vcs + 1 else o / vcs - 1) * vcs + o % vcs ≡ (if b then o + vcs else o - vcs)
+      at true e = omega (arith, whole)
+      at false e = back-one (o / vcs) (o % vcs) o e whole
 
 -- ---- all of them
 module _ (g : Grid) (vcs : ℕ) (some all : ℕ → ℕ → Option ℕ) (packets now : ℕ → ℕ → ℕ) (sound : IsGrid g) (vc : 0 < vcs) (are : AreTold g vcs some packets now)

@@ -19,5 +19,6 @@ pub use heads::{
 pub use rows::{rows_bring_what_left, rows_take_the_words_of_a_block};
 pub use tells::{
     grants_are_all_told, grants_are_told_over_links, grants_without_a_link_are_told_nobody,
-    no_grant_is_told, numbers_of_granted_channels_stay, turns_grant_as_the_network,
+    no_grant_is_told, numbers_of_granted_channels_stay, other_ends_are_one_port_away,
+    turns_grant_as_the_network,
 };

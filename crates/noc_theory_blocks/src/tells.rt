@@ -1,7 +1,7 @@
 //! Grants are told one by one, in any order, to the routers at the other end of the links.
 
-ghost use Rattle.std.specs.Prelude.{◌≡◌, ◌⊎◌, ℕ, ◌+◌, ◌*◌, ◌/◌, ◌%◌, ◌<◌, List, None, Option, Some};
-ghost use Rattle.noc_topo.specs.Shape.{Grid, IsGrid, neighbour, nodes, ports};
+ghost use Rattle.std.specs.Prelude.{◌≡◌, ◌⊎◌, ℕ, ◌+◌, ◌-◌, ◌*◌, ◌/◌, ◌%◌, ◌<◌, List, None, Option, Some, if◌then◌else◌};
+ghost use Rattle.noc_topo.specs.Shape.{Grid, IsGrid, is_plus, neighbour, nodes, ports};
 ghost use Rattle.noc_sets.specs.Cycle.{HasSlept, HasWorked, Router, Turn};
 ghost use Rattle.noc_sets.specs.Layout.{IsLayoutOf, Layout};
 ghost use Rattle.noc_sets.specs.Source.{Start};
@@ -26,6 +26,13 @@ pub fn grants_are_told_over_links()
         → HasAdded s o k some more → AreTold g vcs some packets now
         → now s k ≡ packets s k → HasNoted r (port * vcs + o % vcs) (now s k) now next
         → AreTold g vcs more packets next }
+{}
+
+/// The channel at the other end of a link is as many channels further, or back, as a port has.
+pub fn other_ends_are_one_port_away()
+    ensures { (g : Grid) (vcs s o r port : ℕ)
+        → IsGrid g → 0 < vcs → neighbour g s (o / vcs) ≡ Some (r, port)
+        → port * vcs + o % vcs ≡ (if is_plus (o / vcs) then o + vcs else o - vcs) }
 {}
 
 /// Where there is no link, nobody is told.
