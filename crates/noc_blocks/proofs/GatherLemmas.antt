@@ -1,16 +1,16 @@
 -- What the links bring to a block is what is gathered from a row.
-use Rattle.std.proofs.Common.{◌≡◌, ℕ, zero, suc, ◌+◌, ◌^◌, ◌<◌, ◌≤◌, Bool, true, false, List, [], ◌∷◌, map, refl, ap, ap₂, sym, ◌∙◌, inl, inr, bit_and, bit_or}
-use Rattle.std.specs.Prelude.{◌⊎◌, ◌&&◌, ◌||◌, slice_index}
+use Rattle.std.proofs.Common.{◌≡◌, ℕ, zero, suc, ◌+◌, ◌^◌, ◌<◌, ◌≤◌, Bool, true, false, List, [], ◌∷◌, map, refl, ap, ap₂, sym, ◌∙◌, arith, inl, inr, bit_and, bit_or}
+use Rattle.std.specs.Prelude.{◌⊎◌, ◌&&◌, ◌||◌, not, slice_index, if◌then◌else◌}
 use Rattle.std.proofs.lemmas.Bool.{cases_lt}
 use Rattle.std.proofs.lemmas.Nat.{pow_pos}
 use Rattle.noc_topo.specs.Shape.{Grid, is_plus, local_port, nodes}
 use Rattle.noc_packet.specs.Set.{has_bit}
-use Rattle.noc_packet.proofs.SetLemmas.{both_members, either_members, has_bit-above}
-use Rattle.noc_sets.specs.Gather.{from_row, gathered_row, shifted}
+use Rattle.noc_packet.proofs.SetLemmas.{both_members, either_members, has_bit-above, has_bit-zero, zero_from_none}
+use Rattle.noc_sets.specs.Gather.{from_row, gathered_row, goes_round, goes_straight, mask_where, place_round, place_straight, shifted}
 use Rattle.noc_sets.specs.Sets.{up_by}
 use Rattle.noc_sets.specs.Unions.{union_from}
 use Rattle.noc_sets.proofs.MemberLemmas.{same-word}
-use Rattle.noc_sets.proofs.UnionLemmas.{or-assoc, union-same}
+use Rattle.noc_sets.proofs.UnionLemmas.{or-none, union-same}
 use Rattle.noc_lanes.specs.Lanes.{word}
 use Rattle.noc_lanes.specs.Words.{up_within}
 use Rattle.noc_lanes.proofs.SetLemmas.{low_members}
@@ -19,14 +19,41 @@ use Rattle.noc_blocks.specs.Sides.{AreSides, brought_by, brought_from, moved_by}
 use Rattle.noc_blocks.specs.declared.links.Sides.{Sides}
 use Rattle.noc_blocks.specs.declared.links.TheConstants.{ROOM}
 
-joined-twice : (a b c : ℕ) → bit_or (bit_or a b) c ≡ bit_or a (bit_or b c)
-joined-twice a b c = same-word _ _ (λ k.
-    either_members (bit_or a b) c k ∙ ap (λ x. x || has_bit c k) (either_members a b k) ∙ or-assoc (has_bit a k) (has_bit b k) (has_bit c k)
-    ∙ ap (λ x. has_bit a k || x) (sym (either_members b c k)) ∙ sym (either_members a (bit_or b c) k))
+-- ---- words that are joined
+or-members4 : (a b c d k : ℕ) → has_bit (bit_or (bit_or a b) (bit_or c d)) k ≡ ((has_bit a k || has_bit b k) || (has_bit c k || has_bit d k))
+or-members4 a b c d k = either_members (bit_or a b) (bit_or c d) k ∙ ap₂ (λ x y. x || y) (either_members a b k) (either_members c d k)
 
--- two words are joined to what there is
-pub joined : (u a b x y z : ℕ) → y ≡ bit_or x a → z ≡ bit_or y b → x ≡ u → z ≡ bit_or u (bit_or a b)
-joined u a b x y z e f h = f ∙ ap (λ m. bit_or m b) e ∙ joined-twice x a b ∙ ap (λ m. bit_or m (bit_or a b)) h
+crossed : (a b c d : Bool) → ((a || b) || (c || d)) ≡ ((a || c) || (b || d))
+crossed true b c d = refl
+crossed false true true d = refl
+crossed false true false d = refl
+crossed false false true d = refl
+crossed false false false d = refl
+
+or-crossed : (a b c d : ℕ) → bit_or (bit_or a b) (bit_or c d) ≡ bit_or (bit_or a c) (bit_or b d)
+or-crossed a b c d = same-word _ _ (λ k. or-members4 a b c d k ∙ crossed (has_bit a k) (has_bit b k) (has_bit c k) (has_bit d k) ∙ sym (or-members4 a c b d k))
+
+pub or-zero : (a : ℕ) → bit_or a 0 ≡ a
+or-zero a = same-word _ _ (λ k. either_members a 0 k ∙ ap (λ b. has_bit a k || b) (has_bit-zero k) ∙ or-none (has_bit a k))
+
+pub zero-or : (a : ℕ) → bit_or 0 a ≡ a
+zero-or a = same-word _ _ (λ k. either_members 0 a k ∙ ap (λ b. b || has_bit a k) (has_bit-zero k))
+
+and-zero : (a : ℕ) → bit_and a 0 ≡ 0
+and-zero a = zero_from_none (bit_and a 0) (λ k. both_members a 0 k ∙ ap (λ b. has_bit a k && b) (has_bit-zero k) ∙ off (has_bit a k))
+  where
+    off : (b : Bool) → (b && false) ≡ false
+    off true = refl
+    off false = refl
+
+-- two words of each port
+both-unions : (n : ℕ) (f g : ℕ → ℕ) → bit_or (union_from 0 n f) (union_from 0 n g) ≡ union_from 0 n (λ q. bit_or (f q) (g q))
+both-unions zero f g = or-zero 0
+both-unions (suc n) f g = or-crossed (union_from 0 n f) (f n) (union_from 0 n g) (g n) ∙ ap (λ x. bit_or x (bit_or (f n) (g n))) (both-unions n f g)
+
+union-none : (n : ℕ) (f : ℕ → ℕ) → ((q : ℕ) → q < n → f q ≡ 0) → union_from 0 n f ≡ 0
+union-none zero f none = refl
+union-none (suc n) f none = ap₂ bit_or (union-none n f (λ q l. none q (omega arith))) (none n (omega arith)) ∙ or-zero 0
 
 -- among channels of a word, a shift is that of numbers
 shift-among : (w vcs word mask : ℕ) → mask < 2 ^ w → bit_and (up_within w word vcs) mask ≡ bit_and (up_by word vcs) mask
@@ -64,13 +91,33 @@ module _ {A : Type 0} (value : A → ℕ) (w : ℕ) (fits : (x : A) → value x 
   brought : (q place mask : ℕ) → mask < 2 ^ w → brought_from value w vcs (is_plus q) row place mask ≡ bit_and (shifted vcs q (slice_index (map value row) place)) mask
   brought q place mask small = moved-among w vcs q (word value place row) mask small ∙ ap (λ x. bit_and (shifted vcs q x) mask) (word-mapped value row place)
 
-  by-side : (q : ℕ) → q < local_port g → brought_by value w vcs sides row k q ≡ from_row g vcs ROOM (map value row) (first + k) q
-  by-side q u =
-      ap₂ bit_or
-      (brought q (slice_index sides.straight q + k) (by_port value sides.straight_masks k q) (word-fits value w fits _ k)
-      ∙ ap₂ (λ x m. bit_and (shifted vcs q (slice_index (map value row) x)) m) (are.straight q k u l) (are.straight_masks q k u l r))
-      (brought q (slice_index sides.round q + k) (by_port value sides.round_masks k q) (word-fits value w fits _ k)
-      ∙ ap₂ (λ x m. bit_and (shifted vcs q (slice_index (map value row) x)) m) (are.round q k u l) (are.round_masks q k u l r))
+  abbrev at-straight : ℕ → ℕ
+  at-straight q = bit_and (shifted vcs q (slice_index (map value row) (place_straight g ROOM (first + k) q))) (mask_where vcs q (goes_straight g (first + k) q))
 
-  pub gathered-is : union_from 0 (local_port g) (brought_by value w vcs sides row k) ≡ gathered_row g vcs ROOM (map value row) (first + k)
-  gathered-is = union-same (local_port g) (brought_by value w vcs sides row k) (from_row g vcs ROOM (map value row) (first + k)) by-side
+  abbrev at-round : ℕ → ℕ
+  at-round q = bit_and (shifted vcs q (slice_index (map value row) (place_round g ROOM (first + k) q))) (mask_where vcs q (goes_round g (first + k) q))
+
+  by-straight : (q : ℕ) → q < local_port g → brought_by value w vcs sides.straight row k q ≡ at-straight q
+  by-straight q u =
+      brought q (slice_index sides.straight.starts q + k) (by_port value sides.straight.masks k q) (word-fits value w fits _ k)
+      ∙ ap₂ (λ x m. bit_and (shifted vcs q (slice_index (map value row) x)) m) (are.straight q k u l) (are.straight_masks q k u l r)
+
+  by-round : (q : ℕ) → q < local_port g → brought_by value w vcs sides.round row k q ≡ at-round q
+  by-round q u =
+      brought q (slice_index sides.round.starts q + k) (by_port value sides.round.masks k q) (word-fits value w fits _ k)
+      ∙ ap₂ (λ x m. bit_and (shifted vcs q (slice_index (map value row) x)) m) (are.round q k u l) (are.round_masks q k u l r)
+
+  rings : (b : Bool) → g.wraps ≡ b → (if b then union_from 0 (local_port g) (brought_by value w vcs sides.round row k) else 0) ≡ union_from 0 (local_port g) at-round
+  rings true e = union-same (local_port g) (brought_by value w vcs sides.round row k) at-round by-round
+  rings false e = sym (union-none (local_port g) at-round (λ q u.
+      ap (λ b. bit_and (shifted vcs q (slice_index (map value row) (place_round g ROOM (first + k) q))) (mask_where vcs q (b && not (goes_straight g (first + k) q)))) e
+      ∙ and-zero (shifted vcs q (slice_index (map value row) (place_round g ROOM (first + k) q)))))
+
+  pub gathered-is : bit_or (union_from 0 (local_port g) (brought_by value w vcs sides.straight row k))
+      (if sides.closes then union_from 0 (local_port g) (brought_by value w vcs sides.round row k) else 0)
+      ≡ gathered_row g vcs ROOM (map value row) (first + k)
+  gathered-is =
+      ap₂ bit_or (union-same (local_port g) (brought_by value w vcs sides.straight row k) at-straight by-straight)
+      (rings sides.closes (sym are.closes))
+      ∙ both-unions (local_port g) at-straight at-round
+      ∙ union-same (local_port g) (λ q. bit_or (at-straight q) (at-round q)) (from_row g vcs ROOM (map value row) (first + k)) (λ q u. refl)

@@ -13,12 +13,14 @@ use Rattle.noc_sets.specs.Turns.{first_bit, in_turn}
 use Rattle.noc_sets.specs.Unions.{union_from}
 use Rattle.noc_sets.proofs.MemberLemmas.{least_below, least_is, power-members}
 use Rattle.noc_sets.proofs.TurnLemmas.{first-among, first-is}
+use Rattle.noc_sets.proofs.UnionLemmas.{union-same}
 use Rattle.noc_lanes.specs.Lanes.{word}
 use Rattle.noc_lanes.specs.Words.{up_within}
 use Rattle.noc_lanes.specs.declared.channels.Moves.{Moves}
 use Rattle.noc_blocks.specs.Ports.{by_port, digits_of}
 use Rattle.noc_blocks.specs.declared.sends.Sends.{Sends}
-use Rattle.noc_blocks.specs.Steps.{TakesMove, channel_by, channel_from}
+use Rattle.noc_blocks.specs.Steps.{TakesMove, TakesMoves, channel_by, channel_from}
+use Rattle.noc_blocks.proofs.StepLemmas.{along3}
 
 -- a word of so many bits
 pub wide : (w x : ℕ) → w ≤ 64 → x < 2 ^ w → x < 2 ^ 64
@@ -140,3 +142,18 @@ advanced-is vcs size set before after (Alone j e least) stays passes = record {
       let same : i ≡ j = eqb-true i j (sym (power-members j i) ∙ ap (λ m. has_bit m i) (sym e) ∙ has) in
       passes j k e l ∙ ap (λ m. nat_lt (m / vcs) (k / vcs)) (sym same);
 }
+
+-- ---- the moves of two routers that have the same words
+pub same-moves : (w vcs ports : ℕ) {a b s t : ℕ} {x y : List ℕ} {to of before was after is : ℕ → ℕ} {m n : Moves ℕ}
+    → a ≡ b → s ≡ t → x ≡ y → ((q : ℕ) → to q ≡ of q) → ((q : ℕ) → before q ≡ was q) → ((q : ℕ) → after q ≡ is q) → m ≡ n
+    → TakesMoves w vcs ports a s x to before after m → TakesMoves w vcs ports b t y of was is n
+same-moves w vcs ports {a} {b} {s} {t} {x} {y} {to} {of} {before} {was} {after} {is} {m} {n} picks singles vcs_same tos befores afters same moves = record {
+  moved = ap (λ (z : Moves ℕ). z.moved) (sym same) ∙ moves.moved ∙ union-same ports _ _ (λ q u. selected q);
+  out = ap (λ (z : Moves ℕ). z.out) (sym same) ∙ moves.out ∙ union-same ports _ _ (λ q u. ap₂ (λ c (d : List ℕ). of_one c (channel_by w vcs d q)) (selected q) vcs_same);
+  dry = ap (λ (z : Moves ℕ). z.dry) (sym same) ∙ moves.dry
+      ∙ union-same ports _ _ (λ q u. ap₂ (λ c (d : List ℕ). dry_by s (channel_by w vcs d q) c) (selected q) vcs_same ∙ ap (λ c. dry_by c (channel_by w vcs y q) (selected_by b of was q)) singles);
+  turns = λ q u. along3 (HasAdvanced vcs (ports * vcs)) (selected q) (befores q) (afters q) (moves.turns q u);
+}
+  where
+    selected : (q : ℕ) → selected_by a to before q ≡ selected_by b of was q
+    selected q = ap₂ first_bit (ap₂ bit_and picks (tos q)) (befores q)

@@ -1,6 +1,6 @@
 -- What the links bring to the routers of a block: where the neighbours stand in a row of the words
 -- that left all routers, and which of their channels are taken.
-use Rattle.std.specs.Prelude.{◌≡◌, ℕ, ◌+◌, ◌%◌, ◌<◌, ◌≤◌, Bool, true, false, List, bit_and, bit_or, nat_eq, slice_index}
+use Rattle.std.specs.Prelude.{◌≡◌, ℕ, ◌+◌, ◌%◌, ◌<◌, ◌≤◌, Bool, true, false, List, bit_and, nat_eq, slice_index}
 use Rattle.noc_topo.specs.Shape.{Grid, local_port, nodes}
 use Rattle.noc_sets.specs.Gather.{goes_round, goes_straight, mask_where, place_round, place_straight}
 use Rattle.noc_sets.specs.Sets.{down_by}
@@ -8,6 +8,7 @@ use Rattle.noc_lanes.specs.Lanes.{word}
 use Rattle.noc_lanes.specs.Words.{up_within}
 use Rattle.noc_lanes.specs.declared.lanes.TheConstants.{LANES}
 use Rattle.noc_blocks.specs.Ports.{by_port}
+use Rattle.noc_blocks.specs.declared.links.Side.{Side}
 use Rattle.noc_blocks.specs.declared.links.Sides.{Sides}
 use Rattle.noc_blocks.specs.declared.links.TheConstants.{ROOM, ROW}
 
@@ -20,13 +21,14 @@ pub record FitsRow (links : ℕ) (near far : List ℕ) : Type 0 where
 -- and of which channels
 pub record AreSides {A : Type 0} (value : A → ℕ) (g : Grid) (vcs first : ℕ) (sides : Sides (List A)) : Type 0 where
   pub straight : (q k : ℕ) → q < local_port g → k < LANES
-      → slice_index sides.straight q + k ≡ place_straight g ROOM (first + k) q
+      → slice_index sides.straight.starts q + k ≡ place_straight g ROOM (first + k) q
   pub round : (q k : ℕ) → q < local_port g → k < LANES
-      → slice_index sides.round q + k ≡ place_round g ROOM (first + k) q
+      → slice_index sides.round.starts q + k ≡ place_round g ROOM (first + k) q
   pub straight_masks : (q k : ℕ) → q < local_port g → k < LANES → first + k < nodes g
-      → by_port value sides.straight_masks k q ≡ mask_where vcs q (goes_straight g (first + k) q)
+      → by_port value sides.straight.masks k q ≡ mask_where vcs q (goes_straight g (first + k) q)
   pub round_masks : (q k : ℕ) → q < local_port g → k < LANES → first + k < nodes g
-      → by_port value sides.round_masks k q ≡ mask_where vcs q (goes_round g (first + k) q)
+      → by_port value sides.round.masks k q ≡ mask_where vcs q (goes_round g (first + k) q)
+  pub closes : sides.closes ≡ g.wraps
 
 -- the channels of the port at the other end, put where those of this port are, in words of w bits
 abbrev pub moved_by : ℕ → ℕ → Bool → ℕ → ℕ
@@ -37,8 +39,7 @@ moved_by w vcs false word = up_within w word vcs
 abbrev pub brought_from : {A : Type 0} → (A → ℕ) → ℕ → ℕ → Bool → List A → ℕ → ℕ → ℕ
 brought_from value w vcs down row place mask = bit_and (moved_by w vcs down (word value place row)) mask
 
--- what port q brings to router k of the block
-abbrev pub brought_by : {A : Type 0} → (A → ℕ) → ℕ → ℕ → Sides (List A) → List A → ℕ → ℕ → ℕ
-brought_by value w vcs sides row k q =
-    bit_or (brought_from value w vcs (nat_eq (q % 2) 0) row (slice_index sides.straight q + k) (by_port value sides.straight_masks k q))
-    (brought_from value w vcs (nat_eq (q % 2) 0) row (slice_index sides.round q + k) (by_port value sides.round_masks k q))
+-- what port q brings to router k of the block from one side
+abbrev pub brought_by : {A : Type 0} → (A → ℕ) → ℕ → ℕ → Side (List A) → List A → ℕ → ℕ → ℕ
+brought_by value w vcs side row k q =
+    brought_from value w vcs (nat_eq (q % 2) 0) row (slice_index side.starts q + k) (by_port value side.masks k q)

@@ -240,6 +240,7 @@ fn allocate_lane<W: Word>(
 }
 
 /// In each of these lanes the waiting channels ask, and one that asks for a channel is granted it.
+/// It is noted who is granted one and who has lost.
 pub fn allocate_all<W: Word>(
     numbering: &Numbering,
     asking: u32,
@@ -247,24 +248,21 @@ pub fn allocate_all<W: Word>(
     outputs: &mut Outputs<Lanes<W>>,
     marks: &mut [Marks<W>; LANES],
     sends: &mut Sends<Lanes<W>>,
-) -> Decided<Lanes<W>>
+    decided: &mut Decided<Lanes<W>>,
+)
     ensures here { (k : ℕ) → k < LANES → has_bit asking k ≡ true
         → HasAllotted W.bits (port_in numbering.now) (vc_in numbering.now)
         (allotment_at W.value inputs.old outputs.old marks.old sends.old k)
         (allotment_at W.value inputs.new outputs.new marks.new sends.new k)
-        (word W.value k result.granted) (word W.value k result.lost) }
+        (word W.value k decided.new.granted) (word W.value k decided.new.lost) }
     ensures others { (k : ℕ) → k < LANES → has_bit asking k ≡ false
         → IsUnallotted (allotment_at W.value inputs.old outputs.old marks.old sends.old k)
         (allotment_at W.value inputs.new outputs.new marks.new sends.new k)
-        (word W.value k result.granted) (word W.value k result.lost) }
+        (word W.value k decided.new.granted) (word W.value k decided.new.lost) }
 {
     let none = alike(W::none());
-    let mut decided = Decided {
-        granted: none,
-        lost: none,
-        released: none,
-        freed: none,
-    };
+    decided.granted = none;
+    decided.lost = none;
     let mut rest = asking;
     while !rest.is_none() {
         let lane = rest.least();
@@ -273,5 +271,4 @@ pub fn allocate_all<W: Word>(
         put(&mut decided.lost, lane, got.lost);
         rest = rest.but_lowest();
     }
-    decided
 }

@@ -19,6 +19,8 @@ pub struct Coming {
     pub beginning: u32,
     /// The last flit of a packet is injected.
     pub finishing: u32,
+    /// A flit lands or is injected.
+    pub landing: u32,
 }
 
 /// The flits that have come land, and of a packet that has begun a flit is injected where there is
@@ -47,6 +49,7 @@ pub fn take_flits<W: Word>(
 {
     let mut beginning = W::none();
     let mut finishing = W::none();
+    let mut landing = W::none();
     for j in 0..LANES {
         let flits = links.at(j);
         let had = inputs.at(j);
@@ -59,12 +62,16 @@ pub fn take_flits<W: Word>(
         let ends = lane_if(j, taken.ends);
         beginning = beginning.or(begins);
         finishing = finishing.or(ends);
+        let lands = lane_if(j, taken.landed);
+        landing = landing.or(lands);
     }
     let beginning = beginning.lanes();
     let finishing = finishing.lanes();
+    let landing = landing.lanes();
     Coming {
         beginning,
         finishing,
+        landing,
     }
 }
 
@@ -104,6 +111,7 @@ struct Taken<T> {
     source: Source<T>,
     arrived: Arrived<T>,
     ends: T,
+    landed: T,
 }
 
 // One router with these flits.
@@ -145,6 +153,7 @@ fn with_flits<W: Word>(
             begins,
         },
         ends,
+        landed,
     }
 }
 

@@ -42,7 +42,7 @@ pub use laws::{
     passes_are_a_cycle, passes_keep_the_digits, raised_channels_are_owned,
     routers_left_alone_sleep, starts_go_on, words_of_a_view_are_ready,
 };
-pub use links::{ROOM, ROW, Sides, gather};
+pub use links::{ROOM, ROW, Side, Sides, gather};
 pub use marks::{Marks, PLACES, entry, note};
 pub use moves::move_by_ports;
 pub use numbered::numbering_of;

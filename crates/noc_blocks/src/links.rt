@@ -1,11 +1,11 @@
 //! What the links bring to the routers of a block, out of rows of what has left all routers.
 
-ghost use Rattle.std.specs.Prelude.{◌≡◌, ℕ, ◌+◌, ◌<◌, ◌≤◌, bit_or, map};
+ghost use Rattle.std.specs.Prelude.{◌≡◌, ℕ, ◌+◌, ◌<◌, ◌≤◌, bit_or, map, slice_index, if◌then◌else◌};
 ghost use Rattle.noc_topo.specs.Shape.{Grid, local_port, nodes};
 ghost use Rattle.noc_sets.specs.Gather.{gathered_row};
 ghost use Rattle.noc_sets.specs.Unions.{union_from};
 ghost use Rattle.noc_lanes.specs.Lanes.{word};
-ghost use Rattle.noc_blocks.specs.Sides.{AreSides, FitsRow, brought_by, brought_from, moved_by};
+ghost use Rattle.noc_blocks.specs.Sides.{AreSides, FitsRow, brought_by, moved_by};
 
 use crate::frame::PORTS;
 use noc_lanes::{LANES, Lanes, Word, alike, at, put};
@@ -16,18 +16,25 @@ pub const ROOM: usize = 256;
 /// How many words a row has: those of 256 routers, and room at both ends.
 pub const ROW: usize = 768;
 
-/// Where the words that the links bring to a block stand in a row, by port, and of which channels
+/// Where the words of the neighbours at one distance stand in a row, by port, and of which channels
 /// they are.
 #[derive(Clone, Copy)]
+pub struct Side<T> {
+    /// By port, the place of the word of the first router's neighbour.
+    pub starts: [usize; PORTS],
+    /// By port, its channels in the routers that have such a neighbour.
+    pub masks: [T; PORTS],
+}
+
+/// Where the words that the links bring to a block stand in a row.
+#[derive(Clone, Copy)]
 pub struct Sides<T> {
-    /// The place of the word of the first router's neighbour that is one stride away.
-    pub straight: [usize; PORTS],
-    /// The place of that a span away, where a ring closes.
-    pub round: [usize; PORTS],
-    /// The channels of the port, where the neighbour is one stride away.
-    pub straight_masks: [T; PORTS],
-    /// The channels of the port, where the neighbour is a span away.
-    pub round_masks: [T; PORTS],
+    /// Of the neighbours that are one stride away.
+    pub straight: Side<T>,
+    /// Of those a span away, where a ring closes.
+    pub round: Side<T>,
+    /// Whether there are rings.
+    pub closes: bool,
 }
 
 /// What so many link ports bring to each router of a block, of `width` virtual channels each: the
@@ -42,17 +49,19 @@ pub fn gather<W: Word>(
 )
     requires width { width < W.bits }
     requires links { links ≤ PORTS }
-    requires row { FitsRow links sides.now.straight sides.now.round }
+    requires row { FitsRow links sides.now.straight.starts sides.now.round.starts }
     ensures { (g : Grid) (first k : ℕ) → AreSides W.value g width first sides.now
         → links ≡ local_port g → k < LANES → first + k < nodes g
         → word W.value k into.new
         ≡ gathered_row g width ROOM (map W.value row.now) (first + k) }
 {
-    gather_ports(width, links, sides, row, into);
+    *into = alike(W::none());
+    gather_side(width, links, &sides.straight, row, into);
+    gather_rings(width, links, sides, row, into);
 }
 
-// Port by port.
-fn gather_ports<W: Word>(
+// What the neighbours at the other end of a ring bring, where there are rings.
+fn gather_rings<W: Word>(
     width: u32,
     links: usize,
     sides: &Sides<Lanes<W>>,
@@ -61,58 +70,94 @@ fn gather_ports<W: Word>(
 )
     requires width { width < W.bits }
     requires links { links ≤ PORTS }
-    requires row { FitsRow links sides.now.straight sides.now.round }
+    requires row { FitsRow links sides.now.straight.starts sides.now.round.starts }
     ensures { (k : ℕ) → k < LANES
         → word W.value k into.new
-        ≡ union_from 0 links (brought_by W.value W.bits width sides.now row.now k) }
+        ≡ bit_or (word W.value k into.old) (if sides.now.closes then union_from 0 links
+        (brought_by W.value W.bits width sides.now.round row.now k) else 0) }
 {
-    *into = alike(W::none());
-    for port in 0..links {
-        let down = port % 2 == 0;
-        gather_side(
-            width,
-            down,
-            sides.straight[port],
-            &sides.straight_masks[port],
-            row,
-            into,
-        );
-        gather_side(
-            width,
-            down,
-            sides.round[port],
-            &sides.round_masks[port],
-            row,
-            into,
-        );
+    if sides.closes {
+        gather_side(width, links, &sides.round, row, into);
     }
 }
 
-// .. from these places on, and of these channels.
+// What the neighbours at one distance bring. (The loop over ports is unrolled where their number is
+// known.)
 fn gather_side<W: Word>(
     width: u32,
-    down: bool,
-    start: usize,
-    mask: &Lanes<W>,
+    links: usize,
+    side: &Side<Lanes<W>>,
     row: &[W; ROW],
     into: &mut Lanes<W>,
 )
     requires width { width < W.bits }
-    requires start { start + LANES ≤ ROW }
+    requires links { links ≤ PORTS }
+    requires row { (q : ℕ) → q < links → slice_index side.now.starts q + LANES ≤ ROW }
     ensures { (k : ℕ) → k < LANES
         → word W.value k into.new
         ≡ bit_or (word W.value k into.old)
-        (brought_from W.value W.bits width down row.now (start + k) (word W.value k mask.now)) }
+        (union_from 0 links (brought_by W.value W.bits width side.now row.now k)) }
+{
+    match links {
+        2 => join_side(width, links, 2, side, row, into),
+        4 => join_side(width, links, 4, side, row, into),
+        6 => join_side(width, links, 6, side, row, into),
+        count => join_side(width, links, count, side, row, into),
+    }
+}
+
+// .. lane by lane.
+#[inline(always)]
+fn join_side<W: Word>(
+    width: u32,
+    links: usize,
+    count: usize,
+    side: &Side<Lanes<W>>,
+    row: &[W; ROW],
+    into: &mut Lanes<W>,
+)
+    requires width { width < W.bits }
+    requires links { links ≤ PORTS }
+    requires count { count ≡ links }
+    requires row { (q : ℕ) → q < links → slice_index side.now.starts q + LANES ≤ ROW }
+    ensures { (k : ℕ) → k < LANES
+        → word W.value k into.new
+        ≡ bit_or (word W.value k into.old)
+        (union_from 0 links (brought_by W.value W.bits width side.now row.now k)) }
 {
     for j in 0..LANES {
-        let over = word_at(row, start + j);
-        let moved = moved(width, down, over);
-        let here = at(mask, j);
-        let comes = moved.and(here);
         let before = at(into, j);
+        let comes = brought_to(width, count, side, row, j);
         let all = before.or(comes);
         put(into, j, all);
     }
+}
+
+// .. to one router.
+#[inline(always)]
+fn brought_to<W: Word>(
+    width: u32,
+    links: usize,
+    side: &Side<Lanes<W>>,
+    row: &[W; ROW],
+    lane: usize,
+) -> W
+    requires width { width < W.bits }
+    requires links { links ≤ PORTS }
+    requires row { (q : ℕ) → q < links → slice_index side.now.starts q + LANES ≤ ROW }
+    requires lane { lane < LANES }
+    ensures { W.value result
+        ≡ union_from 0 links (brought_by W.value W.bits width side.now row.now lane) }
+{
+    let mut all = W::none();
+    for port in 0..links {
+        let over = word_at(row, side.starts[port] + lane);
+        let moved = moved(width, port % 2 == 0, over);
+        let here = at(&side.masks[port], lane);
+        let comes = moved.and(here);
+        all = all.or(comes);
+    }
+    all
 }
 
 // The channels of the port at the other end, put where those of this port are.

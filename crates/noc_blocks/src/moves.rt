@@ -15,7 +15,7 @@ ghost use Rattle.noc_blocks.specs.Steps.{TakesMove, TakesMoves, channel_from};
 use crate::frame::Frame;
 use crate::ports::Ports;
 use crate::sends::Digits;
-use noc_lanes::{LANES, Lanes, Moves, Word, alike, at, first_in_turn, put, where_some};
+use noc_lanes::{LANES, Lanes, Moves, Word, at, first_in_turn, put, where_some};
 
 /// Of each output port of each router one of the picked channels moves a flit. The pointer of the
 /// port goes on, and who takes the last credit of its output channel runs dry.
@@ -36,54 +36,82 @@ pub fn move_by_ports<W: Word>(
         (moves_by (word W.value k) moves.new) }
     ensures sends { ports.new.sends ≡ ports.old.sends }
 {
-    moves.moved = alike(W::none());
-    moves.out = alike(W::none());
-    moves.dry = alike(W::none());
-    for port in 0..frame.ports {
-        move_by_port(frame, port, picked, single, ports, moves);
+    match frame.ports {
+        3 => move_all(frame, 3, picked, single, ports, moves),
+        5 => move_all(frame, 5, picked, single, ports, moves),
+        7 => move_all(frame, 7, picked, single, ports, moves),
+        count => move_all(frame, count, picked, single, ports, moves),
     }
 }
 
-// Of one output port.
-fn move_by_port<W: Word>(
+// .. of so many ports. (The loop over ports is unrolled where their number is known.)
+#[inline(always)]
+fn move_all<W: Word>(
     frame: &Frame<W>,
-    port: usize,
+    count: usize,
     picked: &Lanes<W>,
     single: &Lanes<W>,
     ports: &mut Ports<Lanes<W>>,
     moves: &mut Moves<Lanes<W>>,
 )
     requires frame { IsFrame W.bits (frame_by W.value frame.now) }
-    requires port { port < frame.now.ports }
+    requires count { count ≡ frame.now.ports }
     ensures moves { (k : ℕ) → k < LANES
-        → TakesMove W.bits frame.now.fields.width port
-        (selected_by (word W.value k picked.now) (by_port W.value ports.old.sends.to_port k)
-        (by_port W.value ports.old.turn k) port)
-        (word W.value k single.now) (digits_of (word W.value k) ports.old.sends.vc)
-        (moves_by (word W.value k) moves.old) (moves_by (word W.value k) moves.new) }
-    ensures turn { (k : ℕ) → k < LANES
-        → HasAdvanced frame.now.fields.width (frame.now.ports * frame.now.fields.width)
-        (selected_by (word W.value k picked.now) (by_port W.value ports.old.sends.to_port k)
-        (by_port W.value ports.old.turn k) port)
-        (by_port W.value ports.old.turn k port) (by_port W.value ports.new.turn k port) }
-    ensures others { (q k : ℕ) → q ≢ port
+        → TakesMoves W.bits frame.now.fields.width frame.now.ports
+        (word W.value k picked.now) (word W.value k single.now)
+        (digits_of (word W.value k) ports.old.sends.vc)
+        (by_port W.value ports.old.sends.to_port k)
+        (by_port W.value ports.old.turn k) (by_port W.value ports.new.turn k)
+        (moves_by (word W.value k) moves.new) }
+    ensures sends { ports.new.sends ≡ ports.old.sends }
+{
+    for j in 0..LANES {
+        let candidates = at(picked, j);
+        let last = at(single, j);
+        let words = moves_of(frame, count, j, candidates, last, ports);
+        moves.put(j, words);
+    }
+}
+
+// .. of one router.
+#[inline(always)]
+fn moves_of<W: Word>(
+    frame: &Frame<W>,
+    count: usize,
+    lane: usize,
+    picked: W,
+    single: W,
+    ports: &mut Ports<Lanes<W>>,
+) -> Moves<W>
+    requires frame { IsFrame W.bits (frame_by W.value frame.now) }
+    requires count { count ≡ frame.now.ports }
+    requires lane { lane < LANES }
+    ensures moves { TakesMoves W.bits frame.now.fields.width frame.now.ports
+        (W.value picked) (W.value single)
+        (digits_of (word W.value lane) ports.old.sends.vc)
+        (by_port W.value ports.old.sends.to_port lane)
+        (by_port W.value ports.old.turn lane) (by_port W.value ports.new.turn lane)
+        (moves_by W.value result) }
+    ensures others { (q k : ℕ) → k ≢ lane
         → by_port W.value ports.new.turn k q ≡ by_port W.value ports.old.turn k q }
     ensures sends { ports.new.sends ≡ ports.old.sends }
 {
-    let first = first_of(frame, port);
-    for j in 0..LANES {
-        let candidates = at(picked, j);
-        let to_port = at(&ports.sends.to_port[port], j);
-        let requests = candidates.and(to_port);
-        let turn = at(&ports.turn[port], j);
-        let vc = ports.sends.vc.at(j);
-        let last = at(single, j);
-        let (taken, next) = taken_of(frame, first, requests, turn, vc, last);
-        put(&mut ports.turn[port], j, next);
-        let before = moves.at(j);
-        let words = with_taken(before, taken);
-        moves.put(j, words);
+    let vc = ports.sends.vc.at(lane);
+    let mut moves = Moves {
+        moved: W::none(),
+        out: W::none(),
+        dry: W::none(),
+    };
+    for port in 0..count {
+        let first = first_of(frame, port);
+        let to_port = at(&ports.sends.to_port[port], lane);
+        let requests = picked.and(to_port);
+        let turn = at(&ports.turn[port], lane);
+        let (taken, next) = taken_of(frame, first, requests, turn, vc, single);
+        put(&mut ports.turn[port], lane, next);
+        moves = with_taken(moves, taken);
     }
+    moves
 }
 
 // What the ports so far take, and one more.
@@ -179,6 +207,7 @@ fn advanced<W: Word>(frame: &Frame<W>, selected: W, turn: W) -> W
 }
 
 // The first channel of a port.
+#[inline(always)]
 fn first_of<W: Word>(frame: &Frame<W>, port: usize) -> W
     requires frame { IsFrame W.bits (frame_by W.value frame.now) }
     requires port { port < frame.now.ports }

@@ -1,11 +1,20 @@
-use Rattle.std.proofs.Common.{◌∙◌, ap}
+use Rattle.std.proofs.Common.{◌∙◌, ap, bit_or}
+use Rattle.std.specs.Prelude.{if◌then◌else◌}
 use Rattle.noc_sets.specs.Unions.{union_from}
 use Rattle.noc_blocks.specs.Sides.{brought_by}
-use Rattle.noc_blocks.proofs.GatherLemmas.{gathered-is}
+use Rattle.noc_blocks.proofs.GatherLemmas.{gathered-is, zero-or}
 use Rattle.noc_blocks.proofs.links.gather.Goals as goal
 
 pub returns : goal.returns
 returns g c = λ grid first k are same l r.
-    c.gather_ports.ensures k l
-    ∙ ap (λ n. union_from 0 n (brought_by g.W.Word.value g.W.Word.bits c.args.width c.args.sides.now c.args.row.now k)) same
-    ∙ gathered-is g.W.Word.value g.W.Word.bits g.met.W.Word.fits grid c.args.width first c.args.sides.now are c.args.row.now k l r
+    let v = g.W.Word.value in
+    let w = g.W.Word.bits in
+    let width = c.args.width in
+    let sides = c.args.sides.now in
+    let row = c.args.row.now in
+    c.gather_rings.ensures k l
+    ∙ ap (λ x. bit_or x (if sides.closes then union_from 0 c.args.links (brought_by v w width sides.round row k) else 0))
+    (c.gather_side.ensures k l ∙ ap (λ x. bit_or x (union_from 0 c.args.links (brought_by v w width sides.straight row k))) (c.alike.ensures k l ∙ c.none.ensures)
+    ∙ zero-or (union_from 0 c.args.links (brought_by v w width sides.straight row k)))
+    ∙ ap (λ n. bit_or (union_from 0 n (brought_by v w width sides.straight row k)) (if sides.closes then union_from 0 n (brought_by v w width sides.round row k) else 0)) same
+    ∙ gathered-is v w g.met.W.Word.fits grid width first sides are row k l r
