@@ -1,13 +1,16 @@
--- The allocation of output channels and of the switch of one router, on lists of requests and pointers.
+-- The allocation of output channels and of the switch of one router, on lists
+-- of requests and pointers.
 use Rattle.std.specs.Prelude.{◌≡◌, ℕ, length, ◌+◌, ◌*◌, Bool, false, ◌||◌, List, [], ◌∷◌, Option, Some, None, slice_index, slice_index_or, is_some, option_and_then, if◌then◌else◌}
 use Rattle.noc_topo.specs.Lists.{is_some_of, tabulate, map_indexed}
 use Rattle.noc_alloc.specs.Arbiter.{RoundRobin, first_in_turn, arbiter_after}
 
--- asks: for each input channel, the output channel that it asks for. The input channel that output channel o goes to
+-- asks: for each input channel, the output channel that it asks for. The input channel that
+-- output channel o goes to
 abbrev pub grant_of : List (Option ℕ) → ℕ → List ℕ → ℕ → Option ℕ
 grant_of asks size pointers o = first_in_turn size (slice_index pointers o) (λ i. is_some_of (slice_index_or asks i None) o)
 
--- ready: for each input channel that is ready, the output port of its output channel. The vc that an input port picks
+-- ready: for each input channel that is ready, the output port of its output channel. The vc
+-- that an input port picks
 abbrev pub pick_of : List (Option ℕ) → ℕ → List ℕ → ℕ → Option ℕ
 pick_of ready vcs pointers port = first_in_turn vcs (slice_index pointers port) (λ v. is_some (slice_index_or ready (port * vcs + v) None))
 

@@ -1,4 +1,5 @@
-//! The allocation of some resources to requesters, each of which asks for at most one of them (Dally and Towles, chapter 19).
+//! The allocation of some resources to requesters, each of which asks for at most one of them
+//! (Dally and Towles, chapter 19).
 //!
 //! The loops visit only requesters that ask, and resources that are granted.
 
@@ -42,7 +43,8 @@ impl Allocation {
         }
     }
 
-    /// So many requesters, of which none asks for anything, and so many resources: at most 56 of each.
+    /// So many requesters, of which none asks for anything, and so many
+    /// resources: at most 56 of each.
     pub fn clear(&mut self, requesters: usize, resources: usize)
         requires requesters { requesters ≤ INDICES }
         requires resources { resources ≤ INDICES }
@@ -61,8 +63,8 @@ impl Allocation {
         self.asks.fill(requester, resource);
     }
 
-    /// Each resource that is asked for is granted to the requester that its arbiter puts first. Each arbiter is over all
-    /// requesters.
+    /// Each resource that is asked for is granted to the requester that its arbiter puts first.
+    /// Each arbiter is over all requesters.
     pub fn grant(&mut self, arbiters: &[Arbiter])
         requires lengths { length arbiters.now ≡ length self.old.grants }
         requires sizes { All (λ (t : RoundRobin). t.size ≡ length self.old.asks) arbiters.now }
@@ -114,8 +116,8 @@ impl Allocation {
         self.asks.get(requester)
     }
 
-    /// Moves the pointer of each resource's arbiter past the requester that gets the resource. Each arbiter is over all
-    /// requesters.
+    /// Moves the pointer of each resource's arbiter past the requester that gets the resource. Each
+    /// arbiter is over all requesters.
     pub fn advance(&self, arbiters: &mut [Arbiter])
         requires lengths { length arbiters.old ≡ length self.now.grants }
         requires sizes { All (λ (t : RoundRobin). t.size ≡ length self.now.asks) arbiters.old }
@@ -130,7 +132,8 @@ impl Allocation {
     }
 }
 
-// Each resource that is asked for goes to the requester that its arbiter puts first. None goes to anybody before.
+// Each resource that is asked for goes to the requester that its arbiter puts first.
+// Before, none is granted.
 fn grant_each(asks: &Sparse, arbiters: &[Arbiter], grants: &mut Sparse)
     requires none { grants.old ≡ replicate (length arbiters.now) None }
     requires few { length arbiters.now ≤ INDICES }

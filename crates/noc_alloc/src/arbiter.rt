@@ -7,8 +7,8 @@ ghost use Rattle.noc_alloc.specs.Arbiter.{first_in_turn, nearer, arbiter_after};
 use noc_packet::{ChannelSet, INDICES};
 use std::marker::Model;
 
-/// An arbiter over 1 to 56 requesters, numbered from 0. The requester at its pointer comes first, then those behind it,
-/// and then those from 0 on.
+/// An arbiter over 1 to 56 requesters, numbered from 0. The requester at its pointer comes first,
+/// then those behind it, and then those from 0 on.
 #[derive(Clone, Copy, Debug, PartialEq, Eq)]
 pub struct Arbiter {
     size: u8,
@@ -68,8 +68,8 @@ impl Arbiter {
         first.least_common(&first)
     }
 
-    /// Of the requester that came first so far, if there is one, and a requester with a higher number, the one that comes
-    /// first. So the first of some requesters is found one by one, the least number first.
+    /// The one that comes first of two: the first so far, if there is one, and a requester with a
+    /// higher number. So requesters that are looked at by rising number leave the first of all.
     pub fn nearer(&self, held: Option<usize>, next: usize) -> usize
         ensures { result ≡ nearer self.now.pointer held next }
     {
@@ -80,7 +80,8 @@ impl Arbiter {
         }
     }
 
-    /// Moves the pointer to one past the winner, modulo the size. Without a winner it stays. The winner is below the size.
+    /// Moves the pointer to one past the winner, modulo the size. Without a winner it stays. The
+    /// winner is below the size.
     pub fn advance(&mut self, winner: Option<usize>)
         requires { IfSome winner (λ w. w < self.old.size) }
         ensures { self.new ≡ arbiter_after self.old winner }

@@ -8,9 +8,9 @@ ghost use Rattle.noc_alloc.specs.Steps.{firsts_after_request};
 
 use crate::arbiter::Arbiter;
 
-/// For each input channel `asks` has the output channel that it asks for, and `arbiters` has an arbiter over the input
-/// channels for each output channel. Each output channel that is asked for is granted to the input channel that its
-/// arbiter puts first; `grants` gets that input channel.
+/// For each input channel `asks` has the output channel that it asks for, and `arbiters` has an
+/// arbiter over the input channels for each output channel. Each output channel that is asked for
+/// is granted to the input channel that its arbiter puts first; `grants` gets that input channel.
 pub fn allocate_channels(asks: &[Option<usize>], arbiters: &[Arbiter], grants: &mut [Option<usize>])
     requires lengths { length grants.old ≡ length arbiters.now }
     requires sizes { All (λ (t : RoundRobin). t.size ≡ length asks.now) arbiters.now }
@@ -23,8 +23,8 @@ pub fn allocate_channels(asks: &[Option<usize>], arbiters: &[Arbiter], grants: &
     }
 }
 
-// Offers a requester, whose number is higher than those of all before, to the arbiter that it asks for, if there is one.
-// `held` has the requester that each arbiter puts first so far.
+// Offers a requester, whose number is higher than those of all before, to the arbiter that it asks
+// for, if there is one. `held` has the requester that each arbiter puts first so far.
 pub(crate) fn offer(
     arbiters: &[Arbiter],
     asked: Option<usize>,

@@ -1,7 +1,7 @@
 //! Sparse lists: each entry holds a value or nothing.
 //!
-//! A list keeps the set of the indices that hold a value beside the values, so clearing it is one store. There
-//! is room for 56 entries, so a list takes no memory of its own.
+//! A list keeps the set of the indices that hold a value beside the values, so clearing it is one
+//! store. There is room for 56 entries, so a list takes no memory of its own.
 
 ghost use Rattle.std.specs.Prelude.{◌≡◌, ℕ, ◌<◌, ◌≤◌, [], None, Some, is_some, length, replicate, slice_index_or, slice_set};
 ghost use Rattle.noc_packet.specs.Set.{has_bit};

@@ -10,10 +10,11 @@ use crate::arbiter::Arbiter;
 use crate::channels::offer;
 use noc_packet::ChannelSet;
 
-/// For each input channel that is ready, `ready` has the output port of its output channel; input port `port` has the
-/// input channels from `port * vcs` on. Each input port picks one of its `vcs` virtual channels that are ready, and each
-/// output port is won by one of the input ports whose pick goes to it. `picks` gets the virtual channel of each input
-/// port, and `wins` the input port of each output port.
+/// For each input channel that is ready, `ready` has the output port of its output channel; input
+/// port `port` has the input channels from `port * vcs` on. Each input port picks one of its
+/// `vcs` virtual channels that are ready, and each output port is won by one of the input ports
+/// whose pick goes to it. `picks` gets the virtual channel of each input port, and `wins` the
+/// input port of each output port.
 pub fn allocate_switch(
     ready: &[Option<usize>],
     vcs: usize,
@@ -42,8 +43,8 @@ pub fn allocate_switch(
     }
 }
 
-// The virtual channel that the arbiter of an input port puts first, of those that are ready; `first` is the index of the
-// first input channel of the port.
+// The virtual channel that the arbiter of an input port puts first, of those that are ready;
+// `first` is the index of the first input channel of the port.
 fn first_of_those_ready(ready: &[Option<usize>], first: usize, arbiter: &Arbiter) -> Option<usize>
     requires within { first + arbiter.now.size ≤ length ready.now }
     ensures within { IfSome result (λ v. v < arbiter.now.size) }
@@ -58,8 +59,8 @@ fn first_of_those_ready(ready: &[Option<usize>], first: usize, arbiter: &Arbiter
     arbiter.pick(asking)
 }
 
-/// Moves the pointers past the winners: those of the output ports that were won, and those of the input ports whose pick
-/// also won an output port.
+/// Moves the pointers past the winners: those of the output ports that were won, and those of the
+/// input ports whose pick also won an output port.
 pub fn advance_switch(
     picks: &[Option<usize>],
     wins: &[Option<usize>],

@@ -75,8 +75,8 @@ fn a_run_by_two_workers(rt: HostRuntime) -> Result<(), Fail> {
     Ok(())
 }
 
-// Its flit moves out of the first router in cycle 2 and out of the network in cycle 5. A sink that keeps nothing back hands on
-// nothing between the cycles.
+// Its flit moves out of the first router in cycle 2 and out of the network in cycle 5. A sink that
+// keeps nothing back hands on nothing between the cycles.
 #[test]
 fn a_trace_of_one_verdict(rt: HostRuntime) -> Result<(), Fail> {
     let trace = Command::Trace {

@@ -4,7 +4,7 @@ ghost use Rattle.std.specs.Prelude.{None};
 
 use noc_files::Sink;
 
-// Takes one byte a time, and no more than so many in all.
+// Takes one byte in each call, and no more than `room` in all.
 #[derive(Drop)]
 pub(crate) struct Tray {
     pub(crate) bytes: Vec<u8>,

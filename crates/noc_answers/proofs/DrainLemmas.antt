@@ -55,7 +55,8 @@ module _ (net : Setup) (limit : ℕ) where
       out zero l = (let first : look n 0 ≡ n = omega arith in ap (is_out_at net) first ∙ here)
       out (suc j) l = (let same = later n e j next in ap (is_out_at net) (sym same) ∙ none j (subst (λ x. x < limit) (sym same) l))
 
-  -- the same, where the next piece ends at a later look, and not every packet is out at the looks before
+  -- the same, where the next piece ends at a later look, and not every packet
+  -- is out at the looks before
   pub drains-over : (k n e end : ℕ) → n < limit → ((j : ℕ) → j ≤ k → is_out_at net (look n j) ≡ false) → e ≡ n + min ((k + 1) * 64) (limit - n) → DrainsBy net limit e end → DrainsBy net limit n end
   drains-over zero n e end early none is rest = drains-on n e end early (let first : n ≡ look n 0 = omega arith in ap (is_out_at net) first ∙ none 0 (omega arith)) (omega (arith, is)) rest
   drains-over (suc k) n e end early none is rest =

@@ -1,4 +1,5 @@
--- A run whose ranks were accepted is never stuck, and where it is to drain every packet has arrived.
+-- A run whose ranks were accepted is never stuck, and where it is to drain
+-- every packet has arrived.
 use Rattle.std.proofs.Common.{◌≡◌, ℕ, true, false, cond, List, Option, Some, None, Ok, Result, is_some, option_map, refl, ap, sym, ◌∙◌, subst}
 use Rattle.std.specs.Option.{IfSome}
 use Rattle.std.specs.Result.{IfOk}
@@ -69,7 +70,8 @@ run-drained a run text checked drains asks =
     let n = cycles_asked a.command asks.opens.settings in
     drained-out run.net asks.opens.network.good accepts.ranking rising n run.count (subst (λ b. RunsTo b run.net n run.count) drains asks.cycles)
 
--- a text that is asked for where a run is to drain is a report of one in which every packet has arrived
+-- a text that is asked for where a run is to drain is a report of one in which
+-- every packet has arrived
 asked-drained : (r : Request) (a : Asked) (out : List ℕ) (status : Status) (workers : ℕ) (report : Report) (text : TextValue) → a.command ≡ command.Run workers report true → ReadsAs r a
     → checked_ranks a ≡ Some text → AsksFor a out status → AsksForArrivals r out
 asked-drained r a out status workers report text is reads checked (a_report {report = of} {run = run} has asks) =

@@ -50,7 +50,8 @@ runs command.Check = false
 runs command.Ranks = false
 runs _ = true
 
--- the first fault: up to the relation, then the ranks, the traffic, the packets of the network, and the packet to be traced
+-- the first fault: up to the relation, then the ranks, the traffic, the packets of the network,
+-- and the packet to be traced
 pub data TextsFault (a : Asked) : Fault → Type 0 where
   in_settings : {f : Fault} → SettingsFault a f → TextsFault a f
   in_formula : {s : Settings} {routes : Routes} {f : RankFault} → a.command ≡ command.Ranks → AsksForRelation a s routes → IsFormulaFault s routes.grid f → TextsFault a (fault.Rank f routes.grid)
@@ -59,13 +60,15 @@ pub data TextsFault (a : Asked) : Fault → Type 0 where
   no_packet : {s : Settings} {routes : Routes} {net : Setup} {f : OptionFault} → AsksForChecked a s routes → IsNetworkOf routes s.buffer a.traffic net
       → packet_option_fault a.command (length net.packets) ≡ Some f → TextsFault a (fault.Option f)
 
--- what these texts ask for is written into a sink, or their first fault is answered and nothing is written
+-- what these texts ask for is written into a sink, or their first fault is
+-- answered and nothing is written
 abbrev pub IsAnswered : {S : Type 0} → (S → Option (List ℕ)) → (S → Bool) → S → S → Asked → Result Status Fault → Type 0
 IsAnswered contents failed old new a result = Ends (workers_of a.command) (Wrote contents failed old new) (new ≡ old) (AsksFor a) (TextsFault a) result
 
 -- ---- a request
 
--- of a joined text: that it was not read, that it has no dividing line; and then the first fault of the texts
+-- of a joined text: that it was not read, that it has no dividing line; and then the
+-- first fault of the texts
 pub data FirstFault (r : Request) : Fault → Type 0 where
   unread : {f : InputFault} → is_joined r.command ≡ true → owned_text r.config ≡ Err f → FirstFault r (fault.Joined f)
   unsplit : {text : List ℕ} → is_joined r.command ≡ true → owned_text r.config ≡ Ok text → ((i : ℕ) → i < length text → line_at text i ≡ 0) → FirstFault r (fault.Joined input.NoSplit)
@@ -93,6 +96,7 @@ AsksForArrivals r text =
     (a : Asked) × (report : Report) × (run : Run) × ReadsAs r a × (report_of a.command ≡ Some report) × AsksForRun a run × (text ≡ report_text report run)
     × (are_all_out run.net (state_at run.net run.count) ≡ true)
 
--- the fault that is told: the first one, or want of memory for what is to be written, told as that of the configuration
+-- the fault that is told: the first one, or want of memory for what is to be written, told as
+-- that of the configuration
 abbrev pub ToldFault : Request → Fault → Type 0
 ToldFault r f = FirstFault r f ⊎ (f ≡ fault.Config input.Memory)

@@ -35,7 +35,8 @@ pub data RanksFault (routes : Routes) (text : TextValue) : Fault → Type 0 wher
   bad_rows : {rows : List RankRow} {f : RankFault} → read_by (ranks_of routes.grid) text ≡ Ok rows → IsFaultOfRows routes.grid routes.vcs rows f → RanksFault routes text (fault.Rank f routes.grid)
   bad_ranks : {ranking : Ranking} {f : RankFault} → HasRanking routes text ranking → IsFaultOfCheck routes ranking f → RanksFault routes text (fault.Rank f routes.grid)
 
--- the ranks that a command checks: those of a run if there are any, and those of `check`, where none are an empty text
+-- the ranks that a command checks: those of a run if there are any, and those of `check`, for which
+-- a file that is not given counts as empty
 abbrev pub checked_by : Command → Option TextValue → Option TextValue
 checked_by Joined ranks = ranks
 checked_by (Run workers report drain) ranks = ranks

@@ -8,12 +8,14 @@ use Rattle.noc_answers.specs.declared.drain.TheConstants.{DRAIN_CHECK_INTERVAL}
 abbrev pub is_out_at : Setup → ℕ → Bool
 is_out_at net count = are_all_out net (state_at net count)
 
--- the count at look k: the first is after the cycles of the configuration, each of the others 64 cycles later
+-- the count at look k: the first is after the cycles of the configuration, each of
+-- the others 64 cycles later
 abbrev pub look : ℕ → ℕ → ℕ
 look cycles k = cycles + k * DRAIN_CHECK_INTERVAL
 
--- a run that is to drain ends after the cycles of the configuration, where its limit is not later; otherwise at the first look below
--- the limit at which every packet is out, or at the limit where there is none
+-- a run that is to drain ends after the cycles of the configuration, where its limit is not later.
+-- Otherwise it ends at the first look below the limit at which every packet is out, or at the
+-- limit where there is none
 pub data DrainsBy (net : Setup) (limit cycles : ℕ) : ℕ → Type 0 where
   at_once : limit ≤ cycles → DrainsBy net limit cycles cycles
   once_out : (k : ℕ) → look cycles k < limit → is_out_at net (look cycles k) ≡ true → ((j : ℕ) → j < k → is_out_at net (look cycles j) ≡ false) → DrainsBy net limit cycles (look cycles k)

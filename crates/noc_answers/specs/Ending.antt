@@ -22,8 +22,9 @@ abbrev pub ended : Result (Unit {0}) WriteFault → Status → Result Status Fau
 ended (Ok done) status = Ok status
 ended (Err f) status = Err (fault.Write f)
 
--- A text that is asked for was written, and this is the status with it; or writing it failed. Otherwise nothing was
--- written. Then a text is asked for, and two or more workers were refused memory or a thread; or the fault is the first one.
+-- A text that is asked for was written, and this is the status with it; or writing it failed.
+-- Otherwise nothing was written. Then a text is asked for, and two or more workers were refused
+-- memory or a thread; or the fault is the first one.
 pub data Ends (workers : ℕ) (Wrote : List ℕ → Result (Unit {0}) WriteFault → Type 0) (IsUnwritten : Type 0) (Asks : List ℕ → Status → Type 0) (IsFirst : Fault → Type 0)
     : Result Status Fault → Type 0 where
   in_full : {text : List ℕ} {status : Status} → Asks text status → Wrote text (Ok tt) → Ends workers Wrote IsUnwritten Asks IsFirst (Ok status)

@@ -22,7 +22,8 @@ table_fault name has_table = if has_table && not (is_table name) then Some Spare
 abbrev pub trace_of : Option ℕ → Option ℕ → Traced → Command
 trace_of from to traced = Trace from to traced.router traced.packet traced.verdicts traced.changes
 
--- the cycles between which a trace is: from the first to the last of the configuration, where they are not given
+-- the cycles between which a trace is: from the first to the last of the configuration,
+-- where they are not given
 abbrev pub first_cycle : Option ℕ → ℕ
 first_cycle from = unwrap_or from 0
 
@@ -52,7 +53,8 @@ abbrev pub router_fault : Grid → Option ℕ → Option OptionFault
 router_fault g None = None
 router_fault g (Some router) = if nat_le (nodes g) router then Some BadRouter else None
 
--- the first fault of the options that is looked for after the shape: more workers than routers, or a router that does not exist
+-- the first fault of the options that is looked for after the shape: more workers than routers, or
+-- a router that does not exist
 abbrev pub late_fault : Command → Grid → Option OptionFault
 late_fault (Run workers report drain) g = if nat_lt (nodes g) workers then Some BadWorkers else None
 late_fault (Explain cycle router) g = router_fault g (Some router)

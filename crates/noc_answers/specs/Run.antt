@@ -30,7 +30,8 @@ report_of command.Joined = Some Latency
 report_of (command.Run workers report drain) = Some report
 report_of _ = None
 
--- how many cycles are run at least: those of the configuration, or up to the one that is to be explained, or traced last
+-- how many cycles are run at least: those of the configuration, or up to the one that is to be
+-- explained, or traced last
 abbrev pub cycles_asked : Command → Settings → ℕ
 cycles_asked (command.Explain cycle router) s = cycle + 1
 cycles_asked (command.Trace from to router packet verdicts changes) s = last_cycle to s.cycles + 1
@@ -49,7 +50,8 @@ pub record IsNetworkOf (routes : Routes) (depth : ℕ) (traffic : TextValue) (ne
   pub sound : fault_of routes net.packets ≡ None
   pub good : IsGoodSetup net
 
--- why no network is made of packets: this is their first fault, or memory was refused where they have none
+-- why no network is made of packets: this is their first fault, or memory was
+-- refused where they have none
 abbrev pub IsUnmade : Routes → List Packet → NetFault → Type 0
 IsUnmade routes packets f = (fault_of routes packets ≡ Some f) ⊎ ((f ≡ net.Memory) × (fault_of routes packets ≡ None))
 

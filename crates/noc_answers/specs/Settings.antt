@@ -1,4 +1,5 @@
--- What is asked for before ranks and traffic are looked at: a configuration with its options, its shape and its routing relation.
+-- What is asked for before ranks and traffic are looked at: a configuration with its options, its
+-- shape and its routing relation.
 use Rattle.std.specs.Prelude.{◌≡◌, Option, Some, None, Ok, Err, Vec, is_some}
 use Rattle.std.specs.declared.alloc.Global.{Global}
 use Rattle.noc_topo.specs.Shape.{Grid, shape_of}
@@ -42,7 +43,8 @@ pub data IsRuleOf (table : Option TextValue) (g : Grid) : RuleName → Rule → 
 pub data RefusesTable (table : Option TextValue) (g : Grid) : RuleName → Fault → Type 0 where
   bad_table : {text : TextValue} {f : InputFault} → table ≡ Some text → IsUnread (table_of g) text f → RefusesTable table g word.Table (fault.Table f)
 
--- the routing relation of that rule on that shape, with the channels and the classes of the settings
+-- the routing relation of that rule on that shape, with the channels and
+-- the classes of the settings
 pub record AsksForRelation (a : Asked) (s : Settings) (routes : Routes) : Type 0 where
   pub grid : Grid
   pub shape : AsksForShape a s grid
@@ -50,7 +52,8 @@ pub record AsksForRelation (a : Asked) (s : Settings) (routes : Routes) : Type 0
   pub rule : IsRuleOf a.table grid s.rule routing
   pub relation : IsRelationOfRule (routing_of grid s.channels s.classes routing) routes
 
--- the first fault: the configuration, the options, the shape, the options once more, the table, the relation
+-- the first fault: the configuration, the options, the shape, the options once
+-- more, the table, the relation
 pub data SettingsFault (a : Asked) : Fault → Type 0 where
   bad_config : {f : InputFault} → IsUnread config_of a.config f → SettingsFault a (fault.Config f)
   bad_option : {s : Settings} {f : OptionFault} → read_by config_of a.config ≡ Ok s → early_fault a.command (is_some a.table) s ≡ Some f → SettingsFault a (fault.Option f)

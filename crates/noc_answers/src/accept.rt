@@ -21,7 +21,8 @@ use noc_topo::Shape;
 use std::alloc::Global;
 use std::thread::Threads;
 
-// Writes `accepted`, if the ranks of the rank file rise along the relation. No rank file is an empty one.
+// Writes `accepted`, if the ranks of the rank file rise along the relation. Where none is
+// given, it counts as empty.
 pub(crate) fn answer_check<W: Sink>(
     rt: &(impl Threads + Sync),
     alloc: Global,
@@ -50,7 +51,8 @@ pub(crate) fn checked_relation(
     Ok((config, relation))
 }
 
-// The ranks that are checked: those of a run if there are any, and those of `check`, where none are an empty text.
+// The ranks that are checked: those of a run if there are any, and those of `check`, for which a
+// file that is not given counts as empty.
 fn checked_ranks<'a>(files: &Files<'a>) -> Option<Bytes<'a>>
     ensures { option_map lent_text result ≡ checked_ranks (lent_files files.now) }
 {
@@ -61,8 +63,8 @@ fn checked_ranks<'a>(files: &Files<'a>) -> Option<Bytes<'a>>
     }
 }
 
-// Whether the ranks of a rank file rise along a relation, if there is one: the first fault of the file, of its rows, or of
-// the check.
+// Whether the ranks of a rank file rise along a relation, if there is one: the first fault of the
+// file, of its rows, or of the check.
 fn accept_if_given(
     rt: &(impl Threads + Sync),
     alloc: Global,

@@ -21,14 +21,16 @@ use std::alloc::Global;
 use std::sync::Wait;
 use std::thread::Threads;
 
-/// Writes the report that is asked for, or answers the first fault, with nothing written before it but the bytes that a
-/// write fault counts. The order is: joined text, configuration, options, shape, table, relation, ranks, check, traffic,
-/// network, packet to be traced, run, report. `explain`, `trace` and `ranks` look at no rank file, `check` and `ranks` at no traffic.
+/// Writes the report that is asked for, or answers the first fault, with nothing written before it
+/// but the bytes that a write fault counts. The order is: joined text, configuration, options,
+/// shape, table, relation, ranks, check, traffic, network, packet to be traced, run, report.
+/// `explain`, `trace` and `ranks` look at no rank file, `check` and `ranks` at no traffic.
 ///
-/// A `run` with a rank file that ends without a fault is done, and never stuck. Where it is to drain, every packet has arrived.
+/// A `run` with a rank file that ends without a fault is done, and never stuck. Where it is to
+/// drain, every packet has arrived.
 ///
-/// A `run` by two or more workers starts threads only where the network does not fit rows (`Network::fits_rows`). Workers
-/// change no report.
+/// A `run` by two or more workers starts threads only where the network does not fit rows
+/// (`Network::fits_rows`). Workers change no report.
 pub fn answer<R: Threads + Wait + Sync, W: Sink>(
     rt: &R,
     alloc: Global,

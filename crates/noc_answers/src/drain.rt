@@ -104,8 +104,9 @@ pub(crate) fn run_stretches<R: Threads + Wait + Sync>(
     Ok(network)
 }
 
-// Runs a stretch of cycles by workers. The caller runs it alone, and no thread is started, where the network fits rows,
-// since one thread runs rows faster than several run routers, and where nothing happened in the last cycle, since its time jumps.
+// Runs a stretch of cycles by workers. The caller runs it alone, and no thread is started, where
+// the network fits rows, since one thread runs rows faster than several run routers. It does so too
+// where nothing happened in the last cycle, since its time jumps.
 fn run_stretch<R: Threads + Wait + Sync>(
     rt: &R,
     alloc: Global,

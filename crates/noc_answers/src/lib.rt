@@ -1,5 +1,5 @@
-//! From the texts of a request to the bytes of its answer: the routing relation is made, ranks are checked, the network is run, and
-//! what is asked for is written.
+//! From the texts of a request to the bytes of its answer: the routing relation is made, ranks are
+//! checked, the network is run, and what is asked for is written.
 #![tactic(auto)]
 
 mod accept;

@@ -12,8 +12,8 @@ pub type Text = Result<Vec<u8>, InputFault>;
 // The bytes of one file, lent, or the fault of reading it.
 pub(crate) type Bytes<'a> = Result<&'a [u8], InputFault>;
 
-/// A command with the texts of its files: the configuration, or a joined text; a routing table; ranks; traffic. A command that looks
-/// at no traffic takes any text there.
+/// A command with the texts of its files: the configuration, or a joined text; a routing table;
+/// ranks; traffic. A command that looks at no traffic takes any text there.
 #[derive(Drop)]
 pub struct Request {
     pub config: Text,

@@ -44,9 +44,10 @@ pub(crate) fn run<W: Sink>(
     ended(write_report(&network, report, sink), ending(&network))
 }
 
-// Runs the network by two or more workers for its cycles, and writes a report; ranks are checked before, if there are any.
-// Only a network that does not fit rows is run in threads. What is left to drain is run by the caller alone: to start threads
-// for each look whether every packet is out takes longer.
+// Runs the network by two or more workers for its cycles, and writes a report; ranks are
+// checked before, if there are any. Only a network that does not fit rows is run in threads.
+// What is left to drain is run by the caller alone: to start threads for each look whether
+// every packet is out takes longer.
 pub(crate) fn run_by_workers<R: Threads + Wait + Sync, W: Sink>(
     rt: &R,
     alloc: Global,
@@ -72,7 +73,8 @@ pub(crate) fn run_by_workers<R: Threads + Wait + Sync, W: Sink>(
     }
 }
 
-// The network before its first cycle, and the cycles of the configuration, once the ranks are checked at which the command looks.
+// The network before its first cycle, and the cycles of the configuration, once the ranks are
+// checked at which the command looks.
 pub(crate) fn opening_network(
     rt: &(impl Threads + Sync),
     alloc: Global,
@@ -89,7 +91,8 @@ pub(crate) fn opening_network(
     Ok((network, config.cycles))
 }
 
-// The network of a relation and a traffic text, before its first cycle, with buffers of `depth` (1 to 16) flits.
+// The network of a relation and a traffic text, before its first cycle, with buffers of
+// `depth` (1 to 16) flits.
 fn network_of(
     alloc: Global,
     relation: Relation,

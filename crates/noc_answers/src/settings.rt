@@ -24,8 +24,8 @@ struct Layout {
     shape: Shape,
 }
 
-// The configuration and the routing relation that are asked for, or the first fault: configuration, options, shape,
-// table, relation.
+// The configuration and the routing relation that are asked for, or the first fault: configuration,
+// options, shape, table, relation.
 pub(crate) fn relation_of(alloc: Global, files: &Files<'_>) -> Result<(Config, Relation), Fault>
     ensures limits { IfOk result (λ r. KeepsLimits r.0) }
     ensures relation { IfOk result (λ r. AsksForRelation (lent_files files.now) (settings r.0) r.1) }
@@ -70,8 +70,8 @@ fn config_in(alloc: Global, text: Bytes<'_>) -> Result<Config, InputFault>
     read_config(alloc, text?)
 }
 
-// The first fault of the options that is looked for before the shape: a table file beside another rule, or none beside the
-// rule `table`; then a cycle or a span that is not of the run.
+// The first fault of the options that is looked for before the shape. It is of a table file beside
+// another rule, or none beside the rule `table`; then a cycle or a span that is not of the run.
 fn early_fault(command: Command, has_table: bool, config: &Config) -> Option<OptionFault>
     ensures { result ≡ early_fault command has_table (settings config.now) }
 {
@@ -107,7 +107,8 @@ pub(crate) fn last_cycle(to: Option<u64>, cycles: u64) -> u64
     to.unwrap_or(cycles.saturating_sub(1))
 }
 
-// The fault of more workers than routers, or of a router to be explained or traced that does not exist.
+// The fault of more workers than routers, or of a router to be explained or
+// traced that does not exist.
 fn late_fault(command: Command, shape: &Shape) -> Option<OptionFault>
     ensures { result ≡ late_fault command shape.now }
 {

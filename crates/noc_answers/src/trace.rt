@@ -18,7 +18,8 @@ use noc_net::{NetFault, Network};
 use std::alloc::Global;
 use std::thread::Threads;
 
-// Runs the network up to the first cycle of a span, and then cycle by cycle, and writes what its input channels did in each.
+// Runs the network up to the first cycle of a span, and then cycle by cycle, and writes what its
+// input channels did in each.
 pub(crate) fn trace<W: Sink>(
     rt: &(impl Threads + Sync),
     alloc: Global,

@@ -23,13 +23,15 @@ use Rattle.noc_cli.specs.declared.args.Args.{Args}
 abbrev pub IsNumber : List ℕ → Type 0
 IsNumber text = IsNumeral 10 (without_leading_plus text) × (digits_value 10 (without_leading_plus text) < 2 ^ 64)
 
--- the number that an argument says, and the other one where there is no argument. (An argument that is no number stands for the other one too, so that
--- this holds of some number whatever is found; `clap`'s rules refuse such an argument before anything is asked for.)
+-- the number that an argument says, and the other one where there is no argument. (An argument that
+-- is no number stands for the other one too, so that this holds of some number whatever is found;
+-- `clap`'s rules refuse such an argument before anything is asked for.)
 abbrev pub IsSaid : Option (List ℕ) → ℕ → ℕ → Type 0
 IsSaid None other n = n ≡ other
 IsSaid (Some text) other n = (IsNumber text × (n ≡ digits_value 10 (without_leading_plus text))) ⊎ ((IsNumber text → ⊥) × (n ≡ other))
 
--- the number that an argument says, if there is an argument and it is a number (no other argument comes through `clap`'s rules)
+-- the number that an argument says, if there is an argument and it is a number (no other argument
+-- comes through `clap`'s rules)
 abbrev pub IsSaidIfAny : Option (List ℕ) → Option ℕ → Type 0
 IsSaidIfAny None n = n ≡ None
 IsSaidIfAny (Some text) (Some n) = IsNumber text × (n ≡ digits_value 10 (without_leading_plus text))
@@ -76,7 +78,8 @@ IsCommand found name (Trace from to router packet verdicts changes) = (name ≡ 
 IsCommand found name Check = name ≡ codes "check"
 IsCommand found name Ranks = name ≡ codes "ranks"
 
--- no command has the name, or it is `run` with no worker or more than MAX_WORKERS, or `trace` with what names no verdicts
+-- no command has the name, or it is `run` with no worker or more than MAX_WORKERS, or `trace`
+-- with what names no verdicts
 abbrev pub IsNoCommand : Found → Text → Type 0
 IsNoCommand found name = ((name ≡ codes "run") × ((n : ℕ) × SaysWorkers found n × ((n < 1) ⊎ (MAX_WORKERS < n))))
     ⊎ (((name ≡ codes "trace") × AreNoVerdicts (first_value found (codes "verdict")))
@@ -97,7 +100,8 @@ pub record IsRequestIn (met : Option (Text × List Row)) (args : Args) : Type 0 
   pub command : IsCommand found name args.command
   pub files : NamesFiles found args
 
--- no command was met among arguments, or it asks for no worker or for more than MAX_WORKERS, or for what is no verdict: what is told of that
+-- no command was met among arguments, or it asks for no worker or for more than MAX_WORKERS, or for
+-- what is no verdict: what is told of that
 abbrev pub IsNoRequest : Option (Text × List Row) → ErrorKind → Type 0
 IsNoRequest None kind = kind ≡ MissingSubcommand
 IsNoRequest (Some met) kind = (found : Found) × (met.1 ≡ rows_of found) × IsNoCommand found met.0 × (kind ≡ ValueValidation)
@@ -106,7 +110,8 @@ IsNoRequest (Some met) kind = (found : Found) × (met.1 ≡ rows_of found) × Is
 abbrev pub IsAskedBy : List Text → Args → Type 0
 IsAskedBy texts args = (names : ValueParser) × TakesReports names × IsRequestIn (subcommand_of (command_line names) texts) args
 
--- why the arguments are refused: memory ran out; clap's rules find this fault in them, or a request for help; they make no request
+-- why the arguments are refused: memory ran out; clap's rules find this fault in them, or a request
+-- for help; they make no request
 pub data IsRefusal (texts : List Text) (error : Error) : Type 0 where
   no_memory : kind_of error ≡ OutOfMemory → IsRefusal texts error
   by_rules : (names : ValueParser) → TakesReports names → IsAmong (kind_of error) (fault_of (command_line names) texts) → IsRefusal texts error

@@ -98,7 +98,8 @@ const WORKERS_HELP: &str =
 
 const TABLE_HELP: &str = "The routing table (CSV) of the rule 'table'";
 
-/// The arguments behind the program's name, which is the first argument, or clap's text on why they make no sense.
+/// The arguments behind the program's name, which is the first argument, or clap's text
+/// on why they make no sense.
 pub fn read_args<'a>(alloc: Global, args: &'a [String]) -> Result<Args<'a>, Error>
     ensures workers { IfOk result (λ asked. HasWorkers asked.command) }
     ensures said { IfOk result (IsAskedBy (map string_bytes args.entry.now)) }

@@ -1,4 +1,5 @@
-//! The arguments of the command line: the commands that they ask for, with the files that they name.
+//! The arguments of the command line: the commands that they ask for, with
+//! the files that they name.
 #![tactic(auto)]
 
 mod args;

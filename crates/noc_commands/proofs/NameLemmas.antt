@@ -73,7 +73,8 @@ first_name v names last =
 
 -- ---- names that are read one after the other
 
--- a text begins with names, each with a comma behind it, which are those of a set; and where the text is made of names, so is the rest
+-- a text begins with names, each with a comma behind it, which are those of a set; and where the
+-- text is made of names, so is the rest
 pub record IsRead (text rest : List ℕ) (set : VerdictSet) : Type 0 where
   pub first : List Verdict
   pub front : text ≡ flat_map name_and_comma first ++ rest

@@ -11,8 +11,8 @@ pub const MAX_WORKERS: usize = 16;
 pub enum Command {
     /// The latency report of a joined text.
     Joined,
-    /// A report of a run by 1 to `MAX_WORKERS` workers. The ranks are checked before it, if there are any. It may go on until every
-    /// packet is out, or to the network's limit.
+    /// A report of a run by 1 to `MAX_WORKERS` workers. The ranks are checked before it, if there
+    /// are any. It may go on until every packet is out, or to the network's limit.
     Run {
         workers: usize,
         report: Report,
@@ -35,10 +35,11 @@ pub enum Command {
         packet: Option<u64>,
         /// The lines with these verdicts, or all.
         verdicts: Option<VerdictSet>,
-        /// Only what is another thing than was told of the channel in the cycle before.
+        /// Only lines that tell something else of the channel than the cycle before did.
         changes: bool,
     },
-    /// Whether the ranks rise along the routing relation. No ranks are an empty text.
+    /// Whether the ranks rise along the routing relation. A rank file that is
+    /// not given counts as empty.
     Check,
     /// The ranks by formula of the routing rule.
     Ranks,

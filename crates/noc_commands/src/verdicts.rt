@@ -16,8 +16,8 @@ pub struct VerdictSet {
 }
 
 impl VerdictSet {
-    /// The verdicts that a text names, by their names in a trace with a comma between. A name that is
-    /// there twice counts once.
+    /// The verdicts that a text names, by their names in a trace with a comma between. A name that
+    /// is there twice counts once.
     pub fn named(text: &str) -> Option<VerdictSet>
         ensures some { IfSome result (Names text.now) }
         ensures none { IfNone result (NamesNone text.now) }

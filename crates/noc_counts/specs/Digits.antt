@@ -25,8 +25,8 @@ abbrev pub carried_at : Option (List ℕ) → ℕ → ℕ → ℕ
 carried_at None j k = 0
 carried_at (Some sets) j k = one_at sets j k
 
--- a row of so many kinds for each channel, of which there are no more than a set has indices; with f j k more of kind j for
--- channel k no count passes 64 bits
+-- a row of so many kinds for each channel, of which there are no more than a set has indices. With
+-- f j k more of kind j for channel k no count passes 64 bits
 pub record AreRows (kinds : ℕ) (f : ℕ → ℕ → ℕ) (counts : List (List ℕ)) : Type 0 where
   pub narrow : kinds ≤ 64
   pub few : length counts ≤ INDICES

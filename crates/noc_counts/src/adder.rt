@@ -8,7 +8,8 @@ ghost use Rattle.noc_topo.specs.Lists.{one_if};
 
 use noc_packet::{ChannelSet, INDICES};
 
-// Three sets added: the channels that are in one or three of them, and those that are in two or three.
+// Three sets added: the channels that are in one or three of them, and those
+// that are in two or three.
 #[inline(always)]
 pub(crate) fn full_adder(a: ChannelSet, b: ChannelSet, c: ChannelSet) -> (ChannelSet, ChannelSet)
     ensures { (k : ℕ) → one_if (has_bit result.0 k) + 2 * one_if (has_bit result.1 k) ≡ one_if (has_bit a k) + one_if (has_bit b k) + one_if (has_bit c k) }

@@ -6,7 +6,7 @@ ghost use Rattle.noc_packet.specs.declared.limits.TheConstants.{INDICES};
 use crate::digit::Digit;
 use noc_packet::{ChannelSet, INDICES};
 
-/// For each kind and channel a count of three digits to the base 8.
+/// For each kind and channel a count of three digits to the base 8: units, eights and sixty-fours.
 #[derive(Clone, Copy)]
 pub(crate) struct Counters<const KINDS: usize> {
     units: Digit<KINDS>,
@@ -29,8 +29,8 @@ impl<const KINDS: usize> Counters<KINDS> {
         }
     }
 
-    // One more of each kind for each member of its set. The answer is the sets of those to whom 512 more come than they
-    // count now, where there are any.
+    // One more of each kind for each member of its set. The answer is the sets of those that are
+    // owed 512 beyond what they count now, if there are any.
     #[inline(always)]
     pub(crate) fn add(&mut self, sets: &[ChannelSet; KINDS]) -> Option<[ChannelSet; KINDS]>
         ensures { (j k : ℕ) → j < KINDS → count_at self.new j k + 512 * carried_at result j k ≡ count_at self.old j k + one_at sets.now j k }

@@ -1,10 +1,10 @@
 //! The counts of all channels.
 //!
-//! A count of three digits to the base 8 stands for each kind and channel, each bit of a digit as a set of
-//! channels. The sets of a cycle are only kept. Every eighth cycle those of eight cycles are added at once, for
-//! all kinds and channels by the same operations on words, and the carry is kept for the next digit in the
-//! same way. Every 512th counted cycle the carries go into counts of 64 bits. A reader adds up what is written
-//! down, the digits and what is kept.
+//! A count of three digits to the base 8 stands for each kind and channel, each bit of a digit as a
+//! set of channels. The sets of a cycle are only kept. Every eighth cycle those of eight cycles are
+//! added at once, for all kinds and channels by the same operations on words, and the carry is kept
+//! for the next digit in the same way. Every 512th counted cycle the carries go into counts of 64
+//! bits. A reader adds up what is written down, the digits and what is kept.
 
 ghost use Rattle.std.specs.Prelude.{◌≡◌, ℕ, ◌+◌, ◌*◌, ◌^◌, ◌<◌, ◌≤◌, IfOk, [], length, replicate, slice_index, slice_index_or};
 ghost use Rattle.noc_packet.specs.declared.limits.TheConstants.{INDICES};
@@ -17,7 +17,8 @@ use noc_packet::{ChannelSet, INDICES, Memory};
 use std::alloc::Global;
 use std::marker::Model;
 
-/// For each channel, 0 to 55, in how many cycles it was in the set of each kind. `KINDS` is how many kinds there are.
+/// For each channel, 0 to 55, in how many cycles it was in the set of each kind. `KINDS` is
+/// how many kinds there are.
 #[derive(Drop)]
 pub struct Counts<const KINDS: usize> {
     // What is not written down yet.
@@ -39,7 +40,8 @@ impl<const KINDS: usize> Model for Counts<KINDS> {
 }
 
 impl<const KINDS: usize> Counts<KINDS> {
-    /// No counts yet, of so many channels (0 to 56) and at most 64 kinds. The error is that memory is refused.
+    /// No counts yet, of so many channels (0 to 56) and at most 64 kinds. The error
+    /// is that memory is refused.
     pub fn new(alloc: Global, size: usize) -> Result<Counts<KINDS>, Memory>
         requires kinds { KINDS ≤ 64 }
         requires size { size ≤ INDICES }

@@ -10,7 +10,8 @@ use noc_packet::{ChannelSet, INDICES};
 // How many cycles are kept before they are added.
 const KEPT: usize = 7;
 
-/// For each kind and channel a number, 0 to 7: of each of its bits the channels whose number has it.
+/// A number, 0 to 7, for each kind and channel, kept as sets: for each bit the
+/// channels whose number has it.
 #[derive(Clone, Copy)]
 pub(crate) struct Bits<const KINDS: usize> {
     ones: [ChannelSet; KINDS],
@@ -27,8 +28,8 @@ impl<const KINDS: usize> Bits<KINDS> {
     ghost use Rattle.noc_topo.specs.Lists.{one_if};
     ghost use Rattle.noc_counts.specs.Digits.{added_at};
 
-    // The sets of seven cycles and one more set are added to the numbers of one kind. The answer is the channels whose
-    // number went past 7.
+    // The sets of seven cycles and one more set are added to the numbers of one kind. The answer is
+    // the channels whose number went past 7.
     #[inline(always)]
     fn add(
         &mut self,
@@ -56,10 +57,11 @@ impl<const KINDS: usize> Bits<KINDS> {
     }
 }
 
-/// For each kind and channel one digit, 0 to 7, of a count, and the sets of up to seven cycles that are still to be added
-/// to it.
+/// For each kind and channel one digit, 0 to 7, of a count, and the sets of up to seven cycles that
+/// are still to be added to it.
 ///
-/// The sets of eight cycles are added at once, by a few operations on words and with no branch for what they hold.
+/// The sets of eight cycles are added at once, by a few operations on words and with no
+/// branch for what they hold.
 #[derive(Clone, Copy)]
 pub(crate) struct Digit<const KINDS: usize> {
     recent: [[ChannelSet; KINDS]; KEPT],
@@ -90,8 +92,8 @@ impl<const KINDS: usize> Digit<KINDS> {
         }
     }
 
-    // One more of each kind for each member of its set. The answer is the sets of those whose digit went past 7, where
-    // there are any.
+    // One more of each kind for each member of its set. The answer is the sets of those that are
+    // owed 8 beyond their digit, if there are any.
     #[inline(always)]
     pub(crate) fn add(&mut self, sets: &[ChannelSet; KINDS]) -> Option<[ChannelSet; KINDS]>
         ensures { (j k : ℕ) → j < KINDS → digit_at self.new j k + 8 * carried_at result j k ≡ digit_at self.old j k + one_at sets.now j k }

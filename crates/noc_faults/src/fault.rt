@@ -13,7 +13,8 @@ use noc_topo::{Shape, ShapeFault};
 /// A fault of the options.
 #[derive(Clone, Copy, Debug, PartialEq, Eq)]
 pub enum OptionFault {
-    /// A cycle that is to be explained or traced is not one of the run, or a span ends before it begins.
+    /// A cycle that is to be explained or traced is not one of the run, or a
+    /// span ends before it begins.
     BadCycle,
     /// The router that is to be explained or traced does not exist.
     BadRouter,
@@ -47,8 +48,8 @@ pub enum Fault {
     Write(WriteFault),
 }
 
-/// The exit status of a fault: 3 for texts, options, shapes and networks, 4 for relations and ranks, 6 where memory
-/// or a worker was refused, 7 where the report could not be written.
+/// The exit status of a fault: 3 for texts, options, shapes and networks, 4 for relations and
+/// ranks, 6 where memory or a worker was refused, 7 where the report could not be written.
 pub fn status_of(fault: &Fault) -> u8
     ensures { result ≡ status_of_fault fault.now }
 {

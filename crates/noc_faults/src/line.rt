@@ -83,7 +83,8 @@ impl Detail {
 // A line of 47 bytes up to its title, 40 for each of up to 9 details, and its end.
 type Line = ArrayString<512>;
 
-/// Writes the line of a fault: `fault`, its family, its number, its name and its details (docs/FORMATS.md, "Fault lines").
+/// Writes the line of a fault: `fault`, its family, its number, its name and its details
+/// (docs/FORMATS.md, "Fault lines").
 pub fn fault_line<W: Sink>(fault: &Fault, sink: &mut W) -> Result<(), WriteFault>
     ensures { Wrote W.contents W.has_failed sink.old sink.new (line_of fault.now) result }
 {

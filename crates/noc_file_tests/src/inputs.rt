@@ -1,11 +1,13 @@
-//! Bytes that are read to their end or up to a limit, readers that fail, and joined texts that are split.
+//! Bytes that are read to their end or up to a limit, readers that fail, and
+//! joined texts that are split.
 
 use noc_files::{InputFault, read_all, split_joined};
 use std::io;
 use std::io::{ErrorKind, Read};
 use std::test::Fail;
 
-// Gives the bytes of a text one for each read, and says how often it was read. One of its reads fails, if it comes so far.
+// Gives the bytes of a text one for each read, and says how often it was read. One of its reads
+// fails, if it comes so far.
 #[derive(Drop)]
 struct Drip<'a> {
     rest: &'a [u8],

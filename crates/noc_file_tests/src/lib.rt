@@ -1,5 +1,5 @@
-//! Tests of noc_files: texts that are read, reports that are written, and devices that fail. They are a crate of their own, since
-//! a crate with tests is proved twice.
+//! Tests of noc_files: texts that are read, reports that are written, and devices that fail. They
+//! are a crate of their own, since a crate with tests is proved twice.
 #![tactic(auto)]
 
 #[cfg(test)]

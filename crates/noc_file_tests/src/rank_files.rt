@@ -1,4 +1,5 @@
-//! Rank files: rows that are read, the first fault of files that are refused, and ranks that are written.
+//! Rank files: rows that are read, the first fault of files that are refused,
+//! and ranks that are written.
 
 ghost use Rattle.std.specs.Prelude.{◌≡◌, ◌≤◌};
 ghost use Rattle.noc_packet.specs.declared.limits.TheConstants.{MAX_CHANNELS};

@@ -158,7 +158,8 @@ lost_switch 0
     Ok(())
 }
 
-// Four packets around a ring with a dateline all come out, and the last event is the credit behind the last of them.
+// Four packets around a ring with a dateline all come out, and the last event is the credit
+// behind the last of them.
 #[test]
 fn a_ring_with_a_dateline_comes_to_rest(rt: HostRuntime) -> Result<(), Fail> {
     let mut network = dateline_ring(rt.alloc())?;

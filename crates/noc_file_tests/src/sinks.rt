@@ -14,7 +14,8 @@ enum End {
     Fails,
 }
 
-// Takes one byte for each call into a buffer, and none once it is full. It says how often it was called.
+// Takes one byte for each call into a buffer, and none once it is full. It says
+// how often it was called.
 #[derive(Drop)]
 struct Narrow<'a> {
     taken: &'a mut [u8],
@@ -56,7 +57,8 @@ fn pieces_go_out_in_order(rt: HostRuntime) -> Result<(), Fail> {
     Ok(())
 }
 
-// What a device made of a text: the answer, whether the sink has failed, how many bytes were taken, and by how many calls.
+// What a device made of a text: the answer, whether the sink has failed, how many bytes were
+// taken, and by how many calls.
 type Outcome = (Result<(), WriteFault>, bool, usize, usize);
 
 fn outcome(answer: Result<(), WriteFault>, out: Out<Narrow<'_>>) -> Outcome {

@@ -1,4 +1,5 @@
-//! Networks that stand still, and networks that never do: at which counts they are stuck, and that nothing ever misfits.
+//! Networks that stand still, and networks that never do: at which counts they are stuck, and
+//! that nothing ever misfits.
 
 ghost use Rattle.std.specs.Prelude.{◌≡◌, ◌≤◌};
 
@@ -11,8 +12,8 @@ use noc_topo::Kind;
 use std::process::Abort;
 use std::test::Fail;
 
-// At each count up to so many cycles the network is stuck exactly from `first` on, and no misfit was counted. With a `first` above the
-// cycles it is never stuck.
+// At each count up to so many cycles the network is stuck exactly from `first` on, and no misfit
+// was counted. With a `first` above the cycles it is never stuck.
 fn assert_stuck_from(rt: &impl Abort, mut network: Network, cycles: u64, first: u64)
     requires count { network.count ≡ 0 }
     requires cycles { cycles ≤ 1000 }
@@ -38,7 +39,8 @@ fn a_ring_with_a_dateline_is_never_stuck(rt: HostRuntime) -> Result<(), Fail> {
     Ok(())
 }
 
-// Three runs: two packets that ask for the same channel in the same cycle, the same twice, and two packets on a torus.
+// Three runs: two packets that ask for the same channel in the same cycle, the same twice,
+// and two packets on a torus.
 #[test]
 fn nothing_misfits_where_packets_wait_for_each_other(rt: HostRuntime) -> Result<(), Fail> {
     assert_stuck_from(&rt, line_of_three(rt.alloc())?, 20, 21);

@@ -1,4 +1,5 @@
-//! Routing tables: rows that are read, the first fault of tables that are refused, and the names of ports.
+//! Routing tables: rows that are read, the first fault of tables that are
+//! refused, and the names of ports.
 
 use crate::texts::below;
 use noc_files::{InputFault, port_name, read_table};

@@ -67,7 +67,8 @@ module _ (relation : Routes) (f h : ℕ → ℕ → ℕ → List ℕ) where
 
 -- ---- what is kept of the cycle before
 
--- rows keep what the routers found in the cycle before cycle n, in a trace of changes; the trace begins with cycle `first`
+-- rows keep what the routers found in the cycle before cycle n, in a trace of changes; the trace
+-- begins with cycle `first`
 pub record IsKept (net : Setup) (traced : Traced) (first n : ℕ) (rows : List (List Finding)) : Type 0 where
   pub many : length rows ≡ (if traced.changes then nodes net.relation.grid else 0)
   pub long : AreRows (size net) rows
@@ -182,7 +183,8 @@ cycle_is u traced rows first n count kept known =
     traced_same u.net.relation (kept_line u traced rows n) (traced_line u.net traced first n) traced.router known
     (λ r l port vc p v. kept_is u traced rows first n r port vc count kept l (flat-below port (ports u.net.relation.grid) vc u.net.relation.vcs p v))
 
--- the lines of the last cycle of a run, where the run has the network and the trace is of what it was at first
+-- the lines of the last cycle of a run, where the run has the network and the trace
+-- is of what it was at first
 pub cycle_written : (u : Run) (net : Setup) (now traced : Traced) (rows : List (List Finding)) (first n at : ℕ) → u.net ≡ net → now ≡ traced → at ≡ n → u.count ≡ n + 1 → IsKept net traced first n rows
     → IfSome traced.router (λ r. r < nodes net.relation.grid) → over_traced u.net.relation now.router (kept_line u now rows at) ≡ cycle_text net traced first n
 cycle_written u net now traced rows first n at same as_before numbered count kept known =
@@ -191,7 +193,8 @@ cycle_written u net now traced rows first n at same as_before numbered count kep
     (subst (λ (z : Setup). IfSome traced.router (λ r. r < nodes z.relation.grid)) (sym same) known)
     ∙ ap (λ (z : Setup). cycle_text z traced first n) same
 
--- the line of a channel of which another thing is told, or none where lines with its verdict are not written
+-- the line of a channel of which another thing is told, or none where lines with
+-- its verdict are not written
 pub line_is : (u : Run) (traced : Traced) (rows : List (List Finding)) (n r port vc i : ℕ) (before now : Option Finding) (f : Finding) → i ≡ port * u.net.relation.vcs + vc
     → before ≡ option_and_then (traced_finding traced.packet) (kept_at rows r i) → now ≡ option_and_then (traced_finding traced.packet) (slice_get (findings_before u.net u.count r) i)
     → is_same before now ≡ false → f ≡ unwrap_or now empty_finding → line_if_wanted u.net traced.verdicts n r port vc f ≡ kept_line u traced rows n r port vc

@@ -136,7 +136,8 @@ pub record HasNumber (ms : Members) (k : Key) (low high n : ℕ) : Type 0 where
   pub least : low ≤ n
   pub most : n ≤ high
 
--- a document in UTF-8 that has just the keys of a configuration, with these settings as their values
+-- a document in UTF-8 that has just the keys of a configuration, with these
+-- settings as their values
 pub record IsConfiguration (text : List ℕ) (s : Settings) : Type 0 where
   pub document : Members
   pub utf8 : IsUtf8 text
@@ -206,7 +207,8 @@ pub record HasBadValue (ms : Members) (k : Key) (fault : InputFault) : Type 0 wh
   pub not_allowed : IsAllowed k value → ⊥
   pub fault_is : fault ≡ BadValue k
 
--- the fault of a key: it is not there, its value has another type, or it is none that the key may have
+-- the fault of a key: it is not there, its value has another type, or it is
+-- none that the key may have
 abbrev pub IsKeyFault : Members → Key → InputFault → Type 0
 IsKeyFault ms k fault = LacksKey ms k fault ⊎ (HasOtherType ms k fault ⊎ HasBadValue ms k fault)
 
@@ -240,6 +242,7 @@ pub record HasFaultyKey (text : List ℕ) (fault : InputFault) : Type 0 where
   pub known : HasKnownKeys members
   pub bad : HasBadKey members fault
 
--- the first fault of a configuration: no document, a key that no configuration has, or the first key with a fault
+-- the first fault of a configuration: no document, a key that no configuration has, or
+-- the first key with a fault
 abbrev pub IsConfigurationFault : List ℕ → InputFault → Type 0
 IsConfigurationFault text fault = IsNoDocument text fault ⊎ (HasUnknownKey text fault ⊎ HasFaultyKey text fault)

@@ -22,7 +22,8 @@ out_name g (Some (port, vc)) = text_of_pieces (unwrap_or (port_text g port) (cod
 abbrev pub verdict_text : Grid → ℕ → ℕ → Finding → List ℕ
 verdict_text g port vc f = text_of_pieces (name_of_port g port ∷ comma ∷ decimal vc ∷ comma ∷ verdict_name f.verdict ∷ comma ∷ dash_or f.packet ∷ comma ∷ [])
 
--- the line of an input channel: its verdict, its packet, and the output channel that the verdict speaks of
+-- the line of an input channel: its verdict, its packet, and the output channel
+-- that the verdict speaks of
 abbrev pub finding_line : Grid → ℕ → ℕ → Finding → List ℕ
 finding_line g port vc f = verdict_text g port vc f ++ out_name g f.out ++ line_end
 
@@ -34,7 +35,8 @@ line_if_found g port vc (Some f) = finding_line g port vc f
 abbrev pub found_line : Routes → List Finding → ℕ → ℕ → List ℕ
 found_line relation findings port vc = line_if_found relation.grid port vc (slice_get findings (port * relation.vcs + vc))
 
--- the report of a router, whose findings go by the index port*V + vc: the header, and a line for each input channel
+-- the report of a router, whose findings go by the index port*V + vc: the header, and a
+-- line for each input channel
 abbrev pub finding_report : Routes → ℕ → List Finding → List ℕ
 finding_report relation router findings = finding_header ++ over_router relation router (found_line relation findings)
 

@@ -1,4 +1,5 @@
--- Files of rows in their plainest form: fields without quotes, a comma between them, and a line feed after each row.
+-- Files of rows in their plainest form: fields without quotes, a comma between them, and a
+-- line feed after each row.
 use Rattle.std.specs.Prelude.{◌≢◌, ℕ, ◌<◌, List, [], ◌∷◌, ◌++◌, length}
 use Rattle.std.specs.List.{flat_map}
 use Rattle.noc_topo.specs.Lists.{Each}

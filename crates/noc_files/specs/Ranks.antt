@@ -70,7 +70,8 @@ MayHold g (suc zero) field = (port : ℕ) × IsPortName g field port
 MayHold g (suc (suc zero)) field = HasNumeral field
 MayHold g _ field = (rank : Option ℕ) × IsRankField field rank
 
--- the fault of a row: another number of fields, or a field that its column may not hold, of which that of column 1 is no name of a port
+-- the fault of a row: another number of fields, or a field that its column may not hold, of which
+-- that of column 1 is no name of a port
 abbrev pub IsRankRowFault : Grid → ℕ → Fields → InputFault → Type 0
 IsRankRowFault g row fields fault = IsRowFault 4 (MayHold g) (λ at column. field_fault (column == 1) at column) row fields fault
 

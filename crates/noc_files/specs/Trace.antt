@@ -30,12 +30,14 @@ abbrev pub finds_empty : Verdict → Bool
 finds_empty Empty = true
 finds_empty _ = false
 
--- whether a channel with this packet is one of those that are traced: any, or those that hold one packet
+-- whether a channel with this packet is one of those that are traced: any, or
+-- those that hold one packet
 abbrev pub is_traced : Option ℕ → Option ℕ → Bool
 is_traced None held = true
 is_traced (Some packet) held = is_some_of held packet
 
--- what a trace tells of a channel: what was found of it, and nothing where it is Empty or not one of those that are traced
+-- what a trace tells of a channel: what was found of it, and nothing where it is Empty or not one
+-- of those that are traced
 abbrev pub traced_finding : Option ℕ → Finding → Option Finding
 traced_finding packet f = if finds_empty f.verdict || not (is_traced packet f.packet) then None else Some f
 
@@ -164,7 +166,8 @@ AreRows channels rows = (r : ℕ) (row : List Finding) → slice_get rows r ≡ 
 abbrev pub kept_at : List (List Finding) → ℕ → ℕ → Option Finding
 kept_at rows r i = option_and_then (λ row. slice_get row i) (slice_get rows r)
 
--- the line of an input channel in the last cycle of a run, if another thing is told of it than of what is kept
+-- the line of an input channel in the last cycle of a run, if another thing is told
+-- of it than of what is kept
 abbrev pub kept_line : Run → Traced → List (List Finding) → ℕ → ℕ → ℕ → ℕ → List ℕ
 kept_line u traced rows n r port vc =
     line_if_new u.net traced.verdicts n r port vc (option_and_then (traced_finding traced.packet) (kept_at rows r (port * u.net.relation.vcs + vc)))

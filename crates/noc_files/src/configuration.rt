@@ -195,8 +195,9 @@ fn config_in(alloc: Global, table: &Table) -> Result<Config, InputFault>
     })
 }
 
-/// The configuration that a text is, or its first fault: `BadToml`, `UnknownKey`, and then key by key, in the order of
-/// `Key`, `MissingKey`, `WrongType` and `BadValue`; `Memory` where a growth was refused (docs/FORMATS.md).
+/// The configuration that a text is, or its first fault: `BadToml`, `UnknownKey`, and then key by
+/// key, in the order of `Key`, `MissingKey`, `WrongType` and `BadValue`; `Memory` where a growth
+/// was refused (docs/FORMATS.md).
 pub fn read_config(alloc: Global, text: &[u8]) -> Result<Config, InputFault>
     ensures value { Gives settings result (config_of text.now) }
     ensures limits { IfOk result KeepsLimits }
@@ -208,15 +209,15 @@ pub fn read_config(alloc: Global, text: &[u8]) -> Result<Config, InputFault>
     config_in(alloc, &table)
 }
 
-/// A text is read as these settings exactly where it is a TOML document in UTF-8 that has just the keys of a
-/// configuration, with these settings as their values.
+/// A text is read as these settings exactly where it is a TOML document in UTF-8 that has just the
+/// keys of a configuration, with these settings as their values.
 pub fn configuration_is_document_with_keys()
     ensures { (text : List ℕ) (s : Settings) → (config_of text ≡ Ok s) ↔ IsConfiguration text s }
 {}
 
-/// A text is refused with this fault exactly where it is the first one: it is no TOML document in UTF-8, or it has a key
-/// that no configuration has, or in the order of the keys this is the first that is missing, or has a value of another
-/// type, or one that it may not have.
+/// A text is refused with this fault exactly where it is the first one. The text is no TOML
+/// document in UTF-8, or it has a key that no configuration has. Or, in the order of the keys, this
+/// is the first that is missing, has a value of another type, or has one that it may not have.
 pub fn configuration_is_refused_with_its_first_fault()
     ensures { (text : List ℕ) (fault : Fault) → (config_of text ≡ Err fault) ↔ IsConfigurationFault text fault }
 {}

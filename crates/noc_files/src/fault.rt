@@ -35,7 +35,8 @@ impl Key {
     }
 }
 
-/// The first fault of an input (docs/FORMATS.md). Rows count from 0 after the header, columns from 0.
+/// The first fault of an input (docs/FORMATS.md). Rows count from 0 after
+/// the header, columns from 0.
 #[derive(Clone, Copy, Debug, PartialEq, Eq)]
 pub enum InputFault {
     /// The reader failed.

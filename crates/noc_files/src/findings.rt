@@ -46,9 +46,10 @@ impl<'a> Lines for Found<'a> {
     }
 }
 
-/// Writes what a router found in the last cycle: for each of its input channels, in the order of the stall report, its
-/// verdict, its packet, and the output channel that the packet owns, is granted or asked for. There are no lines before
-/// the first cycle. The router exists.
+/// Writes what a router found in the last cycle, a line for each of its input channels, in
+/// the order of the stall report. A line has the verdict, the packet, and the output
+/// channel that the packet owns, is granted or asked for. There are no lines before the
+/// first cycle. The router exists.
 #[tactic(auto, unfolding(crate::specs::Findings::finding_header))]
 pub fn write_findings<W: Sink>(
     network: &Network,
@@ -77,7 +78,8 @@ pub fn write_findings<W: Sink>(
     write_lines("port,vc,verdict,packet,out\n", &listing, sink)
 }
 
-/// Before its first cycle a network has found nothing, and the report of each router is the header alone.
+/// Before its first cycle a network has found nothing, and the report of each
+/// router is the header alone.
 pub fn findings_before_the_first_cycle_are_the_header()
     ensures { (u : Run) (router : ℕ) → u.count ≡ 0 → findings_text u router ≡ finding_header }
 {}

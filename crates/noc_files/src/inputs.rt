@@ -8,7 +8,8 @@ use crate::ports::has_inputs;
 use noc_packet::{MAX_NODES, MAX_PORTS};
 use noc_topo::Shape;
 
-/// For each router and each of its ports, `MAX_PORTS` entries to a router, whether it is an input port.
+/// For each router and each of its ports, `MAX_PORTS` entries to a router,
+/// whether it is an input port.
 pub(crate) type Inputs = [bool; MAX_NODES * MAX_PORTS];
 
 /// The input ports of a shape.

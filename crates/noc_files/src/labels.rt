@@ -23,8 +23,8 @@ use noc_view::{Finding, VERDICTS, Verdict};
 /// The most bytes of an input channel with its verdict and its packet.
 pub(crate) const LONGEST_VERDICT: usize = 2 * LABEL + COLUMN;
 
-/// The labels of a relation: for each port and VC its input channel and its output channel, for each index its output
-/// channel, and for each verdict its name between two commas.
+/// The labels of a relation: for each port and VC its input channel and its output channel, for
+/// each index its output channel, and for each verdict its name between two commas.
 #[derive(Drop)]
 pub(crate) struct Labels {
     pub(crate) inputs: [Label; INDICES],

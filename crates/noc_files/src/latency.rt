@@ -11,7 +11,8 @@ use crate::sink::Sink;
 use crate::writing::WriteFault;
 use noc_net::Network;
 
-// How many cycles lie between the due time of the packet with this number and the cycle in which its tail is out.
+// How many cycles lie between the due time of the packet with this number and the cycle
+// in which its tail is out.
 #[tactic(auto, unfolding(crate::specs::Summary::latency_at))]
 pub(crate) fn latency(network: &Network, packet: usize) -> Option<u64>
     requires { packet < length network.now.net.packets }
@@ -54,8 +55,9 @@ impl<'a> Pages for LatencyLines<'a> {
     }
 }
 
-/// Writes the latency report: a line for each packet in order, with the cycle in which its tail was out, and the cycles
-/// from its due time to that one; both are a dash where the tail is not out.
+/// Writes the latency report, a line for each packet in order. A line has the cycle in which
+/// the packet's tail was out, and the cycles from its due time to that one; both are a dash
+/// where the tail is not out.
 #[tactic(auto, unfolding(crate::specs::Latency::latency_header))]
 pub fn write_latency<W: Sink>(network: &Network, sink: &mut W) -> Result<(), WriteFault>
     ensures { Wrote W.contents W.has_failed sink.old sink.new (latency_text network.now) result }

@@ -1,4 +1,5 @@
-//! The texts of the simulator: configurations, joined texts and files of rows are read, and reports are written.
+//! The texts of the simulator: configurations, joined texts and files of rows are read,
+//! and reports are written.
 #![tactic(auto)]
 
 mod configuration;

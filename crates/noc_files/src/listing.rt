@@ -16,14 +16,16 @@ use crate::writing::WriteFault;
 use noc_packet::{INDICES, MAX_CHANNELS, MAX_PORTS};
 use noc_topo::Shape;
 
-// The most bytes of the line on a channel, and of the lines on a port. Those on a router fit a page.
+// The most bytes of the line on a channel, and of the lines on a port.
+// Those on a router fit a page.
 pub(crate) const LONGEST_LINE: usize = PAGE / INDICES;
 
 const LONGEST_PORT: usize = LONGEST_LINE * MAX_CHANNELS;
 
 // Some lines on each of the channels of a shape.
 pub(crate) trait Lines {
-    // The shape, how many of the first ports of each router there are lines on, and of how many channels.
+    // The shape, how many of the first ports of each router there are lines on,
+    // and of how many channels.
     ghost grid: { Self → Grid };
 
     ghost listed: { Self → ℕ };
@@ -52,8 +54,8 @@ pub(crate) trait Lines {
         ensures short { length page.new ≤ length page.old + LONGEST_LINE };
 }
 
-// The lines on one router or on all, a page for each router. They are on the first `listed` ports of a router, and on the first
-// `vcs` channels of each.
+// The lines on one router or on all, a page for each router. They are on the first `listed` ports
+// of a router, and on the first `vcs` channels of each.
 #[derive(Drop)]
 pub(crate) struct Listing<'a, L: Lines> {
     pub(crate) lines: &'a L,

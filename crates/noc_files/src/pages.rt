@@ -52,7 +52,8 @@ pub(crate) fn put_pages<P: Pages, W: Sink>(
     Ok(written)
 }
 
-// Writes a header, and below it a text of pages. It stays a call, so that its callers need no stack for a page.
+// Writes a header, and below it a text of pages. It stays a call, so that its callers
+// need no stack for a page.
 #[inline(never)]
 pub(crate) fn write_pages<P: Pages, W: Sink>(
     header: &str,

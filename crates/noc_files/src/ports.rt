@@ -7,8 +7,8 @@ ghost use Rattle.noc_files.specs.Ports.{name_of_port, port_named, port_text};
 
 use noc_topo::Shape;
 
-/// The name of a port of a shape: `+0`, `-0` and so on for the links of each dimension, and `local` for the last port;
-/// None where the shape has no such port.
+/// The name of a port of a shape: `+0`, `-0` and so on for the links of each dimension, and `local`
+/// for the last port; None where the shape has no such port.
 pub fn port_name(shape: &Shape, port: usize) -> Option<&'static str>
     ensures text { option_map (λ name. name.now) result ≡ port_text shape.now port }
     ensures short { IfSome result (λ name. length name.now ≤ 5) }

@@ -9,8 +9,9 @@ use crate::fault::InputFault;
 use std::alloc::Global;
 use std::io::Read;
 
-/// All the bytes that a reader gives, or `TooLong` where it gives more than `limit` bytes, `Memory` where a growth was
-/// refused, and `ReadFailed` where it failed: a read that fails is not tried again. It makes at most `limit` + 1 reads.
+/// All the bytes that a reader gives, or `TooLong` where it gives more than `limit` bytes, `Memory`
+/// where a growth was refused, and `ReadFailed` where it failed: a read that fails is not tried
+/// again. It makes at most `limit` + 1 reads.
 pub fn read_all<R: Read>(alloc: Global, reader: &mut R, limit: usize) -> Result<Vec<u8>, InputFault>
     ensures short { IfOk result (λ v. vec_len v ≤ limit) }
     ensures end { OnOk result (IsAtEnd (R.remaining reader.new)) }

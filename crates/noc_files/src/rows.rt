@@ -29,7 +29,8 @@ pub(crate) fn rows(alloc: Global, text: &[u8]) -> Reader<&[u8]>
         .from_reader(alloc, text)
 }
 
-// Reads the next row into `row`, if there is one. Rows have any length and a slice never fails, so memory was refused where none is read.
+// Reads the next row into `row`, if there is one. Rows have any length and a slice never fails, so
+// memory was refused where none is read.
 pub(crate) fn next_row(reader: &mut Reader<&[u8]>, row: &mut ByteRecord) -> Result<bool, InputFault>
     requires { IsBetweenRows reader.old }
     ensures ready { IfOk result (λ found. found ≡ true → IsBetweenRows reader.new) }
@@ -109,8 +110,8 @@ pub fn rows_are_records()
     ensures { (text : List ℕ) → AreRecords default_config st.StartRecord (strip_bom text) (text_rows text) }
 {}
 
-/// The lines of rows are read back as these rows, where the fields are ASCII without commas, quotes and ends of lines
-/// and no row begins with an empty field.
+/// The lines of rows are read back as these rows, where the fields are ASCII without commas, quotes
+/// and ends of lines and no row begins with an empty field.
 pub fn plain_rows_are_read_back()
     ensures { (rows : List Fields) → Each IsPlainRow rows → text_rows (plain_text rows) ≡ rows }
 {}

@@ -27,14 +27,16 @@ pub trait Sink {
     fn failed(&self) -> bool
         ensures { result ≡ has_failed self.now };
 
-    /// Hands on what it has taken and kept back, or fails. A sink that keeps nothing back leaves this out.
+    /// Hands on what it has taken and kept back, or fails. A sink that keeps
+    /// nothing back leaves this out.
     fn hand_on(&mut self)
         ensures bytes { Keeps (contents self.old) (contents self.new) }
         ensures closed { has_failed self.old ≡ true → has_failed self.new ≡ true }
     {}
 }
 
-/// The sink over a writer. It fails where `write` or `flush` fails, or `write` takes nothing of some bytes.
+/// The sink over a writer. It fails where `write` or `flush` fails, or `write`
+/// takes nothing of some bytes.
 #[derive(Drop)]
 pub struct Out<W> {
     writer: W,

@@ -79,8 +79,8 @@ impl<'a> Lines for StallLines<'a> {
     }
 }
 
-/// Writes the stall report: for each router, each of its input ports that is local or has a link, and each virtual
-/// channel, in rising order, in how many cycles it had each verdict.
+/// Writes the stall report: for each router, each of its input ports that is local or has a link,
+/// and each virtual channel, in rising order, in how many cycles it had each verdict.
 pub fn write_stalls<W: Sink>(network: &Network, sink: &mut W) -> Result<(), WriteFault>
     ensures { Wrote W.contents W.has_failed sink.old sink.new (stalls_text network.now) result }
 {

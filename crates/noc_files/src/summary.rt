@@ -120,7 +120,8 @@ fn fill_summary(s: &Summary, page: &mut Page)
     add_totals(&s.totals, page);
 }
 
-// Counts the latencies of the packets whose tails are out, and finds their sum and the greatest of them.
+// Counts the latencies of the packets whose tails are out, and finds their sum
+// and the greatest of them.
 fn latencies(network: &Network) -> LatencyTotals
     ensures few { result.count ≤ length network.now.net.packets }
     ensures count { result.count ≡ length (latencies network.now) }
@@ -144,8 +145,8 @@ fn latencies(network: &Network) -> LatencyTotals
     }
 }
 
-/// The greatest latency of a summary is one of the latencies, and none of them is above it; there is none only where there are
-/// no latencies.
+/// The greatest latency of a summary is one of the latencies, and none of them is above it; there
+/// is none only where there are no latencies.
 pub fn the_greatest_is_one_of_them()
     ensures greatest { (ns : List ℕ) (m : ℕ) → greatest_of ns ≡ Some m → IsGreatest ns m }
     ensures none { (ns : List ℕ) → greatest_of ns ≡ None → ns ≡ [] }
@@ -218,8 +219,9 @@ fn summary_of(network: &Network) -> Summary
     }
 }
 
-/// Writes the summary: eighteen lines of a name and a number, over the packets and the input channels of the network.
-/// Latencies are over the packets whose tail is out. It stays a call, so that its callers need no stack for a page.
+/// Writes the summary: eighteen lines of a name and a number, over the packets and the input
+/// channels of the network. Latencies are over the packets whose tail is out. It stays a call, so
+/// that its callers need no stack for a page.
 #[inline(never)]
 pub fn write_summary<W: Sink>(network: &Network, sink: &mut W) -> Result<(), WriteFault>
     ensures { Wrote W.contents W.has_failed sink.old sink.new (summary_text network.now) result }

@@ -43,8 +43,9 @@ fn route_row_in(shape: &Shape, row: &ByteRecord, index: usize) -> Result<RouteRo
     })
 }
 
-/// The rows of a table file, or its first fault: `BadHeader`, and then row by row `BadCount`, `BadNumber` and `BadPort`
-/// from left to right; `Memory` where a growth was refused (docs/FORMATS.md). Ports have the names of the shape.
+/// The rows of a table file, or its first fault: `BadHeader`, and then row by row `BadCount`,
+/// `BadNumber` and `BadPort` from left to right; `Memory` where a growth was refused
+/// (docs/FORMATS.md). Ports have the names of the shape.
 pub fn read_table(alloc: Global, shape: &Shape, text: &[u8]) -> Result<Vec<RouteRow>, InputFault>
     ensures { Gives (λ v. v.items) result (table_of shape.now text.now) }
 {
@@ -56,20 +57,22 @@ pub fn read_table(alloc: Global, shape: &Shape, text: &[u8]) -> Result<Vec<Route
     })
 }
 
-/// A text is read as these rows of a table exactly where its first row is the header and the rows below it are seven
-/// fields each, numerals and names of ports of the shape, which write them.
+/// A text is read as these rows of a table exactly where its first row is the header and the rows
+/// below it write them. Each of these has seven fields, numerals and names of ports of the shape.
 pub fn table_is_header_and_rows()
     ensures { (g : Grid) → IsGrid g → (text : List ℕ) (rows : List Route) → (table_of g text ≡ Ok rows) ↔ IsTable g text rows }
 {}
 
-/// A text is refused with this fault exactly where it is the first one: there is no header, or after rows of a table a
-/// row has not seven fields, or has seven, and this is the first that is no numeral or names no port of the shape.
+/// A text is refused with this fault exactly where it is the first one. Either there is
+/// no header, or the fault is that of the first row that is no row of a table. Such a row
+/// has not seven fields, or has seven, of which this is the first that is no numeral or
+/// names no port of the shape.
 pub fn table_is_refused_with_its_first_fault()
     ensures { (g : Grid) → IsGrid g → (text : List ℕ) (fault : Fault) → (table_of g text ≡ Err fault) ↔ IsTableFault g text fault }
 {}
 
-/// The plainest table file of some rows is read back as these rows, where their numbers are at most 4294967295 and the
-/// shape has their ports.
+/// The plainest table file of some rows is read back as these rows, where their numbers are at most
+/// 4294967295 and the shape has their ports.
 pub fn written_table_is_read_back()
     ensures { (g : Grid) → IsGrid g → (rows : List Route) → Each (IsWritableRow g) rows → table_of g (table_text g rows) ≡ Ok rows }
 {}

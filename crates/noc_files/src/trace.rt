@@ -45,11 +45,12 @@ pub struct Traced {
     pub packet: Option<u64>,
     /// The lines with these verdicts, or all.
     pub verdicts: Option<VerdictSet>,
-    /// Only what is another thing than was told of the channel in the cycle before.
+    /// Only lines that tell something else of the channel than the cycle before did.
     pub changes: bool,
 }
 
-/// A trace that is to be written: what is traced, and, in a trace of changes, what each router found in the cycle before.
+/// A trace that is to be written: what is traced, and, in a trace of changes, what each router
+/// found in the cycle before.
 #[derive(Drop)]
 pub struct Trace {
     traced: Traced,
@@ -67,7 +68,8 @@ impl Model for Trace {
 }
 
 impl Trace {
-    /// A trace of a network that begins with its next cycle. Only a trace of changes takes memory: a finding for each input channel.
+    /// A trace of a network that begins with its next cycle. Only a trace of changes takes memory:
+    /// a finding for each input channel.
     pub fn new(alloc: Global, network: &Network, traced: Traced) -> Result<Trace, Memory>
         ensures { IfOk result (λ t. t ≡ (traced, nothing_found network.now.net traced.changes)) }
     {
@@ -136,7 +138,8 @@ fn empty_rows(alloc: Global, network: &Network) -> Result<Vec<Vec<Finding>>, Mem
     Ok(rows)
 }
 
-// What a trace tells of one of these channels: nothing where it is Empty or not one of those that are traced.
+// What a trace tells of one of these channels: nothing where it is Empty or not one
+// of those that are traced.
 fn told_at(packet: Option<u64>, findings: &[Finding], index: usize) -> Option<&Finding>
     ensures { option_map (λ finding. finding.now) result ≡ option_and_then (traced_finding packet) (slice_get findings.now index) }
 {
@@ -232,7 +235,8 @@ fn permitted_to(
     }
 }
 
-// The least member of a set that is no less than an index, of those below a count; the count where there is none.
+// The least member of a set that is no less than an index, of those below a count; the
+// count where there is none.
 #[inline]
 fn next_member(set: ChannelSet, from: usize, count: usize) -> usize
     requires from { from ≤ count }
@@ -250,7 +254,8 @@ fn next_member(set: ChannelSet, from: usize, count: usize) -> usize
     }
 }
 
-// The most bytes of an output channel with a space before it, of a set of them, and of what is told of an input channel.
+// The most bytes of an output channel with a space before it, of a set of them, and of what is
+// told of an input channel.
 const MEMBER: usize = LABEL + 1;
 
 const SET: usize = INDICES * MEMBER;
@@ -431,11 +436,12 @@ fn put_cycle<W: Sink>(
     put_pages(&listing, page, sink)
 }
 
-/// Runs a network for so many cycles more, and writes the trace of them as it goes: for each cycle, each router and each of its
-/// input channels, in the order of the stall report, a line if another thing is told of the channel than was told before, and if
-/// lines with its verdict are written. In a trace of changes, what was told before is that of the cycle before, within the trace; in
-/// another trace nothing was. The router exists. The lines of a cycle are handed on before the next one. It stays a call, so that
-/// its callers need no stack for a page.
+/// Runs a network for so many cycles more, and writes the trace of them as it goes. Each input
+/// channel of each router, in the order of the stall report, may have a line in each cycle. It has
+/// one if this tells something else of the channel than was told before, and if lines with its
+/// verdict are written. What was told before is, in a trace of changes, what the cycle before told,
+/// if the trace has it; in other traces it is nothing. The router exists. The lines of a cycle are
+/// handed on before the next one. It stays a call, so that its callers need no stack for a page.
 #[inline(never)]
 pub fn write_trace<W: Sink>(
     network: &mut Network,
@@ -476,8 +482,9 @@ pub fn write_trace<W: Sink>(
     Ok(())
 }
 
-/// A line of a trace is what `explain` says of the channel in that cycle, with the cycle and the router before it and what was
-/// permitted behind it; and where all channels are traced, with a line in each cycle, each has it but the empty ones.
+/// A line of a trace is what `explain` says of the channel in that cycle, with the cycle and the
+/// router before it and what was permitted behind it. Where all channels are traced, with a line in
+/// each cycle, each has it but the empty ones.
 pub fn a_trace_tells_what_explain_tells()
     ensures explained { (relation : RoutesValue) (findings : List FindingValue) (port vc : ℕ) (f : FindingValue) → slice_get findings (port * relation.vcs + vc) ≡ Some f
         → found_line relation findings port vc ≡ said_by_both relation.grid port vc f ++ line_end }
@@ -486,7 +493,8 @@ pub fn a_trace_tells_what_explain_tells()
         ≡ (if finds_empty f.verdict then [] else when_text n r ++ said_by_both net.relation.grid port vc f ++ comma ++ permitted_text net.relation (permitted_to net r port vc f)) }
 {}
 
-/// The verdicts that the whole trace of a run tells of an input channel, counted, are its line of the stall report.
+/// The verdicts that the whole trace of a run tells of an input channel, counted, are its
+/// line of the stall report.
 pub fn a_trace_adds_up_to_the_stall_report()
     ensures { (u : RunValue) (r port vc : ℕ) → port < ports u.net.relation.grid → vc < u.net.relation.vcs → told_counts u r (port * u.net.relation.vcs + vc) ≡ channel_counts u r port vc }
 {}

@@ -40,7 +40,8 @@ pub(crate) fn put_all<W: Sink>(sink: &mut W, bytes: &[u8]) -> Result<(), WriteFa
     Ok(())
 }
 
-/// Writes pieces of a text one after the other, or answers the fault after which the sink took no more.
+/// Writes pieces of a text one after the other, or answers the fault after
+/// which the sink took no more.
 pub fn write_pieces<W: Sink>(pieces: &[&str], sink: &mut W) -> Result<(), WriteFault>
     requires { length (flat_map (λ p. p.now) pieces.now) < 2 ^ 64 }
     ensures { Wrote W.contents W.has_failed sink.old sink.new (flat_map (λ p. p.now) pieces.now) result }

@@ -1,5 +1,5 @@
-//! Networks that the tests of several crates run, and readers of a network that any numbers may be given to. No test
-//! stands here, so that each of these is proved once.
+//! Networks that the tests of several crates run, and readers of a network that any numbers may be
+//! given to. No test stands here, so that each of these is proved once.
 #![tactic(auto)]
 
 mod networks;

@@ -51,7 +51,8 @@ pub fn network(
     Ok(Network::new(alloc, relation, depth, packets)?)
 }
 
-/// A line of two routers with one channel on each link, and with buffers of this depth, 1 to 16 flits.
+/// A line of two routers with one channel on each link, and with buffers of
+/// this depth, 1 to 16 flits.
 pub fn line_of_two(alloc: Global, depth: usize, packets: &[Packet]) -> Result<Network, Fail>
     requires some_depth { 0 < depth }
     requires depth { depth ≤ MAX_BUFFER }
@@ -63,7 +64,8 @@ pub fn line_of_two(alloc: Global, depth: usize, packets: &[Packet]) -> Result<Ne
     network(alloc, line, depth, packets)
 }
 
-/// A line of three routers, in which packet 0 waits for the channel of packet 1: they are out in cycles 10 and 5.
+/// A line of three routers, in which packet 0 waits for the channel of packet 1: they
+/// are out in cycles 10 and 5.
 pub fn line_of_three(alloc: Global) -> Result<Network, Fail>
     ensures { IfOk result (λ n. n.count ≡ 0) }
 {
@@ -71,7 +73,8 @@ pub fn line_of_three(alloc: Global) -> Result<Network, Fail>
     network(alloc, line, 2, &[packet(0, 2, 1, 0), packet(1, 2, 1, 0)])
 }
 
-/// A torus of two routers, with two wires each way between them, and a packet from each: both are out in cycle 5.
+/// A torus of two routers, with two wires each way between them, and a packet from each:
+/// both are out in cycle 5.
 pub fn torus_of_two(alloc: Global) -> Result<Network, Fail>
     ensures { IfOk result (λ n. n.count ≡ 0) }
 {
@@ -79,7 +82,8 @@ pub fn torus_of_two(alloc: Global) -> Result<Network, Fail>
     network(alloc, torus, 2, &[packet(0, 1, 1, 0), packet(1, 0, 1, 0)])
 }
 
-/// A ring of four routers with one channel and one place, on which each packet waits for another from cycle 4 on.
+/// A ring of four routers with one channel and one place, on which each packet waits for
+/// another from cycle 4 on.
 pub fn stuck_ring(alloc: Global) -> Result<Network, Fail>
     ensures { IfOk result (λ n. n.count ≡ 0) }
 {

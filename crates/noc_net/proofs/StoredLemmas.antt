@@ -336,7 +336,8 @@ rested_views parts n sound routers rooms all =
     get_or_from_slice_get parts.routers.items r view.0 d view.1
     ∙ sym (get_or_from_slice_get (lockstep_at net n).views r view.0 d (sym (ap (λ m. slice_get (lockstep_at net m).views r) cycle) ∙ (sound.posts r post at).view)))
 
--- a core whose routers are all between their cycles at count n has, landed, the beats of the lockstep run
+-- a core whose routers are all between their cycles at count n has, landed, the
+-- beats of the lockstep run
 pub rested_wires : (parts : Parts) (n : ℕ) (beats : List (List Beat)) → IsInStep CYCLE_LIMIT (core_in parts) → length parts.routers.items ≡ nodes parts.relation.grid → length parts.room.items ≡ nodes parts.relation.grid
     → length beats ≡ nodes parts.relation.grid → are_between (core_in parts) n ≡ true
     → ((r : ℕ) (one : Room) (port : ℕ) → slice_get parts.room.items r ≡ Some one → beat_at beats r port ≡ front_of (get_or (take (local_port parts.relation.grid) (wires_in one)) port []))

@@ -9,8 +9,8 @@ use Rattle.noc_net.specs.Parts.{AreParts, setup_in}
 abbrev pub run_of : Inside → Run
 run_of n = record { net = setup_in n.parts; count = n.count }
 
--- the routers are those of the network at their own count, which is not above the network's; rows show the network
--- at its count, and where there are none the routers are at it
+-- the routers are those of the network at their own count, which is not above the network's; rows
+-- show the network at its count, and where there are none the routers are at it
 pub record IsNetwork (n : Inside) : Type 0 where
   pub parts : AreParts n.parts
   pub behind : n.parts.count ≤ n.count

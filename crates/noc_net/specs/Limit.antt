@@ -1,4 +1,5 @@
--- Whether all packets are out, and by when they have to be (docs/MODEL.md, "Events, pending, stuck").
+-- Whether all packets are out, and by when they have to be (docs/MODEL.md,
+-- "Events, pending, stuck").
 use Rattle.std.specs.Prelude.{◌≡◌, ◌⊎◌, ℕ, ◌+◌, ◌≤◌, Bool, List, Some, length, is_some, slice_get}
 use Rattle.std.specs.List.{list_all}
 use Rattle.noc_topo.specs.Lists.{below}

@@ -16,8 +16,9 @@ setup_in parts = record { relation = parts.relation; depth = parts.buffer; packe
 abbrev pub run_in : Parts → Run
 run_in parts = record { net = setup_in parts; count = parts.count }
 
--- the setup is good; each router has its view of the network's state at that count, with its findings; the beats in flight are those
--- of that state, idle where there is no link; and there is room for each router
+-- the setup is good, and each router has its view of the network's state at that count, with
+-- its findings. The beats in flight are those of that state, idle where there is no link, and
+-- there is room for each router
 pub record AreParts (parts : Parts) : Type 0 where
   pub good : IsGoodSetup (setup_in parts)
   pub within : parts.count ≤ CYCLE_LIMIT

@@ -17,7 +17,8 @@ core_in parts = record { net = setup_in parts; posts = posts_of (local_port part
 abbrev pub core_of : Inside → CoreState
 core_of c = core_in c.parts
 
--- the setup is good, the core is in step and no router past the limit, and there are room and beats for each router
+-- the setup is good, the core is in step and no router past the limit, and there are room
+-- and beats for each router
 pub record IsCore (c : Inside) : Type 0 where
   pub good : IsGoodSetup (setup_in c.parts)
   pub in_step : IsInStep CYCLE_LIMIT (core_in c.parts)

@@ -1,4 +1,5 @@
-//! The cycles of a network, in two loops over its routers (docs/ARCHITECTURE.md, "The loop of a cycle").
+//! The cycles of a network, in two loops over its routers
+//! (docs/ARCHITECTURE.md, "The loop of a cycle").
 
 ghost use Rattle.std.specs.Prelude.{◌≡◌, ℕ, ◌+◌, ◌<◌, ◌≤◌, All, IfSome, Some, length, map};
 ghost use Rattle.noc_topo.specs.declared.limits.TheConstants.{MAX_NODES};
@@ -18,7 +19,8 @@ use noc_route::Relation;
 use noc_router::{Plan, Recording, Router};
 use noc_topo::LINKS;
 
-// Runs the cycles from `first` to `last`. What is found is recorded in the last alone, since nobody reads what is found before.
+// Runs the cycles from `first` to `last`. What is found is recorded in the last alone, since nobody
+// reads what is found before.
 pub(crate) fn run_all(
     relation: &Relation,
     plan: &mut Plan,
@@ -36,7 +38,8 @@ pub(crate) fn run_all(
     cycle(relation, plan, last, Recording::Record, routers, beats);
 }
 
-// Runs the cycles from `first` to before `end`, and leaves the findings as they were. Those in which nothing happens are run at once.
+// Runs the cycles from `first` to before `end`, and leaves the findings as they were. Those in
+// which nothing happens are run at once.
 fn skip(
     relation: &Relation,
     plan: &mut Plan,

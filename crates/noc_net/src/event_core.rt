@@ -21,8 +21,9 @@ use noc_theory::{CYCLE_LIMIT, Event, NotReady};
 use noc_topo::LINKS;
 use std::marker::Model;
 
-/// The routers of a network that go on by single events, each at a cycle of its own: in whatever order the events
-/// come, a router between its cycles is the one of the lockstep run at that cycle (docs/MODEL.md, "The event core").
+/// The routers of a network that go on by single events, each at a cycle of its own. In whatever
+/// order the events come, a router between its cycles is the one of the lockstep run at that cycle
+/// (docs/MODEL.md, "The event core").
 ///
 /// It takes no memory: the storage is made with the network.
 #[derive(Drop)]
@@ -43,7 +44,8 @@ impl Model for Core {
 }
 
 impl Core {
-    /// The core that begins where a network is: every router at the network's count, the beats in flight on the wires.
+    /// The core that begins where a network is: every router at the network's count, the
+    /// beats in flight on the wires.
     pub fn new(network: Network) -> Core
         ensures core { result ≡ opening_core network }
         ensures net { result.net ≡ network.net }
@@ -60,7 +62,8 @@ impl Core {
         Core { parts }
     }
 
-    /// Lets an event happen, or answers that it is not ready, and then nothing changes (docs/MODEL.md, "The event core").
+    /// Lets an event happen, or answers that it is not ready, and then nothing changes
+    /// (docs/MODEL.md, "The event core").
     pub fn apply(&mut self, event: Event) -> Result<(), NotReady>
         ensures ready { is_ok result ≡ is_ready CYCLE_LIMIT self.old event }
         ensures core { self.new ≡ after_event CYCLE_LIMIT self.old event }
@@ -149,8 +152,9 @@ impl Core {
         }
     }
 
-    /// The cycle that a router is in, or that it makes next, at most the limit; at the start the network's count. Whoever has a
-    /// core knows that its network is good, so that all laws hold of it.
+    /// The cycle that a router is in, or that it makes next, at most the limit; at the
+    /// start the network's count. Whoever has a core knows that its network is good, so
+    /// that all laws hold of it.
     pub fn steps(&self, router: usize) -> u64
         requires { router < nodes_of self.now.net.relation.grid }
         ensures value { result ≡ steps_at self.now router }
@@ -173,8 +177,9 @@ impl Core {
         }
     }
 
-    /// What a router found in the cycle of its last Decide, by input channel; before the first one in this core what it
-    /// found in the cycle before the core began, and nothing at count 0.
+    /// What a router found in the cycle of its last Decide, by input channel. Before
+    /// the first one in this core it is what was found in the cycle before the core
+    /// began, and nothing at count 0.
     pub fn findings(&self, router: usize) -> &[Finding]
         requires { router < nodes_of self.now.net.relation.grid }
         ensures { (view : View) × (view_of_post self.now router ≡ Some view) × (result.now ≡ view.findings) }
@@ -182,8 +187,8 @@ impl Core {
         self.parts.routers[router].findings()
     }
 
-    /// The network, where all routers are between their cycles at one count: it has run so many cycles. Otherwise the
-    /// core as it was.
+    /// The network, where all routers are between their cycles at one count: it has run so many
+    /// cycles. Otherwise the core as it was.
     pub fn finish(self) -> Result<Network, Core>
         ensures whole { is_ok result ≡ are_between self (steps_at self 0) }
         ensures network { IfOk result (λ u. u ≡ record { net = self.net; count = steps_at self 0 }) }

@@ -5,7 +5,8 @@ ghost use Rattle.noc_net.specs.declared.fault.NetFault.TheVariants.{Memory as me
 
 use noc_packet::Memory;
 
-/// The first fault of a network's packets. Rows are packet numbers, from 0 (docs/FORMATS.md, "Fault lines").
+/// The first fault of a network's packets. Rows are packet numbers, from 0
+/// (docs/FORMATS.md, "Fault lines").
 #[derive(Clone, Copy, Debug, PartialEq, Eq)]
 pub enum NetFault {
     /// Its source is its destination.

@@ -1,11 +1,12 @@
 //! Time that jumps: cycles in which nothing happens are run at once.
 //!
-//! Cycles in which nothing happens are all the same, so their verdicts are counted at once. Whether time may
-//! jump is read from the state afresh, and only after a cycle without an event. So the proof owes only that a
-//! state in which nothing happens stays as it is (`proofs/runs/StillRunLemmas.antt` of noc_theory). Sources that cannot
-//! inject, for want of room or of an idle channel, do not hold time up; the next due time of the others does.
-//! A run of one cycle (`Network::cycle`), the event core and tiles do not jump: a tile does not know whether anything
-//! happens in the others.
+//! Cycles in which nothing happens are all the same, so their verdicts are counted at once. Whether
+//! time may jump is read from the state afresh, and only after a cycle without an event. So the
+//! proof owes only that a state in which nothing happens stays as it is
+//! (`proofs/runs/StillRunLemmas.antt` of noc_theory). Sources that cannot inject, for want of room
+//! or of an idle channel, do not hold time up; the next due time of the others does. A run of one
+//! cycle (`Network::cycle`), the event core and tiles do not jump: a tile does not know whether
+//! anything happens in the others.
 
 ghost use Rattle.std.specs.Prelude.{◌≡◌, ◌↔◌, ℕ, ◌+◌, ◌-◌, ◌<◌, ◌≤◌, All, IsTrue, length, map, false};
 ghost use Rattle.noc_topo.specs.Shape.{nodes as nodes_of};
@@ -23,8 +24,8 @@ use noc_route::Relation;
 use noc_router::{Plan, Router};
 use noc_topo::LINKS;
 
-// Where cycle `last` had no event and nothing happens in those after it, runs them, as far as the next injection or `end`. Gives
-// the cycle that is next.
+// Where cycle `last` had no event and nothing happens in those after it, runs them, as far as the
+// next injection or `end`. Gives the cycle that is next.
 pub(crate) fn jump(
     relation: &Relation,
     plan: &mut Plan,

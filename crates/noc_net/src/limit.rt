@@ -18,8 +18,8 @@ const MAX_EVENTS: u64 = MAX_LENGTH as u64 * (3 * MAX_DISTANCE as u64 + 2)
 pub const MAX_LIMIT: u64 = MAX_DUE as u64 + MAX_PACKETS as u64 * MAX_EVENTS;
 
 impl Network {
-    /// The count by which every packet is out where the relation is ranked: the last due time and the budget. It is 0 without
-    /// packets.
+    /// The count by which every packet is out where the relation is ranked: the last due time and
+    /// the budget. It is 0 without packets.
     pub fn limit(&self) -> u64
         ensures value { IsLimit self.now.net result }
         ensures few { result ≤ MAX_LIMIT }
@@ -39,8 +39,9 @@ impl Network {
         u64::from(last)
     }
 
-    // How many events it takes to bring every packet out: of each flit an injection, a move at each router, and a landing and a
-    // credit for each hop; and of each head to be routed and granted at each router.
+    // How many events it takes to bring every packet out. A flit has an injection, a
+    // move at each router, and a landing and a credit for each hop. A head is also
+    // routed and granted at each router.
     fn budget(&self) -> u64
         ensures value { result ≡ budget self.now.net }
         ensures few { result ≤ MAX_PACKETS * MAX_EVENTS }
@@ -55,7 +56,8 @@ impl Network {
         events
     }
 
-    /// Whether the tail of every packet is out: where the relation is ranked, at the limit at the latest.
+    /// Whether the tail of every packet is out: where the relation is ranked, at
+    /// the limit at the latest.
     pub fn all_out(&self) -> bool
         ensures value { result ≡ are_all_out self.now.net (state_at self.now.net self.now.count) }
         ensures ranked { (ranks : Ranking) (limit : ℕ) → IsRankedBy self.now.net.relation ranks → IsLimit self.now.net limit → limit ≤ self.now.count → result ≡ true }

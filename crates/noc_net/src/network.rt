@@ -1,9 +1,10 @@
 //! The network.
 //!
-//! A network runs by rows (`noc_rows`) where its channels and depth fit their words, and its routers stay at the
-//! count at which it was made. Where they do not fit, and after `from_parts`, its routers run. The readers ask
-//! whichever of the two has run. Nothing is carried from one to the other: `into_parts` has the routers run the
-//! cycles that the rows have run, and lets the rows go.
+//! A network runs by rows (`noc_rows`) where its channels and depth fit their words, and its
+//! routers stay at the count at which it was made. Where they do not fit, and after
+//! `from_parts`, its routers run. The readers ask whichever of the two has run. Nothing is
+//! carried from one to the other: `into_parts` has the routers run the cycles that the rows have
+//! run, and lets the rows go.
 
 ghost use Rattle.std.specs.Prelude.{◌≡◌, ℕ, ◌+◌, ◌*◌, ◌<◌, ◌≤◌, ◌&&◌, All, Err, IfErr, IfOk, None, Some, false, true, is_none, length, nat_le, vec_len};
 ghost use Rattle.std.specs.List.{slice_get};
@@ -43,8 +44,8 @@ pub const MAX_ROW_CHANNELS: usize = 31;
 
 /// A network of routers with one wire in each direction of each link, run in lockstep.
 ///
-/// It is seen as four values: its relation, the depth of its buffers, its packets, and the count of the
-/// cycles that it has run. What its readers answer follows from them (docs/MODEL.md).
+/// It is seen as four values: its relation, the depth of its buffers, its packets, and the count of
+/// the cycles that it has run. What its readers answer follows from them (docs/MODEL.md).
 #[derive(Drop)]
 pub struct Network {
     // The routers, at their own count: that of the network where there are no rows.
@@ -66,9 +67,10 @@ impl Model for Network {
 }
 
 impl Network {
-    /// A network at count 0 with buffers of `depth` (1 to 16) flits, or the first fault: too many
-    /// packets; then packet by packet a node that does not exist, a packet from a node to itself, a class
-    /// that does not exist, a length, a due time; then memory, where the packets have no fault.
+    /// A network at count 0 with buffers of `depth` (1 to 16) flits, or the first fault. Too many
+    /// packets come first. Then come, packet by packet, a node that does not exist, a packet from a
+    /// node to itself, a class that does not exist, a length, and a due time. Memory comes last,
+    /// where the packets have no fault.
     ///
     /// What it makes is good: all laws of a network hold of it.
     pub fn new(
@@ -105,9 +107,9 @@ impl Network {
         })
     }
 
-    /// Takes the network apart: its routers with their findings, and its beats in flight, are those of its state at its count,
-    /// and its plan is one of its relation without requests. It costs as many cycles of the routers as have run by rows, since
-    /// the routers run these again.
+    /// Takes the network apart: its routers with their findings, and its beats in flight, are those
+    /// of its state at its count, and its plan is one of its relation without requests. It costs as
+    /// many cycles of the routers as have run by rows, since the routers run these again.
     pub fn into_parts(self) -> Parts
         ensures network { run_in result ≡ self }
         ensures parts { AreParts result }
@@ -137,8 +139,9 @@ impl Network {
         }
     }
 
-    /// Whether a network of this relation is made with rows (`Network::new`), which one thread runs faster than several run
-    /// routers: the rows of `noc_rows` hold the input channels of a router in a word.
+    /// Whether a network of this relation is made with rows (`Network::new`), which one
+    /// thread runs faster than several run routers: the rows of `noc_rows` hold the input
+    /// channels of a router in a word.
     pub fn fits_rows(&self) -> bool
         ensures { result ≡ nat_le (ports_of self.now.net.relation.grid * self.now.net.relation.vcs) MAX_ROW_CHANNELS }
     {
@@ -146,16 +149,16 @@ impl Network {
         relation.shape().ports() * relation.vcs() <= MAX_ROW_CHANNELS
     }
 
-    /// Whether it runs by rows: a network that was made with them does (`fits_rows`), and one that was put together from parts
-    /// does not.
+    /// Whether it runs by rows: a network that was made with them does (`fits_rows`), and one that
+    /// was put together from parts does not.
     pub fn runs_by_rows(&self) -> bool
         ensures { result ≡ true → ports_of self.now.net.relation.grid * self.now.net.relation.vcs ≤ MAX_ROW_CHANNELS }
     {
         self.rows.is_some()
     }
 
-    /// Runs one cycle: each router takes its beats, injects, decides and commits, and then all put. A network whose relation
-    /// is ranked is not stuck afterwards.
+    /// Runs one cycle: each router takes its beats, injects, decides and commits, and then all put.
+    /// A network whose relation is ranked is not stuck afterwards.
     pub fn cycle(&mut self)
         requires { self.old.count < CYCLE_LIMIT }
         ensures value { self.new ≡ record self.old { count = self.old.count + 1 } }
@@ -185,8 +188,8 @@ impl Network {
         self.count
     }
 
-    /// Whether cycle `count` is pending: a packet due by then has its tail not out yet. None is where the relation is ranked and
-    /// the limit is reached.
+    /// Whether cycle `count` is pending: a packet due by then has its tail not out yet. Where the
+    /// relation is ranked and the limit is reached, it is not.
     pub fn pending(&self) -> bool
         ensures value { result ≡ is_pending self.now.net self.now.count (state_at self.now.net self.now.count) }
         ensures ranked { (ranks : Ranking) (limit : ℕ) → IsRankedBy self.now.net.relation ranks → IsLimit self.now.net limit → limit ≤ self.now.count → result ≡ false }
@@ -235,7 +238,8 @@ impl Network {
         }
     }
 
-    /// The cycle in which the tail of a packet was out: one below the limit where the relation is ranked and the limit is reached.
+    /// The cycle in which the tail of a packet was out, if it was. Where the relation is ranked and
+    /// the limit is reached it was, in a cycle below the limit.
     pub fn arrival(&self, packet: usize) -> Option<u64>
         requires { packet < length self.now.net.packets }
         ensures value { result ≡ arrival_in self.now.net (state_at self.now.net self.now.count) packet }
@@ -247,8 +251,8 @@ impl Network {
         }
     }
 
-    /// In how many of the cycles each verdict was that of an input channel, in the order of `Verdict`. The ten counts add up to
-    /// the cycles (`noc_theory::counts_add_up`).
+    /// In how many of the cycles each verdict was that of an input channel, in the order of
+    /// `Verdict`. The ten counts add up to the cycles (`noc_theory::counts_add_up`).
     pub fn counts(&self, router: usize, port: usize, vc: usize) -> [u64; VERDICTS]
         requires router { router < nodes_of self.now.net.relation.grid }
         requires port { port < ports_of self.now.net.relation.grid }
@@ -272,8 +276,9 @@ impl Network {
         }
     }
 
-    /// How many flits and credits did not fit, in all routers: none ever does. Rows have none to count: a flit that comes has a
-    /// place in its buffer by the law of credits (`noc_theory::credits_are_the_places_left`).
+    /// How many flits and credits did not fit, in all routers: none ever does. Rows have none to
+    /// count: a flit that comes has a place in its buffer by the law of credits
+    /// (`noc_theory::credits_are_the_places_left`).
     pub fn misfits(&self) -> u64
         ensures { result ≡ 0 }
     {
@@ -291,7 +296,8 @@ impl Network {
         self.parts.packets[number]
     }
 
-    /// How many packets there are. Whoever has a network knows that it is good, so that all laws hold of it.
+    /// How many packets there are. Whoever has a network knows that it is good, so
+    /// that all laws hold of it.
     pub fn packets(&self) -> usize
         ensures value { result ≡ length self.now.net.packets }
         ensures few { result ≤ MAX_PACKETS }

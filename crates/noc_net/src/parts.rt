@@ -16,7 +16,8 @@ use noc_router::{Finding, Plan, Router, VERDICTS};
 use noc_theory::CYCLE_LIMIT;
 use noc_topo::LINKS;
 
-/// What a network is made of, so that others can run its routers (`Network::into_parts`, `Network::from_parts`).
+/// What a network is made of, so that others can run its routers
+/// (`Network::into_parts`, `Network::from_parts`).
 #[derive(Drop)]
 pub struct Parts {
     /// The routing relation.
@@ -31,7 +32,8 @@ pub struct Parts {
     pub routers: Vec<Router>,
     /// A plan for the routers of the relation.
     pub plan: Plan,
-    /// The beats in flight, by the router and the link port where they arrive: idle where there is no link.
+    /// The beats in flight, by the router and the link port where they arrive:
+    /// idle where there is no link.
     pub beats: Vec<[Beat; LINKS]>,
     /// The storage of a core, one for each router.
     pub room: Vec<Room>,
@@ -81,7 +83,8 @@ impl Parts {
         self.routers[self.packets[packet].destination as usize].arrival(packet as u32)
     }
 
-    // In how many of the cycles each verdict was that of an input channel, in the order of `Verdict`.
+    // In how many of the cycles each verdict was that of an input channel,
+    // in the order of `Verdict`.
     pub(crate) fn counts(&self, router: usize, port: usize, vc: usize) -> [u64; VERDICTS]
         requires parts { AreParts self.now }
         requires router { router < nodes_of self.now.relation.grid }

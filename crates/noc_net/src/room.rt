@@ -13,7 +13,8 @@ use noc_router::Router;
 use noc_theory::CYCLE_LIMIT;
 use noc_topo::LINKS;
 
-/// The storage of a core for one router: the wires that arrive there, and what the router has done of its cycle.
+/// The storage of a core for one router: the wires that arrive there, and what the
+/// router has done of its cycle.
 #[derive(Clone, Copy)]
 pub struct Room {
     // The cycle that the router is in, or that it makes next.

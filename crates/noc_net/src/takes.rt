@@ -25,7 +25,8 @@ pub fn take_beats(relation: &Relation, router: &mut Router, beats: &mut [Beat; L
     }
 }
 
-// The ports with a beat that carries something. They are found without a branch for each, since none could be foreseen.
+// The ports with a beat that carries something. They are found without a branch for each,
+// since none could be foreseen.
 pub(crate) fn arrived(beats: &[Beat; LINKS]) -> ChannelSet
     ensures { AreLoaded LINKS beats.now result }
 {

@@ -1,4 +1,5 @@
-//! A network by rows beside the same network by its routers: one that is put together from parts has no rows.
+//! A network by rows beside the same network by its routers: one that is put
+//! together from parts has no rows.
 
 ghost use Rattle.std.specs.Prelude.{◌≡◌, IfOk};
 
@@ -69,7 +70,8 @@ fn run_shape(
     Ok(tally)
 }
 
-// Whether a network, which the same numbers make twice, runs alike. None where its rule does not fit its shape.
+// Whether a network, which the same numbers make twice, runs alike. None where its
+// rule does not fit its shape.
 fn run_one(
     alloc: Global,
     shape: usize,
@@ -87,7 +89,8 @@ fn run_one(
     Ok(Some(run_alike(&mut rows, &mut routers)))
 }
 
-// Shapes by their numbers, from one up to another: so many networks of each are run, and at least `least` of all run alike.
+// Shapes by their numbers, from one up to another: so many networks of each are run, and at least
+// `least` of all run alike.
 fn assert_alike(
     rt: &(impl AllocGlobal + Abort),
     groups: &[(usize, usize, usize, usize)],
@@ -138,8 +141,8 @@ fn a_stuck_ring_runs_in_rows_as_in_routers(rt: HostRuntime) -> Result<(), Fail> 
     Ok(())
 }
 
-// Two such rings side by side. In the second one packet after the other has the way to itself, with long times between
-// them in which nothing happens although the first ring holds flits.
+// Two such rings side by side. In the second one packet after the other has the way to itself, with
+// long times between them in which nothing happens although the first ring holds flits.
 fn stuck_ring_beside_another(alloc: Global) -> Result<Network, Fail>
     ensures { IfOk result (λ n. n.count ≡ 0) }
 {
@@ -198,8 +201,8 @@ fn a_network_runs_by_rows_where_its_channels_fit(rt: HostRuntime) -> Result<(), 
     Ok(())
 }
 
-// What rows of a square of four with so many channels and this depth count after a run of three cycles. None where it can't
-// be in rows.
+// What rows of a square of four with so many channels and this depth count after a run of three
+// cycles. None where it can't be in rows.
 fn count_by_rows(alloc: Global, vcs: usize, depth: usize) -> Result<Option<u32>, Fail> {
     let square = relation(alloc, Kind::Mesh, &[2, 2], vcs, Rule::Dor)?;
     let Some(mut rows) = Rows::new(alloc, &square, depth, &[])? else {

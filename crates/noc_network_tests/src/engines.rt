@@ -1,5 +1,5 @@
-//! The same network by rows and by its routers: these run where its channels do not fit into the words of rows, and where
-//! it was put together from parts.
+//! The same network by rows and by its routers: these run where its channels do not fit into the
+//! words of rows, and where it was put together from parts.
 
 ghost use Rattle.std.specs.Prelude.{◌≡◌, IfOk};
 
@@ -12,7 +12,8 @@ use noc_topo::Kind;
 use std::alloc::Global;
 use std::test::Fail;
 
-// A cube of eight routers with so many virtual channels and 16 places in each buffer, routed in dimension order.
+// A cube of eight routers with so many virtual channels and 16 places in each buffer,
+// routed in dimension order.
 fn cube(alloc: Global, vcs: usize, packets: &[Packet]) -> Result<Network, Fail>
     ensures { IfOk result (λ n. n.count ≡ 0) }
 {

@@ -69,7 +69,8 @@ fn agree(core: &mut Core, answers: &[(Event, bool)]) -> bool
     true
 }
 
-// The steps of two routers in a line, and the beats on the wires between them, towards the second and back.
+// The steps of two routers in a line, and the beats on the wires between them,
+// towards the second and back.
 fn stand(core: &Core) -> [u64; 4]
     requires { core.now.net.relation.grid ≡ record { wraps = false; radix = 2 ∷ [] } }
 {

@@ -1,5 +1,5 @@
-//! Tests of noc_route, noc_rank, noc_rows and noc_net: relations, ranks, and networks that are run. They are a crate of their own, since
-//! a crate with tests is proved twice.
+//! Tests of noc_route, noc_rank, noc_rows and noc_net: relations, ranks, and networks that are run.
+//! They are a crate of their own, since a crate with tests is proved twice.
 #![tactic(auto)]
 
 #[cfg(test)]

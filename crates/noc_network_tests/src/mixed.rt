@@ -9,8 +9,8 @@ use noc_packet::Packet;
 use std::alloc::{AllocError, Global};
 use std::test::Fail;
 
-/// A network of the shape with this number, if its rule fits its shape: each rule in turn, and every tenth with one
-/// channel and the greatest load.
+/// A network of the shape with this number, if its rule fits its shape: each rule in turn, and
+/// every tenth with one channel and the greatest load.
 pub fn network_of(
     alloc: Global,
     shape: usize,

@@ -35,8 +35,8 @@ fn first_router(
     }
 }
 
-// One cycle of a router with two link ports: this beat comes to the first of them, and an idle one to the other.
-// What it answers are the beats that go out.
+// One cycle of a router with two link ports: this beat comes to the first of them, and an idle one
+// to the other. What it answers are the beats that go out.
 fn cycle(
     router: &mut Router,
     relation: &Relation,

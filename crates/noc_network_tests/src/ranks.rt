@@ -34,7 +34,8 @@ fn fault_on_a_line(alloc: Global, vcs: usize, rows: &[RankRow]) -> Option<RankFa
     Ranks::from_rows(alloc, &line, vcs, rows).err()
 }
 
-// What the check answers of dimension order on a line or a ring of so many nodes, with ranks by these rows.
+// What the check answers of dimension order on a line or a ring of so many nodes,
+// with ranks by these rows.
 fn answer<R: Threads + Sync>(
     rt: &R,
     alloc: Global,
@@ -253,8 +254,8 @@ fn no_escape_where_all_are_adaptive(rt: HostRuntime) -> Result<(), Fail> {
     Ok(())
 }
 
-// Ranks on a line of three nodes with two channels per link, of which channel 1 is adaptive; `second` is the rank of the
-// channel from node 1 up to node 2.
+// Ranks on a line of three nodes with two channels per link, of which channel 1 is adaptive;
+// `second` is the rank of the channel from node 1 up to node 2.
 fn rows_on_a_line(second: usize) -> [RankRow; 8] {
     [
         row(0, 0, 0, 2),

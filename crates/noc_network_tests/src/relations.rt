@@ -20,7 +20,8 @@ fn fault_of(
     Ok(Relation::build(alloc, &line, vcs, 1, rule).err())
 }
 
-// Whether the numbers of channels and classes are out of their limits, or the rule does not fit the shape.
+// Whether the numbers of channels and classes are out of their limits, or the
+// rule does not fit the shape.
 fn is_wrong(alloc: Global, shape: &Shape, vcs: usize, classes: usize, rule: Rule) -> bool {
     Relation::build(alloc, shape, vcs, classes, rule).err() == Some(RouteFault::WrongShape)
 }
@@ -123,7 +124,8 @@ fn ring_of_four_keeps_two_escape_channels(rt: HostRuntime) -> Result<(), Fail> {
     Ok(())
 }
 
-// A table of two nodes with two channels; `second` is its second row, and its first row comes again at its end.
+// A table of two nodes with two channels; `second` is its second row, and its first
+// row comes again at its end.
 fn two_node_rows(second: RouteRow) -> [RouteRow; 7] {
     let first = row((0, 2, 0), 1, (0, 0));
     [

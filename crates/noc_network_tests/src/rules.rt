@@ -10,7 +10,8 @@ use std::alloc::{AllocError, Global};
 /// How many rules there are.
 pub const RULES: usize = 5;
 
-/// The shape with a number: one to three dimensions, radix 2 among them, and some of more than 32 routers.
+/// The shape with a number: one to three dimensions, radix 2 among them, and some
+/// of more than 32 routers.
 pub fn shape_of(number: usize) -> Result<Shape, ShapeFault> {
     match number {
         0 => Shape::new(Kind::Mesh, &[2]),

@@ -12,7 +12,8 @@ pub record IsWithinLimits (p : Packet) : Type 0 where
   pub length : p.length ≤ MAX_LENGTH
   pub due : p.due ≤ MAX_DUE
 
--- the flit with this index of the packet with this number: the tail is the one at the length less one
+-- the flit with this index of the packet with this number: the tail is the
+-- one at the length less one
 abbrev pub flit_at : Packet → ℕ → ℕ → Flit
 flit_at p number i = record {
   packet = number;

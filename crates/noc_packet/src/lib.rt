@@ -1,4 +1,5 @@
-//! Packets, in a network and by node, their flits, the beats of a wire, and sets of channel indices.
+//! Packets, in a network and by node, their flits, the beats of a wire, and
+//! sets of channel indices.
 #![tactic(auto)]
 
 mod by_node;

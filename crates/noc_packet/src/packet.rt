@@ -36,7 +36,8 @@ pub struct Flit {
     pub class: u8,
 }
 
-/// What one wire carries in one cycle: at most one flit and at most one credit, each with its virtual channel.
+/// What one wire carries in one cycle: at most one flit and at most one credit, each
+/// with its virtual channel.
 #[derive(Clone, Copy, Debug, PartialEq, Eq)]
 pub struct Beat {
     /// A flit, and the virtual channel that it is on.
@@ -57,7 +58,8 @@ impl Beat {
     }
 }
 
-/// The flit with this index, from 0, of the packet with this number. The flit at the length less one is the tail.
+/// The flit with this index, from 0, of the packet with this number. The flit at the
+/// length less one is the tail.
 pub fn flit_of(packet: &Packet, number: usize, index: usize) -> Flit
     requires limits { IsWithinLimits packet.now }
     requires number { number < MAX_PACKETS }

@@ -62,8 +62,9 @@ fn a_channel_that_two_ask_for_goes_round(rt: HostRuntime) -> Result<(), Fail> {
     Ok(())
 }
 
-// Three ports of two virtual channels: (0, 0) and (1, 0) go to output port 2, and (0, 1) to output port 1. The pointers of the outputs
-// before the round, the picks, the wins, and the pointers of the inputs and of the outputs after it.
+// Three ports of two virtual channels: (0, 0) and (1, 0) go to output port 2, and (0, 1) to output
+// port 1. The pointers of the outputs before the round, the picks, the wins, and the pointers of
+// the inputs and of the outputs after it.
 #[test]
 fn an_input_port_that_loses_the_switch_keeps_its_turn(rt: HostRuntime) -> Result<(), Fail> {
     let ready = [Some(2), Some(1), Some(2), None, None, None];

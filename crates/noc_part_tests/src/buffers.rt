@@ -1,4 +1,5 @@
-//! Rings that wrap, banks of every size that is allowed, and banks that go to a thread and come back.
+//! Rings that wrap, banks of every size that is allowed, and banks that go
+//! to a thread and come back.
 ghost use Rattle.std.specs.Prelude.{◌≡◌, ◌<◌, length};
 
 use noc_packet::Flit;
@@ -46,7 +47,8 @@ fn shown(bank: &Bank, ring: usize) -> (Option<Flit>, usize, bool)
     (bank.front(ring), bank.len(ring), bank.is_full(ring))
 }
 
-// A ring of two turns round the end of its memory: packets 1 and 2 come in, 1 goes, 3 comes in, 2 and 3 go.
+// A ring of two turns round the end of its memory: packets 1 and 2 come in, 1
+// goes, 3 comes in, 2 and 3 go.
 #[test]
 fn a_ring_of_two_wraps_and_leaves_its_neighbour_empty(rt: HostRuntime) -> Result<(), Fail> {
     let mut bank = Bank::new(rt.alloc(), 2, 2)?;
@@ -128,7 +130,8 @@ fn a_bank_is_dropped_with_a_flit(rt: HostRuntime) -> Result<(), Fail> {
     Ok(())
 }
 
-// Whether the last ring of 28, which is full, gives this flit and takes another one, beside a ring that holds one.
+// Whether the last ring of 28, which is full, gives this flit and takes another one,
+// beside a ring that holds one.
 fn turns(bank: &mut Bank, first: u32, next: u32) -> bool
     requires { length bank.old.rings ≡ 28 }
     ensures { length bank.new.rings ≡ 28 }

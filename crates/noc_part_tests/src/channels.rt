@@ -1,4 +1,5 @@
-//! One packet through a channel: an output channel from its head to the last credit, an input channel from its head to its tail.
+//! One packet through a channel: an output channel from its head to the last credit, an input
+//! channel from its head to its tail.
 
 ghost use Rattle.std.specs.Prelude.{◌≡◌, ◌<◌, ◌∷◌, [], IfOk, false, length};
 
@@ -140,7 +141,8 @@ fn send(channel: &mut InputChannel, bank: &mut Bank) -> Option<Flit>
     Some(channel.send(bank, 0))
 }
 
-// It takes a head, and none behind it until that is routed; then what follows, as far as there is room.
+// It takes a head, and none behind it until that is routed; then what follows,
+// as far as there is room.
 #[test]
 fn an_input_channel_takes_one_packet(rt: HostRuntime) -> Result<(), Fail> {
     let mut bank = Bank::new(rt.alloc(), 1, 2)?;

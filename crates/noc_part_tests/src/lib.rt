@@ -1,5 +1,5 @@
-//! Tests of noc_topo, noc_packet, noc_ring, noc_alloc and noc_vc, the parts of a network. They are a crate of their own, since a crate
-//! with tests is proved twice.
+//! Tests of noc_topo, noc_packet, noc_ring, noc_alloc and noc_vc, the parts of a network. They are
+//! a crate of their own, since a crate with tests is proved twice.
 #![tactic(auto)]
 
 #[cfg(test)]

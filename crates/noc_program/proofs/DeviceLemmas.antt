@@ -22,7 +22,8 @@ whole (Some xs) (Some ys) None text buffer appends keeps empty = absurd appends
 whole (Some xs) (Some ys) (Some ws) text buffer appends keeps empty =
     sym (append-nil ys) ∙ ap (λ rest. ys ++ rest) (sym empty) ∙ keeps ∙ appends ∙ ap (λ zs. zs ++ text) (append-nil xs)
 
--- what is on a device is a front of what was put, where some is still in the buffer and more was to follow
+-- what is on a device is a front of what was put, where some is still in the
+-- buffer and more was to follow
 front : (old new through : Option (List ℕ)) (sent more text buffer : List ℕ) → sent ++ more ≡ text
     → Appends (append_known old []) through sent → Keeps through (append_known new buffer) → AreFrontOf old new text
 front None new through sent more text buffer parts appends keeps = tt

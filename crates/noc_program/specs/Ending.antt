@@ -6,8 +6,9 @@ use Rattle.noc_faults.specs.declared.fault.Fault.{Fault}
 use Rattle.noc_faults.specs.declared.fault.Fault.TheVariants.{Write}
 use Rattle.noc_faults.specs.declared.status.Status.{Status}
 
--- An answer keeps its status only if all of it is out. A fault of writing has the number `taken`, which is counted below the buffer; no
--- clause says that the device took so many bytes. Each other fault stays.
+-- An answer keeps its status only if all of it is out. A fault of writing has the number
+-- `taken`, which is counted below the buffer; no clause says that the device took so many
+-- bytes. Each other fault stays.
 abbrev pub EndsAs : Type 0 → ℕ → Result Status Fault → Result Status Fault → Type 0
 EndsAs IsOut taken (Ok status) (Ok end) = (end ≡ status) × IsOut
 EndsAs IsOut taken (Err fault) (Ok end) = ⊥

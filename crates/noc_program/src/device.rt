@@ -17,7 +17,8 @@ use std::io::{BufWriter, Write};
 use std::sync::Wait;
 use std::thread::Threads;
 
-/// Writes the answer to a device, through a buffer, and gives the device back: none where there is no memory for the buffer.
+/// Writes the answer to a device, through a buffer, and gives the device back: none where there is
+/// no memory for the buffer.
 pub fn write_answer<R: Threads + Wait + Sync, W: Write + Drop>(
     rt: &R,
     alloc: Global,
@@ -44,7 +45,8 @@ pub fn write_answer<R: Threads + Wait + Sync, W: Write + Drop>(
     (ended, Some(counted.writer))
 }
 
-// How an answer ends: a whole one goes out to its last byte, and a fault of writing has the number that was counted below the buffer.
+// How an answer ends: a whole one goes out to its last byte, and a fault of writing has the number
+// that was counted below the buffer.
 fn finished<W: Write + Drop>(
     answered: Result<Status, Fault>,
     writer: &mut BufWriter<Counted<W>>,

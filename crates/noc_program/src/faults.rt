@@ -33,8 +33,8 @@ pub(crate) fn report_refusal<W: Write + Drop>(mut to: W, refusal: &Refusal) -> E
     ExitCode::from(WRONG_ARGS)
 }
 
-// Tells a fault, and gives its exit status. The line goes out in one write, so that programs side by side, with one file for
-// their errors, leave whole lines there.
+// Tells a fault, and gives its exit status. The line goes out in one write, so that programs side
+// by side, with one file for their errors, leave whole lines there.
 pub(crate) fn report_fault<W: Write + Drop>(to: W, fault: &Fault) -> ExitCode
     ensures { exit_status result ≡ status_of_fault fault.now }
 {

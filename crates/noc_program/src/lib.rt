@@ -1,4 +1,5 @@
-//! What the program does, from its arguments to its exit status: the files that the arguments name, and the way of an answer out of the program.
+//! What the program does, from its arguments to its exit status: the files that the arguments name,
+//! and the way of an answer out of the program.
 #![tactic(auto)]
 
 mod counted;

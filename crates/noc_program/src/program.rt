@@ -18,7 +18,8 @@ use std::rt::Env;
 use std::sync::Wait;
 use std::thread::Threads;
 
-/// Answers what the arguments of the command line ask for on standard output, or tells to `errors` why not, and gives the exit status.
+/// Answers what the arguments of the command line ask for on standard output, or tells to `errors`
+/// why not, and gives the exit status.
 pub fn run<R: Env + Files + Input + Print + AllocGlobal + Threads + Wait + Sync, W: Write + Drop>(
     rt: &R,
     errors: W,

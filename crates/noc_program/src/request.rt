@@ -31,7 +31,8 @@ pub(crate) enum Asked {
 pub(crate) enum Refusal {
     // Memory was refused.
     Memory,
-    // An argument is no text in UTF-8: its number, the program's name being 0, where the argument is not too long to be looked at.
+    // An argument is no text in UTF-8: its number, the program's name being 0, where the argument
+    // is not too long to be looked at.
     NotText(Option<usize>),
     // They make no sense, or help was asked for.
     Args(clap::Error),
@@ -87,7 +88,8 @@ fn wrong_arg(rt: &impl Env) -> Option<usize> {
     None
 }
 
-/// The request of the arguments, with what `read` gives for the files that they name. Traffic that is not named is not read.
+/// The request of the arguments, with what `read` gives for the files that they name. Traffic that
+/// is not named is not read.
 pub fn request_of<F: Fn(&str) -> Text>(args: &Args<'_>, read: F) -> Request
     requires { F.IsAlwaysCallable read }
     ensures command { result.command ≡ args.now.command }

@@ -104,7 +104,8 @@ module _ (s : Search) (built : IsRelation s.relation.now) where
 
   -- ---- one step
 
-  -- a channel a, o, w that arrives at router b, where the list has the least marks ahead of all channels that arrive nearer
+  -- a channel a, o, w that arrives at router b, where the list has the least marks ahead of all
+  -- channels that arrive nearer
   module _ (a o w b q : ℕ) (sent : a < nodes g) (vc : w < routes.vcs) (link : neighbour g a o ≡ Some (b, q)) (least : List (Option ℕ))
       (ahead : (x p v r s : ℕ) → is_port_channel g routes.vcs x p v ≡ true → neighbour g x p ≡ Some (r, s) → distance g r t < distance g b t → IsLeastOf (Ahead x p v) (mark_at routes least x p v)) where
     abbrev bits : ℕ

@@ -1,4 +1,5 @@
--- Where each link channel has a rank, a relation over the same channels is ranked where ranks rise with each step.
+-- Where each link channel has a rank, a relation over the same channels is ranked where
+-- ranks rise with each step.
 use Rattle.std.proofs.Common.{◌≡◌, ℕ, sym, subst}
 use Rattle.noc_topo.specs.Shape.{Grid}
 use Rattle.noc_route.specs.Ranks.{Ranking, rank_at, AreAllRanked, IsRankedBy, IsRising}

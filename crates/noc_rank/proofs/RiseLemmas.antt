@@ -34,7 +34,8 @@ order-port g xs ts p e =
         let Q : ℕ → Type 0 = λ i. goes_up g.wraps (get_or g.radix i 0) (get_or xs i 0) (get_or ts i 0) ≡ is_plus p in
         record { inside = omega (arith, same, a); differ = subst P same b; way = subst Q same c; lower = λ l below. d l (omega (arith, same, below)) }
 
--- the port of dimension order after a step along it: of a higher dimension, or of the same where its coordinate still differs
+-- the port of dimension order after a step along it: of a higher dimension, or of the same where
+-- its coordinate still differs
 pub record IsSameDimension (g : Grid) (ts : List ℕ) (o p y : ℕ) : Type 0 where
   pub same : p / 2 ≡ o / 2
   pub differ : y ≢ get_or ts (o / 2) 0
@@ -91,7 +92,8 @@ module _ (g : Grid) (xs ts : List ℕ) (o p y : ℕ) (radices : AreRadices g.rad
   changed : get_or ys (o / 2) 0 ≡ y
   changed = get_or-set_same xs (o / 2) y 0 (omega (arith, first.inside, long))
 
-  -- in the same dimension: where the next port leads the same way, its rank is of the next coordinate
+  -- in the same dimension: where the next port leads the same way, its rank
+  -- is of the next coordinate
   rank-same : (c : ℕ) → p / 2 ≡ o / 2 → is_plus p ≡ is_plus o → order_rank g ys p c ≡ 32 * (o / 2) + c * size + behind size y (is_plus o) + 1
   rank-same c same way =
       let P : ℕ → ℕ = λ i. 32 * i + c * get_or g.radix i 0 + behind (get_or g.radix i 0) (get_or ys i 0) (is_plus p) + 1 in

@@ -160,7 +160,8 @@ round-down k x y t l m differ onward e f = at (cases_lt x t) (moved-down true k 
         }
     at (inr below) (inr s) short = absurd (omega (arith, s.0))
 
--- round a torus a step by the shorter way keeps its direction; by halves, and by what lies behind in each, it rises
+-- round a torus a step by the shorter way keeps its direction; by halves, and by what lies
+-- behind in each, it rises
 pub round-rises : (k x y t : ℕ) (up : Bool) → x < k → t < k → x ≢ t → y ≢ t → goes_up true k x t ≡ up → moved_in true k up x ≡ Some y
     → (goes_up true k y t ≡ up) × (half up x t * k + behind k x up < half up y t * k + behind k y up)
 round-rises k x y t true l m differ onward e f = let r = round-up k x y t l m differ onward e f in (r.onward, r.rises)

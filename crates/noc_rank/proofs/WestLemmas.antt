@@ -9,7 +9,8 @@ use Rattle.noc_route.specs.declared.rule.Rule.TheVariants.{WestFirst}
 use Rattle.noc_route.proofs.AdaptiveLemmas.{Nearer, Nearer-from_test}
 use Rattle.noc_rank.proofs.StepLemmas.{moved-up, moved-down}
 
--- the rank by west first of a channel of this port at column x and row y, of so many columns and rows
+-- the rank by west first of a channel of this port at column x and row y, of
+-- so many columns and rows
 abbrev pub west_rank : ℕ → ℕ → ℕ → ℕ → ℕ → ℕ
 west_rank columns rows x y p =
     if nat_eq p 1 then columns - x

@@ -13,7 +13,8 @@ pub record IsRight (g : Grid) (vcs : ℕ) (row : RankRow) : Type 0 where
   pub channel : is_channel g vcs row.router row.port row.vc ≡ true
   pub limits : is_rank row.rank ≡ true
 
--- one list holds the ranks of the first n rows, the other says which channels they name, and they have no fault
+-- one list holds the ranks of the first n rows, the other says which channels they
+-- name, and they have no fault
 pub record AreEntered (g : Grid) (vcs : ℕ) (rows : List RankRow) (n : ℕ) (ranks : List (Option ℕ)) (named : List Bool) : Type 0 where
   pub long : length ranks ≡ rank_count g vcs
   pub all : length named ≡ rank_count g vcs

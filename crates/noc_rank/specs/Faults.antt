@@ -11,7 +11,8 @@ use Rattle.noc_rank.specs.declared.channel.LinkChannel.{LinkChannel}
 use Rattle.noc_rank.specs.declared.fault.RankFault.{RankFault}
 use Rattle.noc_rank.specs.declared.fault.RankFault.TheVariants.{NotRising, NotRisingTo, NoEscape, Memory}
 
--- packets come to an entry, away from its destination, and no channel with a rank is permitted there
+-- packets come to an entry, away from its destination, and no channel with
+-- a rank is permitted there
 pub record IsBare (routes : Routes) (k : Ranking) (e : Entry) : Type 0 where
   pub from : Channel
   pub input : arrival_of routes.grid from ≡ Some (e.router, e.in_port)
@@ -30,8 +31,8 @@ pub record IsFirstBare (routes : Routes) (k : Ranking) (e : Entry) : Type 0 wher
 abbrev pub HasEscapes : Routes → Ranking → Type 0
 HasEscapes routes k = (e : Entry) → IsBare routes k e → ⊥
 
--- permitted steps of one class to one destination lead from one channel with a rank to another, directly or through adaptive channels
--- only, and the other's rank is not greater
+-- permitted steps of one class to one destination lead from one channel with a rank to another,
+-- directly or through adaptive channels only, and the other's rank is not greater
 pub record IsDescent (routes : Routes) (k : Ranking) (e o : LinkChannel) (before after : ℕ) : Type 0 where
   pub class : ℕ
   pub dst : ℕ
@@ -44,7 +45,8 @@ pub record IsDescent (routes : Routes) (k : Ranking) (e o : LinkChannel) (before
 abbrev pub pair_numbers : LinkChannel → LinkChannel → List ℕ
 pair_numbers e o = e.router ∷ e.port ∷ e.vc ∷ o.router ∷ o.port ∷ o.vc ∷ []
 
--- the first such pair, the first channel before the second, each in the order of router, port and channel
+-- the first such pair, the first channel before the second, each in the order of
+-- router, port and channel
 pub record IsFirstDescent (routes : Routes) (k : Ranking) (e o : LinkChannel) (before after : ℕ) : Type 0 where
   pub descent : IsDescent routes k e o before after
   pub first : (a b : LinkChannel) (x y : ℕ) → IsDescent routes k a b x y → numbers_before (pair_numbers a b) (pair_numbers e o) ≡ false
@@ -57,8 +59,8 @@ HasNoDescent routes k = (e o : LinkChannel) (before after : ℕ) → IsDescent r
 abbrev pub step_of : Entry → ℕ → ℕ → RouteRow
 step_of e port vc = record { class = e.class; router = e.router; in_port = e.in_port; in_vc = e.in_vc; dst = e.dst; out_port = port; out_vc = vc }
 
--- where each link channel has a rank, the first step that does not rise; else the first entry without an escape, else the first pair
--- that does not rise, or memory was refused
+-- where each link channel has a rank, the first step that does not rise; else the first entry
+-- without an escape, else the first pair that does not rise, or memory was refused
 abbrev pub IsFaultOfCheck : Routes → Ranking → RankFault → Type 0
 IsFaultOfCheck routes k (NotRising entry port vc before after) = AreAllRanked k.grid k.vcs (rank_at k) × IsFirstFall routes k (step_of entry port vc) before after
 IsFaultOfCheck routes k (NoEscape entry) = (AreAllRanked k.grid k.vcs (rank_at k) → ⊥) × IsFirstBare routes k entry

@@ -3,7 +3,8 @@ use Rattle.std.specs.Prelude.{ℕ, List, Option}
 use Rattle.noc_rank.specs.LeastAhead.{AreLeast, AreAllLeast, IsValueIn}
 use Rattle.noc_rank.specs.declared.ahead.Search.{Search}
 
--- the list has the least mark ahead of each channel that arrives before input channel i of router b at distance d
+-- the list has the least mark ahead of each channel that arrives before input channel i
+-- of router b at distance d
 abbrev pub IsFilled : Search → ℕ → ℕ → ℕ → List (Option ℕ) → Type 0
 IsFilled s d b i least = AreLeast s.relation.now s.ranks.now s.marks.now s.class s.dst d b i least
 

@@ -15,7 +15,8 @@ IsWithin n = (1 ≤ n) × (n ≤ HIGHEST)
 abbrev pub rank_in : Formula → ℕ → ℕ → ℕ → Option ℕ
 rank_in f r p v = formula_at f.shape.now f.vcs f.classes f.rule.now r p v
 
--- the part of a dimension's channels in which a channel is: by dateline the half of its class's channels, by adaptive the escape channel
+-- the part of a dimension's channels in which a channel is: by dateline the half of its class's
+-- channels, by adaptive the escape channel
 abbrev pub part_by : ℕ → ℕ → Rule → ℕ → ℕ
 part_by vcs classes Dateline v = resource_class vcs classes v
 part_by vcs classes Adaptive v = index_in_class vcs classes v

@@ -26,7 +26,8 @@ over routes ranks = record { grid = routes.grid; vcs = routes.vcs; ranks = ranks
 abbrev pub mark_at : Routes → List (Option ℕ) → ℕ → ℕ → ℕ → Option ℕ
 mark_at routes marks r p v = slice_index_or marks (rank_index routes.grid routes.vcs r p v) None
 
--- permitted steps of a class to a destination lead from a channel to one with a rank and this mark, directly or through adaptive channels
+-- permitted steps of a class to a destination lead from a channel to one with a rank and this mark,
+-- directly or through adaptive channels
 pub record IsAhead (routes : Routes) (ranks marks : List (Option ℕ)) (m t r p v n : ℕ) : Type 0 where
   pub router : ℕ
   pub port : ℕ
@@ -40,7 +41,8 @@ pub record IsAhead (routes : Routes) (ranks marks : List (Option ℕ)) (m t r p 
 abbrev pub outputs : Routes → ℕ
 outputs routes = local_port routes.grid * routes.vcs
 
--- what the channel with an index counts for: its mark where it has a rank, else the least mark ahead of it
+-- what the channel with an index counts for: its mark where it has a rank, else
+-- the least mark ahead of it
 abbrev pub counts_for : List (Option ℕ) → List (Option ℕ) → List (Option ℕ) → ℕ → Option ℕ
 counts_for ranks marks least index = if is_some (slice_index_or ranks index None) then slice_index_or marks index None else slice_index_or least index None
 
@@ -51,8 +53,8 @@ pub record IsValueIn (routes : Routes) (ranks marks least : List (Option ℕ)) (
   pub member : has_bit set index ≡ true
   pub value : counts_for ranks marks least (r * outputs routes + index) ≡ Some n
 
--- the input channels before input channel i of router b at distance d: those of nearer routers, those of routers as near with lower
--- numbers, and those of this router with lower indices
+-- the input channels before input channel i of router b at distance d: those of nearer routers,
+-- those of routers as near with lower numbers, and those of this router with lower indices
 abbrev pub IsBefore : Routes → ℕ → ℕ → ℕ → ℕ → ℕ → ℕ → Type 0
 IsBefore routes t d b i r j = (distance routes.grid r t < d) ⊎ ((distance routes.grid r t ≡ d) × (r < b)) ⊎ ((r ≡ b) × (j < i))
 

@@ -25,7 +25,8 @@ pub record IsRankedIn (k : Ranking) (router set i : ℕ) : Type 0 where
   pub member : has_bit set i ≡ true
   pub ranked : is_some (rank_at k router (i / k.vcs) (i % k.vcs)) ≡ true
 
--- away from its destination, something is permitted at an entry, and no channel of a link port with a rank
+-- away from its destination, something is permitted at an entry, and no channel
+-- of a link port with a rank
 pub record IsBareSet (routes : Routes) (k : Ranking) (e : Entry) : Type 0 where
   pub away : e.router ≢ e.dst
   pub index : ℕ

@@ -26,7 +26,8 @@ is_not_above before (Some after) = nat_le after before
 abbrev pub falls_to : Ranking → ℕ → ℕ → ℕ → ℕ → Bool
 falls_to k r set before i = has_bit set i && is_not_above before (rank_at k r (i / k.vcs) (i % k.vcs))
 
--- whether a set of router r has output channel number i, whose rank is not greater than that of the channel on which the packet came, if that has one
+-- whether a set of router r has output channel number i, whose rank is not greater than that of the
+-- channel on which the packet came, if that has one
 abbrev pub falls_from : Ranking → ℕ → ℕ → Option ℕ → ℕ → Bool
 falls_from k r set None i = false
 falls_from k r set (Some before) i = falls_to k r set before i
@@ -49,7 +50,8 @@ input_port_of k e = e / k.vcs % ports k.grid
 abbrev pub input_count : Ranking → ℕ
 input_count k = nodes k.grid * ports k.grid * k.vcs
 
--- whether a packet of that class that came by that input channel, bound for t, may go on by output channel i without a rise
+-- whether a packet of that class that came by that input channel, bound for t, may go on by output
+-- channel i without a rise
 abbrev pub falls_at : Routes → Ranking → ℕ → ℕ → ℕ → Bool
 falls_at routes k e t i =
     falls_from k (router_of k e) (set_at routes (class_of k e) (router_of k e) (input_port_of k e) (e % k.vcs) t) (arrival_rank k (router_of k e) (input_port_of k e) (e % k.vcs)) i
@@ -69,7 +71,8 @@ pub record IsLeastBelow (has : ℕ → Bool) (n i : ℕ) : Type 0 where
 abbrev pub HasNone : (ℕ → Bool) → ℕ → Type 0
 HasNone has n = (j : ℕ) → j < n → has j ≡ false
 
--- the first step from this entry that does not rise, over all destinations, and the ranks before and after it
+-- the first step from this entry that does not rise, over all destinations, and the
+-- ranks before and after it
 pub record IsFirstFrom (routes : Routes) (k : Ranking) (m r q w before : ℕ) (fall : Fall) : Type 0 where
   pub index : ℕ
   pub dst : ℕ

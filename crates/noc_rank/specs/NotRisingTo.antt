@@ -54,11 +54,13 @@ pub record IsStartBy (routes : Routes) (ranks : List (Option ℕ)) (m t n : ℕ)
   pub ahead : IsAhead routes ranks ranks m t router port vc after
   pub falls : after ≤ before
 
--- packets of class m come on from the channel `start`, on their way to t, to one with a rank and mark n
+-- packets of class m come on from the channel `start`, on their way to t, to
+-- one with a rank and mark n
 abbrev pub IsAheadAt : Routes → List (Option ℕ) → List (Option ℕ) → ℕ → ℕ → ℕ → ℕ → Type 0
 IsAheadAt routes ranks marks m t start n = let c = channel_at routes start in IsAhead routes ranks marks m t c.router c.port c.vc n
 
--- something holds of a number for some class and some destination, of the first `count` pairs of them
+-- something holds of a number for some class and some destination, of the
+-- first `count` pairs of them
 pub record IsOverFirst (routes : Routes) (P : ℕ → ℕ → ℕ → Type 0) (count n : ℕ) : Type 0 where
   pub number : ℕ
   pub below : number < count

@@ -51,7 +51,8 @@ pub record IsFirstRowFault (g : Grid) (vcs : ℕ) (rows : List RankRow) (fault :
   pub faulty : listed_row_fault g vcs rows number row ≡ Some fault
   pub first : AreGood g vcs rows number
 
--- the rows have no fault, and this is the first link channel, by router, port and channel, that none of them names
+-- the rows have no fault, and this is the first link channel, by router, port and
+-- channel, that none of them names
 pub record IsFirstMissing (g : Grid) (vcs : ℕ) (rows : List RankRow) (r p v : ℕ) : Type 0 where
   pub good : (n : ℕ) → AreGood g vcs rows n
   pub channel : is_channel g vcs r p v ≡ true

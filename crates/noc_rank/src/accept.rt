@@ -1,10 +1,10 @@
 //! Checking ranks against a routing relation (Dally and Towles, chapter 14).
 //!
-//! Where each channel has a rank, no memory is taken: the check looks for the first entry with a step that does
-//! not rise. Where some channels are adaptive it takes one list for what lies ahead of each link channel, once
-//! every entry is known to have its escape, and one for marks. So `Memory` comes after NoEscape, and before a
-//! pair that does not rise. Entries are looked at in parallel, and the pairs one class and destination after
-//! the other.
+//! Where each channel has a rank, no memory is taken: the check looks for the first entry with a
+//! step that does not rise. Where some channels are adaptive it takes one list for what lies ahead
+//! of each link channel, once every entry is known to have its escape, and one for marks. So
+//! `Memory` comes after NoEscape, and before a pair that does not rise. Entries are looked at in
+//! parallel, and the pairs one class and destination after the other.
 
 ghost use Rattle.std.specs.Prelude.{◌≡◌, ◌↔◌, IsOk, OnOk, IfErr, IsTrue, is_some, true, false};
 ghost use Rattle.noc_route.specs.Ranks.{AreAllRanked, IsRankedBy, is_channel, rank_at};
@@ -29,14 +29,17 @@ pub struct Accepted;
 
 /// Whether the relation is ranked by these ranks.
 ///
-/// Where each link channel has a rank: whether ranks rise with each permitted step from one link channel to the next. Answers
-/// `NotRising` with the first step that does not rise, in the order of class, router, input port and channel, destination,
-/// output port and channel. Looks at the entries in parallel and takes no memory, so `Memory` is never answered.
+/// Where each link channel has a rank: whether ranks rise with each permitted step from one link
+/// channel to the next. Answers `NotRising` with the first step that does not rise, in the order of
+/// class, router, input port and channel, destination, output port and channel. Looks at the
+/// entries in parallel and takes no memory, so `Memory` is never answered.
 ///
-/// Where some are adaptive: answers `NoEscape` with the first entry, in the order of class, router, input port and channel,
-/// and destination, to which packets come, away from their destination, and which permits no channel with a rank; then
-/// `Memory` where it was refused; then `NotRisingTo` with the first two channels, in the order of router, port and channel,
-/// such that packets come on from the first to the second, directly or through adaptive channels, whose rank is not greater.
+/// Where some are adaptive: answers `NoEscape` with the first entry to which packets come, away
+/// from their destination, and which permits no channel with a rank. Entries are in the order of
+/// class, router, input port and channel, and destination. Then comes `Memory` where it was
+/// refused. `NotRisingTo` comes last, with two channels such that packets come on from the first to
+/// the second, directly or through adaptive channels, whose rank is not greater. They are the first
+/// two, in the order of router, port and channel.
 pub fn check(
     rt: &(impl Threads + Sync),
     alloc: Global,

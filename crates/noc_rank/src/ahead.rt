@@ -24,7 +24,8 @@ pub(crate) struct RankList<'a> {
     ghost real: { AreReal relation.now ranks.now },
 }
 
-// Marks of a relation's link channels, looked for by packets of one class on their way to one node.
+// Marks of a relation's link channels, and the packets that look for them: those of a
+// class on their way to a node.
 #[derive(Drop)]
 pub(crate) struct Search<'a> {
     pub(crate) relation: &'a Relation,
@@ -41,8 +42,8 @@ pub(crate) struct Search<'a> {
 impl<'a> Search<'a> {
     ghost use Rattle.noc_rank.specs.Filled.{IsFilled, IsAllFilled, IsFoundIn};
 
-    // Writes for each link channel the least of the marks of the channels with a rank to which the packets come from it,
-    // directly or through adaptive channels.
+    // Writes for each link channel the least of the marks of the channels with a rank to which the
+    // packets come from it, directly or through adaptive channels.
     pub(crate) fn fill_least(&self, least: &mut [Option<u32>])
         requires least { length least.old ≡ length self.now.ranks.now }
         requires built { IsRelation self.now.relation.now }
@@ -53,7 +54,8 @@ impl<'a> Search<'a> {
         }
     }
 
-    // Fills in the channels that arrive at a router so far from the destination, where those nearer are done.
+    // Fills in the channels that arrive at a router so far from the destination,
+    // where those nearer are done.
     fn fill_at(&self, least: &mut [Option<u32>], distance: usize)
         requires { IsFilled self.now distance 0 0 least.old }
         ensures { IsFilled self.now (distance + 1) 0 0 least.new }
@@ -110,8 +112,8 @@ impl<'a> Search<'a> {
         best
     }
 
-    // What the channel of this index counts for, if it is in the set: its mark where it has a rank, else the least mark
-    // ahead.
+    // What the channel of this index counts for, if it is in the set: its mark where it has a rank,
+    // else the least mark ahead.
     fn counted(
         &self,
         least: &[Option<u32>],

@@ -14,8 +14,9 @@ use noc_route::{Entry, Relation};
 use rayon::prelude::*;
 use std::thread::Threads;
 
-// The first entry, in the order of class, router, input port and channel, and destination, to which packets come, away from
-// their destination, and at which no channel with a rank is permitted. Looks at the entries in parallel.
+// The first entry, in the order of class, router, input port and channel, and destination, to which
+// packets come, away from their destination, and at which no channel with a rank is permitted.
+// Looks at the entries in parallel.
 pub(crate) fn first_bare(rt: &(impl Threads + Sync), ranked: &Ranked) -> Option<Entry>
     ensures { MatchOption result (HasEscapes ranked.now.relation.now ranked.now.ranks.now) (IsFirstBare ranked.now.relation.now ranked.now.ranks.now) }
 {

@@ -43,7 +43,8 @@ pub(crate) fn is_channel(shape: &Shape, vcs: usize, router: usize, port: usize, 
         && shape.neighbour(router, port).is_some()
 }
 
-// The index of a channel of a link port, by router, port and channel, in a list that has as many as a `usize` can count.
+// The index of a channel of a link port, by router, port and channel, in a list that has as
+// many as a `usize` can count.
 pub(crate) fn rank_index(shape: &Shape, vcs: usize, router: usize, port: usize, vc: usize) -> usize
     requires channel { is_port_channel shape.now vcs router port vc ≡ true }
     requires few { rank_count shape.now vcs < 18446744073709551616 }

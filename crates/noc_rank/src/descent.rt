@@ -14,7 +14,8 @@ use crate::ranks::list;
 use noc_route::Relation;
 use std::alloc::{AllocError, Global};
 
-// Two channels such that packets come on from the first to the second, with their ranks, of which the second is not greater.
+// Two channels such that packets come on from the first to the second, with their ranks, of which
+// the second is not greater.
 #[derive(Clone, Copy)]
 pub(crate) struct Descent {
     from: LinkChannel,
@@ -37,7 +38,8 @@ impl Descent {
     }
 }
 
-// The first descent along the relation, in the order of router, port and channel of the first and then of the second.
+// The first descent along the relation, in the order of router, port and channel of the
+// first and then of the second.
 pub(crate) fn first_descent(alloc: Global, ranked: &Ranked) -> Result<Option<Descent>, AllocError>
     ensures { let routes = ranked.now.relation.now in let k = ranked.now.ranks.now in IfOk result (λ found. MatchOption found (HasNoDescent routes k) (λ d. IsFirstDescent routes k d.from d.to d.rank d.next)) }
 {
@@ -71,7 +73,8 @@ fn descent_in(
     Ok(descent_of(list, start, end))
 }
 
-// The index of the first channel from which packets come on to one of no greater rank; `least` is room.
+// The index of the first channel from which packets come on to one of no
+// greater rank; `least` is room.
 fn first_start(list: &RankList, least: &mut [Option<u32>]) -> Option<u32>
     requires { length least.old ≡ length list.now.ranks.now }
     ensures { IsLeastOf (IsOver list.now.relation.now (IsStartBy list.now.relation.now list.now.ranks.now)) result }

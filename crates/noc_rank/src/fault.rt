@@ -7,10 +7,11 @@ use std::alloc::AllocError;
 /// Why there are no ranks, or why a relation is not accepted.
 #[derive(Clone, Copy, Debug, PartialEq, Eq)]
 pub enum RankFault {
-    /// The rule has no ranks by formula, or does not fit the numbers of channels and classes or the shape.
+    /// The rule has no ranks by formula, or does not fit the numbers of channels
+    /// and classes or the shape.
     NoGenerated,
-    /// Each link channel has a rank, and a packet at this entry may go on by this link channel, whose rank `next` is not
-    /// greater than `rank`, that of the channel on which the packet is.
+    /// Each link channel has a rank, and a packet at this entry may go on by this link channel. Its
+    /// rank `next` is not greater than `rank`, that of the channel on which the packet is.
     NotRising {
         entry: Entry,
         out_port: usize,
@@ -18,16 +19,17 @@ pub enum RankFault {
         rank: u32,
         next: u32,
     },
-    /// Some link channels are adaptive, and a packet may come on from one channel with a rank to another, directly or
-    /// through adaptive channels, whose rank `next` is not greater than `rank`, that of the first.
+    /// Some link channels are adaptive, and a packet may come on from one channel with a rank to
+    /// another, directly or through adaptive channels. The rank `next` of the other is not greater
+    /// than `rank`, that of the first.
     NotRisingTo {
         from: LinkChannel,
         to: LinkChannel,
         rank: u32,
         next: u32,
     },
-    /// Some link channels are adaptive, and a packet comes to this entry, away from its destination, and may go on by no
-    /// channel with a rank.
+    /// Some link channels are adaptive, and a packet comes to this entry, away from its
+    /// destination, and may go on by no channel with a rank.
     NoEscape(Entry),
     /// Memory was refused.
     Memory,

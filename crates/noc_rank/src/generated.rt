@@ -1,4 +1,5 @@
-//! Ranks by formula: the order of channels behind each rule's freedom from deadlock (Dally and Towles, chapter 14).
+//! Ranks by formula: the order of channels behind each rule's freedom from deadlock (Dally
+//! and Towles, chapter 14).
 
 ghost use Rattle.std.specs.Prelude.{◌≡◌, ◌+◌, ◌*◌, ◌/◌, ◌<◌, ◌≤◌, IfOk, IfSome, true, slice_index};
 ghost use Rattle.noc_topo.specs.declared.limits.TheConstants.{MAX_RADIX};
@@ -14,7 +15,8 @@ use std::alloc::{AllocError, Global};
 // No rank by formula is above this one.
 const HIGHEST: u32 = 1000;
 
-// Whether a rule fits these numbers and has ranks by formula: dimension order on a mesh, dateline, west first and adaptive.
+// Whether a rule fits these numbers and has ranks by formula: dimension order on a mesh, dateline,
+// west first and adaptive.
 pub(crate) fn has_ranks(shape: &Shape, vcs: usize, classes: usize, rule: &Rule) -> bool
     ensures { result ≡ has_ranks shape.now vcs classes rule.now }
 {
@@ -39,7 +41,8 @@ pub(crate) struct Formula<'a> {
 impl<'a> Formula<'a> {
     ghost use Rattle.noc_rank.specs.Formulated.{AreByFormula, IsWithin, rank_in, part_in};
 
-    // The ranks of all channels of link ports, none where a port has no link and for adaptive channels.
+    // The ranks of all channels of link ports, none where a port has no link
+    // and for adaptive channels.
     pub(crate) fn ranks(&self, alloc: Global) -> Result<Vec<Option<u32>>, AllocError>
         ensures ranks { IfOk result (λ ranks. AreByFormula self.now (rank_count self.now.shape.now self.now.vcs) ranks.items) }
         ensures grid { IsGrid self.now.shape.now }
@@ -54,7 +57,8 @@ impl<'a> Formula<'a> {
         Ok(ranks)
     }
 
-    // The rank of a channel of a link port, none where the port has no link or the channel is adaptive.
+    // The rank of a channel of a link port, none where the port has no link or
+    // the channel is adaptive.
     fn rank_at(&self, router: usize, port: usize, vc: usize) -> Option<u32>
         requires router { router < nodes self.now.shape.now }
         requires port { port < local_port self.now.shape.now }
@@ -91,8 +95,8 @@ impl<'a> Formula<'a> {
         }
     }
 
-    // The part of a dimension's channels in which this one is, in the order in which packets take them: by dateline the half
-    // of its class's channels, by adaptive the escape channel.
+    // The part of a dimension's channels in which this one is, in the order in which packets take
+    // them: by dateline the half of its class's channels, by adaptive the escape channel.
     fn part(&self, vc: usize) -> usize
         requires { is_numbered self.now.shape.now self.now.vcs self.now.classes self.now.rule.now vc ≡ true }
         ensures value { result ≡ part_in self.now vc }
@@ -148,7 +152,8 @@ fn axis_of(shape: &Shape, router: usize, dimension: usize) -> Axis
 }
 
 impl Axis {
-    // The rank of a channel of this part along a port of this dimension: dimension by dimension, part by part, link by link.
+    // The rank of a channel of this part along a port of this dimension: dimension by dimension,
+    // part by part, link by link.
     fn rank(self, port: usize, part: usize) -> usize
         requires port { port < 6 }
         requires part { part ≤ 2 }

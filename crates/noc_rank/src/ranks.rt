@@ -16,7 +16,8 @@ use noc_topo::Shape;
 use std::alloc::Global;
 use std::marker::Model;
 
-/// A rank, 1 to 1,000,000, for each link channel of a shape, or none for an adaptive one (Dally and Towles, chapter 14).
+/// A rank, 1 to 1,000,000, for each link channel of a shape, or none for an adaptive one (Dally
+/// and Towles, chapter 14).
 #[derive(Drop)]
 pub struct Ranks {
     shape: Shape,
@@ -38,9 +39,10 @@ impl Model for Ranks {
 }
 
 impl Ranks {
-    /// The ranks of these rows, one for each link channel of the shape with `vcs` channels per link. Answers the first
-    /// fault: `Memory`; row by row `UnknownChannel`, `BadRank`, `DoubleChannel`; `MissingChannel` with the first link
-    /// channel that no row names, in the order of router, port and channel.
+    /// The ranks of these rows, one for each link channel of the shape with `vcs` channels per
+    /// link. Answers the first fault: `Memory`; row by row `UnknownChannel`, `BadRank`,
+    /// `DoubleChannel`; `MissingChannel` with the first link channel that no row names, in the
+    /// order of router, port and channel.
     pub fn from_rows(
         alloc: Global,
         shape: &Shape,
@@ -65,8 +67,9 @@ impl Ranks {
         }
     }
 
-    /// The ranks by formula of a rule: dimension order on a mesh, dateline on a torus, west first on a mesh of two dimensions,
-    /// and adaptive, whose adaptive channels have none. Answers `NoGenerated` for another rule and where the rule does not fit the shape or the numbers of
+    /// The ranks by formula of a rule: dimension order on a mesh, dateline on a torus, west first
+    /// on a mesh of two dimensions, and adaptive, whose adaptive channels have none. Answers
+    /// `NoGenerated` for another rule and where the rule does not fit the shape or the numbers of
     /// channels and classes; else `Memory` where it was refused.
     pub fn generated(
         alloc: Global,
@@ -114,7 +117,8 @@ pub(crate) fn rank_at(ranks: &Ranks, router: usize, port: usize, vc: usize) -> O
     ranks.ranks[rank_index(&ranks.shape, ranks.vcs, router, port, vc)]
 }
 
-// The rank of an output channel of a router on a link port, by its index, port times channels plus channel.
+// The rank of an output channel of a router on a link port, by its index, port
+// times channels plus channel.
 pub(crate) fn output_rank(ranks: &Ranks, router: usize, index: usize) -> Option<u32>
     requires router { router < nodes ranks.now.grid }
     requires index { index < local_port ranks.now.grid * ranks.now.vcs }

@@ -16,9 +16,9 @@ use noc_route::{Entry, RouteRow};
 use rayon::prelude::*;
 use std::thread::Threads;
 
-// The first step of the relation from one channel with a rank to the next that does not rise, in the order of class,
-// router, input port and channel, destination, output port and channel. Looks at the entries in parallel and takes no
-// memory.
+// The first step of the relation from one channel with a rank to the next that does not rise, in
+// the order of class, router, input port and channel, destination, output port and channel. Looks
+// at the entries in parallel and takes no memory.
 pub(crate) fn first_fall(rt: &(impl Threads + Sync), ranked: &Ranked) -> Option<Fall>
     ensures { MatchOption result (IsRising ranked.now.relation.now (rank_at ranked.now.ranks.now)) (λ fall. IsFirstFall ranked.now.relation.now ranked.now.ranks.now fall.step fall.rank fall.next) }
 {
@@ -67,7 +67,8 @@ impl Fall {
     }
 }
 
-// The first step that does not rise of those that packets of a class take that came by an input channel, both by number.
+// The first step that does not rise of those that packets of a class take that came by an input
+// channel, both by number.
 fn first_at(ranked: &Ranked, number: usize) -> Option<Fall>
     requires { number < ranked.now.relation.now.classes * input_count ranked.now.ranks.now }
     ensures { MatchOption result (HasNoFall ranked.now.relation.now ranked.now.ranks.now number) (IsFirstAt ranked.now.relation.now ranked.now.ranks.now number) }
@@ -150,7 +151,8 @@ impl<'a> Arrival<'a> {
         None
     }
 
-    // The first channel on a link port in a set whose rank is not greater, by its index, with its rank.
+    // The first channel on a link port in a set whose rank is not greater, by
+    // its index, with its rank.
     fn first_in(&self, set: ChannelSet) -> Option<(usize, u32)>
         ensures none { IfNone result (HasNone (falls_in self.now set) (link_output_count self.now.ranked.now.ranks.now)) }
         ensures some { let k = self.now.ranked.now.ranks.now in IfSome result (λ found. IsLeastBelow (falls_in self.now set) (link_output_count k) found.0 × (rank_at k self.now.router (found.0 / k.vcs) (found.0 % k.vcs) ≡ Some found.1)) }
@@ -164,7 +166,8 @@ impl<'a> Arrival<'a> {
         None
     }
 
-    // The rank of a channel on a link port, by its index, if it is in the set and its rank is not greater.
+    // The rank of a channel on a link port, by its index, if it is in the set and
+    // its rank is not greater.
     fn falls_to(&self, set: ChannelSet, index: usize) -> Option<u32>
         requires index { index < link_output_count self.now.ranked.now.ranks.now }
         requires few { index < INDICES }

@@ -12,8 +12,8 @@ use noc_topo::Shape;
 // The greatest rank.
 pub(crate) const MAX_RANK: usize = 1_000_000;
 
-/// A link channel, named by the router that sends on it, its port and its VC, with its rank, 1 to 1,000,000; None says
-/// that the channel is adaptive.
+/// A link channel, named by the router that sends on it, its port and its VC, with its rank, 1 to
+/// 1,000,000; None says that the channel is adaptive.
 #[derive(Clone, Copy, Debug, PartialEq, Eq)]
 pub struct RankRow {
     pub router: usize,
@@ -22,8 +22,8 @@ pub struct RankRow {
     pub rank: Option<usize>,
 }
 
-// Writes the ranks of the rows over a list without ranks, and notes the channels that they name; or answers the fault of
-// the first bad row.
+// Writes the ranks of the rows over a list without ranks, and notes the channels that they name; or
+// answers the fault of the first bad row.
 pub(crate) fn enter(
     shape: &Shape,
     vcs: usize,

@@ -1,4 +1,5 @@
--- The slots of a bank may go to another thread, and be read by several: what they own and lend is memory and plain data alone.
+-- The slots of a bank may go to another thread, and be read by several: what they own and lend is
+-- memory and plain data alone.
 use Rattle.std.proofs.Common.{List, [], ◌∷◌, Bool, true, false}
 use base.Fraction.{full_share}
 use base.Fml.{Fml, ftrue}

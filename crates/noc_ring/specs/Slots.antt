@@ -36,7 +36,8 @@ flits_of_ring slots capacity ends r = flits_in_slots slots (r * capacity) capaci
 abbrev pub rings_of : List Flit → ℕ → ℕ → List Ends → List (List Flit)
 rings_of slots capacity rings ends = map (flits_of_ring slots capacity ends) (range_with_len 0 rings)
 
--- each ring has as many slots as its capacity, its head is one of them, and no more flits than slots
+-- each ring has as many slots as its capacity, its head is one of them, and
+-- no more flits than slots
 pub record IsBank (slots : List Flit) (capacity many : ℕ) (ends : List Ends) : Type 0 where
   pub whole : length slots ≡ many * capacity
   pub rings : many ≤ INDICES
@@ -46,7 +47,8 @@ pub record IsBank (slots : List Flit) (capacity many : ℕ) (ends : List Ends) :
   pub heads : (r : ℕ) → r < many → (slice_index_or ends r no_ends).head < capacity
   pub lens : (r : ℕ) → r < many → (slice_index_or ends r no_ends).len ≤ capacity
 
--- each slot is known to hold a flit or not to, and each flit of a ring stands in a slot that holds one
+-- each slot is known to hold a flit or not to, and each flit of a ring stands
+-- in a slot that holds one
 pub record AreHeld (filled : List Bool) (capacity many : ℕ) (ends : List Ends) : Type 0 where
   pub whole : length filled ≡ many * capacity
   pub held : (r i : ℕ) → r < many → i < (slice_index_or ends r no_ends).len → slice_index_or filled (slot_of (r * capacity) capacity (slice_index_or ends r no_ends).head i) false ≡ true

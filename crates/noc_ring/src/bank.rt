@@ -1,7 +1,7 @@
 //! Rings of flits over one list of slots (Dally and Towles, chapter 17).
 //!
-//! A bank takes memory in one growth, that of its block. Where rings begin and how many flits they have stands
-//! in the bank itself, 112 bytes for at most 56 rings.
+//! A bank takes memory in one growth, that of its block. Where rings begin and how many flits they
+//! have stands in the bank itself, 112 bytes for at most 56 rings.
 
 ghost use Rattle.std.specs.Prelude.{◌≡◌, ◌+◌, ◌*◌, ◌%◌, ◌<◌, ◌≤◌, nat_le, length, IfOk, ◌∷◌};
 ghost use Rattle.std.specs.List.{slice_get};
@@ -53,7 +53,8 @@ fn wrapped(offset: usize, capacity: usize) -> usize
 }
 
 impl Bank {
-    /// So many empty rings, 1 to 56, each of so many places, 1 to 16. The error is for want of memory alone.
+    /// So many empty rings, 1 to 56, each of so many places, 1 to 16. The error is
+    /// for want of memory alone.
     pub fn new(alloc: Global, rings: usize, capacity: usize) -> Result<Bank, Memory>
         requires some_ring { 0 < rings }
         requires rings { rings ≤ INDICES }

@@ -1,15 +1,15 @@
 //! The memory of a bank: slots for flits in one block, empty until a flit is put there.
 //!
-//! The block is the library's own form for such memory, `Slots` and `Lease` of `core::slots`: a row of slots
-//! of which the prover knows which hold a value, and the right to free the row. A read or a take asks for a
-//! slot that holds one, and neither can be copied or let go. So there is no pointer in the code. The prover
-//! refuses a read past the block or of a slot that holds no pushed flit. A block that is freed twice, or
-//! never, is refused before any proof.
+//! The block is the library's own form for such memory, `Slots` and `Lease` of `core::slots`: a row
+//! of slots of which the prover knows which hold a value, and the right to free the row. A read or
+//! a take asks for a slot that holds one, and neither can be copied or let go. So there is no
+//! pointer in the code. The prover refuses a read past the block or of a slot that holds no pushed
+//! flit. A block that is freed twice, or never, is refused before any proof.
 //!
 //! A struct that holds a `Slots` may go to another thread only by a proof of its author's
-//! (`proofs/SendLemmas.antt`). So one function with a proof by hand makes a `Store`, `Store::of`. `reserve` takes
-//! the number of slots from the length of a list: `Store::new` gives it a part of a constant list of blank
-//! flits, and only its length is read.
+//! (`proofs/SendLemmas.antt`). So one function with a proof by hand makes a `Store`, `Store::of`.
+//! `reserve` takes the number of slots from the length of a list: `Store::new` gives it a part of a
+//! constant list of blank flits, and only its length is read.
 
 ghost use Rattle.std.specs.Prelude.{◌≡◌, ◌<◌, ◌≤◌, true, false, length, IfOk, slice_set, slice_index_or};
 ghost use Rattle.std.specs.Mem.Slots.{slots_items, slots_filled, slots_ptr, slots_len, lease_ptr, lease_len, lease_heap};
@@ -42,7 +42,8 @@ struct Block {
     ghost leased: { (lease_ptr lease ≡ slots_ptr slots) × (lease_len lease ≡ slots_len slots) × (lease_heap lease ≡ alloc) },
 }
 
-/// Slots for flits in one block of memory, each of which is empty or holds a flit. The drop frees the block.
+/// Slots for flits in one block of memory, each of which is empty or holds a flit.
+/// The drop frees the block.
 pub(crate) struct Store {
     block: Block,
 }
@@ -56,7 +57,8 @@ impl Model for Store {
 
     ghost view = { λ p. record { flits = slots_items p.block.slots; filled = slots_filled p.block.slots } };
 
-    // It owns what its block owns. A struct with this member may go to another thread by a proof of its own.
+    // It owns what its block owns. A struct with this member may go to another
+    // thread by a proof of its own.
     ghost also_owns = { λ _. ftrue };
 
     ghost also_shares = { λ _ _ _. ftrue };
@@ -79,7 +81,8 @@ impl Store {
         requires { count ≤ MOST }
         ensures { IfOk result (λ p. (length p.flits ≡ count) × (length p.filled ≡ count)) }
     {
-        // `unsafe`, since a value in a slot is forgotten when another is put there or the block goes. A flit is plain data.
+        // `unsafe`, since a value in a slot is forgotten when another is put there or the block
+        // goes. A flit is plain data.
         let (slots, lease) = unsafe { reserve(&alloc, &AS_MANY[..count])? };
         Ok(Store::of(Block {
             slots,

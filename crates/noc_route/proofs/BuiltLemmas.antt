@@ -282,7 +282,8 @@ leads-index g m r p v t q w l k =
     ∙ ap (λ x. leads g m (r, p) v t x ((q * g.vcs + w) % g.vcs)) (div-mul-add q g.vcs w k)
     ∙ ap (leads g m (r, p) v t q) (mod-mul-add q g.vcs w k)
 
--- a member of the set of the place where a channel arrives: packets come on it, and the rule leads on
+-- a member of the set of the place where a channel arrives: packets come on
+-- it, and the rule leads on
 permitted-lead : (g : RelationParts) (sets left outs : List ℕ) → IsMade g sets left outs → (m : ℕ) (c : Channel) (t r p q w : ℕ) → is_sent (table g left) c ≡ true → arrival_of g.grid c ≡ Some (r, p)
     → w < g.vcs → has_bit (set_at (table g left) m r p (channel_vc c) t) (q * g.vcs + w) ≡ true → IsReached g m c t × (leads g m (r, p) (channel_vc c) t q w ≡ true)
 permitted-lead g sets left outs made m c t r p q w sent e small has =

@@ -167,8 +167,8 @@ coming-on routes built m r p v t k has = at (built.reached m r p v t k has)
           vc = lead.vc;
         }
 
--- the channel of a packet that is permitted something is an injection channel away from its destination, or one that was
--- permitted to it before
+-- the channel of a packet that is permitted something is an injection channel away from its
+-- destination, or one that was permitted to it before
 pub record CameBy (routes : Routes) (m : ℕ) (c : Channel) (t : ℕ) : Type 0 where
   pub before : Channel
   pub permitted : permits routes m before t c ≡ true

@@ -109,7 +109,8 @@ page-channel vcs classes m v some l e =
     below_next : (a b c : ℕ) → 1 ≤ c → a * b ≤ c * b → a * b < (b + 1) * c
     below_next a b c some h = omega (arith, h, some)
 
--- at the destination a rule by coordinates leads to the local port, and elsewhere along a port that it takes
+-- at the destination a rule by coordinates leads to the local port, and elsewhere
+-- along a port that it takes
 pub record IsLedBy (g : RelationParts) (m r t p v : ℕ) : Type 0 where
   pub page : is_in_block g.vcs g.classes m v ≡ true
   pub way : ((r ≡ t) × (p ≡ local_port g.grid)) ⊎ ((r ≢ t) × (takes_port g.grid g.rule (coordinates g.grid.radix r) (coordinates g.grid.radix t) p ≡ true))

@@ -257,7 +257,8 @@ IsPairDone-more routes before outs r t class out sized nearer farther place is h
         let P : ℕ → Type 0 = λ m. IsFullOut routes (set outs (page_of routes.grid routes.classes class r t) out) m r t in
         subst P last (IsFullOut-set_same routes outs class r t out sized long nearer full place is)
 
--- the lists of all routers farther off are full, and of the first pairs of a router and a destination at this distance
+-- the lists of all routers farther off are full, and of the first pairs of a router and a
+-- destination at this distance
 pub record IsRingDone (routes : Routes) (outs : List ℕ) (apart pair : ℕ) : Type 0 where
   pub lists : AreOuts routes outs
   pub farther : (m r t : ℕ) → IsPage routes m r t → apart < distance routes.grid r t → IsFullOut routes outs m r t

@@ -4,7 +4,8 @@ use Rattle.std.specs.List.{flat_map}
 use Rattle.noc_topo.specs.Lists.{below}
 use Rattle.noc_topo.specs.Shape.{Grid, neighbour, local_port, ports, nodes}
 
--- a virtual channel of a link (by the sending router and its port), of an injection port, or of an ejection port
+-- a virtual channel of a link (by the sending router and its port), of an injection
+-- port, or of an ejection port
 pub data Channel : Type 0 where
   Link : (router port vc : ℕ) → Channel
   Inject : (node vc : ℕ) → Channel
@@ -47,7 +48,8 @@ output_index g vcs (Link r p v) = p * vcs + v
 output_index g vcs (Inject n v) = 0
 output_index g vcs (Eject n v) = local_port g * vcs + v
 
--- the input channel of a router with this index: the link channel that arrives there, or the injection channel
+-- the input channel of a router with this index: the link channel that arrives there,
+-- or the injection channel
 abbrev pub input_at : Grid → ℕ → ℕ → ℕ → Option Channel
 input_at g vcs r i =
     if nat_eq (i / vcs) (local_port g)

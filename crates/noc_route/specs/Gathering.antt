@@ -28,7 +28,8 @@ pub record AreOutsFrom (routes : Routes) (apart : ℕ) (outs : List ℕ) : Type 
 abbrev pub FartherFull : Routes → List ℕ → ℕ → ℕ → Type 0
 FartherFull routes outs r t = (m u : ℕ) → IsPage routes m u t → distance routes.grid r t < distance routes.grid u t → IsFullOut routes outs m u t
 
--- the lists of router r for destination t are full, of the classes below this one, and those that were full still are
+-- the lists of router r for destination t are full, of the classes below this one, and those
+-- that were full still are
 pub record IsPairDone (routes : Routes) (before outs : List ℕ) (r t class : ℕ) : Type 0 where
   pub lists : AreOuts routes outs
   pub done : (m : ℕ) → m < class → IsPage routes m r t → IsFullOut routes outs m r t

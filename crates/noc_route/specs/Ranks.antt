@@ -5,8 +5,8 @@ use Rattle.noc_route.specs.Channel.{Channel, Link, arrival_of}
 use Rattle.noc_route.specs.Relation.{RelationParts, IsPermitted}
 use Rattle.noc_route.specs.Routes.{Routes, permits}
 
--- a rank for each link channel of a shape with this many channels per link, or none for an adaptive one: router by router, then by
--- link port and channel
+-- a rank for each link channel of a shape with this many channels per link, or none for an adaptive
+-- one: router by router, then by link port and channel
 pub record Ranking : Type 0 where
   pub grid : Grid
   pub vcs : ℕ
@@ -34,13 +34,15 @@ rank_at k r p v = if is_port_channel k.grid k.vcs r p v then slice_index_or k.ra
 abbrev pub Permitting : Type 1
 Permitting = ℕ → Channel → ℕ → Channel → Type 0
 
--- permitted steps of one class to one destination lead from a channel to a link channel, directly or through adaptive channels only
+-- permitted steps of one class to one destination lead from a channel to a link channel, directly
+-- or through adaptive channels only
 pub data LeadsTo (Permits : Permitting) (ranks : ℕ → ℕ → ℕ → Option ℕ) (m t : ℕ) : Channel → Channel → Type 0 where
   direct : {c : Channel} {r p v : ℕ} → Permits m c t (Link r p v) → LeadsTo Permits ranks m t c (Link r p v)
   through : {c e : Channel} {r p v : ℕ} → Permits m c t (Link r p v) → ranks r p v ≡ None → LeadsTo Permits ranks m t (Link r p v) e → LeadsTo Permits ranks m t c e
 
--- A ranked relation. A packet that may go on, and is not at its destination, may go on by a channel with a rank; and ranks rise from
--- one channel with a rank to the next, whatever adaptive channels lie between.
+-- A ranked relation. A packet that may go on, and is not at its destination, may go on by a
+-- channel with a rank. And ranks rise from one channel with a rank to the next, whatever
+-- adaptive channels lie between.
 pub record IsRanked (Permits : Permitting) (g : Grid) (ranks : ℕ → ℕ → ℕ → Option ℕ) : Type 0 where
   pub escape : (m t : ℕ) (c o : Channel) (r q : ℕ) → Permits m c t o → arrival_of g c ≡ Some (r, q) → r ≢ t
       → (p : ℕ) × (v : ℕ) × (n : ℕ) × Permits m c t (Link r p v) × (ranks r p v ≡ Some n)

@@ -32,7 +32,8 @@ fits g vcs classes WestFirst = not g.wraps && nat_eq (dimensions g) 2
 fits g vcs classes Adaptive = nat_lt (escapes g) (vcs / classes)
 fits g vcs classes (Rows rows) = true
 
--- whether the numbers of channels and classes are within their limits, and the rule fits them and the shape
+-- whether the numbers of channels and classes are within their limits, and the
+-- rule fits them and the shape
 abbrev pub is_right : Grid → ℕ → ℕ → Rule → Bool
 is_right g vcs classes rule =
     nat_le 1 vcs && nat_le vcs MAX_CHANNELS && nat_le 1 classes && nat_le classes MAX_CLASSES && nat_eq (vcs % classes) 0
@@ -68,7 +69,8 @@ is_nearer g xs ts port =
 abbrev pub is_west_first : List ℕ → List ℕ → ℕ → Bool
 is_west_first xs ts port = nat_eq port 1 || nat_le (slice_index xs 0) (slice_index ts 0)
 
--- whether a rule by coordinates leads along this port, from a router at xs towards a destination at ts
+-- whether a rule by coordinates leads along this port, from a router at xs
+-- towards a destination at ts
 abbrev pub takes_port : Grid → Rule → List ℕ → List ℕ → ℕ → Bool
 takes_port g Dor xs ts port = is_some_of (dor_port g xs ts) port
 takes_port g Dateline xs ts port = is_some_of (dor_port g xs ts) port
@@ -86,8 +88,8 @@ is_in_block vcs classes m v = nat_le (m * vcs / classes) v && nat_lt v ((m + 1) 
 abbrev pub resource_class : ℕ → ℕ → ℕ → ℕ
 resource_class vcs classes v = v % (vcs / classes) / (vcs / classes / 2)
 
--- the half that the next hop along a port takes, in whose dimension the router is at x and the destination at t:
--- the low half while the way still crosses the ends of the dimension
+-- the half that the next hop along a port takes, where in its dimension the router is at x and the
+-- destination at t: the low half while the way still crosses the ends
 abbrev pub dateline_class : ℕ → ℕ → ℕ → ℕ
 dateline_class port x t = if is_plus port then (if nat_lt t x then 0 else 1) else (if nat_lt x t then 0 else 1)
 
@@ -105,7 +107,8 @@ is_escape_taken g vcs classes xs ts port v =
     is_some_of (dor_port g xs ts) port
     && nat_eq (index_in_class vcs classes v) (if g.wraps then dateline_class port (slice_index xs (port / 2)) (slice_index ts (port / 2)) else 0)
 
--- whether a rule by coordinates takes a channel of a port that it takes, among those of the packet's class
+-- whether a rule by coordinates takes a channel of a port that it takes, among
+-- those of the packet's class
 abbrev pub takes_of_class : Grid → ℕ → ℕ → Rule → List ℕ → List ℕ → ℕ → ℕ → Bool
 takes_of_class g vcs classes Dor xs ts port v = true
 takes_of_class g vcs classes Dateline xs ts port v =
@@ -172,8 +175,8 @@ pub record IsFirstFault (g : Grid) (vcs classes : ℕ) (rows : List RouteRow) (f
 
 -- ---- the rule
 
--- whether a rule by coordinates leads a packet of class m at router r, bound for t, on to channel v of this output port:
--- at the destination to the ejection channels of the class
+-- whether a rule by coordinates leads a packet of class m at router r, bound for t, on to channel v
+-- of this output port: at the destination to the ejection channels of the class
 abbrev pub is_led : RelationParts → ℕ → ℕ → ℕ → ℕ → ℕ → Bool
 is_led g m r t port v =
     if nat_eq r t
@@ -181,8 +184,8 @@ is_led g m r t port v =
     else takes_port g.grid g.rule (coordinates g.grid.radix r) (coordinates g.grid.radix t) port
     && takes_channel g.grid g.vcs g.classes g.rule m (coordinates g.grid.radix r) (coordinates g.grid.radix t) port v
 
--- whether the rule leads a packet of class m, that came to this input (a router and its port) on channel in_vc and is
--- bound for t, on to channel v of this output port
+-- whether the rule leads a packet of class m, that came to this input (a router and its port) on
+-- channel in_vc and is bound for t, on to channel v of this output port
 abbrev pub leads : RelationParts → ℕ → ℕ × ℕ → ℕ → ℕ → ℕ → ℕ → Bool
 leads g m input in_vc t port v = elim (rows_of g.rule) [ Some rows ↦ has_route_row rows m input in_vc t port v | None ↦ is_led g m input.0 t port v ]
 
@@ -192,11 +195,13 @@ rule_offers g m (Some input) in_vc t (Inject n v) = false
 rule_offers g m (Some input) in_vc t (Link r p v) = nat_eq r input.0 && nat_lt p (local_port g.grid) && leads g m input in_vc t p v
 rule_offers g m (Some input) in_vc t (Eject n v) = nat_eq n input.0 && leads g m input in_vc t (local_port g.grid) v
 
--- the rule has the class m, the channel c on which a packet is, its destination t, and the next channel o
+-- the rule has the class m, the channel c on which a packet is, its destination
+-- t, and the next channel o
 abbrev pub rule_has : RelationParts → ℕ → Channel → ℕ → Channel → Bool
 rule_has g m c t o = rule_offers g m (arrival_of g.grid c) (channel_vc c) t o
 
--- the least set of entries with every injection channel, and with each link channel to which the rule leads from one of them
+-- the least set of entries with every injection channel, and with each link channel to which the
+-- rule leads from one of them
 pub data IsReached (g : RelationParts) : ℕ → Channel → ℕ → Type 0 where
   injected : {m n v t : ℕ} → m < g.classes → n < nodes g.grid → v < g.vcs → t < nodes g.grid → t ≢ n → IsReached g m (Inject n v) t
   led_on : {m t : ℕ} {c : Channel} {r p v : ℕ} → IsReached g m c t → IsTrue (rule_has g m c t (Link r p v)) → IsReached g m (Link r p v) t

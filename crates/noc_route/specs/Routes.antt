@@ -5,7 +5,8 @@ use Rattle.noc_packet.specs.Set.{has_bit}
 use Rattle.noc_packet.specs.declared.limits.TheConstants.{MAX_CHANNELS, MAX_CLASSES}
 use Rattle.noc_route.specs.Channel.{Channel, Link, Inject, Eject, arrival_of, channel_vc}
 
--- the output channels of each entry, as bits: router by router, then by class, destination, and input channel
+-- the output channels of each entry, as bits: router by router, then by class,
+-- destination, and input channel
 pub record Routes : Type 0 where
   pub grid : Grid
   pub vcs : ℕ
@@ -58,7 +59,8 @@ pub record HasTableSize (routes : Routes) : Type 0 where
   pub few_classes : routes.classes ≤ MAX_CLASSES
   pub long : length routes.sets ≡ pages routes.grid routes.classes * width routes.grid routes.vcs
 
--- whether the table leads a packet that came to this input (a router and its port) on channel in_vc on to a channel
+-- whether the table leads a packet that came to this input (a router and its port) on
+-- channel in_vc on to a channel
 abbrev pub permits_at : Routes → ℕ → Option (ℕ × ℕ) → ℕ → ℕ → Channel → Bool
 permits_at routes m None in_vc t o = false
 permits_at routes m (Some input) in_vc t (Inject n v) = false
@@ -73,7 +75,8 @@ is_sent routes (Link r p v) = nat_lt r (nodes routes.grid)
 is_sent routes (Inject n v) = true
 is_sent routes (Eject n v) = false
 
--- whether the table permits a packet of class m, that is on channel c and bound for t, to take channel o next
+-- whether the table permits a packet of class m, that is on channel c and bound for
+-- t, to take channel o next
 abbrev pub permits : Routes → ℕ → Channel → ℕ → Channel → Bool
 permits routes m c t o = is_sent routes c && permits_at routes m (arrival_of routes.grid c) (channel_vc c) t o
 

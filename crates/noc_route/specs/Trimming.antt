@@ -21,8 +21,9 @@ pub record IsPage (routes : Routes) (m r t : ℕ) : Type 0 where
   pub router : r < nodes routes.grid
   pub dst : t < nodes routes.grid
 
--- packets of class m, bound for t, can come to router r on input channel i: the least set with each injection channel away
--- from the destination, and with each channel to which the table leads from one of them
+-- packets of class m, bound for t, can come to router r on input channel i. This is the least
+-- set with each injection channel away from the destination, and with each channel to which the
+-- table leads from one of them
 pub data CanCome (routes : Routes) (m t : ℕ) : ℕ → ℕ → Type 0 where
   injected : {r i v : ℕ} → IsPage routes m r t → t ≢ r → v < routes.vcs → i ≡ local_port routes.grid * routes.vcs + v → CanCome routes m t r i
   led : {r i k b q j : ℕ} → CanCome routes m t r i → k < width routes.grid routes.vcs → has_bit (set_in routes m r t i) k ≡ true

@@ -11,8 +11,8 @@ use crate::map::Map;
 use noc_packet::ChannelSet;
 use noc_topo::MAX_DISTANCE;
 
-// Writes the channels by which packets leave each router, by class and destination. A packet comes nearer with each hop,
-// so what reaches a router is known once the routers farther off are done.
+// Writes the channels by which packets leave each router, by class and destination. A packet comes
+// nearer with each hop, so what reaches a router is known once the routers farther off are done.
 pub(crate) fn gather(map: &Map, sets: &[ChannelSet], outs: &mut [ChannelSet])
     requires sets { IsTable map.now.sizes sets.now }
     requires nearer { ComesNearer (routes_in map.now.sizes sets.now) }
@@ -25,7 +25,7 @@ pub(crate) fn gather(map: &Map, sets: &[ChannelSet], outs: &mut [ChannelSet])
     }
 }
 
-// A table of sets over a map. Each link of it comes nearer to the destination.
+// A table of sets over a map, in which each link leads nearer to the destination.
 #[derive(Drop)]
 struct Table<'a> {
     map: &'a Map,
@@ -35,7 +35,8 @@ struct Table<'a> {
 }
 
 impl<'a> Table<'a> {
-    // Gathers what reaches the routers at one distance from the destination, where those farther off are done.
+    // Gathers what reaches the routers at one distance from the destination, where
+    // those farther off are done.
     fn gather_at(&self, outs: &mut [ChannelSet], distance: usize)
         requires { AreOutsFrom (routes_in self.now.map.now.sizes self.now.sets.now) (distance + 1) outs.old }
         ensures { AreOutsFrom (routes_in self.now.map.now.sizes self.now.sets.now) distance outs.new }

@@ -23,8 +23,8 @@ pub fn a_relation_is_ranked_as_its_rule()
     ensures { (g : RelationParts) (routes : Routes) (ranks : Ranking) → IsRelationOfRule g routes → IsRankedBy routes ranks ↔ IsRankedRule g (rank_at ranks) }
 {}
 
-/// Where each link channel has a rank, a relation is ranked exactly where ranks rise with each permitted step from one link channel to
-/// the next.
+/// Where each link channel has a rank, a relation is ranked exactly where ranks rise with each
+/// permitted step from one link channel to the next.
 pub fn ranks_of_all_channels_need_only_rise()
     ensures { (routes : Routes) (ranks : ℕ → ℕ → ℕ → Option ℕ) → IsRelation routes → AreAllRanked routes.grid routes.vcs ranks
         → IsRanked (λ m c t o. IsTrue (permits routes m c t o)) routes.grid ranks ↔ IsRising routes ranks }

@@ -1,4 +1,5 @@
-//! The rules by coordinates: dimension order, dateline, west first and adaptive (Dally and Towles, chapters 8 to 10 and 14).
+//! The rules by coordinates: dimension order, dateline, west first and adaptive (Dally and Towles,
+//! chapters 8 to 10 and 14).
 
 ghost use Rattle.std.specs.Prelude.{◌≡◌, ℕ, ◌/◌, ◌%◌, ◌<◌, ◌≤◌, ◌&&◌, slice_index, slice_index_or, EachIndex, nat_lt, false};
 ghost use Rattle.noc_packet.specs.Set.{has_bit};
@@ -14,8 +15,8 @@ use crate::sizes::{Sizes, escapes, resource_class};
 use noc_packet::ChannelSet;
 use noc_topo::{Kind, LINKS};
 
-// The output channels by which a rule by coordinates leads a packet of this class, at this router and bound for `dst`;
-// none by a table.
+// The output channels by which a rule by coordinates leads a packet of this class, at this router
+// and bound for `dst`; none by a table.
 pub(crate) fn named_set(routing: &Routing, class: usize, router: usize, dst: usize) -> ChannelSet
     requires class { class < routing.now.map.now.sizes.classes }
     requires router { router < nodes routing.now.map.now.sizes.shape }
@@ -33,7 +34,8 @@ pub(crate) fn named_set(routing: &Routing, class: usize, router: usize, dst: usi
     set
 }
 
-// The coordinates of a router and a destination, the port of dimension order between them, and the ports that come nearer.
+// The coordinates of a router and a destination, the port of dimension order between them, and
+// the ports that come nearer.
 #[derive(Clone, Copy)]
 struct Way {
     here: [usize; 3],
@@ -149,7 +151,8 @@ fn nearer_ports(map: &Map, here: &[usize; 3], there: &[usize; 3]) -> [bool; LINK
     nearer
 }
 
-// Whether a link port leads along the shorter way in its dimension, or up where both are equally long.
+// Whether a link port leads along the shorter way in its dimension, or up
+// where both are equally long.
 fn is_nearer(map: &Map, here: &[usize; 3], there: &[usize; 3], port: usize) -> bool
     requires port { port < LINKS }
     requires here { EachIndex here.now (λ i. slice_index here.now i ≤ slice_index map.now.last i) }

@@ -42,10 +42,11 @@ impl Model for Relation {
 }
 
 impl Relation {
-    /// The relation of a rule: the rule at the entries that packets reach. Answers the first fault: `WrongShape`; `Memory`;
-    /// the fault of the first bad row, in the order of class, router, input port and channel, destination, output port and
-    /// channel; `NoWay` with the first reached entry that permits nothing, in the order of class, router, input port and
-    /// channel, and destination.
+    /// The relation of a rule: the rule at the entries that packets reach. Answers the first fault.
+    /// `WrongShape` comes first, and then `Memory`. Then comes the fault of the first bad row, in
+    /// the order of class, router, input port and channel, destination, output port and channel.
+    /// Last comes `NoWay`, with the first reached entry that permits nothing, in the order of
+    /// class, router, input port and channel, and destination.
     pub fn build(
         alloc: Global,
         shape: &Shape,
@@ -70,8 +71,8 @@ impl Relation {
         })
     }
 
-    /// The output channels by which a packet of this class, that came to the router by this input port and channel and is
-    /// bound for `dst`, may go on.
+    /// The output channels by which a packet of this class, that came to the router by this input
+    /// port and channel and is bound for `dst`, may go on.
     pub fn permitted(
         &self,
         class: usize,
@@ -128,7 +129,8 @@ fn sets_of(alloc: Global, routing: &Routing) -> Result<Vec<ChannelSet>, RouteFau
     Ok(sets)
 }
 
-// Writes a rule's sets at the entries that packets reach, or answers the first fault; `outs` is room.
+// Writes a rule's sets at the entries that packets reach, or answers the
+// first fault; `outs` is room.
 fn fill(
     routing: &Routing,
     sets: &mut [ChannelSet],

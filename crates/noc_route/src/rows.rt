@@ -28,7 +28,8 @@ pub(crate) fn row_fault(map: &Map, row: &RouteRow) -> Option<RouteFault>
     }
 }
 
-// Whether the class, router, ports, channels and destination of a row exist, and its ports are local or have a link.
+// Whether the class, router, ports, channels and destination of a row exist, and its ports
+// are local or have a link.
 fn is_real(map: &Map, row: &RouteRow) -> bool
     ensures { result ≡ is_real_row map.now.sizes.shape map.now.sizes.vcs map.now.sizes.classes row.now }
 {
@@ -52,8 +53,8 @@ fn is_port(map: &Map, router: usize, port: usize) -> bool
     port < ports && (port + 1 == ports || map.link(router, port).is_some())
 }
 
-// The first fault among the rows, in the order of class, router, input port and channel, destination, output port and
-// channel.
+// The first fault among the rows, in the order of class, router, input port and channel,
+// destination, output port and channel.
 pub(crate) fn first_fault(map: &Map, rows: &[RouteRow]) -> Option<RouteFault>
     ensures none { IfNone result (All (λ row. row_fault map.now.sizes.shape map.now.sizes.vcs map.now.sizes.classes row ≡ None) rows.now) }
     ensures some { IfSome result (IsFirstFault map.now.sizes.shape map.now.sizes.vcs map.now.sizes.classes rows.now) }

@@ -9,15 +9,17 @@ use std::alloc::AllocError;
 /// A routing rule (Dally and Towles, chapters 8 to 11).
 #[derive(Drop)]
 pub enum Rule {
-    /// Dimension order: the lowest dimension in which router and destination differ, by the shorter way.
+    /// Dimension order: the lowest dimension in which router and destination
+    /// differ, by the shorter way.
     Dor,
-    /// Dimension order on a torus, with the channels of a class in two halves, of which the low one is taken while the
-    /// way still crosses the ends of the dimension.
+    /// Dimension order on a torus, with the channels of a class in two halves, of which the low one
+    /// is taken while the way still crosses the ends of the dimension.
     Dateline,
     /// On a mesh of two dimensions: first down dimension 0, then every port that comes nearer.
     WestFirst,
-    /// The lowest channel of each class, on a torus the two lowest, is an escape channel: it is taken as by dimension order,
-    /// on a torus the one or the other as by a dateline. The other channels are taken along every port that comes nearer.
+    /// The lowest channel of each class, on a torus the two lowest, is an escape channel: it is
+    /// taken as by dimension order, on a torus the one or the other as by a dateline. The other
+    /// channels are taken along every port that comes nearer.
     Adaptive,
     /// The output channels that these rows name.
     Rows(Vec<RouteRow>),
@@ -63,8 +65,8 @@ impl RuleName {
     }
 }
 
-/// A packet of class `class`, bound for node `dst`, that came to `router` on channel `in_vc` of input port `in_port`, may
-/// go on by channel `out_vc` of output port `out_port`.
+/// A packet of class `class`, bound for node `dst`, that came to `router` on channel `in_vc` of
+/// input port `in_port`, may go on by channel `out_vc` of output port `out_port`.
 #[derive(Clone, Copy, Debug, PartialEq, Eq)]
 pub struct RouteRow {
     pub class: usize,
@@ -93,8 +95,8 @@ impl RouteRow {
     }
 }
 
-/// Where a packet can stand for its next channel: its class, the router, the input port and channel on which it came, and
-/// its destination.
+/// Where a packet can stand for its next channel: its class, the router, the input port and channel
+/// on which it came, and its destination.
 #[derive(Clone, Copy, Debug, PartialEq, Eq)]
 pub struct Entry {
     pub class: usize,
@@ -116,7 +118,8 @@ impl Entry {
 /// Why a rule makes no relation.
 #[derive(Clone, Copy, Debug, PartialEq, Eq)]
 pub enum RouteFault {
-    /// The numbers of channels or classes are out of their limits, or the rule does not fit the shape.
+    /// The numbers of channels or classes are out of their limits, or the
+    /// rule does not fit the shape.
     WrongShape,
     /// A row names what does not exist, or a port that has no link.
     NoLink(RouteRow),

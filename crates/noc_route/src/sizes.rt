@@ -155,7 +155,8 @@ pub fn resource_class(vcs: usize, classes: usize, vc: usize) -> usize
     vc % block / (block / 2)
 }
 
-/// How many channels of each class, its lowest, are escape channels of the rule `Adaptive`: 1 on a mesh, 2 on a torus.
+/// How many channels of each class, its lowest, are escape channels of the rule `Adaptive`: 1
+/// on a mesh, 2 on a torus.
 pub fn escapes(shape: &Shape) -> usize
     ensures value { result ≡ escapes shape.now }
     ensures few { result ≤ 2 }
@@ -166,8 +167,8 @@ pub fn escapes(shape: &Shape) -> usize
     }
 }
 
-/// Whether a relation can be made of these numbers and this rule: 1 to 8 channels, 1 to 4 classes, the classes divide the
-/// channels, and the rule fits them and the shape (docs/MODEL.md).
+/// Whether a relation can be made of these numbers and this rule: 1 to 8 channels, 1 to 4 classes,
+/// the classes divide the channels, and the rule fits them and the shape (docs/MODEL.md).
 pub fn is_right(shape: &Shape, vcs: usize, classes: usize, rule: &Rule) -> bool
     ensures value { result ≡ is_right shape.now vcs classes rule.now }
     ensures limits { IsTrue result → (1 ≤ vcs) × (vcs ≤ MAX_CHANNELS) × (1 ≤ classes) × (classes ≤ MAX_CLASSES) }

@@ -10,8 +10,8 @@ use crate::gather::Departures;
 use crate::rule::Entry;
 use noc_packet::ChannelSet;
 
-// Empties the sets of the entries that no packet reaches. Returns the first entry that is reached and has an empty set, in
-// the order of class, router, input port and channel, and destination.
+// Empties the sets of the entries that no packet reaches. Returns the first entry that is reached
+// and has an empty set, in the order of class, router, input port and channel, and destination.
 pub(crate) fn trim(leaving: &Departures, sets: &mut [ChannelSet]) -> Option<Entry>
     requires { IsTable leaving.now.map.now.sizes sets.old }
     ensures left { let f = leaving.now.map.now.sizes in (b i : ℕ) → b < pages f.shape f.classes → i < width f.shape f.vcs → page_set (routes_in f sets.new) b i ≡ left_at (routes_in f sets.old) leaving.now.outs.now b i }
@@ -55,7 +55,8 @@ fn trim_page(
     first
 }
 
-// Trims the set of one entry, that of an input channel of a page; `first` is the first entry with no way among those before.
+// Trims the set of one entry, that of an input channel of a page; `first` is the first entry with
+// no way among those before.
 fn trim_entry(
     leaving: &Departures,
     sets: &mut [ChannelSet],

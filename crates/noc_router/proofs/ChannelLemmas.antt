@@ -72,7 +72,8 @@ marked-each test n before after i xs y d inside marked each =
 
 -- ---- the channels stay sound
 
--- one input channel gets another state and other flits, and the output channels are owned from it alone otherwise than before
+-- one input channel gets another state and other flits, and the output channels are owned from it
+-- alone otherwise than before
 AreSound-changed : (size : ℕ) (sets next : Sets) (buffers : List (List Flit)) (inputs : List Input) (outputs after : List Output) (i : ℕ) (x : Input) (flits : List Flit)
     → AreSound size sets buffers inputs outputs → length buffers ≡ size → length inputs ≡ size → i < size
     → IsMarked sets.filled next.filled i (not (is_empty flits)) → IsMarked sets.waiting next.waiting i (is_waiting x.phase)
@@ -601,7 +602,8 @@ AreSound-sent size sets next before after inputs outputs i o old new out left f 
     left_then true k e = spent-gone (slice_index_or outputs o ejection_output) k
     left_then false k e = ap (λ h. is_owned_from h k) (spent-kept (slice_index_or outputs o ejection_output)) ∙ e
 
--- once a flit has left, each channel that awaits one still does, since nothing is awaited behind a tail
+-- once a flit has left, each channel that awaits one still does, since nothing
+-- is awaited behind a tail
 pub KeepsAwaiting-sent : (size : ℕ) (sets : Sets) (before after : Buffers) (inputs : List Input) (outputs : List Output) (i : ℕ) (old new : Input) (f : Flit)
     → AreSound size sets before.rings inputs outputs → length inputs ≡ size → i < size
     → buffer_at before i ≡ f ∷ buffer_at after i → old ≡ slice_index_or inputs i idle_input → new ≡ input_after_send old f

@@ -15,7 +15,8 @@ use Rattle.noc_view.specs.View.{counts_after, saturating_next}
 use Rattle.noc_view.proofs.ColumnLemmas.{sum-raised}
 
 -- ---- more in a list
--- the counts of the nine verdicts behind Empty, with n more for the verdict with this place in the order
+-- the counts of the nine verdicts behind Empty, with n more for the verdict
+-- with this place in the order
 abbrev pub risen_by : ℕ → ℕ → List ℕ → List ℕ
 risen_by n zero others = others
 risen_by n (suc k) others = slice_set others k (slice_index others k + n)

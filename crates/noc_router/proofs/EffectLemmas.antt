@@ -1,4 +1,5 @@
--- The verdicts take effect one by one: before the first channel, after the last, and what each verdict does.
+-- The verdicts take effect one by one: before the first channel, after the last,
+-- and what each verdict does.
 use Rattle.std.proofs.Common.{◌≡◌, ◌≢◌, ℕ, suc, ◌+◌, ◌*◌, ◌/◌, ◌%◌, ◌<◌, Bool, true, false, List, [], ◌∷◌, length, drop, get_or, Option, Some, None, refl, ap, sym, ◌∙◌, arith, inl, inr, subst}
 use Rattle.std.specs.Prelude.{IfSome, ◌⊎◌, ◌&&◌, ◌||◌, not, nat_eq, nat_lt, if◌then◌else◌, slice_get, slice_index}
 use Rattle.std.specs.List.{list_any}

@@ -397,7 +397,8 @@ passing_first p v rest whole is each events =
     let lists = lists_of p v is in
     passing-first d v rest whole lists each (λ i l. events i ∙ ap is_event (sym (decided-outcome p v i l) ∙ decided-is d v i lists l))
 
--- where none is left, all verdicts have taken effect, and the pointers have gone on past the winners
+-- where none is left, all verdicts have taken effect, and the pointers have
+-- gone on past the winners
 pub passed-all : (p : PlanContents) (v w : View) (rest : ℕ) → IsWhole v → AreEach v → AreContentsFor p v → ((k : ℕ) → has_bit rest k ≡ false)
     → IsSettling (decisions_by p v) v rest (with_arbiters v.arbiters w) → IsPassing (decisions_by p v) v rest w.arbiters
     → w ≡ record (view_after_verdicts (decisions_by p v) v) { arbiters = record (arbiters_after p.round v.arbiters) { channels = v.arbiters.channels } }

@@ -1,4 +1,5 @@
--- The verdicts take effect one by one: what holds while some channels are left, and what a channel that sends no flit changes.
+-- The verdicts take effect one by one: what holds while some channels are left, and what a channel
+-- that sends no flit changes.
 use Rattle.std.proofs.Common.{◌≡◌, ◌≢◌, ℕ, ◌+◌, ◌*◌, ◌/◌, ◌%◌, ◌<◌, true, false, List, [], length, drop, get_or, set, Option, Some, None, refl, ap, sym, ◌∙◌, arith, inl, inr}
 use Rattle.std.specs.Prelude.{◌⊎◌, ◌&&◌, not, option_and_then, option_map, unwrap_or, nat_eq, if◌then◌else◌, find, slice_index}
 use Rattle.std.proofs.lemmas.Bool.{cases_eq, eq-eqb, ne_eqb, false≢true, and_parts}

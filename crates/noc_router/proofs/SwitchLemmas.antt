@@ -169,7 +169,8 @@ given-won : (wins : List (Option ℕ)) (way : Option ℕ) (q : ℕ) → is_given
 given-won wins None q = refl
 given-won wins (Some o) q = refl
 
--- a channel that is picked moves where its input port gets the output port to which the channel sends
+-- a channel that is picked moves where its input port gets the output port
+-- to which the channel sends
 pub picked-moves : (v : View) (ready k : ℕ) (picks ways wins : List (Option ℕ)) → AreReady v ready → picks ≡ tabulate (ports v.site.grid) (picked_vc v) → ways ≡ tabulate (ports v.site.grid) (picked_way v)
     → (is_given wins (get_or ways (k / v.site.vcs) None) (k / v.site.vcs) && is_some_of (get_or picks (k / v.site.vcs) None) (k % v.site.vcs))
     ≡ (is_some_of (get_or picks (k / v.site.vcs) None) (k % v.site.vcs) && is_won_by wins (k / v.site.vcs) (way_of v k))

@@ -106,7 +106,8 @@ empty_is NoCredit e = absurd (false≢true (sym e))
 empty_is LostInput e = absurd (false≢true (sym e))
 empty_is LostSwitch e = absurd (false≢true (sym e))
 
--- what is found of the n channels: none that is left is in the sets before this one, and of each other one its verdict is noted
+-- what is found of the n channels: none that is left is in the sets before this one, and of each
+-- other one its verdict is noted
 pub record IsNoting (note : ℕ → Verdict → Finding) (verdict : ℕ → Verdict) (n : ℕ) (sets : List ℕ) (other rest : ℕ) (now : List Finding) : Type 0 where
   pub left : (k : ℕ) → has_bit rest k ≡ true → (j : ℕ) → j < other → has_bit (get_or sets j 0) k ≡ false
   pub each : (k : ℕ) → k < n → has_bit rest k ≡ false → finding_at now k ≡ note k (verdict k)

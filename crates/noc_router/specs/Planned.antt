@@ -15,7 +15,8 @@ plan_contents_in p = record {
   routes = routes_in p.requests;
 }
 
--- a verdict that takes effect is that of an input channel, and each of these is in one of the sets at most
+-- a verdict that takes effect is that of an input channel, and each of these is
+-- in one of the sets at most
 pub record IsPlan (p : Inside) : Type 0 where
   pub events : (k : ℕ) → is_event (verdict_by p.verdicts k) ≡ true → k < p.requests.size
   pub apart : (k : ℕ) → k < p.requests.size → sets_with p.verdicts k ≤ 1

@@ -133,11 +133,13 @@ CanTakeEffect p v i _ = Unit {0}
 abbrev pub arbiters_past : ℕ → ℕ → List RoundRobin → List RoundRobin
 arbiters_past k winner arbiters = slice_set arbiters k (arbiter_after (arbiter_at arbiters k) (Some winner))
 
--- those of an input port and an output port go on past the virtual channel and the input port that won
+-- those of an input port and an output port go on past the virtual channel
+-- and the input port that won
 abbrev pub states_past : ℕ → ℕ → ℕ → ArbiterStates → ArbiterStates
 states_past port vc output arbiters = record arbiters { inputs = arbiters_past port vc arbiters.inputs; outputs = arbiters_past output port arbiters.outputs }
 
--- those of the ports of input channel i and output channel o go on past this input channel, which has sent to it
+-- those of the ports of input channel i and output channel o go on past this input
+-- channel, which has sent to it
 abbrev pub switch_past : ℕ → ℕ → View → View
 switch_past i o v = record v { arbiters = states_past (i / v.site.vcs) (i % v.site.vcs) (o / v.site.vcs) v.arbiters }
 

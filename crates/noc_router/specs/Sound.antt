@@ -1,4 +1,5 @@
--- What is true of the channels of one router: what its sets of channels have, and which input channel owns which output channel.
+-- What is true of the channels of one router: what its sets of channels have, and which input
+-- channel owns which output channel.
 use Rattle.std.specs.Prelude.{◌≡◌, ◌≢◌, ℕ, ◌<◌, ◌≤◌, ◌/◌, ◌%◌, ◌⊎◌, Bool, true, false, ◌&&◌, not, length, List, [], ◌∷◌, find, Option, Some, None, is_some, option_map, slice_index_or, if◌then◌else◌}
 use Rattle.noc_topo.specs.Lists.{below}
 use Rattle.noc_packet.specs.Set.{has_bit}
@@ -14,7 +15,8 @@ use Rattle.noc_view.specs.declared.verdict.Verdict.{Verdict}
 use Rattle.noc_view.specs.declared.finding.Finding.{Finding}
 use Rattle.noc_view.specs.States.{is_occupied, owns, is_owned_from, is_supplied}
 
--- the sizes of one router's channels: how many there are, how many of their output channels go on links, and the depth of each buffer
+-- the sizes of one router's channels: how many there are, how many of their output channels go on
+-- links, and the depth of each buffer
 pub record AreSizes (size links depth : ℕ) : Type 0 where
   pub some : 0 < size
   pub few : size ≤ INDICES
@@ -35,8 +37,8 @@ nth_input inputs i = slice_index_or inputs i idle_input
 abbrev pub nth_output : List Output → ℕ → Output
 nth_output outputs o = slice_index_or outputs o ejection_output
 
--- whether these are flits of one packet in their order, as far as their tail: none but the last is a tail, and that is one
--- where the channel awaits nothing more of its packet
+-- whether these are flits of one packet in their order, as far as their tail: none but the last is
+-- a tail, and that is one where the channel awaits nothing more of its packet
 abbrev pub is_worm : Bool → Bool → List Flit → Bool
 is_worm packet awaits [] = true
 is_worm packet awaits (f ∷ []) = packet && (if awaits then not f.last else f.last)
@@ -92,7 +94,8 @@ pub record CanSend (size : ℕ) (buffers : List (List Flit)) (inputs : List Inpu
   pub some : 0 < length (slice_index_or buffers i [])
   pub credit : has_credit (nth_output outputs o) ≡ true
 
--- the source can put its next flit into it: its buffer has room, and it is empty or awaits that flit
+-- the source can put its next flit into it: its buffer has room, and it is
+-- empty or awaits that flit
 pub record CanInject (size depth : ℕ) (buffers : List (List Flit)) (inputs : List Input) (i : ℕ) : Type 0 where
   pub exists : i < size
   pub room : length (slice_index_or buffers i []) < depth

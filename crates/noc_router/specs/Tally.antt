@@ -18,11 +18,13 @@ pub record AreFindings (shown : ℕ) (findings : List Finding) : Type 0 where
   pub within : AreBelow (length findings) shown
   pub plain : (k : ℕ) → has_bit shown k ≡ false → finding_at findings k ≡ empty_finding
 
--- the ten counts of a channel after so many cycles: it was empty in those that have no other verdict
+-- the ten counts of a channel after so many cycles: it was empty in those
+-- that have no other verdict
 abbrev pub counts_in : ℕ → List ℕ → List ℕ
 counts_in cycles others = (cycles - sum others) ∷ others
 
--- the ten counts of each channel, and what was found of each when findings were last shown: none before the first time
+-- the ten counts of each channel, and what was found of each when findings were last shown:
+-- none before the first time
 pub record TallyContents : Type 0 where
   pub counts : List (List ℕ)
   pub findings : List Finding
@@ -47,7 +49,8 @@ abbrev pub is_empty_verdict : Verdict → Bool
 is_empty_verdict Empty = true
 is_empty_verdict _ = false
 
--- a plan of these channels, of which there are so many: those that hold something have another verdict than Empty
+-- a plan of these channels, of which there are so many: those that hold something have
+-- another verdict than Empty
 pub record IsPlanOf (router : Channels) (size : ℕ) (p : PlanContents) : Type 0 where
   pub channels : router.size ≡ size
   pub asks : length p.asks ≡ size

@@ -1,9 +1,9 @@
 //! The arbiters of one router.
 //!
-//! The pointers of the switch go on in the loop over the verdicts that take effect, where the mover has just
-//! been looked up. A pass over the winners alone would end where no processor can guess. An arbiter first
-//! chooses between two sets, the requests at or after its pointer and all requests, and then looks for the
-//! least member, so it looks once.
+//! The pointers of the switch go on in the loop over the verdicts that take effect, where the mover
+//! has just been looked up. A pass over the winners alone would end where no processor can guess.
+//! An arbiter first chooses between two sets, the requests at or after its pointer and all
+//! requests, and then looks for the least member, so it looks once.
 
 ghost use Rattle.std.specs.Prelude.{◌≡◌, ℕ, ◌*◌, ◌<◌, ◌≤◌, All, IfOk, IfSome, List, Option, None, is_some, slice_index_or, vec_len};
 ghost use Rattle.noc_packet.specs.Set.{has_bit};
@@ -16,8 +16,8 @@ use noc_alloc::Arbiter;
 use noc_packet::{ChannelSet, Memory};
 use std::alloc::Global;
 
-/// An arbiter over all input channels for each output channel, one over its virtual channels for each
-/// input port, and one over the input ports for each output port (Dally and Towles, chapters 18 and 19).
+/// An arbiter over all input channels for each output channel, one over its channels for each input
+/// port, and one over the input ports for each output port (Dally and Towles, chapters 18 and 19).
 #[derive(Drop)]
 pub(crate) struct Arbiters {
     pub(crate) ports: usize,
@@ -51,7 +51,8 @@ impl Arbiters {
         })
     }
 
-    // The one of its virtual channels that are ready which an input port picks: that which its arbiter puts first.
+    // The virtual channel that an input port picks: of those that are ready, the one
+    // that its arbiter puts first.
     pub(crate) fn pick(&self, ready: ChannelSet, port: usize) -> Option<usize>
         requires port { port < self.now.ports }
         requires few { self.now.ports * self.now.vcs ≤ INDICES }
@@ -61,7 +62,8 @@ impl Arbiters {
         self.inputs[port].pick(ready.part(port * self.vcs, self.vcs))
     }
 
-    // The pointers of an input port and an output port go on past the virtual channel and the input port that won.
+    // The pointers of an input port and an output port go on past the virtual channel and
+    // the input port that won.
     pub(crate) fn advance_switch_pointers(&mut self, port: usize, vc: usize, output: usize)
         requires port { port < self.old.ports }
         requires vc { vc < self.old.vcs }

@@ -8,7 +8,8 @@ ghost use Rattle.noc_view.specs.Arrivals.{is_expected_in, arrivals_after, noted_
 use noc_packet::Memory;
 use std::alloc::Global;
 
-/// The packets that were built to end at a node, by rising number, and the cycle in which the tail of each was out.
+/// The packets that were built to end at a node, by rising number, and the cycle in which
+/// the tail of each was out.
 #[derive(Drop)]
 pub(crate) struct Arrivals {
     ends: Vec<u32>,
@@ -36,7 +37,8 @@ impl Arrivals {
         }
     }
 
-    // Notes that a packet's tail is out. False where the packet was not built to end here or has arrived before.
+    // Notes that a packet's tail is out. False where the packet was not built to end
+    // here or has arrived before.
     pub(crate) fn note(&mut self, packet: u32, cycle: u64) -> bool
         ensures expected { result ≡ is_expected_in packet (zip self.old.ends.items self.old.cycles.items) }
         ensures noted { zip self.new.ends.items self.new.cycles.items ≡ (if result then arrivals_after packet cycle (zip self.old.ends.items self.old.cycles.items) else zip self.old.ends.items self.old.cycles.items) }

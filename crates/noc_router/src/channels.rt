@@ -1,10 +1,10 @@
 //! The buffers, input channels and output channels of one router.
 //!
-//! Beside the channels stand sets of them by state: filled, waiting, active, supplied with a credit, and the
-//! idle output channels. So stalled channels get their verdict by a few operations on words, and each loop
-//! visits only channels that have something to do. That the sets are those of the states is an invariant
-//! (`specs/Sound.antt`). What stays as it is, is not written: where a flit that is no tail leaves, the sets of
-//! idle and of owning channels are left alone.
+//! Beside the channels stand sets of them by state: filled, waiting, active, supplied with a
+//! credit, and the idle output channels. So stalled channels get their verdict by a few operations
+//! on words, and each loop visits only channels that have something to do. That the sets are those
+//! of the states is an invariant (`specs/Sound.antt`). What stays as it is, is not written: where a
+//! flit that is no tail leaves, the sets of idle and of owning channels are left alone.
 
 ghost use Rattle.std.specs.Prelude.{◌≡◌, ℕ, ◌≤◌, ◌<◌, ◌-◌, ◌++◌, ◌&&◌, true, false, None, IfOk, IfSome, length, nat_lt, not, Some, slice_get, slice_index_or, vec_len, if◌then◌else◌, replicate};
 ghost use Rattle.noc_topo.specs.Shape.{nodes as nodes_of, ports as ports_of};
@@ -33,8 +33,8 @@ use std::alloc::Global;
 #[derive(Drop)]
 pub(crate) struct Channels {
     size: usize,
-    // The input channels whose buffer holds a flit, whose packet waits for an output channel, whose packet owns one, and
-    // of the last those whose output channel has a credit.
+    // The input channels whose buffer holds a flit, whose packet waits for an output channel, whose
+    // packet owns one, and of the last those whose output channel has a credit.
     filled: ChannelSet,
     waiting: ChannelSet,
     active: ChannelSet,
@@ -119,8 +119,8 @@ impl Channels {
         }
     }
 
-    // A flit comes to an input channel, which is virtual channel `vc` of an input port of this router. False where it
-    // does not fit, and then nothing has changed.
+    // A flit comes to an input channel, which is virtual channel `vc` of an input port of this
+    // router. False where it does not fit, and then nothing has changed.
     pub(crate) fn land(
         &mut self,
         index: usize,
@@ -147,8 +147,8 @@ impl Channels {
         }
     }
 
-    // The source puts its next flit into the buffer of a local channel that has room: the head into an empty one, and
-    // then the flits that the channel awaits.
+    // The source puts its next flit into the buffer of a local channel that has room: the head into
+    // an empty one, and then the flits that the channel awaits.
     pub(crate) fn inject(&mut self, index: usize, flit: Flit)
         requires { CanInject self.old.size self.old.bank.capacity self.old.bank.rings self.old.inputs.items index }
         ensures { states_in self.new ≡ states_after_land index flit (states_in self.old) }
@@ -157,7 +157,8 @@ impl Channels {
         self.filled = self.filled.with(index);
     }
 
-    // A credit arrives at an output channel. False where it does not fit, and then nothing has changed.
+    // A credit arrives at an output channel. False where it does not fit, and
+    // then nothing has changed.
     pub(crate) fn credit_back(&mut self, index: usize) -> bool
         requires { index < self.old.size }
         ensures fits { result ≡ credit_fits (nth_output self.old.outputs.items index) }
@@ -184,7 +185,8 @@ impl Channels {
         self.inputs[index].state()
     }
 
-    // The output channel that a waiting input channel asks for: the least of the idle ones in its set.
+    // The output channel that a waiting input channel asks for: the least of
+    // the idle ones in its set.
     pub(crate) fn asked(&self, index: usize) -> Option<usize>
         requires { index < self.now.size }
         ensures value { result ≡ asked_in self.now.size self.now.outputs.items (nth_input self.now.inputs.items index).phase }
@@ -255,7 +257,8 @@ impl Channels {
         self.supplied = marked(self.supplied, index, output.credit() != Some(0));
     }
 
-    // The first flit of an input channel leaves by the output channel that its packet owns, which has a credit.
+    // The first flit of an input channel leaves by the output channel that its packet
+    // owns, which has a credit.
     pub(crate) fn send(&mut self, index: usize, next: usize) -> Flit
         requires { CanSend self.old.size self.old.bank.rings self.old.inputs.items self.old.outputs.items index next }
         ensures value { slice_get (buffer_at self.old.bank index) 0 ≡ Some result }
@@ -300,7 +303,8 @@ fn is_idle(output: &OutputChannel) -> bool
     output.state() == OutputState::Idle
 }
 
-// The tail or another flit has left: the output channels that are idle, and the input channels whose packet owns one.
+// The tail or another flit has left: the output channels that are idle, and the input
+// channels whose packet owns one.
 #[inline(always)]
 fn let_go(
     idle: &mut ChannelSet,

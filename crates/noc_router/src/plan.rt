@@ -1,9 +1,9 @@
 //! What one router decides in one cycle.
 //!
-//! A plan keeps verdicts and no findings: it is seen as `PlanContents`, which has the round, what is asked for,
-//! the verdicts and the routes. Packet and output channel of a finding are those of the view, so `commit` reads
-//! them there. A whole cycle is defined by `Decisions`, which adds findings; `decisions-are` proves once that
-//! both agree.
+//! A plan keeps verdicts and no findings: it is seen as `PlanContents`, which has the round, what
+//! is asked for, the verdicts and the routes. Packet and output channel of a finding are those of
+//! the view, so `commit` reads them there. A whole cycle is defined by `Decisions`, which adds
+//! findings; `decisions-are` proves once that both agree.
 
 ghost use Rattle.std.specs.Prelude.{◌≡◌, ℕ, ◌<◌, IfOk, IfSome, length, slice_index, slice_index_or, None};
 ghost use Rattle.noc_topo.specs.Shape.{ports as ports_of};
@@ -22,7 +22,8 @@ use noc_view::VerdictSets;
 use std::alloc::Global;
 use std::marker::Model;
 
-/// What one router's arbiters decide in one cycle, the sets for its heads, and the verdict on each input channel.
+/// What one router's arbiters decide in one cycle, the sets for its heads, and the
+/// verdict on each input channel.
 ///
 /// One plan serves all routers, one after the other: it has room for any router.
 #[derive(Drop)]
@@ -44,7 +45,8 @@ impl Model for Plan {
 }
 
 impl Plan {
-    /// A plan without requests, of a router of this relation's network. It takes no memory from `alloc`.
+    /// A plan without requests, of a router of this relation's network. It
+    /// takes no memory from `alloc`.
     pub fn new(alloc: Global, relation: &Relation) -> Result<Plan, Memory>
         ensures { IfOk result (λ plan. plan ≡ empty_plan_contents (ports_of relation.now.grid) relation.now.vcs) }
     {

@@ -1,7 +1,7 @@
 //! The requests of one router's input channels in one cycle, and what its arbiters decide on them.
 //!
-//! Input channels ask for output channels. Input ports, each with the channel that it has picked, ask for output
-//! ports.
+//! Input channels ask for output channels. Input ports, each with the channel that it has
+//! picked, ask for output ports.
 
 ghost use Rattle.std.specs.Prelude.{◌≡◌, ℕ, ◌*◌, ◌/◌, ◌%◌, ◌<◌, ◌≤◌, ◌&&◌, Some, None, length, slice_index_or, slice_set};
 ghost use Rattle.noc_topo.specs.Lists.{is_some_of};
@@ -14,7 +14,8 @@ use crate::arbiters::Arbiters;
 use noc_alloc::{Allocation, Sparse};
 use noc_packet::{ChannelSet, INDICES};
 
-/// What the input channels of one router ask for, and who gets it. There is room for those of any router.
+/// What the input channels of one router ask for, and who gets it. There is room
+/// for those of any router.
 #[derive(Drop)]
 pub(crate) struct Requests {
     ports: usize,
@@ -22,11 +23,11 @@ pub(crate) struct Requests {
     // The input channels whose head may get a set, and by input channel that set.
     routed: ChannelSet,
     routes: [ChannelSet; INDICES],
-    // The output channels, to input channels.
+    // Who asks for output channels and gets them: input channels.
     pub(crate) channels: Allocation,
     // By input port, the virtual channel that it has picked.
     pub(crate) picks: Sparse,
-    // The output ports, to input ports.
+    // Who asks for output ports and gets them: input ports.
     pub(crate) switch: Allocation,
     ghost few_ports: { ports ≤ MAX_PORTS },
     ghost few: { size ≤ INDICES },
@@ -87,7 +88,8 @@ impl Requests {
         self.channels.ask(index, output);
     }
 
-    // An input port has picked one of its virtual channels, and asks for the output port to which this one sends.
+    // An input port has picked one of its virtual channels, and asks for the output port
+    // to which this one sends.
     pub(crate) fn ask_for_port(&mut self, port: usize, vc: usize, output: usize)
         requires port { port < self.old.ports }
         requires output { output < self.old.ports }

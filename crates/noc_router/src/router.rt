@@ -41,12 +41,13 @@ use noc_view::{Finding, ReadySets, Recording, VERDICTS, VerdictSets};
 use std::alloc::Global;
 use std::marker::Model;
 
-/// One router with virtual channels and credit-based flow control (Dally and Towles, chapter 16), the
-/// source and the sink of its node, and what it counts.
+/// One router with virtual channels and credit-based flow control (Dally and Towles, chapter 16),
+/// the source and the sink of its node, and what it counts.
 ///
-/// A cycle takes a beat at each link port (`take`), injects at most one flit (`inject`), decides on one
-/// frozen state (`plan`), lets all verdicts take effect (`commit`) and puts a beat on each link (`put`);
-/// `step` does it whole. What comes in and does not fit is turned away and adds one to `misfits`.
+/// A cycle takes a beat at each link port (`take`), injects at most one flit (`inject`), and
+/// decides on one frozen state (`plan`). It then lets all verdicts take effect (`commit`) and puts
+/// a beat on each link (`put`); `step` does it whole. What comes in and does not fit is turned away
+/// and adds one to `misfits`.
 #[derive(Drop)]
 pub struct Router {
     node: usize,
@@ -83,8 +84,8 @@ impl Model for Router {
 impl Router {
     /// The router of a node before its first cycle, with buffers of `depth` (1 to 16) flits.
     ///
-    /// `starts` are the packets of this node with their numbers, by due time and then by number; `ends`
-    /// are the numbers of the packets that are built to end here, rising.
+    /// `starts` are the packets of this node with their numbers, by due time and then by number;
+    /// `ends` are the numbers of the packets that are built to end here, rising.
     pub fn new(
         alloc: Global,
         relation: &Relation,
@@ -128,8 +129,8 @@ impl Router {
         })
     }
 
-    /// Takes the beat that came to a link port (0 to the number of link ports - 1): its flit lands, its
-    /// credit raises a count. Each half that does not fit is turned away by itself.
+    /// Takes the beat that came to a link port (0 to the number of link ports - 1): its flit lands,
+    /// its credit raises a count. Each half that does not fit is turned away by itself.
     pub fn take(&mut self, relation: &Relation, port: usize, beat: Beat)
         requires relation { IsRelationOf relation.now self.old }
         requires port { port < local_port self.old.site.grid }
@@ -144,8 +145,8 @@ impl Router {
         }
     }
 
-    /// Takes a flit that came on a virtual channel of a link port (0 to the number of link ports - 1). Where it does not
-    /// fit it is turned away.
+    /// Takes a flit that came on a virtual channel of a link port (0 to the number of link ports -
+    /// 1). Where it does not fit it is turned away.
     pub fn take_flit(&mut self, relation: &Relation, port: usize, vc: usize, flit: &Flit)
         requires relation { IsRelationOf relation.now self.old }
         requires port { port < local_port self.old.site.grid }
@@ -163,8 +164,8 @@ impl Router {
         }
     }
 
-    /// Takes a credit that came for a virtual channel of a link port (0 to the number of link ports - 1). Where it does not
-    /// fit it is turned away.
+    /// Takes a credit that came for a virtual channel of a link port (0 to the number of link ports
+    /// - 1). Where it does not fit it is turned away.
     pub fn take_credit(&mut self, port: usize, vc: usize)
         requires port { port < local_port self.old.site.grid }
         ensures { self.new ≡ with_credit port (Some vc) self.old }
@@ -179,9 +180,9 @@ impl Router {
         }
     }
 
-    /// Injects at most one flit: the next one of the packet that is being injected, where its buffer has
-    /// room, or the head of the next packet that is due by this cycle, on the lowest local channel that is
-    /// idle and has an empty buffer (docs/MODEL.md, "Injection").
+    /// Injects at most one flit: the next one of the packet that is being injected, where its
+    /// buffer has room, or the head of the next packet that is due by this cycle. A head goes to
+    /// the lowest local channel that is idle and has an empty buffer (docs/MODEL.md, "Injection").
     pub fn inject(&mut self, cycle: u64)
         ensures view { self.new ≡ view_after_inject cycle self.old }
         ensures site { self.new.site ≡ self.old.site }
@@ -198,8 +199,8 @@ impl Router {
         self.had_event = true;
     }
 
-    // The local virtual channel to which the source's next flit can go in this cycle: it has room, and it is empty or
-    // awaits that flit.
+    // The local virtual channel to which the source's next flit can go in this cycle: it has room,
+    // and it is empty or awaits that flit.
     fn next_channel(&self) -> Option<usize>
         ensures value { result ≡ next_vc self.now }
         ensures within { IfSome result (λ vc. vc < self.now.site.vcs) }
@@ -227,7 +228,8 @@ impl Router {
         Some(index - first)
     }
 
-    /// Writes into `plan` what every input channel asks for and what the arbiters decide. Nothing changes here.
+    /// Writes into `plan` what every input channel asks for and what the arbiters
+    /// decide. Nothing changes here.
     pub fn plan(&self, relation: &Relation, plan: &mut Plan)
         requires { IsRelationOf relation.now self.now }
         ensures value { plan.new ≡ plan_contents relation.now self.now }
@@ -257,7 +259,8 @@ impl Router {
         }
     }
 
-    // The set for the head in the buffer of an input channel: none where its class or destination does not exist.
+    // The set for the head in the buffer of an input channel: none where its class or
+    // destination does not exist.
     fn route_for(&self, relation: &Relation, index: usize) -> ChannelSet
         requires relation { IsRelationOf relation.now self.now }
         requires index { index < size_of self.now.site }
@@ -292,8 +295,8 @@ impl Router {
         }
     }
 
-    // Each input port picks one of its channels that are ready to send, if it has one, and asks for the output port to
-    // which this channel sends. Nobody has picked or asked before.
+    // Each input port picks one of its channels that are ready to send, if it has one, and asks for
+    // the output port to which this channel sends. Nobody has picked or asked before.
     fn ask_for_ports(&self, ready: ChannelSet, requests: &mut Requests)
         requires ready { AreReady self.now ready }
         requires size { AreRequestsOf self.now.site requests.old }
@@ -308,7 +311,8 @@ impl Router {
         }
     }
 
-    // The virtual channel that an input port picks, of those that are ready to send, and the output port to which it sends.
+    // The virtual channel that an input port picks, of those that are ready to send, and the
+    // output port to which it sends.
     fn pick(&self, ready: ChannelSet, port: usize) -> Option<(usize, usize)>
         requires ready { AreReady self.now ready }
         requires port { port < ports_of self.now.site.grid }
@@ -355,8 +359,9 @@ impl Router {
         self.take_effect(plan);
     }
 
-    /// Ends a cycle of a router that has taken its beats: it injects what is due by cycle `cycle` (from 0), decides and
-    /// commits. Its findings are recorded, or stay those of the last cycle in which they were.
+    /// Ends a cycle of a router that has taken its beats: it injects what is due by cycle
+    /// `cycle` (from 0), decides and commits. Its findings are recorded, or stay those of the
+    /// last cycle in which they were.
     pub fn finish(&mut self, relation: &Relation, plan: &mut Plan, cycle: u64, recording: Recording)
         requires { IsRelationOf relation.now self.old }
         ensures { self.new ≡ view_after_finish relation.now cycle recording self.old }
@@ -371,7 +376,8 @@ impl Router {
         }
     }
 
-    // Plans and commits, and leaves the findings as they were. A router that holds nothing needs no plan.
+    // Plans and commits, and leaves the findings as they were. A router that
+    // holds nothing needs no plan.
     fn advance(&mut self, relation: &Relation, plan: &mut Plan)
         requires { IsRelationOf relation.now self.old }
         ensures { self.new ≡ record (view_after_commit (decisions_of relation.now self.old) self.old) { findings = self.old.findings } }
@@ -398,8 +404,8 @@ impl Router {
         plan.events().is_empty()
     }
 
-    /// The first cycle in which `inject` would inject a flit, if nothing happens before: 0 if it can inject now, the
-    /// due cycle if it waits for that, None if it cannot inject.
+    /// The first cycle in which `inject` would inject a flit, if nothing happens before: 0 if it
+    /// can inject now, the due cycle if it waits for that, None if it cannot inject.
     pub fn next_injection(&self) -> Option<u64>
         ensures before { (end : ℕ) → IfSome result (λ due. end ≤ due) → IsHeldBefore end self.now }
         ensures due { IfSome result (λ due. IsHeldBefore (due + 1) self.now → ⊥) }
@@ -415,8 +421,9 @@ impl Router {
         }
     }
 
-    /// The cycles from `first` to before `end` at once, where nothing happens in any of them: nothing comes, nothing is injected, and
-    /// no verdict takes effect, so that the same verdicts are counted in each. `findings` stay.
+    /// The cycles from `first` to before `end` at once, where nothing happens in any of them:
+    /// nothing comes, nothing is injected, and no verdict takes effect, so that the same verdicts
+    /// are counted in each. `findings` stay.
     pub fn wait(&mut self, relation: &Relation, plan: &mut Plan, first: u64, end: u64)
         requires relation { IsRelationOf relation.now self.old }
         requires order { first < end }
@@ -468,7 +475,8 @@ impl Router {
         }
     }
 
-    // The verdict of every input channel takes effect, and the pointers of the switch go on past the winners.
+    // The verdict of every input channel takes effect, and the pointers of the
+    // switch go on past the winners.
     fn apply_verdicts(&mut self, plan: &Plan)
         requires plan { AreContentsFor plan.now self.old }
         requires beats { self.old.to_put ≡ idle_beats self.old.site }
@@ -484,7 +492,8 @@ impl Router {
         }
     }
 
-    // The verdict of one input channel takes effect, and the pointers of the switch go on past it, if it moves.
+    // The verdict of one input channel takes effect, and the pointers of the switch go
+    // on past it, if it moves.
     fn apply_verdict(&mut self, plan: &Plan, index: usize)
         requires index { index < size_of self.old.site }
         requires few { index < INDICES }
@@ -524,8 +533,8 @@ impl Router {
         self.had_event = true;
     }
 
-    // The first flit of an input channel leaves by its output channel, a credit goes back, and the pointers of the switch go on
-    // past that input channel.
+    // The first flit of an input channel leaves by its output channel, a credit goes back, and the
+    // pointers of the switch go on past that input channel.
     fn move_flit(&mut self, index: usize, next: usize)
         requires { CanSend (size_of self.old.site) self.old.buffers self.old.inputs self.old.outputs index next }
         ensures { self.new ≡ switch_past index next (moved_by index next (first_flit self.old index) self.old) }
@@ -573,7 +582,8 @@ impl Router {
         }
     }
 
-    /// The beat that `commit` left for a link port (0 to the number of link ports - 1); an idle one is left.
+    /// The beat that `commit` left for a link port (0 to the number of link ports -
+    /// 1); an idle one is left.
     pub fn put(&mut self, port: usize) -> Beat
         requires { port < local_port self.old.site.grid }
         ensures beat { result ≡ beat_to_put self.old port }
@@ -637,7 +647,8 @@ impl Router {
         }
     }
 
-    /// The neighbour at a link port, and the port by which a flit enters there: None at a border of a mesh.
+    /// The neighbour at a link port, and the port by which a flit enters there:
+    /// None at a border of a mesh.
     pub fn neighbour(&self, port: usize) -> Option<(usize, usize)>
         requires { port < local_port self.now.site.grid }
         ensures { result ≡ neighbour_of self.now.site.grid self.now.site.node port }
@@ -645,8 +656,8 @@ impl Router {
         self.leads.neighbour(port)
     }
 
-    /// What was found in the last cycle that recorded it (`commit`, `step`, `finish` with `Recording::Record`), by input channel
-    /// (port * V + virtual channel): none before the first.
+    /// What was found in the last cycle that recorded it (`commit`, `step`, `finish` with
+    /// `Recording::Record`), by input channel (port * V + virtual channel): none before the first.
     pub fn findings(&self) -> &[Finding]
         ensures { result.now ≡ self.now.findings }
     {
@@ -662,21 +673,24 @@ impl Router {
         self.tally.counts(port * self.vcs + vc)
     }
 
-    /// The last cycle in which a flit was injected or landed, a credit came, or a verdict took effect.
+    /// The last cycle in which a flit was injected or landed, a credit came,
+    /// or a verdict took effect.
     pub fn last_event(&self) -> Option<u64>
         ensures { result ≡ self.now.last_event }
     {
         self.last_event
     }
 
-    /// The cycle in which the tail of a packet was out here: None for one that was not built to end here.
+    /// The cycle in which the tail of a packet was out here: None for one that
+    /// was not built to end here.
     pub fn arrival(&self, packet: u32) -> Option<u64>
         ensures { result ≡ noted_arrival packet self.now.ends }
     {
         self.arrivals.cycle_of(packet)
     }
 
-    /// How many flits and credits were turned away, and tails that came out where or when they should not.
+    /// How many flits and credits were turned away, and tails that came out where
+    /// or when they should not.
     pub fn misfits(&self) -> u64
         ensures { result ≡ self.now.misfits }
     {

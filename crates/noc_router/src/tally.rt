@@ -19,16 +19,17 @@ use noc_view::{Finding, OTHERS, VERDICTS};
 use std::alloc::Global;
 use std::marker::Model;
 
-/// The verdicts of each input channel so far, and the findings of the last cycle in which they were shown.
+/// The verdicts of each input channel so far, and the findings of the last cycle
+/// in which they were shown.
 ///
-/// The cycles in which a channel was empty are those that no other verdict has, so that a router that
-/// holds nothing counts a cycle by one number.
+/// The cycles in which a channel was empty are those that no other verdict has, so that a router
+/// that holds nothing counts a cycle by one number.
 #[derive(Drop)]
 pub(crate) struct Tally {
     cycles: u64,
     // Whether findings were shown.
     begun: bool,
-    // Of the verdicts but Empty.
+    // How often each channel had each verdict but Empty.
     others: Counts<OTHERS>,
     findings: Findings,
 }

@@ -11,8 +11,8 @@ module _ (net : Setup) where
   IsAlone p = (n q : ℕ) → (packet_at net p).due ≤ n → arrival_in net (state_at net n) p ≡ None
       → q < length net.packets → q ≢ p → (packet_at net q).due ≤ n → arrival_in net (state_at net n) q ≢ None
 
-  -- the cycles from the due time of p to the one in which its tail is out, where nothing holds it up:
-  -- three for each hop, two for the route and the grant at the destination, and one for each flit
-  -- behind the head
+  -- the cycles from the due time of p to the one in which its tail is out, where nothing holds it
+  -- up. They are three for each hop, two for the route and the grant at the destination, and one
+  -- for each flit behind the head
   abbrev pub zero_load_latency : ℕ → ℕ
   zero_load_latency p = 3 * hops net p + 2 + ((packet_at net p).length - 1)

@@ -1,4 +1,5 @@
--- Routers that go on by single events, each at a cycle of its own (docs/MODEL.md, "The event core").
+-- Routers that go on by single events, each at a cycle of its own
+-- (docs/MODEL.md, "The event core").
 use Rattle.std.specs.Prelude.{ℕ, zero, suc, ◌+◌, Bool, true, false, ◌&&◌, ◌||◌, not, List, [], ◌∷◌, ◌++◌, map, drop, length, Option, Some, None, option_map, option_and_then, is_some, is_none, unwrap_or, slice_get, slice_index_or, slice_set, nat_eq, nat_lt, if◌then◌else◌, replicate}
 use Rattle.std.specs.List.{list_all}
 use Rattle.noc_topo.specs.Lists.{below, tabulate, map_indexed}
@@ -11,14 +12,15 @@ use Rattle.noc_theory.specs.Halves.{beat_at}
 use Rattle.noc_theory.specs.Lockstep.{beats_in, view_at}
 use Rattle.noc_theory.specs.Network.{Setup, Run, state_at}
 
--- one router in the core: its view, its cycle, the wires that arrive, and what it has done of its cycle
+-- one router in the core: its view, its cycle, the wires that arrive, and what
+-- it has done of its cycle
 pub record Post : Type 0 where
   pub view : View
   pub steps : ℕ  -- the cycle that it is in, or that it makes next
-  pub wires : List (List Beat)  -- for each link port, the beats on the wire that arrives there, the oldest first
-  pub taken : List (Option Beat)  -- for each link port, the beat that was taken in this cycle
+  pub wires : List (List Beat)  -- by link port, the beats on the wire that arrives, oldest first
+  pub taken : List (Option Beat)  -- by link port, the beat that was taken in this cycle
   pub decided : Bool
-  pub unput : List (Option Beat)  -- for each link port, the beat that is still to be put in this cycle
+  pub unput : List (Option Beat)  -- by link port, the beat that is still to be put in this cycle
 
 -- all routers, with the wires between them
 pub record CoreState : Type 0 where
@@ -45,7 +47,8 @@ resting_post net view n wires = record { view = view; steps = n; wires = wires; 
 abbrev pub wires_in_flight : Setup → ℕ → ℕ → List (List Beat)
 wires_in_flight net n r = tabulate (link_ports net) (λ port. if is_linked net r port then beat_at (beats_in net (state_at net n)) r port ∷ [] else [])
 
--- the core that begins where a network is after its cycles: each router has its view of the network's state
+-- the core that begins where a network is after its cycles: each router has its
+-- view of the network's state
 unfoldable pub opening_core : Run → CoreState
 opening_core u = record {
   net = u.net;

@@ -19,7 +19,8 @@ pub record IsGoodPacket (relation : Routes) (p : Packet) : Type 0 where
   pub length : p.length ≤ MAX_LENGTH
   pub due : p.due ≤ MAX_DUE
 
--- the relation was built, each buffer has a place, and the packets are not too many and each can be sent
+-- the relation was built, each buffer has a place, and the packets are not too
+-- many and each can be sent
 pub record IsGoodSetup (net : Setup) : Type 0 where
   pub relation : IsRelation net.relation
   pub some_depth : 0 < net.depth
@@ -31,6 +32,7 @@ module _ (net : Setup) where
   abbrev pub IsValid : ℕ → ℕ → Type 0
   IsValid p i = (p < length net.packets) × (i < (packet_at net p).length)
 
-  -- the places of the buffer of c that are taken, by flits on its wire and in it, or by a credit that is on its way back
+  -- the places of the buffer of c that are taken, by flits on its wire and in it, or by a
+  -- credit that is on its way back
   abbrev pub places_taken : State → Channel → ℕ
   places_taken S c = count_on net S c + count_in net S c + (if has_channel S.back c then 1 else 0)

@@ -1,4 +1,5 @@
--- The two halves of a cycle: each router takes its beats, injects, decides and commits; then each one puts its beats.
+-- The two halves of a cycle: each router takes its beats, injects, decides and commits; then
+-- each one puts its beats.
 use Rattle.std.specs.Prelude.{◌≡◌, ℕ, ◌<◌, ◌≤◌, List, length, Option, Some, None, slice_index_or, slice_set, nat_eq, if◌then◌else◌}
 use Rattle.noc_topo.specs.Lists.{tabulate}
 use Rattle.noc_topo.specs.Shape.{Grid, local_port}
@@ -17,7 +18,8 @@ beat_at wires r port = slice_index_or (beats_at wires r) port idle_beat
 unfoldable pub incoming : Grid → List Beat → List Beat
 incoming grid beats = tabulate (local_port grid) (λ port. slice_index_or beats port idle_beat)
 
--- a router after the first half of cycle n over these beats, in which its findings are recorded, or stay as they were
+-- a router after the first half of cycle n over these beats, in which its findings are
+-- recorded, or stay as they were
 unfoldable pub view_after_decide : Routes → ℕ → Recording → List Beat → View → View
 view_after_decide relation n findings beats v = view_after_finish relation n findings (view_after_takes relation beats v)
 

@@ -1,5 +1,5 @@
--- What stays true of a core, whatever events come: each router is in a cycle of the lockstep run, and each wire holds its beats
--- of the cycles between those of its ends.
+-- What stays true of a core, whatever events come: each router is in a cycle of the lockstep run,
+-- and each wire holds its beats of the cycles between those of its ends.
 use Rattle.std.specs.Prelude.{◌≡◌, ℕ, ◌+◌, ◌-◌, ◌<◌, ◌≤◌, true, false, ◌&&◌, not, List, [], ◌∷◌, map, length, Some, None, slice_get, slice_index_or, if◌then◌else◌}
 use Rattle.std.specs.List.{range_with_len}
 use Rattle.noc_topo.specs.Shape.{IsGrid, nodes, neighbour}
@@ -24,7 +24,8 @@ cycle_taken port post = post.steps + one_if (has_beat post.taken port)
 abbrev pub cycle_put : ℕ → Post → ℕ
 cycle_put port post = post.steps + 1 + one_if (post.decided && not (has_beat post.unput port))
 
--- the beats of the lockstep run on the wire that arrives at this router and port, of the cycles from `a` to before `b`
+-- the beats of the lockstep run on the wire that arrives at this router and port, of the
+-- cycles from `a` to before `b`
 abbrev pub beats_of_cycles : Setup → ℕ → ℕ → ℕ → ℕ → List Beat
 beats_of_cycles net r port a b = map (λ n. beat_at (lockstep_at net n).wires r port) (range_with_len a (b - a))
 
@@ -58,7 +59,8 @@ pub record HoldsCycles (net : Setup) (r port a b : ℕ) (wire : List Beat) : Typ
   pub order : a ≤ b
   pub beats : wire ≡ beats_of_cycles net r port a b
 
--- all routers and wires, where a router does at most `limit` cycles: a wire holds the beats that were put and not taken
+-- all routers and wires, where a router does at most `limit` cycles: a wire holds the beats
+-- that were put and not taken
 pub record IsInStep (limit : ℕ) (k : CoreState) : Type 0 where
   pub grid : IsGrid k.net.relation.grid
   pub count : length k.posts ≡ nodes k.net.relation.grid
@@ -66,29 +68,32 @@ pub record IsInStep (limit : ℕ) (k : CoreState) : Type 0 where
   pub wires : (r port s q : ℕ) (post sender : Post) → post_at k r ≡ Some post → post_at k s ≡ Some sender → neighbour k.net.relation.grid r port ≡ Some (s, q)
       → HoldsCycles k.net r port (cycle_taken port post) (cycle_put q sender) (wire_of post port)
 
--- the wire that arrives at a router and port from a sender: it holds the opening beat and those that were put and not taken, at
--- most two
+-- the wire that arrives at a router and port from a sender: it holds the opening beat and those
+-- that were put and not taken, at most two
 pub record KeepsWire (net : Setup) (events : List Event) (r port : ℕ) (post : Post) (s q : ℕ) (sender : Post) : Type 0 where
   pub beats : length (wire_of post port) + takes r port events ≡ 1 + puts s q events
   pub few : length (wire_of post port) ≤ 2
-  -- between the cycles of both ends it holds the beats of the lockstep run from the receiver's cycle to the sender's, and the
-  -- ends are at most one cycle apart
+  -- between the cycles of both ends it holds the beats of the lockstep run from the receiver's
+  -- cycle to the sender's, and the ends are at most one cycle apart
   pub between : is_between post ≡ true → is_between sender ≡ true →
       (length (wire_of post port) + post.steps ≡ sender.steps + 1)
       × (wire_of post port ≡ beats_of_cycles net r port post.steps (sender.steps + 1))
       × (post.steps ≤ sender.steps + 1)
       × (sender.steps ≤ post.steps + 1)
 
--- what holds of a core that was opened where the lockstep run is at a count, after the events that happened
+-- what holds of a core that was opened where the lockstep run is at a count, after
+-- the events that happened
 pub record KeepsStep (net : Setup) (count : ℕ) (events : List Event) (k : CoreState) : Type 0 where
   pub routers : length k.posts ≡ nodes net.relation.grid
-  -- each router has the view of the lockstep run, with its findings, at the count of its last Decide
+  -- each router has the view of the lockstep run, with its findings, at the
+  -- count of its last Decide
   pub views : (r : ℕ) (post : Post) → post_at k r ≡ Some post → post.view ≡ slice_index_or (lockstep_at net (count + decides r events)).views r post.view
   -- the count of its last Decide is its own number of steps where it is between its cycles
   pub steps : (r : ℕ) (post : Post) → post_at k r ≡ Some post → is_between post ≡ true → post.steps ≡ count + decides r events
   pub wires : (r port s q : ℕ) (post sender : Post) → post_at k r ≡ Some post → post_at k s ≡ Some sender → neighbour net.relation.grid r port ≡ Some (s, q)
       → KeepsWire net events r port post s q sender
-  -- where all routers are between their cycles at one count, the core is the one of the lockstep run after so many cycles
+  -- where all routers are between their cycles at one count, the core is the one of the lockstep
+  -- run after so many cycles
   pub whole : (n : ℕ) → are_between k n ≡ true → k ≡ lockstep_core (record { net = net; count = n })
 
 -- no router is past the limit

@@ -1,5 +1,5 @@
--- All routers in step, each by its own view, and the view of a router in a state of the whole network
--- (docs/MODEL.md, "One router and the whole network").
+-- All routers in step, each by its own view, and the view of a router in a state of the whole
+-- network (docs/MODEL.md, "One router and the whole network").
 use Rattle.std.specs.Prelude.{ℕ, zero, suc, ◌-◌, Bool, false, ◌&&◌, ◌||◌, not, List, [], map, filter, find, count_by, Option, Some, None, option_map, option_and_then, is_some, unwrap_or, slice_index_or, nat_eq, nat_lt, if◌then◌else◌, replicate, ◌/◌, ◌%◌}
 use Rattle.std.specs.List.{list_any}
 use Rattle.noc_topo.specs.Lists.{below, tabulate, map_indexed, is_some_of}
@@ -27,7 +27,8 @@ use Rattle.noc_packet.specs.ByNode.{starts_of, ends_of}
 abbrev pub beats_at : List (List Beat) → ℕ → List Beat
 beats_at wires r = slice_index_or wires r []
 
--- the beat that a router was sent by its neighbour at a port, where `sent` has for each router the beats that it put
+-- the beat that a router was sent by its neighbour at a port, where `sent` has for each
+-- router the beats that it put
 abbrev pub beat_from : List (List Beat) → Option (ℕ × ℕ) → Beat
 beat_from sent None = idle_beat
 beat_from sent (Some from) = slice_index_or (beats_at sent from.0) from.1 idle_beat
@@ -50,7 +51,7 @@ module _ (net : Setup) where
   -- all views, and the beats in flight
   pub record Lockstep : Type 0 where
     pub views : List View  -- of each router
-    pub wires : List (List Beat)  -- for each router and link port, the beat on the wire that arrives there
+    pub wires : List (List Beat)  -- by router and link port, the beat on the wire that arrives
 
   -- each router has its opening view, each wire an idle beat
   unfoldable pub opening_lockstep : Lockstep
@@ -107,7 +108,8 @@ module _ (net : Setup) where
   seen_phase_with S r i c None = Waiting (seen_set S r i (owner_of net S c))
   seen_phase_with S r i c (Some o) = Active (output_index net.relation.grid net.relation.vcs o)
 
-  -- a channel that is not routed is idle; a routed one is active where it has a next channel, and else it waits
+  -- a channel that is not routed is idle; a routed one is active where it has a next
+  -- channel, and else it waits
   abbrev pub seen_phase : State → ℕ → ℕ → Channel → InputState
   seen_phase S r i c = if has_channel S.routed c then seen_phase_with S r i c (next_channel net S c) else Idle
 
@@ -148,7 +150,8 @@ module _ (net : Setup) where
       then record { holder = seen_holder S r o (owner_of net S o); credit = Some (credit_of net S o); depth = net.depth }
       else record ejection_output { holder = seen_holder S r o (owner_of net S o) }
 
-  -- the injection channel of the first waiting packet, once it has begun, and the index of its next flit
+  -- the injection channel of the first waiting packet, once it has begun, and
+  -- the index of its next flit
   abbrev pub seen_sending : State → ℕ → Option ℕ → Option (ℕ × ℕ)
   seen_sending S r None = None
   seen_sending S r (Some p) =
@@ -187,7 +190,8 @@ module _ (net : Setup) where
   flies_to r (In c) = false
   flies_to r (Out n) = false
 
-  -- whether router r has an event in cycle n: a landing, a credit, an injection, a route, a grant or a move
+  -- whether router r has an event in cycle n: a landing, a credit, an injection, a
+  -- route, a grant or a move
   abbrev pub has_event_at : ℕ → ℕ → Bool
   has_event_at n r =
       let S = state_at net n in
@@ -238,7 +242,8 @@ module _ (net : Setup) where
   abbrev pub flit_on : State → Channel → Option Flit
   flit_on S c = option_map (λ (f : Located). flit_at (packet_at net f.packet) f.packet f.index) (find (λ (f : Located). is_on c f.place) S.at)
 
-  -- the beat on its way to router r from the sender at its port: the flit that it sent, and the credit for a flit of r
+  -- the beat on its way to router r from the sender at its port: the flit that it sent, and
+  -- the credit for a flit of r
   abbrev pub beat_by : State → ℕ → ℕ → Option (ℕ × ℕ) → Beat
   beat_by S r port None = idle_beat
   beat_by S r port (Some from) = record {
@@ -247,6 +252,6 @@ module _ (net : Setup) where
     credit = find (λ vc. has_channel S.back (Link r port vc)) (below net.relation.vcs);
   }
 
-  -- for each router and link port, the beat on the wire that arrives there
+  -- by router and link port, the beat on the wire that arrives
   unfoldable pub beats_in : State → List (List Beat)
   beats_in S = tabulate (nodes net.relation.grid) (λ r. tabulate (local_port net.relation.grid) (λ port. beat_by S r port (neighbour net.relation.grid r port)))

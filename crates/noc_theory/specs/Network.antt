@@ -37,7 +37,7 @@ pub record Located : Type 0 where
 -- the state of the whole network at the start of a cycle (docs/MODEL.md, "The state")
 pub record State : Type 0 where
   pub at : List Located  -- each flit once, by packet and index
-  pub own : List (Channel × ℕ)  -- channels and the packets that own them, in the order in which they came to
+  pub own : List (Channel × ℕ)  -- owned channels with their packets, the earliest owned first
   pub routed : List Channel  -- channels whose head was routed and whose tail has not left
   pub back : List Channel  -- link channels with a credit on its way back
   pub arbiters : List ArbiterStates  -- of each router
@@ -143,7 +143,8 @@ module _ (net : Setup) where
   abbrev pub tail_place : State → ℕ → Place
   tail_place S p = place_of_flit S p ((packet_at p).length - 1)
 
-  -- the places that a link channel has left: not on the wire, not in the buffer, no credit on its way
+  -- the places that a link channel has left: not on the wire, not in the
+  -- buffer, no credit on its way
   abbrev pub credit_of : State → Channel → ℕ
   credit_of S c = net.depth - count_on S c - count_in S c - (if has_channel S.back c then 1 else 0)
 
@@ -171,7 +172,8 @@ module _ (net : Setup) where
   abbrev pub next_channel : State → Channel → Option Channel
   next_channel S c = option_and_then (λ p. find (leads_from c) (owned_by S p)) (owner_of S c)
 
-  -- the idle channel with the least index that the relation permits to the owner of c, which ends at router r
+  -- the idle channel with the least index that the relation permits to the owner of
+  -- c, which ends at router r
   abbrev pub ask : State → ℕ → Channel → Option ℕ
   ask S r c =
       option_and_then (λ p. find (λ o. is_idle S (leaving r o) && permits net.relation (packet_at p).class c (packet_at p).destination (leaving r o)) (below size))
@@ -190,9 +192,10 @@ module _ (net : Setup) where
   unfoldable pub after_landing : State → State
   after_landing S = record S { at = map (λ (f : Located). record f { place = landed_place f.place }) S.at }
 
-  -- ---- phase two: credits arrive, and a link channel is idle once the tail of its owner has left its buffer
+  -- ---- phase two: credits arrive, and link channels that their owner has left are idle
 
-  -- whether a flit bound for t that is at this place has gone on from the buffer of c: it is out, or nearer to t
+  -- whether a flit bound for t that is at this place has gone on from the buffer of c:
+  -- it is out, or nearer to t
   abbrev pub is_past : Channel → ℕ → Place → Bool
   is_past c t Source = false
   is_past c t (On d) = nat_lt (end_distance net.relation d t) (end_distance net.relation c t)
@@ -221,7 +224,8 @@ module _ (net : Setup) where
   is_injection_of node (Inject m v) = nat_eq m node
   is_injection_of node (Eject m v) = false
 
-  -- a packet of which one flit is injected, the channel to which it goes, and whether the packet begins there
+  -- a packet of which one flit is injected, the channel to which it goes, and
+  -- whether the packet begins there
   pub record Injection : Type 0 where
     pub packet : ℕ
     pub channel : Channel
@@ -321,7 +325,8 @@ module _ (net : Setup) where
   gone_to n c (Some (Inject m v)) = In c
   gone_to n c (Some (Eject m v)) = Out n
 
-  -- where flit f goes, which is at this place: the first flit of a buffer whose verdict is Moved goes on
+  -- where flit f goes, which is at this place: the first flit of a buffer whose
+  -- verdict is Moved goes on
   abbrev pub moved_place : State → ℕ → Located → Place → Place
   moved_place F n f Source = Source
   moved_place F n f (On c) = On c
@@ -341,7 +346,8 @@ module _ (net : Setup) where
   abbrev pub tail_leaves_to : State → Channel → Channel → Bool
   tail_leaves_to F o c = tail_leaves F c && unwrap_or (option_map (same_channel o) (next_channel F c)) false
 
-  -- an injection channel that the tail leaves, and an ejection channel by which it is out, are idle at once
+  -- an injection channel that the tail leaves, and an ejection channel by which it
+  -- is out, are idle at once
   abbrev pub is_released : State → Channel × ℕ → Bool
   is_released F (Link r p v, q) = false
   is_released F (Inject m v, q) = tail_leaves F (Inject m v)

@@ -1,4 +1,5 @@
--- Lists of events: those that happen, and how many of them there are of each kind (docs/MODEL.md, "The event core").
+-- Lists of events: those that happen, and how many of them there are of each kind
+-- (docs/MODEL.md, "The event core").
 use Rattle.std.specs.Prelude.{ℕ, Bool, false, ◌&&◌, List, [], ◌∷◌, count_by, nat_eq, if◌then◌else◌}
 use Rattle.noc_theory.specs.declared.event.Event.{Event}
 use Rattle.noc_theory.specs.declared.event.Event.TheVariants.{Take, Decide, Put}

@@ -48,7 +48,8 @@ module _ (net : Setup) where
   abbrev pub hops : ℕ → ℕ
   hops p = distance net.relation.grid (packet_at net p).source (packet_at net p).destination
 
-  -- the injection, moves, landings and credits that a flit at this place still has before it: three for each hop
+  -- the injection, moves, landings and credits that a flit at this place still has
+  -- before it: three for each hop
   abbrev pub weight : ℕ → Place → ℕ
   weight p Source = 3 * hops p + 2
   weight p (On c) = 3 * end_distance net.relation c (packet_at net p).destination + 3

@@ -17,7 +17,8 @@ abbrev pub AreSameViews : Recording → List View → List View → Type 0
 AreSameViews Record views others = views ≡ others
 AreSameViews Leave views others = map without_findings views ≡ map without_findings others
 
--- routers and wires are those of the lockstep run at count n; where findings were not recorded, but for these
+-- routers and wires are those of the lockstep run at count n; where findings were
+-- not recorded, but for these
 pub record AreInStep (net : Setup) (findings : Recording) (n : ℕ) (routers : List View) (beats : List (List Beat)) : Type 0 where
   pub views : AreSameViews findings routers (lockstep_at net n).views
   pub wires : (r port : ℕ) → beat_at beats r port ≡ beat_at (lockstep_at net n).wires r port

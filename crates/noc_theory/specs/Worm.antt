@@ -1,4 +1,5 @@
--- Worm order: the channels of a packet are one path, and its flits stand along it in order (docs/MODEL.md, "Worms"; Dally and Towles, chapter 13).
+-- Worm order: the channels of a packet are one path, and its flits stand along it in order
+-- (docs/MODEL.md, "Worms"; Dally and Towles, chapter 13).
 use Rattle.std.specs.Prelude.{◌≡◌, ◌≢◌, ℕ, ◌+◌, ◌<◌, ◌≤◌, IsTrue, List, [], ◌∷◌, length, Some, ◌⊎◌}
 use Rattle.noc_topo.specs.Lists.{Has, Pairs}
 use Rattle.noc_route.specs.Channel.{Channel, Inject, is_link}
@@ -18,8 +19,9 @@ module _ (net : Setup) where
   IsRun p i [] = Unit {0}
   IsRun p i (f ∷ fs) = (f.packet ≡ p) × (f.index ≡ i) × IsRun p (i + 1) fs
 
-  -- where the tail is of a packet whose first channel is c: in its buffer, on its wire, at the source if c is an injection
-  -- channel, or gone on, while the last credit of c is on its way
+  -- where the tail is of a packet whose first channel is c: in its buffer, on its wire,
+  -- or at the source if c is an injection channel. Or it has gone on, while the last
+  -- credit of c is on its way
   abbrev pub IsRear : State → ℕ → Channel → Place → Type 0
   IsRear S p (Inject n v) Source = Unit {0}
   IsRear S p c place = (place ≡ In c) ⊎ (place ≡ On c) ⊎ (IsTrue (is_past net c (packet_at net p).destination place) × IsTrue (has_channel S.back c))

@@ -1,12 +1,13 @@
 //! What a network is and does: definitions and their theory, and nothing that runs.
 //!
-//! `specs/` has the state of the whole network and one cycle of it (`Network`), events and the work
-//! that is left (`Progress`), worm order (`Worm`), the same run router by router (`Lockstep`,
-//! `Halves`), and routers that go on by single events (`Core`, `InStep`, `Order`). What a network
-//! needs so that the laws hold of it is `IsGoodSetup` in `Good`. `ownership`, `views`, `progress`
-//! and `latency` have the laws: how packets stand in every state, that the routers in lockstep show
-//! it, that a ranked network goes on, that one in which nothing happens stays as it is until a
-//! packet is due, and how long a packet takes that is alone.
+//! `specs/` has the state of the whole network and one cycle of it (`Network`), events and the
+//! work that is left (`Progress`), and worm order (`Worm`). It also has the same run router by
+//! router (`Lockstep`, `Halves`), and routers that go on by single events (`Core`, `InStep`,
+//! `Order`). What a network needs so that the laws hold of it is `IsGoodSetup` in `Good`.
+//! `ownership`, `views`, `progress` and `latency` have the laws: how packets stand in every
+//! state, that the routers in lockstep show it, and that a ranked network goes on. Two more say
+//! that a network in which nothing happens stays as it is until a packet is due, and how long a
+//! packet takes that is alone.
 #![tactic(auto)]
 
 mod event;

@@ -7,20 +7,23 @@ ghost use Rattle.noc_theory.specs.Network.{Setup, On, Out, packet_at, place_of_f
 ghost use Rattle.noc_theory.specs.Worm.{IsWormOrder};
 ghost use Rattle.noc_theory.specs.Good.{IsGoodSetup, IsValid, places_taken};
 
-/// The channels of each packet are one path along the relation, no channel has two owners, and the flits of a packet stand along
-/// its path in order: at the start of every cycle, and in the frozen state from which the verdicts of every cycle are taken.
+/// The channels of each packet are one path along the relation, no channel has two owners, and the
+/// flits of a packet stand along its path in order. This holds at the start of every cycle, and in
+/// the frozen state from which the verdicts of every cycle are taken.
 pub fn packets_keep_worm_order()
     ensures start { (net : Setup) (n : ℕ) → IsGoodSetup net → IsWormOrder net (state_at net n) }
     ensures frozen { (net : Setup) (n : ℕ) → IsGoodSetup net → IsWormOrder net (frozen_at net n) }
 {}
 
-/// The credits of a channel are the places of its buffer that are left: together with the flits on its wire, the flits in its
-/// buffer and the credit on its way back they are all its places, never more and never less.
+/// The credits of a channel are the places of its buffer that are left. Together with the flits
+/// on its wire, the flits in its buffer and the credit on its way back they are all its places,
+/// never more and never less.
 pub fn credits_are_the_places_left()
     ensures { (net : Setup) (n : ℕ) (c : Channel) → IsGoodSetup net → credit_of net (state_at net n) c + places_taken net (state_at net n) c ≡ net.depth }
 {}
 
-/// The flits of a packet go out in order of index, each in a cycle of its own, and all that is out went out in a cycle that is over.
+/// The flits of a packet go out in order of index, each in a cycle of its own, and all that is out
+/// went out in a cycle that is over.
 pub fn flits_go_out_in_order()
     ensures rising { (net : Setup) (n p i j a b : ℕ) → IsGoodSetup net → p < length net.packets → j < (packet_at net p).length → i < j
         → place_of_flit net (state_at net n) p i ≡ Out a → place_of_flit net (state_at net n) p j ≡ Out b → a < b }

@@ -6,23 +6,25 @@ ghost use Rattle.noc_theory.specs.Network.{Setup, packet_at, state_at, opening_s
 ghost use Rattle.noc_theory.specs.Progress.{NoneDue, budget, events, is_pending, is_stuck, remainder};
 ghost use Rattle.noc_theory.specs.Good.{IsGoodSetup};
 
-/// No network is ever stuck whose relation is ranked, as the check of ranks answers, be it by ranks of all link channels or of some
-/// to which the others lead: each cycle in which a packet waits that was due has an event.
+/// No network is ever stuck whose relation is ranked, as the check of ranks answers: each cycle in
+/// which a packet waits that was due has an event. The ranks may be of all link channels, or of
+/// some to which the others lead.
 pub fn a_ranked_network_is_never_stuck()
     ensures event { (net : Setup) (ranks : Ranking) (n : ℕ) → IsGoodSetup net → IsRankedBy net.relation ranks
         → is_pending net n (state_at net n) ≡ true → 0 < events net n (state_at net n) }
     ensures unstuck { (net : Setup) (ranks : Ranking) (n : ℕ) → IsGoodSetup net → IsRankedBy net.relation ranks → is_stuck net n ≡ false }
 {}
 
-/// Each event is one less to come: a cycle lowers the remainder by exactly the number of its events. At the start it is the budget.
+/// Each event is one less to come: a cycle lowers the remainder by exactly the number of its
+/// events. At the start it is the budget.
 pub fn each_event_is_one_less_to_come()
     ensures cycle { (net : Setup) (n : ℕ) → IsGoodSetup net
         → remainder net (state_at net n) ≡ remainder net (network_cycle net n (state_at net n)) + events net n (state_at net n) }
     ensures start { (net : Setup) → remainder net (opening_state net) ≡ budget net }
 {}
 
-/// In a network whose relation is ranked, all packets have arrived once as many cycles have passed since the last due time as the
-/// budget has events, each in a cycle before.
+/// In a network whose relation is ranked, all packets have arrived once as many cycles have passed
+/// since the last due time as the budget has events, each in a cycle before.
 pub fn all_packets_arrive_within_the_budget()
     ensures arrived { (net : Setup) (ranks : Ranking) (last n p : ℕ) → IsGoodSetup net → IsRankedBy net.relation ranks
         → ((q : ℕ) → q < length net.packets → (packet_at net q).due ≤ last) → last + budget net ≤ n → p < length net.packets

@@ -1,4 +1,5 @@
--- Each Take, Decide and Put is one cycle more of a router and its ports, and no router goes past the limit.
+-- Each Take, Decide and Put is one cycle more of a router and its ports, and no
+-- router goes past the limit.
 use Rattle.std.proofs.Common.{◌≡◌, ℕ, ◌+◌, ◌<◌, ◌≤◌, Bool, true, false, List, [], ◌∷◌, length, Some, refl, ap, sym, ◌∙◌, subst, arith}
 use Rattle.std.specs.Prelude.{nat_eq, if◌then◌else◌}
 use Rattle.std.proofs.lemmas.Option.{get_or_from_slice_get, slice_get_within}
@@ -19,7 +20,8 @@ use Rattle.noc_theory.proofs.runs.LimitLemmas.{decides-below}
 use Rattle.noc_theory.proofs.runs.OrderLemmas.{net-happens, one_event}
 use Rattle.noc_theory.proofs.runs.PostLemmas.{has_none}
 
--- the cycle at which a router is seen, and for each of its links that of its next Take and of its next Put
+-- the cycle at which a router is seen, and for each of its links that of its next
+-- Take and of its next Put
 pub record Base : Type 0 where
   pub seen : ℕ → ℕ
   pub next_take : ℕ → ℕ → ℕ

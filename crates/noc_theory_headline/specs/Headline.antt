@@ -1,5 +1,6 @@
--- What a network does in each cycle, in words of its state: who is granted what, which flit moves, and why the others wait
--- (docs/MODEL.md, "Arbiters" and "Verdicts"; Dally and Towles, chapters 16, 18 and 19).
+-- What a network does in each cycle, in words of its state: who is granted what, which flit
+-- moves, and why others wait (docs/MODEL.md, "Arbiters" and "Verdicts"; Dally and Towles,
+-- chapters 16, 18 and 19).
 use Rattle.std.specs.Prelude.{◌≡◌, ℕ, ◌+◌, ◌*◌, ◌/◌, ◌%◌, ◌<◌, ◌≤◌, true, false, IsTrue, Some, None, ◌↔◌, ◌⊎◌}
 use Rattle.noc_topo.specs.Lists.{Has}
 use Rattle.noc_topo.specs.Shape.{nodes, ports}
@@ -12,14 +13,16 @@ use Rattle.noc_theory.specs.Network.{Setup, State, Out, size, packet_at, arrivin
 use Rattle.noc_theory.specs.Worm.{IsWormOrder}
 use Rattle.noc_theory.specs.Good.{IsValid, places_taken}
 
--- x comes first in turn: of the requesters below the size that ask, none stands less far behind the pointer
+-- x comes first in turn: of the requesters below the size that ask, none stands
+-- less far behind the pointer
 pub record IsFirstInTurn (size pointer : ℕ) (Asks : ℕ → Type 0) (x : ℕ) : Type 0 where
   pub exists : x < size
   pub asks : Asks x
   pub first : (y : ℕ) → y < size → Asks y → distance_in_turn size pointer x ≤ distance_in_turn size pointer y
 
--- a router, in the state of the network from which all verdicts of a cycle are taken. Channel c is one that ends there; i and o are
--- indices, port * vcs + vc, of its input channels and of its output channels
+-- a router, in the state of the network from which all verdicts of a cycle are taken.
+-- Channel c is one that ends there; i and o are indices, port * vcs + vc, of its input
+-- channels and of its output channels
 module _ (net : Setup) (F : State) (r : ℕ) where
   -- ---- what holds of a channel
 
@@ -126,7 +129,8 @@ pub record IsInputOf (net : Setup) (r i : ℕ) (c : Channel) : Type 0 where
 abbrev pub IsInput : Setup → Channel → Type 0
 IsInput net c = (r : ℕ) × (i : ℕ) × IsInputOf net r i c
 
--- what holds of cycle n of a network: the verdicts of its channels, and its buffers, owners, credits and flits
+-- what holds of cycle n of a network: the verdicts of its channels, and its buffers,
+-- owners, credits and flits
 pub record IsRightCycle (net : Setup) (n : ℕ) : Type 0 where
   -- each channel with a buffer ends at one router, as one of its input channels
   pub somewhere : (c : Channel) → Has c (all_inputs net) → IsInput net c
@@ -136,7 +140,8 @@ pub record IsRightCycle (net : Setup) (n : ℕ) : Type 0 where
   -- no buffer holds more than its places or flits of two packets, no channel has two owners
   pub start : IsWormOrder net (state_at net n)
   pub frozen : IsWormOrder net (frozen_at net n)
-  -- the credits of a channel are the places of its buffer that are left, also those that the verdicts look at
+  -- the credits of a channel are the places of its buffer that are left, also those
+  -- that the verdicts look at
   pub credits : (c : Channel) → credit_of net (state_at net n) c + places_taken net (state_at net n) c ≡ net.depth
   pub frozen_credits : (c : Channel) → credit_of net (frozen_at net n) c + places_taken net (frozen_at net n) c ≡ net.depth
   -- the flits of a packet go out in order

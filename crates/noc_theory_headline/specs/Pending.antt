@@ -1,4 +1,5 @@
--- A cycle in which a packet waits, and one in which something happens (docs/MODEL.md, "Events, pending, stuck").
+-- A cycle in which a packet waits, and one in which something happens (docs/MODEL.md,
+-- "Events, pending, stuck").
 use Rattle.std.specs.Prelude.{◌≡◌, ◌≢◌, ◌⊎◌, ℕ, ◌<◌, ◌≤◌, length}
 use Rattle.noc_topo.specs.Lists.{Has}
 use Rattle.noc_route.specs.Channel.{Channel}
@@ -14,8 +15,8 @@ pub record IsPendingIn (net : Setup) (n : ℕ) : Type 0 where
   pub due : (packet_at net packet).due ≤ n
   pub waits : (m : ℕ) → tail_place net (state_at net n) packet ≢ Out m
 
--- something happens in cycle n: a flit on a wire lands, a credit on its way arrives, a flit goes from its source into a buffer, or an
--- input channel is routed or granted a channel, or its flit moves
+-- something happens in cycle n: a flit on a wire lands, a credit arrives, a source injects a flit,
+-- or an input channel is routed, is granted a channel or moves a flit
 pub data HappensIn (net : Setup) (n : ℕ) : Type 0 where
   lands : (p i : ℕ) (c : Channel) → IsValid net p i → place_of_flit net (state_at net n) p i ≡ On c → HappensIn net n
   credit : (c : Channel) → Has c (state_at net n).back → HappensIn net n

@@ -41,7 +41,8 @@ impl Gate for Closing {
     }
 }
 
-// The gate that workers 0 and 1 pass in cycle 1 only when both have come to it. Each raises its flag.
+// The gate that workers 0 and 1 pass in cycle 1 only when both have come to
+// it. Each raises its flag.
 #[derive(Drop)]
 pub(crate) struct Meeting {
     pub(crate) first: AtomicBool,
@@ -71,7 +72,8 @@ impl Gate for Meeting {
     }
 }
 
-// The gate that worker 2 passes in cycle 0 only when worker 0 has come to cycle 2, and has raised the flag.
+// The gate that worker 2 passes in cycle 0 only when worker 0 has come to cycle 2,
+// and has raised the flag.
 #[derive(Drop)]
 pub(crate) struct HeadStart {
     pub(crate) ahead: AtomicBool,

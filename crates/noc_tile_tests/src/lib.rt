@@ -1,5 +1,5 @@
-//! Tests of noc_tiles: runs by several workers, gates, and tiles that run freely. They are a crate of their own, since a crate with
-//! tests is proved twice.
+//! Tests of noc_tiles: runs by several workers, gates, and tiles that run freely. They are a crate
+//! of their own, since a crate with tests is proved twice.
 #![tactic(auto)]
 
 #[cfg(test)]

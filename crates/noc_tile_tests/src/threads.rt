@@ -1,5 +1,5 @@
-//! What no clause says of threads: that two of them run, that none waits for all others in a cycle, and that a flag that was raised
-//! is seen.
+//! What no clause says of threads: that two of them run, that none waits for all others in a cycle,
+//! and that a flag that was raised is seen.
 
 use crate::gates::{Closing, HeadStart, Meeting};
 use crate::texts::{LINE_LATENCY, LINE_STALLS, RING_LATENCY, assert_latency, assert_reports};
@@ -74,8 +74,8 @@ fn a_gate_that_closes_for_one_worker(rt: HostRuntime) -> Result<(), Fail> {
     Ok(())
 }
 
-// The gate is asked with the count of the network, and not with the cycle of the call: from count 4 on cycle 18 is the fifteenth of
-// the call, and cycle 2 is over.
+// The gate is asked with the count of the network, and not with the cycle of the call: from count 4
+// on cycle 18 is the fifteenth of the call, and cycle 2 is over.
 #[test]
 fn a_gate_is_asked_with_the_count(rt: HostRuntime) -> Result<(), Fail> {
     let a = rt.alloc();

@@ -194,7 +194,8 @@ module _ (relation : Routes) (first : ℕ) (ins outs : List (ℕ × ℕ)) (views
                     ∙ ap local_port (sym was.built_for.grid);
               }
 
-          -- the wires when those at the edge have put their beats, then with those idle that went, and in the end
+          -- the wires when those at the edge have put their beats, then with those idle
+          -- that went, and in the end
           module _ (b3 b4 b5 : List (List Beat)) (inner : Inner) (fits : AreInner relation.grid first (length views) outs inner) (cleared : (r q : ℕ) → IsCleared outs b3 b4 (length outs) r q)
               (edge : (r q : ℕ) → r < nodes relation.grid → is_from (first + inner.from) (inner.to - inner.from) (neighbour relation.grid r q) ≡ false
               → beat_at b3 r q ≡ beat_among first (length views1) (to_send relation n views1) (neighbour relation.grid r q))

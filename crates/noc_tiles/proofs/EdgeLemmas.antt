@@ -1,4 +1,5 @@
--- The routers at the edge of a tile finish a cycle, what leaves the tile becomes idle, and then the inner routers finish.
+-- The routers at the edge of a tile finish a cycle, what leaves the tile becomes idle, and then
+-- the inner routers finish.
 use Rattle.std.proofs.Common.{◌≡◌, ◌⊎◌, inl, inr, ℕ, ◌+◌, ◌-◌, ◌<◌, ◌≤◌, Bool, true, false, List, [], length, get_or, Option, Some, None, refl, ap, sym, ◌∙◌, ⊎_elim, subst, arith}
 use Rattle.std.specs.Prelude.{if◌then◌else◌}
 use Rattle.std.proofs.lemmas.Bool.{cases_lt, false≢true}
@@ -165,7 +166,8 @@ sent-same relation n vs ws k d l m same =
     let put = λ (v : View). (view_after_finish relation n Record v).to_put in
     get_or-map put vs k d [] l ∙ ap put same ∙ sym (get_or-map put ws k d [] m)
 
--- the tile before all, after the routers at its edge below the inner ones and after those above them, with some wires idle, and after the inner ones
+-- the tile before all, after the routers at its edge below the inner ones and after those above
+-- them, with some wires idle, and after the inner ones
 module _ (relation : Routes) (n : ℕ) (findings : Recording) (i j : ℕ) (t1 t2 t3 t4 t5 : Tile) (order : i ≤ j) (within : j ≤ length t1.routers.items) (one : HaveFinished relation n findings 0 i t1 t2) (two : HaveFinished relation n findings j (length t1.routers.items) t2 t3)
     (rest : t4 ≡ record t3 { beats = t4.beats; outs = t4.outs }) (three : HaveFinished relation n findings i j t4 t5) where
   abbrev pub sent : List (List Beat)

@@ -1,4 +1,5 @@
--- The parts of a network and the lockstep run, both ways. Nothing else in this crate uses what the parts of a network promise.
+-- The parts of a network and the lockstep run, both ways. Nothing else in this crate uses what the
+-- parts of a network promise.
 use Rattle.std.proofs.Common.{◌≡◌, ◌≤◌, length, vec_len, sym, ◌∙◌}
 use Rattle.noc_topo.specs.Shape.{nodes}
 use Rattle.noc_theory.specs.Good.{IsGoodSetup}

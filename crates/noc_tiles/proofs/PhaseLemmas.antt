@@ -1,4 +1,5 @@
--- A cycle of a tile, phase by phase: what was taken, the routers at the edge that finish, what was sent, the inner routers that finish.
+-- A cycle of a tile, phase by phase: what was taken, the routers at the edge that finish, what was
+-- sent, the inner routers that finish.
 use Rattle.std.proofs.Common.{◌≡◌, ℕ, ◌+◌, ◌-◌, ◌<◌, ◌≤◌, false, List, [], length, get_or, map, vec_len, inl, inr, refl, ap, sym, ◌∙◌, subst, arith, rules}
 use Rattle.std.specs.List.{All}
 use Rattle.std.proofs.lemmas.List.{get_or_default}

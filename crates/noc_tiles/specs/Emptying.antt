@@ -9,7 +9,8 @@ pub record AreEnds (i o : End) : Type 0 where
   pub ring : o.ring ≡ i.ring
   pub one : length o.past ≡ length i.past + 1
 
--- each inlet has an outlet of the same port, and those are the two ends of one ring, which holds one beat
+-- each inlet has an outlet of the same port, and those are the two ends of one
+-- ring, which holds one beat
 pub record CanEmpty (rows : ℕ) (I O : List End) : Type 0 where
   pub placed : (i : ℕ) (d : End) → i < length I → ((get_or I i d).at.0 < rows) × ((get_or I i d).at.1 < 6)
   pub found : (i : ℕ) → i < length I → (o : ℕ) × (o < length O) × ((d : End) → (get_or O o d).at ≡ (get_or I i d).at)

@@ -1,4 +1,5 @@
--- The routers of a tile in two parts: those at its edge finish a cycle first, and the inner ones while what the others put is on its way.
+-- The routers of a tile in two parts: those at its edge finish a cycle first, and the inner ones
+-- while what the others put is on its way.
 use Rattle.std.specs.Prelude.{ℕ, true, false, ◌≡◌, ◌⊎◌, ◌+◌, ◌-◌, ◌<◌, ◌≤◌, List, map, length, get_or, Option, Some, None, if◌then◌else◌}
 use Rattle.noc_topo.specs.Shape.{Grid, nodes, neighbour}
 use Rattle.noc_packet.specs.declared.packet.Beat.{Beat}
@@ -12,13 +13,15 @@ use Rattle.noc_tiles.specs.TileStep.{is_own, is_from}
 use Rattle.noc_tiles.specs.declared.inner.Inner.{Inner}
 use Rattle.noc_tiles.specs.declared.tile.Tile.{Tile}
 
--- of `count` routers from `first` on, those between two indices: no wire to one of the ports `outs` begins at one of them
+-- of `count` routers from `first` on, those between two indices: no wire to one of the ports
+-- `outs` begins at one of them
 pub record AreInner (grid : Grid) (first count : ℕ) (outs : List (ℕ × ℕ)) (inner : Inner) : Type 0 where
   pub order : inner.from ≤ inner.to
   pub within : inner.to ≤ count
   pub none : (o : ℕ) → o < length outs → is_from (first + inner.from) (inner.to - inner.from) (neighbour grid (get_or outs o (0, 0)).0 (get_or outs o (0, 0)).1) ≡ false
 
--- a wire whose sender is given, after the routers of a tile from index i to before j have put what is theirs of `sent`
+-- a wire whose sender is given, after the routers of a tile from index i to before j have put
+-- what is theirs of `sent`
 abbrev pub put_from : ℕ → ℕ → ℕ → List (List Beat) → Option (ℕ × ℕ) → Beat → Beat
 put_from first i j sent None beat = beat
 put_from first i j sent (Some from) beat = if is_own (first + i) (j - i) from.0 then beat_at sent (from.0 - first) from.1 else beat
@@ -27,14 +30,16 @@ put_from first i j sent (Some from) beat = if is_own (first + i) (j - i) from.0 
 abbrev pub to_send : Routes → ℕ → List View → List (List Beat)
 to_send relation n views = map (λ (v : View). (view_after_finish relation n Record v).to_put) views
 
--- a router that has taken its beats can finish a cycle: it is that of its node, and the wires that leave it are idle
+-- a router that has taken its beats can finish a cycle: it is that of its node, and the
+-- wires that leave it are idle
 pub record RouterCanFinish (relation : Routes) (router : View) (b : List (List Beat)) : Type 0 where
   pub built : IsRelationOf relation router
   pub node : router.site.node < nodes relation.grid
   pub count : length b ≡ nodes relation.grid
   pub idle : (r q port : ℕ) → neighbour relation.grid r q ≡ Some (router.site.node, port) → beat_at b r q ≡ idle_beat
 
--- the routers of a tile from index i to before j can finish a cycle: they are those of their nodes, and the wires that leave them are idle
+-- the routers of a tile from index i to before j can finish a cycle: they are those of their nodes,
+-- and the wires that leave them are idle
 pub record CanFinish (relation : Routes) (i j : ℕ) (t : Tile) : Type 0 where
   pub order : i ≤ j
   pub within : j ≤ length t.routers.items

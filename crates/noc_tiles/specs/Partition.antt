@@ -44,7 +44,8 @@ pub record IsGathered (g : Gathered) (ts : List Tile) : Type 0 where
   pub ins : map inlet g.ins.items ≡ flat_map inlets ts
   pub outs : map outlet g.outs.items ≡ flat_map outlets ts
 
--- the beat on a wire that arrives at one of `count` routers from `first` on, idle where it is another one
+-- the beat on a wire that arrives at one of `count` routers from `first` on,
+-- idle where it is another one
 abbrev pub own_beat : ℕ → ℕ → List (List Beat) → ℕ → ℕ → Beat
 own_beat first count beats r q = if is_own first count r then beat_at beats r q else idle_beat
 
@@ -89,7 +90,8 @@ pub record IsTile (net : Setup) (n k : ℕ) (I O : List (Option End)) (t : Tile)
   pub ins : (j : ℕ) (e : End) → j < length (inlets t) → get_or I (index_of (get_or (inlets t) j e).at) None ≡ Some (get_or (inlets t) j e)
   pub outs : (o : ℕ) (e : End) → o < length (outlets t) → get_or O (index_of (get_or (outlets t) o e).at) None ≡ Some (get_or (outlets t) o e)
 
--- tiles that are cut from the network at count n, to run k cycles, with a ring on each wire between two of them
+-- tiles that are cut from the network at count n, to run k cycles, with a ring on each
+-- wire between two of them
 pub record IsPartition (net : Setup) (n k : ℕ) (I O : List (Option End)) (ts : List Tile) : Type 0 where
   pub grid : IsGrid net.relation.grid
   pub tiles : (t : ℕ) (d : Tile) → t < length ts → IsTile net n k I O (get_or ts t d)
@@ -109,7 +111,8 @@ pub record AreCut (f : Kept) (ts : List Tile) : Type 0 where
   pub partition : IsPartition (setup_of f) f.count f.cycles ins outs ts
   pub numbered : AreNumbered f.workers ts
 
--- the ends of the rings of the routers from `first` on are still in their slots: I0 and O0 are the slots when all were there
+-- the ends of the rings of the routers from `first` on are still in their slots: I0 and O0 are the
+-- slots when all were there
 pub record AreUnassigned (net : Setup) (workers first : ℕ) (B : List (List Beat)) (I0 O0 I O : List (Option End)) : Type 0 where
   pub slots : AreSlots net.relation.grid workers B (nodes net.relation.grid * 6) I0 O0
   pub left_in : (m : ℕ) → first * 6 ≤ m → get_or I m None ≡ get_or I0 m None
@@ -141,7 +144,8 @@ pub record IsToCut (f : Kept) (routers : List View) (B : List (List Beat)) : Typ
   pub can : CanCut f B
   pub views : routers ≡ views_of f
 
--- what is left when the workers before this one have their tiles: I0 and O0 are the slots when all ends were there
+-- what is left when the workers before this one have their tiles: I0 and O0 are the slots
+-- when all ends were there
 pub record IsUncut (f : Kept) (B : List (List Beat)) (I0 O0 : List (Option End)) (worker : ℕ) (rest : Uncut) : Type 0 where
   pub first : rest.first ≡ first_of f worker
   pub routers : rest.routers.items ≡ drop rest.first (views_of f)

@@ -17,14 +17,16 @@ pub record KeepsTile (a b : Tile) : Type 0 where
   pub done : b.done ≡ a.done
   pub outcome : b.outcome ≡ a.outcome
 
--- the routers from `first` on can take the beats that came: each is one of the relation, and no beat came to others, or by a port without a link
+-- the routers from `first` on can take the beats that came: each is one of the relation, and no
+-- beat came to others, or by a port without a link
 pub record CanTake (relation : Routes) (first : ℕ) (views : List View) (b : List (List Beat)) : Type 0 where
   pub within : first + length views ≤ length b
   pub routers : All (λ v. IsRelationOf relation v) views
   pub beats : All (IsLinked relation.grid) b
   pub others : (r q : ℕ) → is_own first (length views) r ≡ false → beat_at b r q ≡ idle_beat
 
--- the routers of a tile have taken what arrived, with a row of beats from other tiles, and no beat is left
+-- the routers of a tile have taken what arrived, with a row of beats from other
+-- tiles, and no beat is left
 pub record TileHasTaken (relation : Routes) (row : List Beat) (a b : Tile) : Type 0 where
   pub width : length row ≡ length (inlets a)
   pub ins : inlets b ≡ ends_after_beats (inlets a) row

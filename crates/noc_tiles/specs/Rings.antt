@@ -15,7 +15,8 @@ in_slots slots = map (λ (s : Option Inlet). option_map inlet s) slots
 abbrev pub out_slots : List (Option Outlet) → List (Option End)
 out_slots slots = map (λ (s : Option Outlet). option_map outlet s) slots
 
--- the two ends of a fresh ring on the wire that arrives at this port, with its beat, where it comes from another tile
+-- the two ends of a fresh ring on the wire that arrives at this port, with its beat, where
+-- it comes from another tile
 pub record IsSlot (grid : Grid) (workers r q : ℕ) (beat : Beat) (i o : Option End) : Type 0 where
   pub ins : (e : End) → i ≡ Some e → (e.at ≡ (r, q)) × (e.past ≡ [])
   pub outs : (e : End) → o ≡ Some e → (e.at ≡ (r, q)) × (e.past ≡ beat ∷ [])
@@ -53,12 +54,14 @@ pub record GoesOutTo (grid : Grid) (first count k at : ℕ) : Type 0 where
   pub other : is_own first count r ≡ false
   pub is : at ≡ r * 6 + q
 
--- the ends in `ends` were taken from the slots before k, of the wires that come to these routers from others
+-- the ends in `ends` were taken from the slots before k, of the wires that come to
+-- these routers from others
 pub record AreTakenIn (grid : Grid) (first count k : ℕ) (I : List (Option End)) (ends : List End) : Type 0 where
   pub each : (j : ℕ) (e : End) → j < length ends → (m : ℕ) × (first * 6 ≤ m) × (m < k) × (is_inside first count (neighbour grid (m / 6) (m % 6)) ≡ false) × (get_or I m None ≡ Some (get_or ends j e))
   pub covers : (m : ℕ) → first * 6 ≤ m → m < k → (is_inside first count (neighbour grid (m / 6) (m % 6)) ≡ true) ⊎ ((j : ℕ) × (j < length ends) × ((e : End) → get_or I m None ≡ Some (get_or ends j e)))
 
--- the ends in `ends` were taken from the slots before k, of the wires that go from these routers to others
+-- the ends in `ends` were taken from the slots before k, of the wires that go
+-- from these routers to others
 pub record AreTakenOut (grid : Grid) (first count k : ℕ) (O : List (Option End)) (ends : List End) : Type 0 where
   pub each : (o : ℕ) (e : End) → o < length ends → (r : ℕ) × (q : ℕ) × (r < nodes grid) × (q < 6) × (is_own first count r ≡ false) × (is_from first count (neighbour grid r q) ≡ true) × (get_or O (r * 6 + q) None ≡ Some (get_or ends o e))
   pub covers : (m r q : ℕ) → first * 6 ≤ m → m < k → neighbour grid (m / 6) (m % 6) ≡ Some (r, q) → is_own first count r ≡ false → (o : ℕ) × (o < length ends) × ((e : End) → get_or O (r * 6 + q) None ≡ Some (get_or ends o e))

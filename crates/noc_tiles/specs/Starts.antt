@@ -1,7 +1,8 @@
 -- Where the tiles begin.
 use Rattle.std.specs.Prelude.{ℕ, ◌≡◌, ◌≢◌, ◌*◌, ◌/◌, ◌≤◌, nat_lt}
 
--- the first router of a worker's tile, where so many workers share so many routers, and the end of the tile before it
+-- the first router of a worker's tile, where so many workers share so many routers, and the
+-- end of the tile before it
 abbrev pub tile_start : ℕ → ℕ → ℕ → ℕ
 tile_start nodes workers worker = worker * nodes / workers
 

@@ -65,7 +65,8 @@ beat_among first count sent (Some from) = if is_own first count from.0 then beat
 abbrev pub beat_of : ℕ → List (List Beat) → Option (ℕ × ℕ) → Beat
 beat_of first sent from = beat_among first (length sent) sent from
 
--- the tile's place in the network: its first router, and where the wires arrive that come and that go
+-- the tile's place in the network: its first router, and where the wires
+-- arrive that come and that go
 pub record Layout : Type 0 where
   pub first : ℕ
   pub ins : List (ℕ × ℕ)

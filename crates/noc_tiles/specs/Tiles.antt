@@ -28,8 +28,8 @@ state_of t = record { views = t.routers.items; wires = beat_at t.beats.items }
 abbrev pub AreLinkPorts : ℕ → ℕ → List (ℕ × ℕ) → Type 0
 AreLinkPorts rows links ps = (j : ℕ) → j < length ps → ((get_or ps j (0, 0)).0 < rows) × ((get_or ps j (0, 0)).1 < links)
 
--- the routers from `first` on are in their order, `ins` are ports of theirs, `outs` are the ports of all wires that go from
--- them to others, and the wires that arrive at others are idle
+-- the routers from `first` on are in their order, and `ins` are ports of theirs. `outs` are the
+-- ports of all wires that go from them to others, and the wires that arrive at others are idle
 pub record PartsFit (relation : Routes) (first : ℕ) (ins outs : List (ℕ × ℕ)) (views : List View) (b : List (List Beat)) : Type 0 where
   pub wide : first + length views ≤ nodes relation.grid
   pub count : length b ≡ nodes relation.grid
@@ -76,7 +76,8 @@ pub record Runs (relation : Routes) (k : ℕ) (a b : Tile) : Type 0 where
   pub ins : inlets b ≡ ends_after_rows (inlets a) rows
   pub outs : outlets b ≡ ends_after_rows (outlets a) (beats_put relation (layout_of a) a.start (state_of a) rows)
 
--- what is known of a gate: whether it is open to every worker in every cycle, and to which worker it is shut in which cycle
+-- what is known of a gate: whether it is open to every worker in every cycle, and to which worker
+-- it is shut in which cycle
 pub record Gating : Type 0 where
   pub opens : Bool
   pub shuts : ℕ → ℕ → Bool

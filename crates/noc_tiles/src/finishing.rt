@@ -1,8 +1,8 @@
 //! The routers of a tile finish a cycle.
 //!
-//! The routers at which a wire to another tile begins finish their cycle first, and what they put leaves at
-//! once. It is handed over while the inner routers work, so a neighbour seldom waits for it. A tile that is all
-//! edge gains nothing, as two rows of a mesh with a neighbour on each side.
+//! The routers at which a wire to another tile begins finish their cycle first, and what they put
+//! leaves at once. It is handed over while the inner routers work, so a neighbour seldom waits for
+//! it. A tile that is all edge gains nothing, as two rows of a mesh with a neighbour on each side.
 
 ghost use Rattle.std.specs.Prelude.{ℕ, ◌≡◌, ◌<◌};
 ghost use Rattle.noc_topo.specs.Shape.{nodes as nodes_of, neighbour as neighbour_of};
@@ -17,7 +17,8 @@ use noc_route::Relation;
 use noc_router::{Plan, Recording, Router};
 use noc_topo::LINKS;
 
-// The routers of the tile from one index to before another, which have taken their beats, finish the cycle.
+// The routers of the tile from one index to before another, which have taken their
+// beats, finish the cycle.
 pub(crate) fn finish_some(
     relation: &Relation,
     tile: &mut Tile,

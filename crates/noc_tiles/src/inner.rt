@@ -10,15 +10,16 @@ ghost use Rattle.noc_tiles.specs.Tiles.{AreLinkPorts};
 use crate::wires::Outlet;
 use noc_route::Relation;
 
-// Routers of a tile, from one index to before another: no wire that leaves the tile begins at one of them.
+// Routers of a tile, from one index to before another: no wire that leaves the
+// tile begins at one of them.
 #[derive(Clone, Copy)]
 pub(crate) struct Inner {
     pub from: usize,
     pub to: usize,
 }
 
-// The inner routers of `count` from `first` on: those between the last router in the first half at which a wire to another tile begins
-// and the first one in the other half.
+// The inner routers of `count` from `first` on: those between the last router in the first half at
+// which a wire to another tile begins and the first one in the other half.
 pub(crate) fn inner_of(relation: &Relation, first: usize, count: usize, outs: &Vec<Outlet>) -> Inner
     requires { AreLinkPorts (nodes_of relation.now.grid) (local_port_of relation.now.grid) (arrival_ports (map outlet outs.now.items)) }
     ensures { AreInner relation.now.grid first count (arrival_ports (map outlet outs.now.items)) result }

@@ -1,8 +1,8 @@
 //! A network cut into tiles.
 //!
-//! The table of a tile's beats has a row for every router of the network, idle where a router is not its own.
-//! Beats that leave the tile go into the table too, are then put, and their wires made idle. One function
-//! carries beats for networks and tiles.
+//! The table of a tile's beats has a row for every router of the network, idle where a router is
+//! not its own. Beats that leave the tile go into the table too, are then put, and their wires made
+//! idle. One function carries beats for networks and tiles.
 
 ghost use Rattle.std.specs.Prelude.{ℕ, List, Option, ◌≡◌, ◌+◌, ◌<◌, ◌≤◌, length, vec_len, IfOk};
 ghost use Rattle.noc_theory.specs.Halves.{beat_at};
@@ -20,7 +20,8 @@ use noc_topo::LINKS;
 use std::alloc::{AllocError, Global};
 use std::mem;
 
-// What is left of a network while tiles are cut from it: the routers from `first` on, and the ends that no tile has.
+// What is left of a network while tiles are cut from it: the routers from `first` on, and
+// the ends that no tile has.
 #[derive(Drop)]
 pub(crate) struct Uncut {
     pub first: usize,
@@ -29,7 +30,8 @@ pub(crate) struct Uncut {
     pub outs: Vec<Option<Outlet>>,
 }
 
-// The wires of a network but for the routers from `first` to before `end`, where the beats are those in flight.
+// The wires of a network but for the routers from `first` to before `end`, where the
+// beats are those in flight.
 fn own_beats(
     alloc: Global,
     beats: &[[Beat; LINKS]],
@@ -47,7 +49,8 @@ fn own_beats(
     Ok(all)
 }
 
-// Cuts the tile of a worker from what is left, with the ends of the rings on its wires to other tiles.
+// Cuts the tile of a worker from what is left, with the ends of the rings on
+// its wires to other tiles.
 fn cut_tile(
     alloc: Global,
     kept: &Kept,

@@ -22,8 +22,8 @@ use noc_router::Router;
 use noc_topo::LINKS;
 use std::sync::Wait;
 
-// Takes a beat from each wire that comes from another tile; then each router takes what came to it. False where the flag was seen
-// raised.
+// Takes a beat from each wire that comes from another tile; then each router takes what came to it.
+// False where the flag was seen raised.
 pub(crate) fn take(rt: &impl Wait, relation: &Relation, tile: &mut Tile, stop: &Stop) -> bool
     requires { IsReady relation.now tile.old }
     ensures kept { KeepsTile tile.old tile.new }
@@ -37,7 +37,8 @@ pub(crate) fn take(rt: &impl Wait, relation: &Relation, tile: &mut Tile, stop: &
     true
 }
 
-// Each of the routers from `first` on takes the beats that came to it, and leaves idle ones. No beat came to others.
+// Each of the routers from `first` on takes the beats that came to it, and leaves idle
+// ones. No beat came to others.
 fn take_all(relation: &Relation, first: usize, routers: &mut [Router], beats: &mut [[Beat; LINKS]])
     requires { CanTake relation.now first routers.old beats.old }
     ensures routers { routers.new ≡ map_indexed (λ i v. view_after_takes relation.now (incoming relation.now.grid (beats_at beats.old (first + i))) v) routers.old }
@@ -48,7 +49,8 @@ fn take_all(relation: &Relation, first: usize, routers: &mut [Router], beats: &m
     }
 }
 
-// Puts a beat on each wire that goes to another tile, and leaves idle ones. False where the flag was seen raised.
+// Puts a beat on each wire that goes to another tile, and leaves idle ones. False where
+// the flag was seen raised.
 pub(crate) fn send(rt: &impl Wait, tile: &mut Tile, stop: &Stop) -> bool
     requires { AreLinkPorts (length tile.old.beats.items) 6 (arrival_ports (outlets tile.old)) }
     ensures kept { KeepsTile tile.old tile.new }

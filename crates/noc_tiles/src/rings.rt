@@ -1,9 +1,9 @@
 //! The rings on the wires between tiles.
 //!
-//! Rings are made only between tiles; links inside a tile stay in its table. A ring holds two beats, because a
-//! neighbour is at most one cycle behind or ahead between cycles. Both ends of a ring are known by the port
-//! where the wire arrives, a router and a link port. So numbers are the same everywhere, and the network's own
-//! passes serve in tiles.
+//! Rings are made only between tiles; links inside a tile stay in its table. A ring holds two
+//! beats, because a neighbour is at most one cycle behind or ahead between cycles. Both ends of a
+//! ring are known by the port where the wire arrives, a router and a link port. So numbers are the
+//! same everywhere, and the network's own passes serve in tiles.
 
 ghost use Rattle.std.specs.Prelude.{ℕ, ◌≡◌, ◌+◌, ◌*◌, ◌/◌, ◌%◌, ◌<◌, ◌≤◌, ◌++◌, [], ◌∷◌, Some, None, false, true, get_or, map, length, option_map, is_some, vec_len, IfOk, IsFalse, IfSome, IsOk, MatchOption, OnOk};
 ghost use Rattle.noc_topo.specs.Shape.{nodes as nodes_of, neighbour as neighbour_of};
@@ -52,7 +52,8 @@ fn new_ring(
     ))
 }
 
-// The two ends of a ring on a wire between two tiles, with the beat that is in flight. Other wires have none.
+// The two ends of a ring on a wire between two tiles, with the beat that is in
+// flight. Other wires have none.
 fn slot(
     alloc: Global,
     sharing: &Sharing,
@@ -127,7 +128,8 @@ impl Span<'_> {
         Some(k)
     }
 
-    // The port at which the wire arrives that goes by the port with this number, where it leaves these routers.
+    // The port at which the wire arrives that goes by the port with this number, where
+    // it leaves these routers.
     fn going(&self, k: usize) -> Option<usize>
         requires { k < nodes_of self.now.shape.now * 6 }
         ensures { MatchOption result (is_inside self.now.first self.now.count (neighbour_of self.now.shape.now (k / 6) (k % 6)) ≡ true) (GoesOutTo self.now.shape.now self.now.first self.now.count k) }

@@ -18,7 +18,8 @@ use noc_route::Relation;
 use noc_router::Recording;
 use std::sync::Wait;
 
-// One cycle of a tile. What leaves the tile is put before the inner routers finish. False where the flag was seen raised.
+// One cycle of a tile. What leaves the tile is put before the inner routers finish. False where
+// the flag was seen raised.
 fn cycle(
     rt: &impl Wait,
     relation: &Relation,
@@ -47,8 +48,9 @@ fn cycle(
     true
 }
 
-/// Runs a tile's cycles as the beats come. Before each one the gate is asked, with the network's count; where it does not let
-/// the worker pass, the flag is raised: so a run that is whole had no cycle in which the gate was shut to the worker.
+/// Runs a tile's cycles as the beats come. Before each one the gate is asked, with the network's
+/// count; where it does not let the worker pass, the flag is raised. So a run that is whole had no
+/// cycle in which the gate was shut to the worker.
 pub fn run_tile<G: Gate>(
     rt: &impl Wait,
     relation: &Relation,

@@ -7,8 +7,8 @@ ghost use Rattle.noc_tiles.specs.declared.limits.TheConstants.{MAX_WORKERS};
 
 use noc_topo::Shape;
 
-/// The routers of a shape, shared out among workers: worker w of W has the routers from w·N/W to (w + 1)·N/W - 1, by
-/// whole division.
+/// The routers of a shape, shared out among workers: worker w of W has the routers from w·N/W to (w
+/// + 1)·N/W - 1, by whole division.
 #[derive(Clone, Copy)]
 pub(crate) struct Sharing<'a> {
     pub shape: &'a Shape,

@@ -48,7 +48,8 @@ fn gather(alloc: Global, tiles: Vec<Tile>) -> Result<Gathered, AllocError>
     };
     for mut tile in tiles {
         let added = add(&mut all, &mut tile);
-        // (by name, and before the way out: else each of its fields would be let go at both, one by one)
+        // (by name, and before the way out: else each of its fields would be
+        // let go at both, one by one)
         drop(tile);
         added?;
     }

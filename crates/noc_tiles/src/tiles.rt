@@ -14,9 +14,10 @@ use std::alloc::Global;
 use std::sync::Wait;
 use std::thread::Threads;
 
-/// Runs so many cycles, with 1 to 16 workers that each have a tile of the routers. Each worker asks the gate before each cycle, with
-/// the network's count; one worker does so where the gate is not always open. One worker needs no memory and no thread, so all that
-/// it can answer beside the network is that the gate did not let it pass.
+/// Runs so many cycles, with 1 to 16 workers that each have a tile of the routers. Each worker asks
+/// the gate before each cycle, with the network's count; one worker does so where the gate is not
+/// always open. One worker needs no memory and no thread, so all that it can answer beside the
+/// network is that the gate did not let it pass.
 pub fn run_tiles<R: Threads + Wait + Sync, G: Gate>(
     rt: &R,
     alloc: Global,

@@ -1,10 +1,11 @@
 //! The wires between tiles.
 //!
-//! A worker that waits looks 500 times before it yields, with a rest of the processor between two looks but for
-//! the first 32: a yield costs a time slice of milliseconds, and what is waited for takes microseconds. After
-//! 8000 looks, about half a millisecond, it sleeps for 50 microseconds, and again after every 500 looks:
-//! another program then has a neighbour's processor, and sleeping frees this one for it. It sleeps on a word of
-//! its own (`park_timeout`), since a sleep by the clock would need a clock, and nobody wakes it.
+//! A worker that waits looks 500 times before it yields, with a rest of the processor between two
+//! looks after the first 32. A yield costs a time slice of milliseconds, and what is waited for
+//! takes microseconds. After 8000 looks, about half a millisecond, it sleeps for 50 microseconds,
+//! and again after every 500 looks. By then the neighbour has probably lost its processor to
+//! another program, and sleeping lets it have this one. It sleeps on a word of its own
+//! (`park_timeout`), since a sleep by the clock would need a clock, and nobody wakes it.
 //! `crossbeam_utils::Backoff` does not serve: it yields after 127 rests, and never sleeps.
 
 use crate::stop::Stop;
@@ -40,16 +41,19 @@ pub struct Outlet {
 // How often a worker that waits looks again before it gives its processor to others.
 const LOOKS: u32 = 500;
 
-// The first of these follow each other at once: a pause costs about 140 processor cycles, and a beat may be nearer than that.
+// The first of these follow each other at once: a pause costs about 140 processor cycles, and a
+// beat may be nearer than that.
 const LOOKS_AT_ONCE: u32 = 32;
 
-// After how many looks it sleeps instead: its processor is free then for a worker that another program keeps from going on.
+// After how many looks it sleeps instead, which frees its processor for a worker whose
+// own another program has.
 const LOOKS_AWAKE: u32 = 16 * LOOKS;
 
-// For how many microseconds it does.
+// How many microseconds it sleeps.
 const NAP: u64 = 50;
 
-// Rests between two looks, after so many of them; gives how many that are now.
+// Rests after so many looks, and answers how many count then: one more, or after a sleep as many as
+// put the next sleep 500 looks away.
 fn rested(rt: &impl Wait, looks: u32) -> u32 {
     if looks >= LOOKS_AWAKE {
         AtomicU64::new(0).park_timeout(rt, 0, Duration::from_micros(NAP));

@@ -19,5 +19,6 @@ pub const MAX_PORTS: usize = 7;
 
 const _: () = prove!(MAX_PORTS == LINKS + 1);
 
-/// The most hops that the shortest way between two nodes has, from corner to corner of a mesh of 16 by 16.
+/// The most hops that the shortest way between two nodes has, from corner to
+/// corner of a mesh of 16 by 16.
 pub const MAX_DISTANCE: usize = 30;

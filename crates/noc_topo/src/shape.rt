@@ -7,7 +7,8 @@ use crate::axis;
 use crate::limits::{MAX_DIMENSIONS, MAX_DISTANCE, MAX_NODES, MAX_PORTS, MAX_RADIX};
 use std::marker::Model;
 
-/// What a dimension's two ends are: borders (a mesh) or joined (a torus). Dally and Towles, chapter 3.
+/// What a dimension's two ends are: borders (a mesh) or joined (a torus).
+/// Dally and Towles, chapter 3.
 #[derive(Clone, Copy, Debug, PartialEq, Eq)]
 pub enum Kind {
     Mesh,
@@ -110,7 +111,8 @@ impl Shape {
         self.count
     }
 
-    /// How many ports a router has, 3 to 7: two for each dimension, and the local port, which is the last.
+    /// How many ports a router has, 3 to 7: two for each dimension, and the local
+    /// port, which is the last.
     pub fn ports(&self) -> usize
         ensures value { result ≡ ports self.now }
         ensures local { result ≡ local_port self.now + 1 }
@@ -131,7 +133,8 @@ impl Shape {
         axis::split(&self.sizes, node)
     }
 
-    /// How many hops the shortest way from one node to another has, at most `MAX_DISTANCE`. Dally and Towles, chapter 3.
+    /// How many hops the shortest way from one node to another has, at most `MAX_DISTANCE`.
+    /// Dally and Towles, chapter 3.
     pub fn distance(&self, from: usize, to: usize) -> usize
         requires from { from < nodes self.now }
         requires to { to < nodes self.now }
@@ -146,8 +149,8 @@ impl Shape {
             + axis::apart(self.wraps, self.sizes[2], x[2], t[2])
     }
 
-    /// The neighbour to which a port leads, and the input port by which a flit enters there; None at a border of a mesh
-    /// and for the local port.
+    /// The neighbour to which a port leads, and the input port by which a flit enters there; None
+    /// at a border of a mesh and for the local port.
     pub fn neighbour(&self, node: usize, port: usize) -> Option<(usize, usize)>
         requires node { node < nodes self.now }
         requires port { port < ports self.now }
@@ -170,8 +173,8 @@ impl Shape {
     }
 }
 
-/// A law: each link leads to a node by a port other than the local one, and the port there leads back.
-/// Dally and Towles, chapter 3.
+/// A law: each link leads to a node by a port other than the local one, and the port there leads
+/// back. Dally and Towles, chapter 3.
 pub fn links_are_mutual()
     ensures { (g : Grid) (a p b q : ℕ) → IsGrid g → a < nodes g → p < ports g → neighbour g a p ≡ Some (b, q) → IsLinkBack g a p b q }
 {}

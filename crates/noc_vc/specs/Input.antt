@@ -32,7 +32,8 @@ is_active Idle = false
 is_active (Waiting set) = false
 is_active (Active o) = true
 
--- what is true of each input channel: it has a packet or is idle, and what it awaits is of that packet
+-- what is true of each input channel: it has a packet or is idle, and what it
+-- awaits is of that packet
 pub record IsInput (input : Input) : Type 0 where
   pub taken : is_idle_phase input.phase || is_some input.packet ≡ true
   pub follows : IfSome input.awaited (λ awaited. input.packet ≡ Some awaited.packet)
@@ -54,7 +55,8 @@ abbrev pub may_begin : Routes → ℕ → ℕ → ℕ → Flit → Bool
 may_begin g router port vc f =
     nat_eq f.index 0 && nat_lt f.dst (nodes g.grid) && nat_lt f.class g.classes && not (nat_eq (set_at g f.class router port vc f.dst) 0)
 
--- whether a flit is the one that an input channel expects: a head where it is idle and has no flit, then the next of its packet
+-- whether a flit is the one that an input channel expects: a head where it is idle and has no flit,
+-- then the next of its packet
 abbrev pub is_expected : Routes → ℕ → ℕ → ℕ → List Flit → Input → Flit → Phase → Bool
 is_expected g router port vc flits input f Idle = is_empty flits && may_begin g router port vc f
 is_expected g router port vc flits input f (Waiting set) = is_awaited f input.awaited

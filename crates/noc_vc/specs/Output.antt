@@ -34,7 +34,8 @@ credit_fits_at depth (Some n) = nat_lt n depth
 abbrev pub credit_fits : Output → Bool
 credit_fits output = credit_fits_at output.depth output.credit
 
--- what is true of each output channel: no more credits than the depth, and one that drains still misses a credit
+-- what is true of each output channel: no more credits than the depth, and one that
+-- drains still misses a credit
 pub record IsOutput (output : Output) : Type 0 where
   pub small : output.depth ≤ MAX_BUFFER
   pub count : IfSome output.credit (λ n. n ≤ output.depth)

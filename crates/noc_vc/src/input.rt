@@ -1,8 +1,8 @@
 //! Input virtual channels (Dally and Towles, chapter 16).
 //!
-//! `land_from` compares a flit where it stands and copies it whole; given by value, as `land` takes it, its
-//! fields and the gaps between them move one by one. Where the awaited flit lands, only the index of the next
-//! one is written.
+//! `land_from` compares a flit where it stands and copies it whole; given by value, as `land` takes
+//! it, its fields and the gaps between them move one by one. Where the awaited flit lands, only the
+//! index of the next one is written.
 
 ghost use Rattle.std.specs.Prelude.{◌≡◌, ◌⊎◌, ◌<◌, ◌∷◌, IsTrue, IsSome, length, is_ok, true, if◌then◌else◌};
 ghost use Rattle.noc_topo.specs.Shape.{nodes, ports};
@@ -145,8 +145,8 @@ impl InputChannel {
         }
     }
 
-    /// Puts a flit of the node's own source into the ring, which is not full. No test is made, since a source gives the
-    /// flits of a packet in order.
+    /// Puts a flit of the node's own source into the ring, which is not full. No test is made,
+    /// since a source gives the flits of a packet in order.
     pub fn inject(&mut self, bank: &mut Bank, ring: usize, flit: Flit)
         requires ring { ring < length bank.old.rings }
         requires room { length (buffer_at bank.old ring) < bank.old.capacity }
@@ -179,13 +179,14 @@ impl InputChannel {
         }
     }
 
-    /// A flit comes to this virtual channel of this input port of the router, whose flits are in this ring of
-    /// the bank. Where the ring is not full and the flit is the one that is expected, it lands. Any other flit is a
-    /// misfit and changes nothing.
+    /// A flit comes to this virtual channel of this input port of the router, whose flits are in
+    /// this ring of the bank. Where the ring is not full and the flit is the one that is expected,
+    /// it lands. Any other flit is a misfit and changes nothing.
     ///
-    /// An idle channel with an empty ring expects a head of any packet whose destination and class exist and for which
-    /// the relation permits an output channel here. Every other channel expects the next flit of its packet, up to the
-    /// tail, and an idle channel expects none until its head is routed (Dally and Towles, chapter 16).
+    /// An idle channel with an empty ring expects a head of any packet whose destination and class
+    /// exist and for which the relation permits an output channel here. Every other channel expects
+    /// the next flit of its packet, up to the tail, and an idle channel expects none until its head
+    /// is routed (Dally and Towles, chapter 16).
     pub fn land(
         &mut self,
         bank: &mut Bank,
@@ -234,7 +235,8 @@ impl InputChannel {
         Ok(())
     }
 
-    /// The head that has landed in an idle channel waits for one of the output channels of this set.
+    /// The head that has landed in an idle channel waits for one of the
+    /// output channels of this set.
     pub fn route(&mut self, set: ChannelSet)
         requires idle { self.old.phase ≡ InputState.Idle }
         requires head { IsSome self.old.packet }
@@ -251,8 +253,8 @@ impl InputChannel {
         self.state = InputState::Active(output);
     }
 
-    /// Takes the first flit of an active channel's ring, which is not empty. After the tail the channel is idle and has
-    /// no packet.
+    /// Takes the first flit of an active channel's ring, which is not empty. After the tail the
+    /// channel is idle and has no packet.
     pub fn send(&mut self, bank: &mut Bank, ring: usize) -> Flit
         requires active { IsTrue (is_active self.old.phase) }
         requires ring { ring < length bank.old.rings }

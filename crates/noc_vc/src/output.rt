@@ -12,14 +12,14 @@ use std::marker::Model;
 pub enum OutputState {
     /// No packet.
     Idle,
-    /// The packet with this number, second, from the input channel with this index, first.
+    /// A packet: the index of the input channel that it comes from, and its number.
     Owned(usize, u32),
     /// A tail has left by it, and not all credits have come back.
     Draining,
 }
 
-/// An output virtual channel of a router: a link channel, which counts its credits, or an ejection channel, which has
-/// none.
+/// An output virtual channel of a router: a link channel, which counts its credits, or an ejection
+/// channel, which has none.
 #[derive(Clone, Copy, Debug)]
 pub struct OutputChannel {
     state: OutputState,
@@ -40,7 +40,8 @@ impl Model for OutputChannel {
 }
 
 impl OutputChannel {
-    /// An idle link channel with all its credits: as many as the depth of the buffer at the other end, 1 to 16.
+    /// An idle link channel with all its credits: as many as the depth of the buffer
+    /// at the other end, 1 to 16.
     pub fn link(depth: usize) -> OutputChannel
         requires some { 0 < depth }
         requires depth { depth ≤ MAX_BUFFER }
@@ -84,8 +85,9 @@ impl OutputChannel {
         }
     }
 
-    /// A credit comes back, and a draining channel that has them all again is idle. A credit that is one too many, or
-    /// that comes to an ejection channel, is a misfit and changes nothing (Dally and Towles, chapter 13).
+    /// A credit comes back, and a draining channel that has them all again is idle. A credit that
+    /// is one too many, or that comes to an ejection channel, is a misfit and changes nothing
+    /// (Dally and Towles, chapter 13).
     pub fn credit_back(&mut self) -> Result<(), Misfit>
         ensures fits { is_ok result ≡ credit_fits self.old }
         ensures channel { self.new ≡ (if is_ok result then output_after_credit self.old else self.old) }
@@ -103,7 +105,8 @@ impl OutputChannel {
         Ok(())
     }
 
-    /// The idle channel goes to the packet with this number, from the input channel with this index.
+    /// The idle channel goes to the packet with this number, from the input
+    /// channel with this index.
     pub fn hold(&mut self, input: usize, packet: u32)
         requires { self.old.holder ≡ OutputState.Idle }
         ensures { self.new ≡ output_after_hold self.old input packet }
@@ -111,7 +114,8 @@ impl OutputChannel {
         self.state = OutputState::Owned(input, packet);
     }
 
-    /// A flit leaves by an owned link channel and takes a credit; after the tail the channel is draining.
+    /// A flit leaves by an owned link channel and takes a credit; after the tail
+    /// the channel is draining.
     pub fn spend(&mut self, last: bool)
         requires owned { IsTrue (is_owned self.old.holder) }
         requires credit { IsSomeAnd self.old.credit (λ count. 0 < count) }

@@ -59,7 +59,8 @@ abbrev one_of_nine : ℕ → List ℕ
 one_of_nine zero = replicate 9 0
 one_of_nine (suc k) = set (replicate 9 0) k 1
 
--- whether a channel is in each of the sets, 1 or 0 by the index of the verdict, where it is in one set at most
+-- whether a channel is in each of the sets, 1 or 0 by the index of the verdict, where
+-- it is in one set at most
 nine_same : (x1 x2 x3 x4 x5 x6 x7 x8 x9 y1 y2 y3 y4 y5 y6 y7 y8 y9 : ℕ) → x1 ≡ y1 → x2 ≡ y2 → x3 ≡ y3 → x4 ≡ y4 → x5 ≡ y5 → x6 ≡ y6 → x7 ≡ y7 → x8 ≡ y8 → x9 ≡ y9
     → x1 ∷ x2 ∷ x3 ∷ x4 ∷ x5 ∷ x6 ∷ x7 ∷ x8 ∷ x9 ∷ [] ≡ y1 ∷ y2 ∷ y3 ∷ y4 ∷ y5 ∷ y6 ∷ y7 ∷ y8 ∷ y9 ∷ []
 nine_same x1 x2 x3 x4 x5 x6 x7 x8 x9 y1 y2 y3 y4 y5 y6 y7 y8 y9 e1 e2 e3 e4 e5 e6 e7 e8 e9 = cc

@@ -34,13 +34,13 @@ pub record View : Type 0 where
   pub inputs : List Input
   pub outputs : List Output
   pub arbiters : ArbiterStates
-  pub queue : List (ℕ × Packet)  -- packets with a flit still at the source, with their numbers, in their order
-  pub sending : Option (ℕ × ℕ)  -- the local virtual channel of the first of them, once it has begun, and its next index
+  pub queue : List (ℕ × Packet)  -- packets with a flit at the source, numbered and in their order
+  pub sending : Option (ℕ × ℕ)  -- once the first has begun, its channel and next index
   pub ends : List (ℕ × Option ℕ)  -- packets that were built to end here, with their arrivals
   pub misfits : ℕ
   pub last_event : Option ℕ
   pub counts : List (List ℕ)  -- of each input channel, how often it had each verdict
-  pub findings : List Finding  -- of each input channel, in the last cycle whose findings were kept; none before the first such
+  pub findings : List Finding  -- by input channel, of the last cycle that kept them, if any
   pub given : ℕ  -- the cycle last given to `inject`
   pub had_event : Bool  -- whether the cycle that goes on had an event before its verdicts
   pub to_put : List Beat  -- for each link port, the beat that is still to be put
@@ -50,7 +50,7 @@ pub record View : Type 0 where
 pub record Decisions : Type 0 where
   pub round : Round
   pub findings : List Finding
-  pub routes : List ℕ  -- for each input channel, the set that the relation permits where its verdict is Routed, else 0
+  pub routes : List ℕ  -- by input channel, the permitted set where its verdict is Routed, else 0
 
 -- a relation on the router's shape, with as many channels
 pub record IsRelationOf (relation : Routes) (v : View) : Type 0 where

@@ -2,9 +2,9 @@
 
 use crate::verdict::Verdict;
 
-/// What a router found of one input channel in one cycle: the packet of the channel, if it holds
-/// one, and the output channel (port, virtual channel) that the packet owns, is granted or asks
-/// for.
+/// What a router found of one input channel in one cycle. The packet is that of the channel,
+/// if it holds one, and the output channel (port, virtual channel) the one that the packet
+/// owns, is granted or asks for.
 #[derive(Clone, Copy, Debug, PartialEq, Eq)]
 pub struct Finding {
     pub verdict: Verdict,

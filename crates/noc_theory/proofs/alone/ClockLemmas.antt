@@ -1,5 +1,5 @@
--- While a packet is alone its head takes three cycles for each hop: in each cycle it does one of what
--- it has left to do.
+-- While a packet is alone its head takes three cycles for each hop: in each cycle it does one
+-- of what it has left to do.
 use Rattle.std.proofs.Common.{◌≡◌, ◌≢◌, ℕ, suc, ◌+◌, ◌<◌, ◌≤◌, true, cond, length, refl, ap, sym, ◌∙◌, arith, inl, inr, subst}
 use Rattle.std.specs.Prelude.{◌⊎◌}
 use Rattle.std.proofs.lemmas.Bool.{false≢true, cases_eq}

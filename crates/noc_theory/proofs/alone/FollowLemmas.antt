@@ -24,8 +24,8 @@ module _ (net : Setup) (p : ℕ) where
   abbrev pub out_time : ℕ → ℕ
   out_time i = (packet_at net p).due + (3 * hops net p + 2) + i
 
-  -- flit i of p, which is at this place in cycle n, can still be out in time, at one cycle for each hop,
-  -- or was
+  -- flit i of p, which is at this place in cycle n, can still be out in time, at one
+  -- cycle for each hop, or was
   abbrev pub InTime : ℕ → ℕ → Place → Type 0
   InTime n i Source = n + hops net p + 1 ≤ out_time i
   InTime n i (On c) = n + far_of net p c ≤ out_time i

@@ -1,4 +1,5 @@
--- While a packet is alone its head goes on in each cycle: it is routed, granted a channel, or moved.
+-- While a packet is alone its head goes on in each cycle: it is routed,
+-- granted a channel, or moved.
 use Rattle.std.proofs.Common.{◌≡◌, ℕ, ◌+◌, ◌*◌, ◌/◌, ◌%◌, ◌<◌, ◌≤◌, Bool, true, false, cond, length, Option, Some, None, refl, ap, sym, ◌∙◌, arith, subst}
 use Rattle.std.specs.Prelude.{find, is_none, option_map, option_and_then}
 use Rattle.std.proofs.lemmas.Bool.{lt-ltb, and_from}

@@ -1,5 +1,5 @@
--- Where one packet alone owns channels, a channel of it that has a flit, a next channel and a credit
--- moves a flit.
+-- Where one packet alone owns channels, a channel of it that has a flit, a next channel
+-- and a credit moves a flit.
 use Rattle.std.proofs.Common.{◌≡◌, ℕ, suc, ◌+◌, ◌-◌, ◌<◌, ◌≤◌, Bool, true, false, cond, List, [], ◌∷◌, length, Some, refl, ap, sym, ◌∙◌, arith, inl, inr, subst}
 use Rattle.std.specs.Prelude.{filter, option_map, ◌⊎◌}
 use Rattle.std.proofs.lemmas.Bool.{true≢false, false≢true, lt-ltb, cases_lt, cases_order}

@@ -1,5 +1,5 @@
--- A packet that is alone is in time in each cycle: its head is on the clock, and each flit behind it
--- can still be out one cycle after the one before it. So its tail is out when it must.
+-- A packet that is alone is in time in each cycle: its head is on the clock, and each flit behind
+-- it can still be out one cycle after the one before it. So its tail is out when it must.
 use Rattle.std.proofs.Common.{◌≡◌, ◌≢◌, ℕ, zero, suc, ◌+◌, ◌<◌, ◌≤◌, length, Some, None, refl, ap, sym, ◌∙◌, arith, inl, inr, subst}
 use Rattle.std.specs.Prelude.{◌⊎◌}
 use Rattle.std.proofs.lemmas.Bool.{false≢true, cases_lt, cases_order}
@@ -202,8 +202,8 @@ module _ (net : Setup) (good : IsGoodSetup net) (two : 2 ≤ net.depth) (p : ℕ
       in_time : (i : ℕ) → InTime net p n i Source
       in_time i = omega arith
 
-  -- where the tail is out all flits are, each a cycle or more after the one before it: so none is out
-  -- before its time
+  -- where the tail is out all flits are, each a cycle or more after the one before it: so
+  -- none is out before its time
   module _ (n : ℕ) (on : IsOnTime n) (m : ℕ) (out : tail_place net (state_at net n) p ≡ Out m) where
     light : (x : Place) → IsPlaced net (state_at net n).own p x → weight net p x ≡ 0 → (a : ℕ) × (x ≡ Out a)
     light Source k w = absurd (omega arith)

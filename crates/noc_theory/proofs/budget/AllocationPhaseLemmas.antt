@@ -173,7 +173,8 @@ module _ (net : Setup) (n : ℕ) (F : State) where
   pub record AllocationsRight : Type 0 where
     -- no channel is twice among all
     pub once : IsApart same_channel (all_inputs net)
-    -- a head stands in a channel of the network, alone of the heads, and before all other flits there
+    -- a head stands in a channel of the network, alone of the heads, and
+    -- before all other flits there
     pub listed : (p : ℕ) (c : Channel) → p < length net.packets → head_place net F p ≡ In c → Has c (all_inputs net)
     pub one_head : (p q : ℕ) (c : Channel) → p < length net.packets → q < length net.packets → head_place net F p ≡ In c → head_place net F q ≡ In c → p ≡ q
     pub goes_first : (p : ℕ) (c : Channel) (f : Located) → p < length net.packets → f.place ≡ In c → find (λ (g : Located). nat_eq p g.packet && nat_eq 0 g.index) F.at ≡ Some f

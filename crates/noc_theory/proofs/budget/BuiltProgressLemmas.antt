@@ -1,4 +1,5 @@
--- A network over a relation that was built, whose packets have no fault, has what progress needs of it.
+-- A network over a relation that was built, whose packets have no fault, has
+-- what progress needs of it.
 use Rattle.std.proofs.Common.{◌≡◌, ℕ, ◌+◌, ◌*◌, ◌/◌, ◌%◌, true, Some, refl, ap, sym, ◌∙◌, arith}
 use Rattle.std.specs.Prelude.{IsTrue}
 use Rattle.std.proofs.lemmas.Bool.{lt-ltb}

@@ -1,4 +1,5 @@
--- The worms of a frozen state are chains along which flits can follow: who owns what, where flits are and what is routed gives it.
+-- The worms of a frozen state are chains along which flits can follow: who owns what, where flits
+-- are and what is routed gives it.
 use Rattle.std.proofs.Common.{false, ◌≡◌, [], ℕ, ◌+◌, ◌*◌, ◌<◌, ◌≤◌, Bool, true, List, ◌∷◌, length, Some, refl, ap, sym, ◌∙◌, arith, inl, inr, subst}
 use Rattle.std.specs.Prelude.{filter, find, nat_eq, ◌&&◌, IsTrue}
 use Rattle.std.specs.List.{list_any}

@@ -1,4 +1,5 @@
--- The cycles of a run are countable: who owns what, where flits are, and what is routed, give what the count of events needs.
+-- The cycles of a run are countable: who owns what, where flits are, and what is routed, give what
+-- the count of events needs.
 use Rattle.std.proofs.Common.{◌≡◌, ℕ, ◌+◌, ◌*◌, ◌<◌, ◌≤◌, Bool, true, false, cond, List, [], ◌∷◌, length, Option, Some, None, refl, ap, sym, ◌∙◌, arith, inl, inr, subst}
 use Rattle.std.specs.Prelude.{find, nat_eq, nat_le, nat_lt, option_map}
 use Rattle.std.specs.List.{AllByRecursion}

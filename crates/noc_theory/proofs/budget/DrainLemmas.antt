@@ -1,4 +1,5 @@
--- Where each pending cycle has an event and each cycle lowers the remainder by its events, all is out by the last due time and the budget.
+-- Where each pending cycle has an event and each cycle lowers the remainder by its events, all is
+-- out by the last due time and the budget.
 use Rattle.std.proofs.Common.{◌≡◌, ℕ, zero, suc, ◌+◌, ◌-◌, ◌<◌, ◌≤◌, Bool, true, false, cond, List, map, length, Option, Some, None, refl, ap, sym, ◌∙◌, arith, subst}
 use Rattle.std.specs.Prelude.{find, nat_eq, nat_le, ◌&&◌, option_map, unwrap_or, is_none}
 use Rattle.std.specs.List.{enumerate_from}

@@ -1,4 +1,5 @@
--- Heads and moves in a frozen state: each stands where its packet owns the channel, and what moves comes nearer.
+-- Heads and moves in a frozen state: each stands where its packet owns the channel, and
+-- what moves comes nearer.
 use Rattle.std.proofs.Common.{◌≡◌, ◌≢◌, ℕ, ◌+◌, ◌*◌, ◌<◌, ◌≤◌, Bool, true, false, List, [], ◌∷◌, length, Option, Some, None, refl, ap, sym, ◌∙◌, arith, inl, subst, ⊎_elim}
 use Rattle.std.specs.Prelude.{filter, find, nat_eq, nat_lt, ◌&&◌, option_and_then, option_map, unwrap_or}
 use Rattle.std.specs.List.{AllByRecursion}

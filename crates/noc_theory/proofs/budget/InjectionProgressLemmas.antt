@@ -258,7 +258,8 @@ find-unadded t f a (x ∷ xs) ys h = at (a x) (t (f x)) refl (find-unadded t f a
     at false d k rest = rest
 
 module _ (net : Setup) (n : ℕ) (S : State) where
-  -- what is assumed of injections: a head in a buffer has an owner there, and a channel on which one starts is not routed
+  -- what is assumed of injections: a head in a buffer has an owner there, and a channel on which
+  -- one starts is not routed
   pub record StartsFresh : Type 0 where
     pub held : (p : ℕ) (c : Channel) → p < length net.packets → head_place net S p ≡ In c → (q : ℕ) × (owner_of net S c ≡ Some q)
     pub unrouted : (node : ℕ) (one : Injection net) → injection_at net S n node ≡ Some one → head_place net S one.packet ≡ Source → has_channel S.routed one.channel ≡ false

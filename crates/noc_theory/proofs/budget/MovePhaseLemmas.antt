@@ -1,4 +1,5 @@
--- The weights of the flits fall by one for each move, and by one more for each credit that is sent back.
+-- The weights of the flits fall by one for each move, and by one more for each
+-- credit that is sent back.
 use Rattle.std.proofs.Common.{◌≡◌, ◌≢◌, ℕ, zero, suc, ◌+◌, ◌*◌, ◌<◌, Bool, true, false, cond, List, [], ◌∷◌, map, length, Option, Some, None, refl, ap, sym, ◌∙◌, arith, inl, inr, subst, ⊎_elim}
 use Rattle.std.specs.Prelude.{filter, find, nat_eq, nat_lt, ◌&&◌, sum_by, count_by}
 use Rattle.std.proofs.lemmas.Bool.{false≢true, true≢false, eqb-true, eq-eqb, and_parts, and_right, and_from, ltb-true}

@@ -1,4 +1,5 @@
--- The next channel of a head's channel after the verdicts: there where it was granted one, else as before.
+-- The next channel of a head's channel after the verdicts: there where it was
+-- granted one, else as before.
 use Rattle.std.proofs.Common.{◌≡◌, ◌≢◌, ℕ, ◌+◌, ◌<◌, Bool, true, false, cond, List, [], ◌∷◌, ◌++◌, map, length, Option, Some, None, refl, ap, sym, ◌∙◌, inl, inr, subst}
 use Rattle.std.specs.Prelude.{filter, find, nat_eq, nat_lt, ◌*◌, ◌/◌, ◌%◌, not, option_map, option_and_then, unwrap_or, filter_map}
 use Rattle.std.proofs.lemmas.Bool.{false≢true, eqb-true, eq-eqb, and_left}
@@ -52,7 +53,8 @@ module _ (net : Setup) (n : ℕ) (F : State) where
 
   -- what is owned, at and by heads
   pub record HeadsHold : Type 0 where
-    -- a head stands in a channel that its packet owns, and is the head there where another is granted
+    -- a head stands in a channel that its packet owns, and is the head there
+    -- where another is granted
     pub held : (p : ℕ) (c : Channel) → p < length net.packets → head_place net F p ≡ In c → owner_of net F c ≡ Some p
     pub at_grants : (c : Channel) → Has c (all_inputs net) → verdict_in net F c ≡ Granted → (p : ℕ) × (p < length net.packets) × (head_place net F p ≡ In c)
     pub listed : (p : ℕ) (c : Channel) → p < length net.packets → head_place net F p ≡ In c → Has c (all_inputs net)

@@ -1,4 +1,5 @@
--- A pending cycle has an event, where ranks have an escape and the worms of each frozen state are in order.
+-- A pending cycle has an event, where ranks have an escape and the worms of each
+-- frozen state are in order.
 use Rattle.std.proofs.Common.{◌≡◌, ℕ, zero, suc, ◌<◌, ◌≤◌, Bool, true, false, Option, List, [], ◌∷◌, ◌++◌, map, refl, ap, ap₂, ◌∙◌, arith, inl, inr, subst, append-nil}
 use Rattle.std.specs.Prelude.{count_by, find, nat_eq, ◌&&◌, filter, IsTrue}
 use Rattle.std.proofs.lemmas.Bool.{true≢false, and_left, and_right, ne_eqb}

@@ -1,4 +1,5 @@
--- What progress needs of a network: its parts fit each other, and no packet reaches a place from which nothing is permitted.
+-- What progress needs of a network: its parts fit each other, and no packet reaches a place from
+-- which nothing is permitted.
 use Rattle.std.specs.Prelude.{◌≡◌, ℕ, ◌<◌, IsTrue, length, Some}
 use Rattle.noc_topo.specs.Shape.{nodes, neighbour}
 use Rattle.noc_route.specs.Channel.{Channel, Link, Inject, Eject}

@@ -1,5 +1,6 @@
--- What holds of every network that was made: where ranks rise along its relation each pending cycle has an event; each event is
--- one less to come; and by the last due time and the budget all packets are out.
+-- What holds of every network that was made. Where ranks rise along its relation, each
+-- pending cycle has an event. Each event is one less to come, and by the last due time and
+-- the budget all packets are out.
 use Rattle.std.proofs.Common.{◌≡◌, ℕ, suc, ◌+◌, ◌<◌, ◌≤◌, true, false, length, Some}
 use Rattle.noc_route.specs.Ranks.{IsRankedBy, Ranking, rank_at}
 use Rattle.noc_theory.specs.Network.{Setup, packet_at, state_at, frozen_at, network_cycle, arrival_in}

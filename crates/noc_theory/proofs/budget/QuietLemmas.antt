@@ -1,4 +1,5 @@
--- A quiet cycle is not pending, where each packet that waits can go on by a channel with a rank, and ranks rise.
+-- A quiet cycle is not pending, where each packet that waits can go on by a channel
+-- with a rank, and ranks rise.
 use Rattle.std.proofs.Common.{◌≡◌, ◌≢◌, ℕ, zero, suc, ◌+◌, ◌*◌, ◌/◌, ◌%◌, ◌<◌, ◌≤◌, Bool, true, false, cond, List, [], ◌∷◌, length, Option, Some, None, refl, ap, sym, ◌∙◌, arith, inl, inr, subst, ⊎_elim}
 use Rattle.std.specs.Prelude.{option_map, unwrap_or, is_none, nat_eq, nat_lt, nat_le, option_and_then, find, filter, ◌&&◌, ◌⊎◌, IsTrue}
 use Rattle.std.specs.List.{list_any}

@@ -1,4 +1,5 @@
--- The remainder falls by one for each landing, each credit that arrives, and each flit that leaves its source.
+-- The remainder falls by one for each landing, each credit that arrives, and each
+-- flit that leaves its source.
 use Rattle.std.proofs.Common.{◌≡◌, ℕ, ◌+◌, ◌*◌, ◌<◌, Bool, true, false, cond, List, [], ◌∷◌, map, length, Option, Some, None, refl, ap, sym, ◌∙◌, arith, inl, inr, subst}
 use Rattle.std.specs.Prelude.{filter, find, nat_eq, not, ◌&&◌, sum_by, count_by, is_some, option_map, option_and_then, unwrap_or}
 use Rattle.std.proofs.lemmas.Bool.{false≢true, eqb-true}
@@ -52,7 +53,8 @@ find-kept t keep (x ∷ xs) h = at (t x) refl (keep x) refl (find-kept t keep xs
     at false e false k rest = rw (k, e) rest
 
 module _ (net : Setup) (S : State) where
-  -- what is assumed of landings: what flies is on a link channel, and a head flies to one that is not routed
+  -- what is assumed of landings: what flies is on a link channel, and a head flies
+  -- to one that is not routed
   pub record FliesRight : Type 0 where
     pub on_links : (f : Located) (c : Channel) → Has f S.at → f.place ≡ On c → is_link c ≡ true
     pub to_unrouted : (p : ℕ) (c : Channel) → p < length net.packets → head_place net S p ≡ On c → has_channel S.routed c ≡ false

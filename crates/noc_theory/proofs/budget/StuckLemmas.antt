@@ -1,4 +1,5 @@
--- A cycle without an event leaves every flit where it is, so whether it was stuck can be told from the state after it.
+-- A cycle without an event leaves every flit where it is, so whether it was stuck can be told
+-- from the state after it.
 use Rattle.std.proofs.Common.{◌≡◌, ℕ, zero, suc, ◌≤◌, Bool, true, false, cond, List, length, Option, Some, None, refl, ap, sym, ◌∙◌, arith}
 use Rattle.std.specs.Prelude.{nat_eq, nat_le, nat_lt, not, is_none, ◌&&◌}
 use Rattle.std.proofs.lemmas.Bool.{true≢false, false_from_ne_true, and_left, and_right, lt-ltb, le-ltb, ne_eqb, eq-eqb}
@@ -49,7 +50,8 @@ last-below net (suc n) o e m l = at (nat_lt 0 (events net n (state_at net n))) e
     at true f rest = ap (λ (x : Option ℕ). is_some_of x m) (sym f) ∙ ne_eqb n m (λ s. omega arith)
     at false f rest = rest f
 
--- the last cycle was stuck where it had no event, and a packet that was due has not arrived by its end
+-- the last cycle was stuck where it had no event, and a packet that was due
+-- has not arrived by its end
 pub stuck-after : (net : Setup) → IsGoodSetup net → (n : ℕ) → (not (is_some_of (last_event_before net (suc n)) n) && is_pending net n (state_at net (suc n))) ≡ is_stuck net (suc n)
 stuck-after net made n = at (events net n (state_at net n)) refl
   where

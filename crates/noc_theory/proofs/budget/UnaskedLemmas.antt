@@ -1,4 +1,5 @@
--- A router in a cycle without an event: no output channel is asked for, no flit can go on, and so its arbiters stay as they are.
+-- A router in a cycle without an event: no output channel is asked for, no flit can go on, and so
+-- its arbiters stay as they are.
 use Rattle.std.proofs.Common.{◌≡◌, ℕ, ◌+◌, ◌*◌, ◌<◌, ◌≤◌, Bool, true, false, cond, List, length, get_or, Option, Some, None, refl, ap, ◌∙◌, arith, inl, inr}
 use Rattle.std.specs.Prelude.{◌⊎◌, find, is_some, nat_lt, option_and_then, slice_index, if◌then◌else◌}
 use Rattle.std.proofs.lemmas.Bool.{cases_lt, ltb-true}

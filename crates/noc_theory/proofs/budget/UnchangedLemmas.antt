@@ -1,4 +1,5 @@
--- A cycle without an event leaves the whole state as it is, and so does each that follows before a packet becomes due.
+-- A cycle without an event leaves the whole state as it is, and so does each that follows
+-- before a packet becomes due.
 use Rattle.std.proofs.Common.{◌≡◌, ℕ, zero, suc, ◌+◌, ◌-◌, ◌<◌, ◌≤◌, Bool, true, false, cond, List, [], ◌∷◌, ◌++◌, length, map, get_or, Option, Some, None, refl, ap, ap₂, sym, subst, ◌∙◌, arith, inl, inr, append-nil}
 use Rattle.std.specs.Prelude.{◌⊎◌, ◌&&◌, count_by, filter, find, is_none, nat_eq, nat_le, not, option_and_then, option_map}
 use Rattle.std.specs.List.{cons_option, filter_map, list_any}

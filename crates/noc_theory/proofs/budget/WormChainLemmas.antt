@@ -1,4 +1,5 @@
--- What is assumed of the frozen state of a cycle: that each packet's channels are a chain along which its flits can follow.
+-- What is assumed of the frozen state of a cycle: that each packet's channels are a chain along
+-- which its flits can follow.
 use Rattle.std.proofs.Common.{◌≡◌, ℕ, ◌-◌, ◌<◌, true, false, [], length, Some}
 use Rattle.std.specs.Prelude.{IsTrue, find}
 use Rattle.noc_theory.specs.Network.{end_distance, In, Located, Setup, State, all_inputs, count_in, first_waiting, has_channel, injections, is_injection_of, next_channel, owned_by, owner_of, packet_at, verdict_in}
@@ -28,10 +29,12 @@ module _ (net : Setup) where
         → IsTrue (permits net.relation (packet_at net p).class c (packet_at net p).destination (Link r q v))
     -- a channel with a next channel is routed
     pub routed : (c o : Channel) → next_channel net F c ≡ Some o → has_channel F.routed c ≡ true
-    -- an owned link channel with an empty buffer has a channel before it, an ejection channel always has one
+    -- an owned link channel with an empty buffer has a channel before it, an
+    -- ejection channel always has one
     pub links_fed : (r q v p : ℕ) → owner_of net F (Link r q v) ≡ Some p → count_in net F (Link r q v) ≡ 0 → (d : Channel) × (next_channel net F d ≡ Some (Link r q v))
     pub ends_fed : (n v p : ℕ) → owner_of net F (Eject n v) ≡ Some p → (d : Channel) × (next_channel net F d ≡ Some (Eject n v))
-    -- the owner of an injection channel with an empty buffer is the first of its node with a flit at its source, and goes on there
+    -- the owner of an injection channel with an empty buffer is the first of its node with a flit
+    -- at its source, and goes on there
     pub starts_fed : (n v p : ℕ) → owner_of net F (Inject n v) ≡ Some p → count_in net F (Inject n v) ≡ 0
         → (first_waiting net F n ≡ Some p) × (find (is_injection_of net n) (owned_by net F p) ≡ Some (Inject n v))
     -- the tail of each packet is somewhere, and a buffer that holds a flit has an owner

@@ -1,4 +1,5 @@
--- What a quiet cycle cannot have: a flit that could move, a channel that could be granted, a source that could go on.
+-- What a quiet cycle cannot have: a flit that could move, a channel that could be granted, a
+-- source that could go on.
 use Rattle.std.proofs.Common.{◌≡◌, ℕ, ◌+◌, ◌-◌, ◌*◌, ◌/◌, ◌%◌, ◌<◌, Bool, true, false, cond, List, [], ◌∷◌, length, Option, Some, None, refl, ap, sym, ◌∙◌, arith, inl, inr, subst}
 use Rattle.std.specs.Prelude.{option_map, unwrap_or, nat_eq, nat_lt, option_and_then, find, filter, ◌&&◌}
 use Rattle.std.proofs.lemmas.Bool.{false≢true, true≢false, eqb-true, eq-eqb, lt-ltb, and_from, and_parts}
@@ -131,7 +132,8 @@ module _ (net : Setup) (F : State) where
             let has = next-has c o k in
             let l = real-index o (owned-real o has.0 has.2) in omega arith
 
-    -- where a channel has a next channel with a credit, and a flit, some channel of its router moves a flit
+    -- where a channel has a next channel with a credit, and a flit, some channel
+    -- of its router moves a flit
     pub next-moved : (c o : Channel) (r port : ℕ) → IsInput net c r port → next_channel net F c ≡ Some o → has_credit_in net F o ≡ true → 0 < count_in net F c
         → (d : Channel) × Has d (all_inputs net) × (verdict_in net F d ≡ Moved) × (x : ℕ) × (arriving net r x ≡ Some d)
     next-moved c o r port i e cr flit =

@@ -1,4 +1,5 @@
--- After the injections: what is the same at each router, but on the channel on which its source injects.
+-- After the injections: what is the same at each router, but on the channel on
+-- which its source injects.
 use Rattle.std.proofs.Common.{◌≡◌, ◌≢◌, ℕ, ◌<◌, ◌≤◌, Bool, true, false, length, Option, Some, None, refl, ap, sym, ◌∙◌, inl, inr, subst, arith}
 use Rattle.std.specs.Prelude.{find, option_and_then, ◌⊎◌, ◌||◌, nat_eq, nat_lt}
 use Rattle.std.proofs.lemmas.Bool.{false≢true, eqb-true, cases_eq, le-ltb}

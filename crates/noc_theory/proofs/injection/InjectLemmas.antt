@@ -1,4 +1,5 @@
--- The source of a router injects: a view that showed the state after the credits shows the frozen state.
+-- The source of a router injects: a view that showed the state after the
+-- credits shows the frozen state.
 use Rattle.std.proofs.Common.{◌≡◌, ◌≢◌, ℕ, zero, suc, ◌+◌, ◌*◌, ◌/◌, ◌%◌, ◌<◌, Bool, true, false, cond, List, [], ◌∷◌, ◌++◌, map, length, get_or, set, Option, Some, None, refl, ap, sym, ◌∙◌, inl, inr, subst, arith}
 use Rattle.std.specs.Prelude.{filter, find, count_by, option_map, option_and_then, is_some, is_none, ◌⊎◌, ◌&&◌, ◌||◌, not, nat_eq, nat_lt, nat_le, if◌then◌else◌}
 use Rattle.std.proofs.lemmas.Bool.{false≢true, true≢false, eq-eqb, cases_eq, or_cases, lt-ltb}

@@ -1,4 +1,5 @@
--- The packets that wait at a node: in the order of the queue the first is the one that the state names, and no number stands twice.
+-- The packets that wait at a node: in the order of the queue the first is the one that the state
+-- names, and no number stands twice.
 use Rattle.std.proofs.Common.{◌≡◌, ◌≢◌, ℕ, ◌+◌, ◌<◌, ◌≤◌, Bool, true, false, cond, List, [], ◌∷◌, length, Option, Some, None, refl, ap, sym, ◌∙◌, inl, inr, subst, arith}
 use Rattle.std.specs.Prelude.{filter, ◌⊎◌, ◌&&◌, not, nat_eq, nat_le}
 use Rattle.std.specs.List.{list_any, enumerate_from}

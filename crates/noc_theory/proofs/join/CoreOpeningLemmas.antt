@@ -1,4 +1,5 @@
--- A core opened on a network begins where its routers are in lockstep, and the counts of a channel add up.
+-- A core opened on a network begins where its routers are in lockstep, and the
+-- counts of a channel add up.
 use Rattle.std.proofs.Common.{◌≡◌, ℕ, suc, ◌+◌, ◌-◌, ◌^◌, ◌<◌, ◌≤◌, List, [], ◌∷◌, length, sum, ap, sym, ◌∙◌, arith}
 use Rattle.std.specs.Prelude.{if◌then◌else◌}
 use Rattle.std.specs.List.{All}

@@ -19,7 +19,8 @@ phases net good = record {
   opens = λ r l. opens net good r l;
 }
 
--- at every count that a run can have, each router has the view that the state gives it, and each wire its beat
+-- at every count that a run can have, each router has the view that the state gives
+-- it, and each wire its beat
 pub joined : (net : Setup) → IsGood net → ((n : ℕ) → IsOrdered net (state_at net n)) → ((n : ℕ) → IsOrderedFrozen net (mid net (state_at net n))) → ((n : ℕ) → IsOrderedFrozen net (frozen_at net n))
     → (n : ℕ) → n ≤ CYCLE_LIMIT → AreSeen net n
 joined net good ordered middle last n l = all-seen net (phases net good) good ordered middle last n l

@@ -1,4 +1,5 @@
--- A cycle has an event exactly where one of its routers has one, so the last event of a network is the latest of its routers'.
+-- A cycle has an event exactly where one of its routers has one, so the last event of a network is
+-- the latest of its routers'.
 use Rattle.std.proofs.Common.{◌≡◌, ℕ, zero, suc, ◌+◌, ◌<◌, ◌≤◌, Bool, true, false, cond, List, [], ◌∷◌, length, Option, Some, None, is_some, refl, ap, sym, ◌∙◌, subst, inl, inr, arith}
 use Rattle.std.specs.Prelude.{◌⊎◌, ◌||◌, count_by, nat_lt, unwrap_or, option_map}
 use Rattle.std.specs.List.{list_any}
@@ -228,7 +229,8 @@ module _ (net : Setup) where
           let same : m ≡ n = omega arith in
           absurd (false≢true (sym h ∙ lt-ltb 0 (events net n (state_at net n)) (subst (λ x. 0 < events net x (state_at net x)) same e)))
 
--- an option that the last events of the routers bound, and that is one of them, is the last event of the network
+-- an option that the last events of the routers bound, and that is one of them, is the
+-- last event of the network
 pub last-is : (net : Setup) → IsGoodSetup net → (n : ℕ) (last : Option ℕ)
     → ((r m : ℕ) → r < nodes net.relation.grid → last_event_at net n r ≡ Some m → (k : ℕ) × (last ≡ Some k) × (m ≤ k))
     → ((k : ℕ) → last ≡ Some k → (r : ℕ) × (r < nodes net.relation.grid) × (last_event_at net n r ≡ Some k))

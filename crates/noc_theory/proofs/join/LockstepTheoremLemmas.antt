@@ -17,6 +17,7 @@ good-network net good = record {
   packets = λ p l. good.packets p (record { source = 0; destination = 0; class = 0; length = 0; due = 0 }) l;
 }
 
--- at every count that a run can have, the routers and the wires of the lockstep run are those of the state of the whole network
+-- at every count that a run can have, the routers and the wires of the lockstep run are those of
+-- the state of the whole network
 pub lockstep-is_state : (net : Setup) → IsGoodSetup net → (n : ℕ) → n ≤ CYCLE_LIMIT → AreSeen net n
 lockstep-is_state net good n l = lockstep-is_network net (good-network net good) n l

@@ -25,7 +25,8 @@ module _ (net : Setup) where
     -- where a link channel of a packet ends, the relation leads the packet on
     pub led : (r a v p : ℕ) (to : ℕ × ℕ) → Has (Link r a v, p) S.own → neighbour net.relation.grid r a ≡ Some to
         → set_at net.relation (packet_at net p).class to.0 to.1 v (packet_at net p).destination ≢ 0
-    -- an ejection channel of a packet is at its destination, and is one of the virtual channels there
+    -- an ejection channel of a packet is at its destination, and is one of
+    -- the virtual channels there
     pub at_goal : (n v p : ℕ) → Has (Eject n v, p) S.own → n ≡ (packet_at net p).destination
     pub low : (n v p : ℕ) → Has (Eject n v, p) S.own → v < net.relation.vcs
     pub n_arbiters : length S.arbiters ≡ nodes net.relation.grid

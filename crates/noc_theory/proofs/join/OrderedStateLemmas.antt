@@ -95,6 +95,7 @@ module _ (net : Setup) (good : IsGood net) where
     no_credit = frozen-credit n (state_at net n);
   }
 
-  -- at every count that a run can have, the routers and wires of the lockstep run are those of the state of the whole network
+  -- at every count that a run can have, the routers and wires of the lockstep run are those of the
+  -- state of the whole network
   pub lockstep-is_network : (n : ℕ) → n ≤ CYCLE_LIMIT → AreSeen net n
   lockstep-is_network n l = joined net good ordered-state ordered-mid ordered-frozen n l

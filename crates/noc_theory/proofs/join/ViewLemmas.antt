@@ -78,7 +78,8 @@ module _ (net : Setup) where
         misfits = s.misfits;
       }
 
-  -- a view that shows the state at count n, and has noted what was to be noted, is the view at count n
+  -- a view that shows the state at count n, and has noted what was to be
+  -- noted, is the view at count n
   pub is_view_at : (n r : ℕ) (v : View) → IsSeen net (state_at net n) r v → v.last_event ≡ last_event_at net n r → v.counts ≡ tabulate (size net) (counts_before net n r)
       → v.findings ≡ findings_before net n r → v.given ≡ n - 1 → v.had_event ≡ false → v.to_put ≡ idle_beats (site_at net r) → v ≡ view_at net n r
   unfolding view_at view_in

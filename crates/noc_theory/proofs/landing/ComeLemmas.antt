@@ -1,4 +1,5 @@
--- Which flits of a packet have come to the buffer of a channel that it holds: the first ones, as the weights of their places tell.
+-- Which flits of a packet have come to the buffer of a channel that it holds: the first ones, as
+-- the weights of their places tell.
 use Rattle.std.proofs.Common.{◌≡◌, ℕ, ◌+◌, ◌*◌, ◌<◌, ◌≤◌, Bool, true, false, refl, ap, sym, ◌∙◌, inl, inr, arith}
 use Rattle.std.specs.Prelude.{◌⊎◌, nat_eq, nat_lt, nat_le, ◌||◌}
 use Rattle.std.proofs.lemmas.Bool.{false≢true, ltb-true, lt-ltb, le-ltb, leb-true, le-leb, lt-leb, cases_eq, or_right, or_left, or_cases, eq-eqb}

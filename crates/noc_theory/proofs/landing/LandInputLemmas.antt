@@ -1,4 +1,5 @@
--- After the landings and the credits: each input channel as the state shows it, and each flit that lands fits.
+-- After the landings and the credits: each input channel as the state shows it, and
+-- each flit that lands fits.
 use Rattle.std.proofs.Common.{◌≡◌, ℕ, ◌+◌, ◌-◌, ◌<◌, Bool, true, false, cond, List, [], ◌∷◌, map, length, Option, Some, None, refl, ap, sym, ◌∙◌, inl, inr, subst, arith}
 use Rattle.std.specs.Prelude.{filter, find, option_map, option_and_then, ◌&&◌, not, nat_eq, nat_lt, if◌then◌else◌}
 use Rattle.std.proofs.lemmas.Bool.{false≢true, ne_eqb, eq-eqb, or_right, and_from}

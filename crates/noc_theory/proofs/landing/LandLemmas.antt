@@ -133,7 +133,8 @@ module _ (net : Setup) (good : IsGood net) (S : State) (x : IsOrdered net S) whe
 
   -- ---- weights
 
-  -- what weighs no more than the wire of c, and is not on it, has come to the buffer of c or past it
+  -- what weighs no more than the wire of c, and is not on it, has come to
+  -- the buffer of c or past it
   pub wire-weight : (p r a v : ℕ) (y : Place) → Has (Link r a v, p) S.own → IsPlaced net S.own p y → (y ≡ On (Link r a v) → ⊥) → weight net p y ≤ 3 * far_of net p (Link r a v) + 3 → weight net p y ≤ 3 * far_of net p (Link r a v) + 2
   wire-weight p r a v Source h k off l = let n = (worm.near (Link r a v) p h).0 in absurd (omega (arith, n, l))
   wire-weight p r a v (On (Link s b u)) h k off l = by (cases_eq (far_of net p (Link s b u)) (far_of net p (Link r a v)))

@@ -1,4 +1,5 @@
--- After the landings and the credits: each output channel as the state shows it, and each credit that comes fits.
+-- After the landings and the credits: each output channel as the state shows it, and
+-- each credit that comes fits.
 use Rattle.std.proofs.Common.{◌≡◌, ◌≢◌, ℕ, zero, suc, ◌+◌, ◌-◌, ◌*◌, ◌<◌, ◌≤◌, Bool, true, false, cond, length, Option, Some, None, refl, ap, sym, ◌∙◌, inl, inr, subst, arith}
 use Rattle.std.specs.Prelude.{◌⊎◌, ◌&&◌, ◌||◌}
 use Rattle.std.proofs.lemmas.Bool.{false≢true, true≢false, lt-ltb, ltb-true, le-ltb, le-leb, ne_eqb, eq-eqb, or_left, or_right}

@@ -1,4 +1,5 @@
--- A router takes its beats: a view that showed the state shows it after the landings and the credits, and there is no misfit.
+-- A router takes its beats: a view that showed the state shows it after the landings and the
+-- credits, and there is no misfit.
 use Rattle.std.proofs.Common.{◌≡◌, ℕ, ◌+◌, ◌*◌, ◌/◌, ◌%◌, ◌<◌, ◌≤◌, Bool, true, false, cond, List, [], ◌∷◌, ◌++◌, length, Option, Some, None, refl, ap, sym, ◌∙◌, inl, inr, subst, arith}
 use Rattle.std.specs.Prelude.{option_map, is_some, ◌⊎◌, ◌&&◌, ◌||◌, nat_eq, nat_lt, if◌then◌else◌}
 use Rattle.std.specs.List.{list_any}

@@ -1,4 +1,5 @@
--- What the network cycle gives on small networks: arrivals, verdicts, counts, pending and stuck cycles, and the work left.
+-- What the network cycle gives on small networks: arrivals, verdicts, counts, pending and stuck
+-- cycles, and the work left.
 use Rattle.std.proofs.Common.{◌≡◌, ℕ, suc, ◌+◌, Bool, true, false, List, [], ◌∷◌, Option, Some, None, refl, map, length}
 use Rattle.std.specs.Prelude.{nat_eq}
 use Rattle.std.specs.List.{list_all}
@@ -89,7 +90,8 @@ contended-arrives : arrivals contended 30 ≡ Some 8 ∷ Some 9 ∷ Some 29 ∷ 
 unfolding contended state_after
 contended-arrives = refl
 
--- the channel from router 0 wins in cycle 4, and the local channel in cycle 24, since the pointer has moved
+-- the channel from router 0 wins in cycle 4, and the local channel in cycle 24,
+-- since the pointer has moved
 contended-wins : verdict_in_cycle contended 4 1 2 ∷ verdict_in_cycle contended 4 1 4 ∷ verdict_in_cycle contended 24 1 2 ∷ verdict_in_cycle contended 24 1 4 ∷ []
     ≡ Granted ∷ LostChannel ∷ LostChannel ∷ Granted ∷ []
 unfolding contended state_after

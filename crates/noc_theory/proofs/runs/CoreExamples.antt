@@ -23,7 +23,8 @@ abbrev pub answers : List Event → CoreState → List Bool
 answers [] k = []
 answers (e ∷ es) k = is_ready 1000 k e ∷ answers es (after_events 1000 (e ∷ []) k)
 
--- a router that is a cycle ahead of its neighbour waits for it; ports without a link and routers that do not exist are refused
+-- a router that is a cycle ahead of its neighbour waits for it; ports without a link and routers
+-- that do not exist are refused
 one_flit-answers :
     answers
     (Take 0 0 ∷ Take 0 0 ∷ Decide 1 ∷ Decide 0 ∷ Put 0 0 ∷ Put 0 0 ∷ Take 0 0 ∷ Take 1 1 ∷ Decide 1 ∷ Put 1 1 ∷ Take 0 2 ∷ Take 5 0 ∷ [])

@@ -12,7 +12,8 @@ use Rattle.noc_route.specs.declared.rule.Rule.TheVariants.{Dor, Dateline, WestFi
 use Rattle.noc_route.specs.Routes.{Routes}
 use Rattle.noc_theory.specs.Network.{Setup}
 
--- the set of a rule at an entry; entries that are never reached have theirs too, which no packet sees
+-- the set of a rule at an entry; entries that are never reached have theirs
+-- too, which no packet sees
 abbrev pub rule_set : RelationParts → ℕ → ℕ → ℕ → ℕ → ℕ
 rule_set g m r i t = set_with (input_at g.grid g.vcs r i)
   where
@@ -90,7 +91,8 @@ unfoldable pub contended : Setup
 unfolding line
 contended = line 3 2 2 (packet_of 0 2 0 1 0 ∷ packet_of 1 2 0 1 3 ∷ packet_of 0 2 0 1 20 ∷ packet_of 1 2 0 1 23 ∷ [])
 
--- four long packets around a ring: with one channel they wait for each other for ever, with a dateline they all arrive
+-- four long packets around a ring: with one channel they wait for each other for ever, with a
+-- dateline they all arrive
 abbrev pub around : List Packet
 around = packet_of 0 2 0 4 0 ∷ packet_of 1 3 0 4 0 ∷ packet_of 2 0 0 4 0 ∷ packet_of 3 1 0 4 0 ∷ []
 

@@ -10,7 +10,8 @@ use Rattle.noc_theory.proofs.runs.NetworkExamples.{contended}
 abbrev pointer_at : Setup → ℕ → ℕ → ℕ → ℕ
 pointer_at net n r o = (slice_index_or (slice_index_or (state_after net n).arbiters r (opening_arbiters 0 0)).channels o (record { size = 0; pointer = 0 })).pointer
 
--- index 2 wins in cycle 4 and moves it from 0 to 3, where it stays up to cycle 24; then index 4 wins and moves it to 5
+-- index 2 wins in cycle 4 and moves it from 0 to 3, where it stays up to cycle 24; then index
+-- 4 wins and moves it to 5
 contended-pointer : pointer_at contended 4 1 0 ∷ pointer_at contended 5 1 0 ∷ pointer_at contended 24 1 0 ∷ pointer_at contended 25 1 0 ∷ [] ≡ 0 ∷ 3 ∷ 3 ∷ 5 ∷ []
 unfolding contended state_after
 contended-pointer = refl

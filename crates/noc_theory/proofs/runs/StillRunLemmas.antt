@@ -1,4 +1,5 @@
--- The lockstep run where nothing happens: no beat is in flight, nothing is injected, and no verdict takes effect. Each cycle is then the same.
+-- The lockstep run where nothing happens: no beat is in flight, nothing is injected, and no verdict
+-- takes effect. Each cycle is then the same.
 use Rattle.std.proofs.Common.{◌≡◌, ℕ, zero, suc, ◌+◌, ◌-◌, ◌<◌, ◌≤◌, Bool, true, false, List, [], ◌∷◌, length, map, get_or, Option, Some, None, refl, ap, sym, subst, ◌∙◌, arith, inl, inr}
 use Rattle.std.specs.Prelude.{◌⊎◌, if◌then◌else◌, find, nat_le, nat_lt}
 use Rattle.std.specs.List.{All}
@@ -254,7 +255,8 @@ module _ (net : Setup) where
       subst (λ m. AreInStep net Leave m (map (waiting net.relation n (suc k)) routers) beats) more
       (subst (λ vs. AreInStep net Leave (n + k + 1) vs beats) (map-map (once net.relation (n + k)) w routers) next)
 
-  -- where no beat is in flight, and no router does anything by itself before the end, all cycles up to there are those that wait
+  -- where no beat is in flight, and no router does anything by itself before the end, all cycles up
+  -- to there are those that wait
   pub still-wait : (first end : ℕ) (routers : List View) (beats : List (List Beat)) → first < end → AreInStep net Leave first routers beats → All IsSilent beats → length beats ≡ nodes net.relation.grid
       → All (λ v. takes_effect net.relation v ≡ false) routers → All (IsHeldBefore end) routers
       → AreInStep net Leave end (map (view_after_waiting net.relation (end - first) (end - 1)) routers) beats

@@ -210,7 +210,8 @@ module _ (net : Setup) (good : IsGood net) (F : State) (x : IsOrderedFrozen net 
   abbrev pub cycle : State → ℕ → ℕ × Option ℕ
   cycle S q = (q, out_cycle (tail_place net S q))
 
-  -- with the arrival of the tail, if there is one, the ends are those of the state, and there is no misfit
+  -- with the arrival of the tail, if there is one, the ends are those of the
+  -- state, and there is no misfit
   pub arrival-noted : (w : View) → w.given ≡ n → w.ends ≡ map (λ q. (q, out_cycle (tail_place net F q))) (ends_at net r)
       → with_arrival arrival w ≡ record w { ends = map (λ q. (q, out_cycle (tail_place net T q))) (ends_at net r) }
   arrival-noted w given ends = by arrives

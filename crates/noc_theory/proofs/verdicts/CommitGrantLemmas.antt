@@ -1,4 +1,5 @@
--- A grant takes effect on the output channel that is granted, and with it all output channels are those of the state.
+-- A grant takes effect on the output channel that is granted, and with it all output
+-- channels are those of the state.
 use Rattle.std.proofs.Common.{◌≡◌, ℕ, ◌<◌, true, false, cond, Option, Some, None, get_or, refl, ap, sym, ◌∙◌, inl, inr, subst, arith}
 use Rattle.std.specs.Prelude.{◌&&◌, not, nat_lt, unwrap_or, if◌then◌else◌}
 use Rattle.std.proofs.lemmas.Bool.{lt-ltb, or_left, or_right}

@@ -1,4 +1,5 @@
--- From a view that shows a frozen state, each input channel stands where it stands in that state, and so all verdicts are those of the state.
+-- From a view that shows a frozen state, each input channel stands where it stands in that state,
+-- and so all verdicts are those of the state.
 use Rattle.std.proofs.Common.{◌≡◌, ℕ, suc, ◌+◌, ◌*◌, ◌/◌, ◌%◌, ◌<◌, Bool, true, false, cond, List, [], ◌∷◌, map, length, Option, Some, None, refl, ap, sym, ◌∙◌, subst, arith}
 use Rattle.std.specs.Prelude.{find, option_and_then, option_map, not, nat_lt, ◌&&◌, ◌||◌, is_none}
 use Rattle.std.proofs.lemmas.Bool.{lt-ltb, false≢true}

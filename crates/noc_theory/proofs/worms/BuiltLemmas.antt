@@ -1,4 +1,5 @@
--- What a network has that was built: its relation leads on, its channels are wired, and every owned channel is an input.
+-- What a network has that was built: its relation leads on, its channels are wired, and every
+-- owned channel is an input.
 use Rattle.std.proofs.Common.{◌≡◌, ℕ, ◌+◌, ◌*◌, ◌/◌, ◌<◌, Bool, true, false, List, [], ◌∷◌, length, Some, refl, ap, sym, ◌∙◌, arith}
 use Rattle.std.specs.Prelude.{IsTrue, option_map}
 use Rattle.std.proofs.lemmas.Bool.{eq-eqb}

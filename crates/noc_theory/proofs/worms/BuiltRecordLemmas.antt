@@ -1,4 +1,5 @@
--- What a built relation says of channels: a hop begins where the packet is and comes nearer by one, and packets leave at their destination.
+-- What a built relation says of channels: a hop begins where the packet is and comes nearer by one,
+-- and packets leave at their destination.
 use Rattle.std.specs.Prelude.{◌≡◌, ℕ, ◌+◌, ◌<◌, ◌≤◌, true, IsTrue, length}
 use Rattle.noc_route.specs.Channel.{Channel, Link, Eject}
 use Rattle.noc_route.specs.Routes.{permits}

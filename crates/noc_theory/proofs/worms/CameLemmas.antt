@@ -1,4 +1,5 @@
--- How packets came to own their channels: the relation let them go on to each link and ejection channel.
+-- How packets came to own their channels: the relation let them go on to each
+-- link and ejection channel.
 use Rattle.std.proofs.Common.{◌≡◌, ◌≢◌, ℕ, zero, suc, ◌+◌, ◌*◌, ◌/◌, ◌%◌, ◌<◌, true, List, Some, ap, sym, ◌∙◌, inl, inr, subst}
 use Rattle.std.specs.Prelude.{◌⊎◌, not, IsTrue, filter, map}
 use Rattle.std.proofs.lemmas.Bool.{false≢true}

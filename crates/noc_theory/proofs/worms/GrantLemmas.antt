@@ -1,4 +1,5 @@
--- Grants: what a grant says, that no two go to one channel, and that own stays once and each packet's channels a path.
+-- Grants: what a grant says, that no two go to one channel, and that own stays once and each
+-- packet's channels a path.
 use Rattle.std.proofs.Common.{◌≡◌, ◌≢◌, ℕ, zero, suc, ◌+◌, ◌*◌, ◌/◌, ◌%◌, ◌<◌, ◌≤◌, Bool, true, false, cond, List, [], ◌∷◌, ◌++◌, get_or, Option, Some, None, refl, ap, sym, ◌∙◌, inl, inr, subst, arith, append-nil}
 use Rattle.std.specs.Prelude.{filter, find, option_map, option_and_then, ◌⊎◌, not, nat_eq, nat_lt, IsTrue, ◌&&◌}
 use Rattle.std.specs.List.{filter_map, range_with_len, cons_option}
@@ -24,7 +25,8 @@ use Rattle.noc_theory.proofs.worms.OwnedLemmas.{IsOnce, of, of-append, of-filter
 use Rattle.noc_theory.proofs.worms.StateWordLemmas.{IsOtherChannel, IsEject}
 use Rattle.noc_theory.proofs.worms.PathLemmas.{IsLast, path-filter, path-last, path-append, last-kept, no-inject}
 
--- each input channel of the network once, with a virtual channel that exists, and found by where it arrives
+-- each input channel of the network once, with a virtual channel that exists, and
+-- found by where it arrives
 pub record IsWired (net : Setup) : Type 0 where
   pub apart : Pairs (λ (a b : Channel). a ≢ b) (inputs net.relation.grid net.relation.vcs)
   pub low : (c : Channel) → Has c (inputs net.relation.grid net.relation.vcs) → channel_vc c < net.relation.vcs

@@ -54,7 +54,8 @@ module _ (net : Setup) (built : IsBuilt net) (S : State) (keyed : IsKeyed net S.
   reach-next p c (Eject m v) (In d) y k e = let l : far_of net p d < far_of net p c = ltb-true _ _ e in let f = far-eject net built S keyed w p c m v y in absurd (omega arith)
   reach-next p c (Eject m v) (Out n) y k e = inr (inr refl)
 
-  -- the head of p has reached o, or is in the buffer of the channel before it, where the tail has not reached o
+  -- the head of p has reached o, or is in the buffer of the channel before it, where
+  -- the tail has not reached o
   pub head-at : IsRoutedMid net S → (o : Channel) (p : ℕ) → Has (o, p) S.own → ((n v : ℕ) → o ≡ Inject n v → ⊥) → (Reached net p o (tail_place net S p) → ⊥)
       → Reached net p o (head_place net S p) ⊎ ((c : Channel) × IsNext net built S keyed w p c o × (head_place net S p ≡ In c))
   head-at routed o p h none before = come at_c.2

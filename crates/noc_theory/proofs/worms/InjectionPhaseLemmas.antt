@@ -82,7 +82,8 @@ module _ (net : Setup) (built : IsBuilt net) (own : List (Channel × ℕ)) (at :
   two-injects p n v m u h k =
       two-injects-in p (Inject n v) (Inject m u) (of p own) (w.path p) (has-of (Inject n v) p own h) (has-of (Inject m u) p own k) n v refl m u refl
 
-  -- an entry is of a packet whose tail is at its source, on an injection channel of its node: its own, or one that is new to it, and it owns nothing
+  -- an entry is of a packet whose tail is at its source, on an injection channel of its node: its
+  -- own, or one that is new to it, and it owns nothing
   pub record IsEntry (node : ℕ) (one : Injection net) : Type 0 where
     pub low : one.packet < length net.packets
     pub from : node ≡ (packet_at net one.packet).source

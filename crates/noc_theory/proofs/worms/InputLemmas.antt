@@ -1,4 +1,5 @@
--- The input channels of a shape: each is listed once, where it arrives, and its arrival and virtual channel tell it.
+-- The input channels of a shape: each is listed once, where it arrives, and its arrival and
+-- virtual channel tell it.
 use Rattle.std.proofs.Common.{◌≡◌, ◌≢◌, ℕ, zero, suc, ◌+◌, ◌*◌, ◌/◌, ◌%◌, ◌<◌, ◌≤◌, Bool, true, false, cond, List, [], ◌∷◌, Option, Some, None, refl, ap, sym, ◌∙◌, inl, inr, arith}
 use Rattle.std.specs.Prelude.{nat_eq, option_map, filter_map}
 use Rattle.std.specs.List.{flat_map}

@@ -1,5 +1,5 @@
--- What is known of every network that was made, at the start of each cycle (_at), after its landings and credits (_mid_at), and in
--- its frozen state (_frozen_at).
+-- What is known of every network that was made, at the start of each cycle (_at), after its
+-- landings and credits (_mid_at), and in its frozen state (_frozen_at).
 use Rattle.std.proofs.Common.{◌≡◌, ◌≢◌, ℕ, zero, suc, ◌+◌, ◌-◌, ◌≤◌, ◌<◌, Bool, true, false, List, length, Some, ap, sym, ◌∙◌, arith}
 use Rattle.std.specs.Prelude.{if◌then◌else◌}
 use Rattle.noc_topo.specs.Lists.{Has}
@@ -67,7 +67,8 @@ module _ (net : Setup) (good : IsGoodSetup net) where
   pub led-frozen_at : (n : ℕ) → IsLed net (frozen_at net n)
   led-frozen_at n = led-frozen net built wired n (state_at net n) (whole-at net good n).sound (led-at n)
 
-  -- so, in a state of which that is true: where a link channel of a packet ends, the relation leads the packet on
+  -- so, in a state of which that is true: where a link channel of a packet ends, the
+  -- relation leads the packet on
   pub leads-on : (S : State) → IsLed net S → (r a v p : ℕ) (to : ℕ × ℕ) → Has (Link r a v, p) S.own → neighbour net.relation.grid r a ≡ Some to
       → set_at net.relation (class_of net p) to.0 to.1 v (goal net p) ≢ 0
   leads-on = leads-further net good.relation

@@ -1,4 +1,5 @@
--- One credit on each link: two that are on their way back over one link, in one cycle, are of one virtual channel.
+-- One credit on each link: two that are on their way back over one link, in one cycle,
+-- are of one virtual channel.
 use Rattle.std.proofs.Common.{◌≡◌, ℕ, zero, suc, ◌+◌, ◌*◌, ◌/◌, ◌%◌, ◌<◌, true, [], length, get_or, Option, Some, None, refl, ap, sym, ◌∙◌}
 use Rattle.std.specs.Prelude.{nat_lt, ◌&&◌}
 use Rattle.std.proofs.lemmas.Bool.{false≢true, and_parts}

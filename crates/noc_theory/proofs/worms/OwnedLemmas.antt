@@ -1,4 +1,5 @@
--- The list of owners: what a filter and a join leave of a packet's channels and of a channel's owner.
+-- The list of owners: what a filter and a join leave of a packet's channels
+-- and of a channel's owner.
 use Rattle.std.proofs.Common.{◌≡◌, ℕ, Bool, true, false, cond, List, [], ◌∷◌, ◌++◌, map, Option, Some, None, refl, ap, sym, ◌∙◌, inl, inr, subst}
 use Rattle.std.specs.Prelude.{filter, find, option_map, nat_eq}
 use Rattle.std.proofs.lemmas.Bool.{eqb-true, eq-eqb}

@@ -1,4 +1,5 @@
--- Paths along a minimal relation: what stands behind what, filters that keep a path, and one more channel at its end.
+-- Paths along a minimal relation: what stands behind what, filters that keep a path, and one
+-- more channel at its end.
 use Rattle.std.proofs.Common.{◌≡◌, ℕ, ◌<◌, Bool, true, false, cond, List, [], ◌∷◌, ◌++◌, refl, ap, sym, ◌∙◌, inl, inr, subst, arith}
 use Rattle.std.specs.Prelude.{filter, IsTrue}
 use Rattle.std.proofs.lemmas.Bool.{false≢true}

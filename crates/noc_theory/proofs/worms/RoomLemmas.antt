@@ -1,4 +1,5 @@
--- Counts through the phases: wire, buffer and credits on their way are at most the places of a buffer.
+-- Counts through the phases: wire, buffer and credits on their way are at
+-- most the places of a buffer.
 use Rattle.std.proofs.Common.{◌≡◌, ℕ, ◌+◌, ◌<◌, ◌≤◌, Bool, true, false, cond, List, [], ◌∷◌, map, length, refl, ap, sym, ◌∙◌, inl, inr, subst, arith, add-zero}
 use Rattle.std.specs.Prelude.{filter, ◌⊎◌}
 use Rattle.std.proofs.lemmas.Bool.{false≢true}

@@ -15,7 +15,8 @@ use Rattle.noc_theory.proofs.worms.WormRecordLemmas.{IsWorm, valid-last, valid-f
 use Rattle.noc_theory.proofs.worms.MoveLemmas.{far-link}
 
 module _ (net : Setup) where
-  -- the state at the start of a cycle: a channel is routed exactly where its owner's head has come and its tail is not past it
+  -- the state at the start of a cycle: a channel is routed exactly where its owner's head has come
+  -- and its tail is not past it
   pub record IsRoutedWell (S : State) : Type 0 where
     pub mid : IsRoutedMid net S
     pub come : (c : Channel) (p : ℕ) → IsHeld net S c p → Come net p c (head_place net S p) → is_past net c (goal net p) (tail_place net S p) ≡ false → has_channel S.routed c ≡ true

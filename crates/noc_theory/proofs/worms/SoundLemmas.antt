@@ -1,4 +1,5 @@
--- The invariant of the state at the start of a cycle and of the frozen state, phase by phase, from the opening on.
+-- The invariant of the state at the start of a cycle and of the frozen state, phase by
+-- phase, from the opening on.
 use Rattle.std.proofs.Common.{◌≡◌, ◌≢◌, ℕ, ◌≤◌, refl, ap, sym, ◌∙◌, inl, inr, arith}
 use Rattle.std.specs.Prelude.{◌⊎◌}
 use Rattle.std.proofs.lemmas.Bool.{cases_eq}

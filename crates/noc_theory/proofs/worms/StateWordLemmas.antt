@@ -26,7 +26,8 @@ abbrev pub Precedes : (ℕ → ℕ) → ℕ → ℕ → Type 0
 Precedes key x y = (key x < key y) ⊎ ((key x ≡ key y) × (x ≤ y))
 
 module _ (net : Setup) where
-  -- the class of a packet, its destination, the index of its tail, and how far from its destination a channel ends
+  -- the class of a packet, its destination, the index of its tail, and how far from its
+  -- destination a channel ends
   abbrev pub class_of : ℕ → ℕ
   class_of p = (packet_at net p).class
 
@@ -39,14 +40,15 @@ module _ (net : Setup) where
   abbrev pub far_of : ℕ → Channel → ℕ
   far_of p c = end_distance net.relation c (goal p)
 
-  -- a link channel of p leads one nearer, and ends nearer to its destination than its source; an injection channel is at its source,
-  -- an ejection channel at its destination
+  -- a link channel of p leads one nearer, and ends nearer to its destination than its source; an
+  -- injection channel is at its source, an ejection channel at its destination
   abbrev pub IsNear : ℕ → Channel → Type 0
   IsNear p (Link r a v) = (far_of p (Link r a v) < hops net p) × (distance net.relation.grid r (goal p) ≡ far_of p (Link r a v) + 1)
   IsNear p (Inject n v) = n ≡ (packet_at net p).source
   IsNear p (Eject n v) = distance net.relation.grid n (goal p) ≡ 0
 
-  -- a flit of p is on a link channel or in the buffer of a link or injection channel only where p owns it
+  -- a flit of p is on a link channel or in the buffer of a link or injection
+  -- channel only where p owns it
   abbrev pub IsPlaced : List (Channel × ℕ) → ℕ → Place → Type 0
   IsPlaced own p Source = Unit {0}
   IsPlaced own p (On (Link r a v)) = Has (Link r a v, p) own
@@ -82,7 +84,8 @@ module _ (net : Setup) where
   abbrev pub HasNext : State → Channel → ℕ → Type 0
   HasNext S c p = (o : Channel) × Has (o, p) S.own × (leads_from net c o ≡ true)
 
-  -- between the phases: c is routed where the head has come and the tail is not past it, and not before
+  -- between the phases: c is routed where the head has come and the tail is
+  -- not past it, and not before
   pub record IsRoutedMid (S : State) : Type 0 where
     pub only : (c : Channel) → has_channel S.routed c ≡ true → (p : ℕ) × IsHeld S c p × Come p c (head_place net S p) × (is_past net c (goal p) (tail_place net S p) ≡ false)
     pub passed : (c : Channel) (p : ℕ) → IsHeld S c p → is_past net c (goal p) (head_place net S p) ≡ true → is_past net c (goal p) (tail_place net S p) ≡ false → has_channel S.routed c ≡ true

@@ -1,4 +1,5 @@
--- Worm order at the start of every cycle and in every frozen state, of every network that was built.
+-- Worm order at the start of every cycle and in every frozen state, of
+-- every network that was built.
 use Rattle.std.proofs.Common.{◌≡◌, ℕ, ◌+◌, ◌-◌, ◌<◌, ◌≤◌, true, List, [], ◌∷◌, length, Some, refl, ap, sym, ◌∙◌, inl, inr, subst, arith}
 use Rattle.std.specs.Prelude.{◌⊎◌, IsTrue, if◌then◌else◌}
 use Rattle.std.proofs.lemmas.Bool.{false≢true, lt-ltb}
@@ -154,7 +155,8 @@ module _ (net : Setup) (good : IsGoodSetup net) where
       worm_order-from net (good-built net good) (frozen_at net n) x.sound.keyed x.sound.worm
       (λ c p h l e. absurd (false≢true (sym (x.routed.behind c p h) ∙ e))) x.routed.mid.eject x.sound.room
 
-  -- what is on the wire, in the buffer and on its way back is never more than the places of a buffer, at the start of each cycle
+  -- what is on the wire, in the buffer and on its way back is never more than the places of a
+  -- buffer, at the start of each cycle
   pub held-at : (n : ℕ) (c : Channel) → places_taken net (state_at net n) c ≤ net.depth
   held-at n c = (whole-at n).sound.room c
 

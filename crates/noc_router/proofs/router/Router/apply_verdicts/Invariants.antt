@@ -6,7 +6,8 @@ use Rattle.noc_router.proofs.PassedLemmas.{AreEach, IsPassing, with_arbiters}
 use Rattle.noc_router.proofs.SettleLemmas.{IsSettling, IsWhole}
 use Rattle.noc_router.proofs.router.Router.apply_verdicts.Given as goal
 
--- the verdicts of the channels that are not left have taken effect, none is left below the counter, and those that are left are to take effect
+-- the verdicts of the channels that are not left have taken effect, none is left below the counter,
+-- and those that are left are to take effect
 abbrev pub invariant-loop : goal.invariant-loop
 invariant-loop l = record {
   whole : IsWhole l.fn.self;
