@@ -80,6 +80,7 @@ REFUSED = [
     ("a line that is cut off", NETWORK, STALLS[:-9], "line 21 has not the 13 fields of the header"),
     ("a line with a field too many", NETWORK, STALLS.replace(LAST, LAST + ",0"), "line 21 has not the 13 fields"),
     ("a line with no number", NETWORK, STALLS.replace(LAST, LAST[:-1] + "x"), "line 21 of the stall report is not"),
+    ("a line with less than nothing", NETWORK, STALLS.replace("4,local,0,10,0,", "4,local,0,11,-1,"), "line 18 of the"),
     ("a line twice", NETWORK, STALLS + STALLS.splitlines()[-1] + "\n", OTHER),
     ("a line of other cycles", NETWORK, STALLS.replace("0,local,0,10,", "0,local,0,11,"), UNEQUAL),
     ("no cycles", NETWORK, LINES.sub(r"\1,\2,0,0,0,0,0,0,0,0,0,0,0", STALLS), UNEQUAL),
@@ -293,7 +294,7 @@ class OtherPictures(Drawn):
         picture = Picture(self.said("stalls", "c", "--traffic", "t", "--links", *words))
         titles = [group.find(f"{SVG}title") for group in picture.groups.values()]
         used = [title.text for title in titles if title is not None and not title.text.endswith(": 0.0 %")]
-        return used, [words for words in picture.words if words.startswith("mesh")]
+        return used, [words for words in picture.words if ", dor, " in words]
 
     def test_a_run_is_made_and_a_window_of_it(self):
         """Two flits go from node 0 to node 1 and are out in cycle 6; three go from node 2 to node 1, due in cycle 10,
@@ -307,6 +308,25 @@ class OtherPictures(Drawn):
             "router 1, local, to its node: 37.5 %",
             "router 2, -0, to router 1: 37.5 %", "node 2 to its router: 37.5 %",
         ], ["mesh 3, dor, 1 channel of 2 places, cycles 12 to 19"]))
+
+    def test_a_run_that_drains_is_drawn_to_its_end(self):
+        """The second packet is due in cycle 30, and so leaves router 2 from 32 on and is out in 37. The limit is
+        30 + 14 + 19. A ring in which each head moves in cycle 2 has no event from cycle 4 on."""
+        self.put(t=HEADER + "0,1,0,2,0\n2,1,0,3,30\n")
+        self.assertEqual(self.uses("--drain"), ([
+            "router 0, +0, to router 1: 3.2 %", "node 0 to its router: 3.2 %", "router 1, local, to its node: 7.9 %",
+            "router 2, -0, to router 1: 4.8 %", "node 2 to its router: 4.8 %",
+        ], ["mesh 3, dor, 1 channel of 2 places, 63 cycles"]))
+        self.assertEqual(self.uses("--drain", "--window", "32:40"), ([
+            "router 1, local, to its node: 37.5 %",
+            "router 2, -0, to router 1: 37.5 %", "node 2 to its router: 37.5 %",
+        ], ["mesh 3, dor, 1 channel of 2 places, cycles 32 to 39"]))
+        report = self.noc("run", "c", "t", "--drain", "--report", "stalls").stdout
+        self.assertEqual(self.said("stalls", "c", "--traffic", "t", "--drain"), self.said("stalls", "c", given=report))
+        self.put(c=Network("torus", (4,), 1, 1, 1, "dor", 2), t=(self.folder / "examples/ring.csv").read_text())
+        self.assertEqual(self.uses("--drain"), ([f"node {node} to its router: 20.0 %" for node in range(4)], [
+            "torus 4, dor, 1 channel of 1 place, 5 cycles",
+        ]))
 
     def test_a_run_that_is_made_is_drawn_as_its_report(self):
         report = self.noc("run", "c", "t", "--report", "stalls").stdout
@@ -379,7 +399,9 @@ class OtherPictures(Drawn):
         self.assertEachRefused([
             ("stalls c --top 0", "--top is a number above 0"),
             ("stalls c --links --top 101", "--top is a number above 0"),
-            ("stalls c --window 0:5", "--table and --window are for --traffic"),
-            ("stalls c --table t", "--table and --window are for --traffic"),
+            *((f"stalls c {words}", "--table, --drain and --window are for --traffic") for words in (
+                "--window 0:5", "--table t", "--drain",
+            )),
             ("stalls c --traffic t --window 5:30", "B at most the 20 cycles of the run, not '5:30'"),
+            ("stalls c --traffic t --drain --window 5:30", "B at most the 20 cycles of the run, not '5:30'"),
         ])

@@ -1,7 +1,8 @@
 """Draws a stall report as SVG: where packets stand still, or how much each link is used.
 
 CONFIG is the configuration of the run, and its stall report is standard input. With --traffic TRAFFIC the run is made
-here, and with --window A:B only its cycles A to B - 1 count: two runs are made, that end at A and at B.
+here, and with --window A:B only its cycles A to B - 1 count: two runs are made, that end at A and at B. With --drain it
+goes on until all packets are out, as by 'noc run --drain', or where it is stuck up to the first cycle without an event.
 
 Each router is a cell at its coordinates: a row of them in one dimension, and in three a plane for each third
 coordinate, side by side. The colour is the share of stalled cycles: of the cycles in which an input channel of the
@@ -152,6 +153,8 @@ def read_counts(lines: Iterable[str], network: Network) -> dict[Place, Counts]:
         with refusing(ValueError, f"line {number} of the stall report is not whole"):
             place = int(row["router"]), f"{row['port']}.{int(row['vc'])}"
             found[place] = {name: int(row[name]) for name in [*OTHER_VERDICTS, *REASONS]}
+            if min(found[place].values()) < 0:
+                raise ValueError
     if len(found) != len(rows) or sorted(found) != sorted(network.places):
         raise Refused("the report has other channels than the configuration")
     return found
@@ -440,6 +443,7 @@ def add_arguments(parser: ArgumentParser) -> None:
     add_config(parser)
     add(parser, "--traffic TRAFFIC", "make the run of these packets, in place of a report")
     add_table(parser)
+    add(parser, "--drain", "with --traffic: go on until all packets are out")
     add(parser, "--window A:B", "with --traffic: the cycles A to B - 1; by default all")
     add(parser, "--links", "draw the links as arrows coloured by their use")
     add_top(parser, "--top PERCENT", "where the scale ends; by default at the greatest share")
@@ -448,11 +452,12 @@ def add_arguments(parser: ArgumentParser) -> None:
 def report_for(options: Namespace, network: Network) -> Report:
     """The report that is drawn."""
     if options.traffic is None:
-        if options.table is not None or options.window is not None:
-            raise Refused("--table and --window are for --traffic")
+        if options.drain or options.table is not None or options.window is not None:
+            raise Refused("--table, --drain and --window are for --traffic")
         return report_of(read_counts(standard_input(), network))
-    window = window_within(options.window or f"0:{network.cycles}", network.cycles)
-    return report_within(Run(options.config, options.traffic, options.table), window)
+    run = Run(options.config, options.traffic, options.table, options.drain)
+    window = window_within(options.window or f"0:{run.network.cycles}", run.network.cycles)
+    return report_within(run, window)
 
 
 def main(options: Namespace) -> None:
