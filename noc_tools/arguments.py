@@ -7,7 +7,7 @@ from typing import Any
 from .errors import Refused
 from .program import processors
 from .runs import Run
-from .statistics import TOLERANCE
+from .statistics import TOLERANCE, TOO_MUCH
 from .traffic import PATTERN_NAMES, SHARE, Demand, lengths_in
 
 
@@ -118,8 +118,8 @@ def add_top(parser: ArgumentParser, words: str = "--top NUMBER", told: str = "wh
 
 def check_top(top: float | None) -> None:
     """Refuses an end of an axis that is none."""
-    if top is not None and not 0 < top < float("inf"):
-        raise Refused("--top is a number above 0")
+    if top is not None and not 0 < top < TOO_MUCH:
+        raise Refused(f"--top is a number above 0 and below {TOO_MUCH:g}")
 
 
 def add_demand(parser: ArgumentParser) -> None:

@@ -7,7 +7,7 @@ from .errors import Refused, refusing
 from .files import named_rows, read_lines
 from .measure import COLUMNS
 from .picture import BLACK, GREY, WHITE, bold, line, svg, text, upwards
-from .statistics import SOURCES, columns_of
+from .statistics import SOURCES, TOO_MUCH, columns_of
 
 HEADER = ["load", *COLUMNS]
 FLITS, BYTES = "flits", "bytes"
@@ -116,7 +116,7 @@ def label_of(name: str, unit: str) -> str:
 def number_of(words: str) -> float:
     """A figure of a curve."""
     number = float(words)
-    if not 0 <= number < math.inf:
+    if not 0 <= number < TOO_MUCH:
         raise ValueError(f"'{words}' is no number of a curve")
     return number
 

@@ -34,6 +34,8 @@ class Replies(NamedTuple):
             raise Refused(f"replies are of another class than requests, and the classes are 0 to {network.classes - 1}")
         if not 1 <= self.length <= LONGEST:
             raise Refused(f"the length of a reply is 1 to {LONGEST}")
+        if self.delay < 0:
+            raise Refused("a reply is due 0 cycles after its request was out, or more")
 
     def weight(self, row: Row) -> int:
         """For how many packets one counts with its reply."""

@@ -18,6 +18,8 @@ from .files import read_text
 # What noc takes of a network (docs/FORMATS.md).
 MOST_DIMENSIONS, LEAST_RADIX, MOST_RADIX, MOST_ROUTERS = 3, 2, 16, 256
 MOST_CHANNELS, MOST_PLACES, MOST_CLASSES, MOST_CYCLES = 8, 16, 4, 2_000_000
+# The most cycles of a run that drains.
+MOST_DRAINED = 120_000_000
 KINDS = ("mesh", "torus")
 LOCAL = "local"
 
@@ -43,6 +45,17 @@ class Network:
         if not all(0 < number for number in numbers):
             raise Refused(f"{path} is no configuration: a value is no number above 0")
         return network
+
+    @property
+    def is_bounded(self) -> bool:
+        """Whether noc takes networks that are so large."""
+        pairs = [
+            (len(self.radix), MOST_DIMENSIONS), (self.nodes, MOST_ROUTERS), (self.channels, MOST_CHANNELS),
+            (self.buffer, MOST_PLACES), (self.classes, MOST_CLASSES), (self.channels % self.classes, 0),
+            (self.cycles, MOST_CYCLES), *((k, MOST_RADIX) for k in self.radix),
+            *((LEAST_RADIX, k) for k in self.radix),
+        ]
+        return self.kind in KINDS and all(number <= most for number, most in pairs)
 
     def text(self) -> str:
         """The text of the configuration."""
@@ -178,12 +191,6 @@ def network_of(settings: dict[str, Any]) -> Network:
 def read_bounded_network(path: str | Path) -> Network:
     """Reads a configuration where noc is not asked whether it takes it."""
     network = Network.read(path)
-    pairs = [
-        (len(network.radix), MOST_DIMENSIONS), (network.nodes, MOST_ROUTERS), (network.channels, MOST_CHANNELS),
-        (network.buffer, MOST_PLACES), (network.classes, MOST_CLASSES), (network.channels % network.classes, 0),
-        (network.cycles, MOST_CYCLES), *((k, MOST_RADIX) for k in network.radix),
-        *((LEAST_RADIX, k) for k in network.radix),
-    ]
-    if network.kind not in KINDS or not all(number <= most for number, most in pairs):
+    if not network.is_bounded:
         raise Refused(f"{path} is no network that noc takes: its limits are in docs/FORMATS.md")
     return network

@@ -234,9 +234,11 @@ def table_file(relation: Relation) -> Iterator[str]:
 
 def checked_table(network: Network, rule: str, folder: Path) -> str:
     """The path of the table of a rule for a network, which is made in a folder, and of which noc accepts the ranks."""
+    shape = "x".join(map(str, network.radix))
+    if not network.is_bounded:
+        raise Refused(f"noc takes no {network.kind} of {shape} for {rule}: its limits are in docs/FORMATS.md")
     channels = Channels(network)
     relation = of_table_rule(channels, table_rule(network, rule))
-    shape = "x".join(map(str, network.radix))
     name = f"{rule}_{network.kind}_{shape}_channels_{network.channels}_classes_{network.classes}"
     folder.mkdir(parents=True, exist_ok=True)
     table, config, ranks = (folder / f"{name}{end}" for end in (".csv", ".toml", "_ranks.csv"))

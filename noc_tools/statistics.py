@@ -70,6 +70,8 @@ PERCENTS = {"median": 50, "p95": 95, "p99": 99, "max": 100}
 MEASURES = ("latency", "queue", "network", "hops")
 # Cycles from or to one that never came are more than this.
 UNKNOWN = NEVER // 2
+# No figure of a run is so great.
+TOO_MUCH = 1e15
 Number = int | float | None
 
 

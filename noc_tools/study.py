@@ -6,10 +6,10 @@ from pathlib import Path
 from .drawing import draw_study
 from .errors import Refused
 from .measure import check_network, told_of_short_runs
-from .plan import Case, read_plan
+from .plan import Case, number_word, read_plan
 from .program import processors
 from .results import HEADER, Results, Row, make_all, value_of
-from .table import Combination, Value, combinations_of, rows_of, table_text
+from .table import LOAD, Combination, Value, combinations_of, rows_of, table_text
 
 
 def try_cases(cases: Iterable[Case]) -> None:
@@ -26,13 +26,14 @@ def try_cases(cases: Iterable[Case]) -> None:
         case.experiment.check()
 
 
-def halfway(combination: Combination, within: float) -> float | None:
+def halfway(combination: Combination, within: float) -> str | None:
     """The load that is tried next between the last one with which a network keeps up and the first with which it does
-    not; None where they are as near as wanted, or where it keeps up with all."""
+    not; None where they are as near as wanted, or as two loads can be, or where it keeps up with all."""
     kept = 0.0
     for line in combination.lines:
         if not line.keeps_up:
-            return (kept + line.load) / 2 if within < line.load - kept else None
+            middle = number_word(LOAD, (kept + line.load) / 2)
+            return middle if within < line.load - kept and kept < float(middle) < line.load else None
         kept = line.load
     return None
 
@@ -79,7 +80,7 @@ class Study:
             if load is None:
                 break
             seeds = {case.words["seed"]: case for case in group}
-            found += [replace(case, words=case.words | {"load": f"{load:.12g}"}) for case in seeds.values()]
+            found += [replace(case, words=case.words | {LOAD: load}) for case in seeds.values()]
         return found
 
     def rows_of(self, cases: Iterable[Case]) -> list[Row]:

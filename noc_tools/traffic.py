@@ -8,7 +8,7 @@ from random import Random
 
 from .errors import Refused, refusing
 from .files import csv_rows, named_rows, read_lines
-from .network import Network
+from .network import MOST_DRAINED, Network
 
 # A pattern gives the destination of a packet from the generator and its source.
 Pattern = Callable[[Random, int], int]
@@ -187,6 +187,9 @@ def read_latencies(lines: Iterable[str], network: Network, name: str) -> list[Pa
             raise Refused(f"{name} has no packet in line {number + 2}") from None
         if not (0 <= found.source < network.nodes and 0 <= found.destination < network.nodes):
             raise Refused(f"{name} has a node in line {number + 2} that the network has not")
+        is_taken = 1 <= found.length <= LONGEST and 0 <= found.due <= LATEST_DUE
+        if not (is_taken and (found.out is None or found.due < found.out < MOST_DRAINED)):
+            raise Refused(f"{name} has a packet in line {number + 2} that noc does not report")
         packets.append(found)
     return packets
 
@@ -233,7 +236,8 @@ class Played:
     def first_rows(self, network: Network) -> list[Row]:
         """Its packets."""
         with refusing(ValueError, f"{self.path} is no traffic: a row is not five numbers"):
-            rows = map(numbers_in, read_traffic(self.path))
+            rows = list(map(numbers_in, read_traffic(self.path)))
+        with refusing(OverflowError, f"{self.path}: at a load of {self.speed:g} its packets never come"):
             return [(*row[:4], int(row[4] / self.speed)) for row in rows]
 
 

@@ -19,6 +19,8 @@ SVG = "{http://www.w3.org/2000/svg}"
 HEADER = TRAFFIC_HEADER + "\n"
 LINE = Network("mesh", (3,), 1, 2, 1, "dor", 20)
 SQUARE = Network("mesh", (8, 8), 1, 2, 1, "dor", 400)
+# A network of which nothing can be made that has a place for each node.
+HUGE = Network("mesh", (999, 999, 999), 1, 2, 1, "dor", 400)
 # Node 0 sends one flit through router 1, whose node sends one too, both to node 2; and node 0 sends three more flits.
 IN_THE_WAY = HEADER + "0,2,0,1,0\n1,2,0,1,0\n0,2,0,3,0\n"
 

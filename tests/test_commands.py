@@ -5,7 +5,7 @@ from dataclasses import replace
 from subprocess import DEVNULL, PIPE
 from unittest.mock import patch
 
-from support import HEADER, IN_THE_WAY, LINE, SQUARE, TOP, FolderTest
+from support import HEADER, HUGE, IN_THE_WAY, LINE, SQUARE, TOP, FolderTest
 from test_load import CURVE
 from test_replay import data_of
 from test_shrink import RING
@@ -41,6 +41,11 @@ REFUSED = [
 ]
 # What noc refuses it tells itself.
 BY_NOC = ["waves c lost --drain", "waves c lost", "why c lost 0", "timeline c lost 0", "limit c lost"]
+OF_HUGE = [
+    "waves huge t", "why huge t 0", "why huge t 0 300", "timeline huge t 0", "replay huge t", "limit huge t",
+    "ranks huge", "load huge 1 0.1 --pattern tornado", "latency huge --traffic t", "certify huge --out x",
+    "shrink huge --out x",
+]
 # A call of each command that writes something; the files are those of setUp.
 CALLS = {
     "ranks": "c", "limit": "c t", "table": "plane odd-even", "traffic": "c uniform 0.5 1", "stalls": "c",
@@ -127,6 +132,12 @@ class OfARun(FolderTest):
         self.assertEachRefused(REFUSED)
         for words in BY_NOC:
             self.assertRefusedByNoc(words, 3, "fault network 2 BadNode row 0")
+
+    def test_a_network_that_noc_does_not_take(self):
+        """Its size is that which noc refuses; nothing is made of it before."""
+        self.put(huge=HUGE)
+        for words in OF_HUGE:
+            self.assertRefusedByNoc(words, 3, "fault shape 2 BadRadix")
 
 
 class Ends(FolderTest):

@@ -262,7 +262,8 @@ class Pictures(FolderTest):
             ("a=curve", CURVE + last.replace("60.0", "much"), "curve: could not convert string to float: 'much'"),
             ("a=curve", CURVE + last.replace("60.0", "nan"), "curve: 'nan' is no number of a curve"),
             ("a=curve", CURVE.splitlines()[0] + "\n", "curve has no 'mean' that is a number"),
-            ("a=curve --top 0", CURVE, "--top is a number above 0"),
+            ("a=curve", CURVE + last.replace("60.0", "1e300"), "curve: '1e300' is no number of a curve"),
+            *((f"a=curve --top {top}", CURVE, "--top is a number above 0") for top in ("0", "1e300", "nan")),
             ("a=missing", CURVE, "missing: No such file or directory"),
             (many, CURVE, "a picture has at most 32 curves"),
         ])

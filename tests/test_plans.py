@@ -91,6 +91,7 @@ class ByReplies(FolderTest):
             ("replies c t 4 5 --by 0", "replies are of another class than requests, and the classes are 0 to 1"),
             ("replies c t 4 5 --by 2", "replies are of another class than requests"),
             ("replies c t 65 5", "the length of a reply is 1 to 64"),
+            ("replies c t 4 -1", "a reply is due 0 cycles after its request was out, or more"),
             ("replies c odd 4 5", "odd is no traffic: a row is not five numbers"),
         ])
 
@@ -114,6 +115,17 @@ class OfTraces(FolderTest):
         ran = self.tool("packets", "c", "t", 16)
         told = "noc takes 20000 packets, so of 20004 the 19998 due before cycle 6666 are kept"
         self.assertEqual((ran.stderr, ran.stdout.count("\n")), (f"noc-tools packets: {told}\n", 19999))
+
+    def test_a_message_of_any_size_is_cut(self):
+        """A million flits and one, which are 15,626 packets, fit beside another message, and a greater one does not."""
+        self.put(t=TRACE + f"a,1,0,0,1,\na,{16 * 10 ** 6 + 1},4,2,1,\n")
+        whole = self.tool("packets", "c", "t", 16)
+        self.assertEqual((whole.stderr, whole.stdout.count("\n")), ("", 15628))
+        self.assertTrue(whole.stdout.endswith("2,1,0,64,4\n2,1,0,1,4\n"))
+        self.put(t=TRACE + f"a,1,0,0,1,\na,{16 * 10 ** 18},4,2,1,\n")
+        cut = self.tool("packets", "c", "t", 16)
+        told = "noc takes 20000 packets, so of 15625000000000001 the 1 due before cycle 4 are kept"
+        self.assertEqual((cut.stderr, cut.stdout), (f"noc-tools packets: {told}\n", HEADER + "0,1,0,1,0\n"))
 
     def test_what_is_refused(self):
         self.assertEachRefused((f"packets c t {words}", {"t": text}, sentence) for text, words, sentence in [
@@ -188,6 +200,19 @@ class Plans(SweepTest):
             self.assertLessEqual(min(failed) - max([0, *kept]), 0.1)
             self.assertEqual(set(loads) - {0.5, 0.25, 0.125, 0.375, 0.0625, 0.1875, 0.3125, 0.4375}, set())
             self.assertIsNone(halfway(combination, 0.1))
+
+    def test_a_search_ends(self):
+        """Where two loads are as near as twelve digits allow, whatever nearness is asked for."""
+        words = {"kind": "mesh", "packets": "0", "out": "0", "offered": "1"}
+        loads = ["0", "0.7"]
+        for _ in range(60):
+            rows = [words | {"load": load, "accepted": str(int(float(load) < 0.3))} for load in loads]
+            load = halfway(*combinations_of(rows), 1e-300)
+            if load is None:
+                break
+            loads.append(load)
+        self.assertIsNone(load)
+        self.assertEqual(sorted(loads, key=float)[-1:] + loads[2:4], ["0.7", "0.35", "0.175"])
 
     def test_a_searched_study_is_collected(self):
         """In rounds, as --list prints the commands of the next loads; the lines of all rounds may be in one file."""
@@ -327,10 +352,11 @@ class Drawings(SweepTest):
 
     def test_what_is_refused(self):
         self.put(r="kind,load,mean,accepted\nmesh,0.1,-,0.1\ntorus,0.1,much,0.2\n", e="kind,load,mean,accepted\n",
-                 n="kind,load,mean,accepted\nmesh,0.1,-,0.1\n")
+                 n="kind,load,mean,accepted\nmesh,0.1,-,0.1\n", o="kind,load,mean,accepted\nmesh,0.1,nan,0.1\n")
         self.assertEachRefused((f"draw {words}", sentence) for words, sentence in [
             ("r --y p99", "r has no column 'p99': its columns are kind, load, mean, accepted"),
             ("r", "r: 'much' of the column 'mean' is no number"),
+            ("o", "o: 'nan' of the column 'mean' is no number"),
             ("r --y load --where kind", "'kind' is no COLUMN=VALUE of the file"),
             ("r --y load --where kind=ring", "no line has kind=ring"),
             ("r --y load --colour mean", "'mean' is no setting of r"),

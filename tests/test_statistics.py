@@ -3,7 +3,7 @@ import json
 import unittest
 from dataclasses import replace
 
-from support import HEADER, IN_THE_WAY, LINE, FolderTest, made_networks
+from support import HEADER, HUGE, IN_THE_WAY, LINE, FolderTest, made_networks
 
 from noc_tools.runs import Run
 from noc_tools.statistics import Window
@@ -207,6 +207,10 @@ REFUSED = [
     ("c r", REPORT + "6,0,1,0,1,0,5,5,5\n", "r: line 8 has not the 8 fields of the header"),
     ("c r", REPORT + "6,0,one,0,1,0,5,5\n", "r has no packet in line 8"),
     ("c r", REPORT + "6,0,9,0,1,0,5,5\n", "r has a node in line 8 that the network has not"),
+    *(("c r", REPORT + f"6,0,1,0,{fields}\n", "r has a packet in line 8 that noc does not report") for fields in (
+        "0,0,5,5", "65,0,5,5", "1,-1,5,6", "1,1000001,1000006,5", "1,5,5,0", "1,0,120000000,5", f"{'9' * 400},0,5,5",
+    )),
+    ("huge r", REPORT, "huge is no network that noc takes"),
     ("c r --window 5:5", REPORT, "a window is A:B with A below B"),
     ("c r --window 5:21", REPORT, "B at most the 20 cycles of the run, not '5:21'"),
     ("c missing", REPORT, "missing: No such file or directory"),
@@ -219,6 +223,7 @@ REFUSED = [
 
 class Refusals(FolderTest):
     def test_what_is_refused(self):
+        self.put(huge=HUGE)
         self.assertEachRefused((f"latency {words}", {"r": report}, sentence) for words, report, sentence in REFUSED)
 
     def test_what_noc_refuses_has_its_line_and_status(self):

@@ -2,7 +2,7 @@
 import os
 import shutil
 
-from support import TOP
+from support import IN_THE_WAY, TOP
 from test_sweep import STUDY, SweepTest, lines_of
 
 from noc_tools import Study
@@ -102,6 +102,15 @@ class Tables(SweepTest):
         self.assertEqual(left, [0, 0, 2])
 
 
+PLAYED_STUDY = """\
+kind = "mesh"
+radix = [3]
+rule = "dor"
+channels = 1
+buffer = 2
+traffic = "t.csv"
+load = 1
+"""
 ON_STUDY = [
     ("", STUDY + "chanels = 2\n", "s.toml has an unknown setting 'chanels': the settings are kind, radix"),
     ("", STUDY.replace('kind = "mesh"\n', ""), "s.toml: 'kind' is not set"),
@@ -129,6 +138,8 @@ ON_STUDY = [
     ("", STUDY + 'traffic = "missing.csv"\n', "missing.csv: No such file or directory"),
     ("", STUDY.replace("load = [0.02, ", "load = [") + 'traffic = "foreign"\n', "foreign is no traffic"),
     ("", STUDY.replace('"dor"', '"odd-even"').replace("[8, 8]", "[4]"), "odd-even is for a mesh of two dimensions"),
+    ("", STUDY.replace('"dor"', '"odd-even"').replace("8, 8", "999, 999"), "noc takes no mesh of 999x999 for odd-even"),
+    ("", PLAYED_STUDY.replace("load = 1", "load = 1e-320"), "t.csv: at a load of 9.99989e-321 its packets never come"),
     ("--verify 1", STUDY, "0 runs have results: so many can be made again, and at least one"),
     ("", STUDY + 'pattern = "zigzag"\n', "there is no pattern 'zigzag': the patterns are uniform"),
     ("", STUDY + "window = [100, 151]\n", "B at most the 150 cycles of the run, not [100, 151]"),
@@ -166,7 +177,7 @@ class Refusals(SweepTest):
     def test_studies_that_make_no_sense(self):
         one = self.sweep(*ONE.split(), "radix=2x2", "channels=1", "cycles=30").stdout
         self.assertEqual(len(one.split(",")), len(HEADER))
-        self.put(lines="1,2,3\n", foreign=one, long="0" * 140_000 + "\n")
+        self.put(lines="1,2,3\n", foreign=one, long="0" * 140_000 + "\n", **{"t.csv": IN_THE_WAY + "0,1,0,1,9\n"})
         for words, text, sentence in ON_STUDY:
             shutil.rmtree(self.folder / "s", ignore_errors=True)
             self.assertEachRefused([(f"sweep s.toml {words}", {"s.toml": text}, sentence)])

@@ -13,6 +13,7 @@ one setting those that have any of them.
 from argparse import ArgumentParser, Namespace
 
 from ..arguments import add, add_top, check_top
+from ..curves import number_of
 from ..drawing import pictures_of
 from ..errors import Refused, refusing
 from ..files import named_rows, read_lines
@@ -53,7 +54,7 @@ def check(rows: list[dict[str, str]], options: Namespace) -> None:
             raise Refused(f"{options.file} has no column '{name}': its columns are {', '.join(rows[0])}")
         for row in rows:
             with refusing(ValueError, f"{options.file}: '{row[name]}' of the column '{name}' is no number"):
-                row[name] == NONE or float(row[name])
+                row[name] == NONE or number_of(row[name])
     for key in [*(options.frames or []), options.colour, options.dash, options.along]:
         if key is not None and (key not in SETTINGS or key not in rows[0]):
             raise Refused(f"'{key}' is no setting of {options.file}")

@@ -45,7 +45,7 @@ from typing import NamedTuple
 from ..arguments import add, add_config, add_measured, add_table, warn
 from ..errors import Refused
 from ..files import read_lines, standard_input
-from ..network import Network
+from ..network import Network, read_bounded_network
 from ..runs import Run
 from ..statistics import (
     GROUPS, NAMES, Columns, Figures, Sample, Window, end_of, grouped_figures, warnings, window_within,
@@ -76,7 +76,7 @@ def of_report(options: Namespace) -> Measured:
     """A run that was made."""
     if options.table or options.drain:
         raise Refused("--table and --drain are for --traffic")
-    network = Network.read(options.config)
+    network = read_bounded_network(options.config)
     if options.report is None:
         packets = read_latencies(standard_input(), network, "standard input")
     else:

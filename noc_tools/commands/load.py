@@ -64,8 +64,8 @@ def main(options: Namespace) -> None:
     check_jobs(options.jobs)
     network = Network.read(options.config)
     loads = [load for words in options.loads for load in (load_range(words) if ":" in words else [words])]
-    experiments = experiments_of(options, loads, network)
     check_network(network, options.table)
+    experiments = experiments_of(options, loads, network)
     print(",".join(["load", *COLUMNS]), flush=True)
     ran = []
     for load, found in zip(loads, measured_side_by_side(experiments, options.jobs)):

@@ -10,7 +10,7 @@ Where there are more than the 20,000 packets that noc takes, the last cycles are
 says so.
 """
 from argparse import ArgumentParser, ArgumentTypeError, Namespace
-from collections.abc import Iterator, Mapping
+from collections.abc import Iterable, Iterator, Mapping
 
 from ..arguments import add, add_config, warn
 from ..errors import Refused, refusing
@@ -38,17 +38,20 @@ def add_arguments(parser: ArgumentParser) -> None:
     add(parser, "--kind KIND=CLASS", "the classes of kinds; by default 0", nargs="+", type=kind_of, default=[])
 
 
-def lengths_of(size: int, flit_bytes: int) -> Iterator[int]:
-    """The lengths of the packets that take so many bytes."""
-    flits = max(1, -(-size // flit_bytes))
-    while flits > LONGEST:
-        yield LONGEST
-        flits -= LONGEST
-    yield flits
+def count_of(message: Row) -> int:
+    """For how many packets a message counts."""
+    return -(-message[3] // LONGEST)
 
 
-def rows_of(options: Namespace, network: Network, classes: Mapping[str, int]) -> Iterator[Row]:
-    """The packets of the trace."""
+def packets_of(messages: Iterable[Row]) -> Iterator[Row]:
+    """The packets of messages: of one that is longer than a packet several."""
+    for source, destination, message_class, flits, due in messages:
+        for first in range(0, flits, LONGEST):
+            yield source, destination, message_class, min(LONGEST, flits - first), due
+
+
+def messages_of(options: Namespace, network: Network, classes: Mapping[str, int]) -> Iterator[Row]:
+    """The messages of the trace, as packets of any length."""
     lines = named_rows(read_lines(options.trace, "trace"), TRACE_COLUMNS, "trace", options.trace)
     for number, line in enumerate(lines, 2):
         with refusing((ValueError, OverflowError), f"{options.trace}: line {number} has no time, nodes and bytes"):
@@ -59,9 +62,8 @@ def rows_of(options: Namespace, network: Network, classes: Mapping[str, int]) ->
         if not 0 <= due <= LATEST_DUE:
             raise Refused(f"{options.trace}: line {number} is due in cycle {due}: noc takes 0 to {LATEST_DUE}")
         if source != destination:
-            message_class = classes.get(line.get("kind", ""), 0)
-            for length in lengths_of(size, options.flit_bytes):
-                yield source, destination, message_class, length, due
+            flits = max(1, -(-size // options.flit_bytes))
+            yield source, destination, classes.get(line.get("kind", ""), 0), flits, due
 
 
 def main(options: Namespace) -> None:
@@ -70,9 +72,10 @@ def main(options: Namespace) -> None:
         raise Refused("BYTES is a whole number above 0, and FACTOR a number above 0")
     if not all(number < network.classes for number in classes.values()):
         raise Refused(f"a class does not exist: the classes are 0 to {network.classes - 1}")
-    rows = list(rows_of(options, network, classes))
-    kept, end = fitting(rows, LATEST_DUE)
-    print(traffic_text(kept), end="")
-    if len(kept) < len(rows):
-        told = f"noc takes {MOST_PACKETS} packets, so of {len(rows)} the {len(kept)} due before cycle {end} are kept"
+    messages = list(messages_of(options, network, classes))
+    kept, end = fitting(messages, LATEST_DUE, count_of)
+    print(traffic_text(packets_of(kept)), end="")
+    if len(kept) < len(messages):
+        counts = (sum(map(count_of, some)) for some in (messages, kept))
+        told = "noc takes {} packets, so of {} the {} due before cycle {} are kept".format(MOST_PACKETS, *counts, end)
         warn(options, [told])

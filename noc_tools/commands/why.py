@@ -109,15 +109,15 @@ def life_lines(run: Run, number: int) -> Iterator[str]:
     yield from (wait_line(*held) for held in held_waits(run, life))
 
 
-def may_be_out(run: Run, packet: Packet, cycle: int) -> bool:
-    """Whether a packet that nothing keeps waiting is out before a cycle."""
-    return packet.due + 3 * run.network.distance(packet.source, packet.destination) + packet.length + 1 < cycle
+def may_be_out(packet: Packet, cycle: int) -> bool:
+    """Whether a packet is out before a cycle that nothing keeps waiting on its way to a neighbour."""
+    return packet.due + packet.length + 4 < cycle
 
 
 def cycle_lines(run: Run, packet: Packet, cycle: int) -> list[str]:
     """The steps to a root. That a packet is out may be needed, so a run that takes long begins at once."""
     with ArrivalTimes(run, cycle) as arrivals:
-        if run.is_long(cycle) and may_be_out(run, packet, cycle):
+        if run.is_long(cycle) and may_be_out(packet, cycle):
             arrivals.begin()
         return waiting_lines(Snapshot(run, cycle, arrivals), packet)
 
