@@ -48,6 +48,12 @@ def open_output() -> None:
     sys.stdout = TextIOWrapper(BufferedWriter(raw), "utf-8", "surrogateescape", line_buffering=is_line)
 
 
+def open_errors() -> None:
+    """Where standard error is closed, what is said there goes nowhere; Python would say it on standard output."""
+    if sys.stderr is None:
+        sys.stderr = open(os.devnull, "w")
+
+
 def drop_output() -> None:
     """Lets what is not yet written go nowhere, so that the end does not fail again."""
     os.dup2(os.open(os.devnull, os.O_WRONLY), sys.stdout.fileno())
@@ -121,6 +127,7 @@ def run_command(name: str, words: Sequence[str]) -> int:
 
 def main(words: Sequence[str] | None = None) -> int:
     """Runs the command of the words, by default those of the process, and returns its status."""
+    open_errors()
     given = list(sys.argv[1:] if words is None else words)
     if given[:1] in (["-h"], ["--help"]):
         return guarded(NAME, list_commands)

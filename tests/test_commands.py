@@ -176,6 +176,14 @@ class Ends(FolderTest):
             ended = self.ends(command, preexec_fn=lambda: os.close(1))
             self.assertEqual(ended, (1, f"noc-tools {command}: standard output is closed\n"))
 
+    def test_closed_errors_are_not_said(self):
+        """Nor are they on standard output: what is there is as ever."""
+        for words in ["latency", "c", "r", "--tolerance", 0], ["why", "nothing", "t", 0], ["wy"]:
+            told = self.tool(*words)
+            ran = self.called([sys.executable, "noc-tools", *words], preexec_fn=lambda: os.close(2))
+            self.assertTrue(told.stderr)
+            self.assertEqual((ran.returncode, ran.stdout, ran.stderr), (told.returncode, told.stdout, ""))
+
     def test_a_reader_that_went_ends_it(self):
         for command in CALLS:
             reader, writer = os.pipe()

@@ -96,7 +96,7 @@ class Progress:
 
     def __init__(self) -> None:
         self.done, self.start = 0, time.monotonic()
-        self.is_shown = sys.stderr is not None and sys.stderr.isatty()
+        self.is_shown = sys.stderr.isatty()
 
     def step(self, left: int) -> None:
         """One run more is there, and so many are left."""
