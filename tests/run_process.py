@@ -19,6 +19,7 @@ import sys
 import tempfile
 import termios
 import time
+from itertools import product
 from pathlib import Path
 
 from cut_texts import cut_texts
@@ -31,6 +32,8 @@ NOBODY, ALONE = 65534, 65533
 PIPE_SIZE = 4096
 SECONDS = 600
 AMPLE = 1000
+# The seconds of processor that a drain may take whose network is stuck.
+SOON = 5
 TABLE_HEADER, TRAFFIC_HEADER, REPORT_HEADER = (HEADERS[kind].encode() for kind in ("table", "traffic", "latency"))
 EMPTY_CHANNELS = b"port,vc,verdict,packet,out\n+0,0,Empty,-,-\nlocal,0,Empty,-,-\n"
 # Two routers with the routes of a table file, ranks that rise, and one packet, which is out after five cycles.
@@ -418,9 +421,38 @@ def threads_refused(calls):
         calls.answers("no thread is wanted", words, REPORT, preexec_fn=no_thread_more)
 
 
+def crowd(is_far, due):
+    """20,000 packets of 64 flits in a network of 256 routers, of which the second half is due then: half way round the
+    first of two dimensions, or round each of three."""
+    lines = []
+    for number in range(20000):
+        x, y = number % 16, number // 16 % 16
+        rest = (y % 4 + 2) % 4 + 4 * ((y // 4 + 2) % 4) if is_far else y
+        lines.append(b"%d,%d,0,64,%d" % (number % 256, (x + 8) % 16 + 16 * rest, due if number >= 10000 else 0))
+    return TRAFFIC_HEADER + b"\n".join(lines) + b"\n"
+
+
+def drains_that_are_stuck(calls):
+    """The drain of a jam comes to its limit, millions of cycles away, at once: by rows, and by routers that have too
+    many channels for rows. So it does where packets become due in the jam."""
+    for (radix, channels, hops), due in product((("16, 16", 1, 8), ("16, 4, 4", 6, 12)), (0, 1_000_000)):
+        config = f'kind = "torus"\nradix = [{radix}]\nchannels = {channels}\nbuffer = 1\nclasses = 1\n'
+        calls.put(jam=f'{config}rule = "dor"\ncycles = 300\n'.encode(), crowd=crowd(hops == 12, due))
+        limit = due + 20000 * (64 * (3 * hops + 2) + 2 * (hops + 1))
+        for workers in ("1", "3"):
+            ran = calls.run(["run", "jam", "crowd", "--drain", "--report", "summary", "--workers", workers],
+                            preexec_fn=lambda: resource.setrlimit(resource.RLIMIT_CPU, (SOON, SOON)))
+            is_at_limit = ran.stdout.startswith(f"cycles {limit}\npackets 20000\n".encode())
+            counts = sum(int(line.split()[1]) for line in ran.stdout.splitlines()[8:])
+            is_whole = counts == limit * 256 * channels * (2 * radix.count(",") + 3)
+            calls.count(f"a drain that is stuck, {radix}, due {due}, {workers} workers",
+                        (ran.returncode, is_at_limit, is_whole, ran.stderr) == (5, True, True, b""), ran)
+
+
 GROUPS = [inputs_that_cannot_be_read, inputs_at_the_limit, names, wrong_words, outputs_that_fail,
           pipe_that_closes_early, trace_cycle_by_cycle, reports_cut_off, fault_lines_in_one_write, order_of_faults,
-          bytes_that_are_no_text, bounded_memory, threads_refused, refused_growths, cut_texts, worked_texts]
+          bytes_that_are_no_text, bounded_memory, threads_refused, drains_that_are_stuck, refused_growths, cut_texts,
+          worked_texts]
 
 
 def main():
