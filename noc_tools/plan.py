@@ -16,7 +16,7 @@ from .network import Network
 from .program import DIGITS, digest
 from .ranks import checked_table
 from .rules import TABLE_RULES
-from .statistics import TOLERANCE, Window, middle_window
+from .statistics import TOLERANCE, TOO_MUCH, Window, middle_window
 from .traffic import HOT_SPOT, SHARE, Demand, Played, lengths_in
 
 # What is between the numbers of a setting that has several.
@@ -107,11 +107,19 @@ def words_of(key: str, value: Any) -> list[str]:
     return words
 
 
+def whole_in(word: str) -> int:
+    """A whole number as a word has it; a ValueError where it is none, or too much."""
+    number = int(word)
+    if TOO_MUCH <= abs(number):
+        raise ValueError
+    return number
+
+
 def numbers_in(key: str, word: str, count: int | None = None) -> tuple[int, ...]:
     """The numbers of a setting that has several, as many as are wanted."""
     amount = "numbers" if count is None else f"{count} numbers"
     with refusing(ValueError, f"'{key}' is {amount} with '{SEPARATORS[key]}' between them, not '{word}'"):
-        found = tuple(map(int, word.split(SEPARATORS[key])))
+        found = tuple(map(whole_in, word.split(SEPARATORS[key])))
         if count not in (None, len(found)):
             raise ValueError
     return found
@@ -127,7 +135,7 @@ class Case:
     def whole(self, key: str) -> int:
         """A setting that is a whole number."""
         with refusing(ValueError, f"'{key}' is a number, not '{self.words[key]}'"):
-            return int(self.words[key])
+            return whole_in(self.words[key])
 
     def amount(self, key: str) -> float:
         """A setting that is any number."""

@@ -8,7 +8,7 @@ from random import Random
 
 from .errors import Refused, refusing
 from .files import csv_rows, named_rows, read_lines
-from .network import MOST_DRAINED, Network
+from .network import MOST_CYCLES, MOST_DRAINED, Network
 
 # A pattern gives the destination of a packet from the generator and its source.
 Pattern = Callable[[Random, int], int]
@@ -286,6 +286,8 @@ class Demand:
         spots = self.spots or (middle(network),)
         if not all(0 <= spot < network.nodes for spot in spots):
             raise Refused(f"a spot is no node: the nodes are 0 to {network.nodes - 1}")
+        if not 0 <= self.share <= 1:
+            raise Refused("a share is a part of the packets, from 0 to 1")
         return hot_spot(network.nodes, spots, self.share)
 
     def span(self, network: Network) -> int:
@@ -297,8 +299,8 @@ class Demand:
         self.destination(network, Random(self.seed))
         if not all(1 <= length <= LONGEST for length in self.lengths):
             raise Refused(f"a length is 1 to {LONGEST}")
-        if self.burst is not None and not all(1 <= cycles for cycles in self.burst):
-            raise Refused("a burst is ON:OFF, each of them 1 cycle or more")
+        if self.burst is not None and not all(1 <= cycles <= MOST_CYCLES for cycles in self.burst):
+            raise Refused(f"a burst is ON:OFF, each of them 1 to {MOST_CYCLES} cycles")
         if not (0 <= self.load and self.chance <= 1):
             most = "the length of a packet" if self.burst is None else f"{self.load / self.chance:g} in these bursts"
             raise Refused(f"a load is 0 or more, and at most {most}")

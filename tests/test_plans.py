@@ -53,7 +53,10 @@ class Demands(unittest.TestCase):
     def test_what_is_refused(self):
         for demand, sentence in [
             (Demand("uniform", 0.6, 1, burst=(50, 50)), "a load is 0 or more, and at most 0.5 in these bursts"),
-            (Demand("uniform", 0.1, 1, burst=(0, 5)), "a burst is ON:OFF, each of them 1 cycle or more"),
+            (Demand("uniform", 0.1, 1, burst=(0, 5)), "a burst is ON:OFF, each of them 1 to 2000000 cycles"),
+            (Demand("uniform", 0.1, 1, burst=(5, 10 ** 400)), "a burst is ON:OFF, each of them 1 to 2000000 cycles"),
+            (Demand("hot-spot", 0.1, 1, share=1.1), "a share is a part of the packets, from 0 to 1"),
+            (Demand("hot-spot", 0.1, 1, share=float("nan")), "a share is a part of the packets, from 0 to 1"),
             (Demand("uniform", 5, (1, 8)), "a load is 0 or more, and at most the length of a packet"),
             (Demand("uniform", 0.1, (1, 65)), "a length is 1 to 64"),
         ]:

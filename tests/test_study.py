@@ -167,6 +167,8 @@ OTHERS = [
     ("--one channels", "'channels' is no SETTING=VALUE: the settings are kind"),
     ("--one colour=red", "'colour=red' is no SETTING=VALUE"),
     (f"{ONE} radix=8x8 channels=one", "'channels' is a number, not 'one'"),
+    (f"{ONE} radix=8x8 channels=1 flit_bytes={'9' * 400}", "'flit_bytes' is a number, not '999"),
+    (f"{ONE} radix=8x8 channels=1 burst=5:{'9' * 400}", "'burst' is 2 numbers with ':' between them, not '5:999"),
     (f"{ONE} radix=8y8 channels=1", "'radix' is numbers with 'x' between them, not '8y8'"),
     ("", "either STUDY.toml or --one is needed"),
     ("s.txt --one kind=mesh", "either STUDY.toml or --one is needed"),
