@@ -15,3 +15,4 @@ pub mod Allotted
 pub mod Sides
 pub mod Turning
 pub mod Turned
+pub mod Blank

@@ -8,6 +8,9 @@ ghost use Rattle.noc_sets.specs.Planes.{any_from, lowered_by, more_than_one, rai
 use crate::lanes::{LANES, Lanes, alike, at, put};
 use crate::word::Word;
 
+/// How many bits a count has.
+pub const PLANES: usize = 5;
+
 /// A count, 0 to 31, of each channel: of one router by words, of a block by lanes.
 #[derive(Clone, Copy)]
 pub struct Planes<T> {

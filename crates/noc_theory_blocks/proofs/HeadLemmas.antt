@@ -26,7 +26,7 @@ use Rattle.noc_blocks.specs.Turned.{IsReady, Working}
 use Rattle.noc_blocks.specs.Turning.{HasTakenAll, Lane, column_in, router_in}
 use Rattle.noc_blocks.proofs.TakenAllLemmas.{taken-still}
 use Rattle.noc_blocks.specs.declared.numbering.Numbering.{Numbering}
-use Rattle.noc_theory_blocks.specs.Channels.{IsNumbered}
+use Rattle.noc_blocks.specs.Numbered.{IsNumbered}
 
 -- ---- packets
 pub routable : (net : Setup) → IsGoodSetup net → AreRoutable net.relation net.packets

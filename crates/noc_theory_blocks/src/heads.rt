@@ -19,7 +19,7 @@ ghost use Rattle.noc_blocks.specs.Turned.{IsReady, Working};
 ghost use Rattle.noc_blocks.specs.Turning.{HasTakenAll, Lane, router_in};
 ghost use Rattle.noc_lanes.specs.declared.channels.Returned.{Returned};
 ghost use Rattle.noc_blocks.specs.declared.numbering.Numbering.{Numbering};
-ghost use Rattle.noc_theory_blocks.specs.Channels.{IsNumbered};
+ghost use Rattle.noc_blocks.specs.Numbered.{IsNumbered};
 
 /// The packets of a good setup can be routed.
 pub fn packets_are_routable()

@@ -2,8 +2,8 @@
 //!
 //! `noc_blocks` has the passes over the routers of a block, and `noc_theory_bits` what the words of
 //! all routers show of a network. `specs/` has what stands between them: the rows of what left
-//! (`Rows`), the numbering of the channels (`Channels`), and how grants are told one by one
-//! (`Tells`). The laws are the contracts of the functions here.
+//! (`Rows`), and how grants are told one by one (`Tells`). The laws are the contracts of the
+//! functions here.
 #![tactic(auto)]
 
 mod arrivals;

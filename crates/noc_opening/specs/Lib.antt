@@ -1,0 +1,5 @@
+pub mod Firsts
+pub mod Frames
+pub mod Masks
+pub mod Near
+pub mod Empty

@@ -1,0 +1,59 @@
+//! The packets of each router by due time.
+
+ghost use Rattle.std.specs.Prelude.{◌≡◌, ◌<◌, ◌≤◌, ◌++◌, ◌^◌, All, IfOk, length};
+ghost use Rattle.noc_sets.specs.Source.{due_of};
+ghost use Rattle.noc_blocks.specs.Begins.{starts_by};
+ghost use Rattle.noc_theory_bits.specs.Starts.{starts_list, with_end};
+ghost use Rattle.noc_opening.specs.Firsts.{AreFirsts};
+
+use crate::firsts::{First, Starts};
+use noc_blocks::{END, NEVER, Start};
+use noc_packet::{MAX_NODES, MAX_PACKETS, Memory, Packet, starts_at};
+use std::alloc::Global;
+
+/// The packets of so many routers, one router after the other.
+pub fn all_starts(alloc: Global, nodes: usize, packets: &[Packet]) -> Result<Starts, Memory>
+    requires nodes { nodes ≤ MAX_NODES }
+    requires few { length packets.now ≤ MAX_PACKETS }
+    requires flits { All (λ p. 0 < p.length) packets.now }
+    ensures list { IfOk result (λ starts. starts_by starts.list.items
+        ≡ starts_list packets.now nodes) }
+    ensures short { IfOk result (λ starts. length starts.list.items < 2 ^ 32) }
+    ensures firsts { IfOk result (λ starts. AreFirsts packets.now nodes starts.firsts.items) }
+{
+    let mut list = Vec::new(alloc);
+    let mut firsts = Vec::new(alloc);
+    for node in 0..nodes {
+        let queue = starts_at(alloc, packets, node)?;
+        firsts.push(First {
+            place: list.len() as u32,
+            due: first_due(&queue),
+        })?;
+        add_starts(&queue, &mut list)?;
+    }
+    Ok(Starts { list, firsts })
+}
+
+// When the first packet of a queue is due.
+fn first_due(queue: &[(u32, Packet)]) -> u32
+    ensures { result ≡ due_of queue.now }
+{
+    if queue.is_empty() { NEVER } else { queue[0].1.due }
+}
+
+// The packets of a router come to the list, and an end.
+fn add_starts(queue: &[(u32, Packet)], starts: &mut Vec<Start>) -> Result<(), Memory>
+    requires { All (λ one. 0 < one.1.length) queue.now }
+    ensures { IfOk result (λ _. starts_by starts.new.items
+        ≡ starts_by starts.old.items ++ with_end queue.now) }
+{
+    for (number, packet) in queue {
+        starts.push(Start {
+            number: *number,
+            length: packet.length,
+            due: packet.due,
+        })?;
+    }
+    starts.push(END)?;
+    Ok(())
+}
