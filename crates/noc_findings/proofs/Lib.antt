@@ -1,0 +1,4 @@
+pub mod PlaceLemmas
+pub mod ClaimLemmas
+pub mod VerdictLemmas
+pub mod LawLemmas

@@ -1,7 +1,7 @@
 -- What is found of the channels of a router, in the places of that router in a list.
-use Rattle.std.specs.Prelude.{◌≡◌, ◌⊎◌, ℕ, ◌+◌, ◌/◌, ◌%◌, ◌<◌, ◌≤◌, List, Option, Some, None, nat_eq, option_map, if◌then◌else◌}
+use Rattle.std.specs.Prelude.{◌≡◌, ◌⊎◌, ℕ, ◌+◌, ◌/◌, ◌%◌, ◌<◌, ◌≤◌, true, List, Option, Some, None, nat_eq, option_map, if◌then◌else◌}
 use Rattle.noc_packet.specs.Set.{has_bit}
-use Rattle.noc_view.specs.Found.{empty_finding, finding_at}
+use Rattle.noc_view.specs.Found.{finding_at}
 use Rattle.noc_view.specs.declared.finding.Finding.{Finding}
 use Rattle.noc_view.specs.declared.verdict.Verdict.{Verdict}
 use Rattle.noc_view.specs.declared.verdict.Verdict.TheVariants.{Empty}
@@ -12,12 +12,25 @@ use Rattle.noc_blocks.specs.Turned.{Working, verdicts_in}
 use Rattle.noc_blocks.specs.Turning.{Lane, column_in}
 use Rattle.noc_blocks.specs.declared.marks.TheConstants.{PLACES}
 
--- what is noted of channel i before the router decides, where these channels are filled
+-- the output channel of channel i of a router that is still, by port and virtual channel
+abbrev pub place_of : ℕ → Lane → ℕ → Option (ℕ × ℕ)
+place_of vcs still i =
+    option_map (λ o. (o / vcs, o % vcs)) (out_in (column_in still) still.marks i)
+
+-- what is noted of it, where it holds something
+abbrev pub held_of : ℕ → Lane → ℕ → Finding
+held_of vcs still i = record {
+  verdict = Empty;
+  packet = Some (still.marks.packet i);
+  out = place_of vcs still i;
+}
+
+-- .. and where these channels are filled
 abbrev pub claimed_of : ℕ → Lane → ℕ → ℕ → Finding
 claimed_of vcs still filled i = record {
   verdict = Empty;
   packet = packet_in filled (column_in still) still.marks i;
-  out = option_map (λ o. (o / vcs, o % vcs)) (out_in (column_in still) still.marks i);
+  out = place_of vcs still i;
 }
 
 -- what is found of it, once the router has decided
@@ -44,7 +57,12 @@ abbrev pub KeepsOthers : ℕ → List Finding → List Finding → Type 0
 KeepsOthers first old new = (p : ℕ) → (p < first) ⊎ (first + PLACES ≤ p)
     → finding_at new p ≡ finding_at old p
 
--- ---- the router that was `still` has this once it has decided: who waits and who is active has
+-- ---- what the findings of a router rest on
+-- each active channel has an output channel
+abbrev pub ActiveOwn : Lane → Type 0
+ActiveOwn a = (i : ℕ) → has_bit a.inputs.active i ≡ true → 0 < a.marks.taken i
+
+-- the router that was `still` has this once it has decided: who waits and who is active has
 -- not changed, and those were ready that it took as ready
 pub record HasChosen (still chosen : Lane) (x : Working) : Type 0 where
   pub waiting : chosen.inputs.waiting ≡ still.inputs.waiting

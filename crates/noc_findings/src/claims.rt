@@ -1,17 +1,14 @@
 //! The packet and the output channel of each channel, before a router decides.
 
-ghost use Rattle.std.specs.Prelude.{◌≡◌, ℕ, ◌+◌, ◌/◌, ◌%◌, ◌<◌, ◌≤◌, Some, option_map, true, length};
-ghost use Rattle.noc_packet.specs.Set.{has_bit};
+ghost use Rattle.std.specs.Prelude.{◌≡◌, ◌+◌, ◌/◌, ◌%◌, ◌<◌, ◌≤◌, Some, length, option_map, slice_get};
 ghost use Rattle.noc_view.specs.Found.{empty_finding};
-ghost use Rattle.noc_view.specs.declared.verdict.Verdict.TheVariants.{Empty};
 ghost use Rattle.noc_sets.specs.Found.{out_in};
 ghost use Rattle.noc_lanes.specs.Lanes.{word};
-ghost use Rattle.noc_blocks.specs.Marks.{packet_at, taken_at};
 ghost use Rattle.noc_blocks.specs.Turning.{column_in};
 ghost use Rattle.noc_turns.specs.States.{lane_of};
-ghost use Rattle.noc_findings.specs.Findings.{HaveFindings, KeepsOthers, claimed_of, least_in};
+ghost use Rattle.noc_findings.specs.Findings.{ActiveOwn, HaveFindings, KeepsOthers, claimed_of, held_of, least_in};
 
-use noc_blocks::{PLACES, entry};
+use noc_blocks::{Marks, PLACES, entry};
 use noc_lanes::{LANES, Lanes, Word, at};
 use noc_turns::State;
 use noc_view::{Finding, Verdict};
@@ -28,8 +25,7 @@ pub fn claim_all<W: Word>(
     requires vcs { 0 < vcs }
     requires lane { lane < LANES }
     requires places { first + PLACES ≤ length found.old }
-    requires owned { (i : ℕ) → has_bit (word W.value lane state.now.inputs.active) i ≡ true
-        → 0 < taken_at W.value state.now.marks lane i }
+    requires owned { ActiveOwn (lane_of W.value state.now lane) }
     ensures claimed { HaveFindings (claimed_of vcs (lane_of W.value state.now lane)
         (word W.value lane filled.now)) first found.new }
     ensures others { KeepsOthers first found.old found.new }
@@ -50,34 +46,35 @@ fn claim<W: Word>(vcs: usize, state: &State<W>, lane: usize, channel: usize) -> 
     requires vcs { 0 < vcs }
     requires lane { lane < LANES }
     requires channel { channel < W.bits }
-    requires owned { has_bit (word W.value lane state.now.inputs.active) channel ≡ true
-        → 0 < taken_at W.value state.now.marks lane channel }
-    ensures { result ≡ record {
-        verdict = Empty;
-        packet = Some (packet_at state.now.marks lane channel);
-        out = option_map (λ o. (o / vcs, o % vcs)) (out_in
-        (column_in (lane_of W.value state.now lane)) (lane_of W.value state.now lane).marks channel);
-    } }
+    requires owned { ActiveOwn (lane_of W.value state.now lane) }
+    ensures { result ≡ held_of vcs (lane_of W.value state.now lane) channel }
 {
-    let packet = state.marks[lane].packet[channel];
+    let marks = marks_of(&state.marks, lane);
     let out = out_of(state, lane, channel);
     Finding {
         verdict: Verdict::Empty,
-        packet: Some(packet),
-        out: out.map(|o| (o / vcs, o % vcs)),
+        packet: Some(marks.packet[channel]),
+        out: place_of(vcs, out),
     }
+}
+
+// The port and the virtual channel of a channel.
+fn place_of(vcs: usize, out: Option<usize>) -> Option<(usize, usize)>
+    requires { 0 < vcs }
+    ensures { result ≡ option_map (λ o. (o / vcs, o % vcs)) out }
+{
+    out.map(|o| (o / vcs, o % vcs))
 }
 
 // The output channel that a channel asks for, or owns.
 fn out_of<W: Word>(state: &State<W>, lane: usize, channel: usize) -> Option<usize>
     requires lane { lane < LANES }
     requires channel { channel < W.bits }
-    requires owned { has_bit (word W.value lane state.now.inputs.active) channel ≡ true
-        → 0 < taken_at W.value state.now.marks lane channel }
+    requires owned { ActiveOwn (lane_of W.value state.now lane) }
     ensures { result ≡ out_in (column_in (lane_of W.value state.now lane))
         (lane_of W.value state.now lane).marks channel }
 {
-    let marks = &state.marks[lane];
+    let marks = marks_of(&state.marks, lane);
     if at(&state.inputs.waiting, lane).has(channel) {
         let set = entry(&marks.set, channel);
         least_of(set.and(at(&state.outputs.idle, lane)))
@@ -86,6 +83,14 @@ fn out_of<W: Word>(state: &State<W>, lane: usize, channel: usize) -> Option<usiz
     } else {
         None
     }
+}
+
+// What a router has by channel.
+fn marks_of<W: Word>(marks: &[Marks<W>; LANES], lane: usize) -> &Marks<W>
+    requires { lane < LANES }
+    ensures { slice_get marks.now lane ≡ Some result.now }
+{
+    &marks[lane]
 }
 
 // The least member of a set, if it has one.

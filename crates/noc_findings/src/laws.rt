@@ -1,7 +1,6 @@
 //! What the findings of a router rest on. Nothing here runs.
 
-ghost use Rattle.std.specs.Prelude.{◌≡◌, ℕ, ◌<◌, true, List};
-ghost use Rattle.noc_packet.specs.Set.{has_bit};
+ghost use Rattle.std.specs.Prelude.{ℕ, List};
 ghost use Rattle.noc_view.specs.View.{View};
 ghost use Rattle.noc_sets.specs.Column.{IsColumn};
 ghost use Rattle.noc_sets.specs.Layout.{Layout};
@@ -9,16 +8,16 @@ ghost use Rattle.noc_sets.specs.Source.{Start};
 ghost use Rattle.noc_lanes.specs.declared.channels.Returned.{Returned};
 ghost use Rattle.noc_blocks.specs.Turned.{Working};
 ghost use Rattle.noc_blocks.specs.Turning.{HasDecidedAll, HasTakenAll, Lane, column_in};
-ghost use Rattle.noc_findings.specs.Findings.{HasChosen};
+ghost use Rattle.noc_findings.specs.Findings.{ActiveOwn, HasChosen};
 
 /// In a router whose words show a view, and that has taken what comes, each active channel has an
 /// output channel.
 pub fn active_channels_own()
-    ensures { (count vcs ports cycle i : ℕ) (layout : Layout) (starts : List Start) (a s : Lane)
+    ensures { (count vcs ports cycle : ℕ) (layout : Layout) (starts : List Start) (a s : Lane)
         (returned : Returned ℕ) (x : Working) (v : View)
         → IsColumn count (column_in a) a.marks v
         → HasTakenAll vcs ports layout starts cycle x.links a s returned x.arrived x.standing
-        → has_bit s.inputs.active i ≡ true → 0 < s.marks.taken i }
+        → ActiveOwn s }
 {}
 
 /// A router that has taken what comes and has decided has chosen.

@@ -39,9 +39,19 @@ pub fn judge_all<W: Word>(
     let (granted, lost) = (decided.granted, decided.lost);
     give(Verdict::LostSwitch, picked.less(moved), first, found);
     give(Verdict::LostInput, ready.less(picked), first, found);
-    give(Verdict::NoCredit, active.and(filled).less(ready), first, found);
+    give(
+        Verdict::NoCredit,
+        active.and(filled).less(ready),
+        first,
+        found,
+    );
     give(Verdict::LostChannel, lost, first, found);
-    give(Verdict::NoIdleChannel, waiting.less(granted.or(lost)), first, found);
+    give(
+        Verdict::NoIdleChannel,
+        waiting.less(granted.or(lost)),
+        first,
+        found,
+    );
     give(Verdict::NoFlit, active.less(filled), first, found);
     give(Verdict::Routed, standing.heads, first, found);
     give(Verdict::Granted, granted, first, found);
