@@ -2,11 +2,11 @@
 
 ghost use Rattle.std.specs.Prelude.{◌≡◌, ◌≢◌, ◌<◌, ◌-◌, ◌&&◌, ℕ, bit_or, not, nat_eq, nat_le, if◌then◌else◌};
 ghost use Rattle.noc_packet.specs.Set.{has_bit};
-ghost use Rattle.noc_sets.specs.Passes.{injecting_after};
+ghost use Rattle.noc_sets.specs.Passes.{injecting_after, lane_landed};
 ghost use Rattle.noc_lanes.specs.Channels.{arrived_by, inputs_by, links_by, source_by};
 ghost use Rattle.noc_lanes.specs.Lanes.{word};
 ghost use Rattle.noc_lanes.specs.declared.channels.Outputs.{Outputs};
-ghost use Rattle.noc_blocks.specs.Routers.{frame_by, layout_of};
+ghost use Rattle.noc_blocks.specs.Routers.{column_of, frame_by, layout_of};
 ghost use Rattle.noc_blocks.specs.Steps.{TakesFlits, ends_in, with_head};
 
 use crate::frame::Frame;
@@ -46,6 +46,11 @@ pub fn take_flits<W: Word>(
         → has_bit result.finishing k
         ≡ not (nat_eq (ends_in (layout_of (frame_by W.value frame.now))
         (inputs_by (word W.value k) inputs.old) (source_by (word W.value k) source.old) o) 0) }
+    ensures landing { (k : ℕ) (o : Outputs ℕ) → k < LANES
+        → has_bit result.landing k
+        ≡ not (nat_eq (lane_landed (layout_of (frame_by W.value frame.now)).places
+        (word W.value k links.now.flits) (column_of (inputs_by (word W.value k) inputs.old) o
+        (source_by (word W.value k) source.old))) 0) }
 {
     let mut beginning = W::none();
     let mut finishing = W::none();
@@ -132,6 +137,10 @@ fn with_flits<W: Word>(
         → W.value result.ends
         ≡ ends_in (layout_of (frame_by W.value frame.now)) (inputs_by W.value inputs)
         (source_by W.value source) o }
+    ensures landed { (o : Outputs ℕ)
+        → W.value result.landed
+        ≡ lane_landed (layout_of (frame_by W.value frame.now)).places (W.value came.flits)
+        (column_of (inputs_by W.value inputs) o (source_by W.value source)) }
 {
     let injected = source.injecting.and(inputs.len.other_than(frame.places));
     let landed = came.flits.or(injected);

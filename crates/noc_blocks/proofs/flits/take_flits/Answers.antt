@@ -1,12 +1,14 @@
 use Rattle.std.proofs.Common.{◌≡◌, ℕ, ◌+◌, ◌∙◌, ap, ap₂, refl, sym, subst, arith}
 use Rattle.std.specs.Prelude.{◌&&◌, nat_eq, not}
+use Rattle.noc_sets.specs.Passes.{lane_landed}
 use Rattle.noc_lanes.specs.Channels.{inputs_by, source_by}
 use Rattle.noc_lanes.specs.Lanes.{word}
 use Rattle.noc_lanes.specs.declared.channels.Arrived.{Arrived}
 use Rattle.noc_lanes.specs.declared.channels.Inputs.{Inputs}
+use Rattle.noc_lanes.specs.declared.channels.Links.{Links}
 use Rattle.noc_lanes.specs.declared.channels.Source.{Source}
 use Rattle.noc_lanes.proofs.PassLemmas.{AreLanes, lanes-next}
-use Rattle.noc_blocks.specs.Routers.{frame_by, layout_of}
+use Rattle.noc_blocks.specs.Routers.{column_of, frame_by, layout_of}
 use Rattle.noc_blocks.specs.Steps.{TakesFlits, ends_in}
 use Rattle.noc_blocks.proofs.StepLemmas.{along6, lanes-are, lanes-more, pass-more}
 use Rattle.noc_blocks.proofs.flits.take_flits.Goals as goal
@@ -33,6 +35,11 @@ loop-j-preserved g c =
       finishing = λ o. subst (λ s. AreLanes (λ k. not (nat_eq (ends_in layout (inputs_by (word v k) c.args.inputs.now) (source_by (word v k) c.args.source.now) o) 0)) s (j + 1)) (sym c.or-finishing.ensures)
           (lanes-next _ _ _ j (inv.finishing o)
           (λ k. c.lane_if-ends.ensures k ∙ ap (λ w. nat_eq k j && not (nat_eq w 0)) (c.with_flits-taken.ensures.ends o ∙ ap₂ (λ (i : Inputs ℕ) (s : Source ℕ). ends_in layout i s o) had from)));
+      landing = λ o. subst (λ s. AreLanes (λ k. not (nat_eq (lane_landed layout.places (word v k c.args.links.now.flits) (column_of (inputs_by (word v k) c.args.inputs.now) o (source_by (word v k) c.args.source.now))) 0)) s (j + 1)) (sym c.or-landing.ensures)
+          (lanes-next _ _ _ j (inv.landing o)
+          (λ k. c.lane_if-lands.ensures k ∙ ap (λ w. nat_eq k j && not (nat_eq w 0)) (c.with_flits-taken.ensures.landed o
+          ∙ ap (λ (l : Links ℕ). lane_landed layout.places l.flits (column_of (inputs_by v c.at-had.result) o (source_by v c.at-from.result))) c.at-flits.ensures
+          ∙ ap₂ (λ (i : Inputs ℕ) (s : Source ℕ). lane_landed layout.places (word v j c.args.links.now.flits) (column_of i o s)) had from)));
     }
 
 pub returns-clause-beginning : goal.returns-clause-beginning
@@ -40,3 +47,6 @@ returns-clause-beginning g c = lanes-are _ (g.W.Word.value c.loop-j.beginning) _
 
 pub returns-clause-finishing : goal.returns-clause-finishing
 returns-clause-finishing g c = λ k o l. lanes-are _ (g.W.Word.value c.loop-j.finishing) _ c.lanes-finishing.ensures (subst (AreLanes _ (g.W.Word.value c.loop-j.finishing)) (omega arith) (c.loop-j.invariant.finishing o)) k l
+
+pub returns-clause-landing : goal.returns-clause-landing
+returns-clause-landing g c = λ k o l. lanes-are _ (g.W.Word.value c.loop-j.landing) _ c.lanes-landing.ensures (subst (AreLanes _ (g.W.Word.value c.loop-j.landing)) (omega arith) (c.loop-j.invariant.landing o)) k l

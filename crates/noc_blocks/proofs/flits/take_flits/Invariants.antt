@@ -1,10 +1,11 @@
 use Rattle.std.proofs.Common.{◌≡◌, ℕ, ◌<◌, ◌≤◌}
 use Rattle.std.specs.Prelude.{nat_eq, not}
+use Rattle.noc_sets.specs.Passes.{lane_landed}
 use Rattle.noc_lanes.specs.Channels.{arrived_by, inputs_by, links_by, source_by}
 use Rattle.noc_lanes.specs.Lanes.{word}
 use Rattle.noc_lanes.specs.declared.channels.Outputs.{Outputs}
 use Rattle.noc_lanes.proofs.PassLemmas.{AreLanes}
-use Rattle.noc_blocks.specs.Routers.{frame_by, layout_of}
+use Rattle.noc_blocks.specs.Routers.{column_of, frame_by, layout_of}
 use Rattle.noc_blocks.specs.Steps.{TakesFlits, ends_in}
 use Rattle.noc_blocks.proofs.flits.take_flits.Given as goal
 
@@ -15,4 +16,5 @@ invariant-loop-j g l = record {
   source : (k : ℕ) → l.j ≤ k → source_by (word g.W.Word.value k) l.source ≡ source_by (word g.W.Word.value k) l.fn.source;
   beginning : AreLanes (λ k. not (nat_eq (word g.W.Word.value k l.arrived.begins) 0)) (g.W.Word.value l.beginning) l.j;
   finishing : (o : Outputs ℕ) → AreLanes (λ k. not (nat_eq (ends_in (layout_of (frame_by g.W.Word.value l.frame)) (inputs_by (word g.W.Word.value k) l.fn.inputs) (source_by (word g.W.Word.value k) l.fn.source) o) 0)) (g.W.Word.value l.finishing) l.j;
+  landing : (o : Outputs ℕ) → AreLanes (λ k. not (nat_eq (lane_landed (layout_of (frame_by g.W.Word.value l.frame)).places (word g.W.Word.value k l.links.flits) (column_of (inputs_by (word g.W.Word.value k) l.fn.inputs) o (source_by (word g.W.Word.value k) l.fn.source))) 0)) (g.W.Word.value l.landing) l.j;
 }
