@@ -2,6 +2,7 @@
 use Rattle.std.specs.Prelude.{ℕ, List}
 use Rattle.noc_lanes.specs.Channels.{arrived_by, decided_by, links_by, moves_by, returned_by, standing_by}
 use Rattle.noc_lanes.specs.Lanes.{word}
+use Rattle.noc_lanes.specs.declared.channels.Links.{Links}
 use Rattle.noc_lanes.specs.declared.channels.Returned.{Returned}
 use Rattle.noc_blocks.specs.Turned.{Working}
 use Rattle.noc_blocks.specs.Turning.{Lane, lane_at}
@@ -21,6 +22,10 @@ working_of value w k = record {
   moves = moves_by (word value k) w.moves;
   decided = decided_by (word value k) w.decided;
 }
+
+-- what the links bring to it, and what the credits that come are
+abbrev pub links_of : {A : Type 0} → (A → ℕ) → Work A → ℕ → Links ℕ
+links_of value w k = links_by (word value k) w.links
 
 abbrev pub returned_of : {A : Type 0} → (A → ℕ) → Work A → ℕ → Returned ℕ
 returned_of value w k = returned_by (word value k) w.returned

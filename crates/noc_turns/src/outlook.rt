@@ -1,0 +1,87 @@
+//! Whether anything is to happen in a block.
+
+ghost use Rattle.std.specs.Prelude.{◌≡◌, ℕ, ◌^◌, ◌<◌, ◌||◌, not, nat_eq};
+ghost use Rattle.noc_lanes.specs.Lanes.{word};
+ghost use Rattle.noc_turns.specs.Held.{IsAmong};
+ghost use Rattle.noc_turns.specs.Outlooks.{IsLeastOf, acts, has_some, is_occupied, some_lane};
+ghost use Rattle.noc_turns.specs.States.{lane_of, working_of};
+
+use crate::state::{State, Work};
+use noc_lanes::{LANES, Lanes, Word, at};
+
+/// What is known of a block after a cycle.
+#[derive(Clone, Copy)]
+pub struct Outlook {
+    /// Whether a channel waits or is active, or a packet is being injected.
+    pub holds: bool,
+    /// Whether a flit has moved.
+    pub moves: bool,
+    /// Whether something has happened.
+    pub happened: bool,
+    /// The first cycle in which a packet is due.
+    pub due: u32,
+}
+
+/// The outlook of a block after a cycle.
+pub fn outlook_of<W: Word>(state: &State<W>, work: &Work<W>) -> Outlook
+    requires heading { (k : ℕ) → k < LANES
+        → IsAmong work.now.pending.heading k (word W.value k work.now.standing.heads) }
+    requires due { (k : ℕ) → k < LANES → (lane_of W.value state.now k).words.due < 2 ^ 32 }
+    ensures holds { result.holds ≡ some_lane (λ k. is_occupied (lane_of W.value state.now k)) }
+    ensures moves { result.moves
+        ≡ some_lane (λ k. has_some (working_of W.value work.now k).moves.moved) }
+    ensures happened { result.happened
+        ≡ (work.now.came || some_lane (λ k. acts (working_of W.value work.now k))) }
+    ensures due { IsLeastOf (λ k. (lane_of W.value state.now k).words.due) result.due }
+{
+    let moves = has_some(&work.moves.moved);
+    let heads = work.pending.heading != 0;
+    let grants = has_some(&work.decided.granted);
+    Outlook {
+        holds: holds_some(state),
+        moves,
+        happened: work.came || heads || grants || moves,
+        due: least_of(&state.sources.words.due),
+    }
+}
+
+// Whether a channel of a block waits or is active, or a packet is being injected.
+#[inline(always)]
+fn holds_some<W: Word>(state: &State<W>) -> bool
+    ensures { result ≡ some_lane (λ k. is_occupied (lane_of W.value state.now k)) }
+{
+    has_some(&state.inputs.waiting)
+        || has_some(&state.inputs.active)
+        || has_some(&state.sources.words.injecting)
+}
+
+// Whether a row has a member.
+#[inline(always)]
+pub(crate) fn has_some<W: Word>(row: &Lanes<W>) -> bool
+    ensures { result ≡ some_lane (λ k. has_some (word W.value k row.now)) }
+{
+    let mut all = W::none();
+    for j in 0..LANES {
+        let here = at(row, j);
+        all = all.or(here);
+    }
+    !all.is_none()
+}
+
+// The least number of a row.
+#[inline(always)]
+fn least_of<W: Word>(row: &Lanes<W>) -> u32
+    requires { (k : ℕ) → k < LANES → word W.value k row.now < 2 ^ 32 }
+    ensures { IsLeastOf (λ k. word W.value k row.now) result }
+{
+    let mut least = W::all();
+    for j in 0..LANES {
+        let number = at(row, j);
+        least = if number.is_at_most(least) {
+            number
+        } else {
+            least
+        };
+    }
+    least.lanes()
+}
