@@ -7,7 +7,7 @@ ghost use Rattle.noc_blocks.specs.Begins.{starts_by};
 ghost use Rattle.noc_blocks.specs.Routers.{IsFrame, frame_by, layout_of};
 ghost use Rattle.noc_blocks.specs.Turning.{HasTakenAll};
 ghost use Rattle.noc_turns.specs.Held.{IsPending, MayTake};
-ghost use Rattle.noc_turns.specs.Outlooks.{comes_to, some_lane};
+ghost use Rattle.noc_turns.specs.Outlooks.{TellsSome, comes_to};
 ghost use Rattle.noc_turns.specs.States.{lane_of, links_of, returned_of, working_of};
 
 use crate::outlook::has_some;
@@ -38,9 +38,8 @@ pub fn arrive_block<W: Word>(
     ensures pending { (k : ℕ) → k < LANES
         → IsPending work.new.pending k (lane_of W.value state.new k)
         (working_of W.value work.new k) }
-    ensures came { work.new.came
-        ≡ some_lane (λ k. comes_to (layout_of (frame_by W.value pattern.now.frame)) cycle
-        (links_of W.value work.old k) (lane_of W.value state.old k)) }
+    ensures came { TellsSome (λ k. comes_to (layout_of (frame_by W.value pattern.now.frame)) cycle
+        (links_of W.value work.old k) (lane_of W.value state.old k)) work.new.came }
     ensures links { work.new.links ≡ work.old.links }
 {
     let frame = &pattern.frame;
@@ -80,5 +79,6 @@ pub fn arrive_block<W: Word>(
         &work.arrived.filled,
         &mut work.standing,
     );
-    work.came = coming.landing | coming.beginning != 0 || has_some(&work.links.credits);
+    let credits = has_some(&work.links.credits);
+    work.came = (coming.landing | coming.beginning != 0) | credits;
 }

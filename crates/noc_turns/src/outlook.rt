@@ -1,9 +1,9 @@
 //! Whether anything is to happen in a block.
 
-ghost use Rattle.std.specs.Prelude.{◌≡◌, ℕ, ◌^◌, ◌<◌, ◌||◌, not, nat_eq};
+ghost use Rattle.std.specs.Prelude.{◌≡◌, ℕ, ◌^◌, ◌<◌, nat_le, if◌then◌else◌};
 ghost use Rattle.noc_lanes.specs.Lanes.{word};
 ghost use Rattle.noc_turns.specs.Held.{IsAmong};
-ghost use Rattle.noc_turns.specs.Outlooks.{IsLeastOf, acts, has_some, is_occupied, some_lane};
+ghost use Rattle.noc_turns.specs.Outlooks.{IsLeastOf, TellsSome, happens_to, held_in};
 ghost use Rattle.noc_turns.specs.States.{lane_of, working_of};
 
 use crate::state::{State, Work};
@@ -27,11 +27,10 @@ pub fn outlook_of<W: Word>(state: &State<W>, work: &Work<W>) -> Outlook
     requires heading { (k : ℕ) → k < LANES
         → IsAmong work.now.pending.heading k (word W.value k work.now.standing.heads) }
     requires due { (k : ℕ) → k < LANES → (lane_of W.value state.now k).words.due < 2 ^ 32 }
-    ensures holds { result.holds ≡ some_lane (λ k. is_occupied (lane_of W.value state.now k)) }
-    ensures moves { result.moves
-        ≡ some_lane (λ k. has_some (working_of W.value work.now k).moves.moved) }
-    ensures happened { result.happened
-        ≡ (work.now.came || some_lane (λ k. acts (working_of W.value work.now k))) }
+    ensures holds { TellsSome (λ k. held_in (lane_of W.value state.now k)) result.holds }
+    ensures moves { TellsSome (λ k. word W.value k work.now.moves.moved) result.moves }
+    ensures happened { (came : ℕ → ℕ) → TellsSome came work.now.came
+        → TellsSome (λ k. happens_to (came k) (working_of W.value work.now k)) result.happened }
     ensures due { IsLeastOf (λ k. (lane_of W.value state.now k).words.due) result.due }
 {
     let moves = has_some(&work.moves.moved);
@@ -40,7 +39,7 @@ pub fn outlook_of<W: Word>(state: &State<W>, work: &Work<W>) -> Outlook
     Outlook {
         holds: holds_some(state),
         moves,
-        happened: work.came || heads || grants || moves,
+        happened: work.came | heads | grants | moves,
         due: least_of(&state.sources.words.due),
     }
 }
@@ -48,17 +47,18 @@ pub fn outlook_of<W: Word>(state: &State<W>, work: &Work<W>) -> Outlook
 // Whether a channel of a block waits or is active, or a packet is being injected.
 #[inline(always)]
 fn holds_some<W: Word>(state: &State<W>) -> bool
-    ensures { result ≡ some_lane (λ k. is_occupied (lane_of W.value state.now k)) }
+    ensures { TellsSome (λ k. held_in (lane_of W.value state.now k)) result }
 {
-    has_some(&state.inputs.waiting)
-        || has_some(&state.inputs.active)
-        || has_some(&state.sources.words.injecting)
+    let waiting = has_some(&state.inputs.waiting);
+    let active = has_some(&state.inputs.active);
+    let injecting = has_some(&state.sources.words.injecting);
+    waiting | active | injecting
 }
 
 // Whether a row has a member.
 #[inline(always)]
 pub(crate) fn has_some<W: Word>(row: &Lanes<W>) -> bool
-    ensures { result ≡ some_lane (λ k. has_some (word W.value k row.now)) }
+    ensures { TellsSome (λ k. word W.value k row.now) result }
 {
     let mut all = W::none();
     for j in 0..LANES {
@@ -77,11 +77,20 @@ fn least_of<W: Word>(row: &Lanes<W>) -> u32
     let mut least = W::all();
     for j in 0..LANES {
         let number = at(row, j);
-        least = if number.is_at_most(least) {
-            number
-        } else {
-            least
-        };
+        least = lesser(number, least);
     }
     least.lanes()
+}
+
+// The lesser of two numbers.
+#[inline(always)]
+fn lesser<W: Word>(number: W, other: W) -> W
+    ensures { W.value result
+        ≡ (if nat_le (W.value number) (W.value other) then W.value number else W.value other) }
+{
+    if number.is_at_most(other) {
+        number
+    } else {
+        other
+    }
 }
