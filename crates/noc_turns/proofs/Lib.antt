@@ -1,1 +1,2 @@
 pub mod OutlookLemmas
+pub mod LaneLemmas

@@ -12,7 +12,7 @@ ghost use Rattle.noc_turns.specs.States.{lane_of, working_of};
 
 use crate::pattern::Pattern;
 use crate::state::{State, Work};
-use noc_blocks::{arrive_all, release_all, settle_inputs, settle_outputs};
+use noc_blocks::{PORTS, arrive_all, release_all, settle_inputs, settle_outputs};
 use noc_lanes::{LANES, Word, alike};
 
 /// What was decided in a block takes effect. The packets of the tails that leave by the local port
@@ -47,14 +47,7 @@ pub fn conclude_block<W: Word>(
           record work.old.decided { freed = work.new.decided.freed };
     } }
 {
-    arrive_all(
-        cycle,
-        work.tails,
-        &work.decided.released,
-        &state.ports.sends.to_port[pattern.frame.ports - 1],
-        &state.marks,
-        arrivals,
-    );
+    arrive_by(pattern.frame.ports - 1, cycle, state, work, arrivals);
     work.decided.freed = alike(W::none());
     release_all(
         &pattern.numbering,
@@ -75,5 +68,36 @@ pub fn conclude_block<W: Word>(
         &work.moves.out,
         &work.decided.freed,
         &mut state.outputs,
+    );
+}
+
+// The packets of the tails that leave by this port arrive in this cycle.
+#[inline(always)]
+fn arrive_by<W: Word>(
+    port: usize,
+    cycle: u32,
+    state: &State<W>,
+    work: &Work<W>,
+    arrivals: &mut [u32],
+)
+    requires port { port < PORTS }
+    requires tails { (k : ℕ) → k < LANES
+        → IsAmong work.now.tails k (word W.value k work.now.decided.released) }
+    requires lanes { (k : ℕ) → k < LANES
+        → MayConclude (length arrivals.old) (lane_of W.value state.now k)
+        (working_of W.value work.now k) }
+    ensures { HaveArrived cycle LANES
+        (λ k. bit_and (word W.value k work.now.decided.released)
+        ((lane_of W.value state.now k).marks.to_port port))
+        (λ k. (lane_of W.value state.now k).marks.packet) (slice_index arrivals.old)
+        (slice_index arrivals.new) }
+{
+    arrive_all(
+        cycle,
+        work.tails,
+        &work.decided.released,
+        &state.ports.sends.to_port[port],
+        &state.marks,
+        arrivals,
     );
 }
