@@ -48,6 +48,21 @@ module _ {A : Type 0} (value : A → ℕ) (block : List (Marks A)) (to_port port
       by None = refl
       by (Some m) = refl
 
+  pub set-is : (others turns : ℕ → ℕ) → (marks_at value block others turns k).set ≡ marks.set
+  set-is others turns = by (slice_get block k)
+    where
+      by : (x : Option (Marks A)) → (marks_or_none value x others turns).set ≡ (marks_or_none value x to_port port_turn).set
+      by None = refl
+      by (Some m) = refl
+
+  -- by other pointers of output ports
+  pub turned : (others : ℕ → ℕ) → marks_at value block to_port others k ≡ record marks { port_turn = (marks_at value block to_port others k).port_turn }
+  turned others = by (slice_get block k)
+    where
+      by : (x : Option (Marks A)) → marks_or_none value x to_port others ≡ record (marks_or_none value x to_port port_turn) { port_turn = (marks_or_none value x to_port others).port_turn }
+      by None = refl
+      by (Some m) = refl
+
   -- by other ports
   pub ported : (others : ℕ → ℕ) → marks_at value block others port_turn k ≡ record marks { to_port = (marks_at value block others port_turn k).to_port }
   ported others = by (slice_get block k)

@@ -1,2 +1,3 @@
 pub mod OutlookLemmas
 pub mod LaneLemmas
+pub mod DecidedLemmas
