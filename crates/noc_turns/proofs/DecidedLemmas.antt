@@ -1,11 +1,11 @@
 -- What is decided of a router of a block.
 use Rattle.std.proofs.Common.{◌≡◌, ◌≢◌, ℕ, Bool, true, false, List, refl, ap, ap₂, inl, inr, subst, sym, ◌∙◌}
-use Rattle.std.specs.Prelude.{◌⊎◌, not, nat_eq}
+use Rattle.std.specs.Prelude.{◌⊎◌, not}
 use Rattle.std.proofs.lemmas.Bool.{cases_eq, eq-eqb, ne_eqb}
 use Rattle.noc_packet.specs.Set.{has_bit}
 use Rattle.noc_sets.specs.Column.{RouterMarks}
 use Rattle.noc_sets.specs.Ended.{lane_released}
-use Rattle.noc_sets.specs.Grants.{Allocation, HasAllocated}
+use Rattle.noc_sets.specs.Grants.{Allocation}
 use Rattle.noc_sets.specs.Passes.{lane_asks}
 use Rattle.noc_sets.specs.Planes.{more_than_one, plane_number}
 use Rattle.noc_sets.specs.Routed.{HasRouted}
@@ -90,8 +90,8 @@ module _ (w vcs ports : ℕ) (port vc : ℕ → ℕ) (sets : ℕ → ℕ → ℕ
     outputs = b.outputs;
     column = refl;
     asked = λ some. let has = asked some in (
-        has.allocated words turn,
-        subst (λ (f : ℕ → ℕ). AreNumbered decided.granted f vc (plane_number a.vc) (plane_number b.vc)) taken has.numbered
+      has.allocated words turn,
+      subst (λ (f : ℕ → ℕ). AreNumbered decided.granted f vc (plane_number a.vc) (plane_number b.vc)) taken has.numbered,
     );
     unasked = λ none. nothing (unasked none);
     inputs = inputs;
@@ -116,5 +116,5 @@ module _ (w vcs ports : ℕ) (port vc : ℕ → ℕ) (sets : ℕ → ℕ → ℕ
           → (after b decided.granted decided.lost ≡ before (column_of a.inputs a.outputs words) (a.marks turn)) × (b.vc ≡ a.vc)
       nothing un = (
         ap (λ x. after x decided.granted decided.lost) un.same ∙ ap₂ (after a) un.none un.no_loss,
-        ap (λ (x : Allotment). x.vc) un.same
+        ap (λ (x : Allotment). x.vc) un.same,
       )

@@ -1,5 +1,5 @@
 -- What the lanes of a block keep channel by channel.
-use Rattle.std.proofs.Common.{◌≡◌, ℕ, ◌<◌, true, List, None, Some, refl, ap, ap₂, subst, sym, ◌∙◌, bit_and}
+use Rattle.std.proofs.Common.{◌≡◌, ℕ, List, None, Some, refl, ap, subst, sym, ◌∙◌}
 use Rattle.std.specs.Prelude.{Option, slice_get}
 use Rattle.noc_packet.specs.Set.{has_bit}
 use Rattle.noc_sets.specs.Column.{RouterMarks}

@@ -1,3 +1,4 @@
 pub mod OutlookLemmas
 pub mod LaneLemmas
+pub mod ArrivedLemmas
 pub mod DecidedLemmas

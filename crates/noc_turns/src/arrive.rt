@@ -79,6 +79,7 @@ pub fn arrive_block<W: Word>(
         &work.arrived.filled,
         &mut work.standing,
     );
+    let lanes = coming.landing | coming.beginning;
     let credits = has_some(&work.links.credits);
-    work.came = (coming.landing | coming.beginning != 0) | credits;
+    work.came = (lanes != 0) | credits;
 }

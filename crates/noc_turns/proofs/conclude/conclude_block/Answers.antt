@@ -1,4 +1,4 @@
-use Rattle.std.proofs.Common.{◌≡◌, ◌<◌, ◌∙◌, ℕ, List, ap, refl, rules, subst}
+use Rattle.std.proofs.Common.{◌<◌, ◌∙◌, ℕ, List, ap, refl, rules, subst}
 use Rattle.noc_lanes.specs.Lanes.{word}
 use Rattle.noc_lanes.specs.declared.channels.Decided.{Decided}
 use Rattle.noc_blocks.specs.Ports.{by_port}
@@ -6,11 +6,28 @@ use Rattle.noc_turns.proofs.LaneLemmas.{ported, released-same, taken-is, to_port
 use Rattle.noc_turns.proofs.conclude.conclude_block.Goals as goal
 
 pub release_all-requires : goal.release_all-requires
-release_all-requires g c =
-    (search rules, (search rules, (search rules, (search rules, (c.requires.tails, (λ k l. c.alike-work.ensures k l ∙ c.none.ensures, λ k i l e.
-    let v = g.W.Word.value in
-    let state = c.args.state.now in
-    subst (λ (f : ℕ → ℕ). 0 < f i) (taken-is v state.marks (by_port v state.ports.sends.to_port k) (by_port v state.ports.turn k) k) ((c.requires.lanes k l).owned i e)))))))
+release_all-requires g c = (
+  search rules,
+  (
+    search rules,
+    (
+      search rules,
+      (
+        search rules,
+        (
+          c.requires.tails,
+          (
+            λ k l. c.alike-work.ensures k l ∙ c.none.ensures,
+            λ k i l e.
+                let v = g.W.Word.value in
+                let state = c.args.state.now in
+                subst (λ (f : ℕ → ℕ). 0 < f i) (taken-is v state.marks (by_port v state.ports.sends.to_port k) (by_port v state.ports.turn k) k) ((c.requires.lanes k l).owned i e),
+          ),
+        ),
+      ),
+    ),
+  ),
+)
 
 pub returns-clause-lanes : goal.returns-clause-lanes
 returns-clause-lanes g c = λ k l.

@@ -1,4 +1,4 @@
-use Rattle.std.proofs.Common.{◌∙◌, ap, arith, subst}
+use Rattle.std.proofs.Common.{ap, arith, subst}
 use Rattle.std.specs.Prelude.{not}
 use Rattle.noc_lanes.specs.Lanes.{word}
 use Rattle.noc_turns.proofs.OutlookLemmas.{GathersSome, gathers-all, gathers-next, gathers-nothing}

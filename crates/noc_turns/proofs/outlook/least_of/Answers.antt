@@ -1,6 +1,4 @@
-use Rattle.std.proofs.Common.{◌≡◌, ℕ, ◌<◌, ◌≤◌, ◌-◌, ◌^◌, ◌∙◌, ap, arith, inl, refl, subst, sym}
-use Rattle.std.specs.Prelude.{nat_le, if◌then◌else◌}
-use Rattle.noc_lanes.specs.Lanes.{word}
+use Rattle.std.proofs.Common.{arith, inl, refl}
 use Rattle.noc_turns.proofs.OutlookLemmas.{least-all, least-next}
 use Rattle.noc_turns.proofs.outlook.least_of.Goals as goal
 

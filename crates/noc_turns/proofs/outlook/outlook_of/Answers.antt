@@ -1,4 +1,4 @@
-use Rattle.std.proofs.Common.{◌^◌, ◌<◌, arith}
+use Rattle.std.proofs.Common.{arith}
 use Rattle.noc_lanes.specs.Lanes.{word}
 use Rattle.noc_turns.proofs.OutlookLemmas.{tells-either, tells-lanes}
 use Rattle.noc_turns.proofs.outlook.outlook_of.Goals as goal
