@@ -1,10 +1,8 @@
 -- What comes to the routers of a block.
-use Rattle.std.proofs.Common.{◌≡◌, ◌≢◌, ℕ, ◌%◌, ◌^◌, ◌<◌, ◌≤◌, Bool, true, false, List, None, Some, length, refl, ap, arith, inl, inr, ◌∙◌, bit_or, mod-eq_of_lt}
-use Rattle.std.specs.Prelude.{◌⊎◌, ◌&&◌, ◌||◌, Option, not, nat_eq, nat_le, slice_get, if◌then◌else◌}
-use Rattle.std.proofs.Math.Pow.{pow_mono}
+use Rattle.std.proofs.Common.{◌≡◌, ◌≢◌, ℕ, ◌^◌, ◌<◌, ◌≤◌, Bool, true, false, List, length, refl, ap, arith, inl, inr, ◌∙◌, bit_or}
+use Rattle.std.specs.Prelude.{◌⊎◌, ◌&&◌, ◌||◌, not, nat_eq, nat_le, if◌then◌else◌}
 use Rattle.std.proofs.lemmas.Bool.{and_parts, cases_Bool, eqb-true, leb-true}
 use Rattle.std.proofs.lemmas.List.{length-map}
-use Rattle.std.proofs.lemmas.Nat.{pow_pos}
 use Rattle.noc_packet.proofs.SetLemmas.{zero_from_none}
 use Rattle.noc_sets.specs.Column.{Column}
 use Rattle.noc_sets.specs.Layout.{Layout}
@@ -13,7 +11,6 @@ use Rattle.noc_sets.specs.Planes.{wrong_from}
 use Rattle.noc_sets.specs.Sets.{lowest}
 use Rattle.noc_sets.specs.Source.{Source, Start}
 use Rattle.noc_sets.proofs.MemberLemmas.{either-zero, zero_members}
-use Rattle.noc_lanes.specs.Lanes.{value_or_none, word}
 use Rattle.noc_lanes.specs.Planes.{list_of}
 use Rattle.noc_lanes.specs.declared.channels.Inputs.{Inputs}
 use Rattle.noc_lanes.specs.declared.channels.Outputs.{Outputs}
@@ -25,18 +22,6 @@ use Rattle.noc_blocks.specs.declared.sources.Start.{Start as Kept}
 use Rattle.noc_blocks.proofs.BeginLemmas.{lowest-more}
 use Rattle.noc_blocks.proofs.StillLemmas.{zero-and}
 use Rattle.noc_turns.specs.Outlooks.{TellsSome}
-
--- ---- words
-pub word-fits : {A : Type 0} (value : A → ℕ) (w : ℕ) → w ≤ 64 → ((x : A) → value x < 2 ^ w) → (k : ℕ) (lanes : List A) → word value k lanes < 2 ^ 64
-word-fits {A = A} value w few fits k lanes = by (slice_get lanes k)
-  where
-    by : (x : Option A) → value_or_none value x < 2 ^ 64
-    by None = pow_pos 64
-    by (Some x) = let l : value x < 2 ^ w = fits x in let most : 2 ^ w ≤ 2 ^ 64 = pow_mono few in omega (arith, l, most)
-
--- a number of 32 bits
-pub word-of : (w n : ℕ) → 32 ≤ w → n < 2 ^ 32 → n % 2 ^ w ≡ n
-word-of w n many small = mod-eq_of_lt (let most : 2 ^ 32 ≤ 2 ^ w = pow_mono many in omega (arith, most))
 
 -- ---- the list of starts
 pub starts-long : (starts : List Kept) (place : ℕ) → place < length (starts_by starts) → place < length starts

@@ -1,3 +1,4 @@
+pub mod WordLemmas
 pub mod OutlookLemmas
 pub mod LaneLemmas
 pub mod ArrivedLemmas

@@ -22,10 +22,11 @@ use Rattle.noc_blocks.proofs.LaneLemmas.{some-there}
 use Rattle.noc_blocks.proofs.TakenAllLemmas.{flits-leave-supplied, flits-supplied}
 use Rattle.noc_turns.specs.Outlooks.{TellsSome, comes_to}
 use Rattle.noc_turns.specs.States.{lane_of, links_of}
-use Rattle.noc_turns.proofs.ArrivedLemmas.{begins-due, either-some, ends-none, starts-long, stays-on, tells-lowest, word-fits, word-of}
+use Rattle.noc_turns.proofs.ArrivedLemmas.{begins-due, either-some, ends-none, starts-long, stays-on, tells-lowest}
 use Rattle.noc_turns.proofs.DecidedLemmas.{among-none}
 use Rattle.noc_turns.proofs.LaneLemmas.{owner-is}
 use Rattle.noc_turns.proofs.OutlookLemmas.{tells-either, tells-lanes, tells-same}
+use Rattle.noc_turns.proofs.WordLemmas.{word-fits, word-of}
 use Rattle.noc_turns.proofs.arrive.arrive_block.Goals as goal
 
 pub supply_all-requires : goal.supply_all-requires
