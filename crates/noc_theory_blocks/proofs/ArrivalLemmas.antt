@@ -27,11 +27,11 @@ use Rattle.noc_blocks.specs.Turned.{IsReady, Working}
 use Rattle.noc_blocks.specs.Turning.{HasDecidedAll, HasTakenAll, Lane, column_in, router_in}
 use Rattle.noc_theory_blocks.proofs.HeadLemmas.{lane-known}
 
-left-of : (a b : Bool) → (a && b) ≡ true → a ≡ true
+pub left-of : (a b : Bool) → (a && b) ≡ true → a ≡ true
 left-of true b e = refl
 left-of false b e = absurd (false≢true e)
 
-right-of : (a b : Bool) → (a && b) ≡ true → b ≡ true
+pub right-of : (a b : Bool) → (a && b) ≡ true → b ≡ true
 right-of true b e = e
 right-of false b e = absurd (false≢true e)
 
@@ -44,7 +44,7 @@ some-member (suc n) test e = at (some_below n test) refl (some-member n test)
     at false h below = (n, sym (ap (λ b. b || test n) h) ∙ e)
 
 -- who is selected is picked
-selected-picked : (ports picked : ℕ) (to_port turn : ℕ → ℕ) (i : ℕ) → has_bit (union_from 0 ports (selected_by picked to_port turn)) i ≡ true → has_bit picked i ≡ true
+pub selected-picked : (ports picked : ℕ) (to_port turn : ℕ → ℕ) (i : ℕ) → has_bit (union_from 0 ports (selected_by picked to_port turn)) i ≡ true → has_bit picked i ≡ true
 selected-picked ports picked to_port turn i e =
     let some : some_below ports (λ q. has_bit (selected_by picked to_port turn q) i) ≡ true =
     sym (ap (λ b. b || some_below ports (λ q. has_bit (selected_by picked to_port turn q) i)) (has_bit-zero i)) ∙ sym (union-members 0 ports (selected_by picked to_port turn) i) ∙ e in
