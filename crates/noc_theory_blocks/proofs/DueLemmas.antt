@@ -1,8 +1,8 @@
 -- When packets are due is a word of 32 bits.
 use Rattle.std.proofs.Common.{◌≡◌, ℕ, zero, suc, ◌^◌, ◌<◌, List, [], ◌∷◌, ◌++◌, map, ap, arith, inl, inr, refl, subst, sym, ◌∙◌}
-use Rattle.std.specs.Prelude.{◌⊎◌, slice_get, unwrap_or}
+use Rattle.std.specs.Prelude.{unwrap_or}
 use Rattle.noc_topo.specs.Lists.{Has}
-use Rattle.noc_topo.specs.Shape.{nodes, ports}
+use Rattle.noc_topo.specs.Shape.{nodes}
 use Rattle.noc_packet.specs.ByNode.{starts_of}
 use Rattle.noc_packet.specs.declared.packet.Packet.{Packet}
 use Rattle.noc_view.specs.View.{View}

@@ -1,5 +1,5 @@
 -- A lane of a block that shows a router of a network, through the three parts of a cycle.
-use Rattle.std.proofs.Common.{◌≡◌, ◌≢◌, ℕ, ◌+◌, ◌*◌, ◌/◌, ◌^◌, ◌<◌, true, List, length, ap, arith, inl, inr, subst, sym, ◌∙◌}
+use Rattle.std.proofs.Common.{◌≡◌, ◌≢◌, ℕ, ◌+◌, ◌*◌, ◌/◌, ◌<◌, true, List, length, ap, arith, inl, inr, subst, sym, ◌∙◌}
 use Rattle.std.specs.Prelude.{◌⊎◌, ◌||◌, bit_and, not}
 use Rattle.std.proofs.lemmas.Bool.{cases_eq}
 use Rattle.std.proofs.lemmas.Nat.{pow_pos}
@@ -41,7 +41,7 @@ use Rattle.noc_blocks.specs.Numbered.{port_in, vc_in}
 use Rattle.noc_blocks.specs.Routing.{sets_by}
 use Rattle.noc_blocks.specs.Sending.{SendsActive, SendsRight}
 use Rattle.noc_blocks.specs.Turned.{AreWorked, HasRoom, IsReady, Working, turn_in}
-use Rattle.noc_blocks.specs.Turning.{HasConcludedAll, HasDecidedAll, HasTakenAll, Lane, column_in, router_in}
+use Rattle.noc_blocks.specs.Turning.{HasConcludedAll, HasDecidedAll, Lane, column_in, router_in}
 use Rattle.noc_blocks.specs.declared.numbering.Numbering.{Numbering}
 use Rattle.noc_blocks.proofs.GrantLemmas.{allocated-size}
 use Rattle.noc_blocks.proofs.SendingLemmas.{sends-granted}
@@ -152,9 +152,6 @@ module _ (count w : ℕ) (net : Setup) (layout : Layout) (numbering : Numbering)
 module _ (count w : ℕ) (net : Setup) (layout : Layout) (numbering : Numbering) (starts : List Start) (n r : ℕ) (counts : ℕ → ByVerdict) (a s d : Lane) (returned : Returned ℕ) (x y : Working)
     (setup : IsGoodSetup net) (few : n < CYCLE_LIMIT) (fits : FitsNetwork count w net layout numbering) (l : r < nodes net.relation.grid) (lane : ShowsLane count net n r starts x.links counts a)
     (has : HasDecidedLane w net layout numbering starts n r a s d returned x y) (words : AreWorked s d y) where
-
-
-
   abbrev size_is : ℕ
   size_is = ports net.relation.grid * net.relation.vcs
 

@@ -51,7 +51,8 @@ pub fn lanes_take_part()
         (returned : Returned ℕ) (x y z : Working)
         → IsGoodSetup net → n < CYCLE_LIMIT → FitsNetwork count w net layout numbering
         → r < nodes net.relation.grid → ShowsLane count net n r starts x.links counts a
-        → HasConcludedLane w net layout numbering starts n r a s d b returned x y z → AreWorked s d z
+        → HasConcludedLane w net layout numbering starts n r a s d b returned x y z
+        → AreWorked s d z
         → HasWorked (ports net.relation.grid) net.relation.vcs layout starts (permitted net r) n
         (router_in a x.links counts)
         (turn_in net.relation.vcs (ports net.relation.grid) layout n counts a s d b z) }
@@ -60,7 +61,8 @@ pub fn lanes_take_part()
         (returned : Returned ℕ) (x y z : Working)
         → IsGoodSetup net → n < CYCLE_LIMIT → FitsNetwork count w net layout numbering
         → r < nodes net.relation.grid → ShowsLane count net n r starts x.links counts a
-        → HasConcludedLane w net layout numbering starts n r a s d b returned x y z → AreWorked s d z
+        → HasConcludedLane w net layout numbering starts n r a s d b returned x y z
+        → AreWorked s d z
         → SendsRight net.relation.vcs (ports net.relation.grid) b.vc b.marks }
 {}
 
@@ -114,7 +116,8 @@ pub fn blank_lanes_stay_blank()
         (starts : List Start) (n r : ℕ) (a s d b : Lane) (returned : Returned ℕ)
         (x y z : Working)
         → n < NEVER → IsBlank a → x.links.flits ≡ 0
-        → HasConcludedLane w net layout numbering starts n r a s d b returned x y z → DoesNothing z }
+        → HasConcludedLane w net layout numbering starts n r a s d b returned x y z
+        → DoesNothing z }
     ensures comes { (layout : Layout) (n : ℕ) (links : Links ℕ) (a : Lane)
         → n < NEVER → IsBlank a → links.flits ≡ 0 → links.credits ≡ 0
         → comes_to layout n links a ≡ 0 }
