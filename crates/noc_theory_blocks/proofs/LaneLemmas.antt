@@ -164,13 +164,13 @@ module _ (count w : ℕ) (net : Setup) (layout : Layout) (numbering : Numbering)
   sends : SendsRight net.relation.vcs (ports net.relation.grid) s.vc s.marks
   sends = sends-still count w net layout numbering starts n r counts a s returned x setup few fits l lane has.takes
 
-  active : SendsActive net.relation.vcs (ports net.relation.grid) (column_in s) s.marks
-  active = active-still count w net layout numbering starts n r counts a s returned x setup few fits l lane has.takes
+  pub lane-active : SendsActive net.relation.vcs (ports net.relation.grid) (column_in s) s.marks
+  lane-active = active-still count w net layout numbering starts n r counts a s returned x setup few fits l lane has.takes
 
-  asked : lane_asks (column_in s) ≢ 0 → HasAllocated size_is (λ o. o / net.relation.vcs) (before (column_in s) s.marks) g
-  asked some = allocated-size w size_is (port_in numbering) (λ o. o / net.relation.vcs) (before (column_in s) s.marks) g (omega (arith, fits.room.few)) words.idle (λ o e. fits.room.port_is o (active.idle o e)) (has.decides.asked some).0
+  pub lane-asked : lane_asks (column_in s) ≢ 0 → HasAllocated size_is (λ o. o / net.relation.vcs) (before (column_in s) s.marks) g
+  lane-asked some = allocated-size w size_is (port_in numbering) (λ o. o / net.relation.vcs) (before (column_in s) s.marks) g (omega (arith, fits.room.few)) words.idle (λ o e. fits.room.port_is o (lane-active.idle o e)) (has.decides.asked some).0
 
-  granted-sends : SendsRight net.relation.vcs (ports net.relation.grid) d.vc g.marks
+  pub granted-sends : SendsRight net.relation.vcs (ports net.relation.grid) d.vc g.marks
   granted-sends = at (cases_eq (lane_asks (column_in s)) 0)
     where
       at : (lane_asks (column_in s) ≡ 0) ⊎ (lane_asks (column_in s) ≢ 0) → SendsRight net.relation.vcs (ports net.relation.grid) d.vc g.marks
@@ -178,7 +178,7 @@ module _ (count w : ℕ) (net : Setup) (layout : Layout) (numbering : Numbering)
           let same = has.decides.unasked none in
           subst (λ (v : List ℕ). SendsRight net.relation.vcs (ports net.relation.grid) v g.marks) (sym same.1)
           (subst (λ (b : Allocation). SendsRight net.relation.vcs (ports net.relation.grid) s.vc b.marks) (sym same.0) sends)
-      at (inr some) = sends-granted net.relation.vcs (ports net.relation.grid) (vc_in numbering) s.vc d.vc (before (column_in s) s.marks) g fits.room.some fits.room.vc_is words.idle (asked some) (has.decides.asked some).1 sends active
+      at (inr some) = sends-granted net.relation.vcs (ports net.relation.grid) (vc_in numbering) s.vc d.vc (before (column_in s) s.marks) g fits.room.some fits.room.vc_is words.idle (lane-asked some) (has.decides.asked some).1 sends lane-active
 
   pub may-conclude : MayConclude (length net.packets) d y
   may-conclude = record {

@@ -5,3 +5,4 @@ pub mod ArrivalLemmas
 pub mod LaneLemmas
 pub mod DueLemmas
 pub mod BlankLemmas
+pub mod GrantedLemmas

@@ -1,6 +1,6 @@
 -- The routers of a network lane by lane: what a lane of a block shows, and what the three parts of
 -- a cycle make of it.
-use Rattle.std.specs.Prelude.{◌≡◌, ℕ, List}
+use Rattle.std.specs.Prelude.{◌≡◌, ℕ, ◌^◌, ◌<◌, List, Some}
 use Rattle.noc_topo.specs.Shape.{ports}
 use Rattle.noc_sets.specs.Counts.{ByVerdict}
 use Rattle.noc_sets.specs.Layout.{IsLayoutOf, Layout}
@@ -12,7 +12,7 @@ use Rattle.noc_theory_bits.specs.Network.{ShowsRouter}
 use Rattle.noc_blocks.specs.Numbered.{IsNumbered, port_in, vc_in}
 use Rattle.noc_blocks.specs.Routing.{sets_by}
 use Rattle.noc_blocks.specs.Sending.{SendsRight}
-use Rattle.noc_blocks.specs.Turned.{HasRoom, Working}
+use Rattle.noc_blocks.specs.Turned.{HasRoom, Working, grants_in}
 use Rattle.noc_blocks.specs.Turning.{HasConcludedAll, HasDecidedAll, HasTakenAll, Lane, router_in}
 use Rattle.noc_blocks.specs.declared.numbering.Numbering.{Numbering}
 
@@ -56,6 +56,16 @@ pub record HasConcludedLane (w : ℕ) (net : Setup) (layout : Layout) (numbering
   pub concludes : HasConcludedAll net.relation.vcs (ports net.relation.grid) layout
       (port_in numbering) d b y.standing y.moves z.decided
   pub rest : z ≡ record y { decided = record y.decided { freed = z.decided.freed } }
+
+-- ---- what it grants
+-- input channel k of those of a router with so many, when it is still s and has decided d, is granted
+-- the output channel that it has taken
+pub record IsGranted (channels : ℕ) (s d : Lane) (k : ℕ) : Type 0 where
+  pub input : k < channels
+  pub out : ℕ
+  pub below : out < channels
+  pub is_taken : d.marks.taken k ≡ 2 ^ out
+  pub is_granted : grants_in s d out ≡ Some k
 
 -- ---- a lane in which nothing happens
 -- no head is routed, no channel is granted, no flit moves and no tail leaves

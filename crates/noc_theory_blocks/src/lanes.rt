@@ -1,7 +1,8 @@
 //! The lanes of a block that show routers of a network, and those that have none.
 
-ghost use Rattle.std.specs.Prelude.{◌≡◌, ℕ, ◌^◌, ◌<◌, List, length};
+ghost use Rattle.std.specs.Prelude.{◌≡◌, ℕ, ◌-◌, ◌^◌, ◌<◌, true, List, Some, bit_and, length};
 ghost use Rattle.noc_topo.specs.Shape.{nodes, ports};
+ghost use Rattle.noc_packet.specs.Set.{has_bit};
 ghost use Rattle.noc_sets.specs.Counts.{ByVerdict};
 ghost use Rattle.noc_sets.specs.Cycle.{HasWorked};
 ghost use Rattle.noc_sets.specs.Layout.{Layout};
@@ -9,17 +10,17 @@ ghost use Rattle.noc_sets.specs.Source.{NEVER, Start};
 ghost use Rattle.noc_lanes.specs.declared.channels.Links.{Links};
 ghost use Rattle.noc_lanes.specs.declared.channels.Returned.{Returned};
 ghost use Rattle.noc_theory.specs.Good.{IsGoodSetup};
-ghost use Rattle.noc_theory.specs.Network.{Setup};
+ghost use Rattle.noc_theory.specs.Network.{Setup, size};
 ghost use Rattle.noc_theory.specs.declared.limits.TheConstants.{CYCLE_LIMIT};
 ghost use Rattle.noc_theory_bits.specs.Network.{all_starts, permitted};
 ghost use Rattle.noc_blocks.specs.Blank.{IsBlank};
 ghost use Rattle.noc_blocks.specs.Sending.{SendsRight};
-ghost use Rattle.noc_blocks.specs.Turned.{AreWorked, IsAsleep, Working, turn_in};
+ghost use Rattle.noc_blocks.specs.Turned.{AreWorked, IsAsleep, Working, grants_in, turn_in};
 ghost use Rattle.noc_blocks.specs.Turning.{Lane, router_in};
 ghost use Rattle.noc_blocks.specs.declared.numbering.Numbering.{Numbering};
 ghost use Rattle.noc_turns.specs.Held.{MayConclude, MayDecide, MayTake};
 ghost use Rattle.noc_turns.specs.Outlooks.{comes_to, held_in};
-ghost use Rattle.noc_theory_blocks.specs.Lanes.{DoesNothing, FitsNetwork, HasConcludedLane, HasDecidedLane, HasTakenLane, ShowsLane};
+ghost use Rattle.noc_theory_blocks.specs.Lanes.{DoesNothing, FitsNetwork, HasConcludedLane, HasDecidedLane, HasTakenLane, IsGranted, ShowsLane};
 
 /// Before each part of a cycle a lane that shows a router has what the part asks for.
 pub fn lanes_have_what_is_asked_for()
@@ -64,6 +65,34 @@ pub fn lanes_take_part()
         → HasConcludedLane w net layout numbering starts n r a s d b returned x y z
         → AreWorked s d z
         → SendsRight net.relation.vcs (ports net.relation.grid) b.vc b.marks }
+{}
+
+/// Its channels that are granted an output channel are those that have grants in its turn, and what
+/// arrives has left channels of the router.
+pub fn lanes_grant_what_is_taken()
+    ensures each { (count w : ℕ) (net : Setup) (layout : Layout) (numbering : Numbering)
+        (starts : List Start) (n r : ℕ) (counts : ℕ → ByVerdict) (a s d : Lane)
+        (returned : Returned ℕ) (x y : Working)
+        → IsGoodSetup net → n < CYCLE_LIMIT → FitsNetwork count w net layout numbering
+        → r < nodes net.relation.grid → ShowsLane count net n r starts x.links counts a
+        → HasDecidedLane w net layout numbering starts n r a s d returned x y → AreWorked s d y
+        → (k : ℕ) → has_bit y.decided.granted k ≡ true → IsGranted (size net) s d k }
+    ensures all { (count w : ℕ) (net : Setup) (layout : Layout) (numbering : Numbering)
+        (starts : List Start) (n r : ℕ) (counts : ℕ → ByVerdict) (a s d : Lane)
+        (returned : Returned ℕ) (x y : Working)
+        → IsGoodSetup net → n < CYCLE_LIMIT → FitsNetwork count w net layout numbering
+        → r < nodes net.relation.grid → ShowsLane count net n r starts x.links counts a
+        → HasDecidedLane w net layout numbering starts n r a s d returned x y → AreWorked s d y
+        → (o k : ℕ) → grants_in s d o ≡ Some k
+        → (has_bit y.decided.granted k ≡ true) × (d.marks.taken k ≡ 2 ^ o) }
+    ensures delivered { (count w : ℕ) (net : Setup) (layout : Layout) (numbering : Numbering)
+        (starts : List Start) (n r : ℕ) (counts : ℕ → ByVerdict) (a s d : Lane)
+        (returned : Returned ℕ) (x y : Working)
+        → IsGoodSetup net → n < CYCLE_LIMIT → FitsNetwork count w net layout numbering
+        → r < nodes net.relation.grid → ShowsLane count net n r starts x.links counts a
+        → HasDecidedLane w net layout numbering starts n r a s d returned x y → AreWorked s d y
+        → (i : ℕ) → has_bit (bit_and y.decided.released
+        (d.marks.to_port (ports net.relation.grid - 1))) i ≡ true → i < size net }
 {}
 
 /// When the next packet of a lane is due is a word of 32 bits, before a cycle and after it.

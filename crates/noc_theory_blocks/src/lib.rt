@@ -19,7 +19,8 @@ pub use heads::{
 };
 pub use lanes::{
     blank_lanes_have_what_is_asked_for, blank_lanes_stay_blank, lanes_are_due_in_time,
-    lanes_have_what_is_asked_for, lanes_take_part, lanes_that_hold_nothing_are_asleep,
+    lanes_grant_what_is_taken, lanes_have_what_is_asked_for, lanes_take_part,
+    lanes_that_hold_nothing_are_asleep,
 };
 pub use rows::{rows_bring_what_left, rows_take_the_words_of_a_block};
 pub use tells::{
