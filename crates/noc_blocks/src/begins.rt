@@ -23,9 +23,9 @@ pub fn advance<W: Word>(starts: &[Start], queue: &mut u32) -> W
     of_number(start.due)
 }
 
-// A number as a word.
+/// A number as a word.
 #[inline(always)]
-fn of_number<W: Word>(number: u32) -> W
+pub fn of_number<W: Word>(number: u32) -> W
     ensures { W.value result ≡ number }
 {
     W::of(u64::from(number))

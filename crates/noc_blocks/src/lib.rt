@@ -31,7 +31,7 @@ mod tails;
 mod verdicts;
 
 pub use allocate::{Allocated, allocate_all};
-pub use begins::{advance, begin};
+pub use begins::{advance, begin, of_number};
 pub use credits::take_credits;
 pub use flits::{Coming, land_head, take_flits};
 pub use frame::{Frame, PORTS};

@@ -1,0 +1,6 @@
+pub mod FrameLemmas
+pub mod LayoutLemmas
+pub mod OpenedLemmas
+pub mod StartLemmas
+pub mod NearLemmas
+pub mod SideLemmas

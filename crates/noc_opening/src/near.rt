@@ -1,6 +1,6 @@
 //! The blocks to which the links of a block lead.
 
-ghost use Rattle.std.specs.Prelude.{◌≡◌, ℕ, ◌+◌, ◌/◌, ◌<◌, ◌≤◌, true, Some};
+ghost use Rattle.std.specs.Prelude.{◌≡◌, ℕ, ◌+◌, ◌/◌, ◌^◌, ◌<◌, ◌≤◌, true, Some};
 ghost use Rattle.noc_topo.specs.Shape.{neighbour, nodes};
 ghost use Rattle.noc_packet.specs.Set.{has_bit};
 ghost use Rattle.noc_opening.specs.Near.{AreNear, RouterLeadsTo};
@@ -33,8 +33,16 @@ fn near_router(shape: &Shape, node: usize) -> u32
     let mut near = 0u32;
     for port in 0..shape.ports() {
         if let Some((to, _)) = shape.neighbour(node, port) {
-            near |= 1u32 << (to / LANES) as u32;
+            near |= block_of(to);
         }
     }
     near
+}
+
+// The block of a router alone.
+fn block_of(node: usize) -> u32
+    requires { node < MAX_NODES }
+    ensures { result ≡ 2 ^ (node / LANES) }
+{
+    1u32 << (node / LANES) as u32
 }

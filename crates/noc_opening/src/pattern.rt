@@ -64,6 +64,7 @@ pub(crate) fn low_bits<W: Word>(count: usize) -> W
 fn fields_of<W: Word>(ports: usize, vcs: usize) -> Fields<W>
     requires ports { ports ≤ PORTS }
     requires some { 0 < vcs }
+    requires vcs { vcs ≤ PORTS }
     requires fits { ports * vcs < W.bits }
     ensures fields { IsFields W.bits ports (fields_by W.value result) }
     ensures width { result.width ≡ vcs }

@@ -1,14 +1,14 @@
 //! Where the words that the links bring to a block stand, and of which channels they are.
 
-ghost use Rattle.std.specs.Prelude.{◌≡◌, ℕ, ◌+◌, ◌<◌, ◌≤◌, slice_index};
-ghost use Rattle.noc_topo.specs.Shape.{dimensions, local_port, nodes};
+ghost use Rattle.std.specs.Prelude.{◌≡◌, ℕ, ◌+◌, ◌<◌, ◌≤◌, if◌then◌else◌, slice_index};
+ghost use Rattle.noc_topo.specs.Shape.{IsGrid, dimensions, local_port, nodes};
 ghost use Rattle.noc_route.specs.Routes.{width};
-ghost use Rattle.noc_sets.specs.Gather.{place_round, place_straight, span, stride};
+ghost use Rattle.noc_sets.specs.Gather.{span, stride};
 ghost use Rattle.noc_blocks.specs.Blank.{BringsNothing};
 ghost use Rattle.noc_blocks.specs.Ports.{by_port};
 ghost use Rattle.noc_blocks.specs.Sides.{AreSides, FitsRow};
 ghost use Rattle.noc_lanes.specs.Lanes.{word};
-ghost use Rattle.noc_opening.specs.Masks.{goes, mask_at};
+ghost use Rattle.noc_opening.specs.Masks.{goes, mask_at, place_at};
 
 use crate::pattern::low_bits;
 use noc_blocks::{PORTS, ROOM, ROW, Side, Sides};
@@ -27,16 +27,9 @@ pub fn sides_of<W: Word>(relation: &Relation, first: usize) -> Sides<Lanes<W>>
     ensures beyond { (k : ℕ) → k < LANES → nodes relation.now.grid ≤ first + k
         → BringsNothing W.value (local_port relation.now.grid) k result }
 {
-    let shape = relation.shape();
-    let straight = Side {
-        starts: straight_starts(shape, first),
-        masks: masks_of(relation, first, true),
-    };
-    let round = Side {
-        starts: round_starts(shape, first),
-        masks: masks_of(relation, first, false),
-    };
-    let closes = shape.kind() == Kind::Torus;
+    let straight = side_of(relation, first, true);
+    let round = side_of(relation, first, false);
+    let closes = relation.shape().kind() == Kind::Torus;
     Sides {
         straight,
         round,
@@ -44,64 +37,82 @@ pub fn sides_of<W: Word>(relation: &Relation, first: usize) -> Sides<Lanes<W>>
     }
 }
 
-// By link port, the place of the word of the router that is one stride from the first.
-fn straight_starts(shape: &Shape, first: usize) -> [usize; PORTS]
-    requires { first + LANES ≤ MAX_NODES }
+// Of the neighbours straight on, or round.
+fn side_of<W: Word>(relation: &Relation, first: usize, straight: bool) -> Side<Lanes<W>>
+    requires fits { width relation.now.grid relation.now.vcs < W.bits }
+    requires within { first + LANES ≤ MAX_NODES }
+    ensures starts { (q k : ℕ) → q < local_port relation.now.grid → k < LANES
+        → slice_index result.starts q + k ≡ place_at relation.now.grid straight (first + k) q }
+    ensures row { (q : ℕ) → q < local_port relation.now.grid
+        → slice_index result.starts q + LANES ≤ ROW }
+    ensures masks { (q k : ℕ) → q < local_port relation.now.grid → k < LANES
+        → by_port W.value result.masks k q
+        ≡ mask_at relation.now.grid relation.now.vcs straight (first + k) q }
+{
+    let starts = starts_of(relation.shape(), first, straight);
+    let masks = masks_of(relation, first, straight);
+    Side { starts, masks }
+}
+
+// By link port, the place of the word of the first router's neighbour, straight on or round.
+fn starts_of(shape: &Shape, first: usize, straight: bool) -> [usize; PORTS]
+    requires grid { IsGrid shape.now }
+    requires within { first + LANES ≤ MAX_NODES }
     ensures places { (q k : ℕ) → q < local_port shape.now → k < LANES
-        → slice_index result q + k ≡ place_straight shape.now ROOM (first + k) q }
+        → slice_index result q + k ≡ place_at shape.now straight (first + k) q }
     ensures row { (q : ℕ) → q < local_port shape.now → slice_index result q + LANES ≤ ROW }
 {
     let mut starts = [0; PORTS];
     for port in 0..shape.ports() - 1 {
-        let by = stride_of(shape, port / 2);
-        starts[port] = if port % 2 == 0 {
-            ROOM + first + by
-        } else {
-            ROOM + first - by
-        };
+        starts[port] = start_of(shape, first, port, straight);
     }
     starts
 }
 
-// .. of the one that is a span from it.
-fn round_starts(shape: &Shape, first: usize) -> [usize; PORTS]
-    requires { first + LANES ≤ MAX_NODES }
-    ensures places { (q k : ℕ) → q < local_port shape.now → k < LANES
-        → slice_index result q + k ≡ place_round shape.now ROOM (first + k) q }
-    ensures row { (q : ℕ) → q < local_port shape.now → slice_index result q + LANES ≤ ROW }
+// .. by one port.
+fn start_of(shape: &Shape, first: usize, port: usize, straight: bool) -> usize
+    requires grid { IsGrid shape.now }
+    requires within { first + LANES ≤ MAX_NODES }
+    requires port { port < local_port shape.now }
+    ensures place { (k : ℕ) → result + k ≡ place_at shape.now straight (first + k) port }
+    ensures row { result + LANES ≤ ROW }
 {
-    let mut starts = [0; PORTS];
-    for port in 0..shape.ports() - 1 {
-        let by = span_of(shape, port / 2);
-        starts[port] = if port % 2 == 0 {
-            ROOM + first - by
-        } else {
-            ROOM + first + by
-        };
+    let by = distance_of(shape, port / 2, straight);
+    let up = port % 2 == 0;
+    if up == straight {
+        ROOM + first + by
+    } else {
+        ROOM + first - by
     }
-    starts
 }
 
-// How far apart in number neighbours in a dimension are.
-fn stride_of(shape: &Shape, dimension: usize) -> usize
-    requires { dimension < dimensions shape.now }
-    ensures value { result ≡ stride shape.now dimension }
+// How far apart in number neighbours in a dimension are, straight on or round.
+fn distance_of(shape: &Shape, dimension: usize, straight: bool) -> usize
+    requires grid { IsGrid shape.now }
+    requires dimension { dimension < dimensions shape.now }
+    ensures value { result ≡ (if straight then stride shape.now dimension else span shape.now
+        dimension) }
     ensures few { result < MAX_NODES }
+{
+    let stride = stride_of(shape, dimension);
+    if straight {
+        stride
+    } else {
+        stride * (shape.radix(dimension) - 1)
+    }
+}
+
+// How far apart they are straight on.
+fn stride_of(shape: &Shape, dimension: usize) -> usize
+    requires grid { IsGrid shape.now }
+    requires dimension { dimension < dimensions shape.now }
+    ensures value { result ≡ stride shape.now dimension }
 {
     let mut stride = 1;
     for lower in 0..dimension {
         stride *= shape.radix(lower);
     }
     stride
-}
-
-// How far apart the two ends of a line are.
-fn span_of(shape: &Shape, dimension: usize) -> usize
-    requires { dimension < dimensions shape.now }
-    ensures value { result ≡ span shape.now dimension }
-    ensures few { result < MAX_NODES }
-{
-    stride_of(shape, dimension) * (shape.radix(dimension) - 1)
 }
 
 // By link port, its channels in the routers of a block that have a neighbour straight on, or round.

@@ -38,7 +38,11 @@ pub fn all_starts(alloc: Global, nodes: usize, packets: &[Packet]) -> Result<Sta
 fn first_due(queue: &[(u32, Packet)]) -> u32
     ensures { result ≡ due_of queue.now }
 {
-    if queue.is_empty() { NEVER } else { queue[0].1.due }
+    if queue.is_empty() {
+        NEVER
+    } else {
+        queue[0].1.due
+    }
 }
 
 // The packets of a router come to the list, and an end.

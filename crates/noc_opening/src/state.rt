@@ -9,6 +9,7 @@ ghost use Rattle.noc_theory_bits.specs.Network.{HasOpened};
 ghost use Rattle.noc_lanes.specs.Channels.{inputs_by, outputs_by, source_by};
 ghost use Rattle.noc_lanes.specs.Lanes.{word};
 ghost use Rattle.noc_blocks.specs.Blank.{IsBlank};
+ghost use Rattle.noc_blocks.specs.Marks.{marks_at};
 ghost use Rattle.noc_blocks.specs.Ports.{by_port};
 ghost use Rattle.noc_blocks.specs.Routers.{frame_by, layout_of};
 ghost use Rattle.noc_blocks.specs.Turned.{IsReady};
@@ -19,7 +20,7 @@ ghost use Rattle.noc_opening.specs.Firsts.{AreFirsts, first_in};
 ghost use Rattle.noc_opening.specs.Frames.{IsFrameOf};
 
 use crate::firsts::First;
-use noc_blocks::{Digits, Frame, Marks, NEVER, PLACES, PORTS, Ports, Sends, Sources};
+use noc_blocks::{Digits, Frame, Marks, NEVER, PLACES, PORTS, Ports, Sends, Sources, of_number};
 use noc_lanes::{Inputs, LANES, Lanes, Outputs, PLANES, Planes, Source, Word, alike, put};
 use noc_packet::MAX_NODES;
 use noc_turns::State;
@@ -45,7 +46,7 @@ pub fn open_block<W: Word>(frame: &Frame<W>, firsts: &[First], first: usize) -> 
         outputs: free_outputs(frame),
         sources: open_sources(firsts, first),
         ports: empty_ports(),
-        marks: [empty_marks(); LANES],
+        marks: empty_marks(),
     }
 }
 
@@ -101,7 +102,15 @@ fn empty_ports<W: Word>() -> Ports<Lanes<W>>
 }
 
 // No channel is held, and each pointer is at the first channel.
-fn empty_marks<W: Word>() -> Marks<W>
+fn empty_marks<W: Word>() -> [Marks<W>; LANES]
+    ensures { (k o : ℕ) (to_port port_turn : ℕ → ℕ) → k < LANES → o < PLACES
+        → (marks_at W.value result to_port port_turn k).turn o ≡ 2 ^ W.bits - 1 }
+{
+    [router_marks(); LANES]
+}
+
+// .. of one router.
+fn router_marks<W: Word>() -> Marks<W>
     ensures { (o : ℕ) → o < PLACES → word W.value o result.turn ≡ 2 ^ W.bits - 1 }
 {
     Marks {
@@ -127,7 +136,7 @@ fn open_sources<W: Word>(firsts: &[First], first: usize) -> Sources<Lanes<W>>
     for lane in 0..LANES {
         let one = first_at(firsts, first + lane);
         queue[lane] = one.place;
-        put(&mut due, lane, W::of(u64::from(one.due)));
+        put(&mut due, lane, of_number(one.due));
     }
     let words = Source {
         injecting: none,

@@ -1,0 +1,12 @@
+use Rattle.std.proofs.Common.{◌≡◌}
+use Rattle.noc_blocks.specs.Begins.{starts_by}
+use Rattle.noc_theory_bits.specs.Starts.{starts_list}
+use Rattle.noc_opening.specs.Firsts.{AreFirsts}
+use Rattle.noc_opening.proofs.starts.all_starts.Given as goal
+
+-- the packets of the routers so far
+abbrev pub invariant-loop-node : goal.invariant-loop-node
+invariant-loop-node l = record {
+  list : starts_by l.list.items ≡ starts_list l.packets l.node;
+  firsts : AreFirsts l.packets l.node l.firsts.items;
+}
