@@ -45,13 +45,17 @@ pub source-words : (injecting left due next : ℕ) → injecting ≡ 0 → left 
     → the_words injecting left due ≡ the_words 0 0 next
 source-words injecting left due next a b c = ap₂ (λ i n. the_words i n due) a b ∙ ap (the_words 0 0) c
 
+-- what holds of the lanes below one, and of that one
+pub lanes-hold : (P : ℕ → ℕ → Type 0) (now new : ℕ → ℕ) (j : ℕ) → ((k : ℕ) → k < j → P k (now k)) → P j (new j) → ((k : ℕ) → k ≢ j → new k ≡ now k) → (k : ℕ) → k < j + 1 → P k (new k)
+lanes-hold P now new j below here others k l = at (cases_eq k j)
+  where
+    at : (k ≡ j) ⊎ (k ≢ j) → P k (new k)
+    at (inl same) = subst (λ (x : ℕ). P x (new x)) (sym same) here
+    at (inr other) = subst (P k) (sym (others k other)) (below k (omega (arith, l, other)))
+
 -- one lane more has what it is to have
 pub lanes-next : (f now new : ℕ → ℕ) (j : ℕ) → ((k : ℕ) → k < j → now k ≡ f k) → new j ≡ f j → ((k : ℕ) → k ≢ j → new k ≡ now k) → (k : ℕ) → k < j + 1 → new k ≡ f k
-lanes-next f now new j below here others k l = at (cases_eq k j)
-  where
-    at : (k ≡ j) ⊎ (k ≢ j) → new k ≡ f k
-    at (inl same) = ap new same ∙ here ∙ ap f (sym same)
-    at (inr other) = others k other ∙ below k (omega (arith, l, other))
+lanes-next f now new j below here others = lanes-hold (λ k n. n ≡ f k) now new j below here others
 
 -- what is written in a lane, of words of w bits
 pub record IsOpen (w : ℕ) (frame : Frame ℕ) (one : First) (a : Lane) : Type 0 where

@@ -40,6 +40,7 @@ pub fn open_block<W: Word>(frame: &Frame<W>, firsts: &[First], first: usize) -> 
         → IsReady relation.vcs (ports relation.grid) (lane_of W.value result k) }
     ensures blank { (k : ℕ) → k < LANES → length firsts.now ≤ first + k
         → IsBlank (lane_of W.value result k) }
+    ensures due { (k : ℕ) → k < LANES → (lane_of W.value result k).words.due < 2 ^ 32 }
 {
     State {
         inputs: empty_inputs(),
@@ -125,10 +126,11 @@ fn router_marks<W: Word>() -> Marks<W>
 // Each source is at its first packet.
 fn open_sources<W: Word>(firsts: &[First], first: usize) -> Sources<Lanes<W>>
     requires { first + LANES ≤ MAX_NODES }
-    ensures due { (k : ℕ) → k < LANES → source_by (word W.value k) result.words
+    ensures words { (k : ℕ) → k < LANES → source_by (word W.value k) result.words
         ≡ record { injecting = 0; left = 0; due = (first_in firsts.now (first + k)).due } }
     ensures queue { (k : ℕ) → k < LANES
         → slice_index result.queue k ≡ (first_in firsts.now (first + k)).place }
+    ensures due { (k : ℕ) → k < LANES → word W.value k result.words.due < 2 ^ 32 }
 {
     let none = alike(W::none());
     let mut due = none;
@@ -136,7 +138,7 @@ fn open_sources<W: Word>(firsts: &[First], first: usize) -> Sources<Lanes<W>>
     for lane in 0..LANES {
         let one = first_at(firsts, first + lane);
         queue[lane] = one.place;
-        put(&mut due, lane, of_number(one.due));
+        put(&mut due, lane, due_word(one.due));
     }
     let words = Source {
         injecting: none,
@@ -144,6 +146,14 @@ fn open_sources<W: Word>(firsts: &[First], first: usize) -> Sources<Lanes<W>>
         due,
     };
     Sources { words, queue }
+}
+
+// When a packet is due, as a word.
+fn due_word<W: Word>(due: u32) -> W
+    ensures value { W.value result ≡ due }
+    ensures small { W.value result < 2 ^ 32 }
+{
+    of_number(due)
 }
 
 // The first packet of a router, or none.

@@ -19,6 +19,7 @@ returns g c = record {
   blank = λ k l past.
       open-blank g.W.Word.bits (frame_by g.W.Word.value c.args.frame.now) (lane k)
       (subst (λ one. IsOpen g.W.Word.bits (frame_by g.W.Word.value c.args.frame.now) one (lane k)) (first-none c.args.firsts.now (c.args.first + k) past) (is-open k l));
+  due = c.open_sources.ensures.due;
 }
   where
     state : State g.row.W.Denot
@@ -37,7 +38,7 @@ returns g c = record {
     is-open k l = record {
       inputs = c.empty_inputs.ensures k l;
       outputs = c.free_outputs.ensures k l;
-      words = c.open_sources.ensures.due k l;
+      words = c.open_sources.ensures.words k l;
       queue = c.open_sources.ensures.queue k l;
       turn = λ o u. c.empty_marks.ensures k o (to_port k) (port_turn k) l u;
       to_port = λ q u. marks-to_port g.W.Word.value (slice_get c.empty_marks.result k) (to_port k) (port_turn k) q ∙ c.empty_ports.ensures.to_port k q l u;
