@@ -1,6 +1,6 @@
 -- What the links bring to a block is what is gathered from a row.
-use Rattle.std.proofs.Common.{◌≡◌, ℕ, zero, suc, ◌+◌, ◌^◌, ◌<◌, ◌≤◌, Bool, true, false, List, [], ◌∷◌, map, refl, ap, ap₂, sym, ◌∙◌, arith, inl, inr, bit_and, bit_or}
-use Rattle.std.specs.Prelude.{◌⊎◌, ◌&&◌, ◌||◌, not, slice_index, if◌then◌else◌}
+use Rattle.std.proofs.Common.{◌≡◌, ℕ, zero, suc, ◌+◌, ◌%◌, ◌^◌, ◌<◌, ◌≤◌, Bool, true, false, List, [], ◌∷◌, map, refl, ap, ap₂, sym, ◌∙◌, arith, inl, inr, bit_and, bit_or}
+use Rattle.std.specs.Prelude.{◌⊎◌, ◌&&◌, ◌||◌, nat_eq, not, slice_index, if◌then◌else◌}
 use Rattle.std.proofs.lemmas.Bool.{cases_lt}
 use Rattle.std.proofs.lemmas.Nat.{pow_pos}
 use Rattle.noc_topo.specs.Shape.{Grid, is_plus, local_port, nodes}
@@ -14,6 +14,7 @@ use Rattle.noc_sets.proofs.UnionLemmas.{or-none, union-same}
 use Rattle.noc_lanes.specs.Lanes.{word}
 use Rattle.noc_lanes.specs.Words.{up_within}
 use Rattle.noc_lanes.proofs.SetLemmas.{low_members}
+use Rattle.noc_blocks.specs.Blank.{BringsNothing}
 use Rattle.noc_blocks.specs.Ports.{by_port}
 use Rattle.noc_blocks.specs.Sides.{AreSides, brought_by, brought_from, moved_by}
 use Rattle.noc_blocks.specs.declared.links.Sides.{Sides}
@@ -121,3 +122,17 @@ module _ {A : Type 0} (value : A → ℕ) (w : ℕ) (fits : (x : A) → value x 
       (rings sides.closes (sym are.closes))
       ∙ both-unions (local_port g) at-straight at-round
       ∙ union-same (local_port g) (λ q. bit_or (at-straight q) (at-round q)) (from_row g vcs ROOM (map value row) (first + k)) (λ q u. refl)
+
+-- ---- a lane to which nothing is brought
+module _ {A : Type 0} (value : A → ℕ) (w vcs links : ℕ) (sides : Sides (List A)) (row : List A) (k : ℕ) (none : BringsNothing value links k sides) where
+  masked : (q place mask : ℕ) → mask ≡ 0 → brought_from value w vcs (nat_eq (q % 2) 0) row place mask ≡ 0
+  masked q place mask e = ap (bit_and (moved_by w vcs (nat_eq (q % 2) 0) (word value place row))) e ∙ and-zero (moved_by w vcs (nat_eq (q % 2) 0) (word value place row))
+
+  by-rings : (b : Bool) → (if b then union_from 0 links (brought_by value w vcs sides.round row k) else 0) ≡ 0
+  by-rings true = union-none links (brought_by value w vcs sides.round row k) (λ q l. masked q (slice_index sides.round.starts q + k) (by_port value sides.round.masks k q) (none.round q l))
+  by-rings false = refl
+
+  pub nothing-is : bit_or (union_from 0 links (brought_by value w vcs sides.straight row k)) (if sides.closes then union_from 0 links (brought_by value w vcs sides.round row k) else 0) ≡ 0
+  nothing-is =
+      ap₂ bit_or (union-none links (brought_by value w vcs sides.straight row k) (λ q l. masked q (slice_index sides.straight.starts q + k) (by_port value sides.straight.masks k q) (none.straight q l))) (by-rings sides.closes)
+      ∙ or-zero 0

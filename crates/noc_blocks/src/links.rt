@@ -5,6 +5,7 @@ ghost use Rattle.noc_topo.specs.Shape.{Grid, local_port, nodes};
 ghost use Rattle.noc_sets.specs.Gather.{gathered_row};
 ghost use Rattle.noc_sets.specs.Unions.{union_from};
 ghost use Rattle.noc_lanes.specs.Lanes.{word};
+ghost use Rattle.noc_blocks.specs.Blank.{BringsNothing};
 ghost use Rattle.noc_blocks.specs.Sides.{AreSides, FitsRow, brought_by, moved_by};
 
 use crate::frame::PORTS;
@@ -50,10 +51,12 @@ pub fn gather<W: Word>(
     requires width { width < W.bits }
     requires links { links ≤ PORTS }
     requires row { FitsRow links sides.now.straight.starts sides.now.round.starts }
-    ensures { (g : Grid) (first k : ℕ) → AreSides W.value g width first sides.now
+    ensures gathered { (g : Grid) (first k : ℕ) → AreSides W.value g width first sides.now
         → links ≡ local_port g → k < LANES → first + k < nodes g
         → word W.value k into.new
         ≡ gathered_row g width ROOM (map W.value row.now) (first + k) }
+    ensures nothing { (k : ℕ) → k < LANES → BringsNothing W.value links k sides.now
+        → word W.value k into.new ≡ 0 }
 {
     *into = alike(W::none());
     gather_side(width, links, &sides.straight, row, into);
