@@ -1,0 +1,70 @@
+//! Which blocks take part in a cycle.
+
+ghost use Rattle.std.specs.Prelude.{◌≡◌, ℕ, ◌≤◌, length};
+ghost use Rattle.noc_packet.specs.Set.{has_bit};
+ghost use Rattle.noc_wires.specs.Waking.{IsNextCycle, is_awake, is_reached};
+
+use noc_blocks::NEVER;
+use noc_lanes::Word;
+use noc_turns::Outlook;
+
+/// How many blocks a network has at most.
+pub const BLOCKS: usize = 8;
+
+/// Which blocks take part in a cycle.
+#[derive(Clone, Copy)]
+pub struct Waking {
+    /// The blocks that do.
+    pub awake: u32,
+    /// The first cycle from this one on in which one does.
+    pub next: u32,
+}
+
+/// The blocks that take part in a cycle, by what is known of each after the cycle before, and by
+/// the blocks to which the links of each lead.
+pub fn wake(outlooks: &[Outlook], near: &[u32], cycle: u32) -> Waking
+    requires few { length outlooks.now ≤ BLOCKS }
+    requires near { length near.now ≡ length outlooks.now }
+    ensures awake { (b : ℕ) → has_bit result.awake b ≡ is_awake outlooks.now near.now cycle b }
+    ensures next { IsNextCycle (is_awake outlooks.now near.now) cycle result.next }
+{
+    let reached = reached_by(outlooks, near);
+    let mut awake = 0u32;
+    let mut next = NEVER;
+    for number in 0..outlooks.len() {
+        let due = due_of(&outlooks[number], reached.has(number), cycle);
+        if due <= cycle {
+            awake = awake.or(u32::one(number));
+        }
+        next = next.min(due);
+    }
+    Waking {
+        awake,
+        next: next.max(cycle),
+    }
+}
+
+// The blocks to which links lead from blocks in which a flit has moved.
+fn reached_by(outlooks: &[Outlook], near: &[u32]) -> u32
+    requires { length near.now ≡ length outlooks.now }
+    ensures { (b : ℕ) → has_bit result b ≡ is_reached outlooks.now near.now b }
+{
+    let mut reached = 0u32;
+    for number in 0..outlooks.len() {
+        if outlooks[number].moves {
+            reached |= near[number];
+        }
+    }
+    reached
+}
+
+// The first cycle in which something is to happen in a block: this one, or when a packet is due.
+fn due_of(outlook: &Outlook, reached: bool, cycle: u32) -> u32
+    ensures { result ≡ (if (outlook.now.holds || outlook.now.moves) || reached then cycle else outlook.now.due) }
+{
+    if outlook.holds || outlook.moves || reached {
+        cycle
+    } else {
+        outlook.due
+    }
+}

@@ -1,0 +1,79 @@
+//! What has left all routers in the last cycle.
+
+ghost use Rattle.std.specs.Prelude.{◌≡◌, ◌≢◌, ℕ, ◌+◌, ◌-◌, ◌/◌, ◌%◌, ◌<◌};
+ghost use Rattle.noc_topo.specs.Shape.{Grid, IsGrid, nodes, ports};
+ghost use Rattle.noc_lanes.specs.Channels.{links_by};
+ghost use Rattle.noc_lanes.specs.Lanes.{word};
+ghost use Rattle.noc_blocks.specs.Blank.{BringsNothing};
+ghost use Rattle.noc_blocks.specs.Routers.{IsFrame, frame_by};
+ghost use Rattle.noc_blocks.specs.Sides.{AreSides, FitsRow};
+ghost use Rattle.noc_turns.specs.States.{working_of};
+
+use crate::awake::BLOCKS;
+use noc_blocks::{Frame, ROOM, ROW, Sides, gather, put_row};
+use noc_lanes::{LANES, Lanes, Links, Word};
+use noc_turns::Work;
+
+/// By router, what has left it.
+#[derive(Drop)]
+pub struct Left<W: Word> {
+    // Output channels by which a flit has left. The word of the first router stands behind some room.
+    flits: [W; ROW],
+    // Output channels by which a tail has left.
+    tails: [W; ROW],
+    // Input channels that a flit has left.
+    credits: [W; ROW],
+}
+
+impl<W: Word> Left<W> {
+    ghost use Rattle.noc_wires.specs.Left.{NOTHING, brought, leaving_of, left_of};
+
+    /// Nothing has left.
+    pub fn none() -> Left<W>
+        ensures { (s : ℕ) → left_of W.value result s ≡ NOTHING }
+    {
+        Left {
+            flits: [W::none(); ROW],
+            tails: [W::none(); ROW],
+            credits: [W::none(); ROW],
+        }
+    }
+
+    /// What the links bring to the routers of a block with these sides.
+    #[inline(always)]
+    pub fn gather(&self, frame: &Frame<W>, sides: &Sides<Lanes<W>>, links: &mut Links<Lanes<W>>)
+        requires frame { IsFrame W.bits (frame_by W.value frame.now) }
+        requires ports { 0 < frame.now.ports }
+        requires row { FitsRow (frame.now.ports - 1) sides.now.straight.starts
+            sides.now.round.starts }
+        ensures brought { (g : Grid) (first k : ℕ) → IsGrid g → frame.now.ports ≡ ports g
+            → AreSides W.value g frame.now.fields.width first sides.now → k < LANES
+            → first + k < nodes g → links_by (word W.value k) links.new
+            ≡ brought g frame.now.fields.width (left_of W.value self.now) (first + k) }
+        ensures nothing { (k : ℕ) → k < LANES
+            → BringsNothing W.value (frame.now.ports - 1) k sides.now
+            → links_by (word W.value k) links.new
+            ≡ record { flits = 0; tails = 0; credits = 0 } }
+    {
+        let width = frame.fields.width;
+        let ports = frame.ports - 1;
+        gather(width, ports, sides, &self.flits, &mut links.flits);
+        gather(width, ports, sides, &self.tails, &mut links.tails);
+        gather(width, ports, sides, &self.credits, &mut links.credits);
+    }
+
+    /// What has left a block.
+    #[inline(always)]
+    pub fn put(&mut self, block: usize, work: &Work<W>)
+        requires { block < BLOCKS }
+        ensures here { (s : ℕ) → s / LANES ≡ block
+            → left_of W.value self.new s ≡ leaving_of (working_of W.value work.now (s % LANES)) }
+        ensures others { (s : ℕ) → s / LANES ≢ block
+            → left_of W.value self.new s ≡ left_of W.value self.old s }
+    {
+        let start = ROOM + block * LANES;
+        put_row(&work.moves.out, start, &mut self.flits);
+        put_row(&work.decided.freed, start, &mut self.tails);
+        put_row(&work.moves.moved, start, &mut self.credits);
+    }
+}

@@ -1,0 +1,16 @@
+//! What goes over the links between the blocks of a network.
+//!
+//! What leaves the routers in a cycle stands in rows, out of which the links bring it in the next
+//! (`left`). What is granted is told to the routers at the other ends of the links (`tells`). Blocks
+//! to which nothing comes, and in which nothing is to happen, sleep (`awake`).
+#![tactic(auto)]
+
+mod awake;
+mod laws;
+mod left;
+mod tells;
+
+pub use awake::{BLOCKS, Waking, wake};
+pub use laws::nothing_comes_to_blocks_asleep;
+pub use left::Left;
+pub use tells::tell;

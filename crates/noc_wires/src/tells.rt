@@ -1,0 +1,201 @@
+//! The routers at the other ends of links are told which packets have been granted channels of
+//! them.
+
+ghost use Rattle.std.specs.Prelude.{◌≡◌, ◌≢◌, ◌⊎◌, ℕ, ◌+◌, ◌-◌, ◌*◌, ◌/◌, ◌%◌, ◌<◌, ◌≤◌, ◌^◌, Bool, true, false, Some, ◌&&◌, ◌||◌, length, option_map, nat_eq, if◌then◌else◌};
+ghost use Rattle.noc_topo.specs.Shape.{is_plus};
+ghost use Rattle.noc_packet.specs.Set.{has_bit};
+ghost use Rattle.noc_theory_blocks.specs.Tells.{AreTold, HasNoted};
+ghost use Rattle.noc_wires.specs.Telling.{CanBeTold, IsTelling, Telling, granted_or_none, grants_if, lane_in, packets_in, place_of, taken_in, with_packets};
+
+use crate::awake::BLOCKS;
+use noc_blocks::{PLACES, PORTS, ROOM, ROW, Sides, entry};
+use noc_lanes::{LANES, Lanes, Word, at};
+use noc_turns::{Pattern, State, Work};
+
+/// The numbers of the packets that are granted channels in a cycle, in the blocks that take part in
+/// it, are told to the routers at the other ends of the links.
+pub fn tell<W: Word>(
+    pattern: &Pattern<W>,
+    sides: &[Sides<Lanes<W>>],
+    works: &[Work<W>],
+    awake: u32,
+    states: &mut [State<W>],
+)
+    requires few { length states.old ≤ BLOCKS }
+    requires works { length works.now ≡ length states.old }
+    requires grants { (t : Telling)
+        × IsTelling W.value W.bits pattern.now sides.now works.now awake states.old t }
+    ensures told { (t : Telling)
+        → IsTelling W.value W.bits pattern.now sides.now works.now awake states.old t
+        → AreTold t.grid pattern.now.frame.fields.width t.grants t.packets
+        (packets_in W.value states.new) }
+    ensures rest { (s : ℕ) → lane_in W.value states.new s
+        ≡ option_map (with_packets (packets_in W.value states.new s))
+        (lane_in W.value states.old s) }
+{
+    for number in 0..states.len() {
+        if awake.has(number) {
+            tell_block(pattern, sides, number, &works[number], states);
+        }
+    }
+}
+
+// .. of one block.
+fn tell_block<W: Word>(
+    pattern: &Pattern<W>,
+    sides: &[Sides<Lanes<W>>],
+    number: usize,
+    work: &Work<W>,
+    states: &mut [State<W>],
+)
+    requires few { number < BLOCKS }
+    requires grants { (t : Telling) × CanBeTold W.value W.bits pattern.now sides.now states.old t
+        × ((k : ℕ) → k < LANES → t.granted (number * LANES + k)
+        ≡ granted_or_none W.value (Some work.now) k) }
+    ensures told { (t : Telling) (test : ℕ → ℕ → Bool)
+        → CanBeTold W.value W.bits pattern.now sides.now states.old t
+        → ((k : ℕ) → k < LANES → t.granted (number * LANES + k)
+        ≡ granted_or_none W.value (Some work.now) k)
+        → AreTold t.grid pattern.now.frame.fields.width (grants_if test t.grants) t.packets
+        (packets_in W.value states.old)
+        → AreTold t.grid pattern.now.frame.fields.width
+        (grants_if (λ s k. test s k || nat_eq (s / LANES) number) t.grants) t.packets
+        (packets_in W.value states.new) }
+    ensures rest { (s : ℕ) → lane_in W.value states.new s
+        ≡ option_map (with_packets (packets_in W.value states.new s))
+        (lane_in W.value states.old s) }
+{
+    let mut rest = work.pending.asking;
+    while !rest.is_none() {
+        let lane = rest.least();
+        let granted = at(&work.decided.granted, lane);
+        tell_router(pattern, sides, number * LANES + lane, granted, states);
+        rest = rest.but_lowest();
+    }
+}
+
+// .. of one router.
+fn tell_router<W: Word>(
+    pattern: &Pattern<W>,
+    sides: &[Sides<Lanes<W>>],
+    router: usize,
+    granted: W,
+    states: &mut [State<W>],
+)
+    requires { (t : Telling) × CanBeTold W.value W.bits pattern.now sides.now states.old t
+        × (t.granted router ≡ W.value granted) }
+    ensures told { (t : Telling) (test : ℕ → ℕ → Bool)
+        → CanBeTold W.value W.bits pattern.now sides.now states.old t
+        → t.granted router ≡ W.value granted
+        → AreTold t.grid pattern.now.frame.fields.width (grants_if test t.grants) t.packets
+        (packets_in W.value states.old)
+        → AreTold t.grid pattern.now.frame.fields.width
+        (grants_if (λ s k. test s k || nat_eq s router) t.grants) t.packets
+        (packets_in W.value states.new) }
+    ensures rest { (s : ℕ) → lane_in W.value states.new s
+        ≡ option_map (with_packets (packets_in W.value states.new s))
+        (lane_in W.value states.old s) }
+{
+    let mut rest = granted;
+    while !rest.is_none() {
+        tell_one(pattern, sides, router, rest.least(), states);
+        rest = rest.but_lowest();
+    }
+}
+
+// .. of one input channel.
+fn tell_one<W: Word>(
+    pattern: &Pattern<W>,
+    sides: &[Sides<Lanes<W>>],
+    router: usize,
+    input: usize,
+    states: &mut [State<W>],
+)
+    requires { (t : Telling) × CanBeTold W.value W.bits pattern.now sides.now states.old t
+        × (has_bit (t.granted router) input ≡ true) }
+    ensures told { (t : Telling) (test : ℕ → ℕ → Bool)
+        → CanBeTold W.value W.bits pattern.now sides.now states.old t
+        → has_bit (t.granted router) input ≡ true
+        → AreTold t.grid pattern.now.frame.fields.width (grants_if test t.grants) t.packets
+        (packets_in W.value states.old)
+        → AreTold t.grid pattern.now.frame.fields.width
+        (grants_if (λ s k. test s k || (nat_eq s router && nat_eq k input)) t.grants) t.packets
+        (packets_in W.value states.new) }
+    ensures rest { (s : ℕ) → lane_in W.value states.new s
+        ≡ option_map (with_packets (packets_in W.value states.new s))
+        (lane_in W.value states.old s) }
+{
+    let packet = packet_at(states, router, input);
+    let out = taken_at(states, router, input).least();
+    let port = usize::from(pattern.numbering.port[out]);
+    if port + 1 < pattern.frame.ports {
+        let node = neighbour(&sides[router / LANES], router % LANES, port);
+        let channel = other_end(pattern.frame.fields.width as usize, port, out);
+        note_packet(states, node, channel, packet);
+    }
+}
+
+// The number of the packet of an input channel.
+#[inline(always)]
+fn packet_at<W: Word>(states: &[State<W>], router: usize, input: usize) -> u32
+    requires router { router / LANES < length states.now }
+    requires input { input < PLACES }
+    ensures { result ≡ packets_in W.value states.now router input }
+{
+    states[router / LANES].marks[router % LANES].packet[input]
+}
+
+// The output channel that an input channel has taken, as a set.
+#[inline(always)]
+fn taken_at<W: Word>(states: &[State<W>], router: usize, input: usize) -> W
+    requires router { router / LANES < length states.now }
+    requires input { input < PLACES }
+    ensures { W.value result ≡ taken_in W.value states.now router input }
+{
+    entry(&states[router / LANES].marks[router % LANES].taken, input)
+}
+
+// The number of the packet of an input channel is noted.
+#[inline(always)]
+fn note_packet<W: Word>(states: &mut [State<W>], router: usize, channel: usize, packet: u32)
+    requires router { router / LANES < length states.old }
+    requires channel { channel < PLACES }
+    ensures noted { HasNoted router channel packet (packets_in W.value states.old)
+        (packets_in W.value states.new) }
+    ensures rest { (s : ℕ) → lane_in W.value states.new s
+        ≡ option_map (with_packets (packets_in W.value states.new s))
+        (lane_in W.value states.old s) }
+{
+    states[router / LANES].marks[router % LANES].packet[channel] = packet;
+}
+
+// The router at the other end of a link of a router of a block.
+#[inline(always)]
+fn neighbour<W: Word>(sides: &Sides<Lanes<W>>, lane: usize, port: usize) -> usize
+    requires lane { lane < LANES }
+    requires port { port < PORTS }
+    requires low { ROOM ≤ place_of W.value sides.now lane port }
+    requires high { place_of W.value sides.now lane port < ROW }
+    ensures { ROOM + result ≡ place_of W.value sides.now lane port }
+{
+    let start = if at(&sides.straight.masks[port], lane).is_none() {
+        sides.round.starts[port]
+    } else {
+        sides.straight.starts[port]
+    };
+    start + lane - ROOM
+}
+
+// The channel at the other end of a link, where ports have so many channels.
+#[inline(always)]
+fn other_end(width: usize, port: usize, out: usize) -> usize
+    requires up { out + width < 2 ^ 64 }
+    requires down { is_plus port ≡ false → width ≤ out }
+    ensures { result ≡ (if is_plus port then out + width else out - width) }
+{
+    if port % 2 == 0 {
+        out + width
+    } else {
+        out - width
+    }
+}
