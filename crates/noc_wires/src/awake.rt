@@ -1,8 +1,8 @@
 //! Which blocks take part in a cycle.
 
-ghost use Rattle.std.specs.Prelude.{◌≡◌, ℕ, ◌≤◌, length};
+ghost use Rattle.std.specs.Prelude.{◌≡◌, ℕ, ◌<◌, ◌≤◌, Some, ◌&&◌, length, nat_eq, nat_le};
 ghost use Rattle.noc_packet.specs.Set.{has_bit};
-ghost use Rattle.noc_wires.specs.Waking.{IsNextCycle, is_awake, is_reached};
+ghost use Rattle.noc_wires.specs.Waking.{IsNextCycle, is_awake, is_awake_by, is_reached};
 
 use noc_blocks::NEVER;
 use noc_lanes::Word;
@@ -32,10 +32,8 @@ pub fn wake(outlooks: &[Outlook], near: &[u32], cycle: u32) -> Waking
     let mut awake = 0u32;
     let mut next = NEVER;
     for number in 0..outlooks.len() {
-        let due = due_of(&outlooks[number], reached.has(number), cycle);
-        if due <= cycle {
-            awake = awake.or(u32::one(number));
-        }
+        let due = due_of(outlooks[number], reached.has(number), cycle);
+        awake |= alone_where(number, due <= cycle);
         next = next.min(due);
     }
     Waking {
@@ -51,20 +49,36 @@ fn reached_by(outlooks: &[Outlook], near: &[u32]) -> u32
 {
     let mut reached = 0u32;
     for number in 0..outlooks.len() {
-        if outlooks[number].moves {
-            reached |= near[number];
-        }
+        reached |= reached_from(outlooks[number], near[number]);
     }
     reached
 }
 
-// The first cycle in which something is to happen in a block: this one, or when a packet is due.
-fn due_of(outlook: &Outlook, reached: bool, cycle: u32) -> u32
-    ensures { result ≡ (if (outlook.now.holds || outlook.now.moves) || reached then cycle else outlook.now.due) }
+// .. from one of them.
+#[inline(always)]
+fn reached_from(outlook: Outlook, near: u32) -> u32
+    ensures { (b : ℕ) → has_bit result b ≡ (outlook.moves && has_bit near b) }
+{
+    if outlook.moves { near } else { 0 }
+}
+
+// The first cycle from this one on in which a block takes part.
+#[inline(always)]
+fn due_of(outlook: Outlook, reached: bool, cycle: u32) -> u32
+    ensures { (c : ℕ) → cycle ≤ c → nat_le result c ≡ is_awake_by c reached (Some outlook) }
 {
     if outlook.holds || outlook.moves || reached {
         cycle
     } else {
         outlook.due
     }
+}
+
+// A block alone, or none.
+#[inline(always)]
+fn alone_where(number: usize, is_member: bool) -> u32
+    requires { number < BLOCKS }
+    ensures { (b : ℕ) → has_bit result b ≡ (nat_eq b number && is_member) }
+{
+    u32::from(is_member) << number as u32
 }

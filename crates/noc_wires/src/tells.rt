@@ -142,7 +142,9 @@ fn packet_at<W: Word>(states: &[State<W>], router: usize, input: usize) -> u32
     requires input { input < PLACES }
     ensures { result ≡ packets_in W.value states.now router input }
 {
-    states[router / LANES].marks[router % LANES].packet[input]
+    let state = &states[router / LANES];
+    let marks = &state.marks[router % LANES];
+    marks.packet[input]
 }
 
 // The output channel that an input channel has taken, as a set.
@@ -152,7 +154,9 @@ fn taken_at<W: Word>(states: &[State<W>], router: usize, input: usize) -> W
     requires input { input < PLACES }
     ensures { W.value result ≡ taken_in W.value states.now router input }
 {
-    entry(&states[router / LANES].marks[router % LANES].taken, input)
+    let state = &states[router / LANES];
+    let marks = &state.marks[router % LANES];
+    entry(&marks.taken, input)
 }
 
 // The number of the packet of an input channel is noted.
@@ -166,7 +170,9 @@ fn note_packet<W: Word>(states: &mut [State<W>], router: usize, channel: usize, 
         ≡ option_map (with_packets (packets_in W.value states.new s))
         (lane_in W.value states.old s) }
 {
-    states[router / LANES].marks[router % LANES].packet[channel] = packet;
+    let state = &mut states[router / LANES];
+    let marks = &mut state.marks[router % LANES];
+    marks.packet[channel] = packet;
 }
 
 // The router at the other end of a link of a router of a block.

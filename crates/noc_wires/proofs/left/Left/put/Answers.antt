@@ -1,0 +1,21 @@
+use Rattle.std.proofs.Common.{◌≡◌, ◌<◌, ◌%◌, ◌∙◌, List, ℕ, ap, arith, map, subst}
+use Rattle.std.specs.Prelude.{slice_index}
+use Rattle.std.proofs.lemmas.Nat.{mod_below}
+use Rattle.noc_lanes.specs.Lanes.{word}
+use Rattle.noc_wires.proofs.LeftLemmas.{left-same, place-apart, place-of}
+use Rattle.noc_wires.proofs.left.Left.put.Goals as goal
+
+pub returns-clause-here : goal.returns-clause-here
+returns-clause-here g c = λ s e.
+    let value = g.W.Word.value in
+    let place = place-of s c.args.block e in
+    let k : s % 32 < 32 = mod_below s 32 (omega arith) in
+    left-same _ _ _ _ _ _
+    (subst (λ p. slice_index (map value c.put_row.new.row) p ≡ word value (s % 32) c.args.work.now.moves.out) place (c.put_row.ensures.here (s % 32) k))
+    (subst (λ p. slice_index (map value c.put_row-2.new.row) p ≡ word value (s % 32) c.args.work.now.decided.freed) place (c.put_row-2.ensures.here (s % 32) k))
+    (subst (λ p. slice_index (map value c.put_row-3.new.row) p ≡ word value (s % 32) c.args.work.now.moves.moved) place (c.put_row-3.ensures.here (s % 32) k))
+
+pub returns-clause-others : goal.returns-clause-others
+returns-clause-others g c = λ s other.
+    let apart = place-apart s c.args.block other in
+    left-same _ _ _ _ _ _ (c.put_row.ensures.others _ apart) (c.put_row-2.ensures.others _ apart) (c.put_row-3.ensures.others _ apart)
