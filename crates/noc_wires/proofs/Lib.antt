@@ -1,3 +1,4 @@
 pub mod LeftLemmas
 pub mod WakingLemmas
 pub mod AsleepLemmas
+pub mod StateLemmas

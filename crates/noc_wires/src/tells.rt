@@ -4,11 +4,12 @@
 ghost use Rattle.std.specs.Prelude.{◌≡◌, ◌≢◌, ◌⊎◌, ℕ, ◌+◌, ◌-◌, ◌*◌, ◌/◌, ◌%◌, ◌<◌, ◌≤◌, ◌^◌, Bool, true, false, Some, ◌&&◌, ◌||◌, length, option_map, nat_eq, if◌then◌else◌};
 ghost use Rattle.noc_topo.specs.Shape.{is_plus};
 ghost use Rattle.noc_packet.specs.Set.{has_bit};
+ghost use Rattle.noc_blocks.specs.Marks.{marks_at, packet_at, taken_at};
 ghost use Rattle.noc_theory_blocks.specs.Tells.{AreTold, HasNoted};
-ghost use Rattle.noc_wires.specs.Telling.{CanBeTold, IsTelling, Telling, granted_or_none, grants_if, lane_in, packets_in, place_of, taken_in, with_packets};
+ghost use Rattle.noc_wires.specs.Telling.{CanBeTold, IsTelling, Telling, granted_or_none, grants_if, lane_in, packets_in, place_of, with_packets};
 
 use crate::awake::BLOCKS;
-use noc_blocks::{PLACES, PORTS, ROOM, ROW, Sides, entry};
+use noc_blocks::{Marks, PLACES, PORTS, ROOM, ROW, Sides, entry};
 use noc_lanes::{LANES, Lanes, Word, at};
 use noc_turns::{Pattern, State, Work};
 
@@ -125,43 +126,41 @@ fn tell_one<W: Word>(
         ≡ option_map (with_packets (packets_in W.value states.new s))
         (lane_in W.value states.old s) }
 {
-    let packet = packet_at(states, router, input);
-    let out = taken_at(states, router, input).least();
+    let state = &states[router / LANES];
+    let packet = packet_of(&state.marks, router % LANES, input);
+    let out = taken_of(&state.marks, router % LANES, input).least();
     let port = usize::from(pattern.numbering.port[out]);
     if port + 1 < pattern.frame.ports {
         let node = neighbour(&sides[router / LANES], router % LANES, port);
         let channel = other_end(pattern.frame.fields.width as usize, port, out);
-        note_packet(states, node, channel, packet);
+        note(states, node, channel, packet);
     }
 }
 
-// The number of the packet of an input channel.
+// The number of the packet of an input channel of a router of a block.
 #[inline(always)]
-fn packet_at<W: Word>(states: &[State<W>], router: usize, input: usize) -> u32
-    requires router { router / LANES < length states.now }
+fn packet_of<W: Word>(marks: &[Marks<W>; LANES], lane: usize, input: usize) -> u32
+    requires lane { lane < LANES }
     requires input { input < PLACES }
-    ensures { result ≡ packets_in W.value states.now router input }
+    ensures { result ≡ packet_at marks.now lane input }
 {
-    let state = &states[router / LANES];
-    let marks = &state.marks[router % LANES];
+    let marks = &marks[lane];
     marks.packet[input]
 }
 
 // The output channel that an input channel has taken, as a set.
 #[inline(always)]
-fn taken_at<W: Word>(states: &[State<W>], router: usize, input: usize) -> W
-    requires router { router / LANES < length states.now }
+fn taken_of<W: Word>(marks: &[Marks<W>; LANES], lane: usize, input: usize) -> W
+    requires lane { lane < LANES }
     requires input { input < PLACES }
-    ensures { W.value result ≡ taken_in W.value states.now router input }
+    ensures { W.value result ≡ taken_at W.value marks.now lane input }
 {
-    let state = &states[router / LANES];
-    let marks = &state.marks[router % LANES];
-    entry(&marks.taken, input)
+    entry(&marks[lane].taken, input)
 }
 
-// The number of the packet of an input channel is noted.
+// The number of the packet of an input channel of a router is noted.
 #[inline(always)]
-fn note_packet<W: Word>(states: &mut [State<W>], router: usize, channel: usize, packet: u32)
+fn note<W: Word>(states: &mut [State<W>], router: usize, channel: usize, packet: u32)
     requires router { router / LANES < length states.old }
     requires channel { channel < PLACES }
     ensures noted { HasNoted router channel packet (packets_in W.value states.old)
@@ -171,7 +170,22 @@ fn note_packet<W: Word>(states: &mut [State<W>], router: usize, channel: usize, 
         (lane_in W.value states.old s) }
 {
     let state = &mut states[router / LANES];
-    let marks = &mut state.marks[router % LANES];
+    note_in(&mut state.marks, router % LANES, channel, packet);
+}
+
+// .. of a router of a block.
+#[inline(always)]
+fn note_in<W: Word>(marks: &mut [Marks<W>; LANES], lane: usize, channel: usize, packet: u32)
+    requires lane { lane < LANES }
+    requires channel { channel < PLACES }
+    ensures here { packet_at marks.new lane channel ≡ packet }
+    ensures others { (j i : ℕ) → (j ≢ lane) ⊎ (i ≢ channel)
+        → packet_at marks.new j i ≡ packet_at marks.old j i }
+    ensures rest { (j : ℕ) (to_port port_turn : ℕ → ℕ)
+        → marks_at W.value marks.new to_port port_turn j
+        ≡ record (marks_at W.value marks.old to_port port_turn j) { packet = packet_at marks.new j } }
+{
+    let marks = &mut marks[lane];
     marks.packet[channel] = packet;
 }
 
