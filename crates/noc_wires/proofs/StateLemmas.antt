@@ -3,14 +3,14 @@ use Rattle.std.proofs.Common.{◌≡◌, ◌≢◌, ℕ, zero, suc, ◌/◌, ◌
 use Rattle.std.specs.Prelude.{◌⊎◌, option_map, slice_get, slice_index}
 use Rattle.std.proofs.lemmas.Bool.{cases_eq}
 use Rattle.noc_sets.specs.Column.{RouterMarks}
-use Rattle.noc_blocks.specs.Marks.{marks_at, marks_or_none, packet_at, packet_or_none}
+use Rattle.noc_blocks.specs.Marks.{marks_at, marks_or_none, packet_at, packet_or_none, taken_at, taken_or_none}
 use Rattle.noc_blocks.specs.Ports.{by_port}
 use Rattle.noc_blocks.specs.Turning.{Lane}
 use Rattle.noc_blocks.specs.declared.marks.Marks.{Marks}
 use Rattle.noc_turns.specs.States.{lane_of}
 use Rattle.noc_turns.specs.declared.state.State.{State}
 use Rattle.noc_theory_blocks.specs.Tells.{HasNoted}
-use Rattle.noc_wires.specs.Telling.{lane_in, packets_in, packets_or_none, with_packets}
+use Rattle.noc_wires.specs.Telling.{lane_in, packets_in, packets_or_none, taken_in, taken_or_none as lane_taken, with_packets}
 
 -- ---- an entry of a list
 pub get-set : {A : Type 0} (xs : List A) (i : ℕ) (v : A) → i < length xs → slice_get (set xs i v) i ≡ Some v
@@ -34,9 +34,28 @@ marks-packet value block to_port turn j i = at (slice_get block j)
     at None = refl
     at (Some m) = refl
 
+-- the channels that they have taken
+pub marks-taken : {A : Type 0} (value : A → ℕ) (block : List (Marks A)) (to_port turn : ℕ → ℕ) (j i : ℕ) → (marks_at value block to_port turn j).taken i ≡ taken_at value block j i
+marks-taken value block to_port turn j i = at (slice_get block j)
+  where
+    at : (o : Option (Marks _)) → (marks_or_none value o to_port turn).taken i ≡ taken_or_none value o i
+    at None = refl
+    at (Some m) = refl
+
 -- marks of which only the numbers of packets are others
 pub kept-packets : (m n : RouterMarks) (p : ℕ → ℕ) → n ≡ record m { packet = p } → n ≡ record m { packet = n.packet }
 kept-packets m n p e = e ∙ ap (λ (q : ℕ → ℕ). record m { packet = q }) (sym (ap (λ (x : RouterMarks). x.packet) e))
+
+-- ---- a router of a block
+module _ {A : Type 0} (value : A → ℕ) (states : List (State A)) (router i : ℕ) (one : State A) (there : slice_get states (router / 32) ≡ Some one) where
+  lane-there : lane_in value states router ≡ Some (lane_of value one (router % 32))
+  lane-there = ap (option_map (λ (x : State A). lane_of value x (router % 32))) there
+
+  pub packets-there : packets_in value states router i ≡ packet_at one.marks (router % 32) i
+  packets-there = ap (λ (a : Option Lane). packets_or_none a i) lane-there ∙ marks-packet value one.marks (by_port value one.ports.sends.to_port (router % 32)) (by_port value one.ports.turn (router % 32)) (router % 32) i
+
+  pub taken-there : taken_in value states router i ≡ taken_at value one.marks (router % 32) i
+  taken-there = ap (λ (a : Option Lane). lane_taken a i) lane-there ∙ marks-taken value one.marks (by_port value one.ports.sends.to_port (router % 32)) (by_port value one.ports.turn (router % 32)) (router % 32) i
 
 -- ---- all is the same
 pub same-lane : (a : Option Lane) → a ≡ option_map (with_packets (packets_or_none a)) a

@@ -130,3 +130,11 @@ place_of value sides k q =
     if nat_eq (by_port value sides.straight.masks k q) 0
     then slice_index sides.round.starts q + k
     else slice_index sides.straight.starts q + k
+
+-- .. of router s
+abbrev pub place_or_none : {A : Type 0} → (A → ℕ) → Option (Sides (List A)) → ℕ → ℕ → ℕ
+place_or_none value None k q = 0
+place_or_none value (Some sides) k q = place_of value sides k q
+
+abbrev pub place_in : {A : Type 0} → (A → ℕ) → List (Sides (List A)) → ℕ → ℕ → ℕ
+place_in value sides s q = place_or_none value (slice_get sides (s / LANES)) (s % LANES) q

@@ -6,7 +6,7 @@ ghost use Rattle.noc_topo.specs.Shape.{is_plus};
 ghost use Rattle.noc_packet.specs.Set.{has_bit};
 ghost use Rattle.noc_blocks.specs.Marks.{marks_at, packet_at, taken_at};
 ghost use Rattle.noc_theory_blocks.specs.Tells.{AreTold, HasNoted};
-ghost use Rattle.noc_wires.specs.Telling.{CanBeTold, IsTelling, Telling, granted_or_none, grants_if, lane_in, packets_in, place_of, with_packets};
+ghost use Rattle.noc_wires.specs.Telling.{CanBeTold, IsTelling, Telling, granted_or_none, grants_if, lane_in, packets_in, place_in, place_of, taken_in, with_packets};
 
 use crate::awake::BLOCKS;
 use noc_blocks::{Marks, PLACES, PORTS, ROOM, ROW, Sides, entry};
@@ -126,18 +126,28 @@ fn tell_one<W: Word>(
         ≡ option_map (with_packets (packets_in W.value states.new s))
         (lane_in W.value states.old s) }
 {
-    let state = &states[router / LANES];
-    let packet = packet_of(&state.marks, router % LANES, input);
-    let out = taken_of(&state.marks, router % LANES, input).least();
+    let packet = packet_held(states, router, input);
+    let out = channel_taken(states, router, input).least();
     let port = usize::from(pattern.numbering.port[out]);
     if port + 1 < pattern.frame.ports {
-        let node = neighbour(&sides[router / LANES], router % LANES, port);
+        let node = neighbour(sides, router, port);
         let channel = other_end(pattern.frame.fields.width as usize, port, out);
         note(states, node, channel, packet);
     }
 }
 
-// The number of the packet of an input channel of a router of a block.
+// The number of the packet that holds an input channel of a router.
+#[inline(always)]
+fn packet_held<W: Word>(states: &[State<W>], router: usize, input: usize) -> u32
+    requires router { router / LANES < length states.now }
+    requires input { input < PLACES }
+    ensures { result ≡ packets_in W.value states.now router input }
+{
+    let state = &states[router / LANES];
+    packet_of(&state.marks, router % LANES, input)
+}
+
+// .. of a router of a block.
 #[inline(always)]
 fn packet_of<W: Word>(marks: &[Marks<W>; LANES], lane: usize, input: usize) -> u32
     requires lane { lane < LANES }
@@ -148,7 +158,18 @@ fn packet_of<W: Word>(marks: &[Marks<W>; LANES], lane: usize, input: usize) -> u
     marks.packet[input]
 }
 
-// The output channel that an input channel has taken, as a set.
+// The output channel that an input channel of a router has taken, as a set.
+#[inline(always)]
+fn channel_taken<W: Word>(states: &[State<W>], router: usize, input: usize) -> W
+    requires router { router / LANES < length states.now }
+    requires input { input < PLACES }
+    ensures { W.value result ≡ taken_in W.value states.now router input }
+{
+    let state = &states[router / LANES];
+    taken_of(&state.marks, router % LANES, input)
+}
+
+// .. of a router of a block.
 #[inline(always)]
 fn taken_of<W: Word>(marks: &[Marks<W>; LANES], lane: usize, input: usize) -> W
     requires lane { lane < LANES }
@@ -189,21 +210,32 @@ fn note_in<W: Word>(marks: &mut [Marks<W>; LANES], lane: usize, channel: usize, 
     marks.packet[channel] = packet;
 }
 
-// The router at the other end of a link of a router of a block.
+// The router at the other end of a link.
 #[inline(always)]
-fn neighbour<W: Word>(sides: &Sides<Lanes<W>>, lane: usize, port: usize) -> usize
+fn neighbour<W: Word>(sides: &[Sides<Lanes<W>>], router: usize, port: usize) -> usize
+    requires router { router / LANES < length sides.now }
+    requires port { port < PORTS }
+    requires low { ROOM ≤ place_in W.value sides.now router port }
+    requires high { place_in W.value sides.now router port < ROW }
+    ensures { ROOM + result ≡ place_in W.value sides.now router port }
+{
+    place_by(&sides[router / LANES], router % LANES, port) - ROOM
+}
+
+// Where its word stands in a row.
+#[inline(always)]
+fn place_by<W: Word>(sides: &Sides<Lanes<W>>, lane: usize, port: usize) -> usize
     requires lane { lane < LANES }
     requires port { port < PORTS }
-    requires low { ROOM ≤ place_of W.value sides.now lane port }
     requires high { place_of W.value sides.now lane port < ROW }
-    ensures { ROOM + result ≡ place_of W.value sides.now lane port }
+    ensures { result ≡ place_of W.value sides.now lane port }
 {
     let start = if at(&sides.straight.masks[port], lane).is_none() {
         sides.round.starts[port]
     } else {
         sides.straight.starts[port]
     };
-    start + lane - ROOM
+    start + lane
 }
 
 // The channel at the other end of a link, where ports have so many channels.
