@@ -4,3 +4,4 @@ pub mod AsleepLemmas
 pub mod StateLemmas
 pub mod TellingLemmas
 pub mod LinkLemmas
+pub mod RestLemmas

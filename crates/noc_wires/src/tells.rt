@@ -24,6 +24,7 @@ pub fn tell<W: Word>(
 )
     requires few { length states.old ≤ BLOCKS }
     requires works { length works.now ≡ length states.old }
+    requires awake { (b : ℕ) → has_bit awake b ≡ true → b < length states.old }
     requires grants { (t : Telling)
         × IsTelling W.value W.bits pattern.now sides.now works.now awake states.old t }
     ensures told { (t : Telling)
@@ -34,10 +35,11 @@ pub fn tell<W: Word>(
         ≡ option_map (with_packets (packets_in W.value states.new s))
         (lane_in W.value states.old s) }
 {
-    for number in 0..states.len() {
-        if awake.has(number) {
-            tell_block(pattern, sides, number, &works[number], states);
-        }
+    let mut rest = awake;
+    while !rest.is_none() {
+        let number = rest.least();
+        tell_block(pattern, sides, number, &works[number], states);
+        rest = rest.but_lowest();
     }
 }
 
