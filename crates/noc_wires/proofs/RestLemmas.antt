@@ -1,14 +1,18 @@
 -- Grants are told to one channel, one router, and one block after the other.
-use Rattle.std.proofs.Common.{◌≡◌, ◌≢◌, ℕ, ◌+◌, ◌*◌, ◌/◌, ◌%◌, ◌<◌, Bool, true, false, List, length, Option, Some, None, refl, ap, ap₂, sym, ◌∙◌, arith, inl, inr}
-use Rattle.std.specs.Prelude.{◌⊎◌, ◌&&◌, ◌||◌, nat_eq, not, option_map}
-use Rattle.std.proofs.lemmas.Bool.{cases_eq, eq-eqb, ne_eqb}
+use Rattle.std.proofs.Common.{◌≡◌, ◌≢◌, ℕ, ◌+◌, ◌*◌, ◌/◌, ◌%◌, ◌^◌, ◌<◌, Bool, true, false, List, length, Option, Some, None, refl, ap, ap₂, sym, ◌∙◌, arith, inl, inr, mod-eq_of_lt}
+use Rattle.std.specs.Prelude.{◌⊎◌, ◌&&◌, ◌||◌, nat_eq, not, option_map, slice_get, if◌then◌else◌}
+use Rattle.std.proofs.lemmas.Bool.{cases_eq, eq-eqb, ne_eqb, true≢false}
+use Rattle.std.proofs.lemmas.Nat.{mod_below}
 use Rattle.noc_topo.specs.Shape.{nodes, ports}
 use Rattle.noc_packet.specs.Set.{has_bit}
+use Rattle.noc_packet.proofs.SetLemmas.{has_bit-zero}
+use Rattle.noc_lanes.proofs.SetLemmas.{low_members}
 use Rattle.noc_blocks.specs.declared.links.Sides.{Sides}
 use Rattle.noc_turns.specs.declared.pattern.Pattern.{Pattern}
 use Rattle.noc_turns.specs.declared.state.State.{State}
+use Rattle.noc_turns.specs.declared.state.Work.{Work}
 use Rattle.noc_theory_blocks.specs.Tells.{AreTold}
-use Rattle.noc_wires.specs.Telling.{AreGrants, CanBeTold, Telling, grants_if, lane_in, packets_in, taken_in, with_packets}
+use Rattle.noc_wires.specs.Telling.{AreGrants, CanBeTold, Telling, granted_in, granted_or_none, grants_if, lane_in, packets_in, taken_in, with_packets}
 use Rattle.noc_wires.proofs.StateLemmas.{same-lane}
 use Rattle.noc_wires.proofs.TellingLemmas.{all-now, none-yet, rest-then, same-taken, still-grants, tests-agree}
 
@@ -58,6 +62,52 @@ module _ (count vcs : ℕ) (t : Telling) (taken : ℕ → ℕ → ℕ) (are : Ar
       at : (s ≡ router) ⊎ (s ≢ router) → (nat_eq s router && not (has_bit granted k)) ≡ false
       at (inl same) = ap (λ b. nat_eq s router && b) (granted-one granted (ap t.granted same ∙ is)) ∙ off (nat_eq s router)
       at (inr other) = ap (λ b. b && not (has_bit granted k)) (ne_eqb s router other)
+
+  -- nor have those of a lane that has not asked
+  pub of-block : (number asking : ℕ) (words : ℕ → ℕ) → ((j : ℕ) → j < 32 → t.granted (number * 32 + j) ≡ (if has_bit asking j then words j else 0))
+      → (nat_eq (s / 32) number && not (has_bit (asking % 2 ^ 32) (s % 32))) ≡ false
+  of-block number asking words is = at (cases_eq (s / 32) number)
+    where
+      whole : s / 32 * 32 + s % 32 ≡ s
+      whole = omega arith
+
+      off : (b : Bool) → (b && false) ≡ false
+      off true = refl
+      off false = refl
+
+      lane : s % 32 < 32
+      lane = mod_below s 32 (omega arith)
+
+      asks : s / 32 ≡ number → (b : Bool) → has_bit asking (s % 32) ≡ b → not b ≡ false
+      asks same true h = refl
+      asks same false h =
+          let none : t.granted s ≡ 0 = ap t.granted (sym whole ∙ ap (λ n. n * 32 + s % 32) same) ∙ is (s % 32) lane ∙ ap (λ b. if b then words (s % 32) else 0) h in
+          absurd (true≢false (sym (are.all s o k l u e).0 ∙ ap (λ n. has_bit n k) none ∙ has_bit-zero k))
+
+      at : (s / 32 ≡ number) ⊎ (s / 32 ≢ number) → (nat_eq (s / 32) number && not (has_bit (asking % 2 ^ 32) (s % 32))) ≡ false
+      at (inl same) = ap (λ b. nat_eq (s / 32) number && not b) (low_members asking (s % 32) 32 lane) ∙ ap (λ b. nat_eq (s / 32) number && b) (asks same (has_bit asking (s % 32)) refl) ∙ off (nat_eq (s / 32) number)
+      at (inr other) = ap (λ b. b && not (has_bit (asking % 2 ^ 32) (s % 32))) (ne_eqb (s / 32) number other)
+
+  -- nor have those of a block that does not take part
+  pub of-awake : (awake : ℕ) (words : ℕ → ℕ) → awake < 2 ^ 32 → t.granted s ≡ (if has_bit awake (s / 32) then words s else 0) → not (has_bit (awake % 2 ^ 32) (s / 32)) ≡ false
+  of-awake awake words fits is = ap (λ n. not (has_bit n (s / 32))) (mod-eq_of_lt fits) ∙ part (has_bit awake (s / 32)) refl
+    where
+      part : (b : Bool) → has_bit awake (s / 32) ≡ b → not b ≡ false
+      part true h = refl
+      part false h =
+          let none : t.granted s ≡ 0 = is ∙ ap (λ b. if b then words s else 0) h in
+          absurd (true≢false (sym (are.all s o k l u e).0 ∙ ap (λ n. has_bit n k) none ∙ has_bit-zero k))
+
+-- ---- a block that takes part
+module _ {A : Type 0} (value : A → ℕ) (works : List (Work A)) (awake : ℕ) (t : Telling) (is : t.granted ≡ granted_in value works awake) (number : ℕ) (work : Work A) (here : slice_get works number ≡ Some work) (part : has_bit awake number ≡ true) where
+  pub granted-there : (k : ℕ) → k < 32 → t.granted (number * 32 + k) ≡ granted_or_none value (Some work) k
+  granted-there k l =
+      let block : (number * 32 + k) / 32 ≡ number = omega (arith, l) in
+      let lane : (number * 32 + k) % 32 ≡ k = omega (arith, l) in
+      ap (λ (f : ℕ → ℕ). f (number * 32 + k)) is
+      ∙ ap₂ (λ b j. if has_bit awake b then granted_or_none value (slice_get works b) j else 0) block lane
+      ∙ ap (λ b. if b then granted_or_none value (slice_get works number) k else 0) part
+      ∙ ap (λ o. granted_or_none value o k) here
 
 module _ {A : Type 0} (value : A → ℕ) (w : ℕ) (pattern : Pattern A) (sides : List (Sides (List A))) where
   -- from `old` to `now` of such grants those to these channels are told too
