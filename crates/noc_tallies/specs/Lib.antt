@@ -1,0 +1,5 @@
+pub mod Doings
+pub mod Sheets
+pub mod Times
+pub mod Channels
+pub mod Tallies

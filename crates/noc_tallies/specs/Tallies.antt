@@ -1,0 +1,20 @@
+-- What the counts of a block show of its channels.
+use Rattle.std.specs.Prelude.{ℕ, ◌≤◌, Bool}
+use Rattle.noc_sets.specs.Counts.{ByVerdict}
+use Rattle.noc_lanes.specs.declared.channels.Verdicts.{Verdicts}
+use Rattle.noc_tallies.specs.Sheets.{last_in, sheet_counts}
+use Rattle.noc_tallies.specs.Channels.{ShowsChannel}
+use Rattle.noc_tallies.specs.Times.{times_in}
+use Rattle.noc_tallies.specs.declared.tallies.Tallies.{Tallies}
+
+-- what is counted of channel i of router k shows these counts after n cycles, where it waits for
+-- an output channel now, or owns one, or neither
+pub record ShowsTally {A : Type 0} (value : A → ℕ) (tallies : Tallies A) (k i n : ℕ)
+    (waits owns : Bool) (c : ByVerdict) : Type 0 where
+  pub cycles : tallies.sheet.cycles ≤ n
+  pub channel : ShowsChannel (sheet_counts value tallies.sheet k i) (times_in tallies.times k i) n
+      waits owns c
+
+-- the verdicts of router k in the cycle that was counted last
+abbrev pub last_verdicts : {A : Type 0} → (A → ℕ) → Tallies A → ℕ → Verdicts ℕ
+last_verdicts value tallies = last_in value tallies.sheet

@@ -1,0 +1,107 @@
+//! The counts of a block.
+
+ghost use Rattle.std.specs.Prelude.{◌≡◌, ◌+◌, ◌<◌, ◌≤◌, ℕ, false};
+ghost use Rattle.noc_packet.specs.Set.{has_bit};
+ghost use Rattle.noc_sets.specs.Column.{Column};
+ghost use Rattle.noc_sets.specs.Counts.{ByVerdict, RunOn, no_counts, ten_counts, with_verdicts};
+ghost use Rattle.noc_lanes.specs.Channels.{verdicts_by};
+ghost use Rattle.noc_tallies.specs.Doings.{CanDo, Doing, OnlyWaits, doing_at, owns_after, verdicts_of, waits_after};
+ghost use Rattle.noc_tallies.specs.Sheets.{AreVerdictsOf};
+ghost use Rattle.noc_tallies.specs.Tallies.{ShowsTally, last_verdicts};
+
+use crate::doings::Doings;
+use crate::sheet::Sheet;
+use crate::times::{RouterTimes, count_times};
+use noc_blocks::PLACES;
+use noc_lanes::{LANES, Verdicts, Word};
+
+/// So many cycles can be counted.
+pub const CYCLES: u32 = 1 << 31;
+
+/// How often each channel of the routers of a block had each verdict.
+#[derive(Drop)]
+pub struct Tallies<T> {
+    // By bits.
+    sheet: Sheet<T>,
+    // Channel by channel.
+    times: [RouterTimes; LANES],
+}
+
+impl<W: Word> Tallies<W> {
+    /// No counts.
+    pub fn none() -> Tallies<W>
+        ensures { (k i n : ℕ) → k < LANES → ShowsTally W.value result k i n false false no_counts }
+    {
+        Tallies {
+            sheet: Sheet::none(),
+            times: [RouterTimes::NONE; LANES],
+        }
+    }
+
+    /// Counts a cycle in which the routers of the block do this, before it takes effect.
+    #[inline(always)]
+    pub fn count(&mut self, cycle: u32, doings: &Doings<'_, W>)
+        requires { cycle < CYCLES }
+        ensures counts { (k i : ℕ) (still : Column) (c : ByVerdict) → k < LANES
+            → CanDo still (doing_at W.value doings.now k)
+            → ShowsTally W.value self.old k i cycle (has_bit still.waiting i)
+            (has_bit still.active i) c
+            → ShowsTally W.value self.new k i (cycle + 1)
+            (waits_after still (doing_at W.value doings.now k) i)
+            (owns_after still (doing_at W.value doings.now k) i)
+            (with_verdicts (verdicts_of still (doing_at W.value doings.now k)) i c) }
+        ensures last { (k : ℕ) → k < LANES
+            → AreVerdictsOf (doing_at W.value doings.now k) (last_verdicts W.value self.new k) }
+    {
+        count_times(cycle + 1, doings, &mut self.times);
+        self.sheet.count(doings);
+    }
+
+    /// The verdicts of a router in the cycle that was counted last, those that are counted by bits.
+    pub fn last(&self, lane: usize) -> Verdicts<W>
+        requires { lane < LANES }
+        ensures { verdicts_by W.value result ≡ last_verdicts W.value self.now lane }
+    {
+        self.sheet.last(lane)
+    }
+
+    /// Counts so many cycles more that are like the last one, in which nothing happened.
+    pub fn repeat(&mut self, times: u32)
+        ensures { (k i n : ℕ) (still : Column) (x : Doing) (before : ByVerdict) → k < LANES
+            → n + times ≤ CYCLES → CanDo still x → OnlyWaits (verdicts_of still x) i
+            → AreVerdictsOf x (last_verdicts W.value self.old k)
+            → ShowsTally W.value self.old k i n (waits_after still x i) (owns_after still x i)
+            (with_verdicts (verdicts_of still x) i before)
+            → (later : ByVerdict)
+            × RunOn times before (with_verdicts (verdicts_of still x) i before) later
+            × ShowsTally W.value self.new k i (n + times) (waits_after still x i)
+            (owns_after still x i) later }
+    {
+        for lane in 0..LANES {
+            let words = self.sheet.last(lane);
+            self.times[lane].wait(words.no_credit, times);
+        }
+    }
+
+    /// How often a channel of a router had each verdict after so many cycles, in the order of the
+    /// stall report, where it waits for an output channel now, or owns one, or neither.
+    pub fn counts_of(
+        &self,
+        lane: usize,
+        channel: usize,
+        cycles: u32,
+        waits: bool,
+        owns: bool,
+    ) -> [u64; 10]
+        requires lane { lane < LANES }
+        requires channel { channel < W.bits }
+        requires shown { (c : ByVerdict)
+            × ShowsTally W.value self.now lane channel cycles waits owns c }
+        ensures { (c : ByVerdict) → ShowsTally W.value self.now lane channel cycles waits owns c
+            → result ≡ ten_counts cycles c }
+    {
+        let by_bits = self.sheet.counts(lane, channel);
+        let times = self.times[lane].at(channel);
+        times.counts(cycles, waits, owns, by_bits)
+    }
+}
