@@ -1,0 +1,4 @@
+pub mod SheetLemmas
+pub mod TimesLemmas
+pub mod ChannelLemmas
+pub mod DecisionLemmas

@@ -35,10 +35,10 @@ abbrev pub AreAmong : ℕ → ℕ → Type 0
 AreAmong whole part = (i : ℕ) → has_bit part i ≡ true → has_bit whole i ≡ true
 
 -- nothing is routed, granted or released
-pub record ChangesNothing (x : Doing) : Type 0 where
-  pub heads : x.standing.heads ≡ 0
-  pub granted : x.decided.granted ≡ 0
-  pub released : x.decided.released ≡ 0
+pub record AreNone (heads winners tails : ℕ) : Type 0 where
+  pub routed : heads ≡ 0
+  pub granted : winners ≡ 0
+  pub released : tails ≡ 0
 
 -- a router with these words can do this, once it is still
 pub record CanDo (c : Column) (x : Doing) : Type 0 where
@@ -51,7 +51,8 @@ pub record CanDo (c : Column) (x : Doing) : Type 0 where
   pub granted : AreAmong c.waiting x.decided.granted
   pub lost : AreAmong c.waiting x.decided.lost
   pub apart : (i : ℕ) → (has_bit x.decided.granted i && has_bit x.decided.lost i) ≡ false
-  pub unchanged : x.changes ≡ false → ChangesNothing x
+  pub unchanged : x.changes ≡ false
+      → AreNone x.standing.heads x.decided.granted x.decided.released
 
 -- its verdicts
 abbrev pub verdicts_of : Column → Doing → ByVerdict

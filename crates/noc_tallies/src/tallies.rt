@@ -32,9 +32,10 @@ impl<W: Word> Tallies<W> {
     pub fn none() -> Tallies<W>
         ensures { (k i n : ℕ) → k < LANES → ShowsTally W.value result k i n false false no_counts }
     {
+        let none = RouterTimes::none();
         Tallies {
             sheet: Sheet::none(),
-            times: [RouterTimes::NONE; LANES],
+            times: [none; LANES],
         }
     }
 
@@ -53,7 +54,14 @@ impl<W: Word> Tallies<W> {
         ensures last { (k : ℕ) → k < LANES
             → AreVerdictsOf (doing_at W.value doings.now k) (last_verdicts W.value self.new k) }
     {
-        count_times(cycle + 1, doings, &mut self.times);
+        count_times(
+            cycle + 1,
+            doings.lanes,
+            &doings.standing.heads,
+            &doings.decided.granted,
+            &doings.decided.released,
+            &mut self.times,
+        );
         self.sheet.count(doings);
     }
 

@@ -2,14 +2,14 @@
 
 ghost use Rattle.std.specs.Prelude.{◌≡◌, ◌<◌, ℕ, true, false};
 ghost use Rattle.noc_packet.specs.Set.{has_bit};
+ghost use Rattle.noc_lanes.specs.Lanes.{word};
 ghost use Rattle.noc_sets.specs.Counts.{ByVerdict, ten_counts};
 ghost use Rattle.noc_tallies.specs.Channels.{ShowsChannel};
-ghost use Rattle.noc_tallies.specs.Doings.{ChangesNothing, doing_at};
-ghost use Rattle.noc_tallies.specs.Times.{channel_in, minus_if, plus_if, times_after, times_in, times_waited};
+ghost use Rattle.noc_tallies.specs.Doings.{AreNone};
+ghost use Rattle.noc_tallies.specs.Times.{channel_in, minus_if, no_times, plus_if, times_after, times_in, times_waited};
 
-use crate::doings::Doings;
 use noc_blocks::PLACES;
-use noc_lanes::{LANES, Verdicts, Word, at};
+use noc_lanes::{LANES, Lanes, Verdicts, Word, at};
 
 // What is counted of a channel. A time is counted by the count of cycles at its end, less that at
 // its start: of one that is not over the start alone.
@@ -118,14 +118,19 @@ pub(crate) struct RouterTimes {
 
 impl RouterTimes {
     // Nothing.
-    pub(crate) const NONE: RouterTimes = RouterTimes {
-        channels: [ChannelTimes {
+    pub(crate) fn none() -> RouterTimes
+        ensures { (i : ℕ) → channel_in result i ≡ no_times }
+    {
+        let none = ChannelTimes {
             routed: 0,
             waiting: 0,
             active: 0,
             no_credit: 0,
-        }; PLACES],
-    };
+        };
+        RouterTimes {
+            channels: [none; PLACES],
+        }
+    }
 
     // At this count, after a cycle in which these channels are routed, these are granted an output
     // channel, and these are released.
@@ -166,28 +171,32 @@ impl RouterTimes {
     }
 }
 
-// At this count, after a cycle in which the routers of a block do this.
+// At this count, after a cycle in which these channels of the routers of a block are routed, these
+// are granted an output channel, and these are released: in no other lanes than these.
 #[inline(always)]
 pub(crate) fn count_times<W: Word>(
     count: u32,
-    doings: &Doings<'_, W>,
+    lanes: u32,
+    routed: &Lanes<W>,
+    granted: &Lanes<W>,
+    released: &Lanes<W>,
     times: &mut [RouterTimes; LANES],
 )
     ensures { (k i : ℕ) → k < LANES
-        → (has_bit doings.now.lanes k ≡ false → ChangesNothing (doing_at W.value doings.now k))
+        → (has_bit lanes k ≡ false → AreNone (word W.value k routed.now)
+        (word W.value k granted.now) (word W.value k released.now))
         → times_in times.new k i
-        ≡ times_after count
-        (has_bit (doing_at W.value doings.now k).standing.heads i)
-        (has_bit (doing_at W.value doings.now k).decided.granted i)
-        (has_bit (doing_at W.value doings.now k).decided.released i) (times_in times.old k i) }
+        ≡ times_after count (has_bit (word W.value k routed.now) i)
+        (has_bit (word W.value k granted.now) i) (has_bit (word W.value k released.now) i)
+        (times_in times.old k i) }
 {
-    let mut rest = doings.lanes;
+    let mut rest = lanes;
     while !rest.is_none() {
         let lane = rest.least();
-        let routed = at(&doings.standing.heads, lane);
-        let granted = at(&doings.decided.granted, lane);
-        let released = at(&doings.decided.released, lane);
-        times[lane].count(count, routed, granted, released);
+        let heads = at(routed, lane);
+        let winners = at(granted, lane);
+        let tails = at(released, lane);
+        times[lane].count(count, heads, winners, tails);
         rest = rest.but_lowest();
     }
 }

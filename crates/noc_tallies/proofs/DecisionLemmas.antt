@@ -1,0 +1,1 @@
+-- What a still router decides can be counted.
