@@ -1,5 +1,5 @@
 -- What is kept of a channel goes on to show its counts.
-use Rattle.std.proofs.Common.{◌≡◌, ℕ, ◌+◌, ◌-◌, ◌*◌, ◌%◌, ◌^◌, ◌<◌, ◌≤◌, Bool, true, false, sum, refl, ap, ap₂, sym, ◌∙◌, subst, arith, bit_and, bit_or}
+use Rattle.std.proofs.Common.{◌≡◌, ℕ, ◌+◌, ◌*◌, ◌<◌, ◌≤◌, Bool, true, false, sum, refl, ap, ap₂, sym, ◌∙◌, arith, bit_and, bit_or}
 use Rattle.std.specs.Prelude.{◌&&◌, ◌||◌, not}
 use Rattle.std.proofs.lemmas.Bool.{and_parts, false≢true, true≢false}
 use Rattle.noc_topo.specs.Lists.{one_if}
@@ -14,7 +14,7 @@ use Rattle.noc_sets.proofs.TimesLemmas.{active-counted, waiting-counted}
 use Rattle.noc_lanes.specs.declared.channels.Verdicts.{Verdicts}
 use Rattle.noc_tallies.specs.Channels.{ShowsChannel}
 use Rattle.noc_tallies.specs.Doings.{CanDo, Doing, OnlyWaits, owns_after, verdicts_of, waits_after}
-use Rattle.noc_tallies.specs.Sheets.{AreVerdictsOf, alike, with_one}
+use Rattle.noc_tallies.specs.Sheets.{AreVerdictsOf, alike, one_more}
 use Rattle.noc_tallies.specs.Times.{minus_if, no_times, plus_if, times_after, times_waited}
 use Rattle.noc_tallies.specs.declared.tallies.TheConstants.{CYCLES}
 use Rattle.noc_tallies.specs.declared.times.ChannelTimes.{ChannelTimes}
@@ -135,8 +135,7 @@ module _ (x : Doing) (c : Column) (can : CanDo c x) (i : ℕ) where
     same-bit : (a b : ℕ) → a ≡ b → one_if (has_bit a i) ≡ one_if (has_bit b i)
     same-bit a b e = ap (λ n. one_if (has_bit n i)) e
 
-
-    pub channel-counted : ShowsChannel (with_one words i v) (times_after (n + 1) (has_bit x.standing.heads i) (has_bit x.decided.granted i) (has_bit x.decided.released i) t) (n + 1)
+    pub channel-counted : ShowsChannel (one_more words i v) (times_after (n + 1) (has_bit x.standing.heads i) (has_bit x.decided.granted i) (has_bit x.decided.released i) t) (n + 1)
         (waits_after c x i) (owns_after c x i) (with_verdicts V i counts)
     channel-counted = record {
       one = ap₂ (λ a b. a && b) waits-is owns-is

@@ -1,6 +1,6 @@
 -- What is counted of the channels of a block one by one.
-use Rattle.std.proofs.Common.{◌≡◌, ℕ, ◌%◌, ◌^◌, ◌<◌, Bool, true, false, List, [], refl, ap, ap₂, sym, ◌∙◌, subst, bit_or, replicate, arith, inl, inr}
-use Rattle.std.specs.Prelude.{◌||◌, slice_index_or}
+use Rattle.std.proofs.Common.{◌≡◌, ℕ, ◌%◌, ◌^◌, ◌<◌, Bool, true, false, List, [], refl, ap, ap₂, sym, ◌∙◌, bit_or, replicate, arith, inl, inr}
+use Rattle.std.specs.Prelude.{slice_index_or}
 use Rattle.std.proofs.lemmas.Bool.{cases_lt}
 use Rattle.std.proofs.lemmas.List.{get_or-replicate, get_or_past, length-replicate}
 use Rattle.noc_packet.specs.Set.{has_bit}

@@ -12,7 +12,7 @@ use Rattle.noc_lanes.specs.declared.channels.Standing.{Standing}
 use Rattle.noc_tallies.specs.declared.doings.Doings.{Doings}
 
 pub record Doing : Type 0 where
-  pub changes : Bool  -- whether it is told that a channel is routed, granted or released
+  pub changes : Bool  -- whether a channel may be routed, granted an output channel, or released
   pub active : ℕ
   pub filled : ℕ
   pub standing : Standing ℕ

@@ -21,8 +21,8 @@ alike x = record {
 }
 
 -- one more for each verdict whose set has channel i
-abbrev pub with_one : Verdicts ℕ → ℕ → Verdicts ℕ → Verdicts ℕ
-with_one sets i counts = record {
+abbrev pub one_more : Verdicts ℕ → ℕ → Verdicts ℕ → Verdicts ℕ
+one_more sets i counts = record {
   no_credit = counts.no_credit + one_if (has_bit sets.no_credit i);
   lost_input = counts.lost_input + one_if (has_bit sets.lost_input i);
   lost_switch = counts.lost_switch + one_if (has_bit sets.lost_switch i);
@@ -39,7 +39,7 @@ unfoldable pub with_recent : {A : Type 0} → (A → ℕ) → List (Verdicts (Li
     → Verdicts ℕ → Verdicts ℕ
 with_recent value recent zero k i counts = counts
 with_recent value recent (suc n) k i counts =
-    with_one (verdicts_in value recent n k) i (with_recent value recent n k i counts)
+    one_more (verdicts_in value recent n k) i (with_recent value recent n k i counts)
 
 -- what the tallies have of it, to which four cycles were added so many times
 abbrev pub added_at : {A : Type 0} → (A → ℕ) → Verdicts (Tally A) → ℕ → ℕ → ℕ → Verdicts ℕ
@@ -53,7 +53,7 @@ sheet_counts value sheet k i =
     (added_at value sheet.tallies (sheet.cycles / 4) k i)
 
 -- each is below a number
-pub record AreBelow (n : ℕ) (counts : Verdicts ℕ) : Type 0 where
+pub record CountsAreBelow (n : ℕ) (counts : Verdicts ℕ) : Type 0 where
   pub no_credit : counts.no_credit < n
   pub lost_input : counts.lost_input < n
   pub lost_switch : counts.lost_switch < n

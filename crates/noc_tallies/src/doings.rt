@@ -5,7 +5,7 @@ use noc_lanes::{Decided, Lanes, Standing};
 /// What the routers of a block do in a cycle, before it takes effect.
 #[derive(Clone, Copy)]
 pub struct Doings<'a, W> {
-    /// The lanes in which a channel is routed, granted an output channel, or released.
+    /// The lanes in which a channel may be routed, granted an output channel, or released.
     pub lanes: u32,
     /// The input channels that own an output channel.
     pub active: &'a Lanes<W>,

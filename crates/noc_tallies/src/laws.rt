@@ -5,7 +5,6 @@ ghost use Rattle.noc_sets.specs.Counts.{ByVerdict};
 ghost use Rattle.noc_sets.specs.Passes.{lane_asks};
 ghost use Rattle.noc_lanes.specs.declared.channels.Moves.{Moves};
 ghost use Rattle.noc_blocks.specs.Steps.{Stands};
-ghost use Rattle.noc_blocks.specs.Turned.{HasRoom};
 ghost use Rattle.noc_blocks.specs.Turning.{HasDecidedAll, Lane, column_in};
 ghost use Rattle.noc_tallies.specs.Doings.{CanDo, Doing};
 ghost use Rattle.noc_tallies.specs.Tallies.{ShowsTally};
@@ -18,7 +17,6 @@ use noc_lanes::Word;
 pub fn decisions_can_be_counted()
     ensures { (w vcs ports single : ℕ) (port vc : ℕ → ℕ) (sets : ℕ → ℕ → ℕ) (still chosen : Lane)
         (x : Doing) (moves : Moves ℕ)
-        → HasRoom w vcs ports port vc
         → Stands vcs ports x.filled still.inputs x.standing
         → HasDecidedAll w vcs ports port vc sets single still chosen x.standing moves x.decided
         → x.active ≡ still.inputs.active → x.moved ≡ moves.moved

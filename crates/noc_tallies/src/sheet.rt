@@ -3,7 +3,7 @@
 ghost use Rattle.std.specs.Prelude.{◌≡◌, ◌+◌, ◌/◌, ◌%◌, ◌^◌, ◌<◌, ℕ};
 ghost use Rattle.noc_lanes.specs.Channels.{verdicts_by};
 ghost use Rattle.noc_tallies.specs.Doings.{doing_at};
-ghost use Rattle.noc_tallies.specs.Sheets.{AreBelow, AreVerdictsOf, added_at, alike, last_in, sheet_counts, with_one, with_recent};
+ghost use Rattle.noc_tallies.specs.Sheets.{CountsAreBelow, AreVerdictsOf, added_at, alike, last_in, sheet_counts, one_more, with_recent};
 
 use crate::doings::Doings;
 use noc_blocks::note_verdicts;
@@ -57,7 +57,7 @@ impl<W: Word> Sheet<W> {
     pub(crate) fn count(&mut self, doings: &Doings<'_, W>)
         ensures counts { (k i : ℕ) → k < LANES → self.old.cycles + 4 < 2 ^ 32
             → sheet_counts W.value self.new k i
-            ≡ with_one (last_in W.value self.new k) i (sheet_counts W.value self.old k i) }
+            ≡ one_more (last_in W.value self.new k) i (sheet_counts W.value self.old k i) }
         ensures last { (k : ℕ) → k < LANES
             → AreVerdictsOf (doing_at W.value doings.now k) (last_in W.value self.new k) }
         ensures cycles { self.new.cycles ≡ (self.old.cycles + 1) % 2 ^ 32 }
@@ -89,31 +89,32 @@ impl<W: Word> Sheet<W> {
     {
         let times = self.cycles / SLOTS as u32;
         let [a, b, c, d] = &self.recent;
-        let sums = &mut self.tallies;
-        sums.no_credit.add(
+        let tallies = &mut self.tallies;
+        tallies.no_credit.add(
             &a.no_credit,
             &b.no_credit,
             &c.no_credit,
             &d.no_credit,
             times,
         );
-        sums.lost_input.add(
+        tallies.lost_input.add(
             &a.lost_input,
             &b.lost_input,
             &c.lost_input,
             &d.lost_input,
             times,
         );
-        sums.lost_switch.add(
+        tallies.lost_switch.add(
             &a.lost_switch,
             &b.lost_switch,
             &c.lost_switch,
             &d.lost_switch,
             times,
         );
-        sums.moved
+        tallies
+            .moved
             .add(&a.moved, &b.moved, &c.moved, &d.moved, times);
-        sums.lost_channel.add(
+        tallies.lost_channel.add(
             &a.lost_channel,
             &b.lost_channel,
             &c.lost_channel,
@@ -148,17 +149,17 @@ impl<W: Word> Sheet<W> {
         };
         for slot in 0..(self.cycles % SLOTS as u32) as usize {
             let words = self.recent[slot].at(lane);
-            counts = with_one(words, channel, counts);
+            counts = one_more(words, channel, counts);
         }
         counts
     }
 }
 
 // One more for each verdict whose set has a channel.
-fn with_one<W: Word>(sets: Verdicts<W>, channel: usize, counts: Verdicts<u64>) -> Verdicts<u64>
+fn one_more<W: Word>(sets: Verdicts<W>, channel: usize, counts: Verdicts<u64>) -> Verdicts<u64>
     requires channel { channel < W.bits }
-    requires small { AreBelow (2 ^ 34) counts }
-    ensures { result ≡ with_one (verdicts_by W.value sets) channel counts }
+    requires small { CountsAreBelow (2 ^ 34) counts }
+    ensures { result ≡ one_more (verdicts_by W.value sets) channel counts }
 {
     Verdicts {
         no_credit: counts.no_credit + u64::from(sets.no_credit.has(channel)),

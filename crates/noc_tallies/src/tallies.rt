@@ -75,7 +75,7 @@ impl<W: Word> Tallies<W> {
 
     /// Counts so many cycles more that are like the last one, in which nothing happened.
     pub fn repeat(&mut self, times: u32)
-        ensures { (k i n : ℕ) (still : Column) (x : Doing) (before : ByVerdict) → k < LANES
+        ensures counts { (k i n : ℕ) (still : Column) (x : Doing) (before : ByVerdict) → k < LANES
             → n + times ≤ CYCLES → CanDo still x → OnlyWaits (verdicts_of still x) i
             → AreVerdictsOf x (last_verdicts W.value self.old k)
             → ShowsTally W.value self.old k i n (waits_after still x i) (owns_after still x i)
@@ -84,6 +84,8 @@ impl<W: Word> Tallies<W> {
             × RunOn times before (with_verdicts (verdicts_of still x) i before) later
             × ShowsTally W.value self.new k i (n + times) (waits_after still x i)
             (owns_after still x i) later }
+        ensures last { (k : ℕ) → k < LANES
+            → last_verdicts W.value self.new k ≡ last_verdicts W.value self.old k }
     {
         for lane in 0..LANES {
             let words = self.sheet.last(lane);

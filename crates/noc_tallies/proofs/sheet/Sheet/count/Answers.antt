@@ -3,7 +3,7 @@ use Rattle.noc_lanes.specs.Channels.{verdicts_by}
 use Rattle.noc_lanes.specs.Lanes.{word}
 use Rattle.noc_lanes.specs.declared.channels.Verdicts.{Verdicts}
 use Rattle.noc_tallies.specs.Doings.{doing_at}
-use Rattle.noc_tallies.specs.Sheets.{AreVerdictsOf, added_at, last_in, verdicts_in, with_one, with_recent}
+use Rattle.noc_tallies.specs.Sheets.{AreVerdictsOf, added_at, last_in, verdicts_in, one_more, with_recent}
 use Rattle.noc_tallies.proofs.SheetLemmas.{last-noted, recent-set}
 use Rattle.noc_tallies.proofs.sheet.Sheet.count.Goals as goal
 
@@ -20,7 +20,7 @@ returns-then-slot-lt-SLOTS-clause-counts g c = λ k i l few.
     ap (λ n. with_recent value recent n k i (added_at value old.tallies ((old.cycles + 1) % 2 ^ 32 / 4) k i)) next
     ∙ ap (λ m. with_recent value recent (slot + 1) k i (added_at value old.tallies m k i)) same
     ∙ recent-set value old.recent x slot k i added (omega arith)
-    ∙ ap (λ (v : Verdicts _). with_one v i (with_recent value old.recent slot k i added)) (sym (last-noted value old.recent x old.cycles k (omega arith)))
+    ∙ ap (λ (v : Verdicts _). one_more v i (with_recent value old.recent slot k i added)) (sym (last-noted value old.recent x old.cycles k (omega arith)))
 
 pub returns-then-slot-lt-SLOTS-clause-last : goal.returns-then-slot-lt-SLOTS-clause-last
 returns-then-slot-lt-SLOTS-clause-last g c = λ k l.
@@ -45,7 +45,7 @@ returns-clause-counts g c = λ k i l few.
     c.add_recent.ensures.counts k i l few full
     ∙ ap (λ n. with_recent value recent n k i added) four
     ∙ recent-set value old.recent x slot k i added (omega arith)
-    ∙ ap (λ (v : Verdicts _). with_one v i (with_recent value old.recent slot k i added)) (sym last)
+    ∙ ap (λ (v : Verdicts _). one_more v i (with_recent value old.recent slot k i added)) (sym last)
 
 pub returns-clause-last : goal.returns-clause-last
 returns-clause-last g c = λ k l.

@@ -3,7 +3,7 @@ use Rattle.std.proofs.lemmas.List.{get_or_default}
 use Rattle.noc_lanes.specs.Channels.{verdicts_by}
 use Rattle.noc_lanes.specs.Lanes.{word}
 use Rattle.noc_lanes.specs.declared.channels.Verdicts.{Verdicts}
-use Rattle.noc_tallies.specs.Sheets.{AreBelow, added_at, alike, with_one, with_recent}
+use Rattle.noc_tallies.specs.Sheets.{CountsAreBelow, added_at, alike, one_more, with_recent}
 use Rattle.noc_tallies.proofs.SheetLemmas.{below-more, below-next, recent-next, recent-none, verdicts-same}
 use Rattle.noc_tallies.proofs.sheet.Sheet.counts.Goals as goal
 
@@ -20,8 +20,8 @@ loop-slot-init g c = record {
   };
 }
 
-pub with_one-counts-requires-clause-small : goal.with_one-counts-requires-clause-small
-with_one-counts-requires-clause-small g c = below-more (2 ^ 33 + c.loop-slot.slot) (2 ^ 34) _ (omega arith) c.loop-slot.invariant.small
+pub one_more-counts-requires-clause-small : goal.one_more-counts-requires-clause-small
+one_more-counts-requires-clause-small g c = below-more (2 ^ 33 + c.loop-slot.slot) (2 ^ 34) _ (omega arith) c.loop-slot.invariant.small
 
 pub loop-slot-preserved : goal.loop-slot-preserved
 loop-slot-preserved g c =
@@ -32,12 +32,12 @@ loop-slot-preserved g c =
     let channel = c.args.channel in
     let added = added_at value c.args.self.now.tallies (c.args.self.now.cycles / 4) lane channel in
     record {
-      counts = c.with_one-counts.ensures
-          ∙ ap (λ (v : Verdicts _). with_one v channel c.loop-slot.counts) c.at-words.ensures
-          ∙ ap (with_one _ channel) c.loop-slot.invariant.counts
-          ∙ ap (λ (x : Verdicts (List g.row.W.Denot)). with_one (verdicts_by (word value lane) x) channel (with_recent value recent slot lane channel added))
+      counts = c.one_more-counts.ensures
+          ∙ ap (λ (v : Verdicts _). one_more v channel c.loop-slot.counts) c.at-words.ensures
+          ∙ ap (one_more _ channel) c.loop-slot.invariant.counts
+          ∙ ap (λ (x : Verdicts (List g.row.W.Denot)). one_more (verdicts_by (word value lane) x) channel (with_recent value recent slot lane channel added))
           (get_or_default recent slot c.index-self-slot.result (alike []) (omega arith))
           ∙ sym (recent-next value recent slot lane channel added);
-      small = subst (AreBelow (2 ^ 33 + (slot + 1))) (sym c.with_one-counts.ensures)
+      small = subst (CountsAreBelow (2 ^ 33 + (slot + 1))) (sym c.one_more-counts.ensures)
           (below-more (2 ^ 33 + slot + 1) (2 ^ 33 + (slot + 1)) _ (omega arith) (below-next (2 ^ 33 + slot) _ channel c.loop-slot.counts c.loop-slot.invariant.small));
     }

@@ -35,8 +35,8 @@ loop-lane-preserved g c =
           (λ k other. ap (λ (r : RouterTimes). channel_in r i) (get_or-set_other was t k x (record { channels = [] }) other));
     }
 
-pub returns : goal.returns
-returns g c = λ k i n still x before l few can only are shows.
+pub returns-clause-counts : goal.returns-clause-counts
+returns-clause-counts g c = λ k i n still x before l few can only are shows.
     let value = g.W.Word.value in
     let old = c.args.self.now in
     let inv = c.loop-lane.invariant in
@@ -47,11 +47,16 @@ returns g c = λ k i n still x before l few can only are shows.
     let later = waited_more times sets i (with_verdicts sets i before) in
     let done : c.loop-lane.lane ≡ 32 = omega arith in
     let was = shows.cycles in
-    let same : c.loop-lane.self.sheet.cycles ≡ old.sheet.cycles = ap (λ (s : Sheet g.row.W.Denot). s.cycles) inv.sheet in
-    (later, runs-on times sets i before only,
-    record {
-      cycles = omega (arith, same, was);
-      channel = subst (λ (v : Verdicts _). ShowsChannel v (times_in c.loop-lane.self.times k i) (n + times) waits owns later) (sym (ap (λ (s : Sheet g.row.W.Denot). sheet_counts value s k i) inv.sheet))
-          (subst (λ (t : ChannelTimes). ShowsChannel (sheet_counts value old.sheet k i) t (n + times) waits owns later) (sym ((inv.times i).done k (omega (arith, l, done))))
-          (channel-waited x still can i only (last_in value old.sheet k) (sheet_counts value old.sheet k i) are (times_in old.times k i) n times before few shows.channel));
-    })
+    let same : c.loop-lane.self.sheet.cycles ≡ old.sheet.cycles = ap (λ (s : Sheet g.row.W.Denot). s.cycles) inv.sheet in (
+      later,
+      runs-on times sets i before only,
+      record {
+        cycles = omega (arith, same, was);
+        channel = subst (λ (v : Verdicts _). ShowsChannel v (times_in c.loop-lane.self.times k i) (n + times) waits owns later) (sym (ap (λ (s : Sheet g.row.W.Denot). sheet_counts value s k i) inv.sheet))
+            (subst (λ (t : ChannelTimes). ShowsChannel (sheet_counts value old.sheet k i) t (n + times) waits owns later) (sym ((inv.times i).done k (omega (arith, l, done))))
+            (channel-waited x still can i only (last_in value old.sheet k) (sheet_counts value old.sheet k i) are (times_in old.times k i) n times before few shows.channel));
+      },
+    )
+
+pub returns-clause-last : goal.returns-clause-last
+returns-clause-last g c = λ k l. ap (λ (s : Sheet g.row.W.Denot). last_in g.W.Word.value s k) c.loop-lane.invariant.sheet

@@ -1,4 +1,4 @@
-use Rattle.std.proofs.Common.{◌≡◌, ℕ, ◌<◌, length}
+use Rattle.std.proofs.Common.{◌≡◌, ℕ, length}
 use Rattle.noc_packet.specs.Set.{has_bit}
 use Rattle.noc_lanes.proofs.PassLemmas.{IsPassed}
 use Rattle.noc_tallies.specs.Tallies.{last_verdicts}
