@@ -13,8 +13,9 @@ use Rattle.noc_sets.proofs.MemberLemmas.{less_members, or-none}
 use Rattle.noc_sets.proofs.TimesLemmas.{active-counted, waiting-counted}
 use Rattle.noc_lanes.specs.declared.channels.Verdicts.{Verdicts}
 use Rattle.noc_tallies.specs.Channels.{ShowsChannel}
-use Rattle.noc_tallies.specs.Doings.{CanDo, Doing, OnlyWaits, owns_after, verdicts_of, waits_after}
+use Rattle.noc_tallies.specs.Doings.{CanDo, Doing, owns_after, verdicts_of, waits_after}
 use Rattle.noc_tallies.specs.Sheets.{AreVerdictsOf, alike, one_more}
+use Rattle.noc_tallies.specs.Tallies.{HasOnlyWaited}
 use Rattle.noc_tallies.specs.Times.{minus_if, no_times, plus_if, times_after, times_waited}
 use Rattle.noc_tallies.specs.declared.tallies.TheConstants.{CYCLES}
 use Rattle.noc_tallies.specs.declared.times.ChannelTimes.{ChannelTimes}
@@ -181,8 +182,8 @@ waited_more times sets i counts = record counts {
   no_credit = counts.no_credit + times * one_if (has_bit sets.no_credit i);
 }
 
-pub runs-on : (times : ℕ) (sets : ByVerdict) (i : ℕ) (before : ByVerdict) → OnlyWaits sets i → RunOn times before (with_verdicts sets i before) (waited_more times sets i (with_verdicts sets i before))
-runs-on times sets i before only = record {
+pub runs-on : (times : ℕ) (sets : ByVerdict) (i : ℕ) (before : ByVerdict) → RunOn times before (with_verdicts sets i before) (waited_more times sets i (with_verdicts sets i before))
+runs-on times sets i before = record {
   no_flit = record { by = one_if (has_bit sets.no_flit i); once = refl; again = refl };
   no_idle_channel = record { by = one_if (has_bit sets.no_idle_channel i); once = refl; again = refl };
   no_credit = record { by = one_if (has_bit sets.no_credit i); once = refl; again = refl };
@@ -246,44 +247,49 @@ waited-shows v t n times waits owns sets i counts bit few idle active same shows
       lost_channel = shows.lost_channel;
     }
 
--- ---- of a router that did this, and nothing happened
-module _ (x : Doing) (c : Column) (can : CanDo c x) (i : ℕ) (only : OnlyWaits (verdicts_of c x) i) where
+-- ---- of a router that did this, where a channel has only waited
+none-more : (n : ℕ) (b : Bool) → n + one_if b ≡ n → b ≡ false
+none-more n true e = absurd (omega (arith, e))
+none-more n false e = refl
+
+module _ (x : Doing) (c : Column) (can : CanDo c x) (i : ℕ) (before : ByVerdict) (only : HasOnlyWaited before (with_verdicts (verdicts_of c x) i before)) where
+  none-granted : has_bit x.decided.granted i ≡ false
+  none-granted = none-more before.granted (has_bit x.decided.granted i) only.granted
+
+  none-routed : has_bit x.standing.heads i ≡ false
+  none-routed = none-more before.routed (has_bit x.standing.heads i) only.routed
+
   none-left : has_bit x.decided.released i ≡ false
   none-left = at (has_bit x.decided.released i) refl
     where
       at : (b : Bool) → has_bit x.decided.released i ≡ b → has_bit x.decided.released i ≡ false
-      at true e = absurd (false≢true (sym only.moved ∙ can.released i e))
+      at true e = absurd (false≢true (sym (none-more before.moved (has_bit x.moved i) only.moved) ∙ can.released i e))
       at false e = e
 
   still-waits : waits_after c x i ≡ has_bit c.waiting i
-  still-waits = waits-is x c can i ∙ ap₂ (λ g h. (has_bit c.waiting i && not g) || h) only.granted only.routed ∙ same (has_bit c.waiting i)
+  still-waits = waits-is x c can i ∙ ap₂ (λ g h. (has_bit c.waiting i && not g) || h) none-granted none-routed ∙ same (has_bit c.waiting i)
     where
       same : (b : Bool) → ((b && true) || false) ≡ b
       same true = refl
       same false = refl
 
   still-owns : owns_after c x i ≡ has_bit c.active i
-  still-owns = owns-is x c can i ∙ ap₂ (λ g r. (has_bit c.active i || g) && not r) only.granted none-left ∙ same (has_bit c.active i)
+  still-owns = owns-is x c can i ∙ ap₂ (λ g r. (has_bit c.active i || g) && not r) none-granted none-left ∙ same (has_bit c.active i)
     where
       same : (b : Bool) → ((b || false) && true) ≡ b
       same true = refl
       same false = refl
 
-  pub channel-waited : (words v : Verdicts ℕ) → AreVerdictsOf x words → (t : ChannelTimes) (n times : ℕ) (before : ByVerdict) → n + times ≤ CYCLES
+  pub channel-waited : (words v : Verdicts ℕ) → AreVerdictsOf x words → (t : ChannelTimes) (n times : ℕ) → n + times ≤ CYCLES
       → ShowsChannel v t n (waits_after c x i) (owns_after c x i) (with_verdicts (verdicts_of c x) i before)
       → ShowsChannel v (times_waited times (has_bit words.no_credit i) t) (n + times) (waits_after c x i) (owns_after c x i) (waited_more times (verdicts_of c x) i (with_verdicts (verdicts_of c x) i before))
-  channel-waited words v are t n times before few shows =
+  channel-waited words v are t n times few shows =
       let w = waiting-rises x c can i before in
       let a = active-rises x c can i before in
-      let lost : one_if (has_bit (verdicts_of c x).lost_channel i) ≡ 0 = ap one_if only.lost_channel in
-      let granted : one_if (has_bit (verdicts_of c x).granted i) ≡ 0 = ap one_if only.granted in
-      let input : one_if (has_bit (verdicts_of c x).lost_input i) ≡ 0 = ap one_if only.lost_input in
-      let switch : one_if (has_bit (verdicts_of c x).lost_switch i) ≡ 0 = ap one_if only.lost_switch in
-      let moved : one_if (has_bit (verdicts_of c x).moved i) ≡ 0 = ap one_if only.moved in
       let waits : one_if (waits_after c x i) ≡ one_if (has_bit c.waiting i) = ap one_if still-waits in
       let owns : one_if (owns_after c x i) ≡ one_if (has_bit c.active i) = ap one_if still-owns in
       waited-shows v t n times (waits_after c x i) (owns_after c x i) (verdicts_of c x) i (with_verdicts (verdicts_of c x) i before) (has_bit words.no_credit i) few
-      (omega (arith, w, lost, granted, waits)) (omega (arith, a, input, switch, moved, owns))
+      (omega (arith, w, only.lost_channel, only.granted, waits)) (omega (arith, a, only.lost_input, only.lost_switch, only.moved, owns))
       (ap (λ n. has_bit n i) (are.no_credit ∙ ap₂ (λ p q. less (bit_and p x.filled) q) can.active can.ready)) shows
 
 -- nothing was counted

@@ -66,13 +66,3 @@ waits_after c x i = has_bit (bit_or (less c.waiting x.decided.granted) x.standin
 
 abbrev pub owns_after : Column → Doing → ℕ → Bool
 owns_after c x i = has_bit (less (bit_or c.active x.decided.granted) x.decided.released) i
-
--- of these verdicts channel i has none but one of a channel that waits: NoFlit, NoIdleChannel or
--- NoCredit
-pub record OnlyWaits (sets : ByVerdict) (i : ℕ) : Type 0 where
-  pub routed : has_bit sets.routed i ≡ false
-  pub granted : has_bit sets.granted i ≡ false
-  pub moved : has_bit sets.moved i ≡ false
-  pub lost_channel : has_bit sets.lost_channel i ≡ false
-  pub lost_input : has_bit sets.lost_input i ≡ false
-  pub lost_switch : has_bit sets.lost_switch i ≡ false

@@ -4,16 +4,15 @@ ghost use Rattle.std.specs.Prelude.{◌≡◌, ◌+◌, ◌<◌, ◌≤◌, ℕ,
 ghost use Rattle.noc_packet.specs.Set.{has_bit};
 ghost use Rattle.noc_sets.specs.Column.{Column};
 ghost use Rattle.noc_sets.specs.Counts.{ByVerdict, RunOn, no_counts, ten_counts, with_verdicts};
-ghost use Rattle.noc_lanes.specs.Channels.{verdicts_by};
-ghost use Rattle.noc_tallies.specs.Doings.{CanDo, Doing, OnlyWaits, doing_at, owns_after, verdicts_of, waits_after};
+ghost use Rattle.noc_tallies.specs.Doings.{CanDo, Doing, doing_at, owns_after, verdicts_of, waits_after};
 ghost use Rattle.noc_tallies.specs.Sheets.{AreVerdictsOf};
-ghost use Rattle.noc_tallies.specs.Tallies.{ShowsTally, last_verdicts};
+ghost use Rattle.noc_tallies.specs.Tallies.{HasOnlyWaited, ShowsTally, last_verdicts};
 
 use crate::doings::Doings;
 use crate::sheet::Sheet;
 use crate::times::{RouterTimes, count_times};
 use noc_blocks::PLACES;
-use noc_lanes::{LANES, Verdicts, Word};
+use noc_lanes::{LANES, Word};
 
 /// So many cycles can be counted.
 pub const CYCLES: u32 = 1 << 31;
@@ -65,19 +64,12 @@ impl<W: Word> Tallies<W> {
         self.sheet.count(doings);
     }
 
-    /// The verdicts of a router in the cycle that was counted last, those that are counted by bits.
-    pub fn last(&self, lane: usize) -> Verdicts<W>
-        requires { lane < LANES }
-        ensures { verdicts_by W.value result ≡ last_verdicts W.value self.now lane }
-    {
-        self.sheet.last(lane)
-    }
-
     /// Counts so many cycles more that are like the last one, in which nothing happened.
     pub fn repeat(&mut self, times: u32)
         ensures counts { (k i n : ℕ) (still : Column) (x : Doing) (before : ByVerdict) → k < LANES
-            → n + times ≤ CYCLES → CanDo still x → OnlyWaits (verdicts_of still x) i
+            → n + times ≤ CYCLES → CanDo still x
             → AreVerdictsOf x (last_verdicts W.value self.old k)
+            → HasOnlyWaited before (with_verdicts (verdicts_of still x) i before)
             → ShowsTally W.value self.old k i n (waits_after still x i) (owns_after still x i)
             (with_verdicts (verdicts_of still x) i before)
             → (later : ByVerdict)

@@ -36,7 +36,7 @@ loop-lane-preserved g c =
     }
 
 pub returns-clause-counts : goal.returns-clause-counts
-returns-clause-counts g c = λ k i n still x before l few can only are shows.
+returns-clause-counts g c = λ k i n still x before l few can are only shows.
     let value = g.W.Word.value in
     let old = c.args.self.now in
     let inv = c.loop-lane.invariant in
@@ -49,12 +49,12 @@ returns-clause-counts g c = λ k i n still x before l few can only are shows.
     let was = shows.cycles in
     let same : c.loop-lane.self.sheet.cycles ≡ old.sheet.cycles = ap (λ (s : Sheet g.row.W.Denot). s.cycles) inv.sheet in (
       later,
-      runs-on times sets i before only,
+      runs-on times sets i before,
       record {
         cycles = omega (arith, same, was);
         channel = subst (λ (v : Verdicts _). ShowsChannel v (times_in c.loop-lane.self.times k i) (n + times) waits owns later) (sym (ap (λ (s : Sheet g.row.W.Denot). sheet_counts value s k i) inv.sheet))
             (subst (λ (t : ChannelTimes). ShowsChannel (sheet_counts value old.sheet k i) t (n + times) waits owns later) (sym ((inv.times i).done k (omega (arith, l, done))))
-            (channel-waited x still can i only (last_in value old.sheet k) (sheet_counts value old.sheet k i) are (times_in old.times k i) n times before few shows.channel));
+            (channel-waited x still can i before only (last_in value old.sheet k) (sheet_counts value old.sheet k i) are (times_in old.times k i) n times few shows.channel));
       },
     )
 
