@@ -6,3 +6,4 @@ pub mod LaneLemmas
 pub mod DueLemmas
 pub mod BlankLemmas
 pub mod GrantedLemmas
+pub mod WaitLemmas

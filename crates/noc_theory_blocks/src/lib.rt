@@ -11,6 +11,7 @@ mod heads;
 mod lanes;
 mod rows;
 mod tells;
+mod waits;
 
 pub use arrivals::tails_leave_channels_of_packets;
 pub use heads::{
@@ -28,3 +29,4 @@ pub use tells::{
     no_grant_is_told, numbers_of_granted_channels_stay, other_ends_are_one_port_away,
     turns_grant_as_the_network,
 };
+pub use waits::channels_only_wait_while_nothing_happens;
