@@ -2,3 +2,4 @@ pub mod SheetLemmas
 pub mod TimesLemmas
 pub mod ChannelLemmas
 pub mod DecisionLemmas
+pub mod TallyLemmas

@@ -55,7 +55,7 @@ impl<W: Word> Sheet<W> {
     // right for 2^32 - 4 cycles.
     #[inline(always)]
     pub(crate) fn count(&mut self, doings: &Doings<'_, W>)
-        ensures counts { (k i : ℕ) → k < LANES → self.old.cycles + 4 < 2 ^ 32
+        ensures counts { (k i : ℕ) → k < LANES → self.old.cycles + SLOTS < 2 ^ 32
             → sheet_counts W.value self.new k i
             ≡ one_more (last_in W.value self.new k) i (sheet_counts W.value self.old k i) }
         ensures last { (k : ℕ) → k < LANES
@@ -80,10 +80,10 @@ impl<W: Word> Sheet<W> {
 
     // The verdicts of the last four cycles are added, the last of which is counted by that.
     fn add_recent(&mut self)
-        ensures counts { (k i : ℕ) → k < LANES → self.old.cycles + 4 < 2 ^ 32
-            → self.old.cycles % 4 ≡ 3 → sheet_counts W.value self.new k i
-            ≡ with_recent W.value self.old.recent 4 k i
-            (added_at W.value self.old.tallies (self.old.cycles / 4) k i) }
+        ensures counts { (k i : ℕ) → k < LANES → self.old.cycles + SLOTS < 2 ^ 32
+            → self.old.cycles % SLOTS + 1 ≡ SLOTS → sheet_counts W.value self.new k i
+            ≡ with_recent W.value self.old.recent SLOTS k i
+            (added_at W.value self.old.tallies (self.old.cycles / SLOTS) k i) }
         ensures recent { self.new.recent ≡ self.old.recent }
         ensures cycles { self.new.cycles ≡ (self.old.cycles + 1) % 2 ^ 32 }
     {

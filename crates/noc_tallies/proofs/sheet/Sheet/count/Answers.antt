@@ -36,8 +36,8 @@ returns-clause-counts g c = λ k i l few.
     let x = c.note_verdicts.new.verdicts in
     let recent = set old.recent slot x in
     let added = added_at value old.tallies (old.cycles / 4) k i in
-    let full : old.cycles % 4 ≡ 3 = omega arith in
-    let four : 4 ≡ old.cycles % 4 + 1 = omega (arith, full) in
+    let full : old.cycles % 4 + 1 ≡ 4 = omega arith in
+    let four : 4 ≡ old.cycles % 4 + 1 = sym full in
     let last : last_in value c.add_recent.new.self k ≡ verdicts_by (word value k) x
     = ap (λ m. verdicts_in value c.add_recent.new.self.recent ((m + 3) % 4) k) c.add_recent.ensures.cycles
     ∙ ap (λ (xs : List (Verdicts (List g.row.W.Denot))). verdicts_in value xs (((old.cycles + 1) % 2 ^ 32 + 3) % 4) k) c.add_recent.ensures.recent
