@@ -1,7 +1,9 @@
 -- What the lists of all blocks have of one block, and of one router of it: nothing, where there is
 -- no such block.
-use Rattle.std.specs.Prelude.{ℕ, Bool, false, List, [], ◌∷◌, Option, Some, None, slice_get}
+use Rattle.std.specs.Prelude.{ℕ, Bool, false, List, [], ◌∷◌, Option, Some, None, bit_or, slice_get}
+use Rattle.noc_packet.specs.Set.{has_bit}
 use Rattle.noc_sets.specs.Column.{RouterMarks}
+use Rattle.noc_sets.specs.Counts.{ByVerdict}
 use Rattle.noc_lanes.specs.declared.channels.Arrived.{Arrived}
 use Rattle.noc_lanes.specs.declared.channels.Decided.{Decided}
 use Rattle.noc_lanes.specs.declared.channels.Inputs.{Inputs}
@@ -11,13 +13,19 @@ use Rattle.noc_lanes.specs.declared.channels.Outputs.{Outputs}
 use Rattle.noc_lanes.specs.declared.channels.Returned.{Returned}
 use Rattle.noc_lanes.specs.declared.channels.Source.{Source}
 use Rattle.noc_lanes.specs.declared.channels.Standing.{Standing}
+use Rattle.noc_lanes.specs.declared.channels.Verdicts.{Verdicts}
 use Rattle.noc_lanes.specs.declared.planes.Planes.{Planes}
 use Rattle.noc_blocks.specs.Turned.{Working}
 use Rattle.noc_blocks.specs.Turning.{Lane}
 use Rattle.noc_blocks.specs.declared.standing.Pending.{Pending}
 use Rattle.noc_turns.specs.States.{lane_of, returned_of, working_of}
+use Rattle.noc_turns.specs.declared.outlook.Outlook.{Outlook}
 use Rattle.noc_turns.specs.declared.state.State.{State}
 use Rattle.noc_turns.specs.declared.state.Work.{Work}
+use Rattle.noc_tallies.specs.Doings.{Doing}
+use Rattle.noc_tallies.specs.Sheets.{alike}
+use Rattle.noc_tallies.specs.Tallies.{ShowsTally, last_verdicts}
+use Rattle.noc_tallies.specs.declared.tallies.Tallies.{Tallies}
 
 -- ---- of no block
 abbrev pub NO_PLANES : Planes ℕ
@@ -89,6 +97,35 @@ tails_or (Some w) = w.tails
 abbrev pub came_or : {A : Type 0} → Option (Work A) → Bool
 came_or None = false
 came_or (Some w) = w.came
+
+-- what router k of it does, before that takes effect: it is told that something changes where a
+-- head stands in it, a channel asks, or a tail leaves
+abbrev pub doing_or : {A : Type 0} → (A → ℕ) → Option (State A) → Option (Work A) → ℕ → Doing
+doing_or value state work k = record {
+  changes = has_bit
+      (bit_or (bit_or (pending_or work).heading (pending_or work).asking) (tails_or work)) k;
+  active = (lane_or value state k).inputs.active;
+  filled = (working_or value work k).arrived.filled;
+  standing = (working_or value work k).standing;
+  moved = (working_or value work k).moves.moved;
+  decided = (working_or value work k).decided;
+}
+
+-- what is counted of channel i of it shows these counts: nothing where there is no block
+abbrev pub ShowsTallyOr : {A : Type 0} → (A → ℕ) → Option (Tallies A) → ℕ → ℕ → ℕ → Bool → Bool
+    → ByVerdict → Type 0
+ShowsTallyOr value None k i n waits owns c = ⊥
+ShowsTallyOr value (Some t) k i n waits owns c = ShowsTally value t k i n waits owns c
+
+-- its verdicts in the cycle that was counted last, those that are counted by bits
+abbrev pub last_or : {A : Type 0} → (A → ℕ) → Option (Tallies A) → ℕ → Verdicts ℕ
+last_or value None k = alike 0
+last_or value (Some t) k = last_verdicts value t k
+
+-- whether anything has happened in it
+abbrev pub happened_or : Option Outlook → Bool
+happened_or None = false
+happened_or (Some outlook) = outlook.happened
 
 -- ---- of block b of these
 abbrev pub lane_in : {A : Type 0} → (A → ℕ) → List (State A) → ℕ → ℕ → Lane
