@@ -1,14 +1,18 @@
 -- A pass over the blocks that are awake: lists in which one block after the other changes.
-use Rattle.std.proofs.Common.{◌≡◌, ◌≢◌, ℕ, ◌+◌, ◌<◌, ◌≤◌, Bool, true, false, List, Some, length, get_or, set as write, ap, ap₂, sym, ◌∙◌, subst, arith, refl, inl, inr}
+use Rattle.std.proofs.Common.{◌≡◌, ◌≢◌, ℕ, ◌+◌, ◌%◌, ◌<◌, ◌≤◌, Bool, true, false, List, Some, length, get_or, set as write, ap, ap₂, sym, ◌∙◌, subst, arith, refl, inl, inr}
 use Rattle.std.specs.Prelude.{◌⊎◌, Option, slice_get}
 use Rattle.std.proofs.lemmas.Bool.{cases_eq, cases_lt, true≢false}
-use Rattle.std.proofs.lemmas.Option.{slice_get-get_or}
+use Rattle.std.proofs.lemmas.Option.{slice_get-get_or, slice_get_read}
 use Rattle.noc_packet.specs.Set.{has_bit}
+use Rattle.noc_lanes.proofs.SetLemmas.{low_members}
 use Rattle.noc_blocks.proofs.AllottedLemmas.{lane-changed, lane-other}
 
 -- an item that is read
 pub there : {S : Type 0} (xs : List S) (i n : ℕ) (x : S) → length xs ≡ n → i < n → slice_get xs i ≡ Some (get_or xs i x)
 there xs i n x size within = slice_get-get_or xs i x (omega (arith, size, within))
+
+pub read : {S : Type 0} (xs : List S) (i : ℕ) (x : S) → i < length xs → x ≡ get_or xs i x → slice_get xs i ≡ Some x
+read xs i x within is = slice_get_read xs (length xs) i x refl within is
 
 -- .. and one that is written
 pub written : {S : Type 0} (xs : List S) (i n : ℕ) (x : S) → length xs ≡ n → i < n → slice_get (write xs i x) i ≡ Some x
@@ -72,3 +76,20 @@ along4 P o p q r s t x y a b c d h = along2 (λ u v. P u p v r) o q s x a c (alo
 -- two lists side by side
 pub both : {S T : Type 0} (a b : Option S) (c d : Option T) → a ≡ b → c ≡ d → ◌≡◌ {A = Option S × Option T} (a, c) (b, d)
 both a b c d e f = ap₂ (λ (x : Option _) (y : Option _). (x, y)) e f
+
+-- one item is there
+pub along : {S : Type 0} (P : Option S → Type 0) (o : Option S) (s : S) → o ≡ Some s → P (Some s) → P o
+along P o s a h = subst P (sym a) h
+
+pub back : {S : Type 0} (P : Option S → Type 0) (o : Option S) (s : S) → o ≡ Some s → P o → P (Some s)
+back P o s a h = subst P a h
+
+pub same-item : {S : Type 0} (s t : S) (o : Option S) → o ≡ Some s → o ≡ Some t → s ≡ t
+same-item s t o a b = let e : Some s ≡ Some t = sym a ∙ b in cc
+
+-- a block that takes part
+pub is-woken : (awake number : ℕ) (answer : Bool) → number < 32 → answer ≡ has_bit (awake % 4294967296) number → answer ≡ true → has_bit awake number ≡ true
+is-woken awake number answer low is woken = sym (low_members awake number 32 low) ∙ sym is ∙ woken
+
+pub is-asleep : (awake number : ℕ) (answer : Bool) → number < 32 → answer ≡ has_bit (awake % 4294967296) number → answer ≡ false → has_bit awake number ≡ false
+is-asleep awake number answer low is asleep = sym (low_members awake number 32 low) ∙ sym is ∙ asleep
