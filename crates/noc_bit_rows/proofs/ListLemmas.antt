@@ -1,6 +1,7 @@
 -- A pass over the blocks that are awake: lists in which one block after the other changes.
-use Rattle.std.proofs.Common.{◌≡◌, ◌≢◌, ℕ, ◌+◌, ◌%◌, ◌<◌, ◌≤◌, Bool, true, false, List, Some, length, get_or, set as write, ap, ap₂, sym, ◌∙◌, subst, arith, refl, inl, inr}
+use Rattle.std.proofs.Common.{◌≡◌, ◌≢◌, ℕ, ◌+◌, ◌*◌, ◌%◌, ◌<◌, ◌≤◌, Bool, true, false, List, Some, length, get_or, set as write, ap, ap₂, sym, ◌∙◌, subst, arith, refl, inl, inr}
 use Rattle.std.specs.Prelude.{◌⊎◌, Option, slice_get}
+use Rattle.std.proofs.Math.Nat.{mul-le-mul_right}
 use Rattle.std.proofs.lemmas.Bool.{cases_eq, cases_lt, true≢false}
 use Rattle.std.proofs.lemmas.Option.{slice_get-get_or, slice_get_read}
 use Rattle.noc_packet.specs.Set.{has_bit}
@@ -93,3 +94,9 @@ is-woken awake number answer low is woken = sym (low_members awake number 32 low
 
 pub is-asleep : (awake number : ℕ) (answer : Bool) → number < 32 → answer ≡ has_bit (awake % 4294967296) number → answer ≡ false → has_bit awake number ≡ false
 is-asleep awake number answer low is asleep = sym (low_members awake number 32 low) ∙ sym is ∙ asleep
+
+-- one of n items is no larger than all of them
+pub one-of : (n size b : ℕ) → 0 < n → n * size < b → size < b
+one-of n size b some all =
+    let least : 1 * size ≤ n * size = mul-le-mul_right size (omega (arith, some)) in
+    omega (arith, all, least)

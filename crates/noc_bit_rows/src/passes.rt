@@ -37,12 +37,13 @@ pub(crate) fn gather_all<W: Word>(
     ensures kept { (b : ℕ) → has_bit awake b ≡ false
         → slice_get works.new b ≡ slice_get works.old b }
 {
+    let sides = plan.sides.as_slice();
     for number in 0..works.len() {
         if !awake.has(number) {
             continue;
         }
         let frame = &plan.pattern.frame;
-        left.gather(frame, &plan.sides[number], &mut works[number].links);
+        left.gather(frame, &sides[number], &mut works[number].links);
     }
 }
 

@@ -5,23 +5,23 @@ use Rattle.noc_blocks.specs.declared.links.Sides.{Sides}
 use Rattle.noc_turns.specs.declared.state.Work.{Work}
 use Rattle.noc_wires.specs.Left.{left_of}
 use Rattle.noc_bit_rows.specs.Passes.{HasGathered}
-use Rattle.noc_bit_rows.proofs.ListLemmas.{along, is-asleep, is-woken, others, read, same-item, up-to-asleep, up-to-next, written}
+use Rattle.noc_bit_rows.proofs.ListLemmas.{along, is-asleep, is-woken, one-of, others, read, same-item, up-to-asleep, up-to-next, written}
 use Rattle.noc_bit_rows.proofs.passes.gather_all.Goals as goal
 
 pub gather-requires : goal.gather-requires
 gather-requires g c =
     let t = c.loop-number.number in
-    let one = c.index.result.now in
-    let side : slice_get c.args.plan.now.sides.items t ≡ Some one = read c.args.plan.now.sides.items t one (omega (arith, c.requires.sides)) c.index.ensures in
-    (search rules, (search rules, (search rules, (c.args.plan.now.frame, (c.args.plan.now.ports, c.args.plan.now.row t one side)))))
+    let one = c.index-sides-number.result in
+    let side : slice_get c.args.plan.now.sides.items t ≡ Some one = read c.args.plan.now.sides.items t one (omega (arith, c.requires.sides)) (subst (λ (xs : List (Sides (List g.row.W.Denot))). one ≡ get_or xs t one) c.as_slice-sides.ensures.value c.index-sides-number.is) in
+    (search rules, (one-of (length c.as_slice-sides.result.now) _ _ (omega (arith, c.requires.sides, c.as_slice-sides.ensures.len)) c.as_slice-sides.type_inv.1, (search rules, (c.args.plan.now.frame, (c.args.plan.now.ports, c.args.plan.now.row t one side)))))
 
 pub loop-number-preserved : goal.loop-number-preserved
 loop-number-preserved g c =
     let value = g.W.Word.value in
     let t = c.loop-number.number in
     let woken = is-woken c.args.awake t c.has.result (omega (arith, c.requires.few)) c.has.ensures c.if-not-has.false in
-    let one = c.index.result.now in
-    let side : slice_get c.args.plan.now.sides.items t ≡ Some one = read c.args.plan.now.sides.items t one (omega (arith, c.requires.sides)) c.index.ensures in
+    let one = c.index-sides-number.result in
+    let side : slice_get c.args.plan.now.sides.items t ≡ Some one = read c.args.plan.now.sides.items t one (omega (arith, c.requires.sides)) (subst (λ (xs : List (Sides (List g.row.W.Denot))). one ≡ get_or xs t one) c.as_slice-sides.ensures.value c.index-sides-number.is) in
     let x : Work g.row.W.Denot = record (get_or c.loop-number.works t c.index-works-number.result) { links = c.gather.new.links } in
     let e = c.gather.ensures in
     up-to-next _ _ _ _ _ _ t woken c.loop-number.invariant
