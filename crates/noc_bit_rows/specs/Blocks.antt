@@ -1,18 +1,11 @@
 -- What the lists of all blocks have of one block, and of one router of it: nothing, where there is
 -- no such block.
-use Rattle.std.specs.Prelude.{ℕ, Bool, false, List, [], ◌∷◌, Option, Some, None, bit_or, slice_get}
+use Rattle.std.specs.Prelude.{ℕ, Bool, false, List, [], Option, Some, None, bit_or, slice_get}
 use Rattle.noc_packet.specs.Set.{has_bit}
 use Rattle.noc_sets.specs.Column.{RouterMarks}
 use Rattle.noc_sets.specs.Counts.{ByVerdict}
-use Rattle.noc_lanes.specs.declared.channels.Arrived.{Arrived}
-use Rattle.noc_lanes.specs.declared.channels.Decided.{Decided}
-use Rattle.noc_lanes.specs.declared.channels.Inputs.{Inputs}
 use Rattle.noc_lanes.specs.declared.channels.Links.{Links}
-use Rattle.noc_lanes.specs.declared.channels.Moves.{Moves}
-use Rattle.noc_lanes.specs.declared.channels.Outputs.{Outputs}
 use Rattle.noc_lanes.specs.declared.channels.Returned.{Returned}
-use Rattle.noc_lanes.specs.declared.channels.Source.{Source}
-use Rattle.noc_lanes.specs.declared.channels.Standing.{Standing}
 use Rattle.noc_lanes.specs.declared.channels.Verdicts.{Verdicts}
 use Rattle.noc_lanes.specs.declared.planes.Planes.{Planes}
 use Rattle.noc_blocks.specs.Turned.{Working}

@@ -67,7 +67,8 @@ pub record HasDecidedIn {A : Type 0} (value : A → ℕ) (w : ℕ) (relation : R
       (returned_or value work k).single (lane_or value state k) (lane_or value now k)
       (working_or value work k).standing (working_or value after k).moves
       (working_or value after k).decided
-  pub tails : (k : ℕ) → k < LANES → IsAmong (tails_or after) k (working_or value after k).decided.released
+  pub tails : (k : ℕ) → k < LANES
+      → IsAmong (tails_or after) k (working_or value after k).decided.released
   pub rest : (k : ℕ) → working_or value after k
       ≡ record (working_or value work k) {
         moves = (working_or value after k).moves;

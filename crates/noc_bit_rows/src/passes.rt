@@ -22,12 +22,7 @@ use noc_turns::{
 use noc_wires::{BLOCKS, Left};
 
 // What the links bring is gathered.
-pub(crate) fn gather_all<W: Word>(
-    plan: &Plan<W>,
-    awake: u32,
-    left: &Left<W>,
-    works: &mut [Work<W>],
-)
+pub(crate) fn gather_all<W: Word>(plan: &Plan<W>, awake: u32, left: &Left<W>, works: &mut [Work<W>])
     requires few { length works.old ≤ BLOCKS }
     requires sides { length plan.now.sides.items ≡ length works.old }
     ensures gathered { (b : ℕ) (one : Wiring (List W)) → slice_get plan.now.sides.items b ≡ Some one
@@ -72,7 +67,13 @@ pub(crate) fn arrive_all<W: Word>(
             continue;
         }
         let state = &mut states[number];
-        arrive_block(&plan.pattern, cycle, &plan.starts, state, &mut works[number]);
+        arrive_block(
+            &plan.pattern,
+            cycle,
+            &plan.starts,
+            state,
+            &mut works[number],
+        );
     }
 }
 

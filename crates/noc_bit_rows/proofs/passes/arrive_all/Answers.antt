@@ -1,4 +1,4 @@
-use Rattle.std.proofs.Common.{◌≡◌, ◌<◌, ◌∙◌, ℕ, List, Some, true, ap, ap₂, arith, get_or, length, set as write, subst, sym, refl, rules}
+use Rattle.std.proofs.Common.{◌≡◌, ◌∙◌, List, Some, ap, arith, get_or, length, subst, sym, refl, rules}
 use Rattle.std.specs.Prelude.{Option, slice_get}
 use Rattle.noc_lanes.specs.Channels.{links_by}
 use Rattle.noc_lanes.proofs.SetLemmas.{low_members}
@@ -23,11 +23,22 @@ arrive_block-requires g c =
     let s = get_or c.loop-number.states t c.index-states-number.result in
     let x = get_or c.loop-number.works t c.index-works-number.result in
     let state : slice_get c.args.states.now t ≡ Some s = sym (ap (λ p. p.0) was) ∙ there c.loop-number.states t _ c.index-states-number.result refl (omega arith) in
-    let work : slice_get c.args.works.now t ≡ Some x = sym (ap (λ p. p.1) was) ∙ there c.loop-number.works t _ c.index-works-number.result refl (omega arith) in
-    (search rules, (search rules, (c.args.plan.now.frame, (omega (arith, c.args.plan.now.few, ap length c.deref.ensures.value), λ k l.
-    subst (λ (xs : List Start). MayTake g.W.Word.bits (starts_by xs) c.args.cycle (links_of value x k) (lane_of value s k)) (sym c.deref.ensures.value)
-    (back2 (λ (o : Option (State g.row.W.Denot)) (p : Option (Work g.row.W.Denot)). MayTake g.W.Word.bits (starts_by c.args.plan.now.starts.items) c.args.cycle (working_or value p k).links (lane_or value o k))
-    _ _ s x state work (c.requires.lanes t k (sym (low_members c.args.awake t 32 (omega (arith, c.requires.few))) ∙ sym c.has.ensures ∙ c.if-not-has.false) l))))))
+    let work : slice_get c.args.works.now t ≡ Some x = sym (ap (λ p. p.1) was) ∙ there c.loop-number.works t _ c.index-works-number.result refl (omega arith) in (
+      search rules,
+      (
+        search rules,
+        (
+          c.args.plan.now.frame,
+          (
+            omega (arith, c.args.plan.now.few, ap length c.deref.ensures.value),
+            λ k l.
+                subst (λ (xs : List Start). MayTake g.W.Word.bits (starts_by xs) c.args.cycle (links_of value x k) (lane_of value s k)) (sym c.deref.ensures.value)
+                (back2 (λ (o : Option (State g.row.W.Denot)) (p : Option (Work g.row.W.Denot)). MayTake g.W.Word.bits (starts_by c.args.plan.now.starts.items) c.args.cycle (working_or value p k).links (lane_or value o k))
+                _ _ s x state work (c.requires.lanes t k (sym (low_members c.args.awake t 32 (omega (arith, c.requires.few))) ∙ sym c.has.ensures ∙ c.if-not-has.false) l)),
+          ),
+        ),
+      ),
+    )
 
 pub loop-number-preserved : goal.loop-number-preserved
 loop-number-preserved g c =

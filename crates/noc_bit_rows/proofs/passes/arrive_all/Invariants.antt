@@ -1,4 +1,3 @@
-use Rattle.std.proofs.Common.{◌≡◌, ℕ}
 use Rattle.std.specs.Prelude.{Option, slice_get}
 use Rattle.noc_blocks.specs.Begins.{starts_by}
 use Rattle.noc_turns.specs.declared.state.State.{State}

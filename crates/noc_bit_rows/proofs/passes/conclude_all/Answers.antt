@@ -1,4 +1,4 @@
-use Rattle.std.proofs.Common.{◌≡◌, ◌<◌, ◌-◌, ◌∙◌, ℕ, Some, true, ap, arith, get_or, length, set as write, subst, sym, refl, rules}
+use Rattle.std.proofs.Common.{◌≡◌, ◌-◌, ◌∙◌, Some, ap, arith, get_or, length, subst, sym, refl, rules}
 use Rattle.std.specs.Prelude.{Option, bit_and, slice_get, slice_index}
 use Rattle.noc_blocks.specs.Arrivals.{HaveArrived}
 use Rattle.noc_turns.specs.Held.{IsAmong, MayConclude}
@@ -20,11 +20,23 @@ conclude_block-requires g c =
     let s = get_or c.loop-number.states t c.index-states-number.result in
     let x = get_or c.loop-number.works t c.index-works-number.result in
     let state : slice_get c.args.states.now t ≡ Some s = sym (ap (λ p. p.0) was) ∙ there c.loop-number.states t _ c.index-states-number.result refl (omega arith) in
-    let work : slice_get c.args.works.now t ≡ Some x = sym (ap (λ p. p.1) was) ∙ there c.loop-number.works t _ c.index-works-number.result refl (omega arith) in
-    (search rules, (search rules, (c.args.plan.now.frame, (c.args.plan.now.ports, (
-    λ k l. back (λ (p : Option (Work g.row.W.Denot)). IsAmong (tails_or p) k (working_or value p k).decided.released) _ x work (c.requires.tails t k woken l),
-    λ k l. subst (λ n. MayConclude n (lane_of value s k) (working_of value x k)) (sym c.loop-number.invariant.size)
-    (back2 (λ (o : Option (State g.row.W.Denot)) (p : Option (Work g.row.W.Denot)). MayConclude (length c.args.arrivals.now) (lane_or value o k) (working_or value p k)) _ _ s x state work (c.requires.lanes t k woken l)))))))
+    let work : slice_get c.args.works.now t ≡ Some x = sym (ap (λ p. p.1) was) ∙ there c.loop-number.works t _ c.index-works-number.result refl (omega arith) in (
+      search rules,
+      (
+        search rules,
+        (
+          c.args.plan.now.frame,
+          (
+            c.args.plan.now.ports,
+            (
+              λ k l. back (λ (p : Option (Work g.row.W.Denot)). IsAmong (tails_or p) k (working_or value p k).decided.released) _ x work (c.requires.tails t k woken l),
+              λ k l. subst (λ n. MayConclude n (lane_of value s k) (working_of value x k)) (sym c.loop-number.invariant.size)
+                  (back2 (λ (o : Option (State g.row.W.Denot)) (p : Option (Work g.row.W.Denot)). MayConclude (length c.args.arrivals.now) (lane_or value o k) (working_or value p k)) _ _ s x state work (c.requires.lanes t k woken l)),
+            ),
+          ),
+        ),
+      ),
+    )
 
 pub loop-number-preserved : goal.loop-number-preserved
 loop-number-preserved g c =

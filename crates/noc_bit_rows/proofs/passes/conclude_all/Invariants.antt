@@ -1,4 +1,4 @@
-use Rattle.std.proofs.Common.{◌≡◌, ℕ, ◌-◌, length}
+use Rattle.std.proofs.Common.{◌≡◌, ◌-◌, length}
 use Rattle.std.specs.Prelude.{Option, bit_and, slice_get, slice_index}
 use Rattle.noc_turns.specs.declared.state.State.{State}
 use Rattle.noc_turns.specs.declared.state.Work.{Work}
@@ -15,5 +15,5 @@ invariant-loop-number g l = record {
       (λ b. (slice_get l.fn.states b, slice_get l.fn.works b)) (λ b. (slice_get l.states b, slice_get l.works b)) l.awake l.number;
   arrivals : HaveArrivedIn l.cycle l.awake l.number
       (λ b k. bit_and (working_in g.W.Word.value l.fn.works b k).decided.released ((lane_in g.W.Word.value l.fn.states b k).marks.to_port (l.plan.pattern.frame.ports - 1)))
-      (λ b k. (lane_in g.W.Word.value l.fn.states b k).marks.packet) (slice_index l.fn.arrivals) (slice_index l.arrivals)
+      (λ b k. (lane_in g.W.Word.value l.fn.states b k).marks.packet) (slice_index l.fn.arrivals) (slice_index l.arrivals);
 }

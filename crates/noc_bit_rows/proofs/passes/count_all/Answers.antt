@@ -1,4 +1,4 @@
-use Rattle.std.proofs.Common.{◌≡◌, ◌<◌, ◌∙◌, ℕ, Some, true, ap, arith, get_or, length, set as write, sym, refl, rules}
+use Rattle.std.proofs.Common.{◌≡◌, ◌∙◌, Some, arith, get_or, set as write, sym, refl, rules}
 use Rattle.std.specs.Prelude.{Option, slice_get}
 use Rattle.noc_turns.specs.declared.state.State.{State}
 use Rattle.noc_turns.specs.declared.state.Work.{Work}

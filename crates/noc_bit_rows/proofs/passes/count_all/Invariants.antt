@@ -1,4 +1,3 @@
-use Rattle.std.proofs.Common.{◌≡◌, ℕ}
 use Rattle.std.specs.Prelude.{Option, slice_get}
 use Rattle.noc_tallies.specs.declared.tallies.Tallies.{Tallies}
 use Rattle.noc_bit_rows.specs.Passes.{HasCounted}

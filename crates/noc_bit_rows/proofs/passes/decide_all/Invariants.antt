@@ -1,4 +1,4 @@
-use Rattle.std.proofs.Common.{◌≡◌, ℕ, ◌*◌}
+use Rattle.std.proofs.Common.{◌*◌}
 use Rattle.std.specs.Prelude.{Option, slice_get}
 use Rattle.noc_turns.specs.declared.state.State.{State}
 use Rattle.noc_turns.specs.declared.state.Work.{Work}

@@ -1,5 +1,5 @@
-use Rattle.std.proofs.Common.{◌≡◌, ◌<◌, ◌*◌, ◌∙◌, ℕ, List, Some, true, ap, arith, get_or, length, set as write, subst, sym, refl, rules}
-use Rattle.std.specs.Prelude.{Option, slice_get}
+use Rattle.std.proofs.Common.{◌≡◌, ◌*◌, List, Some, arith, get_or, length, set as write, subst, refl, rules}
+use Rattle.std.specs.Prelude.{slice_get}
 use Rattle.std.proofs.lemmas.Option.{slice_get_within}
 use Rattle.noc_blocks.specs.declared.links.Sides.{Sides}
 use Rattle.noc_turns.specs.declared.state.Work.{Work}

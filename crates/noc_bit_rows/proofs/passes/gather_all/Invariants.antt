@@ -1,4 +1,4 @@
-use Rattle.std.proofs.Common.{◌≡◌, ℕ, ◌*◌, List, Some}
+use Rattle.std.proofs.Common.{◌≡◌, ◌*◌, List, Some}
 use Rattle.std.specs.Prelude.{Option, slice_get}
 use Rattle.noc_blocks.specs.declared.links.Sides.{Sides}
 use Rattle.noc_turns.specs.declared.state.Work.{Work}

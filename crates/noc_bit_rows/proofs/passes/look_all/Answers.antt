@@ -1,4 +1,4 @@
-use Rattle.std.proofs.Common.{◌≡◌, ◌<◌, ◌^◌, ◌∙◌, ℕ, Some, true, arith, get_or, length, subst, sym, refl, rules}
+use Rattle.std.proofs.Common.{◌≡◌, ◌<◌, ◌^◌, Some, arith, length, subst, refl, rules}
 use Rattle.std.specs.Prelude.{Option, slice_get}
 use Rattle.std.proofs.lemmas.Option.{slice_get_within}
 use Rattle.noc_turns.specs.Held.{IsAmong}
@@ -15,11 +15,18 @@ pub outlook_of-outlook-requires : goal.outlook_of-outlook-requires
 outlook_of-outlook-requires g c =
     let value = g.W.Word.value in
     let t = c.loop-number.number in
-    let woken = is-woken c.args.awake t c.has.result (omega (arith, c.requires.few)) c.has.ensures c.if-not-has.false in
-    (search rules, (search rules, (λ k l. back (λ (o : Option (Work g.row.W.Denot)). IsAmong (pending_or o).heading k (working_or value o k).standing.heads) _ _
-    (read c.args.works.now t c.index-works-number.result (omega (arith, c.requires.works)) c.index-works-number.is) (c.requires.heading t k woken l),
-    λ k l. back (λ (o : Option (State g.row.W.Denot)). (lane_or value o k).words.due < 2 ^ 32) _ _
-    (read c.args.states.now t c.index-states-number.result (omega arith) c.index-states-number.is) (c.requires.due t k woken l))))
+    let woken = is-woken c.args.awake t c.has.result (omega (arith, c.requires.few)) c.has.ensures c.if-not-has.false in (
+      search rules,
+      (
+        search rules,
+        (
+          λ k l. back (λ (o : Option (Work g.row.W.Denot)). IsAmong (pending_or o).heading k (working_or value o k).standing.heads) _ _
+              (read c.args.works.now t c.index-works-number.result (omega (arith, c.requires.works)) c.index-works-number.is) (c.requires.heading t k woken l),
+          λ k l. back (λ (o : Option (State g.row.W.Denot)). (lane_or value o k).words.due < 2 ^ 32) _ _
+              (read c.args.states.now t c.index-states-number.result (omega arith) c.index-states-number.is) (c.requires.due t k woken l),
+        ),
+      ),
+    )
 
 pub loop-number-preserved : goal.loop-number-preserved
 loop-number-preserved g c =

@@ -1,4 +1,4 @@
-use Rattle.std.proofs.Common.{◌≡◌, ℕ, Some}
+use Rattle.std.proofs.Common.{◌≡◌, Some}
 use Rattle.std.specs.Prelude.{Option, slice_get}
 use Rattle.noc_turns.specs.declared.outlook.Outlook.{Outlook}
 use Rattle.noc_bit_rows.specs.Passes.{IsOutlook}
@@ -11,5 +11,5 @@ invariant-loop-number g l = record {
   blocks : IsUpTo (Option Outlook)
       (λ b now. (outlook : Outlook) → now ≡ Some outlook → IsOutlook g.W.Word.value (slice_get l.states b) (slice_get l.works b) outlook)
       (λ b. slice_get l.fn.outlooks b) (λ b. slice_get l.outlooks b) l.awake l.number;
-  happened : l.happened ≡ some_happened l.awake (λ b. slice_get l.outlooks b) l.number
+  happened : l.happened ≡ some_happened l.awake (λ b. slice_get l.outlooks b) l.number;
 }

@@ -1,6 +1,5 @@
-use Rattle.std.proofs.Common.{◌≡◌, ◌<◌, ◌/◌, ◌%◌, ◌∙◌, ℕ, Some, true, ap, arith, get_or, sym, refl, rules}
+use Rattle.std.proofs.Common.{◌≡◌, ◌%◌, ◌∙◌, Some, ap, arith, sym}
 use Rattle.std.specs.Prelude.{Option, slice_get}
-use Rattle.noc_turns.specs.States.{working_of}
 use Rattle.noc_turns.specs.declared.state.Work.{Work}
 use Rattle.noc_wires.specs.Left.{leaving_of}
 use Rattle.noc_bit_rows.specs.Blocks.{working_or}

@@ -1,4 +1,4 @@
-use Rattle.std.proofs.Common.{◌≡◌, ℕ, ◌/◌, ◌%◌}
+use Rattle.std.proofs.Common.{◌/◌, ◌%◌}
 use Rattle.noc_wires.specs.Left.{leaving_of, left_of}
 use Rattle.noc_bit_rows.specs.Blocks.{working_in}
 use Rattle.noc_bit_rows.proofs.PassLemmas.{IsPutUpTo}
