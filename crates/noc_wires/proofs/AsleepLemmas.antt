@@ -1,6 +1,6 @@
 -- Nothing comes to blocks that sleep.
-use Rattle.std.proofs.Common.{◌≡◌, ℕ, ◌+◌, ◌*◌, ◌/◌, ◌%◌, ◌<◌, Bool, true, false, List, get_or, length, Option, Some, None, refl, ap, ap₂, sym, ◌∙◌, subst}
-use Rattle.std.specs.Prelude.{◌⊎◌, ◌&&◌, ◌||◌, nat_le, slice_get, slice_index}
+use Rattle.std.proofs.Common.{◌≡◌, ℕ, ◌+◌, ◌*◌, ◌/◌, ◌%◌, ◌<◌, Bool, true, false, List, get_or, length, Option, Some, None, refl, ap, sym, ◌∙◌}
+use Rattle.std.specs.Prelude.{◌&&◌, ◌||◌, nat_le, slice_get, slice_index}
 use Rattle.std.proofs.lemmas.Bool.{and_from, false_from_ne_true, or_left, or_right, true≢false}
 use Rattle.std.proofs.lemmas.Option.{slice_get-get_or, slice_get_within}
 use Rattle.noc_topo.specs.Shape.{Grid, IsGrid, neighbour, nodes}
@@ -8,8 +8,7 @@ use Rattle.noc_topo.proofs.LinkLemmas.{link_back}
 use Rattle.noc_packet.specs.Set.{has_bit}
 use Rattle.noc_packet.proofs.SetLemmas.{has_bit-zero, zero_from_none}
 use Rattle.noc_sets.specs.Cycle.{Links}
-use Rattle.noc_sets.specs.Gather.{comes_over, gathered, is_over}
-use Rattle.noc_sets.specs.Unions.{some_below}
+use Rattle.noc_sets.specs.Gather.{gathered, is_over}
 use Rattle.noc_sets.proofs.GatherLemmas.{gathered-is}
 use Rattle.noc_blocks.proofs.SwitchedLemmas.{some-has}
 use Rattle.noc_turns.specs.declared.outlook.Outlook.{Outlook}

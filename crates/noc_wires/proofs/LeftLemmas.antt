@@ -1,8 +1,7 @@
 -- Rows of what has left all routers.
-use Rattle.std.proofs.Common.{◌≡◌, ℕ, zero, suc, ◌+◌, ◌*◌, ◌/◌, ◌%◌, ◌<◌, ◌≤◌, List, map, replicate, refl, ap, sym, ◌∙◌, subst, arith, inl, inr}
+use Rattle.std.proofs.Common.{◌≡◌, ℕ, zero, suc, ◌+◌, ◌*◌, ◌/◌, ◌%◌, ◌<◌, ◌≤◌, List, map, replicate, refl, ap, arith, inl, inr}
 use Rattle.std.specs.Prelude.{◌⊎◌, ◌-◌, slice_index}
 use Rattle.std.proofs.lemmas.Bool.{cases_lt}
-use Rattle.std.proofs.lemmas.Nat.{mod_below}
 use Rattle.noc_topo.specs.Shape.{Grid, IsGrid, local_port, nodes, ports}
 use Rattle.noc_sets.specs.Cycle.{Links}
 use Rattle.noc_sets.specs.Gather.{gathered, gathered_row}

@@ -1,10 +1,10 @@
 -- One grant and its link.
-use Rattle.std.proofs.Common.{◌≡◌, ◌≢◌, ℕ, zero, suc, ◌+◌, ◌-◌, ◌*◌, ◌/◌, ◌%◌, ◌^◌, ◌<◌, ◌≤◌, Bool, true, false, List, get_or, length, Option, Some, None, refl, ap, ap₂, sym, ◌∙◌, subst, arith, inl, inr}
-use Rattle.std.specs.Prelude.{◌⊎◌, ◌&&◌, ◌||◌, is_some, nat_eq, nat_lt, not, slice_get, slice_index, if◌then◌else◌}
+use Rattle.std.proofs.Common.{◌≡◌, ℕ, ◌+◌, ◌-◌, ◌*◌, ◌/◌, ◌%◌, ◌^◌, ◌<◌, ◌≤◌, Bool, true, false, List, get_or, length, Option, Some, None, refl, ap, ap₂, sym, ◌∙◌, subst, arith, inl, inr}
+use Rattle.std.specs.Prelude.{◌⊎◌, ◌&&◌, ◌||◌, is_some, nat_eq, slice_get, slice_index, if◌then◌else◌}
 use Rattle.std.proofs.Math.Nat.{mul-pos}
 use Rattle.std.proofs.Math.Pow.{pow_mono}
-use Rattle.std.proofs.lemmas.Bool.{and_parts, cases_Bool, cases_lt, eq-eqb, eqb-true, false≢true, le-ltb, lt-ltb, ne_eqb, true≢false}
-use Rattle.std.proofs.lemmas.Nat.{div-add-mod', div_below, mod_below, mul-add-lt, pow_pos}
+use Rattle.std.proofs.lemmas.Bool.{cases_lt, eqb-true, false≢true, le-ltb, lt-ltb, ne_eqb, true≢false}
+use Rattle.std.proofs.lemmas.Nat.{div_below, mod_below, mul-add-lt, pow_pos}
 use Rattle.std.proofs.lemmas.Option.{none-some, same_Some, slice_get_cases}
 use Rattle.noc_topo.specs.Shape.{Grid, IsGrid, is_plus, local_port, neighbour, nodes, opposite, ports}
 use Rattle.noc_topo.proofs.LinkLemmas.{link_back}
@@ -13,7 +13,6 @@ use Rattle.noc_sets.specs.Gather.{goes_round, goes_straight, mask_where, place_r
 use Rattle.noc_sets.proofs.DistanceLemmas.{neighbour-by, span-fits, stride-fits}
 use Rattle.noc_sets.proofs.MemberLemmas.{power-members}
 use Rattle.noc_blocks.specs.Numbered.{port_in}
-use Rattle.noc_blocks.specs.Ports.{by_port}
 use Rattle.noc_blocks.specs.Sides.{AreSides}
 use Rattle.noc_blocks.specs.declared.links.Sides.{Sides}
 use Rattle.noc_turns.specs.declared.pattern.Pattern.{Pattern}

@@ -1,6 +1,6 @@
 -- Grants are told to one channel, one router, and one block after the other.
-use Rattle.std.proofs.Common.{◌≡◌, ◌≢◌, ℕ, ◌+◌, ◌*◌, ◌/◌, ◌%◌, ◌^◌, ◌<◌, Bool, true, false, List, length, Option, Some, None, refl, ap, ap₂, sym, ◌∙◌, arith, inl, inr, mod-eq_of_lt}
-use Rattle.std.specs.Prelude.{◌⊎◌, ◌&&◌, ◌||◌, nat_eq, not, option_map, slice_get, if◌then◌else◌}
+use Rattle.std.proofs.Common.{◌≡◌, ◌≢◌, ℕ, ◌+◌, ◌*◌, ◌/◌, ◌%◌, ◌^◌, ◌<◌, Bool, true, false, List, length, Some, refl, ap, ap₂, sym, ◌∙◌, arith, inl, inr, mod-eq_of_lt}
+use Rattle.std.specs.Prelude.{◌⊎◌, ◌&&◌, ◌||◌, nat_eq, not, slice_get, if◌then◌else◌}
 use Rattle.std.proofs.lemmas.Bool.{cases_eq, eq-eqb, ne_eqb, true≢false}
 use Rattle.std.proofs.lemmas.Nat.{mod_below}
 use Rattle.noc_topo.specs.Shape.{nodes, ports}
@@ -12,7 +12,7 @@ use Rattle.noc_turns.specs.declared.pattern.Pattern.{Pattern}
 use Rattle.noc_turns.specs.declared.state.State.{State}
 use Rattle.noc_turns.specs.declared.state.Work.{Work}
 use Rattle.noc_theory_blocks.specs.Tells.{AreTold}
-use Rattle.noc_wires.specs.Telling.{AreGrants, CanBeTold, Telling, granted_in, granted_or_none, grants_if, lane_in, packets_in, taken_in, with_packets}
+use Rattle.noc_wires.specs.Telling.{AreGrants, AreSameButPackets, CanBeTold, Telling, TellsMore, granted_in, granted_or_none, lane_in, packets_in, taken_in}
 use Rattle.noc_wires.proofs.StateLemmas.{same-lane}
 use Rattle.noc_wires.proofs.TellingLemmas.{all-now, none-yet, rest-then, same-taken, still-grants, tests-agree}
 
@@ -110,23 +110,13 @@ module _ {A : Type 0} (value : A → ℕ) (works : List (Work A)) (awake : ℕ) 
       ∙ ap (λ o. granted_or_none value o k) here
 
 module _ {A : Type 0} (value : A → ℕ) (w : ℕ) (pattern : Pattern A) (sides : List (Sides (List A))) where
-  -- from `old` to `now` of such grants those to these channels are told too
-  abbrev pub Tell : (Telling → Type 0) → (ℕ → ℕ → Bool) → List (State A) → List (State A) → Type 0
-  Tell Of also old now = (t : Telling) (test : ℕ → ℕ → Bool) → CanBeTold value w pattern sides old t → Of t
-      → AreTold t.grid pattern.frame.fields.width (grants_if test t.grants) t.packets (packets_in value old)
-      → AreTold t.grid pattern.frame.fields.width (grants_if (λ s k. test s k || also s k) t.grants) t.packets (packets_in value now)
-
-  -- only numbers of packets are others
-  abbrev pub Keeps : List (State A) → List (State A) → Type 0
-  Keeps old now = (s : ℕ) → lane_in value now s ≡ option_map (with_packets (packets_in value now s)) (lane_in value old s)
-
-  pub keeps-all : (old : List (State A)) → Keeps old old
+  pub keeps-all : (old : List (State A)) → AreSameButPackets value old old
   keeps-all old s = same-lane (lane_in value old s)
 
-  pub keeps-then : (old now new : List (State A)) → Keeps old now → Keeps now new → Keeps old new
+  pub keeps-then : (old now new : List (State A)) → AreSameButPackets value old now → AreSameButPackets value now new → AreSameButPackets value old new
   keeps-then old now new a b = rest-then value old now a new b
 
-  pub can-still : (old now : List (State A)) (t : Telling) → Keeps old now → length now ≡ length old → CanBeTold value w pattern sides old t → CanBeTold value w pattern sides now t
+  pub can-still : (old now : List (State A)) (t : Telling) → AreSameButPackets value old now → length now ≡ length old → CanBeTold value w pattern sides old t → CanBeTold value w pattern sides now t
   can-still old now t keeps same can = record {
     wires = can.wires;
     blocks = same ∙ can.blocks;
@@ -137,7 +127,7 @@ module _ {A : Type 0} (value : A → ℕ) (w : ℕ) (pattern : Pattern A) (sides
     -- none is told yet, where these channels have no grants
     pub tell-none : (also : ℕ → ℕ → Bool)
         → ((t : Telling) → CanBeTold value w pattern sides old t → Of t → (s o k : ℕ) → s < nodes t.grid → o < ports t.grid * pattern.frame.fields.width → t.grants s o ≡ Some k → also s k ≡ false)
-        → Tell Of also old old
+        → TellsMore value w pattern sides Of also old old
     tell-none also none t test can of told =
         tests-agree t pattern.frame.fields.width (taken_in value old) can.wires.sound can.wires.room.some can.grants_are test (λ s k. test s k || also s k) (packets_in value old)
         (λ s o k l u e. sym (ap (λ b. test s k || b) (none t can of s o k l u e) ∙ or-false (test s k))) told
@@ -147,8 +137,8 @@ module _ {A : Type 0} (value : A → ℕ) (w : ℕ) (pattern : Pattern A) (sides
         or-false false = refl
 
     -- more are told
-    pub tell-next : (Step : Telling → Type 0) (also step all : ℕ → ℕ → Bool) (now new : List (State A)) → Tell Of also old now → Keeps old now → length now ≡ length old → Tell Step step now new
-        → ((t : Telling) → CanBeTold value w pattern sides old t → Of t → Step t) → ((s k : ℕ) → all s k ≡ (also s k || step s k)) → Tell Of all old new
+    pub tell-next : (Step : Telling → Type 0) (also step all : ℕ → ℕ → Bool) (now new : List (State A)) → TellsMore value w pattern sides Of also old now → AreSameButPackets value old now → length now ≡ length old → TellsMore value w pattern sides Step step now new
+        → ((t : Telling) → CanBeTold value w pattern sides old t → Of t → Step t) → ((s k : ℕ) → all s k ≡ (also s k || step s k)) → TellsMore value w pattern sides Of all old new
     tell-next Step also step all now new before keeps same more steps is t test can of told =
         tests-agree t pattern.frame.fields.width (taken_in value old) can.wires.sound can.wires.room.some can.grants_are (λ s k. (test s k || also s k) || step s k) (λ s k. test s k || all s k) (packets_in value new)
         (λ s o k l u e. or-assoc (test s k) (also s k) (step s k) ∙ sym (ap (λ b. test s k || b) (is s k)))
@@ -159,13 +149,13 @@ module _ {A : Type 0} (value : A → ℕ) (w : ℕ) (pattern : Pattern A) (sides
         or-assoc false b c = refl
 
     -- .. and all of them
-    pub tell-all : (also all : ℕ → ℕ → Bool) (now : List (State A)) → Tell Of also old now → ((s k : ℕ) → also s k ≡ all s k) → Tell Of all old now
+    pub tell-all : (also all : ℕ → ℕ → Bool) (now : List (State A)) → TellsMore value w pattern sides Of also old now → ((s k : ℕ) → also s k ≡ all s k) → TellsMore value w pattern sides Of all old now
     tell-all also all now before is t test can of told =
         tests-agree t pattern.frame.fields.width (taken_in value old) can.wires.sound can.wires.room.some can.grants_are (λ s k. test s k || also s k) (λ s k. test s k || all s k) (packets_in value now)
         (λ s o k l u e. ap (λ b. test s k || b) (is s k)) (before t test can of told)
 
     -- all that there are
-    pub all-told : (now : List (State A)) → Tell Of (λ s k. true) old now → (t : Telling) → CanBeTold value w pattern sides old t → Of t → t.packets ≡ packets_in value old
+    pub all-told : (now : List (State A)) → TellsMore value w pattern sides Of (λ s k. true) old now → (t : Telling) → CanBeTold value w pattern sides old t → Of t → t.packets ≡ packets_in value old
         → AreTold t.grid pattern.frame.fields.width t.grants t.packets (packets_in value now)
     all-told now before t can of packets =
         all-now t pattern.frame.fields.width (taken_in value old) can.wires.sound can.wires.room.some can.grants_are (λ s k. false || true) (packets_in value now) (λ s o k l u e. refl)

@@ -1,9 +1,8 @@
 -- Grants are told, in the words of the network.
-use Rattle.std.proofs.Common.{◌≡◌, ◌≢◌, ℕ, zero, suc, ◌+◌, ◌-◌, ◌*◌, ◌/◌, ◌%◌, ◌^◌, ◌<◌, ◌≤◌, Bool, true, false, List, length, Option, Some, None, refl, ap, ap₂, sym, ◌∙◌, subst, arith, inl, inr}
-use Rattle.std.specs.Prelude.{◌⊎◌, ◌&&◌, ◌||◌, is_some, nat_eq, not, option_map, slice_get, if◌then◌else◌}
-use Rattle.std.proofs.lemmas.Bool.{cases_eq, cases_lt, eq-eqb, eqb-true, false≢true, le-ltb, ne_eqb, true≢false}
-use Rattle.std.proofs.lemmas.Option.{none-some, same_Some}
-use Rattle.noc_topo.specs.Shape.{Grid, IsGrid, local_port, neighbour, nodes, ports}
+use Rattle.std.proofs.Common.{◌≡◌, ◌≢◌, ℕ, ◌+◌, ◌*◌, ◌/◌, ◌%◌, ◌^◌, ◌<◌, Bool, true, false, List, Option, Some, None, refl, ap, ap₂, sym, ◌∙◌, inl, inr}
+use Rattle.std.specs.Prelude.{◌⊎◌, ◌&&◌, ◌||◌, nat_eq, option_map, if◌then◌else◌}
+use Rattle.std.proofs.lemmas.Bool.{cases_eq, eq-eqb, eqb-true, ne_eqb}
+use Rattle.noc_topo.specs.Shape.{IsGrid, neighbour, nodes, ports}
 use Rattle.noc_packet.specs.Set.{has_bit}
 use Rattle.noc_sets.proofs.MemberLemmas.{power-members}
 use Rattle.noc_blocks.specs.Turning.{Lane}
@@ -11,7 +10,7 @@ use Rattle.noc_turns.specs.declared.state.State.{State}
 use Rattle.noc_theory_bits.specs.Owners.{told, told_by, told_over}
 use Rattle.noc_theory_blocks.specs.Tells.{AreTold, HasAdded, HasNoted}
 use Rattle.noc_theory_blocks.proofs.TellLemmas.{all-told, none-told, over-link, without-link}
-use Rattle.noc_wires.specs.Telling.{AreGrants, CanBeTold, HasGrant, Telling, grant_if, grants_if, lane_in, packets_in, taken_in, taken_or_none, with_packets}
+use Rattle.noc_wires.specs.Telling.{AreGrants, HasGrant, Telling, grant_if, grants_if, lane_in, packets_in, taken_in, taken_or_none, with_packets}
 
 -- one channel alone is one channel
 pub powers : (a b : ℕ) → 2 ^ a ≡ 2 ^ b → a ≡ b

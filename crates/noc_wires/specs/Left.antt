@@ -1,5 +1,5 @@
 -- What has left the routers of a network in a cycle, and what their links bring of it in the next.
-use Rattle.std.specs.Prelude.{ℕ, ◌+◌, List, map, slice_index}
+use Rattle.std.specs.Prelude.{ℕ, ◌+◌, map, slice_index}
 use Rattle.noc_topo.specs.Shape.{Grid}
 use Rattle.noc_sets.specs.Cycle.{Links}
 use Rattle.noc_sets.specs.Gather.{gathered}

@@ -1,6 +1,6 @@
--- The numbers of packets that the grants of a cycle tell over the links, by the blocks of a network:
--- router s is router s % LANES of block s / LANES.
-use Rattle.std.specs.Prelude.{◌≡◌, ℕ, ◌+◌, ◌*◌, ◌/◌, ◌%◌, ◌^◌, ◌<◌, ◌≤◌, Bool, true, List, length, Option, Some, None, is_some, nat_eq, option_map, slice_get, slice_index, if◌then◌else◌}
+-- The numbers of packets that the grants of a cycle tell over the links, by the blocks of a
+-- network: router s is router s % LANES of block s / LANES.
+use Rattle.std.specs.Prelude.{◌≡◌, ℕ, ◌+◌, ◌*◌, ◌/◌, ◌%◌, ◌^◌, ◌<◌, ◌≤◌, Bool, true, ◌||◌, List, length, Option, Some, None, is_some, nat_eq, option_map, slice_get, slice_index, if◌then◌else◌}
 use Rattle.noc_topo.specs.Shape.{Grid, IsGrid, local_port, neighbour, nodes, ports}
 use Rattle.noc_packet.specs.Set.{has_bit}
 use Rattle.noc_lanes.specs.Lanes.{word}
@@ -16,6 +16,7 @@ use Rattle.noc_turns.specs.declared.pattern.Pattern.{Pattern}
 use Rattle.noc_turns.specs.declared.state.State.{State}
 use Rattle.noc_turns.specs.declared.state.Work.{Work}
 use Rattle.noc_theory_bits.specs.Owners.{told}
+use Rattle.noc_theory_blocks.specs.Tells.{AreTold}
 
 -- ---- the routers of a network in blocks
 -- what router s keeps
@@ -42,6 +43,12 @@ taken_in value states s = taken_or_none (lane_in value states s)
 -- it with other numbers of packets
 abbrev pub with_packets : (ℕ → ℕ) → Lane → Lane
 with_packets packets a = record a { marks = record a.marks { packet = packets } }
+
+-- from `old` to `new` the routers have other numbers of packets, and else what they had
+abbrev pub AreSameButPackets : {A : Type 0} → (A → ℕ) → List (State A) → List (State A) → Type 0
+AreSameButPackets value old new =
+    (s : ℕ) → lane_in value new s
+    ≡ option_map (with_packets (packets_in value new s)) (lane_in value old s)
 
 -- the input channels that are granted an output channel in router k of a block: none but where
 -- channels have asked
@@ -121,6 +128,17 @@ grant_if test (Some k) = if test k then Some k else None
 
 abbrev pub grants_if : (ℕ → ℕ → Bool) → (ℕ → ℕ → Option ℕ) → ℕ → ℕ → Option ℕ
 grants_if test grants s o = grant_if (test s) (grants s o)
+
+-- from `old` to `new`, where of grants like these some are told, those to the channels of this test
+-- are told too
+abbrev pub TellsMore : {A : Type 0} → (A → ℕ) → ℕ → Pattern A → List (Sides (List A))
+    → (Telling → Type 0) → (ℕ → ℕ → Bool) → List (State A) → List (State A) → Type 0
+TellsMore value w pattern sides Like more old new =
+    (t : Telling) (test : ℕ → ℕ → Bool) → CanBeTold value w pattern sides old t → Like t
+    → AreTold t.grid pattern.frame.fields.width (grants_if test t.grants) t.packets
+    (packets_in value old)
+    → AreTold t.grid pattern.frame.fields.width (grants_if (λ s k. test s k || more s k) t.grants)
+    t.packets (packets_in value new)
 
 -- ---- over one link
 -- where the word of the neighbour of router k of a block at port q stands in a row: at the distance

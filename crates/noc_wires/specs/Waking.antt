@@ -15,8 +15,8 @@ moves_or_not (Some outlook) = outlook.moves
 abbrev pub has_moved : List Outlook → ℕ → Bool
 has_moved outlooks b = moves_or_not (slice_get outlooks b)
 
--- whether a flit has moved in a block from which links lead to block b, where by block these are the
--- blocks to which its links lead
+-- whether a flit has moved in a block from which links lead to block b, where by block these are
+-- the blocks to which its links lead
 abbrev pub is_reached : List Outlook → List ℕ → ℕ → Bool
 is_reached outlooks near b =
     some_below (length outlooks) (λ c. has_moved outlooks c && has_bit (slice_index near c) b)
@@ -38,7 +38,7 @@ pub record IsNextCycle (awake : ℕ → ℕ → Bool) (cycle next : ℕ) : Type 
   pub none_before : (c b : ℕ) → cycle ≤ c → c < next → awake c b ≡ false
   pub some : next < NEVER → (b : ℕ) × (awake next b ≡ true)
 
--- by block, these are the blocks to which links lead, and perhaps more
+-- by block, the blocks to which its links lead are among these
 abbrev pub AreNear : Grid → List ℕ → Type 0
 AreNear g near = (r port s back : ℕ) → r < nodes g → neighbour g r port ≡ Some (s, back)
     → has_bit (slice_index near (r / LANES)) (s / LANES) ≡ true

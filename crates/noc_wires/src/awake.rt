@@ -5,11 +5,12 @@ ghost use Rattle.noc_packet.specs.Set.{has_bit};
 ghost use Rattle.noc_wires.specs.Waking.{IsNextCycle, is_awake, is_awake_by, is_reached};
 
 use noc_blocks::NEVER;
-use noc_lanes::Word;
+use noc_lanes::{LANES, Word};
+use noc_packet::MAX_NODES;
 use noc_turns::Outlook;
 
 /// How many blocks a network has at most.
-pub const BLOCKS: usize = 8;
+pub const BLOCKS: usize = MAX_NODES / LANES;
 
 /// Which blocks take part in a cycle.
 #[derive(Clone, Copy)]

@@ -14,10 +14,11 @@ use noc_blocks::{Frame, ROOM, ROW, Sides, gather, put_row};
 use noc_lanes::{LANES, Lanes, Links, Word};
 use noc_turns::Work;
 
-/// By router, what has left it.
+/// By router, what has left it: the words of the routers stand one after the other, behind some
+/// room.
 #[derive(Drop)]
 pub struct Left<W: Word> {
-    // Output channels by which a flit has left. The word of the first router stands behind some room.
+    // Output channels by which a flit has left.
     flits: [W; ROW],
     // Output channels by which a tail has left.
     tails: [W; ROW],

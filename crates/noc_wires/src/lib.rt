@@ -1,8 +1,9 @@
 //! What goes over the links between the blocks of a network.
 //!
 //! What leaves the routers in a cycle stands in rows, out of which the links bring it in the next
-//! (`left`). What is granted is told to the routers at the other ends of the links (`tells`). Blocks
-//! to which nothing comes, and in which nothing is to happen, sleep (`awake`).
+//! (`left`). Which packets are granted channels is told to the routers at the other ends of the
+//! links (`tells`). Blocks to which nothing comes, and in which nothing is to happen, sleep
+//! (`awake`).
 #![tactic(auto)]
 
 mod awake;

@@ -1,12 +1,12 @@
 //! The routers at the other ends of links are told which packets have been granted channels of
 //! them.
 
-ghost use Rattle.std.specs.Prelude.{◌≡◌, ◌≢◌, ◌⊎◌, ℕ, ◌+◌, ◌-◌, ◌*◌, ◌/◌, ◌%◌, ◌<◌, ◌≤◌, ◌^◌, Bool, true, false, Some, ◌&&◌, ◌||◌, length, option_map, nat_eq, if◌then◌else◌};
+ghost use Rattle.std.specs.Prelude.{◌≡◌, ◌≢◌, ◌⊎◌, ℕ, ◌+◌, ◌-◌, ◌*◌, ◌/◌, ◌<◌, ◌≤◌, ◌^◌, true, false, Some, ◌&&◌, length, nat_eq, if◌then◌else◌};
 ghost use Rattle.noc_topo.specs.Shape.{is_plus};
 ghost use Rattle.noc_packet.specs.Set.{has_bit};
 ghost use Rattle.noc_blocks.specs.Marks.{marks_at, packet_at, taken_at};
 ghost use Rattle.noc_theory_blocks.specs.Tells.{AreTold, HasNoted};
-ghost use Rattle.noc_wires.specs.Telling.{CanBeTold, IsTelling, Telling, granted_or_none, grants_if, lane_in, packets_in, place_in, place_of, taken_in, with_packets};
+ghost use Rattle.noc_wires.specs.Telling.{AreSameButPackets, CanBeTold, IsTelling, Telling, TellsMore, granted_or_none, packets_in, place_in, place_of, taken_in};
 
 use crate::awake::BLOCKS;
 use noc_blocks::{Marks, PLACES, PORTS, ROOM, ROW, Sides, entry};
@@ -31,9 +31,7 @@ pub fn tell<W: Word>(
         → IsTelling W.value W.bits pattern.now sides.now works.now awake states.old t
         → AreTold t.grid pattern.now.frame.fields.width t.grants t.packets
         (packets_in W.value states.new) }
-    ensures rest { (s : ℕ) → lane_in W.value states.new s
-        ≡ option_map (with_packets (packets_in W.value states.new s))
-        (lane_in W.value states.old s) }
+    ensures rest { AreSameButPackets W.value states.old states.new }
 {
     let mut rest = awake;
     while !rest.is_none() {
@@ -55,18 +53,11 @@ fn tell_block<W: Word>(
     requires grants { (t : Telling) × CanBeTold W.value W.bits pattern.now sides.now states.old t
         × ((k : ℕ) → k < LANES → t.granted (number * LANES + k)
         ≡ granted_or_none W.value (Some work.now) k) }
-    ensures told { (t : Telling) (test : ℕ → ℕ → Bool)
-        → CanBeTold W.value W.bits pattern.now sides.now states.old t
-        → ((k : ℕ) → k < LANES → t.granted (number * LANES + k)
+    ensures told { TellsMore W.value W.bits pattern.now sides.now
+        (λ t. (k : ℕ) → k < LANES → t.granted (number * LANES + k)
         ≡ granted_or_none W.value (Some work.now) k)
-        → AreTold t.grid pattern.now.frame.fields.width (grants_if test t.grants) t.packets
-        (packets_in W.value states.old)
-        → AreTold t.grid pattern.now.frame.fields.width
-        (grants_if (λ s k. test s k || nat_eq (s / LANES) number) t.grants) t.packets
-        (packets_in W.value states.new) }
-    ensures rest { (s : ℕ) → lane_in W.value states.new s
-        ≡ option_map (with_packets (packets_in W.value states.new s))
-        (lane_in W.value states.old s) }
+        (λ s k. nat_eq (s / LANES) number) states.old states.new }
+    ensures rest { AreSameButPackets W.value states.old states.new }
 {
     let mut rest = work.pending.asking;
     while !rest.is_none() {
@@ -87,17 +78,9 @@ fn tell_router<W: Word>(
 )
     requires { (t : Telling) × CanBeTold W.value W.bits pattern.now sides.now states.old t
         × (t.granted router ≡ W.value granted) }
-    ensures told { (t : Telling) (test : ℕ → ℕ → Bool)
-        → CanBeTold W.value W.bits pattern.now sides.now states.old t
-        → t.granted router ≡ W.value granted
-        → AreTold t.grid pattern.now.frame.fields.width (grants_if test t.grants) t.packets
-        (packets_in W.value states.old)
-        → AreTold t.grid pattern.now.frame.fields.width
-        (grants_if (λ s k. test s k || nat_eq s router) t.grants) t.packets
-        (packets_in W.value states.new) }
-    ensures rest { (s : ℕ) → lane_in W.value states.new s
-        ≡ option_map (with_packets (packets_in W.value states.new s))
-        (lane_in W.value states.old s) }
+    ensures told { TellsMore W.value W.bits pattern.now sides.now
+        (λ t. t.granted router ≡ W.value granted) (λ s k. nat_eq s router) states.old states.new }
+    ensures rest { AreSameButPackets W.value states.old states.new }
 {
     let mut rest = granted;
     while !rest.is_none() {
@@ -116,17 +99,10 @@ fn tell_one<W: Word>(
 )
     requires { (t : Telling) × CanBeTold W.value W.bits pattern.now sides.now states.old t
         × (has_bit (t.granted router) input ≡ true) }
-    ensures told { (t : Telling) (test : ℕ → ℕ → Bool)
-        → CanBeTold W.value W.bits pattern.now sides.now states.old t
-        → has_bit (t.granted router) input ≡ true
-        → AreTold t.grid pattern.now.frame.fields.width (grants_if test t.grants) t.packets
-        (packets_in W.value states.old)
-        → AreTold t.grid pattern.now.frame.fields.width
-        (grants_if (λ s k. test s k || (nat_eq s router && nat_eq k input)) t.grants) t.packets
-        (packets_in W.value states.new) }
-    ensures rest { (s : ℕ) → lane_in W.value states.new s
-        ≡ option_map (with_packets (packets_in W.value states.new s))
-        (lane_in W.value states.old s) }
+    ensures told { TellsMore W.value W.bits pattern.now sides.now
+        (λ t. has_bit (t.granted router) input ≡ true)
+        (λ s k. nat_eq s router && nat_eq k input) states.old states.new }
+    ensures rest { AreSameButPackets W.value states.old states.new }
 {
     let packet = packet_held(states, router, input);
     let out = channel_taken(states, router, input).least();
@@ -188,9 +164,7 @@ fn note<W: Word>(states: &mut [State<W>], router: usize, channel: usize, packet:
     requires channel { channel < PLACES }
     ensures noted { HasNoted router channel packet (packets_in W.value states.old)
         (packets_in W.value states.new) }
-    ensures rest { (s : ℕ) → lane_in W.value states.new s
-        ≡ option_map (with_packets (packets_in W.value states.new s))
-        (lane_in W.value states.old s) }
+    ensures rest { AreSameButPackets W.value states.old states.new }
 {
     let state = &mut states[router / LANES];
     note_in(&mut state.marks, router % LANES, channel, packet);
@@ -206,7 +180,9 @@ fn note_in<W: Word>(marks: &mut [Marks<W>; LANES], lane: usize, channel: usize, 
         → packet_at marks.new j i ≡ packet_at marks.old j i }
     ensures rest { (j : ℕ) (to_port port_turn : ℕ → ℕ)
         → marks_at W.value marks.new to_port port_turn j
-        ≡ record (marks_at W.value marks.old to_port port_turn j) { packet = packet_at marks.new j } }
+        ≡ record (marks_at W.value marks.old to_port port_turn j) {
+          packet = packet_at marks.new j;
+        } }
 {
     let marks = &mut marks[lane];
     marks.packet[channel] = packet;

@@ -1,8 +1,8 @@
-use Rattle.std.proofs.Common.{◌≡◌, ◌+◌, ◌<◌, ◌≤◌, ◌∙◌, ap, arith, get_or, length, subst, sym}
-use Rattle.std.specs.Prelude.{nat_le, Some, ℕ}
+use Rattle.std.proofs.Common.{◌≡◌, ◌+◌, ◌<◌, ◌∙◌, ap, arith, get_or, length, subst, sym}
+use Rattle.std.specs.Prelude.{Some}
 use Rattle.std.proofs.lemmas.Option.{slice_get-get_or}
 use Rattle.noc_lanes.proofs.SetLemmas.{low_members}
-use Rattle.noc_wires.specs.Waking.{is_awake_by, is_reached, IsNextCycle, is_awake}
+use Rattle.noc_wires.specs.Waking.{is_awake_by, IsNextCycle, is_awake}
 use Rattle.noc_wires.proofs.WakingLemmas.{AreAwakeBelow, QUIET, awake-all, awake-next, next-all}
 use Rattle.noc_wires.proofs.awake.wake.Goals as goal
 

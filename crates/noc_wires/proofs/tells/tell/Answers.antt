@@ -1,12 +1,12 @@
-use Rattle.std.proofs.Common.{◌≡◌, ◌<◌, ◌∙◌, ◌+◌, ◌*◌, ◌/◌, ◌%◌, ◌^◌, ap, ap₂, arith, length, refl, rules, subst, sym, true, false, Some, ℕ, Bool}
-use Rattle.std.specs.Prelude.{◌&&◌, ◌||◌, nat_eq, not, slice_get, if◌then◌else◌}
+use Rattle.std.proofs.Common.{◌≡◌, ◌<◌, ◌∙◌, ◌+◌, ◌*◌, ◌/◌, ◌%◌, ◌^◌, ap, arith, length, refl, rules, sym, true, Some, ℕ}
+use Rattle.std.specs.Prelude.{◌&&◌, nat_eq, not, slice_get}
 use Rattle.std.proofs.lemmas.Option.{slice_get_read}
 use Rattle.noc_topo.specs.Shape.{ports}
 use Rattle.noc_packet.specs.Set.{has_bit}
 use Rattle.noc_packet.proofs.SetLemmas.{has_bit-zero}
 use Rattle.noc_lanes.proofs.SetLemmas.{low_members}
 use Rattle.noc_blocks.proofs.LoopLemmas.{left-members, left-part, more-left, none-more}
-use Rattle.noc_wires.specs.Telling.{Telling, granted_in, granted_or_none, taken_in}
+use Rattle.noc_wires.specs.Telling.{granted_in, granted_or_none, taken_in}
 use Rattle.noc_wires.proofs.RestLemmas.{all-told, but-one, can-still, granted-there, keeps-all, keeps-then, of-awake, tell-all, tell-next, tell-none}
 use Rattle.noc_wires.proofs.tells.tell.Goals as goal
 
@@ -55,10 +55,26 @@ tell_block-requires g c =
     let most = c.requires.few in
     let few : number < 8 = omega (arith, known, most) in
     let within : number < length a.works.now = omega (arith, known, same) in
-    let here = slice_get_read a.works.now (length a.works.now) number c.index-works-number.result refl within c.index-works-number.is in
-    (search rules, (search rules, (search rules, (search rules, (few,
-    (r.0, can-still v g.W.Word.bits a.pattern.now a.sides.now a.states.now c.loop-number.states r.0 inv.keeps c.loop-number.auto.states r.1.can,
-    granted-there v a.works.now a.awake r.0 r.1.granted_are number c.index-works-number.result here part))))))
+    let here = slice_get_read a.works.now (length a.works.now) number c.index-works-number.result refl within c.index-works-number.is in (
+      search rules,
+      (
+        search rules,
+        (
+          search rules,
+          (
+            search rules,
+            (
+              few,
+              (
+                r.0,
+                can-still v g.W.Word.bits a.pattern.now a.sides.now a.states.now c.loop-number.states r.0 inv.keeps c.loop-number.auto.states r.1.can,
+                granted-there v a.works.now a.awake r.0 r.1.granted_are number c.index-works-number.result here part,
+              ),
+            ),
+          ),
+        ),
+      ),
+    )
 
 pub loop-number-preserved : goal.loop-number-preserved
 loop-number-preserved g c =

@@ -1,4 +1,4 @@
-use Rattle.std.proofs.Common.{◌≡◌, ◌<◌, ◌∙◌, ◌+◌, ◌*◌, ◌/◌, ◌%◌, ◌^◌, ap, ap₂, arith, rules, subst, sym, true, false, Some, ℕ, Bool}
+use Rattle.std.proofs.Common.{◌≡◌, ◌<◌, ◌∙◌, ◌+◌, ◌*◌, ◌/◌, ◌%◌, ◌^◌, ap, rules, sym, true, Some, ℕ}
 use Rattle.std.specs.Prelude.{◌&&◌, ◌||◌, nat_eq, not, if◌then◌else◌}
 use Rattle.noc_topo.specs.Shape.{ports}
 use Rattle.noc_packet.specs.Set.{has_bit}
@@ -6,7 +6,7 @@ use Rattle.noc_packet.proofs.SetLemmas.{has_bit-zero}
 use Rattle.noc_lanes.specs.Lanes.{word}
 use Rattle.noc_lanes.proofs.SetLemmas.{low_members}
 use Rattle.noc_blocks.proofs.LoopLemmas.{left-members, left-part, more-left, none-more}
-use Rattle.noc_wires.specs.Telling.{Telling, granted_or_none, taken_in}
+use Rattle.noc_wires.specs.Telling.{granted_or_none, taken_in}
 use Rattle.noc_wires.proofs.RestLemmas.{but-one-of, by-block, can-still, keeps-all, keeps-then, of-block, tell-all, tell-next, tell-none, whole-of}
 use Rattle.noc_wires.proofs.tells.tell_block.Goals as goal
 

@@ -1,4 +1,4 @@
-use Rattle.std.proofs.Common.{◌<◌, ℕ, rules, subst, sym}
+use Rattle.std.proofs.Common.{◌<◌, rules, subst, sym}
 use Rattle.noc_wires.specs.Telling.{lane_in, packets_in}
 use Rattle.noc_wires.proofs.LinkLemmas.{channel-known, down, high, in-sides, in-states, input-places, low, taken-some, to-known, told, untold}
 use Rattle.noc_wires.proofs.StateLemmas.{same-lane}

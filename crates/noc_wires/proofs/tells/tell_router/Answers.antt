@@ -1,9 +1,9 @@
-use Rattle.std.proofs.Common.{◌≡◌, ◌∙◌, ◌*◌, ap, rules, subst, sym, true, false, ℕ, Bool}
+use Rattle.std.proofs.Common.{◌≡◌, ◌∙◌, ◌*◌, ap, rules, sym, true, ℕ}
 use Rattle.std.specs.Prelude.{◌&&◌, nat_eq, not}
 use Rattle.noc_packet.specs.Set.{has_bit}
 use Rattle.noc_packet.proofs.SetLemmas.{has_bit-zero}
 use Rattle.noc_topo.specs.Shape.{ports}
-use Rattle.noc_wires.specs.Telling.{Telling, taken_in}
+use Rattle.noc_wires.specs.Telling.{taken_in}
 use Rattle.noc_blocks.proofs.LoopLemmas.{left-members, left-part, more-left, none-more}
 use Rattle.noc_wires.proofs.RestLemmas.{but-one-of, can-still, keeps-all, keeps-then, of-router, tell-all, tell-next, tell-none, whole-of}
 use Rattle.noc_wires.proofs.tells.tell_router.Goals as goal

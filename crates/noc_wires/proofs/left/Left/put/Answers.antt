@@ -1,4 +1,4 @@
-use Rattle.std.proofs.Common.{◌≡◌, ◌<◌, ◌%◌, ◌∙◌, List, ℕ, ap, arith, map, subst}
+use Rattle.std.proofs.Common.{◌≡◌, ◌<◌, ◌%◌, arith, map, subst}
 use Rattle.std.specs.Prelude.{slice_index}
 use Rattle.std.proofs.lemmas.Nat.{mod_below}
 use Rattle.noc_lanes.specs.Lanes.{word}
