@@ -12,7 +12,8 @@ use noc_lanes::{LANES, Word, at};
 use noc_turns::{State, Work};
 use noc_view::{Finding, Verdict};
 
-/// The verdicts of the channels of one router that has decided. Of two verdicts the later one stays.
+/// The verdicts of the channels of one router that has decided. Of two verdicts the later one
+/// stays.
 pub fn judge_all<W: Word>(
     state: &State<W>,
     work: &Work<W>,
