@@ -1,6 +1,6 @@
 """Curves of one figure against another, such as latency against load, in one picture."""
 import math
-from collections.abc import Sequence
+from collections.abc import Iterable, Sequence
 from typing import NamedTuple
 
 from .errors import Refused, refusing
@@ -29,7 +29,7 @@ LABELS = {
         for column, part in zip(columns_of(measure), PARTS)
     },
     **{column: f"{name}, in {{}} per cycle" for column, name in zip(SOURCES, NODES)},
-    "places": "flits that the buffers of a link hold",
+    "slots": "flits that the buffers of a link hold",
     "of_capacity": "greatest accepted load, as a part of the capacity",
 }
 # What begins at a latency that it has without load, and grows without end: of these the picture shows the beginning.
@@ -208,6 +208,10 @@ class Axes(NamedTuple):
         """Where a point lies in a frame."""
         return round(x / self.end * self.width, 2), round(self.height * (1 - y / self.top), 2)
 
+    def shown(self, points: Iterable[Point]) -> list[Point]:
+        """Those of some points that a frame shows."""
+        return [point for point in points if point.y <= self.top and point.x <= self.end]
+
     def parts(self) -> list[str]:
         """The axes of a frame with their numbers."""
         parts = []
@@ -271,10 +275,9 @@ def curve_parts(number: int, curve: Curve, axes: Axes) -> list[str]:
     points = " ".join("{:g},{:g}".format(*axes.place(point.x, point.y)) for point in curve.points)
     parts = [f'<g id="curve-{number}">']
     parts.append(f'<polyline points="{points}" fill="none" {style.stroke} clip-path="url(#frame)"/>')
-    for point in curve.points:
-        if point.y <= axes.top and point.x <= axes.end:
-            parts += spread_of(point, axes, style.paint)
-            parts.append(mark_of(style.mark, *axes.place(point.x, point.y), style.paint, point.is_whole))
+    for point in axes.shown(curve.points):
+        parts += spread_of(point, axes, style.paint)
+        parts.append(mark_of(style.mark, *axes.place(point.x, point.y), style.paint, point.is_whole))
     return [*parts, "</g>"]
 
 
@@ -296,7 +299,7 @@ def legend(frames: Sequence[Frame], x: float, axes: Axes) -> tuple[list[str], fl
         parts.append(mark_of(style.mark, x + 16, y - 4, style.paint, True))
         parts.append(text(x + 42, y, name, anchor="start"))
         y += 26
-    points = [point for frame in frames for curve in frame.curves for point in curve.points]
+    points = axes.shown(point for frame in frames for curve in frame.curves for point in curve.points)
     words = []
     if not all(point.is_whole for point in points):
         parts.append(mark_of("circle", x + 16, y + 8, GREY, False))

@@ -5,7 +5,7 @@ from pathlib import Path
 
 from .curves import BYTES, COLOURS, DASHES, FLITS, STYLES, Curve, Frame, Point, Style, axes_of, picture
 from .plan import NONE, View, name_of
-from .table import LOAD, SEED, Combination, Row, combinations_of, varying
+from .table import LOAD, SEED, Combination, Row, combinations_of, place_of, varying
 
 # What a picture says of all its combinations, where they do not differ by it.
 NAMED_ONCE = ["kind", "radix", "rule", "channels", "buffer", "traffic", "pattern", "length", "cycles", "window"]
@@ -37,6 +37,16 @@ def apart_by(combinations: Iterable[Combination], keys: Sequence[str]) -> list[l
     for combination in combinations:
         groups.setdefault(tuple(combination.words[key] for key in keys), []).append(combination)
     return list(groups.values())
+
+
+def in_order(groups: list[list[Combination]], keys: Sequence[str]) -> list[list[Combination]]:
+    """Such groups by these settings, the first one as the slowest: numbers by their size, and words as they come."""
+    seen = {key: list(dict.fromkeys(group[0].words[key] for group in groups)) for key in keys}
+
+    def places(group: list[Combination]) -> list[tuple[float, int]]:
+        return [(place_of(word)[0], seen[key].index(word)) for key in keys for word in [group[0].words[key]]]
+
+    return sorted(groups, key=places)
 
 
 def framed(combinations: Sequence[Combination], keys: Sequence[str], view: View) -> list[str]:
@@ -89,7 +99,7 @@ def frames_of(
     rest = [key for key in keys if key not in chosen]
     groups = [
         group[first:first + MOST_CURVES]
-        for group in apart_by(combinations, chosen)
+        for group in in_order(apart_by(combinations, chosen), chosen)
         for first in range(0, len(group), MOST_CURVES)
     ]
     while groups:

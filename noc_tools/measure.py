@@ -11,9 +11,11 @@ from .network import Network
 from .program import output, report
 from .runs import columns_of_run, with_entries
 from .statistics import (
-    LATENCY_NAMES, NEVER, PART_NAMES, TOLERANCE, Figures, Number, Sample, Window, outs_in, warnings, word_of,
+    KEPT_UP, LATENCY_NAMES, NEVER, PART_NAMES, TOLERANCE, Figures, Number, Sample, Window, outs_in, warnings, word_of,
 )
-from .traffic import LONGEST, MOST_PACKETS, Demand, Played, Row, alone, fitting, traffic_text
+from .traffic import (
+    LONGEST, MOST_PACKETS, Demand, Played, Row, alone, check_classes, fitting, traffic_text,
+)
 from .workers import made_in_order
 
 # From packets to the cycles in which they were out, in the order of the packets.
@@ -117,12 +119,22 @@ class Experiment(NamedTuple):
         self.traffic.check(self.network)
         if self.replies:
             self.replies.check(self.network)
+        check_classes(self.classes or (), self.network)
 
     @property
     def made(self) -> "Made":
         """Its traffic but for replies, which is made once for runs in succession."""
         shape = replace(self.network, kind="mesh", channels=1, buffer=1, rule="dor")
         return made_traffic(self.traffic, shape, self.replies.weight if self.replies else alone)
+
+    @property
+    def silence(self) -> tuple[int, int] | None:
+        """The cycle of the last packet and the end of the window, where the packets are over well before the window is:
+        then the loads are too low by more than a network may lack that keeps up."""
+        made = self.made
+        window = self.window.fitted(self.network.cycles, made.cycles)
+        last = max((row[4] for row in made.rows), default=0)
+        return (last, window.end) if (1 - KEPT_UP) * window.cycles < window.end - 1 - last else None
 
     def config_text(self, cycles: int) -> str:
         """The configuration of the run."""

@@ -1,7 +1,7 @@
 """The file of a study: the runs that its settings name, the load that it searches, and how it is shown."""
 import hashlib
 import tomllib
-from collections.abc import Mapping
+from collections.abc import Iterable, Mapping
 from dataclasses import dataclass, replace
 from decimal import Decimal
 from functools import cached_property
@@ -35,19 +35,24 @@ SETTINGS = [
 ]
 # What says nothing of a traffic that is a file.
 OF_DEMANDS = ["pattern", "spots", "share", "burst", "packet_classes", "length", "seed"]
+# For which runs a setting is that does not go with all.
+MEANT = {
+    **dict.fromkeys(OF_DEMANDS, "runs whose traffic is no file"), "table": "the rule 'table'",
+    "spots": "the pattern 'hot-spot'", "share": "the pattern 'hot-spot'",
+}
 NONE = "-"
 # The most loads of a range.
 MOST_LOADS = 1000
 BY_DEFAULT = {
     "table": NONE, "classes": "1", "flit_bytes": NONE, "traffic": NONE, "pattern": "uniform", "spots": NONE,
     "share": f"{SHARE:g}", "burst": NONE, "packet_classes": "0", "replies": NONE, "cycles": "3000", "window": NONE,
-    "measured_classes": NONE, "parts": "yes", "tolerance": f"{TOLERANCE:g}", "seed": "1",
+    "measured_classes": NONE, "parts": "no", "tolerance": f"{TOLERANCE:g}", "seed": "1",
 }
 # How a run is named by its settings: by the value alone, or by how many there are of what; else by the setting and its
 # value.
 BY_VALUE = ["kind", "radix", "rule", "pattern", "traffic"]
 COUNTED = {
-    "channels": ("channel", "channels"), "buffer": ("place", "places"), "length": ("flit", "flits"),
+    "channels": ("channel", "channels"), "buffer": ("slot", "slots"), "length": ("flit", "flits"),
     "classes": ("class", "classes"), "cycles": ("cycle", "cycles"),
     "flit_bytes": ("byte for a flit", "bytes for a flit"),
 }
@@ -321,24 +326,36 @@ def known(settings: Mapping[str, Any], path: str, name: str) -> dict[str, list[s
     return words
 
 
+def combined(settings: Mapping[str, list[str]]) -> list[Case]:
+    """The runs of all combinations of these values."""
+    keys = [key for key in SETTINGS if key in settings]
+    return [normal(dict(zip(keys, words))) for words in product(*(settings[key] for key in keys))]
+
+
+def check_meant(settings: Mapping[str, list[str]], cases: Iterable[Case], name: str) -> None:
+    """Refuses a setting that says nothing of any of these runs, as the share of a hot spot where there is none."""
+    for key, meant in MEANT.items():
+        if NONE not in settings.get(key, [NONE]) and {case.words[key] for case in cases} == {NONE}:
+            raise Refused(f"{name}: '{key}' is for {meant}, and there are none here")
+
+
 def cases_of(path: str, document: Mapping[str, Any], tables: Any) -> list[Case]:
     """The runs in their order: case by case, and in each by the settings as listed, with loads and then seeds as the
     fastest. A setting of a case stands in place of that of all."""
     if not isinstance(tables, list) or not tables or not all(isinstance(table, dict) for table in tables):
         raise Refused(f"{path}: 'cases' is a list of tables of settings")
-    common = known(document, path, path)
-    found: dict[str, Case] = {}
+    common, name = known(document, path, path), f"{path}: cases"
+    found: list[Case] = []
     for table in tables:
-        settings = common | known(table, path, f"{path}: cases")
-        keys = [key for key in SETTINGS if key in settings]
-        for words in product(*(settings[key] for key in keys)):
-            case = normal(dict(zip(keys, words)))
-            # (settings that say nothing in some combinations give the same run twice)
-            found.setdefault(case.run, case)
-    cases = list(found.values())
-    if len({case.flit_bytes is None for case in cases}) > 1:
+        own = known(table, path, name)
+        made = combined(common | own)
+        check_meant(own, made, name)
+        found += made
+    check_meant(common, found, path)
+    if len({case.flit_bytes is None for case in found}) > 1:
         raise Refused(f"{path}: 'flit_bytes' is said of some runs and not of others, which have loads in flits")
-    return cases
+    # (settings that say nothing in some combinations give the same run twice)
+    return list({case.run: case for case in found}.values())
 
 
 def amount_of(path: str, key: str, value: Any) -> float | None:
@@ -355,8 +372,8 @@ def view_of(path: str, document: dict[str, Any]) -> View:
     frames, colour, dash = (document.pop(key, None) for key in ("frames", "colour", "dash"))
     named = frames if isinstance(frames, list) else [frames]
     for key in [*named, colour, dash]:
-        if key is not None and key not in SETTINGS:
-            raise Refused(f"{path}: 'frames', 'colour' and 'dash' are settings, and {key!r} is none")
+        if key is not None and (key not in SETTINGS or key in ("load", "seed")):
+            raise Refused(f"{path}: 'frames', 'colour' and 'dash' are settings by which curves differ, not {key!r}")
     return View(None if frames is None else named, colour, dash)
 
 
@@ -366,8 +383,11 @@ def read_plan(path: str) -> Plan:
     search, at = (amount_of(path, key, document.pop(key, None)) for key in ("search", "at"))
     view, tables = view_of(path, document), document.pop("cases", [{}])
     try:
-        return Plan(cases_of(path, document, tables), search, at, view)
+        cases = cases_of(path, document, tables)
     except Refused as reason:
         if str(reason).startswith(path):
             raise
         raise Refused(f"{path}: {reason}", reason.status) from None
+    if at is not None and at not in {case.amount("load") for case in cases}:
+        raise Refused(f"{path}: 'at' is one of the loads, and {at:g} is none of them")
+    return Plan(cases, search, at, view)

@@ -13,11 +13,11 @@ from tempfile import TemporaryDirectory
 from .errors import Refused, refusing
 from .files import csv_line, csv_rows, read_bytes
 from .measure import COLUMNS, check_network
-from .plan import NONE, SEPARATORS, SETTINGS, WORDS, Case
+from .plan import NONE, PATHS, SEPARATORS, SETTINGS, WORDS, Case
 from .program import digest, digest_of, program_digest
 from .workers import Workers
 
-DIGESTS = ["program_digest", "configuration_digest", "traffic_digest", "table_digest"]
+DIGESTS = ["program_digest", "configuration_digest", "traffic_digest", "requests_digest", "table_digest"]
 HEADER = ["run", *SETTINGS, *COLUMNS, *DIGESTS]
 # The columns that are no numbers.
 TEXTS = {"run", *WORDS, *SEPARATORS, "parts", "steady", *DIGESTS}
@@ -43,6 +43,19 @@ def value_of(name: str, word: str) -> str | float | None:
     if name in TEXTS or name == "length" and not word.isdecimal():
         return word
     return int(word) if word.isdecimal() else float(word)
+
+
+def checked_row(fields: Sequence[str], name: str) -> Row:
+    """A line of results by the names of its columns, where each number is one."""
+    if len(fields) != len(HEADER):
+        raise Refused(f"{name} is not whole")
+    row = dict(zip(HEADER, fields))
+    for key, word in row.items():
+        with refusing(ValueError, f"{name}: '{word}' of the column '{key}' is no number"):
+            if key == "ran":
+                int(word)
+            value_of(key, word)
+    return row
 
 
 class Results:
@@ -78,13 +91,11 @@ class Results:
         header = rows.pop(0) if rows else None
         if header != HEADER and not (header is None and csv_line(HEADER).encode().startswith(data)):
             raise Refused(f"{self.path} holds other results than those of this sweep: name another folder with --out")
-        for number, row in enumerate(rows, 2):
-            if len(row) != len(HEADER):
-                raise Refused(f"{self.path}: line {number} is not whole")
+        found = [checked_row(row, f"{self.path}: line {number}") for number, row in enumerate(rows, 2)]
         os.ftruncate(self.file, len(whole))
         if header is None:
             self.write(HEADER)
-        return [dict(zip(HEADER, row)) for row in rows]
+        return found
 
     def write(self, fields: Iterable[str]) -> None:
         """One line in one write, so that a kill leaves whole lines."""
@@ -114,33 +125,36 @@ class Results:
         is none."""
         lines = rows_in(whole_lines(read_bytes(path)), path)
         for number, fields in enumerate(lines, 1):
+            name = f"{path}: line {number}"
             case = find(fields[0]) if len(fields) == len(HEADER) else None
             if case is None:
-                raise Refused(f"{path}: line {number} is no result of a run of this study")
+                raise Refused(f"{name} is no result of a run of this study")
             there = self.rows.get(fields[0])
             if there is None:
-                for name, made, own in digests_apart(dict(zip(HEADER, fields)), case):
-                    raise Refused(f"{path}: line {number} is of another {name}: its digest is {made}, and here {own}")
+                check_origin(checked_row(fields, name), case, name)
                 self.add(fields)
             elif list(there.values()) != fields:
-                raise Refused(f"{path}: line {number} is another result of a run that has one")
+                raise Refused(f"{name} is another result of a run that has one")
 
 
-def digests_apart(row: Row, case: Case) -> Iterator[tuple[str, str, str]]:
-    """What a line is of that is not that of its case here: its name, and the digests of both.
+def check_origin(row: Row, case: Case, name: str) -> None:
+    """Refuses a line that is not of the settings of its case, or of other things than these are here by their digests.
 
-    The traffic of replies is known by a run alone.
+    The replies of a traffic are known by a run alone, and so is the traffic with them.
     """
+    for key, word in case.words.items():
+        if key not in PATHS and row[key] != word:
+            raise Refused(f"{name} has the {key} {row[key]}, and its run has {word}")
     experiment = case.experiment
+    made = digest_of(experiment.made.text.encode())
     own = {
         "program": program_digest(), "configuration": digest_of(experiment.config_text(int(row["ran"])).encode()),
-        "table": case.table_digest,
+        "table": case.table_digest, **({"requests": made} if experiment.replies else {"traffic": made}),
     }
-    if experiment.replies is None:
-        own["traffic"] = digest_of(experiment.made.text.encode())
-    for name, found in own.items():
-        if row[f"{name}_digest"] != found:
-            yield name, row[f"{name}_digest"], found
+    for key, found in own.items():
+        given = row[f"{key}_digest"]
+        if given != found:
+            raise Refused(f"{name} is of another {key}: its digest is {given}, and here {found}")
 
 
 # ---- one run
@@ -159,9 +173,11 @@ def line_of(case: Case, folder: Path | None = None) -> list[str]:
 
 def line_in(folder: Path, case: Case) -> list[str]:
     """The line of a run of a network that noc takes, whose files are written into a folder."""
-    files = case.experiment.files_in(folder)
-    found = case.experiment.measured(files)
-    digests = [program_digest(), digest(files.config), digest(files.traffic), case.table_digest]
+    experiment = case.experiment
+    files = experiment.files_in(folder)
+    found = experiment.measured(files)
+    requests = digest_of(experiment.made.text.encode()) if experiment.replies else NONE
+    digests = [program_digest(), digest(files.config), digest(files.traffic), requests, case.table_digest]
     return [case.run, *case.words.values(), *found.words(), *digests]
 
 

@@ -10,6 +10,7 @@ from .plan import Case, number_word, read_plan
 from .program import processors
 from .results import HEADER, Results, Row, make_all, value_of
 from .table import LOAD, Combination, Value, combinations_of, rows_of, table_text
+from .traffic import Played
 
 
 def try_cases(cases: Iterable[Case]) -> None:
@@ -148,6 +149,28 @@ class Study:
     def told_of_short_runs(self) -> str | None:
         """In words how many runs have fewer cycles than asked for."""
         return told_of_short_runs((int(row["ran"]), int(row["cycles"])) for row in self.rows_of(self.cases))
+
+    def told_of_silence(self) -> str | None:
+        """In words in how many runs a traffic file is over well before the window is."""
+        groups: dict[object, list[Case]] = {}
+        for case in self.cases:
+            if isinstance(case.traffic, Played):
+                groups.setdefault((case.traffic, case.experiment.window, case.network.cycles), []).append(case)
+        silent = [(group, ends) for group in groups.values() if (ends := group[0].experiment.silence)]
+        if not silent:
+            return None
+        count, (first, (last, end)) = sum(len(group) for group, _ in silent), silent[0]
+        told = f"in {count} runs the traffic file is over before the window, so the loads are too low"
+        load = first[0].words["load"]
+        return f"{told}: at the load {load} its last packet is due in cycle {last}, and the window ends at {end}"
+
+    def told_of_room(self) -> str | None:
+        """In words how many combinations no load saturates."""
+        combinations = combinations_of(self.rows_of(self.cases))
+        count = [all(line.keeps_up for line in each.lines) for each in combinations].count(True)
+        if not count:
+            return None
+        return f"no load saturates {count} of {len(combinations)} combinations: they may take more than the table says"
 
     def rows(self) -> list[dict[str, Value]]:
         """The results in the order of the study, numbers as such, and None for a dash."""

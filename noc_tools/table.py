@@ -106,7 +106,7 @@ def varying(combinations: Sequence[Combination], along: str = LOAD) -> list[str]
 LATENCIES = ["mean", "p95", "p99", "queue_mean", "network_mean"]
 # The columns behind the settings, and how their numbers are written.
 BORNE = {
-    "places": "d", "latency_load": "g", **{name: ".1f" if name.endswith("mean") else ".0f" for name in LATENCIES},
+    "slots": "d", "latency_load": "g", **{name: ".1f" if name.endswith("mean") else ".0f" for name in LATENCIES},
     "keeps_up_to": ".4f", "keeps_up_load": "g", "steady_to": ".4f", "steady_load": "g", "saturation": ".4f",
     "saturation_load": "g", "saturation_least": ".4f", "saturation_most": ".4f", "capacity": ".4f",
     "of_capacity": ".3f", "ran": "d", "steady": "",
@@ -140,7 +140,7 @@ def row_of(combination: Combination, keys: Iterable[str], at: float | None) -> d
     most = max(lines, key=lambda line: line.known("accepted"))
     seeds, shortest = most.figures("accepted"), combination.shortest
     row: dict[str, Value] = {key: value_of(key, shown(words, key)) for key in keys}
-    row["places"] = int(words["channels"]) * int(words["buffer"])
+    row["slots"] = int(words["channels"]) * int(words["buffer"])
     row.update(latencies_at(lines, at))
     row["keeps_up_to"], row["keeps_up_load"] = reached(takewhile(lambda line: line.keeps_up, lines))
     row["steady_to"], row["steady_load"] = reached(takewhile(lambda line: line.is_steady, lines))

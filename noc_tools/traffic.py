@@ -203,6 +203,12 @@ def lengths_in(words: str) -> tuple[int, ...]:
 # ---- what noc takes
 
 
+def check_classes(classes: Iterable[int], network: Network) -> None:
+    """Refuses a class that the network does not have."""
+    if not all(0 <= number < network.classes for number in classes):
+        raise Refused(f"a class does not exist: the classes are 0 to {network.classes - 1}")
+
+
 def alone(_: Row) -> int:
     """For how many packets one counts that brings no others."""
     return 1
@@ -304,8 +310,9 @@ class Demand:
         if not (0 <= self.load and self.chance <= 1):
             most = "the length of a packet" if self.burst is None else f"{self.load / self.chance:g} in these bursts"
             raise Refused(f"a load is 0 or more, and at most {most}")
-        if not all(0 <= number < network.classes for number in self.classes):
-            raise Refused(f"a class does not exist: the classes are 0 to {network.classes - 1}")
+        if not 0 <= self.share <= 1:
+            raise Refused(f"the share of a hot spot is 0 to 1, not {self.share:g}")
+        check_classes(self.classes, network)
         if LATEST_DUE < self.span(network) - 1:
             raise Refused(f"noc takes due times up to {LATEST_DUE}: give --cycles")
 

@@ -232,7 +232,7 @@ class Pictures(FolderTest):
 
     def test_long_names_are_whole(self):
         """At 13 points a letter of these fonts is 8.2 wide on average at most."""
-        name = "a torus of eight by eight routers with a dateline, four channels of two places, transpose"
+        name = "a torus of eight by eight routers with a dateline, four channels of two slots, transpose"
         root = self.drawn("curves", f"{name}=curve")
         (text,) = [text for text in root.iter(f"{SVG}text") if text.text == name]
         self.assertLessEqual(float(text.get("x")) + 8.2 * len(name), float(root.get("width")))
@@ -243,6 +243,12 @@ class Pictures(FolderTest):
         shown = [word for word in texts if re.fullmatch(r"0\.\d+", word)]
         self.assertEqual(len(self.marks("a=curve", "--top", "35")), 2)
         self.assertTrue(0.2 < max(map(float, shown)) < 0.3, shown)
+
+    def test_marks_are_explained_that_are_there(self):
+        """The hollow mark at a mean of 60 is not where the picture ends at 35."""
+        told = "hollow: not all measured packets were"
+        for words, is_told in ([], True), (["--top", 35], False):
+            self.assertEqual(told in texts_of(self.drawn("curves", "a=curve", *words)), is_told)
 
     def test_a_shortened_run_is_told(self):
         """One line has the cycles of the shortest and of the longest run."""

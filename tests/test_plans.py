@@ -1,9 +1,11 @@
 """What a study may ask for: files and replies, tables made by itself, bytes, a search; and how it is shown again."""
 import re
 import shlex
+import shutil
 import unittest
 from collections import Counter
 from itertools import groupby
+from operator import itemgetter
 
 from support import HEADER, SVG, FolderTest, texts_of
 from test_sweep import SMALL, SweepTest, lines_of
@@ -11,8 +13,9 @@ from test_sweep import SMALL, SweepTest, lines_of
 from noc_tools import Demand, Network, Refused, Study
 from noc_tools.table import combinations_of
 from noc_tools.drawing import frames_of, framed
-from noc_tools.plan import View
+from noc_tools.plan import SETTINGS, View
 from noc_tools.measure import Replies, settled
+from noc_tools.results import HEADER as HEADER_OF_RESULTS
 from noc_tools.study import halfway
 
 ROW = Network("mesh", (16,), 1, 2, 1, "dor", 4000)
@@ -59,6 +62,8 @@ class Demands(unittest.TestCase):
             (Demand("hot-spot", 0.1, 1, share=float("nan")), "a share is a part of the packets, from 0 to 1"),
             (Demand("uniform", 5, (1, 8)), "a load is 0 or more, and at most the length of a packet"),
             (Demand("uniform", 0.1, (1, 65)), "a length is 1 to 64"),
+            (Demand("hot-spot", 0.1, 1, share=-0.1), "the share of a hot spot is 0 to 1, not -0.1"),
+            (Demand("hot-spot", 0.1, 1, share=float("nan")), "the share of a hot spot is 0 to 1, not nan"),
         ]:
             with self.subTest(sentence), self.assertRaisesRegex(Refused, re.escape(sentence)):
                 demand.check(ROW)
@@ -136,6 +141,9 @@ class OfTraces(FolderTest):
             (TRACE + "a,1,soon,0,1,\n", "16", "t: line 2 has no time, nodes and bytes"),
             (TRACE + "a,1,0,0,3,\n", "16", "t: line 2 has a node that the network has not"),
             (TRACE + "a,1,5,0,1,\n", "16 --from 9", "t: line 2 is due in cycle -4: noc takes 0 to 1000000"),
+            (TRACE + "a,1,5,0,1,\n", "16 --from 5.5", "t: line 2 is due in cycle -1: noc takes 0 to 1000000"),
+            (TRACE + "a,-1,5,0,1,\n", "16", "t: line 2 has no time, nodes and bytes"),
+            (TRACE + "a,1,5,0,1,\n", "16 --kind b=1 a=1", "t has no packet of the kind 'b'"),
             (TRACE, "0", "BYTES is a whole number above 0"),
             (TRACE, "16 --factor 0", "FACTOR a number above 0"),
             (TRACE, "16 --kind a=2", "the classes are 0 to 1"),
@@ -156,6 +164,17 @@ measured_classes = [[0], [1]]
 load = [1, 2]
 cases = [{ kind = "mesh", rule = "odd-even" }, { kind = "torus", rule = "dateline-even" }]
 """
+ONE_LINE = """\
+kind = "mesh"
+radix = [2]
+rule = "dor"
+channels = 1
+buffer = 2
+cycles = 100
+traffic = "t.csv"
+"""
+REPLIES = SMALL.replace('"dateline" }', '"dateline", channels = 4 }').replace("seed =", "classes = 2\nseed =")
+REPLIES = REPLIES.replace("seed =", "replies = [0, 1, 3, 5]\nseed =")
 SEARCHED = SMALL.replace("load = [0.6, 0.1]", "load = 0.5\nsearch = 0.1").replace("cycles = 300", "cycles = 200")
 
 
@@ -233,39 +252,102 @@ class Plans(SweepTest):
         self.assertEqual(self.sweep("searched.toml", "--out", "three.out", "--collect", "lines").returncode, 0)
 
 
+class Warned(SweepTest):
+    def test_what_no_load_saturates_is_told(self):
+        """Three flits a packet at a load of 0.1 saturate neither of two networks; at 0.9 they saturate one of them, as
+        of the other only the load of 0.1 is asked for."""
+        common = SMALL.replace("load = [0.6, 0.1]", "load = 0.1").replace("length = 2", "length = 3")
+        self.put(**{"low.toml": common, "high.toml": common.replace('"dor" }', '"dor", load = [0.1, 0.9] }')})
+        for name, count in ("low", 2), ("high", 1):
+            ran = self.sweep(f"{name}.toml", "--out", f"{name}.out")
+            told = f"no load saturates {count} of 2 combinations: they may take more than the table says"
+            self.assertEqual((ran.returncode, ran.stderr), (0, f"noc-tools sweep: {told}\n"))
+
+    def test_a_file_that_is_over_before_the_window_is_told(self):
+        """Its last packet is due in cycle 95, and at the load 2 in cycle 47. Behind cycle 95 the window 50:100 has four
+        cycles more, and the windows 50:99 and 20:99 have three. A twentieth of these windows is 2.5, 2.45 and 3.95."""
+        traffic = HEADER + "".join(f"0,1,0,1,{due}\n" for due in range(0, 96, 5))
+        told = "noc-tools sweep: in {} runs the traffic file is over before the window, so the loads are too low: "
+        told += "at the load {} its last packet is due in cycle {}, and the window ends at {}\n"
+        for window, loads, expected in [
+            ("[50, 100]", "[1, 2]", told.format(2, 1, 95, 100)), ("[20, 99]", "[1, 2]", told.format(1, 2, 47, 99)),
+            ("[20, 99]", "1", ""), ("[50, 99]", "1", told.format(1, 1, 95, 99)),
+        ]:
+            with self.subTest(window=window, loads=loads):
+                self.put(**{"t.csv": traffic, "s.toml": ONE_LINE + f"window = {window}\nload = {loads}\n"})
+                ran = self.sweep("s.toml", "--out", f"{window}{loads}.out")
+                lines = [line for line in ran.stderr.splitlines(keepends=True) if "no load saturates" not in line]
+                self.assertEqual((ran.returncode, "".join(lines)), (0, expected))
+
+
 class Parts(SweepTest):
-    def test_a_study_may_do_without_parts(self):
-        """Then all other figures are the same, those of queue and network are dashes, and nothing is traced."""
-        self.put(**{"whole.toml": SMALL, "less.toml": "parts = false\n" + SMALL})
+    def test_parts_are_for_those_who_ask(self):
+        """Where they do not, nothing is traced, the parts are dashes, and all other figures are the same."""
+        self.put(**{"whole.toml": SMALL, "less.toml": SMALL.replace("parts = true\n", "")})
         for name in ("whole", "less"):
-            self.sweep(f"{name}.toml", "--out", f"{name}.out")
+            self.assertEqual(self.sweep(f"{name}.toml", "--out", f"{name}.out", env=self.watched(name)).returncode, 0)
+        traced = [len(lines_of(self.folder / f"{name}.traced")) for name in ("whole", "less")]
+        self.assertEqual(traced, [8, 0])
         apart = ("run", "parts", "queue_", "network_")
+        rows = {name: sorted(self.results(f"{name}.out"), key=itemgetter(*SETTINGS)) for name in ("whole", "less")}
         whole, less = (
-            sorted([
-                {key: word for key, word in row.items() if not key.startswith(apart)} for row in self.results(name)
-            ], key=str)
-            for name in ("whole.out", "less.out")
+            [{key: word for key, word in row.items() if not key.startswith(apart)} for row in rows[name]]
+            for name in ("whole", "less")
         )
         self.assertEqual(whole, less)
+        words = {name: {row[key] for row in rows[name] for key in ("queue_mean", "network_mean")} for name in rows}
+        self.assertEqual((words["less"], "-" in words["whole"]), ({"-"}, False))
+
+    def test_settings_are_numbers_and_texts(self):
         self.put(**{"mixed.toml": SMALL.replace("length = 2", 'length = "1+3"')})
         with Study(self.folder / "mixed.toml", self.folder / "mixed.out") as study:
             row = study.make().rows()[0]
         self.assertEqual([row[key] for key in ("length", "parts", "radix", "channels")], ["1+3", "yes", "4x4", 2])
-        words = {row[key] for row in self.results("less.out") for key in ("queue_mean", "network_p99")}
-        self.assertEqual((words, "-" in {row["queue_mean"] for row in self.results("whole.out")}), ({"-"}, False))
 
 
 class Audits(SweepTest):
+    def assertNotTaken(self, study, line, column, word, sentence):
+        """A line with another word in a column is refused."""
+        other = [word if name == column else field for name, field in zip(HEADER_OF_RESULTS, line.split(","))]
+        self.put(lines=",".join(other) + "\n")
+        ran = self.sweep(study, "--out", f"{column}.out", "--collect", "lines")
+        self.assertRefused(ran, sentence, "sweep")
+
     def test_lines_of_other_things_are_not_taken(self):
-        """Of another program, configuration, traffic or table."""
+        """Of another program, configuration, traffic or table; of replies of other requests; of other settings than
+        the run has by its name; and what is no number."""
+        self.put(**{"replies.toml": REPLIES})
+        lines = {}
+        for study in ("small.toml", "replies.toml"):
+            self.sweep(study, "--out", f"{study}.out")
+            lines[study] = lines_of(self.folder / f"{study}.out" / "results.csv")[1]
+        for study, names in {
+            "small.toml": ["program", "configuration", "traffic", "table"], "replies.toml": ["requests", "table"],
+        }.items():
+            for name in names:
+                sentence = f"lines: line 1 is of another {name}: its digest is {'0' * 16}, and here "
+                self.assertNotTaken(study, lines[study], f"{name}_digest", "0" * 16, sentence)
+        for column, word, sentence in [
+            ("rule", "adaptive", "lines: line 1 has the rule adaptive, and its run has dor"),
+            ("ran", "299", "lines: line 1 is of another configuration"),
+            ("ran", "many", "lines: line 1: 'many' of the column 'ran' is no number"),
+            ("ran", "-", "lines: line 1: '-' of the column 'ran' is no number"),
+            ("p99", "many", "lines: line 1: 'many' of the column 'p99' is no number"),
+        ]:
+            self.assertNotTaken("small.toml", lines["small.toml"], column, word, sentence)
+
+    def test_results_that_were_damaged_are_refused(self):
         self.sweep("small.toml", "--out", "one.out")
-        header, line = (row.split(",") for row in lines_of(self.folder / "one.out" / "results.csv")[:2])
-        for name in ("program", "configuration", "traffic", "table"):
-            other = [field if column != f"{name}_digest" else "0" * 16 for column, field in zip(header, line)]
-            self.put(lines=",".join(other) + "\n")
-            ran = self.sweep("small.toml", "--out", f"{name}.out", "--collect", "lines")
-            sentence = f"lines: line 1 is of another {name}: its digest is {'0' * 16}, and here "
-            self.assertRefused(ran, sentence, "sweep")
+        path = self.folder / "one.out" / "results.csv"
+        for damaged, sentence in [("many", "one.out/results.csv: line 2: 'many' of the column 'accepted' is no number"),
+                                  ("0.1,0.1", "one.out/results.csv: line 2 is not whole")]:
+            header, line, *more = lines_of(path)
+            fields = line.split(",")
+            fields[HEADER_OF_RESULTS.index("accepted")] = damaged
+            self.put(**{"damaged": "\n".join([header, ",".join(fields), *more]) + "\n"})
+            shutil.copy(self.folder / "damaged", path)
+            self.assertRefused(self.sweep("small.toml", "--out", "one.out"), sentence, "sweep")
+            path.write_text("\n".join([header, line, *more]) + "\n")
 
     def test_lines_are_made_again(self):
         """All are the same; one whose mean was changed is told."""
@@ -321,13 +403,20 @@ class Views(unittest.TestCase):
         styles = [style for _, styles in frames for style in styles.values()]
         self.assertEqual(len(set(styles)), 12)
 
+    def test_frames_of_numbers_stand_in_their_order(self):
+        """And those of words as the study has them."""
+        patterns = ["uniform", "tornado"]
+        (frames,) = self.frames(View(["pattern", "buffer"]), buffer=["16", "2", "4"], pattern=patterns)
+        expected = [f"{pattern}, {count} slots" for pattern in patterns for count in (2, 4, 16)]
+        self.assertEqual([name for name, _ in frames], expected)
+
     def test_a_study_says_how_it_is_shown(self):
         view = View(["channels"], "buffer", "rule")
         ((one, _),) = [self.frames(view, rule=["dor", "adaptive"], channels=["1", "2"], buffer=["1", "2"])[0]]
         name, styles = one
         self.assertEqual(name, "1 channel")
         found = {(style.colour, style.dash) for style in styles.values()}
-        self.assertEqual((found, styles["adaptive, 1 place"].dash), ({(0, 0), (0, 1), (1, 0), (1, 1)}, 1))
+        self.assertEqual((found, styles["adaptive, 1 slot"].dash), ({(0, 0), (0, 1), (1, 0), (1, 1)}, 1))
 
     def test_too_many_frames_make_several_pictures(self):
         pictures = self.frames(pattern=[f"p{number}" for number in range(12)], channels=["1", "2"])
@@ -348,7 +437,7 @@ class Drawings(SweepTest):
         texts = set(texts_of(self.drawn("draw", results, "--y", "queue_p99", "--where", "kind=mesh")))
         self.assertLessEqual({"99th percentile of queue latency, in cycles", "2 channels", "4 channels"}, texts)
         self.assertFalse([text for text in texts if "torus" in (text or "")])
-        root = self.drawn("draw", table, "--x", "places", "--y", "saturation", "--along", "channels")
+        root = self.drawn("draw", table, "--x", "slots", "--y", "saturation", "--along", "channels")
         curves = [group for group in root.iter(f"{SVG}g") if (group.get("id") or "").startswith("curve-")]
         marks = [len(list(group)) - 1 for group in curves]
         self.assertEqual((marks, "flits that the buffers of a link hold" in texts_of(root)), ([2, 2], True))

@@ -287,7 +287,7 @@ class OtherPictures(Drawn):
     def test_the_title_says_what_was_run(self):
         for words in [], ["--links"]:
             said = self.drawn(NETWORK, STALLS, *words).words
-            self.assertIn("mesh 3 x 2, dor, 1 channel of 2 places, 10 cycles", said)
+            self.assertIn("mesh 3 x 2, dor, 1 channel of 2 slots, 10 cycles", said)
 
     def uses(self, *words):
         """The use of each link of a run that is made for the picture, in words, but for those that are not used."""
@@ -303,11 +303,11 @@ class OtherPictures(Drawn):
         self.assertEqual(self.uses(), ([
             "router 0, +0, to router 1: 10.0 %", "node 0 to its router: 10.0 %", "router 1, local, to its node: 25.0 %",
             "router 2, -0, to router 1: 15.0 %", "node 2 to its router: 15.0 %",
-        ], ["mesh 3, dor, 1 channel of 2 places, 20 cycles"]))
+        ], ["mesh 3, dor, 1 channel of 2 slots, 20 cycles"]))
         self.assertEqual(self.uses("--window", "12:20"), ([
             "router 1, local, to its node: 37.5 %",
             "router 2, -0, to router 1: 37.5 %", "node 2 to its router: 37.5 %",
-        ], ["mesh 3, dor, 1 channel of 2 places, cycles 12 to 19"]))
+        ], ["mesh 3, dor, 1 channel of 2 slots, cycles 12 to 19"]))
 
     def test_a_run_that_drains_is_drawn_to_its_end(self):
         """The second packet is due in cycle 30, and so leaves router 2 from 32 on and is out in 37. The limit is

@@ -111,6 +111,8 @@ buffer = 2
 traffic = "t.csv"
 load = 1
 """
+# Without what says nothing of a traffic file.
+PLAYED = "".join(f"{line}\n" for line in STUDY.splitlines() if not line.startswith(("length", "seed")))
 ON_STUDY = [
     ("", STUDY + "chanels = 2\n", "s.toml has an unknown setting 'chanels': the settings are kind, radix"),
     ("", STUDY.replace('kind = "mesh"\n', ""), "s.toml: 'kind' is not set"),
@@ -128,15 +130,25 @@ ON_STUDY = [
     ("", STUDY + "parts = 1\n", "'parts' is true or false, not 1"),
     ("", STUDY + "search = 0\n", "'search' is a number above 0, not 0"),
     ("", STUDY + 'at = "0.1"\n', "'at' is a number above 0, not '0.1'"),
-    ("", STUDY + 'frames = "colour"\n', "'frames', 'colour' and 'dash' are settings, and 'colour' is none"),
+    ("", STUDY + "at = 0.15\n", "s.toml: 'at' is one of the loads, and 0.15 is none of them"),
+    ("", STUDY + 'frames = "colour"\n', "'colour' and 'dash' are settings by which curves differ, not 'colour'"),
+    ("", STUDY + 'dash = "load"\n', "'frames', 'colour' and 'dash' are settings by which curves differ, not 'load'"),
+    ("", STUDY + 'frames = ["rule", "seed"]\n', "are settings by which curves differ, not 'seed'"),
+    ("", STUDY + 'table = "foreign"\n', "s.toml: 'table' is for the rule 'table', and there are none here"),
+    ("", STUDY + "share = 0.5\n", "s.toml: 'share' is for the pattern 'hot-spot', and there are none here"),
+    ("", STUDY + 'cases = [{ spots = [3] }, { pattern = "hot-spot" }]\n', "s.toml: cases: 'spots' is for the pattern"),
+    ("", STUDY + 'pattern = "hot-spot"\nshare = 1.5\n', "the share of a hot spot is 0 to 1, not 1.5"),
+    ("", STUDY + "measured_classes = [1]\n", "a class does not exist: the classes are 0 to 0"),
     ("", STUDY + "burst = [5, 0]\n", "'burst' is a whole number of 1 or more, not 0"),
     ("", STUDY + "burst = [5, 6, 7]\n", "'burst' is 2 numbers with ':' between them, not '5:6:7'"),
     ("", STUDY + "replies = [0, 1, 4]\n", "'replies' is 4 numbers with ':' between them, not '0:1:4'"),
     ("", STUDY + "replies = [0, 1, 4, 9]\n", "replies are of another class than requests, and the classes are 0 to 0"),
     ("", STUDY + "classes = 2\nreplies = [0, 1, 65, 9]\n", "noc takes no kind=mesh"),
     ("", STUDY.replace("length = 4", 'length = "4+x"'), "a length is a number of flits, or several as 1+8, not '4+x'"),
-    ("", STUDY + 'traffic = "missing.csv"\n', "missing.csv: No such file or directory"),
-    ("", STUDY.replace("load = [0.02, ", "load = [") + 'traffic = "foreign"\n', "foreign is no traffic"),
+    ("", PLAYED + 'traffic = "missing.csv"\n', "missing.csv: No such file or directory"),
+    ("", PLAYED + 'traffic = "foreign"\n', "foreign is no traffic"),
+    ("", PLAYED + 'traffic = "t"\nseed = [1, 2]\n', "s.toml: 'seed' is for runs whose traffic is no file, and"),
+    ("", PLAYED + 'cases = [{ traffic = "t", length = 4 }, { length = 4 }]\n', "s.toml: cases: 'length' is for runs"),
     ("", STUDY.replace('"dor"', '"odd-even"').replace("[8, 8]", "[4]"), "odd-even is for a mesh of two dimensions"),
     ("", STUDY.replace('"dor"', '"odd-even"').replace("8, 8", "999, 999"), "noc takes no mesh of 999x999 for odd-even"),
     ("", PLAYED_STUDY.replace("load = 1", "load = 1e-320"), "t.csv: at a load of 9.99989e-321 its packets never come"),

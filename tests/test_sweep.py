@@ -44,6 +44,7 @@ length = 2
 load = [0.6, 0.1]
 seed = [1, 2]
 cycles = 300
+parts = true
 cases = [{ kind = "mesh", rule = "dor" }, { kind = "torus", rule = "dateline" }]
 """
 # Eight packets of one flit in each cycle of a network of 16 nodes are 20,000 after some 2,500 cycles.
@@ -51,8 +52,8 @@ SHORT = SMALL.replace("load = [0.6, 0.1]", "load = [0.02, 0.5]").replace("length
 SHORT = SHORT.replace("cycles = 300", "cycles = 4000")
 # Python reads this before it begins. Each process that makes a run says so in a file. Where a path is given at which
 # there is no file yet, the one process that makes that file ends itself at once. Where so many runs are wanted at a
-# time, a process says how many there are, and waits until they are so many or a minute is over. Where so many are to go
-# on, the others wait until there is a file.
+# time, a process says how many there are, and waits until they are so many or a minute is over; it is done with a run
+# when it traces it. Where so many are to go on, the others wait until there is a file. Traces are counted too.
 AT_START = """
 import os, signal, sys, time
 from pathlib import Path
@@ -73,8 +74,11 @@ def watch(event, details):
         if wanted:
             own.mkdir(parents=True)
             crowd(log, own.parent, wanted)
-    elif "trace" in words and own.exists():
-        own.rmdir()
+    elif "trace" in words:
+        with open(log.with_suffix(".traced"), "a") as file:
+            file.write("trace\\n")
+        if own.exists():
+            own.rmdir()
 
 def is_made(path):
     try:
@@ -190,7 +194,7 @@ class Runs(SweepTest):
         wanted = {"room": len(os.sched_getaffinity(0)), "three": 3}
         seeds = list(range(max(wanted.values()) + 1))
         crowd = re.sub(r"(?m)^(channels|buffer|load) = .*", r"\1 = 1", STUDY)
-        self.put(**{"crowd.toml": re.sub(r"(?m)^seed = .*", f"seed = {seeds}", crowd)})
+        self.put(**{"crowd.toml": re.sub(r"(?m)^seed = .*", f"seed = {seeds}", crowd) + "parts = true\n"})
         for name, jobs in wanted.items():
             more = ["--jobs", 3] if name == "three" else []
             self.sweep("crowd.toml", "--out", f"{name}.out", *more, env=self.watched(name, WANTED=str(jobs)))
@@ -312,7 +316,7 @@ class Table(unittest.TestCase):
     def test_it_is_that_of_the_lines(self):
         row = self.row(stays=0.5, unsteady=0.2)
         self.assertEqual(row, {
-            "channels": 2, "places": 6, "latency_load": 0.1, "mean": 10, "p95": None, "p99": 9, "queue_mean": 1,
+            "channels": 2, "slots": 6, "latency_load": 0.1, "mean": 10, "p95": None, "p99": 9, "queue_mean": 1,
             "network_mean": 2, "keeps_up_to": 0.19, "keeps_up_load": 0.2, "steady_to": 0.1, "steady_load": 0.1,
             "saturation": 0.49, "saturation_load": 0.5, "saturation_least": 0.49, "saturation_most": 0.49,
             "capacity": 1, "of_capacity": 0.49, "ran": 295, "steady": "yes",
@@ -383,13 +387,13 @@ class Shown(SweepTest):
         self.assertTrue(self.picture("short.out/latency.svg")[1].endswith(f"; shortest run: {shortest} cycles"))
 
     def test_names_count_rightly(self):
-        """One channel, one place and one flit, and of others more."""
+        """One channel, one slot and one flit, and of others more."""
         plural = SHORT.replace("channels = 2", "channels = [1, 2]").replace("buffer = 2", "buffer = 1")
         plural = plural.replace(', { kind = "torus", rule = "dateline" }', "")
         self.put(**{"plural.toml": plural.replace("4000", "400")})
         self.sweep("plural.toml", "--out", "plural.out")
         texts = self.picture("plural.out/latency.svg")
-        subtitle = "mesh, 4x4, dor, 1 place, uniform, 1 flit, 400 cycles, window 133:266; mean over 2 seeds"
+        subtitle = "mesh, 4x4, dor, 1 slot, uniform, 1 flit, 400 cycles, window 133:266; mean over 2 seeds"
         self.assertEqual(texts[1], subtitle)
         self.assertLessEqual({"1 channel", "2 channels"}, set(texts))
 

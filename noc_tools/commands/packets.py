@@ -2,13 +2,14 @@
 
 TRACE is CSV, and its first line has the names of its columns, in any order: time, source, destination, bytes, and kind
 where packets are of several kinds. Other columns are not looked at. A packet is due in the cycle time * FACTOR, rounded
-down, from the first one of the trace on, with --from A from that at time A. It has as many flits as its bytes take, the
-last of them filled up, and one at least; one of more than 64 flits goes as several packets. Its class is the one that
---kind gives to its kind, else 0. What a node sends to itself is left out.
+down; with --from A times are counted from A on. It has as many flits as its bytes take, the last of them filled up, and
+one at least; one of more than 64 flits goes as several packets. Its class is the one that --kind gives to its kind,
+else 0. What a node sends to itself is left out.
 
 Where there are more than the 20,000 packets that noc takes, the last cycles are left out, and a line to standard error
 says so.
 """
+import math
 from argparse import ArgumentParser, ArgumentTypeError, Namespace
 from collections.abc import Iterable, Iterator, Mapping
 
@@ -16,7 +17,7 @@ from ..arguments import add, add_config, warn
 from ..errors import Refused, refusing
 from ..files import named_rows, read_lines
 from ..network import Network, read_bounded_network
-from ..traffic import LATEST_DUE, LONGEST, MOST_PACKETS, Row, fitting, traffic_text
+from ..traffic import LATEST_DUE, LONGEST, MOST_PACKETS, Row, check_classes, fitting, traffic_text
 
 TRACE_COLUMNS = ["time", "source", "destination", "bytes"]
 
@@ -53,25 +54,31 @@ def packets_of(messages: Iterable[Row]) -> Iterator[Row]:
 def messages_of(options: Namespace, network: Network, classes: Mapping[str, int]) -> Iterator[Row]:
     """The messages of the trace, as packets of any length."""
     lines = named_rows(read_lines(options.trace, "trace"), TRACE_COLUMNS, "trace", options.trace)
+    unseen = set(classes)
     for number, line in enumerate(lines, 2):
         with refusing((ValueError, OverflowError), f"{options.trace}: line {number} has no time, nodes and bytes"):
-            due = int((float(line["time"]) - options.first) * options.factor)
+            due = math.floor((float(line["time"]) - options.first) * options.factor)
             source, destination, size = (int(line[name]) for name in ("source", "destination", "bytes"))
+            if size < 0:
+                raise ValueError
         if not (0 <= source < network.nodes and 0 <= destination < network.nodes):
             raise Refused(f"{options.trace}: line {number} has a node that the network has not")
         if not 0 <= due <= LATEST_DUE:
             raise Refused(f"{options.trace}: line {number} is due in cycle {due}: noc takes 0 to {LATEST_DUE}")
+        kind = line.get("kind", "")
+        unseen.discard(kind)
         if source != destination:
             flits = max(1, -(-size // options.flit_bytes))
-            yield source, destination, classes.get(line.get("kind", ""), 0), flits, due
+            yield source, destination, classes.get(kind, 0), flits, due
+    if unseen:
+        raise Refused(f"{options.trace} has no packet of the kind '{min(unseen)}'")
 
 
 def main(options: Namespace) -> None:
     network, classes = read_bounded_network(options.config), dict(options.kind)
     if options.flit_bytes < 1 or not 0 < options.factor < float("inf"):
         raise Refused("BYTES is a whole number above 0, and FACTOR a number above 0")
-    if not all(number < network.classes for number in classes.values()):
-        raise Refused(f"a class does not exist: the classes are 0 to {network.classes - 1}")
+    check_classes(classes.values(), network)
     messages = list(messages_of(options, network, classes))
     kept, end = fitting(messages, LATEST_DUE, count_of)
     print(traffic_text(packets_of(kept)), end="")

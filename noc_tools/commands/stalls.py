@@ -195,7 +195,7 @@ def counts_up_to(run: Run, cycles: int) -> dict[Place, Counts]:
 def described(network: Network, report: Report) -> str:
     """What the picture is of, in one line."""
     size = " x ".join(map(str, network.radix))
-    channels = f"{counted(network.channels, 'channel')} of {counted(network.buffer, 'place')}"
+    channels = f"{counted(network.channels, 'channel')} of {counted(network.buffer, 'slot')}"
     first, cycles = report.first, report.cycles
     span = stretch(first, first + cycles - 1) if first else counted(cycles, "cycle")
     return f"{network.kind} {size}, {network.rule}, {channels}, {span}"

@@ -23,7 +23,7 @@ STUDY.toml gives each setting a value, or a list of values that are combined wit
     replies           [TO, BY, LENGTH, DELAY]: packets of the class TO are answered, as by 'noc-tools replies'
     window            [A, B]: the packets due from A to before B are measured (the middle third of the run)
     measured_classes  [C, ..]: of these the packets of such classes alone (all)
-    parts             whether queue and network are told apart (true); without, a run takes half as long
+    parts             whether queue and network are told apart (false); with true, a run takes twice as long
     tolerance         by how many percent the halves of the window may differ (20)
 
 Beside these it may have:
@@ -31,26 +31,30 @@ Beside these it may have:
     cases             [{..}, {..}]: tables of settings, each with its own runs; they stand in place of those of all
     search            AMOUNT: between the last load with which a network keeps up and the first with which it does not,
                       halves of the span are tried until it is at most AMOUNT; below the lowest load from 0 on
-    at                LOAD: the table tells latencies at this load
+    at                LOAD: the table tells latencies at this one of the loads
     frames, colour, dash
                       how curves are told apart, as for 'noc-tools draw'
 
+A setting that says nothing of any run is refused, as a length where all traffic is files, or a share where there is no
+hot spot.
+
 FOLDER is STUDY without '.toml' where it is not given. Into it go results.csv, a line for each run as it comes: the
 settings, the columns of 'noc-tools load', and the first 16 digits of the SHA-256 of the program, the configuration, the
-traffic and the table. A sweep that was interrupted or killed goes on where it was when it is called again. Lines of
-another program, configuration, traffic or table are not taken by --collect. When all runs are there, latency.svg,
-p95.svg, p99.svg and accepted.svg are drawn, and saturation.csv is written and shown, with a line for each combination,
-whose figures are means over its seeds:
+traffic, where it has replies the traffic without them, and the table. A sweep that was interrupted or killed goes on
+where it was when it is called again. Lines of another program, configuration, traffic or table are not taken by
+--collect. When all runs are there, latency.svg, p95.svg, p99.svg and accepted.svg are drawn, and saturation.csv is
+written and shown, with a line for each combination, whose figures are means over its seeds:
 
-    places                  the flits that the buffers of a link hold: channels by depth
+    slots                   the flits that the buffers of a link hold: channels by depth
     latency_load, mean, p95, p99, queue_mean, network_mean
-                            the latency at the lowest load, or at that of `at`, and its parts in queue and network
+                            the latency at the lowest load, or at that of `at`, and its parts in queue and network,
+                            which are dashes where `parts` is false
     keeps_up_to             what is accepted at the greatest load up to which the network keeps up: all measured packets
                             come out, and 95 percent of what is offered
     steady_to               what is accepted at the greatest load up to which all runs are steady, as 'noc-tools
                             latency --help' says
-    saturation              the greatest accepted load; where the network keeps up with the highest load, it may take
-                            more
+    saturation              the greatest accepted load. Where a few nodes get more than they take, as in a hot spot, it
+                            may be more than the network can go on with: their packets stay behind, and others come out
     keeps_up_load, steady_load, saturation_load
                             the loads of the study at which these are accepted
     saturation_least, saturation_most
@@ -59,6 +63,9 @@ whose figures are means over its seeds:
     of_capacity             the part of it that the saturation is
     ran, steady             the cycles of the shortest run, and whether it was steady: fewer than those of the study
                             where noc does not take the packets of all; the window is then the same part of the run
+
+Lines on standard error tell of how many runs noc does not take the packets of all cycles, in how many a traffic file is
+over before the window is, and how many combinations no load saturates, so that they may take more.
 
 The runs are made side by side, N or as many as processors that may be used. With --files the files of one run are kept.
 """
@@ -130,7 +137,7 @@ def sweep(study: Study, options: Namespace) -> int:
     except KeyboardInterrupt:
         warn(options, ["interrupted; the same command goes on"])
         return INTERRUPTED
-    warn(options, [study.told_of_short_runs()])
+    warn(options, [study.told_of_short_runs(), study.told_of_silence(), study.told_of_room()])
     study.draw(options.top)
     sys.stdout.write(study.table_text())
     return 0
