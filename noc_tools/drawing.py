@@ -4,8 +4,8 @@ from collections.abc import Callable, Iterable, Iterator, Sequence
 from pathlib import Path
 
 from .curves import BYTES, COLOURS, DASHES, FLITS, STYLES, Curve, Frame, Point, Style, axes_of, picture
-from .plan import NONE, View, name_of
-from .table import LOAD, SEED, Combination, Row, combinations_of, place_of, varying
+from .plan import NONE, SEED, View, name_of
+from .table import Combination, Row, combinations_of, place_of, varying
 
 # What a picture says of all its combinations, where they do not differ by it.
 NAMED_ONCE = ["kind", "radix", "rule", "channels", "buffer", "traffic", "pattern", "length", "cycles", "window"]
@@ -69,7 +69,10 @@ def most_of(keys: list[str], amount: Callable[[str], int]) -> str | None:
 
 def styled(combinations: Sequence[Combination], keys: list[str], view: View) -> dict[str, Style]:
     """A style for each name of a curve: the colour by one setting, the dashes by another. Where these two do not tell
-    curves apart, one has the next style that is free."""
+    curves apart, one has the next style that is free; so have all where they are points, at which no dash is seen."""
+    if not view.colour and not view.dash and all(len(combination.lines) == 1 for combination in combinations):
+        return dict(zip(dict.fromkeys(name_of(combination.words, keys) for combination in combinations), STYLES))
+
     def values(key: str | None) -> list[str]:
         return list(dict.fromkeys(combination.words[key] for combination in combinations)) if key else []
 
@@ -90,11 +93,9 @@ def styled(combinations: Sequence[Combination], keys: list[str], view: View) -> 
     return found
 
 
-def frames_of(
-    combinations: Sequence[Combination], view: View, x: str, y: str, along: str
-) -> Iterator[list[Frame]]:
+def frames_of(combinations: Sequence[Combination], view: View, x: str, y: str) -> Iterator[list[Frame]]:
     """The frames of each picture: several pictures where there are too many frames or names for one."""
-    keys = varying(combinations, along)
+    keys = varying(combinations, view.along)
     chosen = framed(combinations, keys, view)
     rest = [key for key in keys if key not in chosen]
     groups = [
@@ -142,18 +143,12 @@ def subtitle_of(rows: Sequence[Row], keys: Iterable[str]) -> str:
     return "; ".join(part for part in parts if part)
 
 
-def pictures_of(
-    rows: Sequence[Row], view: View, x: str, y: str, top: float | None, along: str | None = None
-) -> Iterator[str]:
+def pictures_of(rows: Sequence[Row], view: View, x: str, y: str, top: float | None) -> Iterator[str]:
     """The pictures of one figure against another, several where there are too many curves for one."""
-    if along is None:
-        # (where the load is always the same, curves go along the traffic)
-        is_one = len({row.get(LOAD) for row in rows}) == 1 < len({row.get("traffic") for row in rows})
-        along = "traffic" if is_one else LOAD
-    combinations = combinations_of(rows, along)
+    combinations = combinations_of(rows, view.along)
     unit = FLITS if rows[0].get("flit_bytes", NONE) == NONE else BYTES
-    subtitle = subtitle_of(rows, [*varying(combinations, along), along])
-    for frames in frames_of(combinations, view, x, y, along):
+    subtitle = subtitle_of(rows, [*varying(combinations, view.along), view.along])
+    for frames in frames_of(combinations, view, x, y):
         yield picture(frames, axes_of(frames, x, y, top, unit), subtitle)
 
 

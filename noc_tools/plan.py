@@ -41,6 +41,7 @@ MEANT = {
     "spots": "the pattern 'hot-spot'", "share": "the pattern 'hot-spot'",
 }
 NONE = "-"
+LOAD, SEED = "load", "seed"
 # The most loads of a range.
 MOST_LOADS = 1000
 BY_DEFAULT = {
@@ -284,16 +285,23 @@ def name_of(words: Mapping[str, str], keys: list[str]) -> str:
 
 
 # What a study says beside its settings.
-OTHERS = ["cases", "search", "at", "frames", "colour", "dash"]
+OTHERS = ["cases", "search", "at", "frames", "colour", "dash", "along"]
 
 
 class View(NamedTuple):
-    """How curves are told apart: the settings of which each value has a frame of its own, and those of colours and
-    dashes; where these are not given, they are chosen."""
+    """Along which setting a curve goes, and how curves are told apart: the settings of which each value has a frame of
+    its own, and those of colours and dashes; where these are not given, they are chosen."""
 
     frames: list[str] | None = None
     colour: str | None = None
     dash: str | None = None
+    along: str = LOAD
+
+    def check(self) -> None:
+        """Refuses to tell curves apart by what is the same for all of them: each has all of its values."""
+        for key in [*(self.frames or []), self.colour, self.dash]:
+            if key in (self.along, SEED):
+                raise Refused(f"a curve has all values of '{key}', which so tells no curves apart")
 
 
 class Plan(NamedTuple):
@@ -367,22 +375,24 @@ def amount_of(path: str, key: str, value: Any) -> float | None:
     raise Refused(f"{path}: '{key}' is a number above 0, not {value!r}")
 
 
-def view_of(path: str, document: dict[str, Any]) -> View:
+def view_of(document: dict[str, Any]) -> View:
     """How the study is shown."""
-    frames, colour, dash = (document.pop(key, None) for key in ("frames", "colour", "dash"))
+    frames, colour, dash, along = (document.pop(key, None) for key in ("frames", "colour", "dash", "along"))
     named = frames if isinstance(frames, list) else [frames]
-    for key in [*named, colour, dash]:
-        if key is not None and (key not in SETTINGS or key in ("load", "seed")):
-            raise Refused(f"{path}: 'frames', 'colour' and 'dash' are settings by which curves differ, not {key!r}")
-    return View(None if frames is None else named, colour, dash)
+    for key in [*named, colour, dash, along]:
+        if key is not None and key not in SETTINGS:
+            raise Refused(f"'frames', 'colour', 'dash' and 'along' are settings, and {key!r} is none")
+    view = View(None if frames is None else named, colour, dash, along or LOAD)
+    view.check()
+    return view
 
 
 def read_plan(path: str) -> Plan:
     """What a file asks for."""
     document = read_document(path)
     search, at = (amount_of(path, key, document.pop(key, None)) for key in ("search", "at"))
-    view, tables = view_of(path, document), document.pop("cases", [{}])
     try:
+        view, tables = view_of(document), document.pop("cases", [{}])
         cases = cases_of(path, document, tables)
     except Refused as reason:
         if str(reason).startswith(path):

@@ -4,13 +4,12 @@ from itertools import takewhile
 from typing import NamedTuple
 
 from .files import csv_line
-from .plan import NONE, SETTINGS, numbers_in, shown
+from .plan import LOAD, NONE, SEED, SETTINGS, numbers_in, shown
 from .results import value_of
 from .statistics import KEPT_UP, mean
 
 Row = Mapping[str, str]
 Value = str | float | None
-LOAD, SEED = "load", "seed"
 
 
 class Line(NamedTuple):

@@ -376,8 +376,8 @@ def made_rows(**values):
 class Views(unittest.TestCase):
     def frames(self, view=View(), **values):
         """The names of the frames of each picture, and the styles of their curves."""
-        combinations = combinations_of(made_rows(**values))
-        pictures = list(frames_of(combinations, view, "accepted", "mean", "load"))
+        combinations = combinations_of(made_rows(**values), view.along)
+        pictures = list(frames_of(combinations, view, "accepted", "mean"))
         return [[(frame.name, {curve.name: curve.style for curve in frame.curves}) for frame in frames]
                 for frames in pictures]
 
@@ -418,6 +418,21 @@ class Views(unittest.TestCase):
         found = {(style.colour, style.dash) for style in styles.values()}
         self.assertEqual((found, styles["adaptive, 1 slot"].dash), ({(0, 0), (0, 1), (1, 0), (1, 1)}, 1))
 
+    def test_curves_go_along_what_is_said(self):
+        """Along the load each traffic file has a frame. Along the traffic each load has a curve from file to file."""
+        files = ["b.csv", "a.csv"]
+        (loads,), (traffics,) = (self.frames(view, traffic=files) for view in (View(), View(along="traffic")))
+        self.assertEqual([name for name, _ in loads], files)
+        self.assertEqual([list(styles) for _, styles in traffics], [["load 0.1", "load 0.2"]])
+
+    def test_points_have_colours_of_their_own(self):
+        """Of one traffic file, unless dashes are asked for."""
+        told = {"traffic": ["t.csv"], "rule": ["dor", "adaptive"], "channels": ["1", "2"], "load": ["0.1"]}
+        for view, styles in [(View(along="traffic"), [(colour, 0) for colour in range(4)]),
+                             (View(along="traffic", dash="rule"), [(0, 0), (0, 1), (1, 0), (1, 1)])]:
+            ((_, found),) = self.frames(view, **told)[0]
+            self.assertEqual([tuple(style) for style in found.values()], styles)
+
     def test_too_many_frames_make_several_pictures(self):
         pictures = self.frames(pattern=[f"p{number}" for number in range(12)], channels=["1", "2"])
         self.assertEqual([len(frames) for frames in pictures], [9, 3])
@@ -425,6 +440,14 @@ class Views(unittest.TestCase):
     def test_what_is_not_framed_is_named(self):
         combinations = combinations_of(made_rows(pattern=["uniform"], channels=["1", "2"]))
         self.assertEqual(framed(combinations, ["channels"], View()), [])
+
+
+# Each load has a p99 of one seed and not of the other.
+TWO_SEEDS = """\
+rule,parts,load,seed,accepted,mean,p99,queue_p99
+dor,no,0.1,1,0.1,-,9,-
+dor,no,0.1,2,0.1,8,-,-
+"""
 
 
 class Drawings(SweepTest):
@@ -444,7 +467,8 @@ class Drawings(SweepTest):
 
     def test_what_is_refused(self):
         self.put(r="kind,load,mean,accepted\nmesh,0.1,-,0.1\ntorus,0.1,much,0.2\n", e="kind,load,mean,accepted\n",
-                 n="kind,load,mean,accepted\nmesh,0.1,-,0.1\n", o="kind,load,mean,accepted\nmesh,0.1,nan,0.1\n")
+                 n="kind,load,mean,accepted\nmesh,0.1,-,0.1\n", o="kind,load,mean,accepted\nmesh,0.1,nan,0.1\n",
+                 s=TWO_SEEDS)
         self.assertEachRefused((f"draw {words}", sentence) for words, sentence in [
             ("r --y p99", "r has no column 'p99': its columns are kind, load, mean, accepted"),
             ("r", "r: 'much' of the column 'mean' is no number"),
@@ -455,5 +479,11 @@ class Drawings(SweepTest):
             ("r --y load --frames channels", "'channels' is no setting of r"),
             ("e", "e has no results"),
             ("r --top 0", "--top is a number above 0"),
-            ("n", "there is no point to draw"),
+            ("n", "n: each line has a dash in the column 'mean'"),
+            ("s --y p99", "there is no point to draw"),
+            ("s --y mean --where seed=1", "s: each line has a dash in the column 'mean'"),
+            ("s --y queue_p99", "s: each line has a dash in the column 'queue_p99': the study would need parts = true"),
+            ("s --y p99 --dash seed", "a curve has all values of 'seed', which so tells no curves apart"),
+            ("s --y p99 --frames rule,load", "a curve has all values of 'load', which so tells no curves apart"),
+            ("s --y p99 --x load --along rule --colour rule", "a curve has all values of 'rule', which so tells no"),
         ])

@@ -131,9 +131,11 @@ ON_STUDY = [
     ("", STUDY + "search = 0\n", "'search' is a number above 0, not 0"),
     ("", STUDY + 'at = "0.1"\n', "'at' is a number above 0, not '0.1'"),
     ("", STUDY + "at = 0.15\n", "s.toml: 'at' is one of the loads, and 0.15 is none of them"),
-    ("", STUDY + 'frames = "colour"\n', "'colour' and 'dash' are settings by which curves differ, not 'colour'"),
-    ("", STUDY + 'dash = "load"\n', "'frames', 'colour' and 'dash' are settings by which curves differ, not 'load'"),
-    ("", STUDY + 'frames = ["rule", "seed"]\n', "are settings by which curves differ, not 'seed'"),
+    ("", STUDY + 'frames = "colour"\n', "s.toml: 'frames', 'colour', 'dash' and 'along' are settings, and 'colour' is"),
+    ("", STUDY + "along = 3\n", "s.toml: 'frames', 'colour', 'dash' and 'along' are settings, and 3 is none"),
+    ("", STUDY + 'dash = "load"\n', "s.toml: a curve has all values of 'load', which so tells no curves apart"),
+    ("", STUDY + 'frames = ["rule", "seed"]\n', "s.toml: a curve has all values of 'seed', which so tells no curves"),
+    ("", STUDY + 'along = "buffer"\ncolour = "buffer"\n', "s.toml: a curve has all values of 'buffer', which so tells"),
     ("", STUDY + 'table = "foreign"\n', "s.toml: 'table' is for the rule 'table', and there are none here"),
     ("", STUDY + "share = 0.5\n", "s.toml: 'share' is for the pattern 'hot-spot', and there are none here"),
     ("", STUDY + 'cases = [{ spots = [3] }, { pattern = "hot-spot" }]\n', "s.toml: cases: 'spots' is for the pattern"),
@@ -168,6 +170,8 @@ ON_STUDY = [
     ("--jobs 0", STUDY, "at least one job is needed"),
     ("--top -1", STUDY, "--top is a number above 0"),
     ("--files kept", STUDY, "--files is for --one"),
+    ("--list --collect lines", STUDY, "--list only prints commands: --collect and --verify are for another call"),
+    ("--list --verify 1", STUDY, "--list only prints commands"),
     ("--out lines", STUDY, "lines: File exists"),
 ]
 ONE = "--one kind=mesh rule=dor buffer=2 length=1 load=0.1"
@@ -181,6 +185,8 @@ OTHERS = [
     (f"{ONE} radix=8x8 channels=one", "'channels' is a number, not 'one'"),
     (f"{ONE} radix=8x8 channels=1 flit_bytes={'9' * 400}", "'flit_bytes' is a number, not '999"),
     (f"{ONE} radix=8x8 channels=1 burst=5:{'9' * 400}", "'burst' is 2 numbers with ':' between them, not '5:999"),
+    *((f"{ONE} radix=2x2 channels=1 cycles=30 {more}", "--one takes --files and nothing else")
+      for more in ("--list", "--out o", "--verify 1", "--top 9", "--collect lines")),
     (f"{ONE} radix=8y8 channels=1", "'radix' is numbers with 'x' between them, not '8y8'"),
     ("", "either STUDY.toml or --one is needed"),
     ("s.txt --one kind=mesh", "either STUDY.toml or --one is needed"),

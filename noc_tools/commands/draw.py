@@ -1,23 +1,25 @@
 """Draws results of a study again: any column against any other, of all runs or of some.
 
-FILE is results.csv or saturation.csv of a study. A curve goes along a setting, from point to point by its value: along
-the load of results.csv, or the traffic where there is one load alone. Along buffer, as one example, a curve goes over
-the lines of saturation.csv that differ by buffer. The other settings by which lines differ make the curves, and the
-seeds make a mean with a bar from the least to the most.
+FILE is results.csv or saturation.csv of a study. A curve goes along a setting, from point to point by its value. Along
+buffer, as one example, a curve goes over the lines of saturation.csv that differ by buffer. Along traffic it goes from
+file to file by their names, as where each has its own load. The other settings by which lines differ make the curves,
+and the seeds make a mean with a bar from the least to the most.
 
 --frames names settings of which each value has a frame of its own, --colour and --dash the settings by which curves
-have their colours and dashes. Without these, patterns and traffics have frames, and so have further settings until
-no frame has more than eight curves. --where takes only lines with this value of a setting, and with several words for
-one setting those that have any of them.
+have their colours and dashes. None of them can be the setting along which curves go, nor the seed. Without these,
+patterns and traffics have frames, and so have further settings until no frame has more than eight curves. --where takes
+only lines with this value of a setting, and with several words for one setting those that have any of them.
 """
 from argparse import ArgumentParser, Namespace
+from collections.abc import Iterable
 
 from ..arguments import add, add_top, check_top
 from ..curves import number_of
 from ..drawing import pictures_of
 from ..errors import Refused, refusing
 from ..files import named_rows, read_lines
-from ..plan import NONE, SETTINGS, View
+from ..plan import LOAD, NONE, SETTINGS, View
+from ..statistics import columns_of
 from ..table import Row
 
 
@@ -26,7 +28,7 @@ def add_arguments(parser: ArgumentParser) -> None:
     add(parser, "--x COLUMN", "what lies across; by default accepted", default="accepted")
     add(parser, "--y COLUMN", "what lies upwards; by default mean", default="mean")
     add(parser, "--where SETTING=VALUE", "only lines that have this", nargs="+", default=[])
-    add(parser, "--along SETTING", "along which setting a curve goes; by default load")
+    add(parser, "--along SETTING", "along which setting a curve goes; by default load", default=LOAD)
     add(parser, "--frames SETTING,..", "each of their values has a frame", type=lambda words: words.split(","))
     add(parser, "--colour SETTING", "each of its values has a colour")
     add(parser, "--dash SETTING", "each of its values has a kind of line")
@@ -47,6 +49,16 @@ def chosen(rows: list[dict[str, str]], words: list[str]) -> list[Row]:
     return found
 
 
+def check_known(rows: list[Row], names: Iterable[str], path: str) -> None:
+    """Refuses a column of which these rows tell nothing."""
+    for name in names:
+        if all(row[name] == NONE for row in rows):
+            is_part = name in (*columns_of("queue"), *columns_of("network"))
+            is_asked = any(row.get("parts") != "no" for row in rows)
+            reason = ": the study would need parts = true" if is_part and not is_asked else ""
+            raise Refused(f"{path}: each line has a dash in the column '{name}'{reason}")
+
+
 def check(rows: list[dict[str, str]], options: Namespace) -> None:
     """Refuses columns and settings that the file does not have."""
     for name in (options.x, options.y):
@@ -55,7 +67,8 @@ def check(rows: list[dict[str, str]], options: Namespace) -> None:
         for row in rows:
             with refusing(ValueError, f"{options.file}: '{row[name]}' of the column '{name}' is no number"):
                 row[name] == NONE or number_of(row[name])
-    for key in [*(options.frames or []), options.colour, options.dash, options.along]:
+    along = [options.along] if options.along != LOAD else []
+    for key in [*(options.frames or []), options.colour, options.dash, *along]:
         if key is not None and (key not in SETTINGS or key not in rows[0]):
             raise Refused(f"'{key}' is no setting of {options.file}")
 
@@ -66,9 +79,12 @@ def main(options: Namespace) -> None:
     if not rows:
         raise Refused(f"{options.file} has no results")
     check(rows, options)
-    view = View(options.frames, options.colour, options.dash)
-    drawn = list(pictures_of(chosen(rows, options.where), view, options.x, options.y, options.top, options.along))
+    view = View(options.frames, options.colour, options.dash, options.along)
+    view.check()
+    taken = chosen(rows, options.where)
+    check_known(taken, (options.x, options.y), options.file)
+    drawn = list(pictures_of(taken, view, options.x, options.y, options.top))
     if len(drawn) != 1:
-        told = "there is no point to draw" if not drawn else f"{len(drawn)} pictures are needed for all curves"
-        raise Refused(f"{told}: --where takes some lines alone")
+        told = f"{len(drawn)} pictures are needed for all curves: --where takes some lines alone"
+        raise Refused(told if drawn else "there is no point to draw")
     print(drawn[0], end="")

@@ -32,8 +32,8 @@ Beside these it may have:
     search            AMOUNT: between the last load with which a network keeps up and the first with which it does not,
                       halves of the span are tried until it is at most AMOUNT; below the lowest load from 0 on
     at                LOAD: the table tells latencies at this one of the loads
-    frames, colour, dash
-                      how curves are told apart, as for 'noc-tools draw'
+    frames, colour, dash, along
+                      how curves are told apart and along what they go, as for 'noc-tools draw'
 
 A setting that says nothing of any run is refused, as a length where all traffic is files, or a share where there is no
 hot spot.
@@ -149,6 +149,11 @@ def check(options: Namespace) -> None:
         raise Refused("either STUDY.toml or --one is needed")
     check_jobs(options.jobs)
     check_top(options.top)
+    others = [options.out, options.top, options.collect, options.list or None, options.verify]
+    if options.one and others != [None] * len(others):
+        raise Refused("--one takes --files and nothing else")
+    if options.list and (options.collect or options.verify is not None):
+        raise Refused("--list only prints commands: --collect and --verify are for another call")
     if options.files and not options.one:
         raise Refused("--files is for --one")
 
