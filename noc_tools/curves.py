@@ -1,6 +1,7 @@
 """Curves of one figure against another, such as latency against load, in one picture."""
 import math
 from collections.abc import Iterable, Sequence
+from itertools import chain
 from typing import NamedTuple
 
 from .errors import Refused, refusing
@@ -230,7 +231,7 @@ class Axes(NamedTuple):
 
 def axes_of(frames: Sequence[Frame], x: str, y: str, top: float | None, unit: str) -> Axes:
     """The axes of some frames; without a top, what grows without end ends at four times its lowest point."""
-    curves = [curve for frame in frames for curve in frame.curves]
+    curves = [curve for frame in frames for curve in frame.curves if curve.points]
     points = [point for curve in curves for point in curve.points]
     highest = max(max(point.y, point.most or 0) for point in points)
     found = top or rounded_up((4 * min(point.y for point in points) if y in GROWING else highest) or 1)
@@ -299,11 +300,13 @@ def legend(frames: Sequence[Frame], x: float, axes: Axes) -> tuple[list[str], fl
         parts.append(mark_of(style.mark, x + 16, y - 4, style.paint, True))
         parts.append(text(x + 42, y, name, anchor="start"))
         y += 26
-    points = axes.shown(point for frame in frames for curve in frame.curves for point in curve.points)
+    curves = [axes.shown(curve.points) for frame in frames for curve in frame.curves]
+    points, empty = list(chain.from_iterable(curves)), curves.count([])
     words = []
     if not all(point.is_whole for point in points):
         parts.append(mark_of("circle", x + 16, y + 8, GREY, False))
         words = ["hollow: not all measured packets were", "out at the end of the run"]
+    words += [f"without a point here: {empty} of {len(curves)} curves"] * (empty > 0)
     words += ["bar: from least to most of the seeds"] * any(spread_of(point, axes, "") for point in points)
     words += ["dotted: all that is offered"] * (axes.y == "accepted")
     parts += [text(x + 42, y + 12 + 18 * number, told, 13, "start", GREY) for number, told in enumerate(words)]

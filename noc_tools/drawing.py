@@ -109,9 +109,8 @@ def frames_of(combinations: Sequence[Combination], view: View, x: str, y: str) -
             some.append(groups.pop(0))
         styles = styled([combination for group in some for combination in group], rest, view)
         frames = [frame_of(group, chosen, rest, styles, x, y) for group in some]
-        drawn = [frame for frame in frames if frame.curves]
-        if drawn:
-            yield drawn
+        if any(curve.points for frame in frames for curve in frame.curves):
+            yield frames
 
 
 def names_of(groups: Iterable[Iterable[Combination]], keys: list[str]) -> set[str]:
@@ -122,10 +121,10 @@ def names_of(groups: Iterable[Iterable[Combination]], keys: list[str]) -> set[st
 def frame_of(
     group: Sequence[Combination], chosen: list[str], rest: list[str], styles: dict[str, Style], x: str, y: str
 ) -> Frame:
-    """The frame of some combinations, with the curves that have a point."""
+    """The frame of some combinations."""
     names = [name_of(combination.words, rest) for combination in group]
     curves = [curve_of(combination, name, styles[name], x, y) for combination, name in zip(group, names)]
-    return Frame(name_of(group[0].words, chosen), [curve for curve in curves if curve.points])
+    return Frame(name_of(group[0].words, chosen), curves)
 
 
 # ---- pictures

@@ -245,10 +245,10 @@ class Pictures(FolderTest):
         self.assertTrue(0.2 < max(map(float, shown)) < 0.3, shown)
 
     def test_marks_are_explained_that_are_there(self):
-        """The hollow mark at a mean of 60 is not where the picture ends at 35."""
-        told = "hollow: not all measured packets were"
-        for words, is_told in ([], True), (["--top", 35], False):
-            self.assertEqual(told in texts_of(self.drawn("curves", "a=curve", *words)), is_told)
+        """The hollow mark at a mean of 60 is not where the picture ends at 35, and none is where it ends at 15."""
+        hollow, empty = "hollow: not all measured packets were", "without a point here: 1 of 1 curves"
+        for words, told in ([], {hollow}), (["--top", 35], set()), (["--top", 15], {empty}):
+            self.assertEqual({hollow, empty} & set(texts_of(self.drawn("curves", "a=curve", *words))), told)
 
     def test_a_shortened_run_is_told(self):
         """One line has the cycles of the shortest and of the longest run."""

@@ -3,6 +3,7 @@ import re
 import shlex
 import shutil
 import unittest
+import xml.etree.ElementTree as ElementTree
 from collections import Counter
 from itertools import groupby
 from operator import itemgetter
@@ -12,7 +13,7 @@ from test_sweep import SMALL, SweepTest, lines_of
 
 from noc_tools import Demand, Network, Refused, Study
 from noc_tools.table import combinations_of
-from noc_tools.drawing import frames_of, framed
+from noc_tools.drawing import frames_of, framed, pictures_of
 from noc_tools.plan import SETTINGS, View
 from noc_tools.measure import Replies, settled
 from noc_tools.results import HEADER as HEADER_OF_RESULTS
@@ -436,6 +437,16 @@ class Views(unittest.TestCase):
     def test_too_many_frames_make_several_pictures(self):
         pictures = self.frames(pattern=[f"p{number}" for number in range(12)], channels=["1", "2"])
         self.assertEqual([len(frames) for frames in pictures], [9, 3])
+
+    def test_a_frame_without_a_point_stays(self):
+        """And the picture says of how many curves it shows none. A picture without any point is none."""
+        rows = [row | {"mean": "-" if row["pattern"] == "tornado" else "9"}
+                for row in made_rows(pattern=["uniform", "tornado"])]
+        (drawn,) = pictures_of(rows, View(), "accepted", "mean", None)
+        self.assertLessEqual({"uniform", "tornado", "without a point here: 1 of 2 curves"},
+                             set(texts_of(ElementTree.fromstring(drawn))))
+        nothing = [row for row in rows if row["pattern"] == "tornado"]
+        self.assertEqual(list(pictures_of(nothing, View(), "accepted", "mean", None)), [])
 
     def test_what_is_not_framed_is_named(self):
         combinations = combinations_of(made_rows(pattern=["uniform"], channels=["1", "2"]))
