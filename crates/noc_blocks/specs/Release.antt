@@ -10,8 +10,8 @@ pub record AreTaken (set : ℕ) (taken : ℕ → ℕ) (all : ℕ) : Type 0 where
   pub some : (o : ℕ) → has_bit all o ≡ true
       → (i : ℕ) × (has_bit set i ≡ true) × (has_bit (taken i) o ≡ true)
 
--- from `old` to `new` these input channels of a router have left their ports, and have given `freed`
--- back
+-- from `old` to `new` these input channels of a router have left their ports, and have given
+-- `freed` back
 pub record HasReleased (port : ℕ → ℕ) (released : ℕ) (taken old new : ℕ → ℕ) (freed : ℕ)
     : Type 0 where
   pub gives : AreTaken released taken freed

@@ -12,8 +12,8 @@ pub record SendsRight (vcs ports : ℕ) (vc : List ℕ) (m : RouterMarks) : Type
   pub below : (q i : ℕ) → q < ports → has_bit (m.to_port q) i ≡ true → i < ports * vcs
   pub number : (q i : ℕ) → q < ports → has_bit (m.to_port q) i ≡ true → plane_number vc i < vcs
 
--- one that sends by a port is active, one that waits is not, and those that wait, idle output channels
--- and those that drain are channels of the router
+-- one that sends by a port is active, one that waits is not, and those that wait, idle output
+-- channels and those that drain are channels of the router
 pub record SendsActive (vcs ports : ℕ) (c : Column) (m : RouterMarks) : Type 0 where
   pub active : (q i : ℕ) → q < ports → has_bit (m.to_port q) i ≡ true
       → has_bit c.active i ≡ true

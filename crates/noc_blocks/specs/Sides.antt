@@ -19,7 +19,8 @@ pub record FitsRow (links : ℕ) (near far : List ℕ) : Type 0 where
 
 -- those are the sides of the block whose first router has this number: where its neighbours stand,
 -- and of which channels
-pub record AreSides {A : Type 0} (value : A → ℕ) (g : Grid) (vcs first : ℕ) (sides : Sides (List A)) : Type 0 where
+pub record AreSides {A : Type 0} (value : A → ℕ) (g : Grid) (vcs first : ℕ)
+    (sides : Sides (List A)) : Type 0 where
   pub straight : (q k : ℕ) → q < local_port g → k < LANES
       → slice_index sides.straight.starts q + k ≡ place_straight g ROOM (first + k) q
   pub round : (q k : ℕ) → q < local_port g → k < LANES
@@ -37,9 +38,11 @@ moved_by w vcs false word = up_within w word vcs
 
 -- of the word at a place these channels
 abbrev pub brought_from : {A : Type 0} → (A → ℕ) → ℕ → ℕ → Bool → List A → ℕ → ℕ → ℕ
-brought_from value w vcs down row place mask = bit_and (moved_by w vcs down (word value place row)) mask
+brought_from value w vcs down row place mask =
+    bit_and (moved_by w vcs down (word value place row)) mask
 
 -- what port q brings to router k of the block from one side
 abbrev pub brought_by : {A : Type 0} → (A → ℕ) → ℕ → ℕ → Side (List A) → List A → ℕ → ℕ → ℕ
 brought_by value w vcs side row k q =
-    brought_from value w vcs (nat_eq (q % 2) 0) row (slice_index side.starts q + k) (by_port value side.masks k q)
+    brought_from value w vcs (nat_eq (q % 2) 0) row (slice_index side.starts q + k)
+    (by_port value side.masks k q)

@@ -23,7 +23,8 @@ use Rattle.noc_lanes.specs.declared.channels.Verdicts.{Verdicts}
 use Rattle.noc_blocks.specs.Routers.{column_of}
 
 -- ---- credits come
-pub record TakesCredits (layout : Layout) (came : ℕ) (old new : Outputs ℕ) (what : Returned ℕ) : Type 0 where
+pub record TakesCredits (layout : Layout) (came : ℕ) (old new : Outputs ℕ)
+    (what : Returned ℕ) : Type 0 where
   pub column : (i : Inputs ℕ) (s : Source ℕ)
       → column_of i new s ≡ with_credits layout.places came (column_of i old s)
   pub raised : (i : Inputs ℕ) (s : Source ℕ) → what.raised ≡ lane_raised came (column_of i old s)
@@ -39,7 +40,8 @@ injected_in layout i s o = lane_injected layout.places (column_of i o s)
 abbrev pub ends_in : Layout → Inputs ℕ → Source ℕ → Outputs ℕ → ℕ
 ends_in layout i s o = if nat_eq s.left 1 then injected_in layout i s o else 0
 
-pub record TakesFlits (layout : Layout) (cycle : ℕ) (links : Links ℕ) (i j : Inputs ℕ) (s t : Source ℕ) (what : Arrived ℕ) : Type 0 where
+pub record TakesFlits (layout : Layout) (cycle : ℕ) (links : Links ℕ) (i j : Inputs ℕ)
+    (s t : Source ℕ) (what : Arrived ℕ) : Type 0 where
   pub column : (o : Outputs ℕ)
       → column_of j o s ≡ with_flits layout.places links.flits (column_of i o s)
   pub ended : (o : Outputs ℕ)
@@ -86,7 +88,8 @@ pub record TakesMove (w vcs q selected single : ℕ) (vc : List ℕ) (old new : 
   pub dry : new.dry ≡ bit_or old.dry (dry_by single (channel_by w vcs vc q) selected)
 
 -- of each port the selected channel moves; `before` and `after` are the pointers of the ports
-pub record TakesMoves (w vcs ports picked single : ℕ) (vc : List ℕ) (to_port before after : ℕ → ℕ) (what : Moves ℕ) : Type 0 where
+pub record TakesMoves (w vcs ports picked single : ℕ) (vc : List ℕ)
+    (to_port before after : ℕ → ℕ) (what : Moves ℕ) : Type 0 where
   pub moved : what.moved ≡ union_from 0 ports (selected_by picked to_port before)
   pub out : what.out
       ≡ union_from 0 ports
@@ -110,7 +113,8 @@ effects_of heads d m = record {
 }
 
 -- the words of a router, but for its output channels
-pub record SettlesInputs (vcs ports heads : ℕ) (d : Decided ℕ) (m : Moves ℕ) (i j : Inputs ℕ) : Type 0 where
+pub record SettlesInputs (vcs ports heads : ℕ) (d : Decided ℕ) (m : Moves ℕ)
+    (i j : Inputs ℕ) : Type 0 where
   pub past : ArePast vcs ports i.ahead m.moved j.ahead
   pub column : (layout : Layout) (o : Outputs ℕ) (s : Source ℕ)
       → column_of j o s
@@ -130,7 +134,8 @@ pub record SettlesOutputs (layout : Layout) (out freed : ℕ) (o p : Outputs ℕ
   pub credit : list_of p.credit ≡ lowered_by (list_of o.credit) (bit_and out layout.links)
 
 -- ---- the verdicts of a cycle that are counted by rows, before they take effect
-pub record GivesVerdicts (active filled : ℕ) (standing : Standing ℕ) (losers movers : ℕ) (what : Verdicts ℕ) : Type 0 where
+pub record GivesVerdicts (active filled : ℕ) (standing : Standing ℕ) (losers movers : ℕ)
+    (what : Verdicts ℕ) : Type 0 where
   pub no_credit : what.no_credit ≡ less (bit_and active filled) standing.ready
   pub lost_input : what.lost_input ≡ less standing.ready standing.picked
   pub lost_switch : what.lost_switch ≡ less standing.picked movers

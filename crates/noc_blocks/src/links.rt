@@ -39,8 +39,8 @@ pub struct Sides<T> {
 }
 
 /// What so many link ports bring to each router of a block, of `width` virtual channels each: the
-/// word of each neighbour, of which the channels of the port at the other end are put where those of
-/// this port are.
+/// word of each neighbour, of which the channels of the port at the other end are put where those
+/// of this port are.
 pub fn gather<W: Word>(
     width: u32,
     links: usize,

@@ -39,8 +39,8 @@ unfoldable pub number_by : (ℕ → ℕ) → ℕ → ℕ
 number_by digit zero = 0
 number_by digit (suc n) = number_by digit n + 2 ^ n * digit n
 
--- what a level has of channel k of router j, where sets of four cycles were added `times` times: its
--- bit, and what is pending at it in the times whose number has that bit
+-- what a level has of channel k of router j, where sets of four cycles were added `times` times:
+-- its bit, and what is pending at it in the times whose number has that bit
 abbrev pub at_level : {A : Type 0} → (A → ℕ) → List (List A) → List (List A) → ℕ → ℕ → ℕ → ℕ → ℕ
 at_level value bits pending times j k level =
     one_if (has_bit (word value j (slice_index_or bits level [])) k)

@@ -58,8 +58,8 @@ pub record HasConcludedLane (w : ℕ) (net : Setup) (layout : Layout) (numbering
   pub rest : z ≡ record y { decided = record y.decided { freed = z.decided.freed } }
 
 -- ---- what it grants
--- input channel k of those of a router with so many, when it is still s and has decided d, is granted
--- the output channel that it has taken
+-- input channel k of those of a router with so many, when it is still s and has decided d, is
+-- granted the output channel that it has taken
 pub record IsGranted (channels : ℕ) (s d : Lane) (k : ℕ) : Type 0 where
   pub input : k < channels
   pub out : ℕ
