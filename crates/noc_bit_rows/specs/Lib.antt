@@ -1,2 +1,5 @@
 pub mod Blocks
+pub mod Plans
 pub mod Passes
+pub mod Shows
+pub mod Steps

@@ -1,14 +1,14 @@
 -- What a pass makes of a block that is awake: by its routers, what the contracts of the blocks say.
-use Rattle.std.specs.Prelude.{◌≡◌, ◌≢◌, ℕ, ◌+◌, ◌-◌, ◌<◌, true, List, Option}
+use Rattle.std.specs.Prelude.{◌≡◌, ◌≢◌, ◌⊎◌, ℕ, ◌+◌, ◌-◌, ◌<◌, ◌≤◌, true, List, Option}
 use Rattle.noc_topo.specs.Shape.{Grid, IsGrid, nodes, ports}
 use Rattle.noc_packet.specs.Set.{has_bit}
 use Rattle.noc_packet.specs.declared.packet.Packet.{Packet}
 use Rattle.noc_route.specs.Routes.{Routes}
 use Rattle.noc_sets.specs.Column.{Column}
-use Rattle.noc_sets.specs.Counts.{ByVerdict, with_verdicts}
+use Rattle.noc_sets.specs.Counts.{ByVerdict, RunOn, with_verdicts}
 use Rattle.noc_sets.specs.Cycle.{Links as Leaving}
 use Rattle.noc_sets.specs.Layout.{Layout}
-use Rattle.noc_sets.specs.Source.{Start}
+use Rattle.noc_sets.specs.Source.{NEVER, Start}
 use Rattle.noc_lanes.specs.declared.lanes.TheConstants.{LANES}
 use Rattle.noc_blocks.specs.Blank.{BringsNothing}
 use Rattle.noc_blocks.specs.Numbered.{port_in, vc_in}
@@ -23,9 +23,11 @@ use Rattle.noc_turns.specs.declared.outlook.Outlook.{Outlook}
 use Rattle.noc_turns.specs.declared.pattern.Pattern.{Pattern}
 use Rattle.noc_turns.specs.declared.state.State.{State}
 use Rattle.noc_turns.specs.declared.state.Work.{Work}
-use Rattle.noc_tallies.specs.Doings.{CanDo, owns_after, verdicts_of, waits_after}
+use Rattle.noc_tallies.specs.Doings.{CanDo, Doing, owns_after, verdicts_of, waits_after}
 use Rattle.noc_tallies.specs.Sheets.{AreVerdictsOf}
+use Rattle.noc_tallies.specs.Tallies.{HasOnlyWaited}
 use Rattle.noc_tallies.specs.declared.tallies.Tallies.{Tallies}
+use Rattle.noc_tallies.specs.declared.tallies.TheConstants.{CYCLES}
 use Rattle.noc_wires.specs.Left.{brought}
 use Rattle.noc_bit_rows.specs.Blocks.{NO_LINKS, ShowsTallyOr, came_or, doing_or, lane_or, last_or, pending_or, returned_or, tails_or, working_or}
 
@@ -106,6 +108,19 @@ pub record HasCounted {A : Type 0} (value : A → ℕ) (cycle : ℕ) (state : Op
   pub last : (k : ℕ) → k < LANES
       → AreVerdictsOf (doing_or value state work k) (last_or value new k)
 
+-- that cycle, in which nothing happened in it, is counted so many times more
+pub record HasRepeated {A : Type 0} (value : A → ℕ) (times : ℕ) (old new : Option (Tallies A))
+    : Type 0 where
+  pub counts : (k i n : ℕ) (still : Column) (x : Doing) (before : ByVerdict) → k < LANES
+      → n + times ≤ CYCLES → CanDo still x → AreVerdictsOf x (last_or value old k)
+      → HasOnlyWaited before (with_verdicts (verdicts_of still x) i before)
+      → ShowsTallyOr value old k i n (waits_after still x i) (owns_after still x i)
+      (with_verdicts (verdicts_of still x) i before)
+      → (later : ByVerdict)
+      × RunOn times before (with_verdicts (verdicts_of still x) i before) later
+      × ShowsTallyOr value new k i (n + times) (waits_after still x i) (owns_after still x i) later
+  pub last : (k : ℕ) → k < LANES → last_or value new k ≡ last_or value old k
+
 -- this is known of it after the cycle
 pub record IsOutlook {A : Type 0} (value : A → ℕ) (state : Option (State A))
     (work : Option (Work A)) (outlook : Outlook) : Type 0 where
@@ -126,3 +141,16 @@ pub record HaveArrivedIn (cycle awake blocks : ℕ) (channels : ℕ → ℕ → 
       → ((b k i : ℕ) → b < blocks → has_bit awake b ≡ true → k < LANES
       → has_bit (channels b k) i ≡ true → packet b k i ≢ p)
       → new p ≡ old p
+
+-- ---- what is due
+-- the least of so many numbers from the first one on, NEVER where there is none
+pub record IsNext (first count : ℕ) (numbers : ℕ → ℕ) (next : ℕ) : Type 0 where
+  pub below : (k : ℕ) → k < count → first ≤ numbers k → next ≤ numbers k
+  pub one : (next ≡ NEVER)
+      ⊎ ((k : ℕ) × (k < count) × (first ≤ numbers k) × (numbers k ≡ next))
+
+-- .. of the numbers of the routers of so many blocks
+pub record IsNextOf (first blocks : ℕ) (numbers : ℕ → ℕ → ℕ) (next : ℕ) : Type 0 where
+  pub below : (b k : ℕ) → b < blocks → k < LANES → first ≤ numbers b k → next ≤ numbers b k
+  pub one : (next ≡ NEVER) ⊎ ((b : ℕ) × (k : ℕ) × (b < blocks) × (k < LANES)
+      × (first ≤ numbers b k) × (numbers b k ≡ next))

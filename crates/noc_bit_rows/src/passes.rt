@@ -10,6 +10,7 @@ ghost use Rattle.noc_blocks.specs.declared.links.Sides.{Sides as Wiring};
 ghost use Rattle.noc_turns.specs.Held.{IsAmong, IsPending, MayConclude, MayDecide, MayTake};
 ghost use Rattle.noc_wires.specs.Left.{leaving_of, left_of};
 ghost use Rattle.noc_bit_rows.specs.Blocks.{happened_or, lane_in, pending_or, tails_or, working_in};
+ghost use Rattle.noc_bit_rows.specs.Plans.{IsSound};
 ghost use Rattle.noc_bit_rows.specs.Passes.{HasArrived, HasConcluded, HasCounted, HasDecidedIn, HasGathered, HaveArrivedIn, IsOutlook};
 
 use crate::plan::Plan;
@@ -23,6 +24,7 @@ use noc_wires::{BLOCKS, Left};
 
 // What the links bring is gathered.
 pub(crate) fn gather_all<W: Word>(plan: &Plan<W>, awake: u32, left: &Left<W>, works: &mut [Work<W>])
+    requires plan { IsSound W.value W.bits plan.now }
     requires few { length works.old ≤ BLOCKS }
     requires sides { length plan.now.sides.items ≡ length works.old }
     ensures gathered { (b : ℕ) (one : Wiring (List W)) → slice_get plan.now.sides.items b ≡ Some one
@@ -50,6 +52,7 @@ pub(crate) fn arrive_all<W: Word>(
     states: &mut [State<W>],
     works: &mut [Work<W>],
 )
+    requires plan { IsSound W.value W.bits plan.now }
     requires few { length states.old ≤ BLOCKS }
     requires works { length works.old ≡ length states.old }
     requires lanes { (b k : ℕ) → has_bit awake b ≡ true → k < LANES
@@ -85,6 +88,7 @@ pub(crate) fn decide_all<W: Word>(
     states: &mut [State<W>],
     works: &mut [Work<W>],
 )
+    requires plan { IsSound W.value W.bits plan.now }
     requires few { length states.old ≤ BLOCKS }
     requires works { length works.old ≡ length states.old }
     requires fits { width relation.now.grid relation.now.vcs ≤ W.bits }
@@ -160,6 +164,7 @@ pub(crate) fn conclude_all<W: Word>(
     works: &mut [Work<W>],
     arrivals: &mut [u32],
 )
+    requires plan { IsSound W.value W.bits plan.now }
     requires few { length states.old ≤ BLOCKS }
     requires works { length works.old ≡ length states.old }
     requires tails { (b k : ℕ) → has_bit awake b ≡ true → k < LANES

@@ -2,20 +2,19 @@
 
 ghost use Rattle.std.specs.Prelude.{◌≡◌, ℕ, ◌+◌, ◌<◌, ◌≤◌};
 ghost use Rattle.noc_route.specs.Routes.{width};
-ghost use Rattle.noc_lanes.specs.Channels.{decided_by, moves_by, standing_by, verdicts_by};
+ghost use Rattle.noc_lanes.specs.Channels.{decided_by, moves_by, standing_by};
 ghost use Rattle.noc_lanes.specs.Lanes.{word};
 ghost use Rattle.noc_blocks.specs.Numbered.{port_in, vc_in};
 ghost use Rattle.noc_blocks.specs.Routers.{IsFrame, frame_by};
 ghost use Rattle.noc_blocks.specs.Routing.{AreRoutable, sets_by};
-ghost use Rattle.noc_blocks.specs.Steps.{GivesVerdicts};
 ghost use Rattle.noc_blocks.specs.Turning.{HasDecidedAll};
 ghost use Rattle.noc_turns.specs.Held.{IsAmong, IsPending, MayDecide};
 ghost use Rattle.noc_turns.specs.States.{lane_of, working_of};
 
 use crate::pattern::Pattern;
 use crate::state::{State, Work};
-use noc_blocks::{Guide, allocate_all, move_by_ports, note_tails, note_verdicts, route_all};
-use noc_lanes::{LANES, Lanes, Verdicts, Word};
+use noc_blocks::{Guide, allocate_all, move_by_ports, note_tails, route_all};
+use noc_lanes::{LANES, Word};
 use noc_packet::Packet;
 use noc_route::Relation;
 
@@ -29,14 +28,13 @@ pub struct Traffic<'a> {
 }
 
 /// Output channels are granted, heads are routed, and flits are selected, in a block whose routers
-/// are numbered from the first on. The verdicts that are counted by rows are noted.
+/// are numbered from the first on.
 pub fn decide_block<W: Word>(
     pattern: &Pattern<W>,
     traffic: &Traffic<'_>,
     first: u32,
     state: &mut State<W>,
     work: &mut Work<W>,
-    verdicts: &mut Verdicts<Lanes<W>>,
 )
     requires frame { IsFrame W.bits (frame_by W.value pattern.now.frame) }
     requires fits { width traffic.now.relation.now.grid traffic.now.relation.now.vcs ≤ W.bits }
@@ -55,11 +53,6 @@ pub fn decide_block<W: Word>(
         (lane_of W.value state.new k) (standing_by (word W.value k) work.old.standing)
         (moves_by (word W.value k) work.new.moves)
         (decided_by (word W.value k) work.new.decided) }
-    ensures verdicts { (k : ℕ) → k < LANES
-        → GivesVerdicts (word W.value k state.old.inputs.active)
-        (word W.value k work.old.arrived.filled) (standing_by (word W.value k) work.old.standing)
-        (word W.value k work.new.decided.lost) (word W.value k work.new.moves.moved)
-        (verdicts_by (word W.value k) verdicts.new) }
     ensures tails { (k : ℕ) → k < LANES
         → IsAmong work.new.tails k (word W.value k work.new.decided.released) }
     ensures rest { work.new ≡ record work.old {
@@ -102,13 +95,5 @@ pub fn decide_block<W: Word>(
         &state.inputs.ended,
         &work.arrived.more,
         &mut work.decided.released,
-    );
-    note_verdicts(
-        &state.inputs.active,
-        &work.arrived.filled,
-        &work.standing,
-        &work.decided.lost,
-        &work.moves.moved,
-        verdicts,
     );
 }

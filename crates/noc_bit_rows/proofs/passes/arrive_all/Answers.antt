@@ -28,9 +28,9 @@ arrive_block-requires g c =
       (
         search rules,
         (
-          c.args.plan.now.frame,
+          c.requires.plan.frame,
           (
-            omega (arith, c.args.plan.now.few, ap length c.deref.ensures.value),
+            omega (arith, c.requires.plan.few, ap length c.deref.ensures.value),
             λ k l.
                 subst (λ (xs : List Start). MayTake g.W.Word.bits (starts_by xs) c.args.cycle (links_of value x k) (lane_of value s k)) (sym c.deref.ensures.value)
                 (back2 (λ (o : Option (State g.row.W.Denot)) (p : Option (Work g.row.W.Denot)). MayTake g.W.Word.bits (starts_by c.args.plan.now.starts.items) c.args.cycle (working_or value p k).links (lane_or value o k))

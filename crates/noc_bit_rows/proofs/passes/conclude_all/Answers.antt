@@ -25,9 +25,9 @@ conclude_block-requires g c =
       (
         search rules,
         (
-          c.args.plan.now.frame,
+          c.requires.plan.frame,
           (
-            c.args.plan.now.ports,
+            c.requires.plan.ports,
             (
               λ k l. back (λ (p : Option (Work g.row.W.Denot)). IsAmong (tails_or p) k (working_or value p k).decided.released) _ x work (c.requires.tails t k woken l),
               λ k l. subst (λ n. MayConclude n (lane_of value s k) (working_of value x k)) (sym c.loop-number.invariant.size)

@@ -27,7 +27,7 @@ decide_block-requires g c =
       (
         search rules,
         (
-          c.args.plan.now.frame,
+          c.requires.plan.frame,
           (
             c.requires.fits,
             (

@@ -13,7 +13,7 @@ gather-requires g c =
     let t = c.loop-number.number in
     let one = c.index-sides-number.result in
     let side : slice_get c.args.plan.now.sides.items t ≡ Some one = read c.args.plan.now.sides.items t one (omega (arith, c.requires.sides)) (subst (λ (xs : List (Sides (List g.row.W.Denot))). one ≡ get_or xs t one) c.as_slice-sides.ensures.value c.index-sides-number.is) in
-    (search rules, (one-of (length c.as_slice-sides.result.now) _ _ (omega (arith, c.requires.sides, c.as_slice-sides.ensures.len)) c.as_slice-sides.type_inv.1, (search rules, (c.args.plan.now.frame, (c.args.plan.now.ports, c.args.plan.now.row t one side)))))
+    (search rules, (one-of (length c.as_slice-sides.result.now) _ _ (omega (arith, c.requires.sides, c.as_slice-sides.ensures.len)) c.as_slice-sides.type_inv.1, (search rules, (c.requires.plan.frame, (c.requires.plan.ports, c.requires.plan.row t one side)))))
 
 pub loop-number-preserved : goal.loop-number-preserved
 loop-number-preserved g c =

@@ -1,21 +1,20 @@
-use Rattle.std.proofs.Common.{◌∙◌, ◌+◌, ℕ, List, ap, arith, rules, subst, sym}
+use Rattle.std.proofs.Common.{◌∙◌, ◌+◌, ℕ, List, arith, rules, subst, sym}
 use Rattle.std.specs.Prelude.{slice_index}
 use Rattle.noc_packet.specs.Set.{has_bit}
-use Rattle.noc_lanes.specs.Channels.{moves_by, source_by, standing_by, verdicts_by}
+use Rattle.noc_lanes.specs.Channels.{moves_by, source_by, standing_by}
 use Rattle.noc_lanes.specs.Lanes.{word}
 use Rattle.noc_lanes.specs.declared.channels.Decided.{Decided}
-use Rattle.noc_lanes.specs.declared.channels.Inputs.{Inputs}
 use Rattle.noc_blocks.specs.Allotted.{allotment_at}
 use Rattle.noc_blocks.specs.Marks.{marks_at}
 use Rattle.noc_blocks.specs.Numbered.{port_in, vc_in}
 use Rattle.noc_blocks.specs.Ports.{by_port, digits_of}
 use Rattle.noc_blocks.specs.Routing.{AreHeads, sets_by}
-use Rattle.noc_blocks.specs.Steps.{GivesVerdicts, TakesMoves}
+use Rattle.noc_blocks.specs.Steps.{TakesMoves}
 use Rattle.noc_blocks.specs.Turning.{HasDecidedAll, lane_at}
 use Rattle.noc_blocks.specs.declared.sends.Sends.{Sends}
 use Rattle.noc_blocks.proofs.LaneLemmas.{some-there}
 use Rattle.noc_turns.specs.States.{lane_of}
-use Rattle.noc_turns.proofs.DecidedLemmas.{allotted-inputs, allotted-or-not, allotted-packet, among-none, among-some, decided-lane, marked, moves-same, routed-on}
+use Rattle.noc_turns.proofs.DecidedLemmas.{allotted-or-not, allotted-packet, among-none, among-some, decided-lane, marked, moves-same, routed-on}
 use Rattle.noc_turns.proofs.LaneLemmas.{packet-is, port_turn-is, set-is, taken-is, to_port-is, turned}
 use Rattle.noc_turns.proofs.decide.decide_block.Goals as goal
 
@@ -60,20 +59,6 @@ route_all-requires g c =
 
 pub move_by_ports-requires : goal.move_by_ports-requires
 move_by_ports-requires g c = (search rules, (search rules, c.requires.frame))
-
-pub returns-clause-verdicts : goal.returns-clause-verdicts
-returns-clause-verdicts g c = λ k l.
-    let v = g.W.Word.value in
-    let state = c.args.state.now in
-    let work = c.args.work.now in
-    let all = c.allocate_all.new in
-    let numbering = c.args.pattern.now.numbering in
-    let was = allotment_at v state.inputs state.outputs state.marks state.ports.sends k in
-    let is = allotment_at v all.inputs all.outputs all.marks all.sends k in
-    let which = allotted-or-not g.W.Word.bits (port_in numbering) (vc_in numbering) was is (word v k all.decided.granted) (word v k all.decided.lost) (has_bit work.pending.asking k) (c.allocate_all.ensures.here k l) (c.allocate_all.ensures.others k l) in
-    let inputs = allotted-inputs g.W.Word.bits (port_in numbering) (vc_in numbering) was is (word v k all.decided.granted) (word v k all.decided.lost) which in
-    subst (λ (n : ℕ). GivesVerdicts n (word v k work.arrived.filled) (standing_by (word v k) work.standing) (word v k all.decided.lost) (word v k c.move_by_ports.new.moves.moved) (verdicts_by (word v k) c.note_verdicts.new.verdicts))
-    (ap (λ (i : Inputs ℕ). i.active) inputs) (c.note_verdicts.ensures k l)
 
 pub returns-clause-lanes : goal.returns-clause-lanes
 returns-clause-lanes g c = λ k l.
