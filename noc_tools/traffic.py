@@ -292,8 +292,6 @@ class Demand:
         spots = self.spots or (middle(network),)
         if not all(0 <= spot < network.nodes for spot in spots):
             raise Refused(f"a spot is no node: the nodes are 0 to {network.nodes - 1}")
-        if not 0 <= self.share <= 1:
-            raise Refused("a share is a part of the packets, from 0 to 1")
         return hot_spot(network.nodes, spots, self.share)
 
     def span(self, network: Network) -> int:
@@ -302,6 +300,8 @@ class Demand:
 
     def check(self, network: Network) -> None:
         """Refuses what cannot be had of a network."""
+        if not 0 <= self.share <= 1:
+            raise Refused(f"the share of a hot spot is 0 to 1, not {self.share:g}")
         self.destination(network, Random(self.seed))
         if not all(1 <= length <= LONGEST for length in self.lengths):
             raise Refused(f"a length is 1 to {LONGEST}")
@@ -310,8 +310,6 @@ class Demand:
         if not (0 <= self.load and self.chance <= 1):
             most = "the length of a packet" if self.burst is None else f"{self.load / self.chance:g} in these bursts"
             raise Refused(f"a load is 0 or more, and at most {most}")
-        if not 0 <= self.share <= 1:
-            raise Refused(f"the share of a hot spot is 0 to 1, not {self.share:g}")
         check_classes(self.classes, network)
         if LATEST_DUE < self.span(network) - 1:
             raise Refused(f"noc takes due times up to {LATEST_DUE}: give --cycles")

@@ -316,7 +316,7 @@ class OtherPictures(Drawn):
         self.assertEqual(self.uses("--drain"), ([
             "router 0, +0, to router 1: 3.2 %", "node 0 to its router: 3.2 %", "router 1, local, to its node: 7.9 %",
             "router 2, -0, to router 1: 4.8 %", "node 2 to its router: 4.8 %",
-        ], ["mesh 3, dor, 1 channel of 2 places, 63 cycles"]))
+        ], ["mesh 3, dor, 1 channel of 2 slots, 63 cycles"]))
         self.assertEqual(self.uses("--drain", "--window", "32:40"), ([
             "router 1, local, to its node: 37.5 %",
             "router 2, -0, to router 1: 37.5 %", "node 2 to its router: 37.5 %",
