@@ -3,3 +3,5 @@ pub mod Plans
 pub mod Passes
 pub mod Shows
 pub mod Steps
+pub mod Opened
+pub mod Sizes

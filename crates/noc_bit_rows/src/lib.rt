@@ -7,6 +7,7 @@
 
 mod laws;
 mod network;
+mod open;
 mod passes;
 mod plan;
 mod waits;

@@ -23,23 +23,23 @@ use noc_wires::{Left, tell};
 #[derive(Drop)]
 pub(crate) struct Network<W: Word> {
     // What it was made from.
-    plan: Plan<W>,
+    pub(crate) plan: Plan<W>,
     // What each block keeps.
-    states: Vec<State<W>>,
+    pub(crate) states: Vec<State<W>>,
     // What each works out in a cycle.
-    works: Vec<Work<W>>,
+    pub(crate) works: Vec<Work<W>>,
     // What was counted of each.
-    tallies: Vec<Tallies<W>>,
+    pub(crate) tallies: Vec<Tallies<W>>,
     // What is known of each after the last cycle.
-    outlooks: Vec<Outlook>,
+    pub(crate) outlooks: Vec<Outlook>,
     // What has left all routers in the last cycle.
-    left: Left<W>,
+    pub(crate) left: Left<W>,
     // By packet, the cycle in which its tail was out, `NEVER` before that.
-    arrivals: Vec<u32>,
+    pub(crate) arrivals: Vec<u32>,
     // The cycle after the one in which something last happened, 0 before the first such.
-    last: u32,
+    pub(crate) last: u32,
     // How many cycles have run.
-    cycle: u32,
+    pub(crate) cycle: u32,
 }
 
 impl<W: Word> Network<W> {
