@@ -6,10 +6,10 @@ from pathlib import Path
 from .drawing import draw_study
 from .errors import Refused
 from .measure import check_network, told_of_short_runs
-from .plan import Case, number_word, read_plan
+from .plan import LOAD, Case, number_word, read_plan
 from .program import processors
 from .results import HEADER, Results, Row, make_all, value_of
-from .table import LOAD, Combination, Value, combinations_of, rows_of, table_text
+from .table import Combination, Value, combinations_of, rows_of, table_text
 from .traffic import Played
 
 

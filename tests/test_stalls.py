@@ -320,7 +320,7 @@ class OtherPictures(Drawn):
         self.assertEqual(self.uses("--drain", "--window", "32:40"), ([
             "router 1, local, to its node: 37.5 %",
             "router 2, -0, to router 1: 37.5 %", "node 2 to its router: 37.5 %",
-        ], ["mesh 3, dor, 1 channel of 2 places, cycles 32 to 39"]))
+        ], ["mesh 3, dor, 1 channel of 2 slots, cycles 32 to 39"]))
         report = self.noc("run", "c", "t", "--drain", "--report", "stalls").stdout
         self.assertEqual(self.said("stalls", "c", "--traffic", "t", "--drain"), self.said("stalls", "c", given=report))
         self.put(c=Network("torus", (4,), 1, 1, 1, "dor", 2), t=(self.folder / "examples/ring.csv").read_text())
