@@ -14,9 +14,7 @@ from .traffic import Packet
 
 # The cycle of what did not happen, and of what is not known: later than all cycles.
 NEVER = 1 << 62
-# The last field of a line of a latency report; and in a trace the cycle and the packet where a head is routed that came
-# in at its node.
-LATENCY = re.compile(rb",([0-9]+|-)\n")
+# In a trace the cycle and the packet where a head is routed that came in at its node.
 CAME_IN = re.compile(rb"\n([0-9]+),[0-9]+,local,[0-9],Routed,([0-9]+)")
 
 
@@ -47,8 +45,8 @@ class Columns(NamedTuple):
 
 
 def outs_in(report: bytes, dues: Iterable[int]) -> list[int]:
-    """When packets that are due then were out, by a latency report."""
-    latencies = LATENCY.findall(report)
+    """When packets that are due then were out, by the latencies that end the lines of a report."""
+    latencies = [line.rpartition(b",")[2] for line in report.split(b"\n")[1:-1]]
     return [NEVER if latency == b"-" else due + int(latency) for due, latency in zip(dues, latencies)]
 
 
