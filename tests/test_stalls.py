@@ -325,7 +325,7 @@ class OtherPictures(Drawn):
         self.assertEqual(self.said("stalls", "c", "--traffic", "t", "--drain"), self.said("stalls", "c", given=report))
         self.put(c=Network("torus", (4,), 1, 1, 1, "dor", 2), t=(self.folder / "examples/ring.csv").read_text())
         self.assertEqual(self.uses("--drain"), ([f"node {node} to its router: 20.0 %" for node in range(4)], [
-            "torus 4, dor, 1 channel of 1 place, 5 cycles",
+            "torus 4, dor, 1 channel of 1 slot, 5 cycles",
         ]))
 
     def test_a_run_that_is_made_is_drawn_as_its_report(self):
