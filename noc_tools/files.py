@@ -1,7 +1,7 @@
 """Files as texts and as rows of CSV; what cannot be read is refused with a sentence."""
 import csv
 import sys
-from collections.abc import Iterable, Sequence
+from collections.abc import Iterable, Iterator, Sequence
 from io import StringIO
 from pathlib import Path
 from typing import TextIO
@@ -35,11 +35,16 @@ def read_lines(path: str | Path, kind: str, name: str | None = None) -> Iterable
     return StringIO(read_text(path, kind, name), newline="")
 
 
-def csv_rows(lines: Iterable[str], kind: str, name: str) -> list[list[str]]:
-    """The rows of CSV of some kind, without empty ones."""
+def each_row(lines: Iterable[str], kind: str, name: str) -> Iterator[list[str]]:
+    """The rows of CSV of some kind, one by one, without empty ones."""
     unread = f"{name} is no {kind}: "
     with refusing(csv.Error, unread), refusing(UnicodeDecodeError, f"{unread}it is not UTF-8"):
-        return [row for row in csv.reader(lines) if row]
+        yield from filter(None, csv.reader(lines))
+
+
+def csv_rows(lines: Iterable[str], kind: str, name: str) -> list[list[str]]:
+    """All of them."""
+    return list(each_row(lines, kind, name))
 
 
 def named_rows(lines: Iterable[str], header: Sequence[str], kind: str, name: str) -> list[dict[str, str]]:

@@ -3,46 +3,97 @@
 It is cut from a traffic with which the network gets stuck, by delta debugging: halves of it are left out, then quarters
 and so on. The first such traffic is made for a circle of dependencies: of packets that are permitted one of its steps.
 """
-from collections.abc import Callable, Iterator, Sequence
+from collections.abc import Callable, Iterable, Iterator, Sequence
 from dataclasses import dataclass
+from functools import cache, partial
 from itertools import islice, product
+from pathlib import Path
 from random import Random
+from tempfile import TemporaryDirectory
 
 from .errors import Refused
 from .network import LOCAL, Network
 from .program import STUCK, call
 from .ranks import Dependency, NoRanks, ranks_found
-from .relation import Relation, Steps, checked_relation
+from .relation import TABLE_HEADER, Channels, Goal, Relation, Steps, checked_relation, of_network
 from .runs import Config, Run, config_file
 from .traffic import LONGEST, MOST_PACKETS, UNIFORM, Demand, Packet, Row, below, traffic_text
 from .words import counted
 
 # The traffics that are tried for a circle: so many packets for each of its dependencies and each channel of a link, of
 # those that are permitted it so many that have least choice.
-REACH, COPIES = (1, 4, 64), (1, 4, 16, 64)
+COPIES, REACH = (1, 2, 3, 4, 6, 8, 12, 16, 24, 32, 48, 64), (1, 2, 4, 16)
 # And the loads, lengths and cycles of the uniform traffics that are tried after these.
 LOADS, LENGTHS, SPAN = (0.3, 1), (1, 4, 16, LONGEST), 500
 # A source, a destination and a class.
 Way = tuple[int, int, int]
 IsStuck = Callable[[Sequence[Row]], bool]
+Change = Callable[[list[Row]], list[Row]]
+
+
+class Excerpt:
+    """The table of a relation, cut down to what packets of some ways meet: wherever else packets come to, it permits
+    one channel. noc reads its table in each run, and runs of these packets do not differ."""
+
+    def __init__(self, relation: Relation) -> None:
+        self.relation = relation
+        self.folder = TemporaryDirectory(prefix="noc-")
+        self.path = str(Path(self.folder.name) / "table.csv")
+        self.ways: set[Way] = set()
+        self.part = cache(self.part_of)
+
+    def part_of(self, goal: Goal, sources: frozenset[int]) -> str:
+        """The lines for a class and a destination, with packets from these routers."""
+        message_class, destination = goal
+        met = self.relation.reached(message_class, destination, sources)
+
+        def permitted(message_class: int, channel: int, router: int, destination: int) -> Sequence[int]:
+            onward = self.relation.permitted(message_class, channel, router, destination)
+            return onward if channel in met else onward[:1]
+
+        lines = Relation(self.relation.channels, permitted).lines(message_class, destination)
+        return "".join(f"{line}\n" for line in lines)
+
+    def file_for(self, ways: set[Way]) -> str:
+        """The path of a table for these ways; it is made anew where it lacks some, or has twice as many."""
+        if not (ways <= self.ways and len(self.ways) < 2 * len(ways)):
+            self.ways = ways
+            network = self.relation.channels.network
+            goals = product(range(network.classes), range(network.nodes))
+            sources: dict[Goal, set[int]] = {goal: set() for goal in goals}
+            for source, destination, message_class in ways:
+                sources[message_class, destination].add(source)
+            parts = (self.part(goal, frozenset(some)) for goal, some in sources.items())
+            Path(self.path).write_text("".join([f"{TABLE_HEADER}\n", *parts]))
+        return self.path
 
 
 class Trials:
     """A network with which traffics are tried."""
 
-    def __init__(self, config: Config, table: str | None = None) -> None:
-        self.config, self.table = config_file(config), table
+    def __init__(self, config: Config, relation: Relation) -> None:
+        self.config = config_file(config)
+        self.excerpt = Excerpt(relation) if relation.channels.network.rule == "table" else None
+        self.known: dict[tuple[Row, ...], bool] = {}
+
+    def table_for(self, rows: Iterable[Row]) -> str | None:
+        """The path of a table for these packets, where the network has one."""
+        return self.excerpt.file_for({row[:3] for row in rows}) if self.excerpt else None
 
     def is_stuck(self, rows: Sequence[Row]) -> bool:
-        """Whether a run of these packets gets stuck."""
-        table = ["--table", self.table] if self.table else []
-        words = "run", self.config.path, "/dev/stdin", *table, "--report", "summary"
-        return call(*words, given=traffic_text(rows))[0] == STUCK
+        """Whether a run of these packets gets stuck; how those of different nodes are numbered makes no difference."""
+        queues = tuple(sorted(rows, key=lambda row: row[0]))
+        if queues not in self.known:
+            table = self.table_for(rows)
+            words = "run", self.config.path, "/dev/stdin", *(["--table", table] if table else [])
+            self.known[queues] = call(*words, "--report", "summary", given=traffic_text(rows))[0] == STUCK
+        return self.known[queues]
 
     def without_bystanders(self, rows: list[Row]) -> list[Row]:
         """Of a traffic that gets stuck the packets that are in the network at the end where these do, or those that
         ever came into it."""
-        run = Run(self.config.path, (Packet(number, *row) for number, row in enumerate(rows)), self.table)
+        packets = (Packet(number, *row) for number, row in enumerate(rows))
+        run = Run(self.config.path, packets, self.table_for(rows))
         last = run.network.cycles - 1
         inside = {finding.packet for finding in run.trace(first=last, last=last)}
         left = [packet.row for packet in run.packets if packet.number in inside]
@@ -64,8 +115,9 @@ def sources(relation: Relation, steps: Steps, channel: int) -> list[int]:
 
 
 def ways_over(relation: Relation, circle: Sequence[Dependency]) -> list[list[Way]]:
-    """For each dependency of a circle the packets that may go over it; those that have least choice come first."""
-    network, channels = relation.channels.network, relation.channels
+    """For each dependency of a circle the packets that may go over it; those that have least choice come first, and of
+    these the ones that go least far."""
+    network = relation.channels.network
     found: list[list[tuple[int, int, Way]]] = [[] for _ in circle]
     for message_class in range(network.classes):
         for destination in range(network.nodes):
@@ -73,7 +125,7 @@ def ways_over(relation: Relation, circle: Sequence[Dependency]) -> list[list[Way
             for ways, (_, _, (channel, *onward)) in zip(found, circle):
                 if onward[0] in steps.get(channel, ()):
                     for source in sources(relation, steps, channel):
-                        hops = network.distance(source, channels.end(channel))
+                        hops = network.distance(source, destination)
                         ways.append((len(steps[channel]), hops, (source, destination, message_class)))
     return [[way for *_, way in sorted(ways)] for ways in found]
 
@@ -82,7 +134,8 @@ def traffics_for(network: Network, ways: Sequence[Sequence[Way]]) -> Iterator[li
     """Traffics of packets over a circle, at first one for each dependency, and then ever more, by chance; and after
     these, packets of all nodes to all others."""
     yield [(*first, LONGEST, 0) for first, *_ in ways]
-    for number, (reach, copies, length) in enumerate(product(REACH, COPIES, (1, network.buffer, LONGEST))):
+    lengths = 1, network.buffer, LONGEST
+    for number, (length, copies, reach) in enumerate(product(lengths, COPIES, REACH)):
         random = Random(number)
         nearest = [choice[:reach] for choice in ways]
         rows = [(*choice[below(random, len(choice))], length, 0) for choice in nearest * network.channels * copies]
@@ -108,35 +161,39 @@ def jam_on(relation: Relation, circle: Sequence[Dependency], is_stuck: IsStuck) 
 # ---- and what is cut from it
 
 
-def fewest(rows: list[Row], is_stuck: IsStuck) -> list[Row]:
-    """Of a traffic that gets stuck a part that does, too, and from which no packet can be left out."""
-    size, is_cut = len(rows), True
-    while 1 < size or is_cut:
-        size, is_cut, start = max(1, size // 2), False, 0
-        while start < len(rows) and 1 < len(rows):
-            rest = rows[:start] + rows[start + size:]
-            if rest and is_stuck(rest):
-                rows, is_cut = rest, True
+def changed(rows: list[Row], size: int, change: Change, is_stuck: IsStuck) -> list[Row]:
+    """Of a traffic that gets stuck one that does, too, in which parts are changed: of half of this size, then of a
+    quarter, and at last single packets, of which none can be changed any more."""
+    is_changed = True
+    while 1 < size or is_changed:
+        size, is_changed, start = max(1, size // 2), False, 0
+        while start < len(rows):
+            part = change(rows[start:start + size])
+            other = [*rows[:start], *part, *rows[start + size:]]
+            if other and other != rows and is_stuck(other):
+                rows, is_changed = other, True
+                start += len(part)
             else:
                 start += size
     return rows
 
 
-def with_length(rows: list[Row], number: int, length: int) -> list[Row]:
-    """A traffic in which one packet has another length."""
-    source, destination, message_class, _, due = rows[number]
-    return [*rows[:number], (source, destination, message_class, length, due), *rows[number + 1:]]
+def fewest(rows: list[Row], is_stuck: IsStuck) -> list[Row]:
+    """Of a traffic that gets stuck a part that does, too, and from which no packet can be left out."""
+    return changed(rows, len(rows), lambda part: [], is_stuck)
+
+
+def shorter(rows: list[Row], by: int) -> list[Row]:
+    """The packets, those that have more flits than these without so many."""
+    return [(*row[:3], row[3] - by, row[4]) if by < row[3] else row for row in rows]
 
 
 def shortest(rows: list[Row], is_stuck: IsStuck) -> list[Row]:
     """A traffic that gets stuck with shorter packets, each of which alone is as short as it can be at last."""
-    for number, (*_, longest, _) in enumerate(rows):
-        length, step = longest, longest - 1
-        while step:
-            if step < length and is_stuck(shorter := with_length(rows, number, length - step)):
-                rows, length = shorter, length - step
-            else:
-                step //= 2
+    rows = changed(rows, 2 * len(rows), lambda part: [(*row[:3], 1, row[4]) for row in part], is_stuck)
+    by = LONGEST
+    while by := by // 2:
+        rows = changed(rows, 1, partial(shorter, by=by), is_stuck)
     return rows
 
 
@@ -182,7 +239,7 @@ def jam_of_circle(config: str, table: str | None = None) -> Jam:
     try:
         ranks_found(relation)
     except NoRanks as reason:
-        trials = Trials(config, table)
+        trials = Trials(config, relation)
         return cut(trials, jam_on(relation, reason.circle, trials.is_stuck), reason.circle)
     raise Refused("no traffic gets stuck: the network has ranks (noc-tools certify --find)")
 
@@ -192,5 +249,5 @@ def jam_within(config: str, traffic: str, table: str | None = None) -> Jam:
     run = Run(config, traffic, table)
     if run.status != STUCK:
         raise Refused(f"a run of {run.traffic.name} does not get stuck")
-    rows = [packet.row for packet in run.packets]
-    return cut(Trials(run.config.path, table), rows)
+    relation = of_network(Channels(run.network), table)
+    return cut(Trials(run.config.path, relation), [packet.row for packet in run.packets])

@@ -13,11 +13,9 @@ from .errors import Refused
 from .files import named_rows, read_lines
 from .network import Network
 from .program import report
-from .relation import TABLE_HEADER, Channels, Relation, Steps, of_table_rule
+from .relation import TABLE_HEADER, Channels, Goal, Relation, Steps, of_table_rule
 from .rules import table_rule
 
-# A class and a destination.
-Goal = tuple[int, int]
 Ranks = dict[int, int]
 RANK_COLUMNS = ["router", "port", "vc", "rank"]
 ADAPTIVE = "adaptive"
@@ -229,7 +227,9 @@ def read_ranks(channels: Channels, path: str | Path) -> Ranks:
 def table_file(relation: Relation) -> Iterator[str]:
     """The lines of a table file."""
     yield TABLE_HEADER
-    yield from (",".join(map(str, row)) for row in relation.rows())
+    for message_class in range(relation.channels.network.classes):
+        for destination in relation.nodes:
+            yield from relation.lines(message_class, destination)
 
 
 def checked_table(network: Network, rule: str, folder: Path) -> str:

@@ -5,23 +5,26 @@ A channel is a number here, in the order of router, port and channel. A link cha
 and its output port there, an injection channel its router and the port 'local'. Ejection channels are left out: no
 packet goes on from them.
 """
-from collections.abc import Callable, Collection, Iterator
+from collections.abc import Callable, Iterable, Iterator, Sequence
 from functools import cache
+from itertools import islice
 from pathlib import Path
 
 from .errors import refusing
-from .files import csv_rows, read_lines
+from .files import each_row, read_lines
 from .network import LOCAL, Network, opposite
 from .program import report
 from .rules import RULES, TableRule, Way
 from .traffic import traffic_text
 
+# A class and a destination.
+Goal = tuple[int, int]
 TABLE_HEADER = "class,router,in_port,in_vc,dst,out_port,out_vc"
 # The link channels by which a packet may go on: from its class, the channel on which it is, the router at which that
 # ends, and its destination, another router. Each of them leads nearer to the destination.
-Permitted = Callable[[int, int, int, int], Collection[int]]
+Permitted = Callable[[int, int, int, int], Sequence[int]]
 # Each channel that packets reach, with the link channels to which it leads.
-Steps = dict[int, Collection[int]]
+Steps = dict[int, Sequence[int]]
 
 
 # The end of a port that has no link.
@@ -108,7 +111,7 @@ class Relation:
         arrived[destination] = {}
         hops = self.channels.network.hop_table[destination]
         for router in sorted(self.nodes, key=lambda router: -hops[router]):
-            last: Collection[int] | None = None
+            last: Sequence[int] | None = None
             for channel in arrived[router]:
                 is_there = router == destination
                 onward = () if is_there else self.permitted(message_class, channel, router, destination)
@@ -119,17 +122,27 @@ class Relation:
                 last = onward
         return found
 
-    def rows(self) -> Iterator[tuple[int, int, str, int, int, str, int]]:
-        """The rows of a table with this relation; at the destination the local channels of the packet's class."""
-        network, channels = self.channels.network, self.channels
-        for message_class in range(network.classes):
-            out: list[Way] = [(LOCAL, number) for number in network.block(message_class)]
-            for destination in self.nodes:
-                for channel, onward in self.steps(message_class, destination).items():
-                    router, in_port, in_vc = channels.entered(channel)
-                    ways = [channels.parts(following)[1:] for following in onward]
-                    for out_port, out_vc in out if router == destination else ways:
-                        yield message_class, router, in_port, in_vc, destination, out_port, out_vc
+    def reached(self, message_class: int, destination: int, sources: Iterable[int]) -> set[int]:
+        """The channels that such packets reach from some routers."""
+        waiting = [channel for source in sources for channel in self.channels.injection(source)]
+        found: set[int] = set()
+        for channel in waiting:
+            router = self.channels.end(channel)
+            if channel not in found and router != destination:
+                waiting += self.permitted(message_class, channel, router, destination)
+            found.add(channel)
+        return found
+
+    def lines(self, message_class: int, destination: int) -> Iterator[str]:
+        """The lines of a table for such packets; at the destination the local channels of their class."""
+        channels = self.channels
+        out: list[Way] = [(LOCAL, number) for number in channels.network.block(message_class)]
+        for channel, onward in self.steps(message_class, destination).items():
+            router, in_port, in_vc = channels.entered(channel)
+            ways = [channels.parts(following)[1:] for following in onward]
+            entry = f"{message_class},{router},{in_port},{in_vc},{destination}"
+            for out_port, out_vc in out if router == destination else ways:
+                yield f"{entry},{out_port},{out_vc}"
 
 
 def of_network(channels: Channels, table: str | Path | None = None) -> Relation:
@@ -172,21 +185,33 @@ def of_table(channels: Channels, path: str | Path) -> Permitted:
     """What a table permits."""
     rows = read_rows(channels, path)
 
-    def permitted(message_class: int, channel: int, _: int, destination: int) -> Collection[int]:
+    def permitted(message_class: int, channel: int, _: int, destination: int) -> Sequence[int]:
         return rows.get((message_class, destination), {}).get(channel, ())
 
     return permitted
 
 
-def read_rows(channels: Channels, path: str | Path) -> dict[tuple[int, int], dict[int, dict[int, None]]]:
+def read_rows(channels: Channels, path: str | Path) -> dict[Goal, dict[int, Sequence[int]]]:
     """For each class and destination the link channels to which a table leads from each channel."""
-    found: dict[tuple[int, int], dict[int, dict[int, None]]] = {}
-    lines = csv_rows(read_lines(path, "table"), "table", str(path))
+    goal = cache(lambda message_class, destination: (int(message_class), int(destination)))
+    entering = cache(lambda router, port, vc: channels.entering(int(router), port, int(vc)))
+    number = cache(lambda router, port, vc: channels.number(int(router), port, int(vc)))
+    found: dict[Goal, dict[int, dict[int, None]]] = {}
+    rows = each_row(read_lines(path, "table"), "table", str(path))
     with refusing((ValueError, KeyError), f"{path} is no table of this network: "):
-        for message_class, router, in_port, in_vc, destination, out_port, out_vc in lines[1:]:
+        for message_class, router, in_port, in_vc, destination, out_port, out_vc in islice(rows, 1, None):
             if out_port != LOCAL:
-                goal = int(message_class), int(destination)
-                channel = channels.entering(int(router), in_port, int(in_vc))
-                following = channels.number(int(router), out_port, int(out_vc))
-                found.setdefault(goal, {}).setdefault(channel, {})[following] = None
+                entries = found.setdefault(goal(message_class, destination), {})
+                onward = entries.setdefault(entering(router, in_port, in_vc), {})
+                onward[number(router, out_port, out_vc)] = None
+    return {each: with_shared_values(entries) for each, entries in found.items()}
+
+
+def with_shared_values(entries: dict[int, dict[int, None]]) -> dict[int, Sequence[int]]:
+    """The same; channels that lead to the same ones share their value, so that what follows is worked out once."""
+    values: dict[tuple[int, ...], tuple[int, ...]] = {}
+    found: dict[int, Sequence[int]] = {}
+    for channel, onward in entries.items():
+        value = tuple(onward)
+        found[channel] = values.setdefault(value, value)
     return found

@@ -13,7 +13,7 @@ from random import Random
 from support import HEADER, LINE, FolderTest
 
 from noc_tools.network import Network
-from noc_tools.ranks import NoRanks, first_found
+from noc_tools.ranks import NoRanks, first_found, table_file
 from noc_tools.relation import TABLE_HEADER, Channels, Relation, of_network
 from noc_tools.rules import dimension_order_port
 
@@ -170,6 +170,10 @@ class RankTest(FolderTest):
         lines = [",".join(map(str, row)) for row in rows]
         self.put(table="\n".join([TABLE_HEADER, *lines, ""]))
 
+    def put_relation(self, relation):
+        """Writes a relation as a table."""
+        self.put(table="".join(f"{line}\n" for line in table_file(relation)))
+
     def check(self, ranks, *words):
         """What the program says of a rank file."""
         self.put(r=ranks)
@@ -273,7 +277,7 @@ class OfThePackage(RankTest):
         the network."""
         random = Random(3)
         for network, _ in RULES:
-            self.put_table(of_network(self.put_network(network)).rows())
+            self.put_relation(of_network(self.put_network(network)))
             self.put(t=crowd(network, random), by_table=replace(network, rule="table"))
             for report in "stalls", "latency":
                 words = "t", "--report", report
@@ -379,7 +383,7 @@ class Ranks(RankTest):
             ways = [(router, port, 0)] + [(router, "+1", 1)] * ((router, destination) == (1, 5))
             return [channels.number(*way) for way in ways]
 
-        self.put_table(Relation(channels, permitted).rows())
+        self.put_relation(Relation(channels, permitted))
         rows = csv.DictReader(self.said("ranks", "c", "--table", "table", "--escape", "0").splitlines())
         ranks = {(row["router"], row["port"]): row["rank"] for row in rows if row["vc"] == "0"}
         in_order = [int(ranks[channel]) for channel in (("3", "-1"), ("0", "+0"), ("4", "+0"))]

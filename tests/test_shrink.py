@@ -1,16 +1,18 @@
 """The smallest jam: what delta debugging leaves of rows, and which packets get stuck on networks that have a circle."""
 import unittest
 from dataclasses import replace
+from pathlib import Path
+from random import Random
 from unittest.mock import patch
 
 from support import HEADER, LINE, FolderTest
 
-from noc_tools import jam
+from noc_tools import jam, program
 from noc_tools.network import Network
-from noc_tools.relation import Channels, Relation
-from noc_tools.rules import nearer_ports
 from noc_tools.ranks import table_file
-from noc_tools.traffic import read_traffic
+from noc_tools.relation import Channels, Relation, checked_relation
+from noc_tools.rules import nearer_ports
+from noc_tools.traffic import read_traffic, traffic_text
 
 RING = Network("torus", (4,), 1, 1, 1, "dor", 60)
 # Each of them holds one of the four channels of the ring, whichever way it is cut.
@@ -82,9 +84,62 @@ class OfRows(unittest.TestCase):
         self.assertEqual(jam.smallest(self.rows(8, 1), is_stuck), self.rows(1))
 
 
+class OfTrials(FolderTest):
+    def outs(self, rows, *words):
+        """The packets, each with when it is out."""
+        self.put(t=traffic_text(rows))
+        return [(row, found["out"]) for row, found in zip(rows, self.report("run", "c", "t", *words))]
+
+    def excerpt_of(self, network):
+        """The excerpt of the table by which packets may go any minimal way."""
+        self.put(c=network, table=minimal_adaptive(network))
+        return jam.Excerpt(checked_relation(str(self.folder / "c"), str(self.folder / "table")))
+
+    def test_an_excerpt_of_a_table_runs_alike(self):
+        """For packets of its ways, in networks with more of these than they take, and it has fewer lines."""
+        random = Random(5)
+        for network in (
+            Network("mesh", (4, 4), 2, 2, 1, "table", 80), Network("torus", (3, 4), 2, 1, 2, "table", 80),
+            Network("mesh", (2, 3, 2), 4, 2, 2, "table", 80),
+        ):
+            excerpt = self.excerpt_of(network)
+            for nodes in (3, 5):
+                nodes = random.sample(range(network.nodes), nodes)
+                ways = [(*random.sample(nodes, 2), random.randrange(network.classes)) for _ in range(12)]
+                rows = [(*random.choice(ways), 1 + random.randrange(9), random.randrange(20)) for _ in range(90)]
+                path = excerpt.file_for({row[:3] for row in rows})
+                self.assertEqual(self.outs(rows, "--table", path), self.outs(rows, "--table", "table"))
+                lines = [(self.folder / each).read_text().count("\n") for each in (path, "table")]
+                self.assertLess(*lines)
+
+    def test_an_excerpt_is_made_anew_where_it_lacks_ways_or_has_too_many(self):
+        excerpt = self.excerpt_of(Network("mesh", (4, 4), 2, 2, 1, "table", 80))
+        first, second, third = (0, 15, 0), (3, 12, 0), (12, 3, 0)
+        texts = [Path(excerpt.file_for(ways)).read_text() for ways in (
+            {first, second, third}, {first, second}, {first}, {first, second, third},
+        )]
+        self.assertEqual([texts[0] == text for text in texts], [True, True, False, True])
+
+    def test_how_packets_of_different_nodes_are_numbered_makes_no_difference(self):
+        """A run of those of one node after those of the other is not asked for again; the order at a node matters."""
+        self.put(c=RING)
+        trials = jam.Trials(RING, checked_relation(str(self.folder / "c")))
+        with patch.object(jam, "call", wraps=jam.call) as call:
+            first, *others = OF_THE_RING
+            more = 0, 1, 0, 1, 0
+            for rows, runs in ([first, *others], 1), ([*others, first], 1), ([more, first], 2), ([first, more], 3):
+                self.assertEqual((trials.is_stuck(rows), call.call_count), (runs == 1, runs))
+        random = Random(7)
+        for network in (LINE, Network("mesh", (3, 3), 2, 2, 1, "adaptive", 60)):
+            self.put(c=network)
+            rows = [(*random.sample(range(network.nodes), 2), 0, 1 + random.randrange(6), 0) for _ in range(40)]
+            by_node = sorted(rows, key=lambda row: row[0])
+            self.assertEqual(sorted(self.outs(by_node)), sorted(self.outs(rows)))
+
+
 class OfNetworks(FolderTest):
     def is_stuck(self, rows, *words):
-        self.put(tried=HEADER + "".join("%d,%d,%d,%d,%d\n" % row for row in rows))
+        self.put(tried=traffic_text(rows))
         return self.noc("run", "c", "tried", *words).returncode == 5
 
     def look_at(self, rows, *words):
@@ -129,16 +184,36 @@ class OfNetworks(FolderTest):
         self.assertEqual(sorted(rows_of(self.folder / "jam")), sorted(OF_THE_RING * 2))
 
     def test_minimal_adaptive_routing_without_escape(self):
-        """On 6 by 6 routers, by fewer than 250 runs."""
-        for channels in (1, 2):
-            network = Network("mesh", (6, 6), channels, 2, 1, "table", 300)
+        """On 8 by 8 routers, by fewer than 250 runs, and with tables that are read in no time."""
+        for channels, most in (1, 15), (2, 30), (4, 80):
+            network = Network("mesh", (8, 8), channels, 2, 1, "table", 300)
             self.put(c=network, table=minimal_adaptive(network))
-            config, table = str(self.folder / "c"), str(self.folder / "table")
-            with patch.object(jam, "call", wraps=jam.call) as call:
-                found = jam.jam_of_circle(config, table)
-            self.assertLess(call.call_count, 250)
-            self.assertLessEqual(len(found.rows), 30)
+            sizes = []
+
+            def call(*words, given):
+                sizes.append(Path(words[words.index("--table") + 1]).stat().st_size)
+                return program.call(*words, given=given)
+
+            with patch.object(jam, "call", call):
+                found = jam.jam_of_circle(str(self.folder / "c"), str(self.folder / "table"))
+            self.assertLess(len(sizes), 250)
+            self.assertLess(max(sizes), 700_000)
+            self.assertLessEqual(len(found.rows), most)
             self.look_at(found.rows, "--table", "table")
+
+    def test_a_traffic_on_a_table(self):
+        """Packets of 16 flits between all nodes, of which the first hundred are enough."""
+        network = Network("mesh", (6, 6), 1, 4, 1, "table", 2000)
+        self.put(c=network, table=minimal_adaptive(network))
+        self.put(t=self.said("traffic", "c", "uniform", "0.45", "16"))
+        self.said("shrink", "c", "t", "--table", "table", "--out", "jam")
+        rows, given = rows_of(self.folder / "jam"), rows_of(self.folder / "t")
+        self.assertLess(len(rows), 30)
+        self.look_at(rows, "--table", "table")
+        # (each is one of the traffic, in its order, but for its length)
+        behind = iter(given)
+        for row in rows:
+            self.assertTrue(any(row[:3] == other[:3] and row[4] == other[4] for other in behind))
 
     def test_what_is_refused(self):
         self.put(out=HEADER + "0,1,0,1,0\n")

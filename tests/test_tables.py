@@ -5,7 +5,8 @@ from dataclasses import replace
 
 from test_ranks import RankTest, network
 
-from noc_tools.relation import Channels, of_network, of_table_rule
+from noc_tools.ranks import table_file
+from noc_tools.relation import TABLE_HEADER, Channels, of_network, of_table_rule
 from noc_tools.rules import TABLE_RULES
 
 
@@ -86,6 +87,6 @@ class Tables(RankTest):
                 rows = self.put_made(made, "dateline-even")
                 self.assertAccepted("--table", "table")
                 self.assertEqual(self.check(formula, "--table", "table"), "accepted\n")
-                found = sorted(",".join(row.values()) for row in rows)
-                plain = sorted(",".join(map(str, row)) for row in of_network(Channels(made)).rows())
-                self.assertEqual(found == plain, radix == (5, 3))
+                found = [TABLE_HEADER, *(",".join(row.values()) for row in rows)]
+                plain = table_file(of_network(Channels(made)))
+                self.assertEqual(sorted(found) == sorted(plain), radix == (5, 3))
