@@ -116,5 +116,5 @@ class Parts(unittest.TestCase):
     def test_ci_installs_what_it_can(self):
         """One that is refused keeps none of the others; and only root may install."""
         last, told = "2 passed, 0 failed", "ci: not installed:"
-        self.assertEqual(self.ci(0), ([f"{told} mypy", last], ["update", *["install"] * 4]))
-        self.assertEqual(self.ci(1000), ([f"{told} chromium iverilog mypy flake8", last], []))
+        self.assertEqual(self.ci(0), ([f"{told} mypy", last], ["update", *["install"] * 5]))
+        self.assertEqual(self.ci(1000), ([f"{told} chromium iverilog verilator mypy flake8", last], []))

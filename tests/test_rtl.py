@@ -1,7 +1,8 @@
 """The network in SystemVerilog of tests/rtl, run by Icarus Verilog: it agrees with the program cycle by cycle, and what
-is wrong in a mutant is found by 'compare' and by the assertions."""
+is wrong in a mutant is found by 'compare' and by the assertions. Verilator binds these to the design."""
 import re
 import shutil
+import subprocess
 import unittest
 from dataclasses import replace
 
@@ -12,7 +13,8 @@ from noc_tools.findings import VERDICTS, snake
 from noc_tools.network import Network
 
 ICARUS = shutil.which("iverilog") and shutil.which("vvp")
-SOURCES = ["flit", "round_robin", "flit_buffer", "router", "source", "network", "checks", "bench"]
+CHECKER = "noc_router_checker.sv"
+SOURCES = ["flit", "round_robin", "flit_buffer", "router", "source", "network", "bench"]
 MESH = Network("mesh", (3, 3), 2, 2, 1, "dor", 1000)
 RING = Network("torus", (4,), 2, 3, 1, "dateline", 1000)
 WIDE = Network("mesh", (4, 2), 4, 2, 2, "dor", 1000)
@@ -41,11 +43,11 @@ MUTANTS = {
         5, "freed",
     ),
     "a move without a credit": (
-        "router", "count[i] != 0 && has_credit[i];", "count[i] != 0;", LINE, FULL,
+        "router", "flits[i] != 0 && has_credit[i];", "flits[i] != 0;", LINE, FULL,
         "cycle 4, router 0, local.0: the design moves a flit, and the model does not (NoCredit).", 4, "move_credit",
     ),
     "a flit that is dropped where the buffer is read": (
-        "router", ".write(lands)", ".write(lands && !moved[i])", LINE, FULL,
+        "router", ".write(landing[i])", ".write(landing[i] && !moved[i])", LINE, FULL,
         "cycle 4, router 0, local.0: the model says NoCredit, and the design NoFlit.", 9, "flits_kept",
     ),
     "a flit that is lost on a link": (
@@ -61,11 +63,11 @@ BROKEN = {
     "grant_in_turn": (
         "round_robin", "distance = SIZE - 1; distance >= 0; distance--", "distance = 0; distance < SIZE; distance++",
     ),
-    "move_flit": ("router", "state[i] == ACTIVE && count[i] != 0 &&", "state[i] == ACTIVE &&"),
+    "move_flit": ("router", "state[i] == ACTIVE && flits[i] != 0 &&", "state[i] == ACTIVE &&"),
     "move_in_turn": ("router", "picked[i] && port_wins[i / CHANNELS];", "picked[i];"),
-    "buffer_room": ("router", "count[i] != 0 && has_credit[i];", "count[i] != 0;"),
-    "one_owner": ("router", "idle_outputs[o] = output_state[o] == FREE;", "idle_outputs[o] = 1;"),
-    "credits_kept": ("router", "credits[o] - sent + comes_back;", "credits[o] + comes_back;"),
+    "buffer_room": ("router", "flits[i] != 0 && has_credit[i];", "flits[i] != 0;"),
+    "one_owner": ("router", "idle[o] = output_state[o] == FREE;", "idle[o] = 1;"),
+    "credits_kept": ("router", "credits[o] - sent + credit_in[o];", "credits[o] + credit_in[o];"),
     "credit_back": ("router", "p != LOCAL && port_wins[p];", "port_wins[p];"),
     "no_link": ("network", "assign flit_in_valid[p] = 0;", "assign flit_in_valid[p] = 1;"),
     "routed_kept": ("router", "first.tail) state[i] <= IDLE;", "first.tail) state[i] <= WAITING;"),
@@ -77,27 +79,63 @@ BROKEN = {
 }
 
 
+# Each assertion as its file has it: its name, its law, and the parts of that.
+ASSERTED = (TOP / "noc_tools/assertions.sv").read_text()
+LAWS = re.findall(r"// (\w+), (\w+) \(([\w, ]+)\):\n", ASSERTED)
+# Where the parts of a law stand: they are fields of a record in a file.
+RECORDS = {"every_cycle_is_right": ("Headline", "IsRightCycle"), "verdicts_take_effect": ("Effects", "IsRightStep")}
+
+
+def has_verilator():
+    """Whether there is a Verilator that knows delays, and the compiler that it needs."""
+    if not all(map(shutil.which, ["verilator", "g++", "make"])):
+        return False
+    version = subprocess.run(["verilator", "--version"], capture_output=True, text=True).stdout
+    return version.startswith("Verilator 5")
+
+
 def broken_by(said):
     """The assertions that failed in a simulation."""
     return set(re.findall(r"^ERROR: .*: (\w+): router", said, re.MULTILINE))
 
 
-@unittest.skipUnless(ICARUS, "there is no Icarus Verilog here")
-class Rtl(FolderTest):
-    def simulated(self, network, traffic, edit=None, checks=False):
-        """Runs the design, with an edit of one of its sources, and returns what the simulation says."""
+class Laws(unittest.TestCase):
+    def test_the_page_has_those_of_the_assertions(self):
+        self.assertEqual([name for name, _, _ in LAWS], re.findall(r'\$error\("(\w+): ', ASSERTED))
+        rows = re.findall(r"^\| `(\w+)` \| `(\w+)` \(([`\w, ]+)\) \|", (TOP / "docs/RTL.md").read_text(), re.MULTILINE)
+        self.assertEqual(sorted((name, law, parts.replace("`", "")) for name, law, parts in rows), sorted(LAWS))
+
+    def test_they_are_proved_and_have_these_parts(self):
+        crate = TOP / "crates/noc_theory_headline"
+        for law, (file, record) in RECORDS.items():
+            self.assertRegex((crate / "src/laws.rt").read_text(), rf"fn {law}\(\)\n(?: .*\n)*? .*\b{record}\b")
+            text = (crate / f"specs/{file}.antt").read_text()
+            (fields,) = re.findall(rf"^pub record {record} .*\n((?: .*\n)+)", text, re.MULTILINE)
+            parts = {part for _, other, some in LAWS if other == law for part in some.split(", ")}
+            self.assertLessEqual(parts, set(re.findall(r"^  pub (\w+) :", fields, re.MULTILINE)))
+
+
+class RtlTest(FolderTest):
+    def put_design(self, network, traffic, edit=None):
+        """Writes the design, with an edit of one of its sources, the checker and all that they read; their names, and
+        the parameters of the bench."""
         self.put(c=network, t=traffic, **{f"{name}.sv": (TOP / f"tests/rtl/{name}.sv").read_text() for name in SOURCES})
         if edit:
             source, old, new = edit
             text = (self.folder / f"{source}.sv").read_text()
             self.assertEqual(text.count(old), 1)
             self.put(**{f"{source}.sv": text.replace(old, new)})
-        sources = [f"{name}.sv" for name in SOURCES if checks or name != "checks"]
-        if checks:
-            self.tool("assertions", "c", "--out", "made.sv")
-            sources += ["made.sv", "-DCHECKS"]
+        self.tool("assertions", "c", "--out", CHECKER)
         parameters = write_inputs(self.folder / "c", self.folder / "t", self.folder)
-        given = [f"-Pbench.{name}={value}" for name, value in parameters.items()]
+        return [*(f"{name}.sv" for name in SOURCES), CHECKER], parameters
+
+
+@unittest.skipUnless(ICARUS, "there is no Icarus Verilog here")
+class Rtl(RtlTest):
+    def simulated(self, network, traffic, edit=None, checks=False):
+        """Runs the design, with an edit of one of its sources, and returns what the simulation says."""
+        sources, parameters = self.put_design(network, traffic, edit)
+        given = [*(f"-Pbench.{name}={value}" for name, value in parameters.items()), *(["-DCHECKS"] if checks else [])]
         built = self.called(["iverilog", "-g2012", "-Wall", "-s", "bench", "-o", "design", *given, *sources])
         self.assertEqual((built.returncode, built.stdout + built.stderr), (0, ""))
         ran = self.called(["vvp", "-N", "design"])
@@ -163,3 +201,33 @@ class Rtl(FolderTest):
         for name, edit in BROKEN.items():
             with self.subTest(name):
                 self.assertIn(name, broken_by(self.simulated(TWO_CHANNELS, CROWD, edit, checks=True)))
+
+
+@unittest.skipUnless(has_verilator(), "there is no Verilator 5 with g++ and make here")
+class InVerilator(RtlTest):
+    def test_the_checker_is_clean(self):
+        """Of networks of all shapes, and of sizes for which a count has no bits to spare."""
+        for network in (
+            LINE, MESH, RING, WIDE, Network("mesh", (2,), 1, 16, 1, "dor", 20),
+            Network("mesh", (2, 3, 2), 8, 1, 4, "dor", 20), Network("torus", (16, 16), 3, 7, 1, "dor", 20),
+        ):
+            self.put(c=network)
+            self.tool("assertions", "c", "--out", CHECKER)
+            ran = self.called(["verilator", "--lint-only", "-Wall", CHECKER])
+            self.assertEqual((ran.returncode, ran.stdout + ran.stderr), (0, ""))
+
+    def test_it_is_bound_by_the_line_of_the_page(self):
+        """No assertion fails, but for one where the design begins with a credit too many."""
+        (line,) = re.findall(r"^bind .*", (TOP / "docs/RTL.md").read_text(), re.MULTILINE)
+        source, old, new = MUTANTS["a credit too many"][:3]
+        either = old.replace("BUFFER;", 'BUFFER + $test$plusargs("wrong");')
+        sources, parameters = self.put_design(LINE, FULL, (source, old, either))
+        self.put(**{"bind.sv": line})
+        given = [*(f"-G{name}={value}" for name, value in parameters.items()), "-MAKEFLAGS", "OPT_GLOBAL=-O0"]
+        words = ["verilator", "--binary", "--assert", "-Wno-fatal", "--top-module", "bench", "-o", "design"]
+        built = self.called([*words, *given, *sources, "bind.sv"])
+        self.assertEqual(built.returncode, 0, built.stderr)
+        right, wrong = (self.called(["obj_dir/design", *more]).stdout for more in ([], ["+wrong"]))
+        self.assertIn("$finish", right)
+        self.assertNotIn("Error", right)
+        self.assertIn("credit_room: router 0, ", wrong)
