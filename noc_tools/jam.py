@@ -4,16 +4,18 @@ It is cut from a traffic with which the network gets stuck, by delta debugging: 
 and so on. The first such traffic is made for a circle of dependencies: of packets that are permitted one of its steps.
 """
 from collections.abc import Callable, Iterable, Iterator, Sequence
+from concurrent.futures import ThreadPoolExecutor
 from dataclasses import dataclass
 from functools import cache, partial
-from itertools import islice, product
+from itertools import compress, islice, product
 from pathlib import Path
 from random import Random
 from tempfile import TemporaryDirectory
+from threading import Lock
 
 from .errors import Refused
 from .network import LOCAL, Network
-from .program import STUCK, call
+from .program import STUCK, call, free_processors
 from .ranks import Dependency, NoRanks, ranks_found
 from .relation import TABLE_HEADER, Channels, Goal, Relation, Steps, checked_relation, of_network
 from .runs import Config, Run, config_file
@@ -25,10 +27,15 @@ from .words import counted
 COPIES, REACH = (1, 2, 3, 4, 6, 8, 12, 16, 24, 32, 48, 64), (1, 2, 4, 16)
 # And the loads, lengths and cycles of the uniform traffics that are tried after these.
 LOADS, LENGTHS, SPAN = (0.3, 1), (1, 4, 16, LONGEST), 500
+# So many runs are made at a time where processors are free.
+MOST_AT_A_TIME = 8
 # A source, a destination and a class.
 Way = tuple[int, int, int]
-IsStuck = Callable[[Sequence[Row]], bool]
 Change = Callable[[list[Row]], list[Row]]
+# A traffic in which a part is changed, and the place behind this part.
+Variant = tuple[list[Row], int]
+# Finds the first of some traffics that gets stuck.
+First = Callable[[Iterator[Variant]], Variant | None]
 
 
 class Excerpt:
@@ -38,7 +45,7 @@ class Excerpt:
     def __init__(self, relation: Relation) -> None:
         self.relation = relation
         self.folder = TemporaryDirectory(prefix="noc-")
-        self.path = str(Path(self.folder.name) / "table.csv")
+        self.paths: list[Path] = []
         self.ways: set[Way] = set()
         self.part = cache(self.part_of)
 
@@ -54,9 +61,9 @@ class Excerpt:
         lines = Relation(self.relation.channels, permitted).lines(message_class, destination)
         return "".join(f"{line}\n" for line in lines)
 
-    def file_for(self, ways: set[Way]) -> str:
-        """The path of a table for these ways; it is made anew where it lacks some, or has twice as many."""
-        if not (ways <= self.ways and len(self.ways) < 2 * len(ways)):
+    def file_for(self, ways: set[Way]) -> Path:
+        """A table for these ways; another one is made where the last one lacks some, or has twice as many."""
+        if not (self.paths and ways <= self.ways and len(self.ways) < 2 * len(ways)):
             self.ways = ways
             network = self.relation.channels.network
             goals = product(range(network.classes), range(network.nodes))
@@ -64,21 +71,25 @@ class Excerpt:
             for source, destination, message_class in ways:
                 sources[message_class, destination].add(source)
             parts = (self.part(goal, frozenset(some)) for goal, some in sources.items())
-            Path(self.path).write_text("".join([f"{TABLE_HEADER}\n", *parts]))
-        return self.path
+            self.paths.append(Path(self.folder.name) / f"table_{len(self.paths)}.csv")
+            self.paths[-1].write_text("".join([f"{TABLE_HEADER}\n", *parts]))
+        return self.paths[-1]
 
 
 class Trials:
-    """A network with which traffics are tried."""
+    """A network with which traffics are tried, as many at a time as processors are free."""
 
     def __init__(self, config: Config, relation: Relation) -> None:
         self.config = config_file(config)
         self.excerpt = Excerpt(relation) if relation.channels.network.rule == "table" else None
         self.known: dict[tuple[Row, ...], bool] = {}
+        self.lock = Lock()
+        self.width = min(free_processors(), MOST_AT_A_TIME)
 
     def table_for(self, rows: Iterable[Row]) -> str | None:
         """The path of a table for these packets, where the network has one."""
-        return self.excerpt.file_for({row[:3] for row in rows}) if self.excerpt else None
+        with self.lock:
+            return str(self.excerpt.file_for({row[:3] for row in rows})) if self.excerpt else None
 
     def is_stuck(self, rows: Sequence[Row]) -> bool:
         """Whether a run of these packets gets stuck; how those of different nodes are numbered makes no difference."""
@@ -88,6 +99,15 @@ class Trials:
             words = "run", self.config.path, "/dev/stdin", *(["--table", table] if table else [])
             self.known[queues] = call(*words, "--report", "summary", given=traffic_text(rows))[0] == STUCK
         return self.known[queues]
+
+    def first_stuck(self, variants: Iterator[Variant]) -> Variant | None:
+        """The first of these traffics that gets stuck."""
+        with ThreadPoolExecutor(self.width) as pool:
+            while some := list(islice(variants, self.width)):
+                stuck = pool.map(self.is_stuck, [rows for rows, _ in some])
+                if found := next(compress(some, stuck), None):
+                    return found
+        return None
 
     def without_bystanders(self, rows: list[Row]) -> list[Row]:
         """Of a traffic that gets stuck the packets that are in the network at the end where these do, or those that
@@ -147,12 +167,12 @@ def traffics_for(network: Network, ways: Sequence[Sequence[Way]]) -> Iterator[li
         yield list(islice(demand.rows(network), MOST_PACKETS))
 
 
-def jam_on(relation: Relation, circle: Sequence[Dependency], is_stuck: IsStuck) -> list[Row]:
+def jam_on(relation: Relation, circle: Sequence[Dependency], first: First) -> list[Row]:
     """A traffic that gets stuck, made for a circle."""
     network = relation.channels.network
-    for rows in traffics_for(network, ways_over(relation, circle)):
-        if is_stuck(rows):
-            return rows
+    found = first((rows, 0) for rows in traffics_for(network, ways_over(relation, circle)))
+    if found is not None:
+        return found[0]
     cycles = counted(network.cycles, "cycle")
     made = f"there is a circle of dependencies, but no traffic that was made for it gets stuck within {cycles}"
     raise Refused(f"{made}; other escape channels may have ranks (noc-tools ranks --escape C,..)")
@@ -161,26 +181,29 @@ def jam_on(relation: Relation, circle: Sequence[Dependency], is_stuck: IsStuck) 
 # ---- and what is cut from it
 
 
-def changed(rows: list[Row], size: int, change: Change, is_stuck: IsStuck) -> list[Row]:
+def variants(rows: list[Row], start: int, size: int, change: Change) -> Iterator[Variant]:
+    """A traffic with one part of this size changed in turn, from a place on."""
+    for begin in range(start, len(rows), size):
+        part = change(rows[begin:begin + size])
+        other = [*rows[:begin], *part, *rows[begin + size:]]
+        if other and other != rows:
+            yield other, begin + len(part)
+
+
+def changed(rows: list[Row], size: int, change: Change, first: First) -> list[Row]:
     """Of a traffic that gets stuck one that does, too, in which parts are changed: of half of this size, then of a
     quarter, and at last single packets, of which none can be changed any more."""
     is_changed = True
     while 1 < size or is_changed:
         size, is_changed, start = max(1, size // 2), False, 0
-        while start < len(rows):
-            part = change(rows[start:start + size])
-            other = [*rows[:start], *part, *rows[start + size:]]
-            if other and other != rows and is_stuck(other):
-                rows, is_changed = other, True
-                start += len(part)
-            else:
-                start += size
+        while found := first(variants(rows, start, size, change)):
+            (rows, start), is_changed = found, True
     return rows
 
 
-def fewest(rows: list[Row], is_stuck: IsStuck) -> list[Row]:
+def fewest(rows: list[Row], first: First) -> list[Row]:
     """Of a traffic that gets stuck a part that does, too, and from which no packet can be left out."""
-    return changed(rows, len(rows), lambda part: [], is_stuck)
+    return changed(rows, len(rows), lambda part: [], first)
 
 
 def shorter(rows: list[Row], by: int) -> list[Row]:
@@ -188,21 +211,21 @@ def shorter(rows: list[Row], by: int) -> list[Row]:
     return [(*row[:3], row[3] - by, row[4]) if by < row[3] else row for row in rows]
 
 
-def shortest(rows: list[Row], is_stuck: IsStuck) -> list[Row]:
+def shortest(rows: list[Row], first: First) -> list[Row]:
     """A traffic that gets stuck with shorter packets, each of which alone is as short as it can be at last."""
-    rows = changed(rows, 2 * len(rows), lambda part: [(*row[:3], 1, row[4]) for row in part], is_stuck)
+    rows = changed(rows, 2 * len(rows), lambda part: [(*row[:3], 1, row[4]) for row in part], first)
     by = LONGEST
     while by := by // 2:
-        rows = changed(rows, 1, partial(shorter, by=by), is_stuck)
+        rows = changed(rows, 1, partial(shorter, by=by), first)
     return rows
 
 
-def smallest(rows: list[Row], is_stuck: IsStuck) -> list[Row]:
+def smallest(rows: list[Row], first: First) -> list[Row]:
     """Of a traffic that gets stuck one from which no packet can be left out, nor a flit be taken from one."""
-    rows, before = fewest(rows, is_stuck), list[Row]()
+    rows, before = fewest(rows, first), list[Row]()
     while rows != before:
         before = rows
-        rows = fewest(shortest(rows, is_stuck), is_stuck)
+        rows = fewest(shortest(rows, first), first)
     return rows
 
 
@@ -230,7 +253,7 @@ def size_of(rows: Sequence[Row]) -> str:
 
 def cut(trials: Trials, rows: list[Row], circle: Sequence[Dependency] = ()) -> Jam:
     """The jam that is left of a traffic that gets stuck."""
-    return Jam(smallest(trials.without_bystanders(rows), trials.is_stuck), rows, circle)
+    return Jam(smallest(trials.without_bystanders(rows), trials.first_stuck), rows, circle)
 
 
 def jam_of_circle(config: str, table: str | None = None) -> Jam:
@@ -240,7 +263,7 @@ def jam_of_circle(config: str, table: str | None = None) -> Jam:
         ranks_found(relation)
     except NoRanks as reason:
         trials = Trials(config, relation)
-        return cut(trials, jam_on(relation, reason.circle, trials.is_stuck), reason.circle)
+        return cut(trials, jam_on(relation, reason.circle, trials.first_stuck), reason.circle)
     raise Refused("no traffic gets stuck: the network has ranks (noc-tools certify --find)")
 
 

@@ -3,6 +3,7 @@ import unittest
 from dataclasses import replace
 from pathlib import Path
 from random import Random
+from time import sleep
 from unittest.mock import patch
 
 from support import HEADER, LINE, FolderTest
@@ -12,7 +13,7 @@ from noc_tools.network import Network
 from noc_tools.ranks import table_file
 from noc_tools.relation import Channels, Relation, checked_relation
 from noc_tools.rules import nearer_ports
-from noc_tools.traffic import read_traffic, traffic_text
+from noc_tools.traffic import Demand, read_traffic, traffic_text
 
 RING = Network("torus", (4,), 1, 1, 1, "dor", 60)
 # Each of them holds one of the four channels of the ring, whichever way it is cut.
@@ -42,11 +43,11 @@ class OfRows(unittest.TestCase):
         self.calls = 0
 
     def stuck_where(self, holds):
-        """A predicate of the sources and lengths of rows, whose calls are counted."""
-        def is_stuck(rows):
+        """Finds the first traffic whose sources and lengths are such that it holds; those looked at are counted."""
+        def is_stuck(variant):
             self.calls += 1
-            return holds({row[0]: row[3] for row in rows})
-        return is_stuck
+            return holds({row[0]: row[3] for row in variant[0]})
+        return lambda variants: next(filter(is_stuck, variants), None)
 
     @staticmethod
     def rows(*lengths):
@@ -54,8 +55,8 @@ class OfRows(unittest.TestCase):
 
     def test_what_is_needed_is_left(self):
         """Three of 1000, by fewer calls than one for each tenth of them."""
-        is_stuck = self.stuck_where(lambda found: {3, 500, 998} <= set(found))
-        left = jam.fewest(self.rows(*[1] * 1000), is_stuck)
+        first = self.stuck_where(lambda found: {3, 500, 998} <= set(found))
+        left = jam.fewest(self.rows(*[1] * 1000), first)
         self.assertEqual([row[0] for row in left], [3, 500, 998])
         self.assertLess(self.calls, 100)
 
@@ -73,15 +74,15 @@ class OfRows(unittest.TestCase):
         self.assertEqual([row[0] for row in jam.fewest(self.rows(1, 1, 1), needed)], [0])
 
     def test_lengths_fall_to_what_is_needed(self):
-        is_stuck = self.stuck_where(lambda found: found[0] >= 3 and found[1] >= 17 and found[2] >= 1)
-        left = jam.shortest(self.rows(64, 64, 64), is_stuck)
+        first = self.stuck_where(lambda found: found[0] >= 3 and found[1] >= 17 and found[2] >= 1)
+        left = jam.shortest(self.rows(64, 64, 64), first)
         self.assertEqual([row[3] for row in left], [3, 17, 1])
         self.assertLess(self.calls, 40)
 
     def test_a_shorter_packet_may_make_another_one_needless(self):
         """Packet 1 is needed only where packet 0 has more than two flits."""
-        is_stuck = self.stuck_where(lambda found: 0 in found and (1 in found or found[0] <= 2))
-        self.assertEqual(jam.smallest(self.rows(8, 1), is_stuck), self.rows(1))
+        first = self.stuck_where(lambda found: 0 in found and (1 in found or found[0] <= 2))
+        self.assertEqual(jam.smallest(self.rows(8, 1), first), self.rows(1))
 
 
 class OfTrials(FolderTest):
@@ -135,6 +136,29 @@ class OfTrials(FolderTest):
             rows = [(*random.sample(range(network.nodes), 2), 0, 1 + random.randrange(6), 0) for _ in range(40)]
             by_node = sorted(rows, key=lambda row: row[0])
             self.assertEqual(sorted(self.outs(by_node)), sorted(self.outs(rows)))
+
+    def test_several_runs_at_a_time_find_the_same_as_one_after_the_other(self):
+        """The first traffic that gets stuck in the order of these, though others end sooner."""
+        network = Network("mesh", (4, 4), 1, 2, 1, "table", 300)
+        self.put(c=network, table=minimal_adaptive(network))
+        relation = checked_relation(str(self.folder / "c"), str(self.folder / "table"))
+        rows, found = list(Demand("uniform", 0.5, 2, cycles=40).rows(network)), []
+        for width in 1, 3:
+            with patch.object(jam, "free_processors", return_value=width):
+                trials = jam.Trials(network, relation)
+                self.assertTrue(trials.is_stuck(rows))
+                found.append(jam.cut(trials, rows).rows)
+        self.assertEqual(found[0], found[1])
+        slow, quick, never = ([(0, node, 0, 1, 0)] for node in (1, 2, 3))
+
+        def is_stuck(rows):
+            sleep(0.2 if rows == slow else 0)
+            return rows != never
+
+        with patch.object(trials, "is_stuck", is_stuck):
+            in_turn = ((rows, place) for place, rows in enumerate([never, slow, quick, quick]))
+            self.assertEqual(trials.first_stuck(in_turn), (slow, 1))
+            self.assertIsNone(trials.first_stuck(iter([(never, 0)] * 5)))
 
 
 class OfNetworks(FolderTest):
