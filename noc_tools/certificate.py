@@ -112,11 +112,16 @@ def with_pages(files: Files, name: str, title: str, blocks: list[Block], repeate
 # ---- making a folder, and making it again
 
 
-def write(files: Mapping[str, bytes], out: str) -> None:
-    """Puts the files into a folder, which is empty or not there."""
+def check_room(out: str) -> None:
+    """Refuses what is there, but for an empty folder."""
     folder = Path(out)
     if folder.exists() and not (folder.is_dir() and not any(folder.iterdir())):
         raise Refused(f"{out} is there, and is no empty folder")
+
+
+def write(files: Mapping[str, bytes], out: str) -> None:
+    """Puts the files into a folder, which is empty or not there."""
+    folder = Path(out)
     folder.mkdir(parents=True, exist_ok=True)
     for name, data in files.items():
         (folder / name).write_bytes(data)

@@ -272,5 +272,5 @@ def jam_within(config: str, traffic: str, table: str | None = None) -> Jam:
     run = Run(config, traffic, table)
     if run.status != STUCK:
         raise Refused(f"a run of {run.traffic.name} does not get stuck")
-    relation = of_network(Channels(run.network), table)
+    relation = of_network(Channels(run.network), run.table.path if run.table else None)
     return cut(Trials(run.config.path, relation), [packet.row for packet in run.packets])

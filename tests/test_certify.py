@@ -132,7 +132,7 @@ class Folders(CertificateTest):
             ("certify", "CONFIG and --out FOLDER are needed"),
             ("certify c", "CONFIG and --out FOLDER are needed"),
             ("certify --out out", "CONFIG and --out FOLDER are needed"),
-            ("certify c --out examples", "examples is there, and is no empty folder"),
+            ("certify nothing --out examples", "examples is there, and is no empty folder"),
             ("certify c --out file", "file is there, and is no empty folder"),
             ("certify nothing --out out", "nothing: No such file or directory"),
             ("certify ring --out out", "dor on a torus has no ranks by formula: give --ranks F, or --find"),

@@ -6,7 +6,7 @@ from random import Random
 from time import sleep
 from unittest.mock import patch
 
-from support import HEADER, LINE, FolderTest
+from support import HEADER, LINE, TOP, FolderTest
 
 from noc_tools import jam, program
 from noc_tools.network import Network
@@ -200,6 +200,10 @@ class OfNetworks(FolderTest):
         self.said("shrink", "examples/turns.toml", *words, "--out", "jam")
         found = {row[:4] for row in rows_of(self.folder / "jam")}
         self.assertEqual(found, {(0, 3, 0, 1), (1, 2, 0, 1), (3, 0, 0, 1), (2, 1, 0, 1)})
+        given = (TOP / "examples/turns_table.csv").read_text()
+        words = "examples/turns.toml", "examples/turns.csv", "--table", "-"
+        said = self.said("shrink", *words, "--out", "jam", given=given)
+        self.assertEqual(said, "4 packets with 4 flits in all get stuck (cut from 4 packets with 32 flits in all)\n")
 
     def test_two_channels_on_each_link(self):
         """Both channels of each of the four links are to be held, by a packet each."""

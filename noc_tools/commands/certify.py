@@ -22,7 +22,7 @@ CONFIG and the F are read many times, so they are files and no pipes.
 from argparse import ArgumentParser, Namespace
 
 from ..arguments import add, add_table, warn
-from ..certificate import CERTIFICATE, COUNTEREXAMPLE, Inputs, made_with_ranks, stuck, verify, write
+from ..certificate import CERTIFICATE, COUNTEREXAMPLE, Inputs, check_room, made_with_ranks, stuck, verify, write
 from ..errors import Refused
 from ..jam import jam_of_circle
 from ..ranks import NoRanks
@@ -52,6 +52,7 @@ def main(options: Namespace) -> int:
         return verified(options)
     if not (options.config and options.out):
         raise Refused("CONFIG and --out FOLDER are needed, or --verify FOLDER")
+    check_room(options.out)
     inputs = Inputs(options.config, options.table, options.ranks)
     try:
         write(made_with_ranks(inputs, options.find), options.out)
