@@ -222,10 +222,9 @@ def shortest(rows: list[Row], first: First) -> list[Row]:
 
 def smallest(rows: list[Row], first: First) -> list[Row]:
     """Of a traffic that gets stuck one from which no packet can be left out, nor a flit be taken from one."""
-    rows, before = fewest(rows, first), list[Row]()
-    while rows != before:
-        before = rows
-        rows = fewest(shortest(rows, first), first)
+    rows = fewest(rows, first)
+    while (short := shortest(rows, first)) != rows:
+        rows = fewest(short, first)
     return rows
 
 
