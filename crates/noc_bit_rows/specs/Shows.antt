@@ -115,6 +115,14 @@ pub record ShowsAt {A : Type 0} (value : A → ℕ) (w : ℕ) (net : Setup) (n :
   pub known : (b : ℕ) (outlook : Outlook) → slice_get all.outlooks.items b ≡ Some outlook
       → IsKnown value b (slice_get all.states.items b) all.left outlook
 
+-- it may run cycle n, by this relation
+pub record MayRun {A : Type 0} (value : A → ℕ) (w : ℕ) (relation : Routes) (net : Setup) (n : ℕ)
+    (all : Network A) : Type 0 where
+  pub good : IsGoodSetup net
+  pub is : net.relation ≡ relation
+  pub few : n < CYCLE_LIMIT
+  pub shows : ShowsAt value w net n all
+
 -- it may run cycle n, by this relation, in which these blocks are awake
 pub record MayStep {A : Type 0} (value : A → ℕ) (w : ℕ) (relation : Routes) (awake : ℕ)
     (net : Setup) (n : ℕ) (all : Network A) : Type 0 where

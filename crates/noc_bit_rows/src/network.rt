@@ -7,7 +7,7 @@ ghost use Rattle.noc_turns.specs.contracts.state.State as state_type;
 ghost use Rattle.noc_turns.specs.contracts.state.Work as work_type;
 ghost use Rattle.noc_tallies.specs.contracts.tallies.Tallies as tallies_type;
 ghost use Rattle.noc_wires.specs.contracts.left.Left as left_type;
-ghost use Rattle.noc_bit_rows.specs.Shows.{MayStep, ShowsAt};
+ghost use Rattle.noc_bit_rows.specs.Shows.{MayRun, ShowsAt};
 
 use crate::passes::{
     arrive_all, conclude_all, count_all, decide_all, gather_all, look_all, put_all,
@@ -17,7 +17,7 @@ use noc_lanes::Word;
 use noc_route::Relation;
 use noc_tallies::Tallies;
 use noc_turns::{Outlook, State, Work};
-use noc_wires::{Left, tell};
+use noc_wires::{Left, tell, wake};
 
 /// A network by blocks of words of one width.
 #[derive(Drop)]
@@ -43,19 +43,22 @@ pub(crate) struct Network<W: Word> {
 }
 
 impl<W: Word> Network<W> {
-    // Runs one cycle, by the relation that it was made for, in which these blocks are awake.
-    pub(crate) fn step(&mut self, relation: &Relation, awake: u32)
+    // Runs one cycle, by the relation that it was made for.
+    pub(crate) fn step(&mut self, relation: &Relation)
         requires state_fits { FitsInMemory (state_type.the_row W.row) }
         requires work_fits { FitsInMemory (work_type.the_row W.row) }
         requires tallies_fit { FitsInMemory (tallies_type.the_row W.row) }
         requires left_fits { FitsInMemory (left_type.the_row W.row) }
         requires may { (net : Setup) × (n : ℕ)
-            × MayStep W.value W.bits relation.now awake net n self.old }
+            × MayRun W.value W.bits relation.now net n self.old }
         ensures { (net : Setup) (n : ℕ)
-            → MayStep W.value W.bits relation.now awake net n self.old
+            → MayRun W.value W.bits relation.now net n self.old
             → ShowsAt W.value W.bits net (n + 1) self.new }
     {
         let plan = &self.plan;
+        let outlooks = self.outlooks.as_slice();
+        let near = plan.near.as_slice();
+        let awake = wake(outlooks, near, self.cycle).awake;
         let states = self.states.as_mut_slice();
         let works = self.works.as_mut_slice();
         let tallies = self.tallies.as_mut_slice();

@@ -14,6 +14,10 @@ use Rattle.noc_turns.specs.declared.state.State.{State}
 use Rattle.noc_tallies.specs.declared.tallies.Tallies.{Tallies}
 use Rattle.noc_wires.specs.Telling.{IsTelling, Telling, lane_in as told_lane, packets_in, with_packets}
 use Rattle.noc_bit_rows.specs.Blocks.{happened_or, lane_in, working_in}
+use Rattle.noc_wires.specs.Waking.{is_awake}
+use Rattle.noc_theory.specs.Network.{Setup}
+use Rattle.noc_route.specs.Routes.{Routes}
+use Rattle.noc_bit_rows.specs.Shows.{MayRun, MayStep}
 use Rattle.noc_bit_rows.specs.Passes.{HasArrived, HasConcluded, HasCounted, HasDecidedIn, HaveArrivedIn, IsOutlook}
 use Rattle.noc_bit_rows.specs.declared.network.Network.{Network}
 use Rattle.noc_bit_rows.specs.Steps.{HasStepped}
@@ -25,16 +29,38 @@ use Rattle.noc_bit_rows.proofs.network.Network.step.Goals as goal
 fits-of : (g : given.Over) (x : g.row.W.Denot) → g.W.Word.value x < 2 ^ 64
 fits-of g x = fits-most g.W.Word.bits (g.W.Word.value x) g.met.W.Word.few (g.met.W.Word.fits x)
 
+-- what a cycle may rest on, where the blocks that are awake are worked out
+may-step : {A : Type 0} (value : A → ℕ) (w : ℕ) (relation : Routes) (net : Setup) (awake n : ℕ) (all : Network A) → MayRun value w relation net n all → (outlooks : List Outlook) (near : List ℕ) → outlooks ≡ all.outlooks.items → near ≡ all.plan.near.items
+    → ((b : ℕ) → has_bit awake b ≡ is_awake outlooks near all.cycle b) → MayStep value w relation awake net n all
+may-step value w relation net awake n all run outlooks near outlooks_are near_are wakes = record {
+  good = run.good;
+  is = run.is;
+  few = run.few;
+  shows = run.shows;
+  wakes = λ b. wakes b ∙ ap (λ (xs : List Outlook). is_awake xs near all.cycle b) outlooks_are ∙ ap (λ (xs : List ℕ). is_awake all.outlooks.items xs all.cycle b) near_are ∙ ap (λ m. is_awake all.outlooks.items all.plan.near.items m b) run.shows.cycle;
+}
+
+pub wake-awake-requires : goal.wake-awake-requires
+wake-awake-requires g c =
+    let run = c.requires.may.2 in
+    let outlooks = ap length c.as_slice-outlooks.ensures.value in
+    let near = ap length c.as_slice-near.ensures.value in
+    record {
+      few = omega (arith, outlooks, run.shows.outlooks_are, run.shows.plan.few);
+      near = omega (arith, near, outlooks, run.shows.plan.near_are, run.shows.outlooks_are);
+    }
+
 pub gather_all-requires : goal.gather_all-requires
 gather_all-requires g c =
     let value = g.W.Word.value in
     let w = g.W.Word.bits in
     let all = c.args.self.now in
     let relation = c.args.relation.now in
-    let awake = c.args.awake in
+    let awake = c.wake-awake.result.awake in
     let net = c.requires.may.0 in
     let n = c.requires.may.1 in
-    let may = c.requires.may.2 in
+    let run = c.requires.may.2 in
+    let may : MayStep value w relation awake net n all = may-step value w relation net awake n all run c.as_slice-outlooks.result.now c.as_slice-near.result.now c.as_slice-outlooks.ensures.value c.as_slice-near.ensures.value c.wake-awake.ensures.awake in
     let cycle : all.cycle ≡ n = may.shows.cycle in
     let fits = fits-of g in
     let works = c.as_mut_slice-works.ensures.value in
@@ -46,10 +72,11 @@ arrive_all-requires g c =
     let w = g.W.Word.bits in
     let all = c.args.self.now in
     let relation = c.args.relation.now in
-    let awake = c.args.awake in
+    let awake = c.wake-awake.result.awake in
     let net = c.requires.may.0 in
     let n = c.requires.may.1 in
-    let may = c.requires.may.2 in
+    let run = c.requires.may.2 in
+    let may : MayStep value w relation awake net n all = may-step value w relation net awake n all run c.as_slice-outlooks.result.now c.as_slice-near.result.now c.as_slice-outlooks.ensures.value c.as_slice-near.ensures.value c.wake-awake.ensures.awake in
     let cycle : all.cycle ≡ n = may.shows.cycle in
     let fits = fits-of g in
     let states = c.as_mut_slice-states.ensures.value in
@@ -79,10 +106,11 @@ decide_all-requires g c =
     let w = g.W.Word.bits in
     let all = c.args.self.now in
     let relation = c.args.relation.now in
-    let awake = c.args.awake in
+    let awake = c.wake-awake.result.awake in
     let net = c.requires.may.0 in
     let n = c.requires.may.1 in
-    let may = c.requires.may.2 in
+    let run = c.requires.may.2 in
+    let may : MayStep value w relation awake net n all = may-step value w relation net awake n all run c.as_slice-outlooks.result.now c.as_slice-near.result.now c.as_slice-outlooks.ensures.value c.as_slice-near.ensures.value c.wake-awake.ensures.awake in
     let cycle : all.cycle ≡ n = may.shows.cycle in
     let fits = fits-of g in
     let states = c.as_mut_slice-states.ensures.value in
@@ -120,10 +148,11 @@ count_all-requires g c =
     let w = g.W.Word.bits in
     let all = c.args.self.now in
     let relation = c.args.relation.now in
-    let awake = c.args.awake in
+    let awake = c.wake-awake.result.awake in
     let net = c.requires.may.0 in
     let n = c.requires.may.1 in
-    let may = c.requires.may.2 in
+    let run = c.requires.may.2 in
+    let may : MayStep value w relation awake net n all = may-step value w relation net awake n all run c.as_slice-outlooks.result.now c.as_slice-near.result.now c.as_slice-outlooks.ensures.value c.as_slice-near.ensures.value c.wake-awake.ensures.awake in
     let cycle : all.cycle ≡ n = may.shows.cycle in
     let fits = fits-of g in
     let states = c.as_mut_slice-states.ensures.value in
@@ -159,10 +188,11 @@ conclude_all-requires g c =
     let w = g.W.Word.bits in
     let all = c.args.self.now in
     let relation = c.args.relation.now in
-    let awake = c.args.awake in
+    let awake = c.wake-awake.result.awake in
     let net = c.requires.may.0 in
     let n = c.requires.may.1 in
-    let may = c.requires.may.2 in
+    let run = c.requires.may.2 in
+    let may : MayStep value w relation awake net n all = may-step value w relation net awake n all run c.as_slice-outlooks.result.now c.as_slice-near.result.now c.as_slice-outlooks.ensures.value c.as_slice-near.ensures.value c.wake-awake.ensures.awake in
     let cycle : all.cycle ≡ n = may.shows.cycle in
     let fits = fits-of g in
     let states = c.as_mut_slice-states.ensures.value in
@@ -197,10 +227,11 @@ put_all-requires g c =
     let w = g.W.Word.bits in
     let all = c.args.self.now in
     let relation = c.args.relation.now in
-    let awake = c.args.awake in
+    let awake = c.wake-awake.result.awake in
     let net = c.requires.may.0 in
     let n = c.requires.may.1 in
-    let may = c.requires.may.2 in
+    let run = c.requires.may.2 in
+    let may : MayStep value w relation awake net n all = may-step value w relation net awake n all run c.as_slice-outlooks.result.now c.as_slice-near.result.now c.as_slice-outlooks.ensures.value c.as_slice-near.ensures.value c.wake-awake.ensures.awake in
     let cycle : all.cycle ≡ n = may.shows.cycle in
     let fits = fits-of g in
     let states = c.as_mut_slice-states.ensures.value in
@@ -218,10 +249,11 @@ tell-requires g c =
     let w = g.W.Word.bits in
     let all = c.args.self.now in
     let relation = c.args.relation.now in
-    let awake = c.args.awake in
+    let awake = c.wake-awake.result.awake in
     let net = c.requires.may.0 in
     let n = c.requires.may.1 in
-    let may = c.requires.may.2 in
+    let run = c.requires.may.2 in
+    let may : MayStep value w relation awake net n all = may-step value w relation net awake n all run c.as_slice-outlooks.result.now c.as_slice-near.result.now c.as_slice-outlooks.ensures.value c.as_slice-near.ensures.value c.wake-awake.ensures.awake in
     let cycle : all.cycle ≡ n = may.shows.cycle in
     let fits = fits-of g in
     let states = c.as_mut_slice-states.ensures.value in
@@ -265,10 +297,11 @@ look_all-happened-requires g c =
     let w = g.W.Word.bits in
     let all = c.args.self.now in
     let relation = c.args.relation.now in
-    let awake = c.args.awake in
+    let awake = c.wake-awake.result.awake in
     let net = c.requires.may.0 in
     let n = c.requires.may.1 in
-    let may = c.requires.may.2 in
+    let run = c.requires.may.2 in
+    let may : MayStep value w relation awake net n all = may-step value w relation net awake n all run c.as_slice-outlooks.result.now c.as_slice-near.result.now c.as_slice-outlooks.ensures.value c.as_slice-near.ensures.value c.wake-awake.ensures.awake in
     let cycle : all.cycle ≡ n = may.shows.cycle in
     let fits = fits-of g in
     let states = c.as_mut_slice-states.ensures.value in
@@ -305,21 +338,23 @@ overflow_add-self g c =
     let w = g.W.Word.bits in
     let all = c.args.self.now in
     let relation = c.args.relation.now in
-    let awake = c.args.awake in
+    let awake = c.wake-awake.result.awake in
     let net = c.requires.may.0 in
     let n = c.requires.may.1 in
-    let may = c.requires.may.2 in
+    let run = c.requires.may.2 in
+    let may : MayStep value w relation awake net n all = may-step value w relation net awake n all run c.as_slice-outlooks.result.now c.as_slice-near.result.now c.as_slice-outlooks.ensures.value c.as_slice-near.ensures.value c.wake-awake.ensures.awake in
     let cycle : all.cycle ≡ n = may.shows.cycle in
     let fits = fits-of g in
     omega (arith, cycle, may.few)
 
 pub returns-then-happened : goal.returns-then-happened
-returns-then-happened g c = λ net n may.
+returns-then-happened g c = λ net n run.
     let value = g.W.Word.value in
     let w = g.W.Word.bits in
     let all = c.args.self.now in
     let relation = c.args.relation.now in
-    let awake = c.args.awake in
+    let awake = c.wake-awake.result.awake in
+    let may : MayStep value w relation awake net n all = may-step value w relation net awake n all run c.as_slice-outlooks.result.now c.as_slice-near.result.now c.as_slice-outlooks.ensures.value c.as_slice-near.ensures.value c.wake-awake.ensures.awake in
     let cycle : all.cycle ≡ n = may.shows.cycle in
     let fits = fits-of g in
     let states = c.as_mut_slice-states.ensures.value in
@@ -394,12 +429,13 @@ returns-then-happened g c = λ net n may.
     shows-next value w relation net awake n all next fits may step
 
 pub returns-else-happened : goal.returns-else-happened
-returns-else-happened g c = λ net n may.
+returns-else-happened g c = λ net n run.
     let value = g.W.Word.value in
     let w = g.W.Word.bits in
     let all = c.args.self.now in
     let relation = c.args.relation.now in
-    let awake = c.args.awake in
+    let awake = c.wake-awake.result.awake in
+    let may : MayStep value w relation awake net n all = may-step value w relation net awake n all run c.as_slice-outlooks.result.now c.as_slice-near.result.now c.as_slice-outlooks.ensures.value c.as_slice-near.ensures.value c.wake-awake.ensures.awake in
     let cycle : all.cycle ≡ n = may.shows.cycle in
     let fits = fits-of g in
     let states = c.as_mut_slice-states.ensures.value in
