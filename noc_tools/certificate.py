@@ -94,7 +94,7 @@ def stuck(inputs: Inputs, jam: Jam) -> Files:
     blocks = claims.counterexample(channels, jam, waiting, TABLE if inputs.table else None)
     words = " ".join(["$ noc run", CONFIGURATION, TRAFFIC, *inputs.table_words(TABLE), "--report summary > /dev/null"])
     title = claims.title_of(claims.STUCK, channels.network)
-    return with_pages(files, COUNTEREXAMPLE, title, blocks, [words, "$ echo $?", "5"])
+    return with_pages(files, COUNTEREXAMPLE, title, blocks, [words, "$ echo $?", str(run.status)])
 
 
 def with_pages(files: Files, name: str, title: str, blocks: list[Block], repeated: list[str]) -> Files:

@@ -101,6 +101,7 @@ class Folders(CertificateTest):
         page = files["counterexample.md"]
         self.assertIn("So these packets wait for one another: 0, 1, 2, 3.", page)
         self.assertIn("| 3 | 3 | 1 | 0 | 1 | 0 |", page)
+        self.assertIn("traffic.csv --report summary > /dev/null\n$ echo $?\n5\n", page)
         self.assertNotIn("escape", page)
 
     def test_packets_that_are_out_do_not_wait(self):

@@ -6,7 +6,8 @@
 
 A run is stuck where 'noc run CONFIG FILE' ends with status 5, so within the cycles of CONFIG. Of FILE each packet alone
 is needed, and each of its flits: without any one of them the run no longer gets stuck. There may be other traffics
-that are smaller still. Packets keep their order and their due times.
+that are smaller still. Packets keep their order and their due times. It takes seconds, but minutes where hundreds of
+the packets of TRAFFIC are needed.
 
 CONFIG, TRAFFIC and F are read many times, so they are files and no pipes.
 """
