@@ -10,8 +10,8 @@ as processors and memory go. The libraries are the same for both programs. A bui
 crates that it had not ended. However it is stopped, no check goes on without it. A build reads the sources as they
 stood when it began. A digest of all that a library is made of is kept for it, and it is made anew where the digest is
 another one. Standard error tells how far the build is: on a terminal in one line that is written anew, elsewhere in a
-line for each crate. The toolchain is the kit of $RT, or else of rt on PATH. The exit status is 0 where the program is
-built, else 1.
+line for each crate. The log of the build, crates/noc/out/build.log, has the seconds of each crate. The toolchain is the
+kit of $RT, or else of rt on PATH. The exit status is 0 where the program is built, else 1.
 """
 import fcntl
 import hashlib
@@ -39,12 +39,14 @@ PROGRAMS = {"noc": [], "noc_avx2": ["--cpu", "x86-64-v3"]}
 DISK, MEMORY = 2 << 30, 2 << 30
 # So many seconds to spare are a step of priority less.
 STEP = 15
-# The seconds that each crate takes by itself on four processors, measured once. Only their shares count.
+# The seconds that each crate takes by itself on four processors. Only their shares count. bench/crate_seconds.py makes
+# them from the log of a build.
 SECONDS = {
-    "noc_topo": 15, "noc_packet": 12, "noc_ring": 20, "noc_route": 50, "noc_rank": 90, "noc_alloc": 20, "noc_vc": 25,
-    "noc_counts": 20, "noc_view": 25, "noc_router": 95, "noc_theory": 50, "noc_row_words": 60, "noc_row_blocks": 45,
-    "noc_rows": 45, "noc_net": 75, "noc_files": 120, "noc_tiles": 90, "noc_commands": 10, "noc_cli": 70,
-    "noc_faults": 30, "noc_answers": 50, "noc_program": 45, "noc": 85,
+    "noc_topo": 33, "noc_packet": 33, "noc_ring": 37, "noc_route": 100, "noc_rank": 222, "noc_alloc": 73, "noc_vc": 29,
+    "noc_view": 18, "noc_sets": 12, "noc_router": 350, "noc_theory": 108, "noc_theory_bits": 40, "noc_lanes": 68,
+    "noc_blocks": 124, "noc_turns": 47, "noc_tallies": 42, "noc_opening": 57, "noc_findings": 74,
+    "noc_theory_blocks": 15, "noc_wires": 75, "noc_rows": 189, "noc_net": 104, "noc_commands": 46, "noc_files": 259,
+    "noc_tiles": 243, "noc_cli": 223, "noc_faults": 37, "noc_answers": 80, "noc_program": 56, "noc": 115,
 }
 
 
@@ -158,15 +160,32 @@ class Check:
     session, since Linux compares priorities within one."""
 
     GUARD = "trap '' HUP INT QUIT TERM; read -r _; kill -KILL 0"
+    TICKS = os.sysconf("SC_CLK_TCK")
 
     def __init__(self, words, folder, lock, jobs=1, priority=0):
-        self.start, self.jobs = time.time(), jobs
+        self.start, self.jobs, self.proof, self.at = time.time(), jobs, None, LOG.stat().st_size
         self.guard = subprocess.Popen(["sh", "-c", self.GUARD], stdin=subprocess.PIPE, process_group=0)
         words = ["nice", "-n", str(priority), *words]
         # The group keeps the lock too, so that no other build begins before it has ended.
         how = {"stdin": subprocess.DEVNULL, "process_group": self.guard.pid, "pass_fds": [lock.fileno()]}
         with LOG.open("a") as log:
             self.run = subprocess.Popen(words, cwd=folder, stdout=log, stderr=log, **how)
+
+    def seconds(self):
+        """How long it has run, and how much processor time it took, with all that it began and that has ended."""
+        times = Path(f"/proc/{self.run.pid}/stat").read_text().rpartition(")")[2].split()[11:15]
+        return time.time() - self.start, sum(map(int, times)) / self.TICKS
+
+    def wait(self, how=0):
+        """Waits until it has ended, and returns whether it has. What Linux knows of its seconds stays until `end`."""
+        return os.waitid(os.P_PID, self.run.pid, os.WEXITED | os.WNOWAIT | how) is not None
+
+    def has_ended(self, is_program):
+        """Whether it has ended. A program is compiled once the log has its verdict: its seconds until then are kept."""
+        has_ended = self.wait(os.WNOHANG)
+        if is_program and not self.proof and re.search(rb"^logic=proved .*target=", LOG.read_bytes()[self.at:], re.M):
+            self.proof = self.seconds()
+        return has_ended
 
     def end(self):
         """Ends what is left of it; returns its status."""
@@ -227,18 +246,21 @@ class Build:
         """Links a program, or tells why nothing was made. A check that was killed, most likely for memory, runs once
         more by one job."""
         check = self.running.pop(crate)
-        status = check.end()
+        seconds, linked, status = check.seconds(), None, check.end()
         if status == -signal.SIGKILL and check.jobs > 1:
             return self.begin(crate, 1)
         if status == 0 and crate.program:
             link = Check(crate.link(self.kit), crate.texts, self.lock)
-            link.run.wait()
-            status = link.end()
+            link.wait()
+            linked, status = link.seconds(), link.end()
         if status:
             if shutil.disk_usage(OUT).free < 64 << 20:
                 raise Failed(f"the disk is full, so {crate.name} could not be built")
             told = f"{LOG} has all messages, of which the last are:\n{last_messages()}"
             raise Failed(f"{crate.name} could not be proved and built; {told}")
+        for stage, took in (("proved", check.proof), ("made", seconds), ("linked", linked)):
+            if took:
+                note(crate, stage, *took)
         crate.kept.write_text(crate.state())
         self.left.remove(crate)
 
@@ -252,7 +274,7 @@ class Build:
             self.begin_what_can()
             while self.left:
                 time.sleep(0.2)
-                for crate in [it for it, check in self.running.items() if check.run.poll() is not None]:
+                for crate in [it for it, check in self.running.items() if check.has_ended(is_program=it.program)]:
                     self.end(crate)
                     self.begin_what_can()
                     self.tell(is_news=True)
@@ -263,6 +285,12 @@ class Build:
             if self.is_terminal:
                 print(file=sys.stderr)
         print(f"noc: built in {in_minutes(time.time() - self.start)}", file=sys.stderr)
+
+
+def note(crate, stage, wall, processor):
+    """Writes down in the log the seconds that a crate took, in the form that bench/crate_seconds.py reads."""
+    with LOG.open("a") as log:
+        log.write(f"noc: seconds {crate.name} {stage} {wall:.1f} {processor:.1f}\n")
 
 
 def last_messages():
