@@ -1,13 +1,13 @@
 #!/usr/bin/env python3
 """Measures how fast a program simulates, and compares it with another one.
 
-    measure.py PROGRAM [--against OTHER [--own-clock]] [--repeat N] [--only NAME..]
+    measure.py PROGRAM [--against OTHER [--own-clock]] [--channels N] [--repeat N] [--only NAME..]
 
 For each workload of make_workloads.py the program gets the joined text on standard input twice: once with the
 workload's cycles and once with one cycle. What the first takes longer is the time of the cycle loop, since reading,
 setting up and the report are in both. Of each, the least of N runs counts (5 by default). The figure is in
 router-cycles per second: one router that does one cycle is one router-cycle. A table in Markdown goes to standard
-output.
+output. With --channels each network has so many virtual channels, and its traffic is the same.
 
 OTHER is measured in the same way, its runs between those of PROGRAM, so that both meet the same neighbours on the
 machine. With --own-clock OTHER is run as 'OTHER run CONFIG TRAFFIC --time' instead, and must write 'seconds S' with
@@ -21,6 +21,7 @@ import subprocess
 import sys
 import tempfile
 import time
+from dataclasses import replace
 from pathlib import Path
 
 sys.dont_write_bytecode = True
@@ -103,6 +104,7 @@ def main():
     parser.add_argument("program")
     parser.add_argument("--against", metavar="OTHER", help="a second program to compare with")
     parser.add_argument("--own-clock", action="store_true", help="OTHER times its cycle loop itself")
+    parser.add_argument("--channels", type=int, metavar="N", help="virtual channels of each network")
     parser.add_argument("--repeat", type=int, default=5, metavar="N", help="runs of which the best counts")
     parser.add_argument("--only", nargs="+", metavar="NAME", help="these workloads alone")
     options = parser.parse_args()
@@ -117,6 +119,8 @@ def main():
         for load in workloads():
             if options.only and load.name not in options.only:
                 continue
+            if options.channels:
+                load.network = replace(load.network, channels=options.channels)
             speeds, reports = measure(load, sides, options.repeat, Path(folder))
             cells = [load.name, str(load.network.nodes), str(load.network.cycles),
                      *(f"{speed / 1e6:.1f}" for speed in speeds)]

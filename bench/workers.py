@@ -4,8 +4,8 @@
     workers.py PROGRAM [--workers W..] [--repeat N] [--only NAME..]
 
 For workloads of make_workloads.py on 64 and on 256 routers the program runs with 1, 2 and 4 workers, or those that
-are named, in turn: once for the workload's cycles and once for one cycle. The networks have eight channels here, so
-that they do not fit into rows: one thread runs those that do, whatever the number of workers. What the first takes
+are named, in turn: once for the workload's cycles and once for one cycle. The networks have eight channels here. At
+present one thread runs each network, whatever the number of workers, so all figures are about 1. What the first takes
 longer is the time of the cycle loop. Of each, the least of N runs counts (5 by default). A table in Markdown goes to
 standard output: router-cycles per second of the first number of workers, and how many times as fast the others are.
 Reports that differ are an error.

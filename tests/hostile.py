@@ -41,7 +41,7 @@ def sets():
         yield found | {kind: text for kind, text in extra.items() if text}
     table = TABLE + b"0,0,local,0,1,+0,0\n0,1,-0,0,1,local,0\n0,1,local,0,0,-0,0\n0,0,+0,0,0,local,0\n"
     traffic = TRAFFIC + b"0,1,0,1,0\n1,0,0,64,3\n"
-    # Too many channels for rows, so that workers run in threads.
+    # Rows of words of 64 bits.
     wide = TWO.replace(b"table", b"dor").replace(b"[2]", b"[2, 2]").replace(b"channels = 1", b"channels = 8")
     yield {"config": wide, "traffic": traffic, "ranks": TWO_RANKS}
     yield {"config": TWO, "traffic": traffic, "table": table, "ranks": TWO_RANKS}

@@ -5,7 +5,7 @@
 
 The tests are those that the gate has built, of the crates of tests. Each test in REFUSED makes one call that takes
 memory, beside those that make what it is given. With any one of its growths refused it says that memory, or a thread,
-was refused, or all is as with ample memory. The tests in TAKES_NONE begin as another test does, and go on with calls
+was refused, or all is as with ample memory. The tests in TAKES_NONE begin as the test MADE does, and go on with calls
 that are to take no memory. So they ask for as many growths as that one. Each failure is shown, and the last line is
 'N passed, M failed'. The exit status is 0 where all passed, else 1.
 """
@@ -26,11 +26,14 @@ REFUSED = {
     "noc_file_tests": ["inputs::bytes_one_by_one_up_to_the_limit", "configurations::a_configuration_with_every_key",
                        "traffic_files::the_packets_of_a_text", "table_files::the_rows_of_a_table",
                        "rank_files::the_rows_of_a_rank_file"],
+    "noc_tile_tests": ["growth::a_line_runs_by_two_workers", "growth::a_line_runs_by_three_workers"],
 }
-MADE = "growth::a_line_is_made"
+MADE = ("noc_network_tests", "growth::a_line_is_made")
 TAKES_NONE = {
-    "noc_network_tests": ["growth::a_line_runs_twice", "growth::a_line_is_read",
+    "noc_network_tests": ["growth::a_line_runs_twice", "growth::a_line_is_read", "growth::a_core_of_a_line_is_read",
                           "events::parts_make_the_network_again", "events::cycles_from_the_last_router_to_the_first"],
+    "noc_file_tests": ["growth::a_line_is_reported"],
+    "noc_tile_tests": ["growth::a_line_runs_by_one_worker"],
 }
 WANT = re.compile(r"error: (\w+\()*(Memory|NoWorker|AllocError)\)*$", re.MULTILINE)
 
@@ -39,6 +42,7 @@ class Tests:
     """The tests of a crate, run one by one with one of their growths refused."""
 
     def __init__(self, room: Path, crate: str) -> None:
+        self.room = room
         self.program = TOP / f"crates/{crate}/out/{crate}_tests"
         self.library, self.count = room / "refused_growth.so", room / "growths"
 
@@ -68,7 +72,8 @@ def refused(tests: Tests, name: str) -> str:
 
 def takes_none(tests: Tests, name: str) -> str:
     """What is wrong with a test that is to ask for no growth but those of the line that it begins with."""
-    made, line, wanted = tests.refusing(0, MADE)
+    crate, test = MADE
+    made, line, wanted = Tests(tests.room, crate).refusing(0, test)
     passed, said, asked = tests.refusing(0, name)
     if made and passed and asked == wanted > 0:
         return ""

@@ -4,8 +4,9 @@
     run_process.py PROGRAM
 
 Each call's status, standard output and standard error are given by the rules of docs/FORMATS.md, and never by what
-PROGRAM said. The texts cut after each byte are held against a reader of the formats in cut_texts.py. Each call that
-fails is shown, and the last line is 'N passed, M failed'. The exit status is 0 where all passed, else 1.
+PROGRAM said, but that runs by several workers are held against the run by one. The texts cut after each byte are held
+against a reader of the formats in cut_texts.py. Each call that fails is shown, and the last line is 'N passed, M
+failed'. The exit status is 0 where all passed, else 1.
 """
 import array
 import fcntl
@@ -20,6 +21,7 @@ import tempfile
 import termios
 import time
 from itertools import product
+from math import prod
 from pathlib import Path
 
 from cut_texts import cut_texts
@@ -384,13 +386,13 @@ def rising_ranks(side):
 def bounded_memory(calls):
     """Under each bound on its memory the program answers, or says that memory or a thread was refused.
 
-    Below 4 MB the loader itself may not find the room for the C library, and says so before the program begins. Or
-    the system may not find it for the stack, of which the program needs more than the bound leaves, and ends the
+    Below 4 MB the loader itself may not find the room for the C library, and says so before the program begins. Below
+    5 MB the system may not find it for the stack, of which the program needs more than the bound leaves, and ends the
     program by a signal before it writes.
     """
     traffic, report = late_packets(20000)
     square = PLAIN.replace(b"[2]", b"[8, 8]")
-    # Too many channels for rows, so that two workers are two threads.
+    # Rows of words of 64 bits.
     many = PLAIN.replace(b"[2]", b"[2, 2]").replace(b"channels = 1", b"channels = 8")
     calls.put(late=traffic, short=PLAIN.replace(b" 8", b" 1"), square=square, rising=rising_ranks(8), many=many)
     wanted = [([], REPORT), (COMMANDS["run"][0], REPORT), (["run", "short", "late"], report),
@@ -406,19 +408,39 @@ def bounded_memory(calls):
             is_answer = (ran.returncode, ran.stdout, ran.stderr) == (0, answer, b"")
             is_said = b"while loading shared libraries" in ran.stderr
             is_loader = (ran.returncode, ran.stdout) == (127, b"") and is_said and megabytes < 4
-            is_stack = (ran.returncode, ran.stdout, ran.stderr) == (-signal.SIGSEGV, b"", b"") and megabytes < 4
+            is_stack = (ran.returncode, ran.stdout, ran.stderr) == (-signal.SIGSEGV, b"", b"") and megabytes < 5
             calls.count(f"{megabytes} MB {words}", is_refused or is_answer or is_loader or is_stack, ran)
 
 
 def threads_refused(calls):
-    """Where no thread may start, a run that wants one says so and writes nothing. All others are as ever."""
-    # Too many channels for rows, so that two workers are two threads.
+    """Where no thread may start, all runs are as ever, also those by several workers: one thread runs each network."""
     calls.put(many=PLAIN.replace(b"[2]", b"[2, 2]").replace(b"channels = 1", b"channels = 8"))
-    for workers in ("2", "3", "4"):
-        calls.answers("no thread", ["run", "many", "traffic", "--workers", workers], b"fault run 2 NoWorker\n",
-                      preexec_fn=no_thread_more)
-    for words in (["run", "many", "traffic"], ["run", "plain", "traffic"]):
-        calls.answers("no thread is wanted", words, REPORT, preexec_fn=no_thread_more)
+    for workers in ([], ["--workers", "2"], ["--workers", "4"]):
+        calls.answers("no thread", ["run", "many", "traffic", *workers], REPORT, preexec_fn=no_thread_more)
+    calls.answers("no thread", ["run", "plain", "traffic"], REPORT, preexec_fn=no_thread_more)
+
+
+def reports_by_workers(calls):
+    """Runs by several workers are reported as by one: on tori and in three dimensions, with ranks and without, over
+    more cycles than workers run in one go. Packets become due up to the last cycles."""
+    networks = (("torus", "4, 4", 8, "dateline"), ("mesh", "3, 3, 2", 5, "dor"), ("torus", "4, 4", 7, "dor"))
+    for (kind, radix, channels, rule), drain in product(networks, ([], ["--drain"])):
+        nodes = prod(int(size) for size in radix.split(","))
+        packets = [b"%d,%d,0,%d,%d\n" % (number % nodes, (number + 1 + number % (nodes - 1)) % nodes, number % 5 + 1,
+                                         number * 5) for number in range(2000)]
+        config = f'kind = "{kind}"\nradix = [{radix}]\nchannels = {channels}\nbuffer = 1\nclasses = 1\n'
+        calls.put(many=f'{config}rule = "{rule}"\ncycles = 10000\n'.encode(), crowd=TRAFFIC_HEADER + b"".join(packets))
+        ranks = calls.run(["ranks", "many"])
+        calls.put(made=ranks.stdout)
+        ranked = ["--ranks", "made"] if ranks.returncode == 0 else []
+        for report in ("latency", "stalls", "summary"):
+            words = ["run", "many", "crowd", "--report", report, *ranked, *drain]
+            alone = calls.run(words)
+            for workers in ("2", "3"):
+                ran = calls.run([*words, "--workers", workers])
+                is_same = (ran.returncode, ran.stdout, ran.stderr) == (alone.returncode, alone.stdout, b"")
+                calls.count(f"{report} by {workers} workers, {kind} {radix} {rule} {drain}",
+                            is_same and alone.returncode in (0, 5) and alone.stdout != b"", ran)
 
 
 def crowd(is_far, due):
@@ -433,8 +455,8 @@ def crowd(is_far, due):
 
 
 def drains_that_are_stuck(calls):
-    """The drain of a jam comes to its limit, millions of cycles away, at once: by rows, and by routers that have too
-    many channels for rows. So it does where packets become due in the jam."""
+    """The drain of a jam comes to its limit, millions of cycles away, at once, by rows of words of 32 and of 64 bits.
+    So it does where packets become due in the jam."""
     for (radix, channels, hops), due in product((("16, 16", 1, 8), ("16, 4, 4", 6, 12)), (0, 1_000_000)):
         config = f'kind = "torus"\nradix = [{radix}]\nchannels = {channels}\nbuffer = 1\nclasses = 1\n'
         calls.put(jam=f'{config}rule = "dor"\ncycles = 300\n'.encode(), crowd=crowd(hops == 12, due))
@@ -451,8 +473,8 @@ def drains_that_are_stuck(calls):
 
 GROUPS = [inputs_that_cannot_be_read, inputs_at_the_limit, names, wrong_words, outputs_that_fail,
           pipe_that_closes_early, trace_cycle_by_cycle, reports_cut_off, fault_lines_in_one_write, order_of_faults,
-          bytes_that_are_no_text, bounded_memory, threads_refused, drains_that_are_stuck, refused_growths, cut_texts,
-          worked_texts]
+          bytes_that_are_no_text, bounded_memory, threads_refused, reports_by_workers, drains_that_are_stuck,
+          refused_growths, cut_texts, worked_texts]
 
 
 def main():

@@ -3,8 +3,7 @@ use Rattle.std.proofs.Common.{◌≡◌, ℕ, zero, suc, ◌+◌, ◌-◌, ◌*�
 use Rattle.std.specs.Prelude.{◌⊎◌, ◌&&◌, ◌||◌, not, nat_eq, nat_le, nat_lt, is_some, option_and_then, if◌then◌else◌}
 use Rattle.std.proofs.lemmas.Bool.{cases_eq, cases_lt, eq-eqb, ne_eqb, false≢true, leb-true, leb-false, ltb-true, ltb-false}
 use Rattle.std.proofs.lemmas.List.{get_or_read, length-set}
-use Rattle.std.proofs.Math.Bool.{and_self}
-use Rattle.noc_packet.specs.Set.{has_bit, in_both, IsLeast}
+use Rattle.noc_packet.specs.Set.{has_bit, IsLeast}
 use Rattle.noc_topo.specs.Lists.{is_some_of, tabulate}
 use Rattle.noc_alloc.specs.Arbiter.{RoundRobin, arbiter_at, first_in_turn, nearer, pointers_of}
 use Rattle.noc_alloc.specs.Allocation.{grant_of, pick_of, picked_port, winner_of}
@@ -12,7 +11,6 @@ use Rattle.noc_alloc.specs.Steps.{firsts_after_request}
 use Rattle.noc_alloc.proofs.WordLemmas.{is_some_of-some, is_some_of-none, is_some_of-other}
 use Rattle.noc_topo.proofs.ListLemmas.{get_or-tabulate, length-tabulate, tabulate-from_each}
 use Rattle.noc_alloc.proofs.ArbiterLemmas.{IsNearest, first_in_turn-same, nearest-is, nearest-skips, nearest-one, nearest-held, nearest-next}
-use Rattle.noc_alloc.proofs.RequestLemmas.{least_member}
 use Rattle.noc_alloc.proofs.SwitchLemmas.{pointer-at}
 
 -- the later one asks
@@ -81,9 +79,6 @@ pub record AreOffered (n : ℕ) (arbiters : List RoundRobin) (asks : ℕ → Opt
   pub below : (j : ℕ) → has_bit rest j ≡ true → j < n
   pub silent : (j : ℕ) → next ≤ j → has_bit rest j ≡ false → asks j ≡ None
 
-pub both_lacks : (set k : ℕ) → in_both set set k ≡ false → has_bit set k ≡ false
-both_lacks set k e = sym (and_self (has_bit set k)) ∙ e
-
 nobody : (o : Option ℕ) → is_some o ≡ false → o ≡ None
 nobody None e = refl
 nobody (Some x) e = absurd (false≢true (sym e))
@@ -105,20 +100,20 @@ offered-first n arbiters asks rest held none members past = record {
 
 -- the least of the rest is offered
 pub offered-next : (n : ℕ) (arbiters : List RoundRobin) (asks : ℕ → Option ℕ) (rest less k : ℕ) (held : List (Option ℕ)) (ask : Option ℕ) → asks k ≡ ask → length held ≡ length arbiters
-    → IsLeast (in_both rest rest) (Some k) → ((j : ℕ) → has_bit less j ≡ (not (nat_eq j k) && has_bit rest j))
+    → IsLeast (has_bit rest) (Some k) → ((j : ℕ) → has_bit less j ≡ (not (nat_eq j k) && has_bit rest j))
     → AreOffered n arbiters asks rest held → AreOffered n arbiters asks less (firsts_after_request arbiters ask k held)
 offered-next n arbiters asks rest less k held ask e same least members so_far = record {
   next = k + 1;
   within = omega (arith, inside);
   nearest = nearest-offered n k arbiters asks held ask e inside same
-      (nearest-up_to k n so_far.next arbiters asks held (so_far.ahead k here) (λ j l u. so_far.silent j l (both_lacks rest j (least.1 j u))) so_far.nearest);
+      (nearest-up_to k n so_far.next arbiters asks held (so_far.ahead k here) (λ j l u. so_far.silent j l (least.1 j u)) so_far.nearest);
   ahead = λ j t. after j (kept j t) (cases_lt j k) (cases_eq j k);
   below = λ j t. so_far.below j (kept j t).1;
   silent = λ j l t. so_far.silent j (let u : so_far.next ≤ k = so_far.ahead k here in omega arith) (gone j l t);
 }
   where
     here : has_bit rest k ≡ true
-    here = least_member rest k least
+    here = least.0
 
     inside : k < n
     inside = so_far.below k here
@@ -131,17 +126,17 @@ offered-next n arbiters asks rest less k held ask e same least members so_far = 
     kept j t = split (nat_eq j k) (has_bit rest j) (sym (members j) ∙ t)
 
     after : (j : ℕ) → (nat_eq j k ≡ false) × (has_bit rest j ≡ true) → (j < k) ⊎ (k ≤ j) → (j ≡ k) ⊎ (j ≡ k → ⊥) → k + 1 ≤ j
-    after j h (inl l) _ = absurd (false≢true (sym (both_lacks rest j (least.1 j l)) ∙ h.1))
+    after j h (inl l) _ = absurd (false≢true (sym (least.1 j l) ∙ h.1))
     after j h (inr u) (inl is) = absurd (false≢true (sym h.0 ∙ eq-eqb j k is))
     after j h (inr u) (inr other) = omega arith
 
     gone : (j : ℕ) → k + 1 ≤ j → has_bit less j ≡ false → has_bit rest j ≡ false
     gone j l t = sym (members j ∙ ap (λ b. not b && has_bit rest j) (ne_eqb j k (λ is. omega arith))) ∙ t
 
-pub offered-last : (n : ℕ) (arbiters : List RoundRobin) (asks : ℕ → Option ℕ) (rest : ℕ) (held : List (Option ℕ)) → IsLeast (in_both rest rest) None
+pub offered-last : (n : ℕ) (arbiters : List RoundRobin) (asks : ℕ → Option ℕ) (rest : ℕ) (held : List (Option ℕ)) → IsLeast (has_bit rest) None
     → AreOffered n arbiters asks rest held → AllNearest n arbiters asks n held
 offered-last n arbiters asks rest held none so_far =
-    nearest-up_to n n so_far.next arbiters asks held so_far.within (λ j l u. so_far.silent j l (both_lacks rest j (none j))) so_far.nearest
+    nearest-up_to n n so_far.next arbiters asks held so_far.within (λ j l u. so_far.silent j l (none j)) so_far.nearest
 
 pub length-firsts : (arbiters : List RoundRobin) (ask : Option ℕ) (k : ℕ) (held : List (Option ℕ)) → length (firsts_after_request arbiters ask k held) ≡ length held
 length-firsts arbiters None k held = refl

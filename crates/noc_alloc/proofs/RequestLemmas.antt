@@ -1,19 +1,11 @@
 -- Who is named in a list, and sets that are gathered member by member.
 use Rattle.std.proofs.Common.{◌≡◌, ◌≢◌, ℕ, ◌<◌, ◌≤◌, Bool, true, false, List, length, get_or, set, replicate, Option, Some, None, refl, ap, sym, ◌∙◌, arith, inl, inr, subst}
 use Rattle.std.specs.Prelude.{IfSome, ◌⊎◌, is_some, nat_eq, not, ◌&&◌, if◌then◌else◌}
-use Rattle.std.proofs.Math.Bool.{and_self}
 use Rattle.std.proofs.Math.ListN.{get_or-eq_default}
 use Rattle.std.proofs.lemmas.Bool.{cases_eq, cases_lt, eq-eqb, ne_eqb}
 use Rattle.std.proofs.lemmas.List.{get_or-replicate, length-replicate}
-use Rattle.noc_packet.specs.Set.{has_bit, in_both, IsLeast}
+use Rattle.noc_packet.specs.Set.{has_bit}
 use Rattle.noc_alloc.specs.Requests.{AllBelow, AreRequests, Requested, is_given}
-
--- a set with no least member is empty
-pub none_left : (bits : ℕ) → IsLeast (in_both bits bits) None → (k : ℕ) → has_bit bits k ≡ false
-none_left bits none k = sym (and_self (has_bit bits k)) ∙ none k
-
-pub least_member : (bits i : ℕ) → IsLeast (in_both bits bits) (Some i) → has_bit bits i ≡ true
-least_member bits i least = sym (and_self (has_bit bits i)) ∙ least.0
 
 -- an entry of a list whose entries are all d
 pub at_replicate : {X : Type 0} (d : X) (n k : ℕ) → get_or (replicate n d) k d ≡ d

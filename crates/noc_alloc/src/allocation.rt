@@ -87,8 +87,7 @@ impl Allocation {
     {
         let mut granted = ChannelSet::empty();
         let mut rest = self.asks.filled();
-        while let Some(requester) = rest.least_common(&rest) {
-            rest = rest.without(requester);
+        while let Some(requester) = rest.pop_least() {
             if self.is_granted(requester) {
                 granted = granted.with(requester);
             }
@@ -125,8 +124,7 @@ impl Allocation {
         ensures sizes { (k : ℕ) → (arbiter_at arbiters.new k).size ≡ (arbiter_at arbiters.old k).size }
     {
         let mut rest = self.grants.filled();
-        while let Some(resource) = rest.least_common(&rest) {
-            rest = rest.without(resource);
+        while let Some(resource) = rest.pop_least() {
             arbiters[resource].advance(self.grants.get(resource));
         }
     }
@@ -142,8 +140,7 @@ fn grant_each(asks: &Sparse, arbiters: &[Arbiter], grants: &mut Sparse)
     ensures { grants.new ≡ tabulate (length arbiters.now) (grant_of asks.now (length asks.now) (pointers_of arbiters.now)) }
 {
     let mut rest = asks.filled();
-    while let Some(requester) = rest.least_common(&rest) {
-        rest = rest.without(requester);
+    while let Some(requester) = rest.pop_least() {
         if let Some(resource) = asks.get(requester) {
             let first = arbiters[resource].nearer(grants.get(resource), requester);
             grants.fill(resource, first);

@@ -37,10 +37,10 @@ fn request(alloc: Global, command: Command, config: Text) -> Result<Request, All
 }
 
 // An empty sink for so many bytes.
-fn tray(alloc: Global, room: usize) -> Tray {
+fn tray(alloc: Global, capacity: usize) -> Tray {
     Tray {
         bytes: Vec::new(alloc),
-        room,
+        capacity,
         failed: false,
     }
 }

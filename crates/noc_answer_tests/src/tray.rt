@@ -4,11 +4,11 @@ ghost use Rattle.std.specs.Prelude.{None};
 
 use noc_files::Sink;
 
-// Takes one byte in each call, and no more than `room` in all.
+// Takes one byte in each call, and no more than `capacity` in all.
 #[derive(Drop)]
 pub(crate) struct Tray {
     pub(crate) bytes: Vec<u8>,
-    pub(crate) room: usize,
+    pub(crate) capacity: usize,
     pub(crate) failed: bool,
 }
 
@@ -21,7 +21,7 @@ impl Sink for Tray {
         let Some(byte) = bytes.first() else {
             return 0;
         };
-        if self.failed || self.room <= self.bytes.len() || self.bytes.push(*byte).is_err() {
+        if self.failed || self.capacity <= self.bytes.len() || self.bytes.push(*byte).is_err() {
             self.failed = true;
             return 0;
         }

@@ -87,7 +87,7 @@ same_shaped a s t g h x y =
 
 -- ---- the rule
 
--- a rule word and its table file give one rule, up to where its rows lie
+-- the name of a rule and its table file give one rule, up to where its rows lie
 alike : (t : Option TextValue) (g : Grid) (vcs classes : ℕ) (name : RuleName) (r s : Rule) → IsRuleOf t g name r → IsRuleOf t g name s → AreAlike g vcs classes r s
 alike t g vcs classes name r s (named e) (named d) =
     let both : Some r ≡ Some s = sym e ∙ d in

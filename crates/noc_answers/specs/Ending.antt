@@ -1,8 +1,8 @@
 -- How answering ends.
 use Rattle.std.specs.Prelude.{◌≡◌, ◌≢◌, ◌<◌, ℕ, Bool, true, false, List, Result, Ok, Err}
 use Rattle.noc_files.specs.declared.writing.WriteFault.{WriteFault}
-use Rattle.noc_tiles.specs.declared.fault.RunFault.{RunFault}
-use Rattle.noc_tiles.specs.declared.fault.RunFault.TheVariants.{LostWorker}
+use Rattle.noc_tiles.specs.declared.threads.RunFault.{RunFault}
+use Rattle.noc_tiles.specs.declared.threads.RunFault.TheVariants.{LostWorker}
 use Rattle.noc_faults.specs.declared.status.Status.{Status}
 use Rattle.noc_faults.specs.declared.fault.Fault.{Fault}
 use Rattle.noc_faults.specs.declared.fault.Fault.TheVariants as fault

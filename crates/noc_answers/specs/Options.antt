@@ -3,7 +3,7 @@ use Rattle.std.specs.Prelude.{ℕ, ◌-◌, Bool, true, false, ◌&&◌, ◌||�
 use Rattle.noc_topo.specs.Shape.{Grid, nodes}
 use Rattle.noc_files.specs.Configuration.{Settings}
 use Rattle.noc_route.specs.declared.rule.RuleName.{RuleName}
-use Rattle.noc_route.specs.declared.rule.RuleName.TheVariants as word
+use Rattle.noc_route.specs.declared.rule.RuleName.TheVariants as rule_name
 use Rattle.noc_files.specs.declared.trace.Traced.{Traced}
 use Rattle.noc_faults.specs.declared.fault.OptionFault.{OptionFault}
 use Rattle.noc_faults.specs.declared.fault.OptionFault.TheVariants.{BadCycle, BadPacket, BadRouter, BadWorkers, NoTable, SpareTable}
@@ -11,7 +11,7 @@ use Rattle.noc_commands.specs.declared.command.Command.{Command}
 use Rattle.noc_commands.specs.declared.command.Command.TheVariants.{Run, Explain, Trace}
 
 abbrev pub is_table : RuleName → Bool
-is_table word.Table = true
+is_table rule_name.Table = true
 is_table _ = false
 
 -- a table file beside another rule, or none beside the rule `table`

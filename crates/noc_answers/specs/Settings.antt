@@ -13,7 +13,7 @@ use Rattle.noc_route.specs.declared.rule.RouteRow.{RouteRow}
 use Rattle.noc_route.specs.declared.rule.Rule.{Rule}
 use Rattle.noc_route.specs.declared.rule.Rule.TheVariants as rule
 use Rattle.noc_route.specs.declared.rule.RuleName.{RuleName}
-use Rattle.noc_route.specs.declared.rule.RuleName.TheVariants as word
+use Rattle.noc_route.specs.declared.rule.RuleName.TheVariants as rule_name
 use Rattle.noc_files.specs.Configuration.{Settings, config_of}
 use Rattle.noc_files.specs.Table.{table_of}
 use Rattle.noc_files.specs.declared.fault.InputFault.{InputFault}
@@ -34,14 +34,14 @@ pub record AsksForShape (a : Asked) (s : Settings) (g : Grid) : Type 0 where
   pub shaped : shape_of s.kind s.radix ≡ Ok g
   pub options : late_fault a.command g ≡ None
 
--- the rule of a rule word: one by formula, or that of the table file's rows
+-- the rule of this name: one by formula, or that of the table file's rows
 pub data IsRuleOf (table : Option TextValue) (g : Grid) : RuleName → Rule → Type 0 where
   named : {name : RuleName} {r : Rule} → rule_named name ≡ Some r → IsRuleOf table g name r
-  tabled : {text : TextValue} {rows : Vec RouteRow Global} → table ≡ Some text → read_by (table_of g) text ≡ Ok rows.items → IsRuleOf table g word.Table (rule.Rows rows)
+  tabled : {text : TextValue} {rows : Vec RouteRow Global} → table ≡ Some text → read_by (table_of g) text ≡ Ok rows.items → IsRuleOf table g rule_name.Table (rule.Rows rows)
 
 -- a table file is to be read, and this is why it is not
 pub data RefusesTable (table : Option TextValue) (g : Grid) : RuleName → Fault → Type 0 where
-  bad_table : {text : TextValue} {f : InputFault} → table ≡ Some text → IsUnread (table_of g) text f → RefusesTable table g word.Table (fault.Table f)
+  bad_table : {text : TextValue} {f : InputFault} → table ≡ Some text → IsUnread (table_of g) text f → RefusesTable table g rule_name.Table (fault.Table f)
 
 -- the routing relation of that rule on that shape, with the channels and
 -- the classes of the settings

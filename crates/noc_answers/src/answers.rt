@@ -12,7 +12,7 @@ use crate::accept::answer_check;
 use crate::explain::explain;
 use crate::formula::answer_ranks;
 use crate::request::{Files, Request, files_of};
-use crate::run::{run, run_by_workers};
+use crate::run::run;
 use crate::trace::trace;
 use noc_commands::{Command, Report};
 use noc_faults::{Fault, Status};
@@ -20,6 +20,9 @@ use noc_files::{InputFault, Sink, Traced, split_joined};
 use std::alloc::Global;
 use std::sync::Wait;
 use std::thread::Threads;
+
+// A command asks for as many workers as run.
+const _: () = prove!(noc_commands::MAX_WORKERS == noc_tiles::MAX_WORKERS);
 
 /// Writes the report that is asked for, or answers the first fault, with nothing written before it
 /// but the bytes that a write fault counts. The order is: joined text, configuration, options,
@@ -29,8 +32,8 @@ use std::thread::Threads;
 /// A `run` with a rank file that ends without a fault is done, and never stuck. Where it is to
 /// drain, every packet has arrived.
 ///
-/// A `run` by two or more workers starts threads only where the network does not fit rows
-/// (`Network::fits_rows`). Workers change no report.
+/// Workers change no report, and at present no threads are started for them: one thread runs each
+/// network, by rows.
 pub fn answer<R: Threads + Wait + Sync, W: Sink>(
     rt: &R,
     alloc: Global,
@@ -42,26 +45,16 @@ pub fn answer<R: Threads + Wait + Sync, W: Sink>(
     ensures ranked { IsRankedRun request.now → IfOk result (λ status. status ≡ done) }
     ensures drained { IsRankedDrain request.now → IfOk result (λ _. (text : List ℕ) × AsksForArrivals request.now text × Wrote W.contents W.has_failed sink.old sink.new text (Ok tt)) }
 {
-    match request.command {
-        Command::Run {
-            workers,
-            report,
-            drain,
-        } if 1 < workers => {
-            run_by_workers(rt, alloc, &files_of(request), workers, report, drain, sink)
-        }
-        _ => answer_one(rt, alloc, request, sink),
-    }
+    answer_one(rt, alloc, request, sink)
 }
 
-/// Answers every request but a run by two or more workers, and needs no right to wait.
+/// Answers a request as `answer` does, and needs no right to wait.
 pub fn answer_one<W: Sink>(
     rt: &(impl Threads + Sync),
     alloc: Global,
     request: &Request,
     sink: &mut W,
 ) -> Result<Status, Fault>
-    requires { workers_of request.now.command ≡ 1 }
     ensures ends { Ends (workers_of request.now.command) (Wrote W.contents W.has_failed sink.old sink.new) (sink.new ≡ sink.old) (Asks request.now) (FirstFault request.now) result }
     ensures ranked { IsRankedRun request.now → IfOk result (λ status. status ≡ done) }
     ensures drained { IsRankedDrain request.now → IfOk result (λ _. (text : List ℕ) × AsksForArrivals request.now text × Wrote W.contents W.has_failed sink.old sink.new text (Ok tt)) }

@@ -6,13 +6,11 @@ ghost use Rattle.noc_files.specs.Traffic.{traffic_of};
 ghost use Rattle.noc_files.specs.Writing.{Wrote};
 ghost use Rattle.noc_answers.specs.Asked.{lent_files, lent_text, read_by};
 ghost use Rattle.noc_answers.specs.Ending.{Refuses};
-ghost use Rattle.noc_commands.specs.Workers.{workers_of};
 ghost use Rattle.noc_answers.specs.Answer.{IsAnswered, TextsFault, runs};
 ghost use Rattle.noc_answers.specs.Run.{IsNetworkOf, Opens, PacketsFault, runs_until_out, report_of};
-ghost use Rattle.noc_tiles.specs.declared.limits.TheConstants.{MAX_WORKERS};
 
 use crate::accept::checked_relation;
-use crate::drain::{run_on, run_stretches};
+use crate::drain::run_on;
 use crate::ending::{ended, ending};
 use crate::request::{Bytes, Files};
 use noc_commands::Report;
@@ -22,7 +20,6 @@ use noc_net::Network;
 use noc_packet::{MAX_BUFFER, Packet};
 use noc_route::Relation;
 use std::alloc::Global;
-use std::sync::Wait;
 use std::thread::Threads;
 
 // Runs the network for its cycles, and writes a report; ranks are checked before, if there are any.
@@ -42,35 +39,6 @@ pub(crate) fn run<W: Sink>(
     network.run(cycles);
     run_on(&mut network, drain);
     ended(write_report(&network, report, sink), ending(&network))
-}
-
-// Runs the network by two or more workers for its cycles, and writes a report; ranks are
-// checked before, if there are any. Only a network that does not fit rows is run in threads.
-// What is left to drain is run by the caller alone: to start threads for each look whether
-// every packet is out takes longer.
-pub(crate) fn run_by_workers<R: Threads + Wait + Sync, W: Sink>(
-    rt: &R,
-    alloc: Global,
-    files: &Files<'_>,
-    workers: usize,
-    report: Report,
-    drain: bool,
-    sink: &mut W,
-) -> Result<Status, Fault>
-    requires report { report_of files.now.command ≡ Some report }
-    requires drain { runs_until_out files.now.command ≡ drain }
-    requires workers { workers_of files.now.command ≡ workers }
-    requires number { (1 < workers) × (workers ≤ MAX_WORKERS) }
-    ensures { IsAnswered W.contents W.has_failed sink.old sink.new (lent_files files.now) result }
-{
-    let (network, cycles) = opening_network(rt, alloc, files)?;
-    match run_stretches(rt, alloc, network, cycles, workers) {
-        Ok(mut network) => {
-            run_on(&mut network, drain);
-            ended(write_report(&network, report, sink), ending(&network))
-        }
-        Err(fault) => Err(Fault::Run(fault)),
-    }
 }
 
 // The network before its first cycle, and the cycles of the configuration, once the ranks are

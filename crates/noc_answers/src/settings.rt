@@ -143,7 +143,7 @@ pub(crate) fn packet_fault(command: Command, packets: usize) -> Option<OptionFau
     }
 }
 
-// The routing rule of a rule word, whose rows are those of the table file where it is `table`.
+// The routing rule of this name, whose rows are those of the table file where it is `table`.
 fn rule_of(
     alloc: Global,
     name: RuleName,

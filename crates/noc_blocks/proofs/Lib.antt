@@ -16,6 +16,7 @@ pub mod DecidedLemmas
 pub mod AllottedLemmas
 pub mod NumberedLemmas
 pub mod LaneLemmas
+pub mod SomeLemmas
 pub mod SendingLemmas
 pub mod TakenAllLemmas
 pub mod BeginningLemmas

@@ -3,10 +3,10 @@ use Rattle.std.proofs.Common.{◌≡◌, ℕ, List, false, None, Some, refl, ap,
 use Rattle.std.specs.Prelude.{Option, slice_get, slice_index}
 use Rattle.std.proofs.lemmas.Bool.{false≢true}
 use Rattle.noc_packet.specs.Set.{has_bit}
-use Rattle.noc_packet.specs.declared.packet.Packet.{Packet}
 use Rattle.noc_route.specs.Routes.{Routes}
 use Rattle.noc_blocks.specs.Marks.{marks_at, marks_by, marks_or_none, packet_at, packet_or_none}
 use Rattle.noc_blocks.specs.Routing.{AreHeads}
+use Rattle.noc_blocks.specs.declared.header.Header.{Header}
 use Rattle.noc_blocks.specs.declared.marks.Marks.{Marks}
 use Rattle.noc_blocks.specs.declared.numbering.Numbering.{Numbering}
 use Rattle.noc_packet.proofs.SetLemmas.{has_bit-zero}
@@ -40,11 +40,11 @@ routed-nothing heads sets m wanted none = record {
 -- ---- in a block
 module _ {A : Type 0} (value : A → ℕ) where
   -- the heads of a router are heads of the packets that hold its channels
-  pub heads-here : (relation : Routes) (numbering : Numbering) (packets : List Packet) (some heads : ℕ) (old now : List (Marks A)) (m : Marks A) (t : ℕ) → some ≡ heads → slice_get now t ≡ Some m
-      → marks_at value now (λ q. 0) (λ q. 0) t ≡ marks_at value old (λ q. 0) (λ q. 0) t → AreHeads relation numbering packets heads (packet_at old t) → AreHeads relation numbering packets some (slice_index m.packet)
-  heads-here relation numbering packets some heads old now m t is here same are =
-      subst (λ (n : ℕ). AreHeads relation numbering packets n (slice_index m.packet)) (sym is)
-      (subst (λ (f : ℕ → ℕ). AreHeads relation numbering packets heads f)
+  pub heads-here : (relation : Routes) (numbering : Numbering) (headers : List Header) (some heads : ℕ) (old now : List (Marks A)) (m : Marks A) (t : ℕ) → some ≡ heads → slice_get now t ≡ Some m
+      → marks_at value now (λ q. 0) (λ q. 0) t ≡ marks_at value old (λ q. 0) (λ q. 0) t → AreHeads relation numbering headers heads (packet_at old t) → AreHeads relation numbering headers some (slice_index m.packet)
+  heads-here relation numbering headers some heads old now m t is here same are =
+      subst (λ (n : ℕ). AreHeads relation numbering headers n (slice_index m.packet)) (sym is)
+      (subst (λ (f : ℕ → ℕ). AreHeads relation numbering headers heads f)
       (sym (packets-are old) ∙ sym (ap (λ (x : RouterMarks). x.packet) same) ∙ ap (λ (x : Option (Marks A)). (marks_or_none value x (λ q. 0) (λ q. 0)).packet) here) are)
     where
       packets-by : (x : Option (Marks A)) → (marks_or_none value x (λ q. 0) (λ q. 0)).packet ≡ packet_or_none x

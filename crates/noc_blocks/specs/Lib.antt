@@ -1,3 +1,4 @@
+pub mod Some
 pub mod Ports
 pub mod Routers
 pub mod Steps

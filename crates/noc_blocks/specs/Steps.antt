@@ -19,7 +19,6 @@ use Rattle.noc_lanes.specs.declared.channels.Outputs.{Outputs}
 use Rattle.noc_lanes.specs.declared.channels.Returned.{Returned}
 use Rattle.noc_lanes.specs.declared.channels.Source.{Source}
 use Rattle.noc_lanes.specs.declared.channels.Standing.{Standing}
-use Rattle.noc_lanes.specs.declared.channels.Verdicts.{Verdicts}
 use Rattle.noc_blocks.specs.Routers.{column_of}
 
 -- ---- credits come
@@ -132,12 +131,3 @@ pub record SettlesOutputs (layout : Layout) (out freed : ℕ) (o p : Outputs ℕ
   pub draining : p.draining ≡ bit_or o.draining (bit_and freed layout.links)
   pub idle : p.idle ≡ bit_or o.idle (bit_and freed layout.local)
   pub credit : list_of p.credit ≡ lowered_by (list_of o.credit) (bit_and out layout.links)
-
--- ---- the verdicts of a cycle that are counted by rows, before they take effect
-pub record GivesVerdicts (active filled : ℕ) (standing : Standing ℕ) (losers movers : ℕ)
-    (what : Verdicts ℕ) : Type 0 where
-  pub no_credit : what.no_credit ≡ less (bit_and active filled) standing.ready
-  pub lost_input : what.lost_input ≡ less standing.ready standing.picked
-  pub lost_switch : what.lost_switch ≡ less standing.picked movers
-  pub moved : what.moved ≡ movers
-  pub lost_channel : what.lost_channel ≡ losers

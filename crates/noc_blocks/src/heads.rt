@@ -9,11 +9,11 @@ ghost use Rattle.noc_lanes.specs.Lanes.{word};
 ghost use Rattle.noc_blocks.specs.Marks.{marks_at, packet_at};
 ghost use Rattle.noc_blocks.specs.Routing.{AreHeads, AreRoutable, sets_by};
 
+use crate::header::Header;
 use crate::marks::Marks;
 use crate::numbering::Numbering;
 use crate::route::route_router;
 use noc_lanes::{LANES, Lanes, Word, at, put};
-use noc_packet::Packet;
 use noc_route::Relation;
 
 /// What heads are routed by.
@@ -23,8 +23,8 @@ pub struct Guide<'a> {
     pub relation: &'a Relation,
     /// Where the channels of a router are.
     pub numbering: &'a Numbering,
-    /// The packets, by number.
-    pub packets: &'a [Packet],
+    /// The headers of the packets, by number.
+    pub headers: &'a [Header],
 }
 
 /// In each of these lanes heads are routed, and the channels that they may take are wanted. The
@@ -40,15 +40,15 @@ pub fn route_all<W: Word>(
     requires fits { width guide.now.relation.now.grid guide.now.relation.now.vcs ≤ W.bits }
     requires nodes { (k : ℕ) → k < LANES → has_bit heading k ≡ true
         → first + k < nodes guide.now.relation.now.grid }
-    requires packets { AreRoutable guide.now.relation.now guide.now.packets.now }
+    requires headers { AreRoutable guide.now.relation.now guide.now.headers.now }
     requires heading { (k : ℕ) → k < LANES
         → has_bit heading k ≡ not (nat_eq (word W.value k heads.now) 0) }
     requires heads { (k : ℕ) → k < LANES
-        → AreHeads guide.now.relation.now guide.now.numbering.now guide.now.packets.now
+        → AreHeads guide.now.relation.now guide.now.numbering.now guide.now.headers.now
         (word W.value k heads.now) (packet_at marks.old k) }
     ensures { (k : ℕ) (to_port port_turn : ℕ → ℕ) → k < LANES
         → HasRouted (word W.value k heads.now) (sets_by guide.now.relation.now
-        guide.now.numbering.now guide.now.packets.now (first + k))
+        guide.now.numbering.now guide.now.headers.now (first + k))
         (marks_at W.value marks.old to_port port_turn k)
         (marks_at W.value marks.new to_port port_turn k)
         (word W.value k wanted.old) (word W.value k wanted.new) }
@@ -60,7 +60,7 @@ pub fn route_all<W: Word>(
         let begins = at(heads, lane);
         let sets = route_router(
             guide.relation,
-            guide.packets,
+            guide.headers,
             guide.numbering,
             node,
             begins,

@@ -58,12 +58,14 @@ pub fn gather<W: Word>(
     ensures nothing { (k : ℕ) → k < LANES → BringsNothing W.value links k sides.now
         → word W.value k into.new ≡ 0 }
 {
-    *into = alike(W::none());
-    gather_side(width, links, &sides.straight, row, into);
-    gather_rings(width, links, sides, row, into);
+    let mut all = alike(W::none());
+    gather_side(width, links, &sides.straight, row, &mut all);
+    gather_rings(width, links, sides, row, &mut all);
+    *into = all;
 }
 
 // What the neighbours at the other end of a ring bring, where there are rings.
+#[inline(always)]
 fn gather_rings<W: Word>(
     width: u32,
     links: usize,
@@ -86,6 +88,7 @@ fn gather_rings<W: Word>(
 
 // What the neighbours at one distance bring. (The loop over ports is unrolled where their number is
 // known.)
+#[inline(always)]
 fn gather_side<W: Word>(
     width: u32,
     links: usize,
@@ -128,9 +131,12 @@ fn join_side<W: Word>(
         ≡ bit_or (word W.value k into.old)
         (union_from 0 links (brought_by W.value W.bits width side.now row.now k)) }
 {
+    // (A value of its own is none of the words that are written. So the compiler takes several lanes
+    // at a time.)
+    let starts = side.starts;
     for j in 0..LANES {
         let before = at(into, j);
-        let comes = brought_to(width, count, side, row, j);
+        let comes = brought_to(width, count, &starts, &side.masks, row, j);
         let all = before.or(comes);
         put(into, j, all);
     }
@@ -141,22 +147,24 @@ fn join_side<W: Word>(
 fn brought_to<W: Word>(
     width: u32,
     links: usize,
-    side: &Side<Lanes<W>>,
+    starts: &[usize; PORTS],
+    masks: &[Lanes<W>; PORTS],
     row: &[W; ROW],
     lane: usize,
 ) -> W
     requires width { width < W.bits }
     requires links { links ≤ PORTS }
-    requires row { (q : ℕ) → q < links → slice_index side.now.starts q + LANES ≤ ROW }
+    requires row { (q : ℕ) → q < links → slice_index starts.now q + LANES ≤ ROW }
     requires lane { lane < LANES }
     ensures { W.value result
-        ≡ union_from 0 links (brought_by W.value W.bits width side.now row.now lane) }
+        ≡ union_from 0 links (brought_by W.value W.bits width
+        (record { starts = starts.now; masks = masks.now }) row.now lane) }
 {
     let mut all = W::none();
     for port in 0..links {
-        let over = word_at(row, side.starts[port] + lane);
+        let over = word_at(row, starts[port] + lane);
         let moved = moved(width, port % 2 == 0, over);
-        let here = at(&side.masks[port], lane);
+        let here = at(&masks[port], lane);
         let comes = moved.and(here);
         all = all.or(comes);
     }

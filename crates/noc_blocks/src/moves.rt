@@ -8,7 +8,7 @@ ghost use Rattle.noc_sets.specs.Turns.{first_bit};
 ghost use Rattle.noc_lanes.specs.Channels.{moves_by};
 ghost use Rattle.noc_lanes.specs.Lanes.{word};
 ghost use Rattle.noc_lanes.specs.Words.{up_within};
-ghost use Rattle.noc_blocks.specs.Ports.{by_port, digits_of};
+ghost use Rattle.noc_blocks.specs.Ports.{AreEnough, by_port, digits_of};
 ghost use Rattle.noc_blocks.specs.Routers.{IsFrame, frame_by};
 ghost use Rattle.noc_blocks.specs.Steps.{TakesMove, TakesMoves, channel_from};
 
@@ -36,26 +36,76 @@ pub fn move_by_ports<W: Word>(
         (moves_by (word W.value k) moves.new) }
     ensures sends { ports.new.sends ≡ ports.old.sends }
 {
-    match frame.ports {
-        3 => move_all(frame, 3, picked, single, ports, moves),
-        5 => move_all(frame, 5, picked, single, ports, moves),
-        7 => move_all(frame, 7, picked, single, ports, moves),
-        count => move_all(frame, count, picked, single, ports, moves),
+    // (A value of its own is none of the rows that are written. So the compiler takes several lanes
+    // at a time.)
+    let own = *frame;
+    match ports.sends.vc.count() {
+        1 => move_by_bits(&own, 1, picked, single, ports, moves),
+        2 => move_by_bits(&own, 2, picked, single, ports, moves),
+        _ => move_by_bits(&own, 3, picked, single, ports, moves),
     }
 }
 
-// .. of so many ports. (The loop over ports is unrolled where their number is known.)
+// .. whose virtual channels so many bits tell.
 #[inline(always)]
-fn move_all<W: Word>(
+fn move_by_bits<W: Word>(
     frame: &Frame<W>,
-    count: usize,
+    bits: usize,
     picked: &Lanes<W>,
     single: &Lanes<W>,
     ports: &mut Ports<Lanes<W>>,
     moves: &mut Moves<Lanes<W>>,
 )
     requires frame { IsFrame W.bits (frame_by W.value frame.now) }
-    requires count { count ≡ frame.now.ports }
+    requires bits { AreEnough W.value bits ports.old.sends.vc }
+    ensures moves { (k : ℕ) → k < LANES
+        → TakesMoves W.bits frame.now.fields.width frame.now.ports
+        (word W.value k picked.now) (word W.value k single.now)
+        (digits_of (word W.value k) ports.old.sends.vc)
+        (by_port W.value ports.old.sends.to_port k)
+        (by_port W.value ports.old.turn k) (by_port W.value ports.new.turn k)
+        (moves_by (word W.value k) moves.new) }
+    ensures sends { ports.new.sends ≡ ports.old.sends }
+{
+    match frame.ports {
+        3 => move_all(frame, Extent::of(3, bits), picked, single, ports, moves),
+        5 => move_all(frame, Extent::of(5, bits), picked, single, ports, moves),
+        7 => move_all(frame, Extent::of(7, bits), picked, single, ports, moves),
+        count => move_all(frame, Extent::of(count, bits), picked, single, ports, moves),
+    }
+}
+
+// How many ports a router has, and how many bits tell a virtual channel of the routers of a block.
+#[derive(Clone, Copy)]
+struct Extent {
+    ports: usize,
+    bits: usize,
+}
+
+impl Extent {
+    // So many ports, and so many bits.
+    #[inline(always)]
+    fn of(ports: usize, bits: usize) -> Self
+        ensures { result ≡ record { ports = ports; bits = bits } }
+    {
+        Extent { ports, bits }
+    }
+}
+
+// .. of so many ports too. (Where these numbers are known, the loop over ports is unrolled, and
+// bits that are not needed cost nothing.)
+#[inline(always)]
+fn move_all<W: Word>(
+    frame: &Frame<W>,
+    extent: Extent,
+    picked: &Lanes<W>,
+    single: &Lanes<W>,
+    ports: &mut Ports<Lanes<W>>,
+    moves: &mut Moves<Lanes<W>>,
+)
+    requires frame { IsFrame W.bits (frame_by W.value frame.now) }
+    requires ports { extent.ports ≡ frame.now.ports }
+    requires bits { AreEnough W.value extent.bits ports.old.sends.vc }
     ensures moves { (k : ℕ) → k < LANES
         → TakesMoves W.bits frame.now.fields.width frame.now.ports
         (word W.value k picked.now) (word W.value k single.now)
@@ -68,7 +118,7 @@ fn move_all<W: Word>(
     for j in 0..LANES {
         let candidates = at(picked, j);
         let last = at(single, j);
-        let words = moves_of(frame, count, j, candidates, last, ports);
+        let words = moves_of(frame, extent, j, candidates, last, ports);
         moves.put(j, words);
     }
 }
@@ -77,14 +127,15 @@ fn move_all<W: Word>(
 #[inline(always)]
 fn moves_of<W: Word>(
     frame: &Frame<W>,
-    count: usize,
+    extent: Extent,
     lane: usize,
     picked: W,
     single: W,
     ports: &mut Ports<Lanes<W>>,
 ) -> Moves<W>
     requires frame { IsFrame W.bits (frame_by W.value frame.now) }
-    requires count { count ≡ frame.now.ports }
+    requires ports { extent.ports ≡ frame.now.ports }
+    requires bits { AreEnough W.value extent.bits ports.old.sends.vc }
     requires lane { lane < LANES }
     ensures moves { TakesMoves W.bits frame.now.fields.width frame.now.ports
         (W.value picked) (W.value single)
@@ -96,13 +147,13 @@ fn moves_of<W: Word>(
         → by_port W.value ports.new.turn k q ≡ by_port W.value ports.old.turn k q }
     ensures sends { ports.new.sends ≡ ports.old.sends }
 {
-    let vc = ports.sends.vc.at(lane);
+    let vc = ports.sends.vc.at(lane, extent.bits);
     let mut moves = Moves {
         moved: W::none(),
         out: W::none(),
         dry: W::none(),
     };
-    for port in 0..count {
+    for port in 0..extent.ports {
         let first = first_of(frame, port);
         let to_port = at(&ports.sends.to_port[port], lane);
         let requests = picked.and(to_port);

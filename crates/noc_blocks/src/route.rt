@@ -8,17 +8,18 @@ ghost use Rattle.noc_sets.specs.Routed.{HasRouted};
 ghost use Rattle.noc_blocks.specs.Marks.{marks_by};
 ghost use Rattle.noc_blocks.specs.Routing.{AreHeads, AreRoutable, IsRoutable, set_by, sets_by};
 
+use crate::header::Header;
 use crate::marks::{Marks, note};
 use crate::numbering::Numbering;
 use noc_lanes::Word;
-use noc_packet::{ChannelSet, INDICES, Packet};
+use noc_packet::{ChannelSet, INDICES};
 use noc_route::Relation;
 
 /// Each of these heads of a router waits for one of the channels that its packet may take. The
 /// answer is all those channels.
 pub fn route_router<W: Word>(
     relation: &Relation,
-    packets: &[Packet],
+    headers: &[Header],
     numbering: &Numbering,
     node: usize,
     heads: W,
@@ -26,11 +27,11 @@ pub fn route_router<W: Word>(
 ) -> W
     requires fits { width relation.now.grid relation.now.vcs ≤ W.bits }
     requires node { node < nodes relation.now.grid }
-    requires packets { AreRoutable relation.now packets.now }
-    requires heads { AreHeads relation.now numbering.now packets.now
+    requires headers { AreRoutable relation.now headers.now }
+    requires heads { AreHeads relation.now numbering.now headers.now
         (W.value heads) (slice_index marks.old.packet) }
     ensures { (to_port port_turn : ℕ → ℕ) (wanted : ℕ) → HasRouted (W.value heads)
-        (sets_by relation.now numbering.now packets.now node)
+        (sets_by relation.now numbering.now headers.now node)
         (marks_by W.value marks.old to_port port_turn) (marks_by W.value marks.new to_port
         port_turn) wanted (bit_or wanted (W.value result)) }
 {
@@ -39,10 +40,10 @@ pub fn route_router<W: Word>(
     while !rest.is_none() {
         let input = rest.least();
         let number = marks.packet[input] as usize;
-        let packet = packets[number];
+        let header = headers[number];
         let port = usize::from(numbering.port[input]);
         let vc = usize::from(numbering.vc[input]);
-        let set = set_for(relation, packet, node, port, vc);
+        let set = set_for(relation, header, node, port, vc);
         note(&mut marks.set, input, set);
         all = all.or(set);
         rest = rest.but_lowest();
@@ -50,17 +51,17 @@ pub fn route_router<W: Word>(
     all
 }
 
-// The channels that a packet may take which came to a node by this port and virtual channel.
-fn set_for<W: Word>(relation: &Relation, packet: Packet, node: usize, port: usize, vc: usize) -> W
+// The channels that a packet with this header may take which came to a node by this port and virtual channel.
+fn set_for<W: Word>(relation: &Relation, header: Header, node: usize, port: usize, vc: usize) -> W
     requires fits { width relation.now.grid relation.now.vcs ≤ W.bits }
     requires node { node < nodes relation.now.grid }
-    requires packet { IsRoutable relation.now packet }
+    requires header { IsRoutable relation.now header }
     requires port { port < ports relation.now.grid }
     requires vc { vc < relation.now.vcs }
-    ensures { W.value result ≡ set_by relation.now packet node port vc }
+    ensures { W.value result ≡ set_by relation.now header node port vc }
 {
-    let class = packet.class as usize;
-    let destination = packet.destination as usize;
+    let class = header.class as usize;
+    let destination = header.destination as usize;
     W::of(bits_of(relation.permitted(class, node, port, vc, destination)))
 }
 

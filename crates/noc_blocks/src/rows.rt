@@ -15,7 +15,8 @@ pub fn put_row<W: Word>(lanes: &Lanes<W>, start: usize, row: &mut [W; ROW])
     ensures others { (p : ℕ) → (p < start) ⊎ (start + LANES ≤ p)
         → slice_index (map W.value row.new) p ≡ slice_index (map W.value row.old) p }
 {
+    let words = *lanes;
     for j in 0..LANES {
-        row[start + j] = at(lanes, j);
+        row[start + j] = at(&words, j);
     }
 }

@@ -1,10 +1,11 @@
 //! By which output channels the active input channels of the routers of a block send.
 
-ghost use Rattle.std.specs.Prelude.{◌≡◌, ◌<◌};
+ghost use Rattle.std.specs.Prelude.{◌≡◌, ◌<◌, if◌then◌else◌};
 ghost use Rattle.noc_lanes.specs.Lanes.{word};
-ghost use Rattle.noc_blocks.specs.Ports.{digits_of};
+ghost use Rattle.noc_blocks.specs.Ports.{AreEnough, digits_of};
 
 use crate::frame::PORTS;
+use crate::some::has_some;
 use noc_lanes::{LANES, Lanes, Word, at};
 
 /// A number, 0 to 7, of each channel, bit by bit.
@@ -19,17 +20,45 @@ pub struct Digits<T> {
 }
 
 impl<W: Word> Digits<Lanes<W>> {
-    /// The numbers of one router.
+    /// How many bits tell the numbers of all routers.
     #[inline(always)]
-    pub fn at(&self, lane: usize) -> Digits<W>
-        requires { lane < LANES }
+    pub fn count(&self) -> usize
+        ensures { AreEnough W.value result self.now }
+    {
+        if has_some(&self.fours) {
+            3
+        } else if has_some(&self.twos) {
+            2
+        } else {
+            1
+        }
+    }
+
+    /// The numbers of one router, where so many bits tell them.
+    #[inline(always)]
+    pub fn at(&self, lane: usize, count: usize) -> Digits<W>
+        requires lane { lane < LANES }
+        requires enough { AreEnough W.value count self.now }
         ensures { digits_of W.value result ≡ digits_of (word W.value lane) self.now }
     {
         Digits {
             ones: at(&self.ones, lane),
-            twos: at(&self.twos, lane),
-            fours: at(&self.fours, lane),
+            twos: at_where(count > 1, &self.twos, lane),
+            fours: at_where(count > 2, &self.fours, lane),
         }
+    }
+}
+
+// The word of one router where that is told to be needed, and else none.
+#[inline(always)]
+fn at_where<W: Word>(is_needed: bool, lanes: &Lanes<W>, lane: usize) -> W
+    requires { lane < LANES }
+    ensures { W.value result ≡ (if is_needed then word W.value lane lanes.now else 0) }
+{
+    if is_needed {
+        at(lanes, lane)
+    } else {
+        W::none()
     }
 }
 

@@ -13,7 +13,7 @@ use Rattle.noc_commands.specs.declared.command.Command.TheVariants.{Joined, Run,
 use Rattle.noc_commands.specs.declared.report.Report.{Report}
 use Rattle.noc_commands.specs.declared.report.Report.TheVariants.{Latency}
 use Rattle.noc_commands.specs.declared.command.TheConstants.{MAX_WORKERS}
-use Rattle.noc_commands.specs.Reports.{report_words, word_of}
+use Rattle.noc_commands.specs.Reports.{report_names, name_of}
 use Rattle.noc_commands.specs.Verdicts.{Names, NamesNone}
 use Rattle.noc_commands.specs.declared.verdicts.VerdictSet.{VerdictSet}
 use Rattle.noc_cli.specs.CommandLine.{TakesReports, command_line}
@@ -48,7 +48,7 @@ SaysWorkers found workers = IsSaid (one_text found (codes "workers")) 1 workers
 
 -- the report that an argument names, and the latency report where it names none
 abbrev pub IsReport : Option Text → Report → Type 0
-IsReport arg report = (arg ≡ Some (word_of report)) ⊎ (All (λ other. arg ≢ Some other) report_words × (report ≡ Latency))
+IsReport arg report = (arg ≡ Some (name_of report)) ⊎ (All (λ other. arg ≢ Some other) report_names × (report ≡ Latency))
 
 -- the verdicts that an argument names, and none where there is no argument
 abbrev pub AreVerdicts : Option Text → Option VerdictSet → Type 0

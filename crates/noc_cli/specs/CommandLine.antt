@@ -9,7 +9,7 @@ use Rattle.clap.specs.declared.builder.command.Command.{Command}
 use Rattle.clap.specs.declared.builder.command.Command.TheViews.{out-Command}
 use Rattle.clap.specs.declared.builder.value_parser.ValueParser.{ValueParser}
 use Rattle.clap.specs.declared.builder.value_parser.ValueParser.TheVariants as value
-use Rattle.noc_commands.specs.Reports.{report_words}
+use Rattle.noc_commands.specs.Reports.{report_names}
 
 -- a file that has to be named
 abbrev pub file_arg : Text → Rule
@@ -36,7 +36,7 @@ flag_arg id = record (new_rule id) { long = Some id; action = Some SetTrue }
 
 -- the parser takes the names of the reports
 abbrev pub TakesReports : ValueParser → Type 0
-TakesReports (value.Names names) = map (λ name. name.now) names.now ≡ report_words
+TakesReports (value.Names names) = map (λ name. name.now) names.now ≡ report_names
 TakesReports _ = ⊥
 
 abbrev pub report_arg : ValueParser → Rule

@@ -11,7 +11,7 @@ ghost use Rattle.noc_cli.specs.Args.{AreNoVerdicts, AreVerdicts, IsAskedBy, IsCo
 use crate::version::VERSION;
 use clap::error::ErrorKind;
 use clap::{Arg, ArgAction, ArgMatches, Error, value_parser};
-use noc_commands::{Command, MAX_WORKERS, REPORT_HELP, REPORT_WORDS, Report, VerdictSet};
+use noc_commands::{Command, MAX_WORKERS, REPORT_HELP, REPORT_NAMES, Report, VerdictSet};
 use std::alloc::{AllocError, Global};
 
 /// What the arguments ask for: a command, with the names of its files.
@@ -59,8 +59,8 @@ const AFTER_RUN_HELP: &str =
 every 64 cycles it ends if all packets are out, and it ends at the limit, which is the last due
 time and the number of events that the traffic takes. With ranks, all packets are out by then.
 
-The report is the same for every number of workers. Several threads run only a network whose ports
-times channels are above 31, and only the configuration's cycles. One thread runs all else.
+The report is the same for every number of workers. At present one thread runs each network, so a
+greater number makes no run faster.
 
 Examples:
   noc run mesh.toml traffic.csv --report stalls
@@ -412,6 +412,6 @@ fn report_arg<'a>(alloc: Global) -> Arg<'a>
     ensures { (names : ValueParser) × TakesReports names × IsArg (report_arg names) result }
 {
     option_arg(alloc, "report", "REPORT", REPORT_HELP)
-        .value_parser(REPORT_WORDS.as_slice())
+        .value_parser(REPORT_NAMES.as_slice())
         .default_value("latency")
 }

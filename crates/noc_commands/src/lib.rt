@@ -1,4 +1,4 @@
-//! What the program can be asked for: commands, the reports of a run with their words, and sets of
+//! What the program can be asked for: commands, the reports of a run with their names, and sets of
 //! verdicts by their names.
 #![tactic(auto)]
 
@@ -7,5 +7,5 @@ mod report;
 mod verdicts;
 
 pub use command::{Command, MAX_WORKERS};
-pub use report::{REPORT_HELP, REPORT_WORDS, Report};
+pub use report::{REPORT_HELP, REPORT_NAMES, Report};
 pub use verdicts::VerdictSet;

@@ -1,7 +1,7 @@
-//! The reports of a run, with their words. A new report is one more line in each of the four lists.
+//! The reports of a run, with their names. A new report is one more line in each of the four lists.
 
 ghost use Rattle.std.specs.Prelude.{◌≡◌, ◌≢◌, All, IfNone, IfSome};
-ghost use Rattle.noc_commands.specs.Reports.{report_words, word_of};
+ghost use Rattle.noc_commands.specs.Reports.{report_names, name_of};
 
 /// The reports of a run.
 #[derive(Clone, Copy, Debug, PartialEq, Eq)]
@@ -14,8 +14,8 @@ pub enum Report {
     Stalls,
 }
 
-/// The words of the reports.
-pub const REPORT_WORDS: [&str; 3] = ["summary", "latency", "stalls"];
+/// The names of the reports.
+pub const REPORT_NAMES: [&str; 3] = ["summary", "latency", "stalls"];
 
 /// What the reports tell, a line for each.
 pub const REPORT_HELP: &str = "latency  when each packet was out, and how long that took
@@ -24,12 +24,12 @@ summary  the sums of both over the whole network
 ";
 
 impl Report {
-    /// The report that a word names, if it names one.
-    pub fn named(word: &str) -> Option<Report>
-        ensures some { IfSome result (λ report. word.now ≡ word_of report) }
-        ensures none { IfNone result (All (λ other. word.now ≢ other) report_words) }
+    /// The report of this name, if there is one.
+    pub fn named(name: &str) -> Option<Report>
+        ensures some { IfSome result (λ report. name.now ≡ name_of report) }
+        ensures none { IfNone result (All (λ other. name.now ≢ other) report_names) }
     {
-        match word {
+        match name {
             "summary" => Some(Report::Summary),
             "latency" => Some(Report::Latency),
             "stalls" => Some(Report::Stalls),

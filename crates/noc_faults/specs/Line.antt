@@ -19,8 +19,8 @@ use Rattle.noc_route.specs.declared.rule.RouteFault.{RouteFault}
 use Rattle.noc_route.specs.declared.rule.RouteFault.TheVariants as route
 use Rattle.noc_route.specs.declared.rule.RouteRow.{RouteRow}
 use Rattle.noc_topo.specs.declared.shape.ShapeFault.{ShapeFault}
-use Rattle.noc_tiles.specs.declared.fault.RunFault.{RunFault}
-use Rattle.noc_tiles.specs.declared.fault.RunFault.TheVariants as run
+use Rattle.noc_tiles.specs.declared.threads.RunFault.{RunFault}
+use Rattle.noc_tiles.specs.declared.threads.RunFault.TheVariants as run
 use Rattle.noc_faults.specs.declared.fault.OptionFault.{OptionFault}
 use Rattle.noc_faults.specs.declared.fault.OptionFault.TheVariants as option
 use Rattle.noc_faults.specs.declared.fault.Fault.{Fault}
@@ -28,26 +28,26 @@ use Rattle.noc_faults.specs.declared.fault.Fault.TheVariants as fault
 use Rattle.noc_faults.specs.declared.line.Detail.{Detail}
 use Rattle.noc_faults.specs.declared.line.Detail.TheVariants as detail
 
--- ---- a detail: a word and a value
+-- ---- a detail: a name and a value
 
-abbrev pub word_of : Detail → List ℕ
-word_of (detail.Key k) = codes " key "
-word_of (detail.Row n) = codes " row "
-word_of (detail.Column n) = codes " column "
-word_of (detail.Class n) = codes " class "
-word_of (detail.Router n) = codes " router "
-word_of (detail.Port g port) = codes " port "
-word_of (detail.Vc n) = codes " vc "
-word_of (detail.Dst n) = codes " dst "
-word_of (detail.Out g port) = codes " out "
-word_of (detail.ToRouter n) = codes " to router "
-word_of (detail.Rank n) = codes " ranks "
-word_of (detail.NextRank n) = codes " "
-word_of (detail.Written n) = codes " written "
+abbrev pub name_of : Detail → List ℕ
+name_of (detail.Key k) = codes " key "
+name_of (detail.Row n) = codes " row "
+name_of (detail.Column n) = codes " column "
+name_of (detail.Class n) = codes " class "
+name_of (detail.Router n) = codes " router "
+name_of (detail.Port g port) = codes " port "
+name_of (detail.Vc n) = codes " vc "
+name_of (detail.Dst n) = codes " dst "
+name_of (detail.Out g port) = codes " out "
+name_of (detail.ToRouter n) = codes " to router "
+name_of (detail.Rank n) = codes " ranks "
+name_of (detail.NextRank n) = codes " "
+name_of (detail.Written n) = codes " written "
 
 -- the name of a port, or its number where the shape has no such port
-abbrev pub port_word : Grid → ℕ → List ℕ
-port_word g port = if nat_lt port (ports g) then name_of_port g port else decimal port
+abbrev pub port_text : Grid → ℕ → List ℕ
+port_text g port = if nat_lt port (ports g) then name_of_port g port else decimal port
 
 abbrev pub value_of : Detail → List ℕ
 value_of (detail.Key k) = key_name k
@@ -55,17 +55,17 @@ value_of (detail.Row n) = decimal n
 value_of (detail.Column n) = decimal n
 value_of (detail.Class n) = decimal n
 value_of (detail.Router n) = decimal n
-value_of (detail.Port g port) = port_word g port
+value_of (detail.Port g port) = port_text g port
 value_of (detail.Vc n) = decimal n
 value_of (detail.Dst n) = decimal n
-value_of (detail.Out g port) = port_word g port
+value_of (detail.Out g port) = port_text g port
 value_of (detail.ToRouter n) = decimal n
 value_of (detail.Rank n) = decimal n
 value_of (detail.NextRank n) = decimal n
 value_of (detail.Written n) = decimal n
 
 abbrev pub detail_text : Detail → List ℕ
-detail_text d = word_of d ++ value_of d
+detail_text d = name_of d ++ value_of d
 
 -- `fault`, a family, a number with its name, and details
 unfoldable pub line_with : List ℕ → List ℕ → List Detail → List ℕ

@@ -29,7 +29,7 @@ pub enum OptionFault {
 }
 
 /// The first fault of a request, by family (docs/FORMATS.md, "Fault lines").
-#[derive(Clone, Copy, Debug)]
+#[derive(Clone, Copy, Debug, PartialEq, Eq)]
 pub enum Fault {
     Joined(InputFault),
     Config(InputFault),

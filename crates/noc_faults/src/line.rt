@@ -2,7 +2,7 @@
 
 ghost use Rattle.std.specs.Prelude.{◌≡◌, ◌≤◌, codes, length};
 ghost use Rattle.noc_files.specs.Writing.{Wrote};
-ghost use Rattle.noc_faults.specs.Line.{channel_details, descent_details, entry_details, fall_details, hop_details, input_details, input_title, line_of, line_with, net_details, net_title, option_title, rank_details, rank_title, route_details, route_title, run_title, shape_title, value_of, word_of};
+ghost use Rattle.noc_faults.specs.Line.{channel_details, descent_details, entry_details, fall_details, hop_details, input_details, input_title, line_of, line_with, net_details, net_title, option_title, rank_details, rank_title, route_details, route_title, run_title, shape_title, value_of, name_of};
 
 use crate::fault::{Fault, OptionFault};
 use arrayvec::ArrayString;
@@ -14,7 +14,7 @@ use noc_route::{Entry, RouteFault, RouteRow};
 use noc_tiles::RunFault;
 use noc_topo::{Shape, ShapeFault};
 
-// A detail of a fault: a word and its value. A port comes with the shape that names it.
+// A detail of a fault: a name and its value. A port comes with the shape that names it.
 #[derive(Clone, Copy)]
 enum Detail {
     Key(Key),
@@ -33,9 +33,9 @@ enum Detail {
 }
 
 impl Detail {
-    // The word before the value.
-    fn word(self) -> &'static str
-        ensures word { result.now ≡ word_of self }
+    // The name before the value.
+    fn name(self) -> &'static str
+        ensures name { result.now ≡ name_of self }
         ensures short { length result.now ≤ 20 }
     {
         match self {
@@ -130,7 +130,7 @@ fn line_with(family: &str, title: &str, details: &[Detail]) -> Line
     line.push_str(title);
     for detail in details {
         let mut buffer = Buffer::new();
-        line.push_str(detail.word());
+        line.push_str(detail.name());
         line.push_str(detail.value(&mut buffer));
     }
     line.push_str("\n");

@@ -21,8 +21,8 @@ fn assert_moves(rt: &impl Abort, mut network: Network, cycles: &[u64])
     }
 }
 
-// A packet of three flits: with two places the third flit waits for the first one's credit; with
-// one place each flit waits for the one before it.
+// A packet of three flits: with two slots the third flit waits for the first one's credit; with
+// one slot each flit waits for the one before it.
 #[test]
 fn a_flit_moves_once_it_has_a_credit(rt: HostRuntime) -> Result<(), Fail> {
     let packets = [packet(0, 1, 3, 0)];

@@ -7,6 +7,8 @@ mod configurations;
 #[cfg(test)]
 mod cycles;
 #[cfg(test)]
+mod growth;
+#[cfg(test)]
 mod inputs;
 #[cfg(test)]
 mod rank_files;

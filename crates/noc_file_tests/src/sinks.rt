@@ -82,16 +82,16 @@ fn pieces_into_a_sink_that_takes_some_bytes(rt: HostRuntime) -> Result<(), Fail>
     let text = b"fault network 4\n".as_slice();
     for count in 0..text.len() + 1 {
         for end in [End::TakesNothing, End::Fails] {
-            let mut room = vec![in rt.alloc(); 0u8; count]?;
+            let mut bytes = vec![in rt.alloc(); 0u8; count]?;
             let mut out = Out::new(Narrow {
-                taken: room.as_mut_slice(),
+                taken: bytes.as_mut_slice(),
                 count: 0,
                 calls: 0,
                 end,
             });
             let answer = write_pieces(&PIECES, &mut out);
             assert_eq!(rt; outcome(answer, out), wanted(count, text.len()));
-            assert!(rt; text.starts_with(room.as_slice()));
+            assert!(rt; text.starts_with(bytes.as_slice()));
         }
     }
     Ok(())
@@ -104,16 +104,16 @@ fn a_stall_report_into_a_sink_that_takes_some_bytes(rt: HostRuntime) -> Result<(
     let text = LINE_OF_THREE_STALLS;
     for count in 0..text.len() + 1 {
         for end in [End::TakesNothing, End::Fails] {
-            let mut room = vec![in rt.alloc(); 0u8; count]?;
+            let mut bytes = vec![in rt.alloc(); 0u8; count]?;
             let mut out = Out::new(Narrow {
-                taken: room.as_mut_slice(),
+                taken: bytes.as_mut_slice(),
                 count: 0,
                 calls: 0,
                 end,
             });
             let answer = write_stalls(&network, &mut out);
             assert_eq!(rt; outcome(answer, out), wanted(count, text.len()));
-            assert!(rt; text.starts_with(room.as_slice()));
+            assert!(rt; text.starts_with(bytes.as_slice()));
         }
     }
     Ok(())

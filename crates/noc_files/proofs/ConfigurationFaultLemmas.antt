@@ -18,10 +18,10 @@ use Rattle.noc_files.specs.declared.fault.Key.{Key}
 use Rattle.noc_files.specs.declared.fault.Key.TheVariants as key
 use Rattle.noc_files.specs.declared.configuration.TheConstants.{MAX_CYCLES}
 use Rattle.noc_packet.specs.declared.limits.TheConstants.{MAX_BUFFER, MAX_CHANNELS, MAX_CLASSES}
-use Rattle.noc_files.specs.Configuration.{AreIntegers, HasAllowed, HasBadKey, HasValue, IsAllowed, IsConfigurationFault, IsDocument, IsIntegerIn, IsKeyFault, IsNoDocument, IsOfType, Settings, all_integers, all_known, config_at, config_of, document_of, integers, kind_at, kind_of, kind_name, lengths_of, number_in, radix_at, rule_setting, typed_at, within}
+use Rattle.noc_files.specs.Configuration.{AreIntegers, HasAllowed, HasBadKey, HasValue, IsAllowed, IsConfigurationFault, IsDocument, IsIntegerIn, IsKeyFault, IsNoDocument, IsOfType, Settings, all_integers, all_known, config_at, config_of, document_of, integers, kind_at, kind_of, kind_name, lengths_of, integer_in, radix_at, rule_setting, typed_at, within}
 use Rattle.noc_files.specs.Gives.{◌>>=◌}
 use Rattle.noc_files.specs.Keys.{key_name}
-use Rattle.noc_files.proofs.ConfigurationLemmas.{are_keys, are_lengths, array_is, document_is, integer_is, is_kind, is_within, keys_are, kind_at_is, number_is, radix_is, rule_at_is, string_is, typed_is}
+use Rattle.noc_files.proofs.ConfigurationLemmas.{are_keys, are_lengths, array_is, document_is, integer_is, is_kind, is_within, keys_are, kind_at_is, integer_found, radix_is, rule_at_is, string_is, typed_is}
 use Rattle.noc_files.proofs.SheetLemmas.{bind_ok}
 use Rattle.noc_files.proofs.TrafficLemmas.{found_in}
 
@@ -79,9 +79,9 @@ rule_fault ms fault e =
           }))
     ]
 
-number_fault : (ms : Members) (k : Key) (low high : ℕ) (only : (d : Data) → IsOfType k d → (z : ℤ) × (d ≡ integer z)) (made : (z : ℤ) → IsOfType k (integer z)) (limited : (d : Data) → IsAllowed k d → IsIntegerIn low high d) (fault : InputFault)
-    → number_in k low high ms ≡ Err fault → IsKeyFault ms k fault
-number_fault ms k low high only made limited fault e =
+integer_fault : (ms : Members) (k : Key) (low high : ℕ) (only : (d : Data) → IsOfType k d → (z : ℤ) × (d ≡ integer z)) (made : (z : ℤ) → IsOfType k (integer z)) (limited : (d : Data) → IsAllowed k d → IsIntegerIn low high d) (fault : InputFault)
+    → integer_in k low high ms ≡ Err fault → IsKeyFault ms k fault
+integer_fault ms k low high only made limited fault e =
     elim (bind_err (typed_at as_integer k ms) (λ z. ok_or (within low high z) (BadValue k)) fault e) [
       | inl early ↦ typed_fault as_integer integer (λ z. refl) k only ms fault early
       | inr found ↦ let none = err_of (within low high found.0) (BadValue k) fault found.2 in
@@ -147,9 +147,9 @@ rule_good ms r e = (string (rule_name r), rule_at_is ms r e, (r, refl))
 radix_good : (ms : Members) (ns : List ℕ) → radix_at ms ≡ Ok ns → HasAllowed ms key.Radix
 radix_good ms ns e = let sizes = radix_is ms ns e in (array (integers ns), sizes.0, (ns, refl, sizes.1))
 
-number_good : (ms : Members) (k : Key) (low high n : ℕ) (allowed : (d : Data) → IsIntegerIn low high d → IsAllowed k d) → number_in k low high ms ≡ Ok n → HasAllowed ms k
-number_good ms k low high n allowed e =
-    let h = number_is ms k low high n e in
+integer_good : (ms : Members) (k : Key) (low high n : ℕ) (allowed : (d : Data) → IsIntegerIn low high d → IsAllowed k d) → integer_in k low high ms ≡ Ok n → HasAllowed ms k
+integer_good ms k low high n allowed e =
+    let h = integer_found ms k low high n e in
     (integer (pos n), h.value, allowed (integer (pos n)) (n, refl, h.least, h.most))
 
 lengths_are_integers : (ns : List ℕ) → AreIntegers (integers ns)
@@ -195,20 +195,20 @@ bad_key ms fault e =
           elim (bind_err (radix_at ms) _ fault a.2) [
             | inl bad ↦ record { before = key.Kind ∷ []; bad = key.Radix; others = key.Channels ∷ key.Buffer ∷ key.Classes ∷ key.Rule ∷ key.Cycles ∷ []; in_order = refl; good = (ka, tt); fault_is = radix_fault ms fault bad }
             | inr b ↦ let kb = radix_good ms b.0 b.1 in
-                elim (bind_err (number_in key.Channels 1 MAX_CHANNELS ms) _ fault b.2) [
-                  | inl bad ↦ record { before = key.Kind ∷ key.Radix ∷ []; bad = key.Channels; others = key.Buffer ∷ key.Classes ∷ key.Rule ∷ key.Cycles ∷ []; in_order = refl; good = (ka, (kb, tt)); fault_is = number_fault ms key.Channels 1 MAX_CHANNELS (λ d h. h) (λ z. (z, refl)) (λ d h. h) fault bad }
-                  | inr c ↦ let kc = number_good ms key.Channels 1 MAX_CHANNELS c.0 (λ d h. h) c.1 in
-                      elim (bind_err (number_in key.Buffer 1 MAX_BUFFER ms) _ fault c.2) [
-                        | inl bad ↦ record { before = key.Kind ∷ key.Radix ∷ key.Channels ∷ []; bad = key.Buffer; others = key.Classes ∷ key.Rule ∷ key.Cycles ∷ []; in_order = refl; good = (ka, (kb, (kc, tt))); fault_is = number_fault ms key.Buffer 1 MAX_BUFFER (λ d h. h) (λ z. (z, refl)) (λ d h. h) fault bad }
-                        | inr f ↦ let kf = number_good ms key.Buffer 1 MAX_BUFFER f.0 (λ d h. h) f.1 in
-                            elim (bind_err (number_in key.Classes 1 MAX_CLASSES ms) _ fault f.2) [
-                              | inl bad ↦ record { before = key.Kind ∷ key.Radix ∷ key.Channels ∷ key.Buffer ∷ []; bad = key.Classes; others = key.Rule ∷ key.Cycles ∷ []; in_order = refl; good = (ka, (kb, (kc, (kf, tt)))); fault_is = number_fault ms key.Classes 1 MAX_CLASSES (λ d h. h) (λ z. (z, refl)) (λ d h. h) fault bad }
-                              | inr g ↦ let kg = number_good ms key.Classes 1 MAX_CLASSES g.0 (λ d h. h) g.1 in
+                elim (bind_err (integer_in key.Channels 1 MAX_CHANNELS ms) _ fault b.2) [
+                  | inl bad ↦ record { before = key.Kind ∷ key.Radix ∷ []; bad = key.Channels; others = key.Buffer ∷ key.Classes ∷ key.Rule ∷ key.Cycles ∷ []; in_order = refl; good = (ka, (kb, tt)); fault_is = integer_fault ms key.Channels 1 MAX_CHANNELS (λ d h. h) (λ z. (z, refl)) (λ d h. h) fault bad }
+                  | inr c ↦ let kc = integer_good ms key.Channels 1 MAX_CHANNELS c.0 (λ d h. h) c.1 in
+                      elim (bind_err (integer_in key.Buffer 1 MAX_BUFFER ms) _ fault c.2) [
+                        | inl bad ↦ record { before = key.Kind ∷ key.Radix ∷ key.Channels ∷ []; bad = key.Buffer; others = key.Classes ∷ key.Rule ∷ key.Cycles ∷ []; in_order = refl; good = (ka, (kb, (kc, tt))); fault_is = integer_fault ms key.Buffer 1 MAX_BUFFER (λ d h. h) (λ z. (z, refl)) (λ d h. h) fault bad }
+                        | inr f ↦ let kf = integer_good ms key.Buffer 1 MAX_BUFFER f.0 (λ d h. h) f.1 in
+                            elim (bind_err (integer_in key.Classes 1 MAX_CLASSES ms) _ fault f.2) [
+                              | inl bad ↦ record { before = key.Kind ∷ key.Radix ∷ key.Channels ∷ key.Buffer ∷ []; bad = key.Classes; others = key.Rule ∷ key.Cycles ∷ []; in_order = refl; good = (ka, (kb, (kc, (kf, tt)))); fault_is = integer_fault ms key.Classes 1 MAX_CLASSES (λ d h. h) (λ z. (z, refl)) (λ d h. h) fault bad }
+                              | inr g ↦ let kg = integer_good ms key.Classes 1 MAX_CLASSES g.0 (λ d h. h) g.1 in
                                   elim (bind_err (rule_setting ms) _ fault g.2) [
                                     | inl bad ↦ record { before = key.Kind ∷ key.Radix ∷ key.Channels ∷ key.Buffer ∷ key.Classes ∷ []; bad = key.Rule; others = key.Cycles ∷ []; in_order = refl; good = (ka, (kb, (kc, (kf, (kg, tt))))); fault_is = rule_fault ms fault bad }
                                     | inr h ↦ let kh = rule_good ms h.0 h.1 in
-                                        elim (bind_err (number_in key.Cycles 1 MAX_CYCLES ms) _ fault h.2) [
-                                          | inl bad ↦ record { before = key.Kind ∷ key.Radix ∷ key.Channels ∷ key.Buffer ∷ key.Classes ∷ key.Rule ∷ []; bad = key.Cycles; others = []; in_order = refl; good = (ka, (kb, (kc, (kf, (kg, (kh, tt)))))); fault_is = number_fault ms key.Cycles 1 MAX_CYCLES (λ d h. h) (λ z. (z, refl)) (λ d h. h) fault bad }
+                                        elim (bind_err (integer_in key.Cycles 1 MAX_CYCLES ms) _ fault h.2) [
+                                          | inl bad ↦ record { before = key.Kind ∷ key.Radix ∷ key.Channels ∷ key.Buffer ∷ key.Classes ∷ key.Rule ∷ []; bad = key.Cycles; others = []; in_order = refl; good = (ka, (kb, (kc, (kf, (kg, (kh, tt)))))); fault_is = integer_fault ms key.Cycles 1 MAX_CYCLES (λ d h. h) (λ z. (z, refl)) (λ d h. h) fault bad }
                                           | inr all ↦ let no = all.2 in absurd (cc no)
                                         ]
                                   ]
@@ -223,19 +223,19 @@ unfolding config_at
 all_good ms s e k =
     let kind = bind_ok (kind_at ms) _ s e in
     let radix = bind_ok (radix_at ms) _ s kind.2 in
-    let channels = bind_ok (number_in key.Channels 1 MAX_CHANNELS ms) _ s radix.2 in
-    let buffer = bind_ok (number_in key.Buffer 1 MAX_BUFFER ms) _ s channels.2 in
-    let classes = bind_ok (number_in key.Classes 1 MAX_CLASSES ms) _ s buffer.2 in
+    let channels = bind_ok (integer_in key.Channels 1 MAX_CHANNELS ms) _ s radix.2 in
+    let buffer = bind_ok (integer_in key.Buffer 1 MAX_BUFFER ms) _ s channels.2 in
+    let classes = bind_ok (integer_in key.Classes 1 MAX_CLASSES ms) _ s buffer.2 in
     let rule = bind_ok (rule_setting ms) _ s classes.2 in
-    let cycles = bind_ok (number_in key.Cycles 1 MAX_CYCLES ms) _ s rule.2 in
+    let cycles = bind_ok (integer_in key.Cycles 1 MAX_CYCLES ms) _ s rule.2 in
     elim k as (λ (k : Key). HasAllowed ms k) [
       | key.Kind ↦ kind_good ms kind.0 kind.1
       | key.Radix ↦ radix_good ms radix.0 radix.1
-      | key.Channels ↦ number_good ms key.Channels 1 MAX_CHANNELS channels.0 (λ d h. h) channels.1
-      | key.Buffer ↦ number_good ms key.Buffer 1 MAX_BUFFER buffer.0 (λ d h. h) buffer.1
-      | key.Classes ↦ number_good ms key.Classes 1 MAX_CLASSES classes.0 (λ d h. h) classes.1
+      | key.Channels ↦ integer_good ms key.Channels 1 MAX_CHANNELS channels.0 (λ d h. h) channels.1
+      | key.Buffer ↦ integer_good ms key.Buffer 1 MAX_BUFFER buffer.0 (λ d h. h) buffer.1
+      | key.Classes ↦ integer_good ms key.Classes 1 MAX_CLASSES classes.0 (λ d h. h) classes.1
       | key.Rule ↦ rule_good ms rule.0 rule.1
-      | key.Cycles ↦ number_good ms key.Cycles 1 MAX_CYCLES cycles.0 (λ d h. h) cycles.1
+      | key.Cycles ↦ integer_good ms key.Cycles 1 MAX_CYCLES cycles.0 (λ d h. h) cycles.1
     ]
 
 first_bad : (ms : Members) (f g : InputFault) (before before' : List Key) (bad bad' : Key) (others others' : List Key) → before ++ bad ∷ others ≡ before' ++ bad' ∷ others' → Each (HasAllowed ms) before → Each (HasAllowed ms) before'

@@ -19,7 +19,7 @@ use Rattle.noc_files.specs.declared.fault.InputFault.{InputFault}
 use Rattle.noc_files.specs.declared.fault.InputFault.TheVariants.{BadToml, BadValue, MissingKey, UnknownKey, WrongType}
 use Rattle.noc_files.specs.declared.fault.Key.{Key}
 use Rattle.noc_files.specs.declared.fault.Key.TheVariants as key
-use Rattle.noc_files.specs.Configuration.{HasKnownKeys, HasNumber, HasValue, IsConfiguration, Settings, all_integers, all_known, config_at, config_of, document_of, integers, is_key, kind_at, kind_of, kind_name, lengths_of, number_in, radix_at, rule_setting, typed_at, within}
+use Rattle.noc_files.specs.Configuration.{HasKnownKeys, HasInteger, HasValue, IsConfiguration, Settings, all_integers, all_known, config_at, config_of, document_of, integers, is_key, kind_at, kind_of, kind_name, lengths_of, integer_in, radix_at, rule_setting, typed_at, within}
 use Rattle.noc_files.specs.declared.configuration.TheConstants.{MAX_CYCLES}
 use Rattle.noc_packet.specs.declared.limits.TheConstants.{MAX_BUFFER, MAX_CHANNELS, MAX_CLASSES}
 use Rattle.noc_files.specs.Keys.{key_name}
@@ -48,7 +48,7 @@ typed_is as_type of_type back k ms x e =
     let typed = found_in (as_type first.0) (WrongType k) x first.2 in
     rw (← back first.0 x typed) there
 
--- ---- words
+-- ---- strings
 
 kind_is : (w : List ℕ) (k : Kind) → kind_of w ≡ Some k → w ≡ kind_name k
 kind_is w k e = by (bytes_eq w (codes "mesh")) refl (bytes_eq w (codes "torus")) refl
@@ -62,7 +62,7 @@ pub is_kind : (k : Kind) → kind_of (kind_name k) ≡ Some k
 is_kind Mesh = refl
 is_kind Torus = refl
 
--- ---- numbers
+-- ---- integers
 
 within_is : (low high : ℕ) (z : ℤ) (n : ℕ) → within low high z ≡ Some n → (z ≡ pos n) × (low ≤ n) × (n ≤ high)
 within_is low high (negsuc m) n e = absurd (cc)
@@ -74,8 +74,8 @@ within_is low high (pos m) n e =
 pub is_within : (low high n : ℕ) → low ≤ n → n ≤ high → within low high (pos n) ≡ Some n
 is_within low high n least most = rw (le-leb low n least, le-leb n high most)
 
-pub number_is : (ms : Members) (k : Key) (low high n : ℕ) → number_in k low high ms ≡ Ok n → HasNumber ms k low high n
-number_is ms k low high n e =
+pub integer_found : (ms : Members) (k : Key) (low high n : ℕ) → integer_in k low high ms ≡ Ok n → HasInteger ms k low high n
+integer_found ms k low high n e =
     let first = bind_ok (typed_at as_integer k ms) (λ z. ok_or (within low high z) (BadValue k)) n e in
     let limits = within_is low high first.0 n (found_in (within low high first.0) (BadValue k) n first.2) in
     record {
@@ -84,8 +84,8 @@ number_is ms k low high n e =
       most = limits.2;
     }
 
-is_number : (ms : Members) (k : Key) (low high n : ℕ) → HasNumber ms k low high n → number_in k low high ms ≡ Ok n
-is_number ms k low high n h = rw h.value (rw (is_within low high n h.least h.most))
+found_integer : (ms : Members) (k : Key) (low high n : ℕ) → HasInteger ms k low high n → integer_in k low high ms ≡ Ok n
+found_integer ms k low high n h = rw h.value (rw (is_within low high n h.least h.most))
 
 -- ---- the radix
 
@@ -206,11 +206,11 @@ unfolding config_at
 settings_are text ms s utf8 parsed known e =
     let kind = bind_ok (kind_at ms) _ s e in
     let radix = bind_ok (radix_at ms) _ s kind.2 in
-    let channels = bind_ok (number_in key.Channels 1 MAX_CHANNELS ms) _ s radix.2 in
-    let buffer = bind_ok (number_in key.Buffer 1 MAX_BUFFER ms) _ s channels.2 in
-    let classes = bind_ok (number_in key.Classes 1 MAX_CLASSES ms) _ s buffer.2 in
+    let channels = bind_ok (integer_in key.Channels 1 MAX_CHANNELS ms) _ s radix.2 in
+    let buffer = bind_ok (integer_in key.Buffer 1 MAX_BUFFER ms) _ s channels.2 in
+    let classes = bind_ok (integer_in key.Classes 1 MAX_CLASSES ms) _ s buffer.2 in
     let rule = bind_ok (rule_setting ms) _ s classes.2 in
-    let cycles = bind_ok (number_in key.Cycles 1 MAX_CYCLES ms) _ s rule.2 in
+    let cycles = bind_ok (integer_in key.Cycles 1 MAX_CYCLES ms) _ s rule.2 in
     let same : record { kind = kind.0; radix = radix.0; channels = channels.0; buffer = buffer.0; classes = classes.0; rule = rule.0; cycles = cycles.0 } ≡ s = cc in
     let sizes = radix_is ms radix.0 radix.1 in
     rw (← same) (record {
@@ -221,11 +221,11 @@ settings_are text ms s utf8 parsed known e =
       kind = kind_at_is ms kind.0 kind.1;
       radix = sizes.0;
       radices = sizes.1;
-      channels = number_is ms key.Channels 1 MAX_CHANNELS channels.0 channels.1;
-      buffer = number_is ms key.Buffer 1 MAX_BUFFER buffer.0 buffer.1;
-      classes = number_is ms key.Classes 1 MAX_CLASSES classes.0 classes.1;
+      channels = integer_found ms key.Channels 1 MAX_CHANNELS channels.0 channels.1;
+      buffer = integer_found ms key.Buffer 1 MAX_BUFFER buffer.0 buffer.1;
+      classes = integer_found ms key.Classes 1 MAX_CLASSES classes.0 classes.1;
       rule = rule_at_is ms rule.0 rule.1;
-      cycles = number_is ms key.Cycles 1 MAX_CYCLES cycles.0 cycles.1;
+      cycles = integer_found ms key.Cycles 1 MAX_CYCLES cycles.0 cycles.1;
     })
 
 -- a text is read as these settings just where it is a configuration that has them
@@ -247,9 +247,9 @@ is_configuration text s h =
     (rw (
       is_kind_at ms s.kind h.kind,
       is_radix ms s.radix h.radix h.radices,
-      is_number ms key.Channels 1 MAX_CHANNELS s.channels h.channels,
-      is_number ms key.Buffer 1 MAX_BUFFER s.buffer h.buffer,
-      is_number ms key.Classes 1 MAX_CLASSES s.classes h.classes,
+      found_integer ms key.Channels 1 MAX_CHANNELS s.channels h.channels,
+      found_integer ms key.Buffer 1 MAX_BUFFER s.buffer h.buffer,
+      found_integer ms key.Classes 1 MAX_CLASSES s.classes h.classes,
       is_rule_at ms s.rule h.rule,
-      is_number ms key.Cycles 1 MAX_CYCLES s.cycles h.cycles,
+      found_integer ms key.Cycles 1 MAX_CYCLES s.cycles h.cycles,
     ))

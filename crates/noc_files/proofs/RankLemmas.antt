@@ -16,7 +16,7 @@ use Rattle.noc_files.proofs.SheetLemmas.{bind_ok, is_numeral, is_sheet, numeral_
 use Rattle.noc_files.proofs.TableLemmas.{named_at, port_column}
 use Rattle.noc_files.proofs.TrafficLemmas.{column, differs, found_in, numeral_at}
 
--- ---- a rank, or the word of an adaptive channel
+-- ---- a rank, or the text of an adaptive channel
 
 pub rank_field_is : (field : List ℕ) (rank : Option ℕ) → rank_of field ≡ Some rank → IsRankField field rank
 rank_field_is field rank e = by (bytes_eq field adaptive) refl (number_of field) refl
@@ -36,8 +36,8 @@ is_rank_field field (Some n) h = by (bytes_eq field adaptive) refl
     by : (b : Bool) → bytes_eq field adaptive ≡ b → rank_of field ≡ Some (Some n)
     by false other = rw (other, is_numeral field n h)
     by true is =
-        let word : number_of field ≡ None = ap number_of (same_text field adaptive (sym is)) in
-        absurd (none-some n (sym word ∙ is_numeral field n h))
+        let no_number : number_of field ≡ None = ap number_of (same_text field adaptive (sym is)) in
+        absurd (none-some n (sym no_number ∙ is_numeral field n h))
 
 -- the rank in a column with this field
 abbrev pub rank_column : ℕ → ℕ → List ℕ → Result (Option ℕ) InputFault

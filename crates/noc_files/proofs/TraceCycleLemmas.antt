@@ -18,7 +18,7 @@ use Rattle.noc_view.specs.declared.finding.Finding.{Finding}
 use Rattle.noc_theory.specs.Lockstep.{findings_before, findings_in_cycle, finding_in}
 use Rattle.noc_theory.specs.Network.{Run, Setup, arriving, frozen_at, size}
 use Rattle.noc_files.specs.Channels.{is_input, lines_of_port, over_router}
-use Rattle.noc_files.specs.Trace.{AreRows, cycle_text, has_below, is_same, kept_at, kept_line, line_if_new, line_if_wanted, member_text, nothing_found, over_traced, traced_finding, told_at, told_before, trace_line, traced_line}
+use Rattle.noc_files.specs.Trace.{HaveChannels, cycle_text, has_below, is_same, kept_at, kept_line, line_if_new, line_if_wanted, member_text, nothing_found, over_traced, traced_finding, told_at, told_before, trace_line, traced_line}
 use Rattle.noc_files.specs.declared.trace.Traced.{Traced}
 use Rattle.noc_files.proofs.BelowLemmas.{below_more, each_more, each_same}
 use Rattle.noc_files.proofs.ListLemmas.{slice_get-set_other, slice_get-set_same}
@@ -67,12 +67,12 @@ module _ (relation : Routes) (f h : ℕ → ℕ → ℕ → List ℕ) where
 
 -- ---- what is kept of the cycle before
 
--- rows keep what the routers found in the cycle before cycle n, in a trace of changes; the trace
+-- these keep what the routers found in the cycle before cycle n, in a trace of changes; the trace
 -- begins with cycle `first`
-pub record IsKept (net : Setup) (traced : Traced) (first n : ℕ) (rows : List (List Finding)) : Type 0 where
-  pub many : length rows ≡ (if traced.changes then nodes net.relation.grid else 0)
-  pub long : AreRows (size net) rows
-  pub said : (r i : ℕ) → r < nodes net.relation.grid → i < size net → option_and_then (traced_finding traced.packet) (kept_at rows r i) ≡ told_before net traced first n r i
+pub record IsKept (net : Setup) (traced : Traced) (first n : ℕ) (lists : List (List Finding)) : Type 0 where
+  pub many : length lists ≡ (if traced.changes then nodes net.relation.grid else 0)
+  pub long : HaveChannels (size net) lists
+  pub said : (r i : ℕ) → r < nodes net.relation.grid → i < size net → option_and_then (traced_finding traced.packet) (kept_at lists r i) ≡ told_before net traced first n r i
 
 pub length-findings : (net : Setup) (n r : ℕ) → length (findings_in_cycle net n r) ≡ size net
 length-findings net n r = length-tabulate (size net) (λ i. finding_in net (frozen_at net n) r i (arriving net r i))
@@ -100,29 +100,29 @@ nothing_before net traced first r i = by traced.changes refl
 nothing_kept : (net : Setup) (packet : Option ℕ) (b : Bool) (r i : ℕ) → r < nodes net.relation.grid → i < size net → option_and_then (traced_finding packet) (kept_at (nothing_found net b) r i) ≡ None
 nothing_kept net packet false r i l m = refl
 nothing_kept net packet true r i l m =
-    let row = replicate (size net) empty_finding in
-    ap (λ (o : Option (List Finding)). option_and_then (traced_finding packet) (option_and_then (λ xs. slice_get xs i) o)) (slice_get-replicate (nodes net.relation.grid) r row l)
+    let one = replicate (size net) empty_finding in
+    ap (λ (o : Option (List Finding)). option_and_then (traced_finding packet) (option_and_then (λ xs. slice_get xs i) o)) (slice_get-replicate (nodes net.relation.grid) r one l)
     ∙ ap (option_and_then (traced_finding packet)) (slice_get-replicate (size net) i empty_finding m)
 
-many_rows : (net : Setup) (b : Bool) → length (nothing_found net b) ≡ (if b then nodes net.relation.grid else 0)
-many_rows net true = length-replicate (nodes net.relation.grid) (replicate (size net) empty_finding)
-many_rows net false = refl
+many_lists : (net : Setup) (b : Bool) → length (nothing_found net b) ≡ (if b then nodes net.relation.grid else 0)
+many_lists net true = length-replicate (nodes net.relation.grid) (replicate (size net) empty_finding)
+many_lists net false = refl
 
-long_rows : (net : Setup) (b : Bool) → AreRows (size net) (nothing_found net b)
-long_rows net false r row e = cc
-long_rows net true r row e =
+long_lists : (net : Setup) (b : Bool) → HaveChannels (size net) (nothing_found net b)
+long_lists net false r one e = cc
+long_lists net true r one e =
     let empty = replicate (size net) empty_finding in
-    let inside = slice_get_within (replicate (nodes net.relation.grid) empty) r row e in
-    let both : Some row ≡ Some empty = sym e ∙ slice_get-replicate (nodes net.relation.grid) r empty (omega (arith, inside, length-replicate (nodes net.relation.grid) empty)) in
-    let same : row ≡ empty = cc in
+    let inside = slice_get_within (replicate (nodes net.relation.grid) empty) r one e in
+    let both : Some one ≡ Some empty = sym e ∙ slice_get-replicate (nodes net.relation.grid) r empty (omega (arith, inside, length-replicate (nodes net.relation.grid) empty)) in
+    let same : one ≡ empty = cc in
     ap length same ∙ length-replicate (size net) empty_finding
 
 -- before the first cycle of a trace nothing was found
-pub opening_kept : (net : Setup) (traced : Traced) (first : ℕ) (rows : List (List Finding)) → rows ≡ nothing_found net traced.changes → IsKept net traced first first rows
-opening_kept net traced first rows same =
+pub opening_kept : (net : Setup) (traced : Traced) (first : ℕ) (lists : List (List Finding)) → lists ≡ nothing_found net traced.changes → IsKept net traced first first lists
+opening_kept net traced first lists same =
     subst (IsKept net traced first first) (sym same) (record {
-      many = many_rows net traced.changes;
-      long = long_rows net traced.changes;
+      many = many_lists net traced.changes;
+      long = long_lists net traced.changes;
       said = λ r i l m. nothing_kept net traced.packet traced.changes r i l m ∙ sym (nothing_before net traced first r i);
     })
 
@@ -133,17 +133,17 @@ told_then net traced first n r i changes begun =
     let back : n + 1 - 1 ≡ n = omega arith in
     rw (changes, later) (ap (λ k. told_at net traced k r i) back)
 
--- once the routers have found what they find in cycle n, and rows keep it
+-- once the routers have found what they find in cycle n, and it is kept
 module _ (net : Setup) (traced : Traced) (first n : ℕ) (old new : List (List Finding)) (begun : first ≤ n) (kept : IsKept net traced first n old) (same : length new ≡ length old)
-    (rows : (r : ℕ) → r < length old → slice_get new r ≡ Some (findings_before net (n + 1) r)) where
+    (are : (r : ℕ) → r < length old → slice_get new r ≡ Some (findings_before net (n + 1) r)) where
   found : (r : ℕ) → r < length old → slice_get new r ≡ Some (findings_in_cycle net n r)
-  found r l = rows r l ∙ ap Some (findings-after net n r)
+  found r l = are r l ∙ ap Some (findings-after net n r)
 
-  long_next : AreRows (size net) new
-  long_next r row e =
-      let inside = slice_get_within new r row e in
-      let both : Some row ≡ Some (findings_in_cycle net n r) = sym e ∙ found r (omega (arith, inside, same)) in
-      let is : row ≡ findings_in_cycle net n r = cc in
+  long_next : HaveChannels (size net) new
+  long_next r one e =
+      let inside = slice_get_within new r one e in
+      let both : Some one ≡ Some (findings_in_cycle net n r) = sym e ∙ found r (omega (arith, inside, same)) in
+      let is : one ≡ findings_in_cycle net n r = cc in
       ap length is ∙ length-findings net n r
 
   said_next : (r i : ℕ) → r < nodes net.relation.grid → i < size net → option_and_then (traced_finding traced.packet) (kept_at new r i) ≡ told_before net traced first (n + 1) r i
@@ -168,39 +168,39 @@ module _ (net : Setup) (traced : Traced) (first n : ℕ) (old new : List (List F
 -- ---- the lines of a cycle
 
 -- the line against what is kept is that of the trace
-pub kept_is : (u : Run) (traced : Traced) (rows : List (List Finding)) (first n r port vc : ℕ) → u.count ≡ n + 1 → IsKept u.net traced first n rows → r < nodes u.net.relation.grid
-    → port * u.net.relation.vcs + vc < size u.net → kept_line u traced rows n r port vc ≡ traced_line u.net traced first n r port vc
-kept_is u traced rows first n r port vc count kept known inside =
+pub kept_is : (u : Run) (traced : Traced) (lists : List (List Finding)) (first n r port vc : ℕ) → u.count ≡ n + 1 → IsKept u.net traced first n lists → r < nodes u.net.relation.grid
+    → port * u.net.relation.vcs + vc < size u.net → kept_line u traced lists n r port vc ≡ traced_line u.net traced first n r port vc
+kept_is u traced lists first n r port vc count kept known inside =
     let i = port * u.net.relation.vcs + vc in
     ap₂ (λ (before now : Option Finding). line_if_new u.net traced.verdicts n r port vc before now) (kept.said r i known inside)
     (ap (λ k. option_and_then (traced_finding traced.packet) (slice_get (findings_before u.net k r) i)) count
     ∙ ap (λ (xs : List Finding). option_and_then (traced_finding traced.packet) (slice_get xs i)) (findings-after u.net n r))
 
 -- the lines of the last cycle of a run are those of that cycle of the trace
-pub cycle_is : (u : Run) (traced : Traced) (rows : List (List Finding)) (first n : ℕ) → u.count ≡ n + 1 → IsKept u.net traced first n rows
-    → IfSome traced.router (λ r. r < nodes u.net.relation.grid) → over_traced u.net.relation traced.router (kept_line u traced rows n) ≡ cycle_text u.net traced first n
-cycle_is u traced rows first n count kept known =
-    traced_same u.net.relation (kept_line u traced rows n) (traced_line u.net traced first n) traced.router known
-    (λ r l port vc p v. kept_is u traced rows first n r port vc count kept l (flat-below port (ports u.net.relation.grid) vc u.net.relation.vcs p v))
+pub cycle_is : (u : Run) (traced : Traced) (lists : List (List Finding)) (first n : ℕ) → u.count ≡ n + 1 → IsKept u.net traced first n lists
+    → IfSome traced.router (λ r. r < nodes u.net.relation.grid) → over_traced u.net.relation traced.router (kept_line u traced lists n) ≡ cycle_text u.net traced first n
+cycle_is u traced lists first n count kept known =
+    traced_same u.net.relation (kept_line u traced lists n) (traced_line u.net traced first n) traced.router known
+    (λ r l port vc p v. kept_is u traced lists first n r port vc count kept l (flat-below port (ports u.net.relation.grid) vc u.net.relation.vcs p v))
 
 -- the lines of the last cycle of a run, where the run has the network and the trace
 -- is of what it was at first
-pub cycle_written : (u : Run) (net : Setup) (now traced : Traced) (rows : List (List Finding)) (first n at : ℕ) → u.net ≡ net → now ≡ traced → at ≡ n → u.count ≡ n + 1 → IsKept net traced first n rows
-    → IfSome traced.router (λ r. r < nodes net.relation.grid) → over_traced u.net.relation now.router (kept_line u now rows at) ≡ cycle_text net traced first n
-cycle_written u net now traced rows first n at same as_before numbered count kept known =
-    ap (λ (t : Traced). over_traced u.net.relation t.router (kept_line u t rows at)) as_before ∙ ap (λ k. over_traced u.net.relation traced.router (kept_line u traced rows k)) numbered
-    ∙ cycle_is u traced rows first n count (subst (λ (z : Setup). IsKept z traced first n rows) (sym same) kept)
+pub cycle_written : (u : Run) (net : Setup) (now traced : Traced) (lists : List (List Finding)) (first n at : ℕ) → u.net ≡ net → now ≡ traced → at ≡ n → u.count ≡ n + 1 → IsKept net traced first n lists
+    → IfSome traced.router (λ r. r < nodes net.relation.grid) → over_traced u.net.relation now.router (kept_line u now lists at) ≡ cycle_text net traced first n
+cycle_written u net now traced lists first n at same as_before numbered count kept known =
+    ap (λ (t : Traced). over_traced u.net.relation t.router (kept_line u t lists at)) as_before ∙ ap (λ k. over_traced u.net.relation traced.router (kept_line u traced lists k)) numbered
+    ∙ cycle_is u traced lists first n count (subst (λ (z : Setup). IsKept z traced first n lists) (sym same) kept)
     (subst (λ (z : Setup). IfSome traced.router (λ r. r < nodes z.relation.grid)) (sym same) known)
     ∙ ap (λ (z : Setup). cycle_text z traced first n) same
 
 -- the line of a channel of which another thing is told, or none where lines with
 -- its verdict are not written
-pub line_is : (u : Run) (traced : Traced) (rows : List (List Finding)) (n r port vc i : ℕ) (before now : Option Finding) (f : Finding) → i ≡ port * u.net.relation.vcs + vc
-    → before ≡ option_and_then (traced_finding traced.packet) (kept_at rows r i) → now ≡ option_and_then (traced_finding traced.packet) (slice_get (findings_before u.net u.count r) i)
-    → is_same before now ≡ false → f ≡ unwrap_or now empty_finding → line_if_wanted u.net traced.verdicts n r port vc f ≡ kept_line u traced rows n r port vc
-line_is u traced rows n r port vc i before now f place was is other shown =
+pub line_is : (u : Run) (traced : Traced) (lists : List (List Finding)) (n r port vc i : ℕ) (before now : Option Finding) (f : Finding) → i ≡ port * u.net.relation.vcs + vc
+    → before ≡ option_and_then (traced_finding traced.packet) (kept_at lists r i) → now ≡ option_and_then (traced_finding traced.packet) (slice_get (findings_before u.net u.count r) i)
+    → is_same before now ≡ false → f ≡ unwrap_or now empty_finding → line_if_wanted u.net traced.verdicts n r port vc f ≡ kept_line u traced lists n r port vc
+line_is u traced lists n r port vc i before now f place was is other shown =
     ap (line_if_wanted u.net traced.verdicts n r port vc) shown ∙ sym (new_line before now other) ∙ ap₂ (λ (b a : Option Finding). line_if_new u.net traced.verdicts n r port vc b a) was is
-    ∙ ap (λ k. line_if_new u.net traced.verdicts n r port vc (option_and_then (traced_finding traced.packet) (kept_at rows r k)) (option_and_then (traced_finding traced.packet) (slice_get (findings_before u.net u.count r) k))) place
+    ∙ ap (λ k. line_if_new u.net traced.verdicts n r port vc (option_and_then (traced_finding traced.packet) (kept_at lists r k)) (option_and_then (traced_finding traced.packet) (slice_get (findings_before u.net u.count r) k))) place
   where
     new_line : (b a : Option Finding) → is_same b a ≡ false → line_if_new u.net traced.verdicts n r port vc b a ≡ line_if_wanted u.net traced.verdicts n r port vc (unwrap_or a empty_finding)
     new_line b a e = ap (λ same. if same then [] else line_if_wanted u.net traced.verdicts n r port vc (unwrap_or a empty_finding)) e

@@ -51,31 +51,31 @@ document_of text = if is_utf8 text then ok_or (parse_document text) BadToml else
 abbrev pub typed_at : {X : Type 0} → (Data → Option X) → Key → Members → Result X InputFault
 typed_at as_type k ms = ok_or (get_member (key_name k) ms) (MissingKey k) >>= λ d. ok_or (as_type d) (WrongType k)
 
-abbrev pub word_at : Key → Members → Result (List ℕ) InputFault
-word_at = typed_at as_str
+abbrev pub string_at : Key → Members → Result (List ℕ) InputFault
+string_at = typed_at as_str
 
--- a number from low to high
+-- an integer from low to high
 abbrev pub within : ℕ → ℕ → ℤ → Option ℕ
 within low high (pos n) = if nat_le low n && nat_le n high then Some n else None
 within low high (negsuc n) = None
 
-abbrev pub number_in : Key → ℕ → ℕ → Members → Result ℕ InputFault
-number_in k low high ms = typed_at as_integer k ms >>= λ z. ok_or (within low high z) (BadValue k)
+abbrev pub integer_in : Key → ℕ → ℕ → Members → Result ℕ InputFault
+integer_in k low high ms = typed_at as_integer k ms >>= λ z. ok_or (within low high z) (BadValue k)
 
 abbrev pub kind_of : List ℕ → Option Kind
 kind_of w = if bytes_eq w (codes "mesh") then Some Mesh else if bytes_eq w (codes "torus") then Some Torus else None
 
 unfoldable pub kind_at : Members → Result Kind InputFault
-kind_at ms = word_at key.Kind ms >>= λ w. ok_or (kind_of w) (BadValue key.Kind)
+kind_at ms = string_at key.Kind ms >>= λ w. ok_or (kind_of w) (BadValue key.Kind)
 
 unfoldable pub rule_setting : Members → Result RuleName InputFault
-rule_setting ms = word_at key.Rule ms >>= λ w. ok_or (rule_of w) (BadValue key.Rule)
+rule_setting ms = string_at key.Rule ms >>= λ w. ok_or (rule_of w) (BadValue key.Rule)
 
 abbrev pub all_integers : Items → Bool
 all_integers no_items = true
 all_integers (item d ds) = is_some (as_integer d) && all_integers ds
 
--- each number from 0 to 1000
+-- each integer from 0 to 1000
 abbrev pub lengths_of : Items → Option (List ℕ)
 lengths_of no_items = Some []
 lengths_of (item d ds) = option_and_then (λ z. option_and_then (λ n. option_map (λ ns. n ∷ ns) (lengths_of ds)) (within 0 1000 z)) (as_integer d)
@@ -88,11 +88,11 @@ unfoldable pub config_at : Members → Result Settings InputFault
 config_at ms = do
   kind ← kind_at ms
   radix ← radix_at ms
-  channels ← number_in key.Channels 1 MAX_CHANNELS ms
-  buffer ← number_in key.Buffer 1 MAX_BUFFER ms
-  classes ← number_in key.Classes 1 MAX_CLASSES ms
+  channels ← integer_in key.Channels 1 MAX_CHANNELS ms
+  buffer ← integer_in key.Buffer 1 MAX_BUFFER ms
+  classes ← integer_in key.Classes 1 MAX_CLASSES ms
   rule ← rule_setting ms
-  cycles ← number_in key.Cycles 1 MAX_CYCLES ms
+  cycles ← integer_in key.Cycles 1 MAX_CYCLES ms
   Ok (record { kind = kind; radix = radix; channels = channels; buffer = buffer; classes = classes; rule = rule; cycles = cycles })
 
 -- numbers that a network and its run may have
@@ -110,13 +110,13 @@ pub record KeepsLimits (c : Config) : Type 0 where
 abbrev pub config_of : List ℕ → Result Settings InputFault
 config_of text = document_of text >>= λ ms. if all_known ms then config_at ms else Err UnknownKey
 
--- ---- the same in the words of the format
+-- ---- the same in the terms of the format
 
 abbrev pub kind_name : Kind → List ℕ
 kind_name Mesh = codes "mesh"
 kind_name Torus = codes "torus"
 
--- these numbers as the integers of an array
+-- these as the integers of an array
 abbrev pub integers : List ℕ → Items
 integers [] = no_items
 integers (n ∷ ns) = item (integer (pos n)) (integers ns)
@@ -131,7 +131,7 @@ abbrev pub HasValue : Members → Key → Data → Type 0
 HasValue ms k d = get_member (key_name k) ms ≡ Some d
 
 -- the integer of a key, and its limits
-pub record HasNumber (ms : Members) (k : Key) (low high n : ℕ) : Type 0 where
+pub record HasInteger (ms : Members) (k : Key) (low high n : ℕ) : Type 0 where
   pub value : HasValue ms k (integer (pos n))
   pub least : low ≤ n
   pub most : n ≤ high
@@ -146,11 +146,11 @@ pub record IsConfiguration (text : List ℕ) (s : Settings) : Type 0 where
   pub kind : HasValue document key.Kind (string (kind_name s.kind))
   pub radix : HasValue document key.Radix (array (integers s.radix))
   pub radices : Each (λ k. k ≤ 1000) s.radix
-  pub channels : HasNumber document key.Channels 1 MAX_CHANNELS s.channels
-  pub buffer : HasNumber document key.Buffer 1 MAX_BUFFER s.buffer
-  pub classes : HasNumber document key.Classes 1 MAX_CLASSES s.classes
+  pub channels : HasInteger document key.Channels 1 MAX_CHANNELS s.channels
+  pub buffer : HasInteger document key.Buffer 1 MAX_BUFFER s.buffer
+  pub classes : HasInteger document key.Classes 1 MAX_CLASSES s.classes
   pub rule : HasValue document key.Rule (string (rule_name s.rule))
-  pub cycles : HasNumber document key.Cycles 1 MAX_CYCLES s.cycles
+  pub cycles : HasInteger document key.Cycles 1 MAX_CYCLES s.cycles
 
 -- ---- what is wrong with a configuration
 

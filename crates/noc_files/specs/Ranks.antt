@@ -22,11 +22,11 @@ use Rattle.noc_files.specs.Writing.{number_or}
 abbrev pub rank_header : Fields
 rank_header = codes "router" ∷ codes "port" ∷ codes "vc" ∷ codes "rank" ∷ []
 
--- the word in the column of ranks where a channel is adaptive
+-- the text in the column of ranks where a channel is adaptive
 abbrev pub adaptive : List ℕ
 adaptive = codes "adaptive"
 
--- the rank that a field writes: a number, or none by the word
+-- the rank that a field writes: a number, or none by that text
 abbrev pub rank_of : List ℕ → Option (Option ℕ)
 rank_of field = if bytes_eq field adaptive then Some None else option_map Some (number_of field)
 
@@ -49,7 +49,7 @@ rank_row_of g row fields = if length fields == 4 then four else Err (BadCount ro
 abbrev pub ranks_of : Grid → List ℕ → Result (List RankRow) InputFault
 ranks_of g text = sheet (rank_row_of g) rank_header (text_rows text)
 
--- a field that writes this rank: a numeral, or the word where there is none
+-- a field that writes this rank: a numeral, or that text where there is none
 abbrev pub IsRankField : List ℕ → Option ℕ → Type 0
 IsRankField field None = field ≡ adaptive
 IsRankField field (Some n) = IsNumeral field n
@@ -97,7 +97,7 @@ router_rows k router = flat_map (port_rows k router) (below (local_port k.grid))
 unfoldable pub rank_rows : Ranking → List RankRow
 rank_rows k = flat_map (router_rows k) (below (nodes k.grid))
 
--- a rank, or the word where there is none
+-- a rank, or that text where there is none
 abbrev pub rank_text : Option ℕ → List ℕ
 rank_text rank = number_or rank adaptive
 

@@ -15,8 +15,8 @@ unfoldable pub stall_header : List ℕ
 stall_header = (codes "router,port,vc" ++ flat_map (λ (verdict : Verdict). comma ++ column_name verdict) ALL) ++ line_end
 
 -- an input channel by its router, the name of its port, and its VC
-abbrev pub place_text : ℕ → List ℕ → ℕ → List ℕ
-place_text router port vc = text_of_pieces (decimal router ∷ comma ∷ port ∷ comma ∷ decimal vc ∷ [])
+abbrev pub input_columns : ℕ → List ℕ → ℕ → List ℕ
+input_columns router port vc = text_of_pieces (decimal router ∷ comma ∷ port ∷ comma ∷ decimal vc ∷ [])
 
 -- a count after a comma
 abbrev pub count_text : ℕ → List ℕ
@@ -24,7 +24,7 @@ count_text count = text_of_pieces (comma ∷ decimal count ∷ [])
 
 -- the line of an input channel, with how often it had each verdict
 abbrev pub stall_line : ℕ → List ℕ → ℕ → List ℕ → List ℕ
-stall_line router port vc counts = place_text router port vc ++ flat_map count_text counts ++ line_end
+stall_line router port vc counts = input_columns router port vc ++ flat_map count_text counts ++ line_end
 
 -- in how many cycles of a run an input channel had each verdict
 unfoldable pub channel_counts : Run → ℕ → ℕ → ℕ → List ℕ

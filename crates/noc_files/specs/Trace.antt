@@ -158,19 +158,19 @@ trace_text u first traced = trace_header ++ flat_map (λ k. cycle_text u.net tra
 abbrev pub nothing_found : Setup → Bool → List (List Finding)
 nothing_found net changes = if changes then replicate (nodes net.relation.grid) (replicate (size net) empty_finding) else []
 
--- each row has a finding for each input channel of a router
-abbrev pub AreRows : ℕ → List (List Finding) → Type 0
-AreRows channels rows = (r : ℕ) (row : List Finding) → slice_get rows r ≡ Some row → length row ≡ channels
+-- each list has a finding for each input channel of a router
+abbrev pub HaveChannels : ℕ → List (List Finding) → Type 0
+HaveChannels channels lists = (r : ℕ) (one : List Finding) → slice_get lists r ≡ Some one → length one ≡ channels
 
 -- what is kept of an input channel
 abbrev pub kept_at : List (List Finding) → ℕ → ℕ → Option Finding
-kept_at rows r i = option_and_then (λ row. slice_get row i) (slice_get rows r)
+kept_at lists r i = option_and_then (λ one. slice_get one i) (slice_get lists r)
 
 -- the line of an input channel in the last cycle of a run, if another thing is told
 -- of it than of what is kept
 abbrev pub kept_line : Run → Traced → List (List Finding) → ℕ → ℕ → ℕ → ℕ → List ℕ
-kept_line u traced rows n r port vc =
-    line_if_new u.net traced.verdicts n r port vc (option_and_then (traced_finding traced.packet) (kept_at rows r (port * u.net.relation.vcs + vc)))
+kept_line u traced lists n r port vc =
+    line_if_new u.net traced.verdicts n r port vc (option_and_then (traced_finding traced.packet) (kept_at lists r (port * u.net.relation.vcs + vc)))
     (option_and_then (traced_finding traced.packet) (slice_get (findings_before u.net u.count r) (port * u.net.relation.vcs + vc)))
 
 -- ---- what the laws of a trace speak of

@@ -6,7 +6,7 @@ ghost use Rattle.std.specs.List.{list_all};
 ghost use Rattle.std.specs.Option.{is_some, ok_or};
 ghost use Rattle.toml.specs.Data.{as_integer, get_member};
 ghost use Rattle.toml.specs.View.{items_view, table_view, view};
-ghost use Rattle.noc_files.specs.Configuration.{all_integers, all_known, config_at, config_of, document_of, is_key, kind_at, lengths_of, number_in, radix_at, rule_setting, settings, within, word_at, IsConfiguration, IsConfigurationFault, KeepsLimits, Settings};
+ghost use Rattle.noc_files.specs.Configuration.{all_integers, all_known, config_at, config_of, document_of, is_key, kind_at, lengths_of, integer_in, radix_at, rule_setting, settings, within, string_at, IsConfiguration, IsConfigurationFault, KeepsLimits, Settings};
 ghost use Rattle.noc_files.specs.Gives.{Gives, result_map};
 ghost use Rattle.noc_files.specs.Keys.{key_name};
 ghost use Rattle.noc_files.specs.declared.fault.InputFault.{InputFault as Fault};
@@ -88,42 +88,42 @@ fn value(table: &Table, key: Key) -> Result<&Value, InputFault>
     }
 }
 
-// The word at a key.
-fn word(table: &Table, key: Key) -> Result<&str, InputFault>
-    ensures { result_map (λ s. s.now) result ≡ word_at key (table_view table.now) }
+// The string at a key.
+fn string(table: &Table, key: Key) -> Result<&str, InputFault>
+    ensures { result_map (λ s. s.now) result ≡ string_at key (table_view table.now) }
 {
     value(table, key)?
         .as_str()
         .ok_or(InputFault::WrongType(key))
 }
 
-// The number, if it lies within these limits.
-fn limited(number: i64, low: u64, high: u64) -> Option<u64>
-    ensures value { result ≡ within low high number }
+// The integer, if it lies within these limits.
+fn limited(integer: i64, low: u64, high: u64) -> Option<u64>
+    ensures value { result ≡ within low high integer }
     ensures limits { IfSome result (λ n. (low ≤ n) × (n ≤ high)) }
 {
-    match u64::try_from(number) {
-        Ok(number) if low <= number && number <= high => Some(number),
+    match u64::try_from(integer) {
+        Ok(value) if low <= value && value <= high => Some(value),
         _ => None,
     }
 }
 
-// The number at a key, which has to lie within these limits.
-fn number(table: &Table, key: Key, low: u64, high: u64) -> Result<u64, InputFault>
-    ensures value { result ≡ number_in key low high (table_view table.now) }
+// The integer at a key, which has to lie within these limits.
+fn integer(table: &Table, key: Key, low: u64, high: u64) -> Result<u64, InputFault>
+    ensures value { result ≡ integer_in key low high (table_view table.now) }
     ensures limits { IfOk result (λ n. (low ≤ n) × (n ≤ high)) }
 {
-    let number = value(table, key)?
+    let integer = value(table, key)?
         .as_integer()
         .ok_or(InputFault::WrongType(key))?;
-    limited(number, low, high).ok_or(InputFault::BadValue(key))
+    limited(integer, low, high).ok_or(InputFault::BadValue(key))
 }
 
 #[tactic(auto, unfolding(crate::specs::Configuration::kind_at))]
 fn kind_in(table: &Table) -> Result<Kind, InputFault>
     ensures { result ≡ kind_at (table_view table.now) }
 {
-    match word(table, Key::Kind)? {
+    match string(table, Key::Kind)? {
         "mesh" => Ok(Kind::Mesh),
         "torus" => Ok(Kind::Torus),
         _ => Err(InputFault::BadValue(Key::Kind)),
@@ -137,16 +137,16 @@ fn are_integers(values: &[Value]) -> bool
     values.iter().all(|value| value.is_integer())
 }
 
-// The numbers of an array of integers from 0 to 1000.
+// The integers from 0 to 1000 of an array.
 fn lengths(alloc: Global, values: &[Value]) -> Result<Vec<usize>, InputFault>
     ensures { Gives (λ v. v.items) result (ok_or (lengths_of (items_view values.now)) (BadValue key.Radix)) }
 {
     let mut lengths = Vec::new(alloc);
     for value in values {
-        let Some(number) = value.as_integer() else {
+        let Some(integer) = value.as_integer() else {
             return Err(InputFault::BadValue(Key::Radix));
         };
-        let Some(length) = limited(number, 0, MAX_RADIX) else {
+        let Some(length) = limited(integer, 0, MAX_RADIX) else {
             return Err(InputFault::BadValue(Key::Radix));
         };
         lengths.push(length as usize)?;
@@ -179,11 +179,11 @@ fn config_in(alloc: Global, table: &Table) -> Result<Config, InputFault>
 {
     let kind = kind_in(table)?;
     let radix = radix_in(alloc, table)?;
-    let channels = number(table, Key::Channels, 1, MAX_CHANNELS as u64)?;
-    let buffer = number(table, Key::Buffer, 1, MAX_BUFFER as u64)?;
-    let classes = number(table, Key::Classes, 1, MAX_CLASSES as u64)?;
-    let rule = RuleName::named(word(table, Key::Rule)?).ok_or(InputFault::BadValue(Key::Rule))?;
-    let cycles = number(table, Key::Cycles, 1, MAX_CYCLES)?;
+    let channels = integer(table, Key::Channels, 1, MAX_CHANNELS as u64)?;
+    let buffer = integer(table, Key::Buffer, 1, MAX_BUFFER as u64)?;
+    let classes = integer(table, Key::Classes, 1, MAX_CLASSES as u64)?;
+    let rule = RuleName::named(string(table, Key::Rule)?).ok_or(InputFault::BadValue(Key::Rule))?;
+    let cycles = integer(table, Key::Cycles, 1, MAX_CYCLES)?;
     Ok(Config {
         kind,
         radix,

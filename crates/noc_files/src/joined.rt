@@ -3,7 +3,7 @@
 ghost use Rattle.std.specs.Prelude.{◌≡◌, ◌+◌, ◌≤◌, ◌<◌, ℕ, true, false, length, take, drop, MatchOption};
 ghost use Rattle.noc_files.specs.Joined.{SplitsAt, line_at, line_len};
 
-// How long the line of dashes is that begins at this place, if one does.
+// How long the line of dashes is that begins at this byte, if one does.
 fn dashes_at(text: &[u8], at: usize) -> usize
     requires { at ≤ length text.now }
     ensures value { result ≡ line_at text.now at }

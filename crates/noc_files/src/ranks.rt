@@ -29,10 +29,10 @@ use noc_rank::{RankRow, Ranks};
 use noc_topo::Shape;
 use std::alloc::Global;
 
-// The word in the column of ranks where a channel is adaptive.
+// The text in the column of ranks where a channel is adaptive.
 const ADAPTIVE: &str = "adaptive";
 
-// The rank that a field writes: a number, or none by the word.
+// The rank that a field writes: a number, or none by that text.
 fn rank(field: &[u8]) -> Option<Option<usize>>
     ensures { result ≡ rank_of field.now }
 {
@@ -72,7 +72,7 @@ fn rank_row_in(shape: &Shape, row: &ByteRecord, index: usize) -> Result<RankRow,
 /// The rows of a rank file, or its first fault: `BadHeader`, and then row by row
 /// `BadCount`, `BadNumber` and `BadPort` from left to right; `Memory` where a growth
 /// was refused (docs/FORMATS.md). Ports have the names of the shape; a rank is a
-/// number, or the word `adaptive`.
+/// number, or the text `adaptive`.
 pub fn read_ranks(alloc: Global, shape: &Shape, text: &[u8]) -> Result<Vec<RankRow>, InputFault>
     ensures { Gives (λ v. v.items) result (ranks_of shape.now text.now) }
 {
@@ -84,7 +84,7 @@ pub fn read_ranks(alloc: Global, shape: &Shape, text: &[u8]) -> Result<Vec<RankR
 
 /// A text is read as these rows of ranks exactly where its first row is the header and the rows
 /// below it write them. Each of these has four fields: numerals, the name of a port of the shape,
-/// and a numeral or the word `adaptive`.
+/// and a numeral or the text `adaptive`.
 pub fn rank_file_is_header_and_rows()
     ensures { (g : Grid) → IsGrid g → (text : List ℕ) (rows : List RowValue) → (ranks_of g text ≡ Ok rows) ↔ IsRankFile g text rows }
 {}
@@ -92,7 +92,7 @@ pub fn rank_file_is_header_and_rows()
 /// A text is refused with this fault exactly where it is the first one. Either there is no header,
 /// or the fault is that of the first row that is no row of ranks. Such a row has not four fields,
 /// or has four, of which this is the first that may not stand there. A router and a channel are
-/// numerals, a port is one of the shape, and a rank is a numeral or the word `adaptive`.
+/// numerals, a port is one of the shape, and a rank is a numeral or the text `adaptive`.
 pub fn rank_file_is_refused_with_its_first_fault()
     ensures { (g : Grid) → IsGrid g → (text : List ℕ) (fault : Fault) → (ranks_of g text ≡ Err fault) ↔ IsRankFileFault g text fault }
 {}
@@ -133,7 +133,7 @@ impl<'a> Lines for Listed<'a> {
 
 /// Writes a rank file, with a row for each router, each of its ports that has a link, and
 /// each of `vcs` virtual channels, in rising order. A row has the rank of that channel, or
-/// the word `adaptive` where it has none. The shape and `vcs` are those of the ranks, at most
+/// the text `adaptive` where it has none. The shape and `vcs` are those of the ranks, at most
 /// as many as a relation has.
 pub fn write_ranks<W: Sink>(
     ranks: &Ranks,

@@ -12,7 +12,7 @@ ghost use Rattle.noc_files.specs.Channels.{AreInputs};
 ghost use Rattle.noc_files.specs.Findings.{found_line};
 ghost use Rattle.noc_files.specs.Ports.{name_of_port};
 ghost use Rattle.noc_files.specs.Stalls.{channel_counts};
-ghost use Rattle.noc_files.specs.Trace.{AreRows, has_below, finds_empty, is_asking, is_same, is_wanted, kept_at, kept_line, member_text, nothing_found, over_traced, permitted_text, permitted_to, said_by_both, set_text, traced_finding, told_counts, told_text, trace_line, trace_text, traced_line, way_text, when_text, whole};
+ghost use Rattle.noc_files.specs.Trace.{HaveChannels, has_below, finds_empty, is_asking, is_same, is_wanted, kept_at, kept_line, member_text, nothing_found, over_traced, permitted_text, permitted_to, said_by_both, set_text, traced_finding, told_counts, told_text, trace_line, trace_text, traced_line, way_text, when_text, whole};
 ghost use Rattle.noc_files.specs.Labels.{AreLabels, label_text};
 ghost use Rattle.noc_files.specs.Writing.{Puts, Wrote, comma, taken, text_of_pieces, line_end};
 ghost use Rattle.noc_files.specs.declared.page.TheConstants.{PAGE};
@@ -54,7 +54,7 @@ pub struct Traced {
 #[derive(Drop)]
 pub struct Trace {
     traced: Traced,
-    rows: Vec<Vec<Finding>>,
+    kept: Vec<Vec<Finding>>,
 }
 
 impl Model for Trace {
@@ -64,7 +64,7 @@ impl Model for Trace {
 
     ghost Value = { TracedValue × List (List FindingValue) };
 
-    ghost view = { λ s. (s.traced, map (λ row. row.items) s.rows.items) };
+    ghost view = { λ s. (s.traced, map (λ one. one.items) s.kept.items) };
 }
 
 impl Trace {
@@ -73,20 +73,20 @@ impl Trace {
     pub fn new(alloc: Global, network: &Network, traced: Traced) -> Result<Trace, Memory>
         ensures { IfOk result (λ t. t ≡ (traced, nothing_found network.now.net traced.changes)) }
     {
-        let rows = if traced.changes {
-            empty_rows(alloc, network)?
+        let kept = if traced.changes {
+            nothing_kept(alloc, network)?
         } else {
             Vec::new(alloc)
         };
-        Ok(Trace { traced, rows })
+        Ok(Trace { traced, kept })
     }
 
     // What a router found in the cycle before, as far as it is kept.
-    fn row(&self, router: usize) -> &[Finding]
+    fn before(&self, router: usize) -> &[Finding]
         ensures { (index : ℕ) → slice_get result.now index ≡ kept_at self.now.1 router index }
     {
-        match self.rows.get(router) {
-            Some(row) => row,
+        match self.kept.get(router) {
+            Some(findings) => findings,
             None => &[],
         }
     }
@@ -95,47 +95,47 @@ impl Trace {
     fn keep(&mut self, network: &Network)
         requires some { 1 ≤ network.now.count }
         requires few { length self.old.1 ≤ nodes network.now.net.relation.grid }
-        requires long { AreRows (size network.now.net) self.old.1 }
+        requires long { HaveChannels (size network.now.net) self.old.1 }
         ensures traced { self.new.0 ≡ self.old.0 }
         ensures many { length self.new.1 ≡ length self.old.1 }
-        ensures rows { (r : ℕ) → r < length self.old.1 → slice_get self.new.1 r ≡ Some (findings_before network.now.net network.now.count r) }
+        ensures found { (r : ℕ) → r < length self.old.1 → slice_get self.new.1 r ≡ Some (findings_before network.now.net network.now.count r) }
     {
-        keep_rows(network, &mut self.rows);
+        keep_all(network, &mut self.kept);
     }
 }
 
-// Each of the first routers has a row, which keeps what it found in the last cycle.
-fn keep_rows(network: &Network, rows: &mut [Vec<Finding>])
+// Keeps what each of the first routers found in the last cycle.
+fn keep_all(network: &Network, kept: &mut [Vec<Finding>])
     requires some { 1 ≤ network.now.count }
-    requires few { length rows.old ≤ nodes network.now.net.relation.grid }
-    requires long { AreRows (size network.now.net) (map (λ row. row.items) rows.old) }
-    ensures many { length rows.new ≡ length rows.old }
-    ensures rows { (r : ℕ) → r < length rows.old → slice_get (map (λ row. row.items) rows.new) r ≡ Some (findings_before network.now.net network.now.count r) }
+    requires few { length kept.old ≤ nodes network.now.net.relation.grid }
+    requires long { HaveChannels (size network.now.net) (map (λ one. one.items) kept.old) }
+    ensures many { length kept.new ≡ length kept.old }
+    ensures found { (r : ℕ) → r < length kept.old → slice_get (map (λ one. one.items) kept.new) r ≡ Some (findings_before network.now.net network.now.count r) }
 {
-    for router in 0..rows.len() {
-        keep_row(network.findings(router), &mut rows[router]);
+    for router in 0..kept.len() {
+        keep_one(network.findings(router), &mut kept[router]);
     }
 }
 
-// A row of as many findings keeps these.
-fn keep_row(findings: &[Finding], row: &mut Vec<Finding>)
-    requires { length row.old.items ≡ length findings.now }
-    ensures { row.new.items ≡ findings.now }
+// Keeps these findings in place of as many others.
+fn keep_one(findings: &[Finding], kept: &mut Vec<Finding>)
+    requires { length kept.old.items ≡ length findings.now }
+    ensures { kept.new.items ≡ findings.now }
 {
-    row.copy_from_slice(findings);
+    kept.copy_from_slice(findings);
 }
 
-// Rows in which nothing was found, for each router one.
-fn empty_rows(alloc: Global, network: &Network) -> Result<Vec<Vec<Finding>>, Memory>
-    ensures { IfOk result (λ rows. map (λ row. row.items) rows.items ≡ replicate (nodes network.now.net.relation.grid) (replicate (size network.now.net) empty_finding)) }
+// That nothing was found, for each router.
+fn nothing_kept(alloc: Global, network: &Network) -> Result<Vec<Vec<Finding>>, Memory>
+    ensures { IfOk result (λ kept. map (λ one. one.items) kept.items ≡ replicate (nodes network.now.net.relation.grid) (replicate (size network.now.net) empty_finding)) }
 {
     let relation = network.relation();
     let channels = relation.shape().ports() * relation.vcs();
-    let mut rows = Vec::with_capacity(alloc, relation.shape().nodes())?;
+    let mut kept = Vec::with_capacity(alloc, relation.shape().nodes())?;
     for _ in 0..relation.shape().nodes() {
-        rows.push(vec![in alloc; Finding::EMPTY; channels]?)?;
+        kept.push(vec![in alloc; Finding::EMPTY; channels]?)?;
     }
-    Ok(rows)
+    Ok(kept)
 }
 
 // What a trace tells of one of these channels: nothing where it is Empty or not one
@@ -373,7 +373,7 @@ impl<'a> Lines for CycleLines<'a> {
     fn is_silent(&self, router: usize) -> bool {
         let trace = self.trace;
         let packet = trace.traced.packet;
-        tells_nothing(packet, trace.row(router))
+        tells_nothing(packet, trace.before(router))
             && tells_nothing(packet, self.network.findings(router))
     }
 
@@ -381,7 +381,8 @@ impl<'a> Lines for CycleLines<'a> {
         let index = port * self.network.relation().vcs() + vc;
         let trace = self.trace;
         let packet = trace.traced.packet;
-        let before_it = told_at(packet, trace.row(router), index);
+        let kept = trace.before(router);
+        let before_it = told_at(packet, kept, index);
         let now = told_at(packet, self.network.findings(router), index);
         if is_same(before_it, now) {
             return;

@@ -82,7 +82,7 @@ pub fn torus_of_two(alloc: Global) -> Result<Network, Fail>
     network(alloc, torus, 2, &[packet(0, 1, 1, 0), packet(1, 0, 1, 0)])
 }
 
-/// A ring of four routers with one channel and one place, on which each packet waits for
+/// A ring of four routers with one channel and one slot, on which each packet waits for
 /// another from cycle 4 on.
 pub fn stuck_ring(alloc: Global) -> Result<Network, Fail>
     ensures { IfOk result (λ n. n.count ≡ 0) }

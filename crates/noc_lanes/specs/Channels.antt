@@ -45,6 +45,9 @@ decided_by f r = record {
 
 abbrev pub verdicts_by : {A B : Type 0} → (A → B) → Verdicts A → Verdicts B
 verdicts_by f r = record {
+  routed = f r.routed;
+  waiting = f r.waiting;
+  active = f r.active;
   no_credit = f r.no_credit;
   lost_input = f r.lost_input;
   lost_switch = f r.lost_switch;

@@ -376,9 +376,15 @@ impl<W: Word> Decided<Lanes<W>> {
     }
 }
 
-/// The verdicts of input channels that are counted by words.
+/// The verdicts of input channels that are counted by words, some of them together.
 #[derive(Clone, Copy)]
 pub struct Verdicts<T> {
+    /// Routed.
+    pub routed: T,
+    /// Granted, NoIdleChannel and LostChannel: those that wait for an output channel.
+    pub waiting: T,
+    /// NoFlit, NoCredit, LostInput, LostSwitch and Moved: those that own an output channel.
+    pub active: T,
     /// NoCredit.
     pub no_credit: T,
     /// LostInput.
@@ -399,6 +405,9 @@ impl<W: Word> Verdicts<Lanes<W>> {
         ensures { verdicts_by W.value result ≡ verdicts_by (word W.value lane) self.now }
     {
         Verdicts {
+            routed: at(&self.routed, lane),
+            waiting: at(&self.waiting, lane),
+            active: at(&self.active, lane),
             no_credit: at(&self.no_credit, lane),
             lost_input: at(&self.lost_input, lane),
             lost_switch: at(&self.lost_switch, lane),
@@ -415,6 +424,9 @@ impl<W: Word> Verdicts<Lanes<W>> {
         ensures others { (k : ℕ) → k ≢ lane
             → verdicts_by (word W.value k) self.new ≡ verdicts_by (word W.value k) self.old }
     {
+        put(&mut self.routed, lane, words.routed);
+        put(&mut self.waiting, lane, words.waiting);
+        put(&mut self.active, lane, words.active);
         put(&mut self.no_credit, lane, words.no_credit);
         put(&mut self.lost_input, lane, words.lost_input);
         put(&mut self.lost_switch, lane, words.lost_switch);

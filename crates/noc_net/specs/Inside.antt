@@ -2,7 +2,7 @@
 use Rattle.std.specs.Prelude.{◌≡◌, ◌≤◌, IfSome, None}
 use Rattle.noc_theory.specs.declared.limits.TheConstants.{CYCLE_LIMIT}
 use Rattle.noc_theory.specs.Network.{Run}
-use Rattle.noc_rows.specs.Whole.{ShowsNetwork}
+use Rattle.noc_rows.specs.Rows.{ShowsRun}
 use Rattle.noc_net.specs.declared.network.Network.TheInside.{Inside}
 use Rattle.noc_net.specs.Parts.{AreParts, setup_in}
 
@@ -15,5 +15,5 @@ pub record IsNetwork (n : Inside) : Type 0 where
   pub parts : AreParts n.parts
   pub behind : n.parts.count ≤ n.count
   pub within : n.count ≤ CYCLE_LIMIT
-  pub rows : IfSome n.rows (ShowsNetwork (setup_in n.parts) n.count)
+  pub rows : IfSome n.rows (ShowsRun (setup_in n.parts) n.count)
   pub routers : n.rows ≡ None → n.parts.count ≡ n.count

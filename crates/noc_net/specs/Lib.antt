@@ -1,6 +1,5 @@
 pub mod Faults
 pub mod Inside
-pub mod Jump
 pub mod Latest
 pub mod Limit
 pub mod Parts

@@ -1,107 +1,36 @@
-//! The cycles of a network, in two loops over its routers
-//! (docs/ARCHITECTURE.md, "The loop of a cycle").
+//! A cycle of a network, in two loops over its routers
+//! (docs/ARCHITECTURE.md, "Routers, one at a time").
 
-ghost use Rattle.std.specs.Prelude.{◌≡◌, ℕ, ◌+◌, ◌<◌, ◌≤◌, All, IfSome, Some, length, map};
+ghost use Rattle.std.specs.Prelude.{◌≡◌, ℕ, ◌<◌, ◌≤◌, All, IfSome, Some, length, map};
 ghost use Rattle.noc_topo.specs.declared.limits.TheConstants.{MAX_NODES};
 ghost use Rattle.noc_topo.specs.Lists.{map_indexed};
 ghost use Rattle.noc_topo.specs.Shape.{nodes as nodes_of, neighbour as neighbour_of};
-ghost use Rattle.noc_view.specs.declared.finding.Recording.TheVariants.{Leave, Record};
 ghost use Rattle.noc_view.specs.View.{IsRelationOf, idle_beat};
-ghost use Rattle.noc_theory.specs.Halves.{ArePlaced, IsLinked, HasItsBeats, IsSilent, beat_at, view_after_decide, view_after_puts, incoming, wire_after_puts, sent_on};
+ghost use Rattle.noc_theory.specs.Halves.{HaveTheirBeats, IsLinked, HasItsBeats, IsSilent, beat_at, view_after_decide, view_after_puts, incoming, wire_after_puts, sent_on};
 ghost use Rattle.noc_theory.specs.Lockstep.{beat_from, beats_at};
-ghost use Rattle.noc_theory.specs.Network.{Setup};
-ghost use Rattle.noc_theory.specs.Unseen.{AreInStep};
 
-use crate::jump::jump;
 use crate::takes::take_beats;
 use noc_packet::Beat;
 use noc_route::Relation;
-use noc_router::{Plan, Recording, Router};
+use noc_router::{Plan, Router};
 use noc_topo::LINKS;
 
-// Runs the cycles from `first` to `last`. What is found is recorded in the last alone, since nobody
-// reads what is found before.
-pub(crate) fn run_all(
-    relation: &Relation,
-    plan: &mut Plan,
-    first: u64,
-    last: u64,
-    routers: &mut [Router],
-    beats: &mut [[Beat; LINKS]],
-)
-    requires order { first ≤ last }
-    requires in_step { (net : Setup) × (net.relation ≡ relation.now) × AreInStep net Leave first routers.old beats.old }
-    requires count { length beats.old ≡ nodes_of relation.now.grid }
-    ensures { (net : Setup) → net.relation ≡ relation.now → AreInStep net Leave first routers.old beats.old → AreInStep net Record (last + 1) routers.new beats.new }
-{
-    skip(relation, plan, first, last, routers, beats);
-    cycle(relation, plan, last, Recording::Record, routers, beats);
-}
-
-// Runs the cycles from `first` to before `end`, and leaves the findings as they were. Those in
-// which nothing happens are run at once.
-fn skip(
-    relation: &Relation,
-    plan: &mut Plan,
-    first: u64,
-    end: u64,
-    routers: &mut [Router],
-    beats: &mut [[Beat; LINKS]],
-)
-    requires order { first ≤ end }
-    requires in_step { (net : Setup) × (net.relation ≡ relation.now) × AreInStep net Leave first routers.old beats.old }
-    requires count { length beats.old ≡ nodes_of relation.now.grid }
-    ensures { (net : Setup) → net.relation ≡ relation.now → AreInStep net Leave first routers.old beats.old → AreInStep net Leave end routers.new beats.new }
-{
-    let mut now = first;
-    while now < end {
-        cycle(relation, plan, now, Recording::Leave, routers, beats);
-        now = jump(relation, plan, now, end, routers, beats);
-    }
-}
-
-// One cycle of all routers.
-fn cycle(
-    relation: &Relation,
-    plan: &mut Plan,
-    cycle: u64,
-    recording: Recording,
-    routers: &mut [Router],
-    beats: &mut [[Beat; LINKS]],
-)
-    requires in_step { (net : Setup) × (net.relation ≡ relation.now) × AreInStep net Leave cycle routers.old beats.old }
-    requires count { length beats.old ≡ nodes_of relation.now.grid }
-    ensures in_step { (net : Setup) → net.relation ≡ relation.now → AreInStep net Leave cycle routers.old beats.old → AreInStep net recording (cycle + 1) routers.new beats.new }
-    ensures routers { All (λ v. IsRelationOf relation.now v) routers.new }
-{
-    decide_all(relation, plan, cycle, recording, routers, beats);
-    deliver_all(relation, routers, beats);
-}
-
 // Each router takes the beats that came to it, injects, decides and commits.
-fn decide_all(
+pub(crate) fn decide_all(
     relation: &Relation,
     plan: &mut Plan,
     cycle: u64,
-    recording: Recording,
     routers: &mut [Router],
     beats: &mut [[Beat; LINKS]],
 )
     requires routers { All (λ v. IsRelationOf relation.now v) routers.old }
     requires beats { All (IsLinked relation.now.grid) beats.old }
     requires count { length beats.old ≡ length routers.old }
-    ensures routers { routers.new ≡ map_indexed (λ r v. view_after_decide relation.now cycle recording (incoming relation.now.grid (beats_at beats.old r)) v) routers.old }
+    ensures routers { routers.new ≡ map_indexed (λ r v. view_after_decide relation.now cycle (incoming relation.now.grid (beats_at beats.old r)) v) routers.old }
     ensures beats { All IsSilent beats.new }
 {
     for node in 0..routers.len() {
-        decide(
-            relation,
-            plan,
-            cycle,
-            recording,
-            &mut routers[node],
-            &mut beats[node],
-        );
+        decide(relation, plan, cycle, &mut routers[node], &mut beats[node]);
     }
 }
 
@@ -110,22 +39,21 @@ fn decide(
     relation: &Relation,
     plan: &mut Plan,
     cycle: u64,
-    recording: Recording,
     router: &mut Router,
     beats: &mut [Beat; LINKS],
 )
     requires router { IsRelationOf relation.now router.old }
     requires beats { IsLinked relation.now.grid beats.old }
-    ensures router { router.new ≡ view_after_decide relation.now cycle recording (incoming relation.now.grid beats.old) router.old }
+    ensures router { router.new ≡ view_after_decide relation.now cycle (incoming relation.now.grid beats.old) router.old }
     ensures beats { IsSilent beats.new }
 {
     take_beats(relation, router, beats);
-    router.finish(relation, plan, cycle, recording);
+    router.finish(relation, plan, cycle);
 }
 
 // Each router puts its beats on the wires that leave it, all of which are idle.
-fn deliver_all(relation: &Relation, routers: &mut [Router], beats: &mut [[Beat; LINKS]])
-    requires routers { ArePlaced relation.now routers.old }
+pub(crate) fn deliver_all(relation: &Relation, routers: &mut [Router], beats: &mut [[Beat; LINKS]])
+    requires routers { HaveTheirBeats relation.now routers.old }
     requires nodes { length routers.old ≡ nodes_of relation.now.grid }
     requires count { length beats.old ≡ nodes_of relation.now.grid }
     requires beats { All IsSilent beats.old }
@@ -146,9 +74,8 @@ pub fn deliver(relation: &Relation, router: &mut Router, beats: &mut [[Beat; LIN
     ensures router { router.new ≡ view_after_puts router.old }
     ensures beats { (r port : ℕ) → r < nodes_of relation.now.grid → beat_at beats.new r port ≡ wire_after_puts router.old (neighbour_of relation.now.grid r port) (beat_at beats.old r port) }
 {
-    let mut rest = router.loaded();
-    while let Some(port) = rest.least_common(&rest) {
-        rest = rest.without(port);
+    let links = relation.shape().ports() - 1;
+    for port in 0..links {
         let beat = router.put(port);
         send(beats, router.neighbour(port), beat);
     }

@@ -41,7 +41,6 @@
 mod cycles;
 mod event_core;
 mod fault;
-mod jump;
 mod limit;
 mod network;
 mod packets;
@@ -54,7 +53,7 @@ pub use cycles::deliver;
 pub use event_core::Core;
 pub use fault::NetFault;
 pub use limit::MAX_LIMIT;
-pub use network::{MAX_ROW_CHANNELS, Network};
+pub use network::Network;
 pub use noc_theory::{CYCLE_LIMIT, Event, NotReady};
 pub use parts::Parts;
 pub use room::Room;

@@ -1,10 +1,10 @@
 //! The network.
 //!
-//! A network runs by rows (`noc_rows`) where its channels and depth fit their words, and its
-//! routers stay at the count at which it was made. Where they do not fit, and after
-//! `from_parts`, its routers run. The readers ask whichever of the two has run. Nothing is
-//! carried from one to the other: `into_parts` has the routers run the cycles that the rows have
-//! run, and lets the rows go.
+//! A network that is made runs by rows (`noc_rows`). It holds routers beside them, at count 0,
+//! since `into_parts` and `Core::new` give routers and take no allocator: there is no memory from
+//! which they could make any. So a network takes the memory of its routers too, which never run
+//! beside rows. `into_parts` has them run the cycles that the rows have run, one by one, and lets
+//! the rows go. After `from_parts` the routers run. The readers ask whichever of the two has run.
 
 ghost use Rattle.std.specs.Prelude.{◌≡◌, ℕ, ◌+◌, ◌*◌, ◌<◌, ◌≤◌, ◌&&◌, All, Err, IfErr, IfOk, None, Some, false, true, is_none, length, nat_le, vec_len};
 ghost use Rattle.std.specs.List.{slice_get};
@@ -38,9 +38,6 @@ use noc_theory::CYCLE_LIMIT;
 use noc_topo::LINKS;
 use std::alloc::Global;
 use std::marker::Model;
-
-/// The most input channels of a router in a network that runs by rows.
-pub const MAX_ROW_CHANNELS: usize = 31;
 
 /// A network of routers with one wire in each direction of each link, run in lockstep.
 ///
@@ -102,14 +99,14 @@ impl Network {
                 beats,
                 room,
             },
-            rows,
+            rows: Some(rows),
             count: 0,
         })
     }
 
     /// Takes the network apart: its routers with their findings, and its beats in flight, are those
     /// of its state at its count, and its plan is one of its relation without requests. It costs as
-    /// many cycles of the routers as have run by rows, since the routers run these again.
+    /// many cycles of the routers as have run by rows, since the routers run these again, each one.
     pub fn into_parts(self) -> Parts
         ensures network { run_in result ≡ self }
         ensures parts { AreParts result }
@@ -139,21 +136,9 @@ impl Network {
         }
     }
 
-    /// Whether a network of this relation is made with rows (`Network::new`), which one
-    /// thread runs faster than several run routers: the rows of `noc_rows` hold the input
-    /// channels of a router in a word.
-    pub fn fits_rows(&self) -> bool
-        ensures { result ≡ nat_le (ports_of self.now.net.relation.grid * self.now.net.relation.vcs) MAX_ROW_CHANNELS }
-    {
-        let relation = &self.parts.relation;
-        relation.shape().ports() * relation.vcs() <= MAX_ROW_CHANNELS
-    }
-
-    /// Whether it runs by rows: a network that was made with them does (`fits_rows`), and one that
-    /// was put together from parts does not.
-    pub fn runs_by_rows(&self) -> bool
-        ensures { result ≡ true → ports_of self.now.net.relation.grid * self.now.net.relation.vcs ≤ MAX_ROW_CHANNELS }
-    {
+    /// Whether it runs by rows, or its routers run one by one: those of a network that was put
+    /// together from parts do. All else that is read of a network is the same.
+    pub fn runs_by_rows(&self) -> bool {
         self.rows.is_some()
     }
 
@@ -277,8 +262,8 @@ impl Network {
     }
 
     /// How many flits and credits did not fit, in all routers: none ever does. Rows have none to
-    /// count: a flit that comes has a place in its buffer by the law of credits
-    /// (`noc_theory::credits_are_the_places_left`).
+    /// count: a flit that comes has a slot in its buffer by the law of credits
+    /// (`noc_theory::credits_are_the_free_slots`).
     pub fn misfits(&self) -> u64
         ensures { result ≡ 0 }
     {

@@ -8,7 +8,7 @@ ghost use Rattle.noc_theory.specs.Progress.{last_event_before};
 ghost use Rattle.noc_net.specs.Parts.{AreParts, run_in, setup_in};
 ghost use Rattle.noc_net.specs.Latest.{later_of};
 
-use crate::cycles::run_all;
+use crate::cycles::{decide_all, deliver_all};
 use crate::room::Room;
 use noc_packet::{Beat, Packet};
 use noc_route::Relation;
@@ -47,19 +47,28 @@ impl Parts {
         ensures parts { AreParts self.new }
         ensures network { run_in self.new ≡ record { net = setup_in self.old; count = self.old.count + cycles } }
     {
-        let first = self.count;
-        if cycles == 0 {
-            return;
+        for _ in 0..cycles {
+            self.cycle();
         }
-        run_all(
+    }
+
+    // Runs a cycle: each router takes the beats that came to it, injects, decides and commits, and
+    // then all put.
+    fn cycle(&mut self)
+        requires parts { AreParts self.old }
+        requires within { self.old.count < CYCLE_LIMIT }
+        ensures parts { AreParts self.new }
+        ensures network { run_in self.new ≡ record { net = setup_in self.old; count = self.old.count + 1 } }
+    {
+        decide_all(
             &self.relation,
             &mut self.plan,
-            first,
-            first + cycles - 1,
+            self.count,
             &mut self.routers,
             &mut self.beats,
         );
-        self.count = first + cycles;
+        deliver_all(&self.relation, &mut self.routers, &mut self.beats);
+        self.count += 1;
     }
 
     // The last cycle with an event, in any router.

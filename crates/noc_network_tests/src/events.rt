@@ -71,7 +71,7 @@ fn agree(core: &mut Core, answers: &[(Event, bool)]) -> bool
 
 // The steps of two routers in a line, and the beats on the wires between them,
 // towards the second and back.
-fn stand(core: &Core) -> [u64; 4]
+fn steps_and_beats(core: &Core) -> [u64; 4]
     requires { core.now.net.relation.grid ≡ record { wraps = false; radix = 2 ∷ [] } }
 {
     [
@@ -97,7 +97,7 @@ fn a_router_waits_for_its_neighbour(rt: HostRuntime) -> Result<(), Fail> {
         (Event::Take(5, 0), false),
     ];
     assert!(rt; agree(&mut core, &first));
-    assert_eq!(rt; stand(&core), [1, 0, 2, 0]);
+    assert_eq!(rt; steps_and_beats(&core), [1, 0, 2, 0]);
     let Err(mut core) = core.finish() else {
         panic!(rt; "finished")
     };
@@ -109,7 +109,7 @@ fn a_router_waits_for_its_neighbour(rt: HostRuntime) -> Result<(), Fail> {
         (Event::Take(5, 0), false),
     ];
     assert!(rt; agree(&mut core, &second));
-    assert_eq!(rt; stand(&core), [1, 1, 1, 1]);
+    assert_eq!(rt; steps_and_beats(&core), [1, 1, 1, 1]);
     match core.finish() {
         Ok(line) => assert!(rt; line.count() == 1),
         Err(_) => panic!(rt; "not finished"),

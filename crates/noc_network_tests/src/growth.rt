@@ -2,6 +2,7 @@
 //! refuses their growths one by one, and counts them.
 
 use noc_fixtures::{arrival, counts, line_of_three, relation};
+use noc_net::{Core, Event};
 use noc_rank::{RankRow, Ranks, check};
 use noc_route::{Relation, Rule};
 use noc_router::{Plan, Router};
@@ -82,5 +83,20 @@ fn a_line_is_read(rt: HostRuntime) -> Result<(), Fail> {
     assert_eq!(rt; (line.misfits(), line.last_event()), (0, Some(11)));
     assert!(rt; line.relation().shape().nodes() > 0 && line.limit() > 0);
     assert!(rt; line.findings(0).len() == 3);
+    Ok(())
+}
+
+#[test]
+fn a_core_of_a_line_is_read(rt: HostRuntime) -> Result<(), Fail> {
+    let mut line = line_of_three(rt.alloc())?;
+    line.run(4);
+    let shape = line.relation().shape();
+    assert!(rt; shape.nodes() > 0 && shape.ports() > 0);
+    let mut core = Core::new(line);
+    assert!(rt; core.apply(Event::Take(0, 0)).is_ok() && core.apply(Event::Decide(0)).is_ok());
+    assert!(rt; core.apply(Event::Put(0, 0)).is_ok() && core.apply(Event::Put(0, 0)).is_err());
+    assert_eq!(rt; (core.steps(0), core.beats(0, 0)), (5, 0));
+    assert!(rt; core.findings(0).len() == 3);
+    assert!(rt; core.finish().is_err());
     Ok(())
 }

@@ -9,28 +9,27 @@ use noc_packet::Packet;
 use std::alloc::{AllocError, Global};
 use std::test::Fail;
 
-/// A network of the shape with this number, if its rule fits its shape: each rule in turn, and
-/// every tenth with one channel and the greatest load.
+/// A network of the shape with this number, if its rule fits its shape. The rules follow one another
+/// trial by trial, and every tenth trial has one channel and the greatest load.
 pub fn network_of(
     alloc: Global,
     shape: usize,
-    turn: usize,
+    trial: usize,
     chance: &mut Chance,
 ) -> Result<Option<Network>, Fail>
     ensures { IfOk result (λ made. IfSome made (λ n. n.count ≡ 0)) }
 {
     let shape = shape_of(shape)?;
-    let most = if shape.dimensions() == 3 { 4 } else { 6 };
-    let dense = turn % 10 == 0;
+    let dense = trial % 10 == 0;
     let vcs = if dense {
         1
     } else {
-        1 + chance.below(most) as usize
+        1 + chance.below(8) as usize
     };
-    let Ok(relation) = relation_of(alloc, &shape, vcs, turn % RULES, chance) else {
+    let Ok(relation) = relation_of(alloc, &shape, vcs, trial % RULES, chance) else {
         return Ok(None);
     };
-    let depth = if turn % 2 == 0 {
+    let depth = if trial % 2 == 0 {
         1 + chance.below(3) as usize
     } else {
         1 + chance.below(16) as usize

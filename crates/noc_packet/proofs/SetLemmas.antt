@@ -1,6 +1,7 @@
 -- Sets of channel indices, by their bits.
 use Rattle.std.proofs.Common.{◌/◌, ◌≡◌, ℕ, ◌+◌, ◌-◌, ◌*◌, ◌%◌, ◌^◌, ◌<◌, ◌≤◌, Bool, true, false, Option, Some, None, refl, ap, sym, ◌∙◌, arith, inl, inr, w64, bit_and, bit_or, zero-mul}
 use Rattle.std.specs.Prelude.{nat_eq, nat_le, nat_lt, ◌⊎◌, ◌&&◌, ◌||◌, not, cond}
+use Rattle.std.proofs.Math.Bool.{and_self}
 use Rattle.std.specs.Int.{bit_at, bit_not, trailing_zeros}
 use Rattle.std.proofs.lemmas.Bool.{eq-eqb, ne_eqb, cases_eq, cases_lt, false≢true, eqb-true, le-leb, lt-leb, lt-ltb, le-ltb}
 use Rattle.std.proofs.lemmas.Nat.{or_lt, or_disjoint, shr-shr, shr_le, one_shl, and_le_l, and-not, and_comm, pow_below}
@@ -159,6 +160,11 @@ first_of_both false b e = e
 -- the least of both is an index
 pub least-within : (a b x : ℕ) → a < 2 ^ 56 → in_both a b x ≡ true → x < 56
 least-within a b x bound e = has_bit-below a 56 x bound (first_of_both (has_bit a x) (has_bit b x) e)
+
+-- the least of a set in itself is its least
+pub least-alone : (a : ℕ) (r : Option ℕ) → IsLeast (in_both a a) r → IsLeast (has_bit a) r
+least-alone a None none = λ k. sym (and_self (has_bit a k)) ∙ none k
+least-alone a (Some x) least = (sym (and_self (has_bit a x)) ∙ least.0, λ k l. sym (and_self (has_bit a k)) ∙ least.1 k l)
 
 -- ---- the least from an index on
 bit_at-shr : (n k i : ℕ) → bit_at (n / 2 ^ k) i ≡ bit_at n (k + i)

@@ -42,7 +42,7 @@ pub struct Flit {
 pub struct Beat {
     /// A flit, and the virtual channel that it is on.
     pub flit: Option<(u8, Flit)>,
-    /// The virtual channel whose buffer has given a place back.
+    /// The virtual channel whose buffer has given a slot back.
     pub credit: Option<u8>,
 }
 

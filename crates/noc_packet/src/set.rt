@@ -1,6 +1,6 @@
 //! A set of channel indices.
 
-ghost use Rattle.std.specs.Prelude.{◌≡◌, ℕ, ◌+◌, ◌-◌, ◌<◌, ◌≤◌, ◌^◌, Bool, false, ◌&&◌, ◌||◌, ◌==◌, not, nat_lt, find, IfSome, IsTrue, ◌↔◌, if◌then◌else◌};
+ghost use Rattle.std.specs.Prelude.{◌≡◌, ℕ, ◌+◌, ◌-◌, ◌<◌, ◌≤◌, ◌^◌, Bool, false, ◌&&◌, ◌||◌, ◌==◌, not, nat_lt, find, IfNone, IfSome, IsTrue, ◌↔◌, if◌then◌else◌};
 ghost use Rattle.noc_packet.specs.Set.{has_bit, has_from, in_both, IsLeast};
 
 use crate::limits::INDICES;
@@ -80,6 +80,21 @@ impl ChannelSet {
         } else {
             Some(both.trailing_zeros() as usize)
         }
+    }
+
+    /// Takes the least member out, if there is one.
+    pub fn pop_least(&mut self) -> Option<usize>
+        ensures least { IsLeast (has_bit self.old) result }
+        ensures within { IfSome result (λ index. index < INDICES) }
+        ensures rest { IfSome result (λ index. (k : ℕ)
+            → has_bit self.new k ≡ (not (k == index) && has_bit self.old k)) }
+        ensures fewer { IfSome result (λ _. self.new < self.old) }
+        ensures none { IfNone result (self.new ≡ self.old) }
+    {
+        let set = *self;
+        let least = set.least_common(&set)?;
+        *self = set.without(least);
+        Some(least)
     }
 
     /// The least member that is no less than the index, which is 0 to 55.

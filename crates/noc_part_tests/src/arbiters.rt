@@ -66,7 +66,7 @@ fn a_channel_that_two_ask_for_goes_round(rt: HostRuntime) -> Result<(), Fail> {
 // port 1. The pointers of the outputs before the round, the picks, the wins, and the pointers of
 // the inputs and of the outputs after it.
 #[test]
-fn an_input_port_that_loses_the_switch_keeps_its_turn(rt: HostRuntime) -> Result<(), Fail> {
+fn an_input_port_that_loses_the_switch_keeps_its_pointer(rt: HostRuntime) -> Result<(), Fail> {
     let ready = [Some(2), Some(1), Some(2), None, None, None];
     let mut inputs = vec![in rt.alloc(); Arbiter::new(2); 3]?;
     let mut outputs = vec![in rt.alloc(); Arbiter::new(3); 3]?;

@@ -47,7 +47,7 @@ fn shown(bank: &Bank, ring: usize) -> (Option<Flit>, usize, bool)
     (bank.front(ring), bank.len(ring), bank.is_full(ring))
 }
 
-// A ring of two turns round the end of its memory: packets 1 and 2 come in, 1
+// A ring of two goes round the end of its memory: packets 1 and 2 come in, 1
 // goes, 3 comes in, 2 and 3 go.
 #[test]
 fn a_ring_of_two_wraps_and_leaves_its_neighbour_empty(rt: HostRuntime) -> Result<(), Fail> {
@@ -97,7 +97,7 @@ fn the_largest_bank_keeps_each_ring_apart(rt: HostRuntime) -> Result<(), Fail> {
 
 // Dropped empty.
 #[test]
-fn a_ring_of_one_place_is_full_with_one_flit(rt: HostRuntime) -> Result<(), Fail> {
+fn a_ring_of_one_slot_is_full_with_one_flit(rt: HostRuntime) -> Result<(), Fail> {
     let mut bank = Bank::new(rt.alloc(), 1, 1)?;
     let opened = shown(&bank, 0);
     let first_in = put(&mut bank, 0, flit(9));
@@ -132,7 +132,7 @@ fn a_bank_is_dropped_with_a_flit(rt: HostRuntime) -> Result<(), Fail> {
 
 // Whether the last ring of 28, which is full, gives this flit and takes another one,
 // beside a ring that holds one.
-fn turns(bank: &mut Bank, first: u32, next: u32) -> bool
+fn goes_round(bank: &mut Bank, first: u32, next: u32) -> bool
     requires { length bank.old.rings ≡ 28 }
     ensures { length bank.new.rings ≡ 28 }
 {
@@ -144,7 +144,7 @@ fn turns(bank: &mut Bank, first: u32, next: u32) -> bool
 
 // One growth is all that a bank takes: `rt try --test --fail-alloc 2` leaves this test as it is.
 #[test]
-fn a_full_ring_turns_a_thousand_times(rt: HostRuntime) -> Result<(), Fail> {
+fn a_full_ring_goes_round_a_thousand_times(rt: HostRuntime) -> Result<(), Fail> {
     let mut bank = Bank::new(rt.alloc(), 28, 16)?;
     assert!(rt; put(&mut bank, 26, flit(5000)));
     for n in 0..16u32 {
@@ -152,14 +152,14 @@ fn a_full_ring_turns_a_thousand_times(rt: HostRuntime) -> Result<(), Fail> {
     }
     assert!(rt; bank.is_full(27));
     for n in 0..1000u32 {
-        assert!(rt; turns(&mut bank, n, n + 16));
+        assert!(rt; goes_round(&mut bank, n, n + 16));
     }
     assert_eq!(rt; bank.front(26), Some(flit(5000)));
     Ok(())
 }
 
 // The first flit of a bank's first ring makes way for another one.
-fn turned(mut bank: Bank, flit: Flit) -> Bank
+fn replaced(mut bank: Bank, flit: Flit) -> Bank
     requires { 0 < length bank.rings }
     ensures { length result.rings ≡ length bank.rings }
 {
@@ -180,8 +180,8 @@ fn banks_go_to_a_thread_and_come_back_with_their_flits(rt: HostRuntime) -> Resul
     assert_eq!(rt; puts, [true; 3]);
     let (mut one, mut other) = thread::join(
         &rt,
-        move || turned(one, flit(3)),
-        move || turned(other, flit(5)),
+        move || replaced(one, flit(3)),
+        move || replaced(other, flit(5)),
     );
     let taken = [
         take(&mut one, 0),

@@ -108,6 +108,19 @@ fn the_least_index_of_two_sets_is_in_both(rt: HostRuntime) {
     );
 }
 
+#[test]
+fn a_set_is_taken_apart_from_its_least_index_up(rt: HostRuntime) {
+    let mut rest = ChannelSet::empty().with(55).with(0).with(4);
+    let first = rest.pop_least();
+    let left = rest;
+    assert_eq!(rt;
+        [first, rest.pop_least(), rest.pop_least(), rest.pop_least()],
+        [Some(0), Some(4), Some(55), None]
+    );
+    assert_eq!(rt; [left.contains(0), left.contains(4)], [false, true]);
+    assert_eq!(rt; rest, ChannelSet::empty());
+}
+
 // What a call that allocates answers, in a function with its own error.
 fn passed_on(answer: Result<u8, AllocError>) -> Result<u8, Memory> {
     let byte = answer?;

@@ -77,10 +77,10 @@ fn all_args(rt: &(impl Env + AllocGlobal)) -> Result<Vec<String>, Refusal> {
 
 // The number of the first argument that is no text in UTF-8, of arguments of less than 4096 bytes.
 fn wrong_arg(rt: &impl Env) -> Option<usize> {
-    let mut room = [0u8; 4096];
+    let mut bytes = [0u8; 4096];
     for number in 0..usize::MAX {
-        match rt.arg(number, &mut room) {
-            Ok(length) if str::from_utf8(&room[..length]).is_err() => return Some(number),
+        match rt.arg(number, &mut bytes) {
+            Ok(length) if str::from_utf8(&bytes[..length]).is_err() => return Some(number),
             Ok(_) | Err(FillError::TooLong) => {}
             Err(FillError::NotPresent) => break,
         }

@@ -9,7 +9,7 @@ use Rattle.noc_topo.proofs.ShapeLemmas.{length-coordinates}
 use Rattle.noc_topo.proofs.LinkLemmas.{IsWithin-at, IsWithin-coordinates, AreRadices, AreRadices-from_test, Hop, hop_of}
 use Rattle.noc_topo.proofs.DistanceLemmas.{hop-coordinates}
 use Rattle.noc_route.specs.Channel.{Link}
-use Rattle.noc_route.specs.Relation.{leads, takes_port, is_nearer, is_in_block, resource_class}
+use Rattle.noc_route.specs.Relation.{leads, takes_port, is_nearer, is_of_class, resource_class}
 use Rattle.noc_route.specs.Routes.{Routes}
 use Rattle.noc_route.specs.Built.{IsRelationOfRule, routing_of}
 use Rattle.noc_route.specs.Ranks.{Ranking, is_channel, rank_count, rank_at, AreAllRanked, IsRankedBy, IsRising}
@@ -18,7 +18,7 @@ use Rattle.noc_route.specs.declared.rule.Rule.{Rule}
 use Rattle.noc_route.specs.declared.rule.Rule.TheVariants.{Dor, Dateline, WestFirst, Adaptive, Rows}
 use Rattle.noc_route.proofs.PermitsLemmas.{PermitsLink-from_test}
 use Rattle.noc_route.proofs.RuleLemmas.{west-shape}
-use Rattle.noc_rank.specs.Formulas.{has_ranks, is_numbered, formula, formula_at, west_first_rank}
+use Rattle.noc_rank.specs.Formulas.{has_ranks, is_ranked, formula, formula_at, west_first_rank}
 use Rattle.noc_rank.proofs.RankedLemmas.{full-ranked}
 use Rattle.noc_rank.proofs.FormulaLemmas.{has_ranks-right, listed-rank_at}
 use Rattle.noc_rank.proofs.LedLemmas.{IsLedOn, is_led-on, rule_has-led, reached-led, formula-parts}
@@ -62,8 +62,8 @@ module _ (grid : Grid) (vcs classes m t a o w r q p v : ℕ) (sound : IsGrid gri
       let core : P (set xs (o / 2) hop.coordinate)
       = λ e. dateline-rises grid xs ts o p hop.coordinate radices (IsWithin-coordinates grid.radix a radices) (IsWithin-coordinates grid.radix t radices) (length-coordinates grid.radix a) hop.moved
       (order-port grid xs ts o first.port) (order-port grid (set xs (o / 2) hop.coordinate) ts p e) round in
-      let before : resource_class vcs classes w ≡ half_at xs ts o = eqb-true _ _ (and_parts (is_in_block vcs classes m w) _ first.channel).1 in
-      let after : resource_class vcs classes v ≡ half_at ys ts p = eqb-true _ _ (and_parts (is_in_block vcs classes m v) _ next.channel).1 in
+      let before : resource_class vcs classes w ≡ half_at xs ts o = eqb-true _ _ (and_parts (is_of_class vcs classes m w) _ first.channel).1 in
+      let after : resource_class vcs classes v ≡ half_at ys ts p = eqb-true _ _ (and_parts (is_of_class vcs classes m v) _ next.channel).1 in
       rw (before, after) (subst P (sym changed) core next.port)
 
   west-formula : (n i : ℕ) → IsWestOf (coordinates grid.radix n) ts i → west_first_rank grid n i ≡ rank_over grid.radix (coordinates grid.radix n) i
@@ -107,12 +107,12 @@ module _ (grid : Grid) (vcs classes m t a o w r q p v : ℕ) (sound : IsGrid gri
 -- ---- the relation
 
 -- every rule but adaptive gives each link channel a rank
-all-numbered : (grid : Grid) (vcs classes : ℕ) (rule : Rule) (v : ℕ) → rule ≢ Adaptive → is_numbered grid vcs classes rule v ≡ true
-all-numbered grid vcs classes Dor v other = refl
-all-numbered grid vcs classes Dateline v other = refl
-all-numbered grid vcs classes WestFirst v other = refl
-all-numbered grid vcs classes Adaptive v other = absurd (other refl)
-all-numbered grid vcs classes (Rows rows) v other = refl
+all-ranked : (grid : Grid) (vcs classes : ℕ) (rule : Rule) (v : ℕ) → rule ≢ Adaptive → is_ranked grid vcs classes rule v ≡ true
+all-ranked grid vcs classes Dor v other = refl
+all-ranked grid vcs classes Dateline v other = refl
+all-ranked grid vcs classes WestFirst v other = refl
+all-ranked grid vcs classes Adaptive v other = absurd (other refl)
+all-ranked grid vcs classes (Rows rows) v other = refl
 
 module _ (grid : Grid) (vcs classes : ℕ) (rule : Rule) (other_rule : rule ≢ Adaptive) (routes : Routes) (k : Ranking) (made : IsRelationOfRule (routing_of grid vcs classes rule) routes) (ruled : has_ranks grid vcs classes rule ≡ true)
     (same_grid : k.grid ≡ grid) (same_vcs : k.vcs ≡ vcs) (given : (r p v : ℕ) → rank_at k r p v ≡ formula_at grid vcs classes rule r p v) where
@@ -122,7 +122,7 @@ module _ (grid : Grid) (vcs classes : ℕ) (rule : Rule) (other_rule : rule ≢ 
   full : AreAllRanked k.grid k.vcs (rank_at k)
   full r p v e =
       let known : is_channel grid vcs r p v ≡ true = sym (ap (λ x. is_channel x k.vcs r p v) same_grid ∙ ap (λ x. is_channel grid x r p v) same_vcs) ∙ e in
-      ap is_some (given r p v) ∙ rw (known, all-numbered grid vcs classes rule v other_rule) refl
+      ap is_some (given r p v) ∙ rw (known, all-ranked grid vcs classes rule v other_rule) refl
 
   rising : IsRising routes (rank_at k)
   rising m t a o w r p v n l e one other =

@@ -9,7 +9,7 @@ use Rattle.noc_topo.specs.Lists.{is_some_of}
 use Rattle.noc_topo.specs.Shape.{Grid, IsGrid, nodes, coordinates, is_plus, node_at}
 use Rattle.noc_topo.proofs.ShapeLemmas.{length-coordinates}
 use Rattle.noc_topo.proofs.LinkLemmas.{AreRadices-from_test, node_at-coordinates}
-use Rattle.noc_route.specs.Relation.{is_right, escapes, goes_up, dor_port, dor_port_from, is_nearer, is_in_block, index_in_class, is_escape, is_escape_taken, takes_channel}
+use Rattle.noc_route.specs.Relation.{is_right, escapes, goes_up, dor_port, dor_port_from, is_nearer, is_of_class, index_in_class, is_escape, is_escape_taken, takes_channel}
 use Rattle.noc_route.specs.declared.rule.Rule.TheVariants.{Adaptive}
 use Rattle.noc_route.proofs.AdaptiveLemmas.{adaptive-some}
 use Rattle.noc_rank.proofs.StepLemmas.{half-few}
@@ -78,7 +78,7 @@ class-start vcs classes size m some whole =
 
 -- the channel at a place of a class
 class-place : (vcs classes m place : ℕ) → 1 ≤ classes → vcs ≡ classes * (vcs / classes) → place < vcs / classes
-    → (is_in_block vcs classes m (m * (vcs / classes) + place) ≡ true) × (index_in_class vcs classes (m * (vcs / classes) + place) ≡ place)
+    → (is_of_class vcs classes m (m * (vcs / classes) + place) ≡ true) × (index_in_class vcs classes (m * (vcs / classes) + place) ≡ place)
 class-place vcs classes m place some whole l =
     let size = vcs / classes in
     let start = class-start vcs classes size m some whole in
@@ -112,7 +112,7 @@ escape-found g vcs classes m xs ts p right port =
 -- an escape channel that the rule takes is that of the port of dimension order
 pub escape-taken : (g : Grid) (vcs classes m : ℕ) (xs ts : List ℕ) (p v : ℕ) → takes_channel g vcs classes Adaptive m xs ts p v ≡ true → is_escape g vcs classes v ≡ true
     → IsOrderPort g xs ts p × (index_in_class vcs classes v ≡ escape_place g xs ts p)
-escape-taken g vcs classes m xs ts p v takes escape = at (or_cases (not (is_escape g vcs classes v)) (is_escape_taken g vcs classes xs ts p v) (and_parts (is_in_block vcs classes m v) _ takes).1)
+escape-taken g vcs classes m xs ts p v takes escape = at (or_cases (not (is_escape g vcs classes v)) (is_escape_taken g vcs classes xs ts p v) (and_parts (is_of_class vcs classes m v) _ takes).1)
   where
     at : (not (is_escape g vcs classes v) ≡ true) ⊎ (is_escape_taken g vcs classes xs ts p v ≡ true) → IsOrderPort g xs ts p × (index_in_class vcs classes v ≡ escape_place g xs ts p)
     at (inl other) = absurd (false≢true (sym (ap not escape) ∙ other))

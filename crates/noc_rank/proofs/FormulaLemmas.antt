@@ -13,7 +13,7 @@ use Rattle.noc_route.specs.declared.rule.Rule.TheVariants.{Dor, Dateline, WestFi
 use Rattle.noc_route.proofs.EntryLemmas.{half-some, each-pushed}
 use Rattle.noc_route.specs.Ranks.{Ranking, is_port_channel, is_channel, rank_count, rank_index, rank_at}
 use Rattle.noc_rank.specs.Ranking.{IsRanking}
-use Rattle.noc_rank.specs.Formulas.{has_ranks, is_numbered, formula, formula_at, hops_passed, IsGenerated}
+use Rattle.noc_rank.specs.Formulas.{has_ranks, is_ranked, formula, formula_at, hops_passed, IsGenerated}
 use Rattle.noc_rank.specs.Formulated.{IsWithin, AreByFormula, rank_in, part_by}
 use Rattle.noc_rank.specs.declared.generated.Formula.{Formula}
 use Rattle.noc_rank.proofs.IndexLemmas.{is_port_channel-parts, is_port_channel-decoded, rank_index-below, rank_index-router, rank_index-port, rank_index-vc}
@@ -59,9 +59,9 @@ escapes-few g = at g.wraps refl
     at false e = rw e (omega arith)
 
 -- an escape channel is one of the two lowest of its class
-pub escape-low : (g : Grid) (vcs classes v : ℕ) (rule : Rule) → rule ≡ Adaptive → is_numbered g vcs classes rule v ≡ true → v % (vcs / classes) ≤ 2
+pub escape-low : (g : Grid) (vcs classes v : ℕ) (rule : Rule) → rule ≡ Adaptive → is_ranked g vcs classes rule v ≡ true → v % (vcs / classes) ≤ 2
 escape-low g vcs classes v rule e known =
-    let escape : is_escape g vcs classes v ≡ true = sym (ap (λ rule. is_numbered g vcs classes rule v) e) ∙ known in
+    let escape : is_escape g vcs classes v ≡ true = sym (ap (λ rule. is_ranked g vcs classes rule v) e) ∙ known in
     omega (arith, ltb-true (v % (vcs / classes)) (escapes g) escape, escapes-few g)
 
 pub rank-few : (a b s p : ℕ) → a < 3 → b ≤ 2 → s ≤ 16 → p < 16 → (b * s ≤ 32) × (32 * a + b * s + p + 1 ≤ 145)

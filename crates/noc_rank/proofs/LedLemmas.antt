@@ -5,10 +5,10 @@ use Rattle.std.proofs.lemmas.Bool.{eqb-true, ltb-true, and_parts, false≢true}
 use Rattle.std.proofs.lemmas.Option.{none-some, same_Some}
 use Rattle.noc_topo.specs.Shape.{Grid, coordinates, local_port}
 use Rattle.noc_route.specs.Channel.{Channel, Link, arrival_of, channel_vc}
-use Rattle.noc_route.specs.Relation.{RelationParts, IsReached, led_on, rule_offers, rule_has, leads, is_led, takes_port, takes_channel, is_in_block}
+use Rattle.noc_route.specs.Relation.{RelationParts, IsReached, led_on, rule_offers, rule_has, leads, is_led, takes_port, takes_channel, is_of_class}
 use Rattle.noc_route.specs.Ranks.{is_channel}
 use Rattle.noc_route.specs.declared.rule.Rule.{Rule}
-use Rattle.noc_rank.specs.Formulas.{is_numbered, formula, formula_at}
+use Rattle.noc_rank.specs.Formulas.{is_ranked, formula, formula_at}
 
 -- a link channel to which it leads, from router r towards t
 pub record IsLedOn (g : RelationParts) (m r t p v : ℕ) : Type 0 where
@@ -20,7 +20,7 @@ is_led-on g m r t p v l e = at (nat_eq r t) refl
   where
     at : (b : Bool) → nat_eq r t ≡ b → IsLedOn g m r t p v
     at true f =
-        let parts = and_parts (nat_eq p (local_port g.grid)) (is_in_block g.vcs g.classes m v) (sym (rw f refl) ∙ e) in
+        let parts = and_parts (nat_eq p (local_port g.grid)) (is_of_class g.vcs g.classes m v) (sym (rw f refl) ∙ e) in
         absurd (omega (arith, eqb-true p (local_port g.grid) parts.0, l))
     at false f =
         let parts = and_parts (takes_port g.grid g.rule (coordinates g.grid.radix r) (coordinates g.grid.radix t) p) _ (sym (rw f refl) ∙ e) in
@@ -47,11 +47,11 @@ rule_has-led g m c t r p v e = rule_at-led g m t (channel_vc c) r p v (arrival_o
 pub reached-led : (g : RelationParts) (m t a o w : ℕ) → IsReached g m (Link a o w) t → (in_vc : ℕ) × HasLed g m t in_vc a o w
 reached-led g m t a o w (led_on {c = c} h e) = (channel_vc c, rule_has-led g m c t a o w e)
 
--- a channel with a rank is numbered, and its rank is that of the formula
+-- a channel with a rank is one that the rule ranks, by the formula
 pub formula-parts : (grid : Grid) (vcs classes : ℕ) (rule : Rule) (r p v n : ℕ) → formula_at grid vcs classes rule r p v ≡ Some n
-    → (is_numbered grid vcs classes rule v ≡ true) × (formula grid vcs classes rule r p v ≡ n)
-formula-parts grid vcs classes rule r p v n e = at (is_channel grid vcs r p v && is_numbered grid vcs classes rule v) refl
+    → (is_ranked grid vcs classes rule v ≡ true) × (formula grid vcs classes rule r p v ≡ n)
+formula-parts grid vcs classes rule r p v n e = at (is_channel grid vcs r p v && is_ranked grid vcs classes rule v) refl
   where
-    at : (b : Bool) → (is_channel grid vcs r p v && is_numbered grid vcs classes rule v) ≡ b → (is_numbered grid vcs classes rule v ≡ true) × (formula grid vcs classes rule r p v ≡ n)
+    at : (b : Bool) → (is_channel grid vcs r p v && is_ranked grid vcs classes rule v) ≡ b → (is_ranked grid vcs classes rule v ≡ true) × (formula grid vcs classes rule r p v ≡ n)
     at true f = ((and_parts (is_channel grid vcs r p v) _ f).1, same_Some _ n (sym (rw f refl) ∙ e))
     at false f = absurd (none-some n (sym (rw f refl) ∙ e))

@@ -40,8 +40,8 @@ only-channel way n t p v up e =
     let has = rule_has-led ring 0 (Inject n 0) t n p v e in
     let led = is_led-on ring 0 n t p v has.link has.led in
     let port : p ≡ way = same_Some p way (sym (some_of-true _ p led.port) ∙ up) in
-    let block = and_parts (nat_le 0 v && nat_lt v 1) true led.channel in
-    let vc : v < 1 = ltb-true v 1 (and_parts (nat_le 0 v) (nat_lt v 1) block.0).1 in
+    let class = and_parts (nat_le 0 v && nat_lt v 1) true led.channel in
+    let vc : v < 1 = ltb-true v 1 (and_parts (nat_le 0 v) (nat_lt v 1) class.0).1 in
     (port, omega (arith, vc))
 
 -- so that channel has a rank

@@ -42,14 +42,14 @@ formula g vcs classes Adaptive r p v = 32 * (p / 2) + index_in_class vcs classes
 formula g vcs classes _ r p v = 32 * (p / 2) + hops_passed g r p + 1
 
 -- whether a rule gives this channel of a link a rank: all, but the adaptive ones
-abbrev pub is_numbered : Grid → ℕ → ℕ → Rule → ℕ → Bool
-is_numbered g vcs classes Adaptive v = is_escape g vcs classes v
-is_numbered g vcs classes _ v = true
+abbrev pub is_ranked : Grid → ℕ → ℕ → Rule → ℕ → Bool
+is_ranked g vcs classes Adaptive v = is_escape g vcs classes v
+is_ranked g vcs classes _ v = true
 
 -- the rank by formula of a channel of any link port; none where the port has no link
 -- or the channel is adaptive
 abbrev pub formula_at : Grid → ℕ → ℕ → Rule → ℕ → ℕ → ℕ → Option ℕ
-formula_at g vcs classes rule r p v = if is_channel g vcs r p v && is_numbered g vcs classes rule v then Some (formula g vcs classes rule r p v) else None
+formula_at g vcs classes rule r p v = if is_channel g vcs r p v && is_ranked g vcs classes rule v then Some (formula g vcs classes rule r p v) else None
 
 -- the ranks by formula of a rule that has them
 pub record IsGenerated (g : Grid) (vcs classes : ℕ) (rule : Rule) (k : Ranking) : Type 0 where

@@ -53,7 +53,8 @@ pub(crate) fn first_descent(alloc: Global, ranked: &Ranked) -> Result<Option<Des
     descent_in(alloc, &list, &mut least)
 }
 
-// The first descent along the relation, by the list of ranks; `least` is room.
+// The first descent along the relation, by the list of ranks; what `least` holds
+// is lost.
 fn descent_in(
     alloc: Global,
     list: &RankList,
@@ -74,7 +75,7 @@ fn descent_in(
 }
 
 // The index of the first channel from which packets come on to one of no
-// greater rank; `least` is room.
+// greater rank; what `least` holds is lost.
 fn first_start(list: &RankList, least: &mut [Option<u32>]) -> Option<u32>
     requires { length least.old ≡ length list.now.ranks.now }
     ensures { IsLeastOf (IsOver list.now.relation.now (IsStartBy list.now.relation.now list.now.ranks.now)) result }
@@ -141,7 +142,8 @@ fn mark_below(list: &RankList, start: u32, index: usize) -> Option<u32>
     }
 }
 
-// The least mark to which packets come on from the channel `start`; `least` is room.
+// The least mark to which packets come on from the channel `start`; what `least`
+// holds is lost.
 fn first_end(
     list: &RankList,
     marks: &[Option<u32>],

@@ -5,7 +5,7 @@ ghost use Rattle.std.specs.Prelude.{◌≡◌, ◌+◌, ◌*◌, ◌/◌, ◌<�
 ghost use Rattle.noc_topo.specs.declared.limits.TheConstants.{MAX_RADIX};
 ghost use Rattle.noc_topo.specs.Shape.{IsGrid, nodes, dimensions, coordinates, local_port};
 ghost use Rattle.noc_route.specs.Ranks.{rank_count};
-ghost use Rattle.noc_rank.specs.Formulas.{has_ranks, is_numbered, passed_in, west_first_rank, formula};
+ghost use Rattle.noc_rank.specs.Formulas.{has_ranks, is_ranked, passed_in, west_first_rank, formula};
 
 use crate::channel::{all_ports, is_channel, link_ports};
 use noc_route::{Rule, escapes, is_right, resource_class};
@@ -65,15 +65,15 @@ impl<'a> Formula<'a> {
         ensures value { result ≡ rank_in self.now router port vc }
         ensures within { IfSome result IsWithin }
     {
-        if !is_channel(self.shape, self.vcs, router, port, vc) || !self.is_numbered(vc) {
+        if !is_channel(self.shape, self.vcs, router, port, vc) || !self.is_ranked(vc) {
             return None;
         }
         Some(self.rank(router, port, vc) as u32)
     }
 
     // Whether the rule gives this channel of a link a rank: all, but the adaptive ones.
-    fn is_numbered(&self, vc: usize) -> bool
-        ensures { result ≡ is_numbered self.now.shape.now self.now.vcs self.now.classes self.now.rule.now vc }
+    fn is_ranked(&self, vc: usize) -> bool
+        ensures { result ≡ is_ranked self.now.shape.now self.now.vcs self.now.classes self.now.rule.now vc }
     {
         match self.rule {
             Rule::Adaptive => vc % (self.vcs / self.classes) < escapes(self.shape),
@@ -85,7 +85,7 @@ impl<'a> Formula<'a> {
     fn rank(&self, router: usize, port: usize, vc: usize) -> usize
         requires router { router < nodes self.now.shape.now }
         requires port { port < local_port self.now.shape.now }
-        requires numbered { is_numbered self.now.shape.now self.now.vcs self.now.classes self.now.rule.now vc ≡ true }
+        requires ranked { is_ranked self.now.shape.now self.now.vcs self.now.classes self.now.rule.now vc ≡ true }
         ensures value { result ≡ formula self.now.shape.now self.now.vcs self.now.classes self.now.rule.now router port vc }
         ensures within { IsWithin result }
     {
@@ -98,7 +98,7 @@ impl<'a> Formula<'a> {
     // The part of a dimension's channels in which this one is, in the order in which packets take
     // them: by dateline the half of its class's channels, by adaptive the escape channel.
     fn part(&self, vc: usize) -> usize
-        requires { is_numbered self.now.shape.now self.now.vcs self.now.classes self.now.rule.now vc ≡ true }
+        requires { is_ranked self.now.shape.now self.now.vcs self.now.classes self.now.rule.now vc ≡ true }
         ensures value { result ≡ part_in self.now vc }
         ensures few { result ≤ 2 }
     {

@@ -19,7 +19,7 @@ struct Ends {
     len: u8,
 }
 
-/// First-in first-out buffers of flits: 1 to 56 rings, each of the same 1 to 16 places.
+/// First-in first-out buffers of flits: 1 to 56 rings, each of the same 1 to 16 slots.
 #[derive(Drop)]
 pub struct Bank {
     store: Store,
@@ -53,12 +53,12 @@ fn wrapped(offset: usize, capacity: usize) -> usize
 }
 
 impl Bank {
-    /// So many empty rings, 1 to 56, each of so many places, 1 to 16. The error is
+    /// So many empty rings, 1 to 56, each of so many slots, 1 to 16. The error is
     /// for want of memory alone.
     pub fn new(alloc: Global, rings: usize, capacity: usize) -> Result<Bank, Memory>
         requires some_ring { 0 < rings }
         requires rings { rings ≤ INDICES }
-        requires some_place { 0 < capacity }
+        requires some_slot { 0 < capacity }
         requires capacity { capacity ≤ MAX_BUFFER }
         ensures { IfOk result (λ b. b ≡ empty_buffers rings capacity) }
     {

@@ -1,4 +1,4 @@
-//! A bank: the flit buffers of one router, each a ring of as many places.
+//! A bank: the flit buffers of one router, each a ring of as many slots.
 #![tactic(auto)]
 
 mod bank;

@@ -1,4 +1,4 @@
--- A word names one rule, and only the rule `table` stands elsewhere.
+-- A name is that of one rule, and only the rule `table` stands elsewhere.
 use Rattle.std.proofs.Common.{◌≡◌, ℕ, Bool, true, false, List, [], ◌∷◌, find, Some, None, refl, sym, ap, ◌∙◌}
 use Rattle.std.proofs.lemmas.Option.{none-some, same_Some}
 use Rattle.std.specs.Cmp.Lexicographic.{same_text}
@@ -15,8 +15,8 @@ find-found test (y ∷ ys) x e = at (find-found test ys x) (test y) refl
     at more true is = let one : Some y ≡ Some x = rw is at e in ap test (sym (same_Some y x one)) ∙ is
     at more false is = more (rw is at e)
 
-pub name-of_rule : (word : List ℕ) (r : RuleName) → rule_of word ≡ Some r → word ≡ rule_name r
-name-of_rule word r e = same_text word (rule_name r) (sym (find-found (λ r. bytes_eq word (rule_name r)) rule_names r e))
+pub name-of_rule : (text : List ℕ) (r : RuleName) → rule_of text ≡ Some r → text ≡ rule_name r
+name-of_rule text r e = same_text text (rule_name r) (sym (find-found (λ r. bytes_eq text (rule_name r)) rule_names r e))
 
 pub rule-of_name : (r : RuleName) → rule_of (rule_name r) ≡ Some r
 rule-of_name name.Dor = refl

@@ -8,7 +8,7 @@ use Rattle.noc_topo.specs.Lists.{is_some_of}
 use Rattle.noc_topo.specs.Shape.{Grid, IsGrid, local_port, neighbour, distance, coordinates}
 use Rattle.noc_topo.proofs.DistanceLemmas.{hop-by_one}
 use Rattle.noc_packet.specs.declared.limits.TheConstants.{MAX_CHANNELS, MAX_CLASSES}
-use Rattle.noc_route.specs.Relation.{RelationParts, is_right, fits, is_in_block, takes_port, takes_channel, takes_of_class, names_entry, has_route_row, rows_of, table_rows_of, is_real_row, hop_fault, row_fault, leads, is_led, dor_port, is_nearer, goes_up}
+use Rattle.noc_route.specs.Relation.{RelationParts, is_right, fits, is_of_class, takes_port, takes_channel, takes_of_class, names_entry, has_route_row, rows_of, table_rows_of, is_real_row, hop_fault, row_fault, leads, is_led, dor_port, is_nearer, goes_up}
 use Rattle.noc_route.specs.declared.rule.Rule.{Rule}
 use Rattle.noc_route.specs.declared.rule.Rule.TheVariants.{Dor, Dateline, WestFirst, Adaptive, Rows}
 use Rattle.noc_route.specs.declared.rule.RouteRow.{RouteRow}
@@ -99,7 +99,7 @@ IsRight-from_test g vcs classes rule e =
     let f = and_parts (nat_le 1 vcs) (nat_le vcs MAX_CHANNELS) d.0 in
     record { some_vcs = leb-true _ _ f.0; few_vcs = leb-true _ _ f.1; some_classes = leb-true _ _ d.1; few_classes = leb-true _ _ c.1 }
 
-page-channel : (vcs classes m v : ℕ) → 1 ≤ classes → m < classes → is_in_block vcs classes m v ≡ true → v < vcs
+page-channel : (vcs classes m v : ℕ) → 1 ≤ classes → m < classes → is_of_class vcs classes m v ≡ true → v < vcs
 page-channel vcs classes m v some l e =
     let below : v < (m + 1) * vcs / classes = ltb-true _ _ (and_parts _ (nat_lt v ((m + 1) * vcs / classes)) e).1 in
     let all : (m + 1) * vcs ≤ classes * vcs = mul-le-mul_right {m = m + 1} {n = classes} vcs (omega (arith, l)) in
@@ -112,7 +112,7 @@ page-channel vcs classes m v some l e =
 -- at the destination a rule by coordinates leads to the local port, and elsewhere
 -- along a port that it takes
 pub record IsLedBy (g : RelationParts) (m r t p v : ℕ) : Type 0 where
-  pub page : is_in_block g.vcs g.classes m v ≡ true
+  pub page : is_of_class g.vcs g.classes m v ≡ true
   pub way : ((r ≡ t) × (p ≡ local_port g.grid)) ⊎ ((r ≢ t) × (takes_port g.grid g.rule (coordinates g.grid.radix r) (coordinates g.grid.radix t) p ≡ true))
 
 is_led-parts : (g : RelationParts) (m r t p v : ℕ) → is_led g m r t p v ≡ true → IsLedBy g m r t p v
@@ -120,14 +120,14 @@ is_led-parts g m r t p v e = at (nat_eq r t) refl
   where
     at : (b : Bool) → nat_eq r t ≡ b → IsLedBy g m r t p v
     at true f =
-        let parts = and_parts (nat_eq p (local_port g.grid)) (is_in_block g.vcs g.classes m v) (sym (rw f refl) ∙ e) in
+        let parts = and_parts (nat_eq p (local_port g.grid)) (is_of_class g.vcs g.classes m v) (sym (rw f refl) ∙ e) in
         record { page = parts.1; way = inl (eqb-true r t f, eqb-true p (local_port g.grid) parts.0) }
     at false f =
         let xs = coordinates g.grid.radix r in
         let ts = coordinates g.grid.radix t in
         let parts = and_parts (takes_port g.grid g.rule xs ts p) (takes_channel g.grid g.vcs g.classes g.rule m xs ts p v) (sym (rw f refl) ∙ e) in
         record {
-          page = (and_parts (is_in_block g.vcs g.classes m v) (takes_of_class g.grid g.vcs g.classes g.rule xs ts p v) parts.1).0;
+          page = (and_parts (is_of_class g.vcs g.classes m v) (takes_of_class g.grid g.vcs g.classes g.rule xs ts p v) parts.1).0;
           way = inr ((λ same. false≢true (sym f ∙ eq-eqb r t same)), parts.0);
         }
 

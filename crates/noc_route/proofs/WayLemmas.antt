@@ -5,14 +5,14 @@ use Rattle.std.proofs.Math.Bool.{and-false}
 use Rattle.noc_topo.specs.Shape.{Grid, coordinates, local_port}
 use Rattle.noc_route.specs.Built.{routing_of}
 use Rattle.noc_route.specs.Entered.{routing_in}
-use Rattle.noc_route.specs.Relation.{RelationParts, is_led, is_in_block, takes_port, takes_channel, takes_of_class, is_real_row, row_fault}
+use Rattle.noc_route.specs.Relation.{RelationParts, is_led, is_of_class, takes_port, takes_channel, takes_of_class, is_real_row, row_fault}
 use Rattle.noc_route.specs.declared.sizes.Sizes.{Sizes}
 use Rattle.noc_route.specs.declared.rule.Rule.{Rule}
 use Rattle.noc_route.specs.declared.rule.RouteRow.{RouteRow}
 use Rattle.noc_route.specs.declared.rule.RouteFault.TheVariants.{NoLink}
 
 -- at the destination, and before it
-pub is_led-home : (g : RelationParts) (m r t port v : ℕ) → nat_eq r t ≡ true → is_led g m r t port v ≡ (nat_eq port (local_port g.grid) && is_in_block g.vcs g.classes m v)
+pub is_led-home : (g : RelationParts) (m r t port v : ℕ) → nat_eq r t ≡ true → is_led g m r t port v ≡ (nat_eq port (local_port g.grid) && is_of_class g.vcs g.classes m v)
 is_led-home g m r t port v e = rw e refl
 
 pub is_led-away : (g : RelationParts) (m r t port v : ℕ) → nat_eq r t ≡ false
@@ -22,7 +22,7 @@ pub is_led-away : (g : RelationParts) (m r t port v : ℕ) → nat_eq r t ≡ fa
 is_led-away g m r t port v e = rw e refl
 
 -- no channel of another class is taken
-pub is_led-outside : (g : RelationParts) (m r t port v : ℕ) → is_in_block g.vcs g.classes m v ≡ false → is_led g m r t port v ≡ false
+pub is_led-outside : (g : RelationParts) (m r t port v : ℕ) → is_of_class g.vcs g.classes m v ≡ false → is_led g m r t port v ≡ false
 is_led-outside g m r t port v out = at (nat_eq r t) refl
   where
     at : (b : Bool) → nat_eq r t ≡ b → is_led g m r t port v ≡ false

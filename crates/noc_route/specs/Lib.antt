@@ -3,6 +3,7 @@ pub mod Order
 pub mod Relation
 pub mod Routes
 pub mod Ranks
+pub mod Columns
 pub mod Stored
 pub mod Trimming
 pub mod Entered

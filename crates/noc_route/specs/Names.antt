@@ -17,9 +17,9 @@ rule_name name.WestFirst = codes "west-first"
 rule_name name.Adaptive = codes "adaptive"
 rule_name name.Table = codes "table"
 
--- the rule that a word names, if it names one
+-- the rule of this name, if there is one
 abbrev pub rule_of : List ℕ → Option RuleName
-rule_of word = find (λ r. bytes_eq word (rule_name r)) rule_names
+rule_of text = find (λ r. bytes_eq text (rule_name r)) rule_names
 
 -- the rule of a name, but for `table`, whose rows stand elsewhere
 abbrev pub rule_named : RuleName → Option Rule

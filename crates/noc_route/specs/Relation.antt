@@ -81,8 +81,8 @@ takes_port g (Rows rows) xs ts port = false
 -- ---- channels
 
 -- the channels of a class
-abbrev pub is_in_block : ℕ → ℕ → ℕ → ℕ → Bool
-is_in_block vcs classes m v = nat_le (m * vcs / classes) v && nat_lt v ((m + 1) * vcs / classes)
+abbrev pub is_of_class : ℕ → ℕ → ℕ → ℕ → Bool
+is_of_class vcs classes m v = nat_le (m * vcs / classes) v && nat_lt v ((m + 1) * vcs / classes)
 
 -- the half of its class's channels in which a channel is
 abbrev pub resource_class : ℕ → ℕ → ℕ → ℕ
@@ -119,7 +119,7 @@ takes_of_class g vcs classes (Rows rows) xs ts port v = true
 
 -- whether a rule by coordinates may take this channel of a port that it takes
 abbrev pub takes_channel : Grid → ℕ → ℕ → Rule → ℕ → List ℕ → List ℕ → ℕ → ℕ → Bool
-takes_channel g vcs classes rule m xs ts port v = is_in_block vcs classes m v && takes_of_class g vcs classes rule xs ts port v
+takes_channel g vcs classes rule m xs ts port v = is_of_class vcs classes m v && takes_of_class g vcs classes rule xs ts port v
 
 -- ---- rows
 
@@ -180,7 +180,7 @@ pub record IsFirstFault (g : Grid) (vcs classes : ℕ) (rows : List RouteRow) (f
 abbrev pub is_led : RelationParts → ℕ → ℕ → ℕ → ℕ → ℕ → Bool
 is_led g m r t port v =
     if nat_eq r t
-    then nat_eq port (local_port g.grid) && is_in_block g.vcs g.classes m v
+    then nat_eq port (local_port g.grid) && is_of_class g.vcs g.classes m v
     else takes_port g.grid g.rule (coordinates g.grid.radix r) (coordinates g.grid.radix t) port
     && takes_channel g.grid g.vcs g.classes g.rule m (coordinates g.grid.radix r) (coordinates g.grid.radix t) port v
 

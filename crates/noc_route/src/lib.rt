@@ -1,6 +1,7 @@
 //! Routing rules and the routing relation: by which output channels a packet may go on.
 #![tactic(auto)]
 
+mod columns;
 mod enter;
 mod gather;
 mod laws;

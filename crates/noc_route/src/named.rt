@@ -68,7 +68,7 @@ impl Way {
         ensures { (r t : ℕ) → IsWay routing.now.map.now.sizes.shape self.now r t → result ≡ is_led (parts_of routing.now) class r t port vc }
     {
         let sizes = &routing.map.sizes;
-        if !sizes.is_in_block(class, vc) {
+        if !sizes.is_of_class(class, vc) {
             return false;
         }
         if self.arrived {

@@ -9,6 +9,7 @@ ghost use Rattle.noc_route.specs.Routes.{set_at, IsRelation, pages};
 ghost use Rattle.noc_route.specs.Gathering.{IsBlank};
 ghost use Rattle.noc_route.specs.Trimming.{routes_in};
 
+use crate::columns::Columns;
 use crate::enter::{enter_named, enter_rows};
 use crate::gather::{Departures, gather};
 use crate::map::Map;
@@ -25,8 +26,7 @@ use std::marker::Model;
 /// A routing relation: the output channels that each entry permits.
 #[derive(Drop)]
 pub struct Relation {
-    sizes: Sizes,
-    sets: Vec<ChannelSet>,
+    columns: Columns,
 }
 
 impl Model for Relation {
@@ -65,9 +65,9 @@ impl Relation {
             map: &map,
             rule: &rule,
         };
+        let sets = sets_of(alloc, &routing)?;
         Ok(Relation {
-            sizes,
-            sets: sets_of(alloc, &routing)?,
+            columns: Columns::new(alloc, sizes, sets)?,
         })
     }
 
@@ -89,7 +89,7 @@ impl Relation {
         ensures value { result ≡ set_at self.now class router in_port in_vc dst }
         ensures built { IsRelation self.now }
     {
-        self.sets[self.sizes.entry_index(class, router, in_port, in_vc, dst)]
+        self.columns.set(class, router, in_port, in_vc, dst)
     }
 
     /// The shape of the network.
@@ -97,7 +97,7 @@ impl Relation {
         ensures value { result.now ≡ self.now.grid }
         ensures built { IsRelation self.now }
     {
-        &self.sizes.shape
+        &self.columns.sizes.shape
     }
 
     /// How many virtual channels a link has, 1 to 8.
@@ -105,7 +105,7 @@ impl Relation {
         ensures value { result ≡ self.now.vcs }
         ensures built { IsRelation self.now }
     {
-        self.sizes.vcs
+        self.columns.sizes.vcs
     }
 
     /// How many message classes there are, 1 to 4.
@@ -113,7 +113,7 @@ impl Relation {
         ensures value { result ≡ self.now.classes }
         ensures built { IsRelation self.now }
     {
-        self.sizes.classes
+        self.columns.sizes.classes
     }
 }
 
@@ -130,7 +130,7 @@ fn sets_of(alloc: Global, routing: &Routing) -> Result<Vec<ChannelSet>, RouteFau
 }
 
 // Writes a rule's sets at the entries that packets reach, or answers the
-// first fault; `outs` is room.
+// first fault; what `outs` holds is lost.
 fn fill(
     routing: &Routing,
     sets: &mut [ChannelSet],

@@ -37,11 +37,11 @@ pub enum RuleName {
 }
 
 impl RuleName {
-    /// The rule that a word names, if it names one.
-    pub fn named(word: &str) -> Option<RuleName>
-        ensures { result ≡ rule_of word.now }
+    /// The rule of this name, if there is one.
+    pub fn named(name: &str) -> Option<RuleName>
+        ensures { result ≡ rule_of name.now }
     {
-        match word {
+        match name {
             "dor" => Some(RuleName::Dor),
             "dateline" => Some(RuleName::Dateline),
             "west-first" => Some(RuleName::WestFirst),

@@ -3,7 +3,7 @@
 ghost use Rattle.std.specs.Prelude.{◌≡◌, ◌+◌, ◌*◌, ◌/◌, ◌<◌, ◌≤◌, IsTrue, IfNone, IfSome, true, false};
 ghost use Rattle.noc_packet.specs.declared.limits.TheConstants.{INDICES, MAX_CHANNELS, MAX_CLASSES, MAX_NODES, MAX_PORTS};
 ghost use Rattle.noc_topo.specs.Shape.{IsGrid, nodes, ports};
-ghost use Rattle.noc_route.specs.Relation.{is_in_block, resource_class, escapes, is_right};
+ghost use Rattle.noc_route.specs.Relation.{is_of_class, resource_class, escapes, is_right};
 ghost use Rattle.noc_route.specs.Routes.{width, pages, page_of, entry_index, page_class, page_router, page_dst};
 
 use crate::rule::Rule;
@@ -104,6 +104,26 @@ impl Sizes {
         port * self.vcs + vc
     }
 
+    // How many columns the table has: one for each router, class and input channel.
+    pub(crate) fn columns(&self) -> usize
+        ensures value { result ≡ nodes self.now.shape * self.now.classes * width self.now.shape self.now.vcs }
+        ensures few { result ≤ MAX_NODES * MAX_CLASSES * INDICES }
+    {
+        self.node_count * self.classes * self.width()
+    }
+
+    // The number of a column.
+    pub(crate) fn column(&self, class: usize, router: usize, in_port: usize, in_vc: usize) -> usize
+        requires class { class < self.now.classes }
+        requires router { router < nodes self.now.shape }
+        requires in_port { in_port < ports self.now.shape }
+        requires in_vc { in_vc < self.now.vcs }
+        ensures value { result ≡ (router * self.now.classes + class) * width self.now.shape self.now.vcs + (in_port * self.now.vcs + in_vc) }
+        ensures within { result < nodes self.now.shape * self.now.classes * width self.now.shape self.now.vcs }
+    {
+        (router * self.classes + class) * self.width() + self.index(in_port, in_vc)
+    }
+
     // The index in the table of an input channel of a page.
     pub(crate) fn slot(&self, page: usize, input: usize) -> usize
         requires page { page < pages self.now.shape self.now.classes }
@@ -135,9 +155,9 @@ impl Sizes {
     }
 
     // Whether a channel is one of a class's channels.
-    pub(crate) fn is_in_block(&self, class: usize, vc: usize) -> bool
+    pub(crate) fn is_of_class(&self, class: usize, vc: usize) -> bool
         requires { class < self.now.classes }
-        ensures { result ≡ is_in_block self.now.vcs self.now.classes class vc }
+        ensures { result ≡ is_of_class self.now.vcs self.now.classes class vc }
     {
         let first = class * self.vcs / self.classes;
         let end = (class + 1) * self.vcs / self.classes;
@@ -151,8 +171,8 @@ pub fn resource_class(vcs: usize, classes: usize, vc: usize) -> usize
     ensures value { result ≡ resource_class vcs classes vc }
     ensures few { result ≤ 2 }
 {
-    let block = vcs / classes;
-    vc % block / (block / 2)
+    let share = vcs / classes;
+    vc % share / (share / 2)
 }
 
 /// How many channels of each class, its lowest, are escape channels of the rule `Adaptive`: 1

@@ -1,5 +1,5 @@
 -- What the channels of a router ask for is what those of its view ask for.
-use Rattle.std.proofs.Common.{◌≡◌, ℕ, ◌*◌, ◌/◌, ◌<◌, true, Option, refl, ap, sym, ◌∙◌, arith, subst, ltb-true}
+use Rattle.std.proofs.Common.{◌≡◌, ℕ, ◌*◌, ◌/◌, ◌<◌, true, Option, refl, ap, sym, ◌∙◌, subst, ltb-true}
 use Rattle.std.specs.Prelude.{not, ◌&&◌, find, nat_lt, if◌then◌else◌}
 use Rattle.std.proofs.Math.Nat.{div-lt_iff_lt-mul}
 use Rattle.std.proofs.lemmas.Bool.{and_parts}
@@ -40,8 +40,7 @@ pub asked-view : (r : Inside) (v : View) (i : ℕ) (x : Option ℕ) → view_of 
 asked-view r v i x view is asked = asked ∙ subst (λ w. asked_in r.channels.size r.channels.outputs.items (nth_input r.channels.inputs.items i).phase ≡ ask_of (view_claim w i)) view (ask_in r (nth_input r.channels.inputs.items i).phase is)
 
 -- the output port of an output channel
-pub port-below : (r : Inside) (o : ℕ) → IsRouter r → nat_lt o r.channels.size ≡ true → o / r.indices.vcs < r.ports
+pub port-below : (r : Inside) (o : ℕ) → IsRouter r → nat_lt o r.channels.size ≡ true → o / r.vcs < r.ports
 port-below r o is within =
     let l : o < r.channels.size = ltb-true o r.channels.size within in
-    let some : 0 < r.indices.vcs = omega (arith, is.index_vcs, is.some_vc) in
-    (div-lt_iff_lt-mul some).1 (subst (λ n. o < n) (is.channels ∙ ap (λ n. r.ports * n) (sym is.index_vcs)) l)
+    (div-lt_iff_lt-mul is.some_vc).1 (subst (λ n. o < n) is.channels l)

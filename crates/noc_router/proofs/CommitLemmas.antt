@@ -28,13 +28,9 @@ settled-site d v = ap (λ (x : View). x.site) (settled-parts d v)
 abbrev pub closed_with : ArbiterStates → View → View
 closed_with arbiters v = record v { arbiters = arbiters; last_event = (if v.had_event then Some v.given else v.last_event); had_event = false }
 
--- what is counted, settled, turned and closed is committed, but for the findings
-pub committed-is : (d : Decisions) (v : View) → closed_with (arbiters_after d.round v.arbiters) (view_after_verdicts d (view_after_tally d v)) ≡ record (view_after_commit d v) { findings = v.findings }
-committed-is d v = ap (closed_with (arbiters_after d.round v.arbiters)) (settled-parts d (view_after_tally d v)) ∙ sym (ap (λ (x : View). record x { findings = v.findings }) (committed-parts d v))
-
--- the findings after a commit are those of the plan
-pub committed-shown : (d : Decisions) (v : View) → record (view_after_commit d v) { findings = d.findings } ≡ view_after_commit d v
-committed-shown d v = ap (λ (x : View). record x { findings = d.findings }) (committed-parts d v) ∙ sym (committed-parts d v)
+-- what is counted, settled, turned and closed is committed
+pub committed-is : (d : Decisions) (v : View) → closed_with (arbiters_after d.round v.arbiters) (view_after_verdicts d (view_after_tally d v)) ≡ view_after_commit d v
+committed-is d v = ap (closed_with (arbiters_after d.round v.arbiters)) (settled-parts d (view_after_tally d v)) ∙ sym (committed-parts d v)
 
 -- ---- a put at each port
 -- the beats before this port are put, the others are not
@@ -93,7 +89,7 @@ put-beats v w n port beats so_far l =
 pub beats_count : (r : Inside) (v : View) → view_of r ≡ v → IsRouter r → length v.to_put ≡ local_port v.site.grid
 beats_count r v e h =
     let P : View → Type 0 = λ x. length x.to_put ≡ local_port x.site.grid in
-    subst P e (let c : length r.links.beats ≡ 6 = r.links.marked.count in omega (arith, length-take (local_port r.shape) r.links.beats, h.grid.few_dimensions))
+    subst P e (omega (arith, h.beats, length-take (local_port r.shape) r.to_put, h.grid.few_dimensions))
 
 pub links_view : (r : Inside) (v : View) → view_of r ≡ v → IsRouter r → r.ports ≡ local_port v.site.grid + 1
 links_view r v e h = h.ports ∙ ap (λ (x : View). local_port x.site.grid + 1) e

@@ -330,10 +330,3 @@ settling_first d v rest whole lists are below idle = settling-first d v rest who
 
 pub settling_last : (d : Decisions) (v w : View) (rest : ℕ) → IsWhole v → Lists d v → IsSettling d v rest w → ((k : ℕ) → has_bit rest k ≡ false) → w ≡ view_after_verdicts d v
 settling_last d v w rest whole lists so_far none = settling-last d v w rest whole lists so_far none
-
-pub none_left : (d : Decisions) (v w : View) (rest : ℕ) → IsSettling d v rest w → ((k : ℕ) → k < size_of v.site → has_bit rest k ≡ false) → (k : ℕ) → has_bit rest k ≡ false
-none_left d v w rest so_far none k = at (has_bit rest k) refl
-  where
-    at : (b : Bool) → has_bit rest k ≡ b → has_bit rest k ≡ false
-    at false e = e
-    at true e = none k (so_far.below k e)

@@ -2,14 +2,12 @@ pub mod ArrivalLemmas
 pub mod AskedLemmas
 pub mod ChannelLemmas
 pub mod CommitLemmas
-pub mod CountLemmas
 pub mod EffectLemmas
 pub mod FilledLemmas
 pub mod InjectLemmas
-pub mod LinkLemmas
+pub mod LeadLemmas
 pub mod MemberLemmas
 pub mod MoveLemmas
-pub mod NoEffectLemmas
 pub mod OpeningLemmas
 pub mod OutcomeLemmas
 pub mod PassedLemmas
@@ -24,6 +22,5 @@ pub mod SettleLemmas
 pub mod SwitchLemmas
 pub mod TakeLemmas
 pub mod TallyLemmas
-pub mod WaitLemmas
 pub mod WayLemmas
 pub mod WholeLemmas

@@ -1,26 +1,23 @@
 -- What the outcome of a view says of its channels, and the decisions that it is rebuilt to.
-use Rattle.std.proofs.Common.{◌≡◌, ℕ, ◌<◌, ◌≤◌, Bool, true, false, List, [], length, get_or, Option, Some, None, refl, ap, sym, ◌∙◌, arith, inl, inr, subst}
-use Rattle.std.specs.Prelude.{◌⊎◌, ◌/◌, ◌%◌, ◌&&◌, not, option_map, nat_eq, if◌then◌else◌}
+use Rattle.std.proofs.Common.{◌≡◌, ℕ, ◌<◌, ◌≤◌, true, List, [], length, get_or, Option, None, refl, ap, sym, ◌∙◌, arith, inl, inr, subst}
+use Rattle.std.specs.Prelude.{◌⊎◌, ◌&&◌, not, option_map, nat_eq}
 use Rattle.std.proofs.lemmas.Bool.{cases_lt, false≢true}
 use Rattle.std.proofs.lemmas.List.{get_or_past}
 use Rattle.noc_topo.specs.Shape.{ports}
-use Rattle.noc_topo.specs.Lists.{map_indexed, tabulate, is_some_of}
+use Rattle.noc_topo.specs.Lists.{map_indexed, tabulate}
 use Rattle.noc_topo.proofs.ListLemmas.{get_or-map_indexed, get_or-tabulate, length-map_indexed, length-tabulate, map_indexed-from_each, tabulate-from_each}
 use Rattle.noc_packet.specs.Set.{has_bit}
 use Rattle.noc_route.specs.Routes.{Routes}
-use Rattle.noc_vc.specs.Input.{is_idle_phase}
 use Rattle.noc_vc.specs.declared.input.InputState.{InputState}
 use Rattle.noc_vc.specs.declared.input.InputState.TheVariants.{Idle, Waiting, Active}
 use Rattle.noc_router.specs.Decided.{IsDecidedFor}
 use Rattle.noc_router.specs.Settled.{CanTakeEffect, AreContentsFor, decisions_by, effect_of, finding_by, found_with, planned_verdict, view_after_tally}
-use Rattle.noc_view.specs.States.{is_occupied}
 use Rattle.noc_router.specs.Sound.{out_in}
 use Rattle.noc_view.specs.Found.{empty_finding}
-use Rattle.noc_router.specs.Tally.{is_empty_verdict}
-use Rattle.noc_view.specs.Verdict.{Round, Waits, Holds, ask_of, out_of, is_event, verdict_of}
-use Rattle.noc_view.specs.View.{View, PlanContents, Decisions, asked_for, claim_in, view_after_commit, counts_after, decided_verdict, finding_of, plan_contents, decisions_of, port_and_vc, route_of, size_of, view_buffer, view_claim, view_input, view_round, idle_beats}
+use Rattle.noc_view.specs.Verdict.{ask_of, out_of, is_event, verdict_of}
+use Rattle.noc_view.specs.View.{View, PlanContents, Decisions, claim_in, counts_after, decided_verdict, finding_of, plan_contents, decisions_of, port_and_vc, route_of, size_of, view_claim, view_input, view_round, idle_beats}
 use Rattle.noc_view.specs.declared.verdict.Verdict.{Verdict}
-use Rattle.noc_view.specs.declared.verdict.Verdict.TheVariants.{Empty, Granted, Moved, LostChannel, LostInput, LostSwitch}
+use Rattle.noc_view.specs.declared.verdict.Verdict.TheVariants.{Empty}
 use Rattle.noc_view.specs.declared.finding.Finding.{Finding}
 use Rattle.noc_router.proofs.PlannedLemmas.{outcome-lengths}
 use Rattle.noc_view.proofs.PlanLemmas.{asks-at, decided-is, holds_flit, Lists, lists_of_round, verdict-at}
@@ -65,34 +62,6 @@ outcome-ask p v i is l = ap (λ (x : PlanContents). get_or x.asks i None) is.is 
 outcome-verdict : (p : PlanContents) (v : View) (i : ℕ) → AreContentsFor p v → i < size_of v.site → planned_verdict p i ≡ verdict_of v.site.vcs p.round i (view_claim v i) (holds_flit v i)
 outcome-verdict p v i is l = sym (decided-outcome p v i l) ∙ decided-is (decisions_by p v) v i (lists_of p v is) l
 
-full_verdict : (v : View) (round : Round) (i : ℕ) (phase : InputState) (empty : Bool) → not (is_idle_phase phase && empty) ≡ not (is_empty_verdict (verdict_of v.site.vcs round i (claim_in v phase) (not empty)))
-full_verdict v round i Idle true = refl
-full_verdict v round i Idle false = refl
-full_verdict v round i (Waiting set) empty = waits (asked_for v set)
-  where
-    given : (b : Bool) → true ≡ not (is_empty_verdict (if b then Granted else LostChannel))
-    given true = refl
-    given false = refl
-
-    waits : (ask : Option ℕ) → true ≡ not (is_empty_verdict (verdict_of v.site.vcs round i (Waits ask) (not empty)))
-    waits None = refl
-    waits (Some o) = given (is_some_of (get_or round.grants o None) i)
-full_verdict v round i (Active o) empty = holds _ empty
-  where
-    moves : (a b : Bool) → true ≡ not (is_empty_verdict (if a then (if b then Moved else LostSwitch) else LostInput))
-    moves true true = refl
-    moves true false = refl
-    moves false b = refl
-
-    holds : (credit none : Bool) → true ≡ not (is_empty_verdict (verdict_of v.site.vcs round i (Holds o credit) (not none)))
-    holds credit true = refl
-    holds false false = refl
-    holds true false = moves (is_some_of (get_or round.picks (i / v.site.vcs) None) (i % v.site.vcs)) (is_some_of (get_or round.wins (o / v.site.vcs) None) (i / v.site.vcs))
-
--- a channel that holds something has another verdict than Empty
-pub outcome-occupied : (p : PlanContents) (v : View) (i : ℕ) → AreContentsFor p v → i < size_of v.site → is_occupied (view_input v i) (view_buffer v i) ≡ not (is_empty_verdict (planned_verdict p i))
-outcome-occupied p v i is l = full_verdict v p.round i (view_input v i).phase _ ∙ sym (ap (λ x. not (is_empty_verdict x)) (outcome-verdict p v i is l))
-
 -- what is found of it, by its state
 pub outcome-finding : (p : PlanContents) (v : View) (i : ℕ) → AreContentsFor p v → i < size_of v.site → finding_by p v.site.vcs v.inputs i ≡ found_with v (planned_verdict p i) i
 outcome-finding p v i is l =
@@ -129,23 +98,6 @@ outcome-tallied p d v is = record {
   is = is.is ∙ outcome-counted is.relation d v;
 }
 
--- ---- the findings are shown, of which nothing is read in a cycle
-pub outcome-shown : (relation : Routes) (v : View) (findings : List Finding) → plan_contents relation v ≡ plan_contents relation (record v { findings = findings })
-unfolding plan_contents view_round
-outcome-shown relation v findings = refl
-
-pub outcome_of-shown : (p : PlanContents) (v : View) (findings : List Finding) → AreContentsFor p v → AreContentsFor p (record v { findings = findings })
-outcome_of-shown p v findings is = record {
-  relation = is.relation;
-  fits = record { grid = is.fits.grid; vcs = is.fits.vcs };
-  is = is.is ∙ outcome-shown is.relation v findings;
-}
-
-pub committed-from-shown : (relation : Routes) (v : View) (findings : List Finding)
-    → view_after_commit (decisions_of relation (record v { findings = findings })) (record v { findings = findings }) ≡ view_after_commit (decisions_of relation v) v
-unfolding decisions_of view_round view_after_commit
-committed-from-shown relation v findings = refl
-
 -- ---- the verdict of one channel takes effect
 -- a verdict that is left can take effect
 pub can_take : (p : PlanContents) (v w : View) (rest rest' index : ℕ) → IsWhole v → AreContentsFor p v → ((k : ℕ) → has_bit rest' k ≡ (not (nat_eq k index) && has_bit rest k)) → has_bit rest index ≡ true
@@ -166,7 +118,7 @@ effect_more p v w rest rest' index new whole is members member so_far e =
     (settling_more p v w rest rest' index whole (lists_of p v is) members member so_far (outcome-ask p v index is l))
 
 -- an event is the verdict of an input channel
-event-below : (p : PlanContents) (n k : ℕ) → length p.verdicts ≡ n → is_event (planned_verdict p k) ≡ true → k < n
+pub event-below : (p : PlanContents) (n k : ℕ) → length p.verdicts ≡ n → is_event (planned_verdict p k) ≡ true → k < n
 event-below p n k long e = at (cases_lt k n)
   where
     at : (k < n) ⊎ (n ≤ k) → k < n

@@ -1,20 +1,16 @@
 -- The sets of verdicts of a plan.
 use Rattle.std.proofs.Common.{◌≡◌, ℕ, ◌<◌, ◌≤◌, Bool, true, false, List, length, get_or, set, Option, None, refl, ap, sym, ◌∙◌, arith, inl, inr}
-use Rattle.std.specs.Prelude.{◌&&◌, ◌||◌, ◌⊎◌, not}
+use Rattle.std.specs.Prelude.{◌&&◌, ◌||◌, ◌⊎◌}
 use Rattle.std.proofs.lemmas.Bool.{cases_lt, false≢true, and_parts}
 use Rattle.std.proofs.lemmas.List.{get_or_past}
 use Rattle.noc_topo.specs.Lists.{tabulate}
 use Rattle.noc_topo.proofs.ListLemmas.{get_or-tabulate, length-tabulate}
 use Rattle.noc_packet.specs.Set.{has_bit}
-use Rattle.noc_router.specs.Planned.{IsPlan, plan_contents_in}
 use Rattle.noc_router.specs.Requests.{AreAmong}
 use Rattle.noc_alloc.specs.Requests.{is_given}
-use Rattle.noc_view.specs.Verdict.{is_event, is_granted, is_moved}
+use Rattle.noc_view.specs.Verdict.{is_event}
 use Rattle.noc_view.specs.VerdictSets.{verdict_by}
-use Rattle.noc_view.specs.View.{PlanContents}
-use Rattle.noc_router.specs.declared.plan.Plan.TheInside.{Inside}
-use Rattle.noc_view.specs.declared.verdict.Verdict.{Verdict}
-use Rattle.noc_view.specs.declared.verdict.Verdict.TheVariants.{Empty, Routed, Granted, Moved, NoFlit, NoIdleChannel, LostChannel, NoCredit, LostInput, LostSwitch}
+use Rattle.noc_view.specs.declared.verdict.Verdict.TheVariants.{Empty}
 use Rattle.noc_view.specs.declared.sets.VerdictSets.{VerdictSets}
 use Rattle.noc_view.proofs.VerdictSetLemmas.{first_by, first}
 
@@ -32,43 +28,9 @@ first_event false false false false false false false true f = refl
 first_event false false false false false false false false true = refl
 first_event false false false false false false false false false = refl
 
-first_moved : (m g r a b c d e f : Bool) → is_moved (first m g r a b c d e f) ≡ m
-unfolding first
-first_moved true g r a b c d e f = refl
-first_moved false true r a b c d e f = refl
-first_moved false false true a b c d e f = refl
-first_moved false false false true b c d e f = refl
-first_moved false false false false true c d e f = refl
-first_moved false false false false false true d e f = refl
-first_moved false false false false false false true e f = refl
-first_moved false false false false false false false true f = refl
-first_moved false false false false false false false false true = refl
-first_moved false false false false false false false false false = refl
-
-first_granted : (m g r a b c d e f : Bool) → is_granted (first m g r a b c d e f) ≡ (not m && g)
-unfolding first
-first_granted true g r a b c d e f = refl
-first_granted false true r a b c d e f = refl
-first_granted false false true a b c d e f = refl
-first_granted false false false true b c d e f = refl
-first_granted false false false false true c d e f = refl
-first_granted false false false false false true d e f = refl
-first_granted false false false false false false true e f = refl
-first_granted false false false false false false false true f = refl
-first_granted false false false false false false false false true = refl
-first_granted false false false false false false false false false = refl
-
 -- whether a verdict is an event, by the sets
 pub event-by : (sets : VerdictSets) (k : ℕ) → is_event (verdict_by sets k) ≡ (has_bit sets.moved k || (has_bit sets.granted k || has_bit sets.routed k))
 event-by sets k = ap is_event (first_by sets k) ∙ first_event _ _ _ _ _ _ _ _ _
-
--- whether it is Moved
-pub moved-by : (sets : VerdictSets) (k : ℕ) → is_moved (verdict_by sets k) ≡ has_bit sets.moved k
-moved-by sets k = ap is_moved (first_by sets k) ∙ first_moved _ _ _ _ _ _ _ _ _
-
--- whether it is Granted
-pub granted-by : (sets : VerdictSets) (k : ℕ) → is_granted (verdict_by sets k) ≡ (not (has_bit sets.moved k) && has_bit sets.granted k)
-granted-by sets k = ap is_granted (first_by sets k) ∙ first_granted _ _ _ _ _ _ _ _ _
 
 -- an event is one of the channels where those that move, are granted something or are routed are
 pub event-below : (sets : VerdictSets) (k n : ℕ) → (has_bit sets.moved k ≡ true → k < n) → (has_bit sets.granted k ≡ true → k < n) → (has_bit sets.routed k ≡ true → k < n)
@@ -106,56 +68,16 @@ given-below grants asks k e = at (cases_lt k (length asks))
     at (inr u) = absurd (false≢true (sym (ap (λ o. is_given grants o k) (get_or_past asks k None u)) ∙ e))
 
 -- ---- the verdicts of a plan
--- whether the verdict of a plan on any channel passes a test that events alone pass
-test-at : (n : ℕ) (test : Verdict → Bool) (sets : VerdictSets) (k : ℕ) → test Empty ≡ false → ((x : Verdict) → test x ≡ true → is_event x ≡ true) → (is_event (verdict_by sets k) ≡ true → k < n)
-    → test (verdict_by sets k) ≡ test (get_or (tabulate n (verdict_by sets)) k Empty)
-test-at n test sets k empty event below = at (cases_lt k n)
-  where
-    none : (b : Bool) → test (verdict_by sets k) ≡ b → n ≤ k → test (verdict_by sets k) ≡ false
-    none false e u = e
-    none true e u = let l : k < n = below (event (verdict_by sets k) e) in absurd (omega arith)
-
-    at : (k < n) ⊎ (n ≤ k) → test (verdict_by sets k) ≡ test (get_or (tabulate n (verdict_by sets)) k Empty)
-    at (inl l) = ap test (sym (get_or-tabulate n k (verdict_by sets) Empty l))
-    at (inr u) =
-        none (test (verdict_by sets k)) refl u ∙ sym empty
-        ∙ sym (ap test (get_or_past (tabulate n (verdict_by sets)) k Empty (omega (arith, length-tabulate n (verdict_by sets)))))
-
 -- whether a channel of a plan has an event
 pub event-at : (n : ℕ) (sets : VerdictSets) (k : ℕ) → (is_event (verdict_by sets k) ≡ true → k < n) → is_event (verdict_by sets k) ≡ is_event (get_or (tabulate n (verdict_by sets)) k Empty)
-event-at n sets k below = test-at n is_event sets k refl (λ x e. e) below
+event-at n sets k below = at (cases_lt k n)
+  where
+    none : (b : Bool) → is_event (verdict_by sets k) ≡ b → n ≤ k → is_event (verdict_by sets k) ≡ false
+    none false e u = e
+    none true e u = let l : k < n = below e in absurd (omega arith)
 
-moved_event : (x : Verdict) → is_moved x ≡ true → is_event x ≡ true
-moved_event Empty e = absurd (false≢true e)
-moved_event Routed e = refl
-moved_event Granted e = refl
-moved_event Moved e = refl
-moved_event NoFlit e = absurd (false≢true e)
-moved_event NoIdleChannel e = absurd (false≢true e)
-moved_event LostChannel e = absurd (false≢true e)
-moved_event NoCredit e = absurd (false≢true e)
-moved_event LostInput e = absurd (false≢true e)
-moved_event LostSwitch e = absurd (false≢true e)
-
-granted_event : (x : Verdict) → is_granted x ≡ true → is_event x ≡ true
-granted_event Empty e = absurd (false≢true e)
-granted_event Routed e = refl
-granted_event Granted e = refl
-granted_event Moved e = refl
-granted_event NoFlit e = absurd (false≢true e)
-granted_event NoIdleChannel e = absurd (false≢true e)
-granted_event LostChannel e = absurd (false≢true e)
-granted_event NoCredit e = absurd (false≢true e)
-granted_event LostInput e = absurd (false≢true e)
-granted_event LostSwitch e = absurd (false≢true e)
-
--- whether it is Moved
-pub plan-moved : (p : Inside) (o : PlanContents) (k : ℕ) → plan_contents_in p ≡ o → IsPlan p → has_bit p.verdicts.moved k ≡ is_moved (get_or o.verdicts k Empty)
-plan-moved p o k view is =
-    sym (moved-by p.verdicts k) ∙ test-at p.requests.size is_moved p.verdicts k refl moved_event (is.events k) ∙ ap (λ (x : PlanContents). is_moved (get_or x.verdicts k Empty)) view
-
--- whether it is Granted
-pub plan-granted : (p : Inside) (o : PlanContents) (k : ℕ) → plan_contents_in p ≡ o → IsPlan p
-    → (not (has_bit p.verdicts.moved k) && has_bit p.verdicts.granted k) ≡ is_granted (get_or o.verdicts k Empty)
-plan-granted p o k view is =
-    sym (granted-by p.verdicts k) ∙ test-at p.requests.size is_granted p.verdicts k refl granted_event (is.events k) ∙ ap (λ (x : PlanContents). is_granted (get_or x.verdicts k Empty)) view
+    at : (k < n) ⊎ (n ≤ k) → is_event (verdict_by sets k) ≡ is_event (get_or (tabulate n (verdict_by sets)) k Empty)
+    at (inl l) = ap is_event (sym (get_or-tabulate n k (verdict_by sets) Empty l))
+    at (inr u) =
+        none (is_event (verdict_by sets k)) refl u
+        ∙ sym (ap is_event (get_or_past (tabulate n (verdict_by sets)) k Empty (omega (arith, length-tabulate n (verdict_by sets)))))

@@ -1,18 +1,17 @@
 -- What is true of a router stays true.
-use Rattle.std.proofs.Common.{◌≡◌, ℕ, ◌+◌, ◌-◌, ◌*◌, ◌<◌, Bool, true, Option, None, refl, ap, sym, ◌∙◌, subst, arith, length, slice_index_or}
+use Rattle.std.proofs.Common.{◌≡◌, ℕ, ◌+◌, ◌-◌, ◌*◌, ◌<◌, Bool, true, List, Option, None, refl, ap, sym, ◌∙◌, subst, arith, length, slice_index_or}
 use Rattle.std.specs.Prelude.{is_some}
 use Rattle.std.proofs.lemmas.List.{get_or-set_other}
 use Rattle.std.specs.Option.{ForSome}
-use Rattle.noc_topo.specs.Shape.{Grid, IsGrid, ports, local_port, neighbour}
+use Rattle.noc_topo.specs.Shape.{Grid, IsGrid, ports, neighbour}
+use Rattle.noc_packet.specs.declared.packet.Beat.{Beat}
 use Rattle.noc_packet.specs.declared.packet.Flit.{Flit}
 use Rattle.noc_vc.specs.Input.{Input, idle_input, input_after_land}
 use Rattle.noc_router.specs.declared.channels.Channels.{Channels}
-use Rattle.noc_router.specs.declared.links.Links.{Links}
 use Rattle.noc_router.specs.declared.router.Router.TheInside.{Inside}
 use Rattle.noc_router.specs.Inside.{IsRouter, view_of}
 use Rattle.noc_router.specs.Tally.{TallyContents}
 use Rattle.noc_view.specs.View.{local_channel}
-use Rattle.noc_alloc.specs.Sparse.{AreBelow}
 use Rattle.noc_router.specs.Parts.{ChannelStates, states_after_land, states_in}
 use Rattle.noc_router.specs.Sound.{is_awaiting, nth_input, KeepsAwaiting}
 
@@ -22,9 +21,9 @@ for_some P Q o f h = λ x e. f x (h x e)
 -- where the parts keep their sizes, and the input channels that await a flit still do
 pub IsRouter-kept : (r s : Inside) → IsRouter r → s.shape ≡ r.shape → s.node ≡ r.node → s.ports ≡ r.ports → s.vcs ≡ r.vcs → s.depth ≡ r.depth
     → s.source.vc ≡ r.source.vc → s.channels.size ≡ r.channels.size → s.channels.bank.capacity ≡ r.channels.bank.capacity
-    → KeepsAwaiting r.channels.inputs.items s.channels.inputs.items → s.leads.neighbours ≡ r.leads.neighbours → AreBelow (local_port r.shape) s.links.loaded
-    → length s.tally.counts ≡ length r.tally.counts → s.arbiters.ports ≡ r.arbiters.ports → s.arbiters.vcs ≡ r.arbiters.vcs → s.indices.vcs ≡ r.indices.vcs → IsRouter s
-IsRouter-kept r s is shape node ports_same vcs depth vc size capacity keeps leads loaded counts arbiter_ports arbiter_vcs index_vcs =
+    → KeepsAwaiting r.channels.inputs.items s.channels.inputs.items → s.leads.neighbours ≡ r.leads.neighbours → length s.to_put ≡ length r.to_put
+    → length s.tally.counts ≡ length r.tally.counts → s.arbiters.ports ≡ r.arbiters.ports → s.arbiters.vcs ≡ r.arbiters.vcs → IsRouter s
+IsRouter-kept r s is shape node ports_same vcs depth vc size capacity keeps leads beats counts arbiter_ports arbiter_vcs =
     let all : r.ports * r.vcs ≡ s.ports * s.vcs = ap (λ n. n * r.vcs) (sym ports_same) ∙ ap (λ n. s.ports * n) (sym vcs) in
     let first : (r.ports - 1) * r.vcs ≡ (s.ports - 1) * s.vcs = ap (λ n. (n - 1) * r.vcs) (sym ports_same) ∙ ap (λ n. (s.ports - 1) * n) (sym vcs) in
     record {
@@ -36,14 +35,13 @@ IsRouter-kept r s is shape node ports_same vcs depth vc size capacity keeps lead
       channels = size ∙ is.channels ∙ all;
       depth = capacity ∙ is.depth ∙ sym depth;
       leads = λ port l. ap (λ xs. slice_index_or xs port None) leads ∙ is.leads port l ∙ ap (λ g. neighbour g r.node port) (sym shape) ∙ ap (λ n. neighbour s.shape n port) (sym node);
-      loaded = subst (λ (g : Grid). AreBelow (local_port g) s.links.loaded) (sym shape) loaded;
+      beats = beats ∙ is.beats;
       sending = rw vc (for_some (λ v. v < r.vcs) (λ v. v < s.vcs) r.source.vc (λ v l. rw vcs l) is.sending);
       awaiting = rw vc (for_some (λ v. is_awaiting r.channels.inputs.items ((r.ports - 1) * r.vcs + v) ≡ true) (λ v. is_awaiting s.channels.inputs.items ((s.ports - 1) * s.vcs + v) ≡ true) r.source.vc
           (λ v h. ap (λ n. is_awaiting s.channels.inputs.items (n + v)) (sym first) ∙ keeps ((r.ports - 1) * r.vcs + v) h) is.awaiting);
       counts = counts ∙ is.counts ∙ all;
       arbiter_ports = arbiter_ports ∙ is.arbiter_ports ∙ sym ports_same;
       arbiter_vcs = arbiter_vcs ∙ is.arbiter_vcs ∙ sym vcs;
-      index_vcs = index_vcs ∙ is.index_vcs ∙ sym vcs;
     }
 
 -- the index of a local input channel
@@ -56,13 +54,13 @@ local-index r vc is =
 pub IsRouter-misfit : (r : Inside) (channels : Channels) (n : ℕ) → IsRouter r → states_in channels ≡ states_in r.channels → IsRouter (record r { channels = channels; misfits = n })
 IsRouter-misfit r channels n is states =
     IsRouter-kept r (record r { channels = channels; misfits = n }) is refl refl refl refl refl refl (ap (λ (s : ChannelStates). s.size) states) (ap (λ (s : ChannelStates). s.bank.capacity) states)
-    (λ i h. ap (λ (s : ChannelStates). is_awaiting s.inputs i) states ∙ h) refl is.loaded refl refl refl refl
+    (λ i h. ap (λ (s : ChannelStates). is_awaiting s.inputs i) states ∙ h) refl refl refl refl refl
 
 -- a router of which only channels change, and whether it had an event, is one still
 pub IsRouter-channels : (r : Inside) (channels : Channels) (happened : Bool) → IsRouter r → channels.size ≡ r.channels.size → channels.bank.capacity ≡ r.channels.bank.capacity
     → KeepsAwaiting r.channels.inputs.items channels.inputs.items → IsRouter (record r { channels = channels; had_event = happened })
 IsRouter-channels r channels happened is size capacity keeps =
-    IsRouter-kept r (record r { channels = channels; had_event = happened }) is refl refl refl refl refl refl size capacity keeps refl is.loaded refl refl refl refl
+    IsRouter-kept r (record r { channels = channels; had_event = happened }) is refl refl refl refl refl refl size capacity keeps refl refl refl refl refl
 
 -- a router where a flit has come to an input channel of a link port is one still
 pub IsRouter-landed : (r : Inside) (channels : Channels) (i : ℕ) (flit : Flit) → IsRouter r → states_in channels ≡ states_after_land i flit (states_in r.channels) → i < (r.ports - 1) * r.vcs → IsRouter (record r { channels = channels; had_event = true })
@@ -75,7 +73,7 @@ IsRouter-landed r channels i flit is states link = record {
   channels = ap (λ (s : ChannelStates). s.size) states ∙ is.channels;
   depth = ap (λ (s : ChannelStates). s.bank.capacity) states ∙ is.depth;
   leads = is.leads;
-  loaded = is.loaded;
+  beats = is.beats;
   sending = is.sending;
   awaiting = for_some (λ v. is_awaiting r.channels.inputs.items ((r.ports - 1) * r.vcs + v) ≡ true) (λ v. is_awaiting channels.inputs.items ((r.ports - 1) * r.vcs + v) ≡ true) r.source.vc
       (λ v h. ap (λ (s : ChannelStates). is_awaiting s.inputs ((r.ports - 1) * r.vcs + v)) states
@@ -83,11 +81,9 @@ IsRouter-landed r channels i flit is states link = record {
   counts = is.counts;
   arbiter_ports = is.arbiter_ports;
   arbiter_vcs = is.arbiter_vcs;
-  index_vcs = is.index_vcs;
 }
 
 -- a router of which as many channels are counted as before is one still
-pub IsRouter-counted : (r : Inside) (cycle : ℕ) (tally : TallyContents) (links : Links) → IsRouter r → length tally.counts ≡ length r.tally.counts
-    → AreBelow (local_port r.shape) links.loaded → IsRouter (record r { cycle = cycle; tally = tally; links = links })
-IsRouter-counted r cycle tally links is counts loaded =
-    IsRouter-kept r (record r { cycle = cycle; tally = tally; links = links }) is refl refl refl refl refl refl refl refl (λ i h. h) refl loaded counts refl refl refl
+pub IsRouter-counted : (r : Inside) (tally : TallyContents) (beats : List Beat) → IsRouter r → length tally.counts ≡ length r.tally.counts → length beats ≡ length r.to_put
+    → IsRouter (record r { tally = tally; to_put = beats })
+IsRouter-counted r tally beats is counts same = IsRouter-kept r (record r { tally = tally; to_put = beats }) is refl refl refl refl refl refl refl refl (λ i h. h) refl same counts refl refl

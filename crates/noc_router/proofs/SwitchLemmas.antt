@@ -55,7 +55,7 @@ pub record AtPick (r : Inside) (v : View) (q vc : ℕ) : Type 0 where
   pub pick : picked_vc v q ≡ Some vc
   pub inside : q * r.vcs + vc < r.channels.size
   pub active : is_active (view_input v (q * r.vcs + vc)).phase ≡ true
-  pub goes : (o : ℕ) → (view_input v (q * r.vcs + vc)).phase ≡ Active o → (picked_way v q ≡ Some (o / r.indices.vcs)) × (o / r.indices.vcs < ports v.site.grid)
+  pub goes : (o : ℕ) → (view_input v (q * r.vcs + vc)).phase ≡ Active o → (picked_way v q ≡ Some (o / r.vcs)) × (o / r.vcs < ports v.site.grid)
 
 -- what the arbiters of a router pick is what those of its view pick
 pub pick-view : (r : Inside) (v : View) (ready q : ℕ) (one : Option ℕ) → view_of r ≡ v → IsRouter r → AreReady v ready
@@ -79,8 +79,8 @@ at-pick r v ready q one vc view is are l by e = record {
     same : q * r.vcs + vc ≡ q * v.site.vcs + vc
     same = ap (λ (w : View). q * w.site.vcs + vc) view
 
-    vcs : v.site.vcs ≡ r.indices.vcs
-    vcs = sym (is.index_vcs ∙ ap (λ (w : View). w.site.vcs) view)
+    vcs : v.site.vcs ≡ r.vcs
+    vcs = sym (ap (λ (w : View). w.site.vcs) view)
 
     pick : picked_vc v q ≡ Some vc
     pick = sym (pick-view r v ready q one view is are by) ∙ e
@@ -100,11 +100,11 @@ at-pick r v ready q one vc view is are l by e = record {
     within : is_within r.channels.size (view_input v (q * r.vcs + vc)).phase ≡ true
     within = ap (λ (w : View). is_within r.channels.size (view_input w (q * r.vcs + vc)).phase) (sym view) ∙ r.channels.sound.owned_below (q * r.vcs + vc) (omega (arith, same, below, size))
 
-    port : (o : ℕ) → (view_input v (q * r.vcs + vc)).phase ≡ Active o → o / r.indices.vcs < ports v.site.grid
+    port : (o : ℕ) → (view_input v (q * r.vcs + vc)).phase ≡ Active o → o / r.vcs < ports v.site.grid
     port o phase =
         let l : nat_lt o r.channels.size ≡ true = sym (ap (is_within r.channels.size) phase) ∙ within in
         let grid : r.ports ≡ ports v.site.grid = is.ports ∙ ap (λ (w : View). ports w.site.grid) view in
-        let under : o / r.indices.vcs < r.ports = port-below r o is l in
+        let under : o / r.vcs < r.ports = port-below r o is l in
         omega arith
 
 -- ---- all picks

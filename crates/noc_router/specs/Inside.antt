@@ -5,9 +5,9 @@ use Rattle.std.specs.List.{zip}
 use Rattle.noc_packet.specs.declared.packet.Packet.{Packet}
 use Rattle.noc_packet.specs.declared.limits.TheConstants.{MAX_CHANNELS}
 use Rattle.noc_topo.specs.Shape.{IsGrid, nodes, ports, local_port, neighbour}
+use Rattle.noc_topo.specs.declared.limits.TheConstants.{LINKS}
 use Rattle.noc_router.specs.declared.router.Router.TheInside.{Inside}
 use Rattle.noc_router.specs.declared.source.Source.{Source}
-use Rattle.noc_alloc.specs.Sparse.{AreBelow}
 use Rattle.noc_router.specs.Queue.{queue_from, sending_from}
 use Rattle.noc_router.specs.Sound.{is_awaiting}
 use Rattle.noc_view.specs.View.{View}
@@ -36,7 +36,7 @@ view_of r = record {
   findings = r.tally.findings;
   given = r.cycle;
   had_event = r.had_event;
-  to_put = take (local_port r.shape) r.links.beats;
+  to_put = take (local_port r.shape) r.to_put;
 }
 
 -- the parts of a router are of one size
@@ -49,11 +49,10 @@ pub record IsRouter (r : Inside) : Type 0 where
   pub channels : r.channels.size ≡ r.ports * r.vcs
   pub depth : r.channels.bank.capacity ≡ r.depth
   pub leads : (port : ℕ) → port < 6 → slice_index_or r.leads.neighbours port None ≡ neighbour r.shape r.node port
-  pub loaded : AreBelow (local_port r.shape) r.links.loaded
+  pub beats : length r.to_put ≡ LINKS
   pub sending : ForSome r.source.vc (λ vc. vc < r.vcs)
   -- the local channel that the source sends on awaits the next flit
   pub awaiting : ForSome r.source.vc (λ vc. is_awaiting r.channels.inputs.items ((r.ports - 1) * r.vcs + vc) ≡ true)
   pub counts : length r.tally.counts ≡ r.ports * r.vcs
   pub arbiter_ports : r.arbiters.ports ≡ r.ports
   pub arbiter_vcs : r.arbiters.vcs ≡ r.vcs
-  pub index_vcs : r.indices.vcs ≡ r.vcs

@@ -2,7 +2,6 @@ pub mod Asked
 pub mod Decided
 pub mod Injection
 pub mod Inside
-pub mod Links
 pub mod Members
 pub mod Parts
 pub mod SparseSets

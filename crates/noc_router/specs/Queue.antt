@@ -26,7 +26,3 @@ is_next_last (Some start) index = nat_eq (index + 1) start.1.length
 abbrev pub is_due_by : Option (ℕ × Packet) → ℕ → Bool
 is_due_by None cycle = false
 is_due_by (Some start) cycle = nat_le start.1.due cycle
-
--- when the packet in front is due
-abbrev pub next_due_of : Option (ℕ × Packet) → Option ℕ
-next_due_of front = option_map (λ (start : ℕ × Packet). start.1.due) front

@@ -1,5 +1,5 @@
 -- What the channels of a router ask for, and who is ready to send.
-use Rattle.std.specs.Prelude.{◌≡◌, ℕ, ◌<◌, ◌≤◌, true, ◌&&◌, Option, Some, None, not}
+use Rattle.std.specs.Prelude.{◌≡◌, ℕ, ◌<◌, true, ◌&&◌, Option, Some, None, not}
 use Rattle.noc_topo.specs.Shape.{ports}
 use Rattle.noc_topo.specs.Lists.{tabulate}
 use Rattle.noc_packet.specs.Set.{has_bit}
@@ -9,7 +9,7 @@ use Rattle.noc_vc.specs.Input.{is_active, is_empty, is_idle_phase, is_waiting}
 use Rattle.noc_alloc.specs.Sparse.{AreBelow}
 use Rattle.noc_view.specs.States.{is_supplied, way_in}
 use Rattle.noc_view.specs.Verdict.{Round, asks_of, is_event, ready_of}
-use Rattle.noc_view.specs.VerdictSets.{sets_with, verdict_by}
+use Rattle.noc_view.specs.VerdictSets.{verdict_by}
 use Rattle.noc_view.specs.View.{Site, View, finding_of, size_of, view_buffer, view_input, view_stands}
 use Rattle.noc_router.specs.declared.requests.Requests.{Requests}
 use Rattle.noc_view.specs.declared.sets.VerdictSets.{VerdictSets}
@@ -58,8 +58,7 @@ pub record AreAsked (v : View) (r : Requests) : Type 0 where
   pub picks : r.picks ≡ tabulate (ports v.site.grid) (picked_vc v)
   pub ways : r.switch.asks ≡ tabulate (ports v.site.grid) (picked_way v)
 
--- the sets give each input channel its verdict in this round, and have each once at most
+-- the sets give each input channel its verdict in this round
 pub record AreVerdictsOf (v : View) (round : Round) (sets : VerdictSets) : Type 0 where
   pub verdicts : (k : ℕ) → k < size_of v.site → verdict_by sets k ≡ (finding_of round v k).verdict
   pub events : (k : ℕ) → is_event (verdict_by sets k) ≡ true → k < size_of v.site
-  pub apart : (k : ℕ) → k < size_of v.site → sets_with sets k ≤ 1

@@ -39,10 +39,11 @@ decisions_by p v = record { round = p.round; findings = tabulate (size_of v.site
 abbrev pub finding_by : PlanContents → ℕ → List Input → ℕ → Finding
 finding_by p vcs inputs i = finding_with vcs (nth_input inputs i) (planned_verdict p i) (slice_index_or p.asks i None)
 
--- the verdicts are counted, and every beat is idle again
+-- the verdicts are counted, the findings kept, and every beat is idle again
 abbrev pub view_after_tally : Decisions → View → View
 view_after_tally d v = record v {
   counts = map_indexed (λ i counts. counts_after (decided_verdict d i) counts) v.counts;
+  findings = d.findings;
   to_put = idle_beats v.site;
 }
 

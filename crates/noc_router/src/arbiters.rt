@@ -1,9 +1,7 @@
 //! The arbiters of one router.
 //!
 //! The pointers of the switch go on in the loop over the verdicts that take effect, where the mover
-//! has just been looked up. A pass over the winners alone would end where no processor can guess.
-//! An arbiter first chooses between two sets, the requests at or after its pointer and all
-//! requests, and then looks for the least member, so it looks once.
+//! has just been looked up.
 
 ghost use Rattle.std.specs.Prelude.{◌≡◌, ℕ, ◌*◌, ◌<◌, ◌≤◌, All, IfOk, IfSome, List, Option, None, is_some, slice_index_or, vec_len};
 ghost use Rattle.noc_packet.specs.Set.{has_bit};

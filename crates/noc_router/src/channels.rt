@@ -3,8 +3,7 @@
 //! Beside the channels stand sets of them by state: filled, waiting, active, supplied with a
 //! credit, and the idle output channels. So stalled channels get their verdict by a few operations
 //! on words, and each loop visits only channels that have something to do. That the sets are those
-//! of the states is an invariant (`specs/Sound.antt`). What stays as it is, is not written: where a
-//! flit that is no tail leaves, the sets of idle and of owning channels are left alone.
+//! of the states is an invariant (`specs/Sound.antt`).
 
 ghost use Rattle.std.specs.Prelude.{◌≡◌, ℕ, ◌≤◌, ◌<◌, ◌-◌, ◌++◌, ◌&&◌, true, false, None, IfOk, IfSome, length, nat_lt, not, Some, slice_get, slice_index_or, vec_len, if◌then◌else◌, replicate};
 ghost use Rattle.noc_topo.specs.Shape.{nodes as nodes_of, ports as ports_of};
@@ -16,17 +15,16 @@ ghost use Rattle.noc_vc.specs.Input.{is_idle_phase, is_empty, fits};
 ghost use Rattle.noc_vc.specs.Output.{ejection_output, link_output, is_free, is_owned, has_credit, credit_fits, output_after_spend};
 ghost use Rattle.noc_alloc.specs.Sparse.{AreBelow};
 ghost use Rattle.noc_router.specs.Members.{is_within};
-ghost use Rattle.noc_router.specs.Sound.{nth_input, nth_output, CanHold, CanInject, CanRoute, CanSend, IsMarked, KeepsAwaiting, AreSizes, AreSound, asked_in, finding_with};
-ghost use Rattle.noc_view.specs.States.{is_occupied};
+ghost use Rattle.noc_router.specs.Sound.{nth_input, nth_output, CanHold, CanInject, CanRoute, CanSend, IsMarked, KeepsAwaiting, AreSizes, AreSound, asked_in};
+ghost use Rattle.noc_router.specs.Settled.{finding_by};
 ghost use Rattle.noc_view.specs.ReadySets.{AreReadySets};
 
-use crate::indices::Indices;
 use crate::plan::Plan;
 use noc_packet::{ChannelSet, Flit, Memory};
 use noc_ring::Bank;
 use noc_route::Relation;
 use noc_vc::{InputChannel, InputState, Misfit, OutputChannel, OutputState};
-use noc_view::{Finding, ReadySets, Verdict};
+use noc_view::{Finding, ReadySets};
 use std::alloc::Global;
 
 /// The channels of one router, by index: port * V + virtual channel.
@@ -41,13 +39,10 @@ pub(crate) struct Channels {
     supplied: ChannelSet,
     // The output channels that are idle.
     idle: ChannelSet,
-    // All channels.
-    every: ChannelSet,
     pub(crate) bank: Bank,
     inputs: Vec<InputChannel>,
     outputs: Vec<OutputChannel>,
     ghost few: { size ≤ INDICES },
-    ghost every_one: { (k : ℕ) → has_bit every k ≡ nat_lt k size },
     ghost a_ring_each: { length bank.rings ≡ size },
     ghost an_input_each: { vec_len inputs ≡ size },
     ghost an_output_each: { vec_len outputs ≡ size },
@@ -74,35 +69,29 @@ impl Channels {
         inputs.resize(size, InputChannel::new())?;
         let outputs = idle_outputs(alloc, size, links, depth)?;
         let none = ChannelSet::empty();
-        let every = all_channels(size);
         Ok(Channels {
             size,
             filled: none,
             waiting: none,
             active: none,
             supplied: none,
-            idle: every,
-            every,
+            idle: all_channels(size),
             bank,
             inputs,
             outputs,
         })
     }
 
-    // The input channels that hold a packet or a flit.
-    pub(crate) fn occupied(&self) -> ChannelSet
-        ensures below { AreBelow self.now.size result }
-        ensures members { (i : ℕ) → i < self.now.size → has_bit result i ≡ is_occupied (nth_input self.now.inputs.items i) (buffer_at self.now.bank i) }
-        ensures vacant { (i : ℕ) → i < self.now.size → has_bit result i ≡ false → (nth_input self.now.inputs.items i).packet ≡ None }
+    // Whether an input channel is idle with an empty buffer.
+    pub(crate) fn is_vacant(&self, index: usize) -> bool
+        requires { index < self.now.size }
+        ensures { result ≡ (is_idle_phase (nth_input self.now.inputs.items index).phase && is_empty (buffer_at self.now.bank index)) }
     {
-        self.filled.either(self.waiting).either(self.active)
-    }
-
-    // The input channels that are idle with an empty buffer.
-    pub(crate) fn vacant(&self) -> ChannelSet
-        ensures { (i : ℕ) → has_bit result i ≡ (nat_lt i self.now.size && (is_idle_phase (nth_input self.now.inputs.items i).phase && is_empty (buffer_at self.now.bank i))) }
-    {
-        self.every.less(self.occupied())
+        !self
+            .filled
+            .either(self.waiting)
+            .either(self.active)
+            .contains(index)
     }
 
     // What the input channels that hold something can go on with.
@@ -198,17 +187,13 @@ impl Channels {
         }
     }
 
-    // What is found of an input channel with this verdict, by a plan of these channels.
-    pub(crate) fn finding(
-        &self,
-        indices: &Indices,
-        plan: &Plan,
-        index: usize,
-        verdict: Verdict,
-    ) -> Finding
+    // What is found of an input channel by a plan of these channels.
+    pub(crate) fn finding(&self, plan: &Plan, index: usize, vcs: usize) -> Finding
+        requires some { 0 < vcs }
         requires index { index < self.now.size }
         requires asks { length plan.now.asks ≡ self.now.size }
-        ensures { result ≡ finding_with indices.now.vcs (nth_input self.now.inputs.items index) verdict (slice_index_or plan.now.asks index None) }
+        requires verdicts { length plan.now.verdicts ≡ self.now.size }
+        ensures { result ≡ finding_by plan.now vcs self.now.inputs.items index }
     {
         let input = &self.inputs[index];
         let out = match input.state() {
@@ -217,9 +202,9 @@ impl Channels {
             InputState::Active(next) => Some(next),
         };
         Finding {
-            verdict,
+            verdict: plan.verdict(index),
             packet: input.packet(),
-            out: out.map(|next| indices.split(next)),
+            out: out.map(|next| (next / vcs, next % vcs)),
         }
     }
 
@@ -269,14 +254,8 @@ impl Channels {
         let output = &mut self.outputs[next];
         spend(output, flit.last);
         let supplied = !flit.last && output.credit() != Some(0);
-        let_go(
-            &mut self.idle,
-            &mut self.active,
-            next,
-            index,
-            flit.last,
-            is_idle(output),
-        );
+        self.idle = marked(self.idle, next, is_idle(output));
+        self.active = marked(self.active, index, !flit.last);
         self.filled = marked(self.filled, index, self.bank.len(index) > 0);
         self.supplied = marked(self.supplied, index, supplied);
         flit
@@ -301,30 +280,6 @@ fn is_idle(output: &OutputChannel) -> bool
     ensures { result ≡ is_free output.now.holder }
 {
     output.state() == OutputState::Idle
-}
-
-// The tail or another flit has left: the output channels that are idle, and the input
-// channels whose packet owns one.
-#[inline(always)]
-fn let_go(
-    idle: &mut ChannelSet,
-    active: &mut ChannelSet,
-    output: usize,
-    input: usize,
-    last: bool,
-    is_idle: bool,
-)
-    requires output { output < INDICES }
-    requires input { input < INDICES }
-    requires still { last ≡ false → has_bit idle.old output ≡ is_idle }
-    requires owner { has_bit active.old input ≡ true }
-    ensures idle { IsMarked idle.old idle.new output is_idle }
-    ensures active { IsMarked active.old active.new input (not last) }
-{
-    if last {
-        *idle = marked(*idle, output, is_idle);
-        *active = marked(*active, input, false);
-    }
 }
 
 // A set with this index or without it, as is said.

@@ -4,16 +4,13 @@
 mod arbiters;
 mod arrivals;
 mod channels;
-mod findings;
-mod indices;
 mod leads;
-mod links;
 mod plan;
 mod requests;
 mod router;
 mod source;
 mod tally;
 
-pub use noc_view::{Finding, Recording, VERDICTS, Verdict};
+pub use noc_view::{Finding, VERDICTS, Verdict};
 pub use plan::Plan;
 pub use router::Router;

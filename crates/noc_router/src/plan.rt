@@ -12,13 +12,13 @@ ghost use Rattle.noc_packet.specs.declared.limits.TheConstants.{INDICES};
 ghost use Rattle.noc_router.specs.Asked.{arbiter_states_in, channels_past, sized_arbiters_in};
 ghost use Rattle.noc_router.specs.Decided.{IsDecidedFor, empty_plan_contents};
 ghost use Rattle.noc_view.specs.declared.verdict.Verdict.TheVariants.{Empty};
-ghost use Rattle.noc_view.specs.Verdict.{is_event, is_granted, is_moved};
+ghost use Rattle.noc_view.specs.Verdict.{is_event};
 
 use crate::arbiters::Arbiters;
 use crate::requests::Requests;
 use noc_packet::{ChannelSet, Memory};
 use noc_route::Relation;
-use noc_view::VerdictSets;
+use noc_view::{Verdict, VerdictSets};
 use std::alloc::Global;
 use std::marker::Model;
 
@@ -84,20 +84,12 @@ impl Plan {
         sets.moved.either(sets.granted.either(sets.routed))
     }
 
-    // Whether the verdict on an input channel is Moved.
-    pub(crate) fn is_moved(&self, index: usize) -> bool
-        requires { index < INDICES }
-        ensures { result ≡ is_moved (slice_index_or self.now.verdicts index Empty) }
+    // The verdict on an input channel.
+    pub(crate) fn verdict(&self, index: usize) -> Verdict
+        requires { index < length self.now.verdicts }
+        ensures { result ≡ slice_index_or self.now.verdicts index Empty }
     {
-        self.verdicts.moved.contains(index)
-    }
-
-    // Whether the verdict on an input channel is Granted.
-    pub(crate) fn is_granted(&self, index: usize) -> bool
-        requires { index < INDICES }
-        ensures { result ≡ is_granted (slice_index_or self.now.verdicts index Empty) }
-    {
-        !self.verdicts.moved.contains(index) && self.verdicts.granted.contains(index)
+        self.verdicts.verdict(index)
     }
 
     // The output channel that an input channel asks for.

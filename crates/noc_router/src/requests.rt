@@ -117,8 +117,7 @@ impl Requests {
     {
         let mut picked = ChannelSet::empty();
         let mut rest = ports;
-        while let Some(port) = rest.least_common(&rest) {
-            rest = rest.without(port);
+        while let Some(port) = rest.pop_least() {
             if let Some(vc) = self.picks.get(port) {
                 picked = picked.with(port * vcs + vc);
             }

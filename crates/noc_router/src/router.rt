@@ -1,7 +1,7 @@
 //! The router.
 
 ghost use Rattle.std.specs.List.Sorted.{IsStrictlyIncreasing};
-ghost use Rattle.std.specs.Prelude.{◌≡◌, ◌+◌, ◌-◌, ◌*◌, ◌<◌, ◌≤◌, All, IfOk, IfSome, Some, true, ◌⊎◌, length, ℕ, not, ◌&&◌, None, replicate, slice_index_or, [], false, if◌then◌else◌};
+ghost use Rattle.std.specs.Prelude.{◌≡◌, ◌+◌, ◌*◌, ◌/◌, ◌%◌, ◌<◌, ◌≤◌, All, IfOk, IfSome, Some, true, ◌⊎◌, length, ℕ, None, replicate, slice_index_or, [], false, if◌then◌else◌};
 ghost use Rattle.noc_topo.specs.Shape.{IsGrid, nodes as nodes_of, ports as ports_of, local_port, neighbour as neighbour_of};
 ghost use Rattle.noc_topo.specs.Lists.{tabulate};
 ghost use Rattle.noc_vc.specs.Input.{is_empty};
@@ -9,35 +9,31 @@ ghost use Rattle.noc_view.specs.Arrivals.{noted_arrival};
 ghost use Rattle.noc_router.specs.Asked.{lists_in, round_in, routes_in};
 ghost use Rattle.noc_view.specs.Finish.{view_after_finish};
 ghost use Rattle.noc_router.specs.Injection.{next_vc, vacant_vc};
-ghost use Rattle.noc_view.specs.View.{is_idle_beat, IsRelationOf, local_channel, size_of, view_buffer, opening_view, with_flit, with_credit, view_after_take, view_after_takes, view_after_inject, decisions_of, plan_contents, view_after_commit, beat_to_put, view_after_put, idle_beats, local_step, route_for, route_of, view_stands, first_flit, view_input, with_arrival};
+ghost use Rattle.noc_view.specs.View.{IsRelationOf, local_channel, size_of, view_buffer, opening_view, with_flit, with_credit, view_after_take, view_after_takes, view_after_inject, decisions_of, plan_contents, view_after_commit, beat_to_put, view_after_put, idle_beats, local_step, route_for, route_of, view_stands, first_flit, view_input, with_arrival};
 ghost use Rattle.noc_alloc.specs.Requests.{AllBelow};
 ghost use Rattle.noc_router.specs.Settled.{AreContentsFor, CanGrant, CanTakeEffect, decisions_by, effect_of, planned_verdict, passed_by, switch_past, view_after_tally, view_after_verdicts, view_after_route, view_after_grant, moved_by, credit_put, flit_put};
 ghost use Rattle.noc_router.specs.Sound.{CanRoute, CanSend, is_awaiting};
-ghost use Rattle.noc_view.specs.States.{is_occupied};
 ghost use Rattle.noc_router.specs.Ready.{AreAsked, AreHeads, AreReady, AreRequestsOf, AreVerdictsOf, AreWaiting, IsPick, picked_vc, picked_way};
 ghost use Rattle.noc_view.specs.ReadySets.{AreReadySetsOf};
 ghost use Rattle.noc_route.specs.Routes.{Routes};
 ghost use Rattle.noc_packet.specs.Set.{has_bit};
 ghost use Rattle.noc_packet.specs.declared.limits.TheConstants.{INDICES};
 ghost use Rattle.noc_view.specs.Start.{IsNumberedPacket};
-ghost use Rattle.noc_view.specs.Still.{IsHeldBefore, takes_effect, view_after_waiting};
 ghost use Rattle.noc_view.specs.Verdict.{arbiters_after, asks_of, is_event};
 
 use crate::arbiters::Arbiters;
 use crate::arrivals::Arrivals;
 use crate::channels::Channels;
-use crate::indices::Indices;
 use crate::leads::Leads;
-use crate::links::Links;
 use crate::plan::Plan;
 use crate::requests::Requests;
 use crate::source::Source;
 use crate::tally::Tally;
 use noc_packet::{Beat, ChannelSet, Flit, MAX_BUFFER, Memory, Packet};
 use noc_route::Relation;
-use noc_topo::Shape;
+use noc_topo::{LINKS, Shape};
 use noc_vc::InputState;
-use noc_view::{Finding, ReadySets, Recording, VERDICTS, VerdictSets};
+use noc_view::{Finding, ReadySets, VERDICTS, Verdict, VerdictSets};
 use std::alloc::Global;
 use std::marker::Model;
 
@@ -61,11 +57,11 @@ pub struct Router {
     source: Source,
     channels: Channels,
     leads: Leads,
-    links: Links,
+    // The beat that is still to be put on each link.
+    to_put: [Beat; LINKS],
     tally: Tally,
     arbiters: Arbiters,
     arrivals: Arrivals,
-    indices: Indices,
     shape: Shape,
 }
 
@@ -120,11 +116,10 @@ impl Router {
             source: Source::new(starts),
             channels,
             leads: Leads::new(&shape, node),
-            links: Links::new(),
+            to_put: [Beat::idle(); LINKS],
             tally,
             arbiters,
             arrivals,
-            indices: Indices::new(vcs),
             shape,
         })
     }
@@ -223,9 +218,12 @@ impl Router {
         ensures within { IfSome result (λ vc. vc < self.now.site.vcs) }
         ensures empty { IfSome result (λ vc. is_empty (view_buffer self.now (local_channel self.now.site vc)) ≡ true) }
     {
-        let first = (self.ports - 1) * self.vcs;
-        let index = self.channels.vacant().least_from(first)?;
-        Some(index - first)
+        for vc in 0..self.vcs {
+            if self.channels.is_vacant((self.ports - 1) * self.vcs + vc) {
+                return Some(vc);
+            }
+        }
+        None
     }
 
     /// Writes into `plan` what every input channel asks for and what the arbiters
@@ -253,8 +251,7 @@ impl Router {
         ensures { lists_in requests.new ≡ record (lists_in requests.old) { routes = tabulate (size_of self.now.site) (route_of relation.now self.now) } }
     {
         let mut rest = heads;
-        while let Some(index) = rest.least_common(&rest) {
-            rest = rest.without(index);
+        while let Some(index) = rest.pop_least() {
             requests.add_route(index, self.route_for(relation, index));
         }
     }
@@ -272,11 +269,18 @@ impl Router {
         let class = usize::from(flit.class);
         let destination = usize::from(flit.dst);
         if class < relation.classes() && destination < relation.shape().nodes() {
-            let (port, vc) = self.indices.split(index);
+            let (port, vc) = self.split(index);
             relation.permitted(class, self.node, port, vc, destination)
         } else {
             ChannelSet::empty()
         }
+    }
+
+    // The port and the virtual channel of an index.
+    fn split(&self, index: usize) -> (usize, usize)
+        ensures { result ≡ (index / self.now.site.vcs, index % self.now.site.vcs) }
+    {
+        (index / self.vcs, index % self.vcs)
     }
 
     // What the waiting channels ask for, where nothing is asked for yet.
@@ -287,8 +291,7 @@ impl Router {
         ensures { lists_in requests.new ≡ record (lists_in requests.old) { asks = asks_of (view_stands self.now) } }
     {
         let mut rest = waiting;
-        while let Some(index) = rest.least_common(&rest) {
-            rest = rest.without(index);
+        while let Some(index) = rest.pop_least() {
             if let Some(output) = self.channels.asked(index) {
                 requests.ask_for_channel(index, output);
             }
@@ -321,7 +324,7 @@ impl Router {
     {
         let vc = self.arbiters.pick(ready, port)?;
         match self.channels.state(port * self.vcs + vc) {
-            InputState::Active(next) => Some((vc, self.indices.split(next).0)),
+            InputState::Active(next) => Some((vc, next / self.vcs)),
             _ => None,
         }
     }
@@ -355,114 +358,30 @@ impl Router {
         ensures view { (relation : Routes) → plan.now ≡ plan_contents relation self.old → self.new ≡ view_after_commit (decisions_of relation self.old) self.old }
         ensures site { self.new.site ≡ self.old.site }
     {
-        self.tally.show(&self.channels, &self.indices, plan);
-        self.take_effect(plan);
-    }
-
-    /// Ends a cycle of a router that has taken its beats: it injects what is due by cycle
-    /// `cycle` (from 0), decides and commits. Its findings are recorded, or stay those of the
-    /// last cycle in which they were.
-    pub fn finish(&mut self, relation: &Relation, plan: &mut Plan, cycle: u64, recording: Recording)
-        requires { IsRelationOf relation.now self.old }
-        ensures { self.new ≡ view_after_finish relation.now cycle recording self.old }
-    {
-        self.inject(cycle);
-        match recording {
-            Recording::Record => {
-                self.plan(relation, plan);
-                self.commit(plan);
-            }
-            Recording::Leave => self.advance(relation, plan),
-        }
-    }
-
-    // Plans and commits, and leaves the findings as they were. A router that
-    // holds nothing needs no plan.
-    fn advance(&mut self, relation: &Relation, plan: &mut Plan)
-        requires { IsRelationOf relation.now self.old }
-        ensures { self.new ≡ record (view_after_commit (decisions_of relation.now self.old) self.old) { findings = self.old.findings } }
-    {
-        if self.holds_nothing() {
-            self.tally.count_empty(1);
-            self.links.clear();
-            self.end_cycle();
-        } else {
-            self.plan(relation, plan);
-            self.take_effect(plan);
-        }
-    }
-
-    /// Whether no verdict takes effect in a cycle in which nothing comes and nothing is injected.
-    pub fn is_still(&self, relation: &Relation, plan: &mut Plan) -> bool
-        requires { IsRelationOf relation.now self.now }
-        ensures { result ≡ not (takes_effect relation.now self.now) }
-    {
-        if self.holds_nothing() {
-            return true;
-        }
-        self.plan(relation, plan);
-        plan.events().is_empty()
-    }
-
-    /// The first cycle in which `inject` would inject a flit, if nothing happens before: 0 if it
-    /// can inject now, the due cycle if it waits for that, None if it cannot inject.
-    pub fn next_injection(&self) -> Option<u64>
-        ensures before { (end : ℕ) → IfSome result (λ due. end ≤ due) → IsHeldBefore end self.now }
-        ensures due { IfSome result (λ due. IsHeldBefore (due + 1) self.now → ⊥) }
-    {
-        let due = self.source.next_due()?;
-        match self.source.vc {
-            Some(vc) => {
-                let room = self.channels.has_room((self.ports - 1) * self.vcs + vc);
-                if room { Some(0) } else { None }
-            }
-            None if self.vacant_channel().is_some() => Some(due),
-            None => None,
-        }
-    }
-
-    /// The cycles from `first` to before `end` at once, where nothing happens in any of them:
-    /// nothing comes, nothing is injected, and no verdict takes effect, so that the same verdicts
-    /// are counted in each. `findings` stay.
-    pub fn wait(&mut self, relation: &Relation, plan: &mut Plan, first: u64, end: u64)
-        requires relation { IsRelationOf relation.now self.old }
-        requires order { first < end }
-        ensures { self.new ≡ view_after_waiting relation.now (end - first) (end - 1) self.old }
-    {
-        self.cycle = end - 1;
-        if self.holds_nothing() {
-            self.tally.count_empty(end - first);
-        } else {
-            self.plan(relation, plan);
-            self.tally.count_more(plan, end - first);
-        }
-    }
-
-    // Whether no input channel holds a packet or a flit.
-    fn holds_nothing(&self) -> bool
-        ensures { result ≡ true → (i : ℕ) → i < size_of self.now.site → is_occupied (view_input self.now i) (view_buffer self.now i) ≡ false }
-    {
-        self.channels.occupied().is_empty()
-    }
-
-    // The verdicts of the plan of this state take effect; the findings stay.
-    fn take_effect(&mut self, plan: &Plan)
-        requires { AreContentsFor plan.now self.old }
-        ensures { (relation : Routes) → plan.now ≡ plan_contents relation self.old → self.new ≡ record (view_after_commit (decisions_of relation self.old) self.old) { findings = self.old.findings } }
-    {
-        self.count(plan);
+        self.note(plan);
         self.apply_verdicts(plan);
         plan.advance(&mut self.arbiters);
         self.end_cycle();
     }
 
-    // The verdicts are counted, and every beat is idle again.
-    fn count(&mut self, plan: &Plan)
+    /// Ends a cycle of a router that has taken its beats: it injects what is due by cycle
+    /// `cycle` (from 0), decides and commits.
+    pub fn finish(&mut self, relation: &Relation, plan: &mut Plan, cycle: u64)
+        requires { IsRelationOf relation.now self.old }
+        ensures { self.new ≡ view_after_finish relation.now cycle self.old }
+    {
+        self.inject(cycle);
+        self.plan(relation, plan);
+        self.commit(plan);
+    }
+
+    // The verdicts are counted, the findings kept, and every beat is idle again.
+    fn note(&mut self, plan: &Plan)
         requires { AreContentsFor plan.now self.old }
         ensures { self.new ≡ view_after_tally (decisions_by plan.now self.old) self.old }
     {
-        self.tally.count(plan);
-        self.links.clear();
+        self.tally.note(&self.channels, self.vcs, plan);
+        self.to_put = [Beat::idle(); LINKS];
     }
 
     // The cycle ends.
@@ -482,12 +401,10 @@ impl Router {
         requires beats { self.old.to_put ≡ idle_beats self.old.site }
         ensures { self.new ≡ record (view_after_verdicts (decisions_by plan.now self.old) self.old) { arbiters = record (arbiters_after plan.now.round self.old.arbiters) { channels = self.old.arbiters.channels } } }
     {
+        // (whoever reads a field of a router knows that the router is sound)
+        let _vcs = self.vcs;
         let mut rest = plan.events();
-        for _ in 0..self.ports * self.vcs {
-            let Some(index) = rest.least_common(&rest) else {
-                break;
-            };
-            rest = rest.without(index);
+        while let Some(index) = rest.pop_least() {
             self.apply_verdict(plan, index);
         }
     }
@@ -497,20 +414,23 @@ impl Router {
     fn apply_verdict(&mut self, plan: &Plan, index: usize)
         requires index { index < size_of self.old.site }
         requires few { index < INDICES }
-        requires event { is_event (planned_verdict plan.now index) ≡ true }
+        requires decided { index < length plan.now.verdicts }
         requires can { CanTakeEffect plan.now self.old index (planned_verdict plan.now index) }
         ensures { self.new ≡ passed_by index (view_input self.old index).phase (planned_verdict plan.now index) (effect_of plan.now index self.old (planned_verdict plan.now index)) }
     {
-        if plan.is_moved(index) {
-            if let InputState::Active(next) = self.channels.state(index) {
-                self.move_flit(index, next);
+        match plan.verdict(index) {
+            Verdict::Routed => self.route_head(index, plan.route(index)),
+            Verdict::Granted => {
+                if let Some(next) = plan.ask(index) {
+                    self.grant(index, next);
+                }
             }
-        } else if plan.is_granted(index) {
-            if let Some(next) = plan.ask(index) {
-                self.grant(index, next);
+            Verdict::Moved => {
+                if let InputState::Active(next) = self.channels.state(index) {
+                    self.move_flit(index, next);
+                }
             }
-        } else {
-            self.route_head(index, plan.route(index));
+            _ => {}
         }
     }
 
@@ -539,10 +459,10 @@ impl Router {
         requires { CanSend (size_of self.old.site) self.old.buffers self.old.inputs self.old.outputs index next }
         ensures { self.new ≡ switch_past index next (moved_by index next (first_flit self.old index) self.old) }
     {
+        let (port, vc) = self.split(index);
+        let (output, next_vc) = self.split(next);
         let flit = self.channels.send(index, next);
         self.had_event = true;
-        let (port, vc) = self.indices.split(index);
-        let (output, next_vc) = self.indices.split(next);
         self.put_credit(port, vc);
         self.put_flit(output, next_vc, flit);
         self.arbiters.advance_switch_pointers(port, vc, output);
@@ -555,7 +475,7 @@ impl Router {
         ensures { self.new ≡ credit_put port vc self.old }
     {
         if port < self.ports - 1 {
-            self.links.load_credit(port, vc as u8);
+            self.to_put[port].credit = Some(vc as u8);
         }
     }
 
@@ -566,7 +486,7 @@ impl Router {
         ensures { self.new ≡ flit_put port vc flit self.old }
     {
         if port < self.ports - 1 {
-            self.links.load_flit(port, vc as u8, flit);
+            self.to_put[port].flit = Some((vc as u8, flit));
         } else if flit.last {
             self.arrive(flit.packet);
         }
@@ -590,16 +510,11 @@ impl Router {
         ensures view { self.new ≡ view_after_put port self.old }
         ensures site { self.new.site ≡ self.old.site }
     {
-        self.links.unload(port)
-    }
-
-    /// The link ports whose beat that is still to be put is not idle.
-    pub fn loaded(&self) -> ChannelSet
-        ensures grid { IsGrid self.now.site.grid }
-        ensures within { (port : ℕ) → has_bit result port ≡ true → port < local_port self.now.site.grid }
-        ensures each { (port : ℕ) → port < local_port self.now.site.grid → has_bit result port ≡ not (is_idle_beat (beat_to_put self.now port)) }
-    {
-        self.links.loaded
+        // (whoever reads a field of a router knows that the router is sound)
+        let _vcs = self.vcs;
+        let beat = self.to_put[port];
+        self.to_put[port] = Beat::idle();
+        beat
     }
 
     /// One whole cycle: the beats that came, one for each link port, and the beats that go out.
@@ -625,8 +540,8 @@ impl Router {
         self.put_all(beats_out);
     }
 
-    // Takes a beat at each link port.
-    fn take_all(&mut self, relation: &Relation, beats: &[Beat])
+    /// Takes the beats that came, one for each link port, from port 0 on.
+    pub fn take_all(&mut self, relation: &Relation, beats: &[Beat])
         requires relation { IsRelationOf relation.now self.old }
         requires beats { length beats.now ≡ local_port self.old.site.grid }
         ensures { self.new ≡ view_after_takes relation.now beats.now self.old }
@@ -656,8 +571,8 @@ impl Router {
         self.leads.neighbour(port)
     }
 
-    /// What was found in the last cycle that recorded it (`commit`, `step`, `finish` with
-    /// `Recording::Record`), by input channel (port * V + virtual channel): none before the first.
+    /// What was found in the last cycle, by input channel (port * V + virtual channel): nothing
+    /// before the first.
     pub fn findings(&self) -> &[Finding]
         ensures { result.now ≡ self.now.findings }
     {

@@ -2,7 +2,7 @@
 
 ghost use Rattle.std.specs.Prelude.{◌≡◌, ◌≤◌, ◌<◌, ◌+◌, All, Some, None, drop, if◌then◌else◌, is_none, true, vec_len};
 ghost use Rattle.std.specs.Option.{ForSome};
-ghost use Rattle.noc_router.specs.Queue.{queue_from, sending_from, next_flit_of, is_next_last, is_due_by, next_due_of};
+ghost use Rattle.noc_router.specs.Queue.{queue_from, sending_from, next_flit_of, is_next_last, is_due_by};
 ghost use Rattle.noc_view.specs.Start.{IsNumberedPacket};
 
 use noc_packet::{Flit, Packet, flit_of};
@@ -66,14 +66,6 @@ impl Source {
             Some((_, packet)) => u64::from(packet.due) <= cycle,
             None => false,
         }
-    }
-
-    // When the packet in front is due.
-    pub(crate) fn next_due(&self) -> Option<u64>
-        ensures { result ≡ next_due_of self.now.front }
-    {
-        let (_, packet) = self.front?;
-        Some(u64::from(packet.due))
     }
 
     // The next flit has gone to a local virtual channel.

@@ -1,48 +1,38 @@
 //! What a router has counted and found.
 
-ghost use Rattle.std.specs.Prelude.{◌≡◌, ◌<◌, ◌≤◌, IfOk, [], length, map, slice_index_or};
+ghost use Rattle.std.specs.Prelude.{◌≡◌, ◌-◌, ◌^◌, ◌<◌, ◌≤◌, All, IfOk, [], length, slice_index_or, sum};
 ghost use Rattle.noc_packet.specs.declared.limits.TheConstants.{INDICES};
 ghost use Rattle.noc_topo.specs.Lists.{map_indexed, tabulate};
 ghost use Rattle.noc_router.specs.Settled.{finding_by, planned_verdict};
-ghost use Rattle.noc_view.specs.Still.{counted_times};
 ghost use Rattle.noc_router.specs.Tally.{IsPlanOf, empty_tally};
 ghost use Rattle.noc_view.specs.View.{counts_after};
-ghost use Rattle.noc_view.specs.declared.verdict.Verdict.TheVariants.{Empty};
 
 use crate::channels::Channels;
-use crate::findings::Findings;
-use crate::indices::Indices;
 use crate::plan::Plan;
-use noc_counts::Counts;
 use noc_packet::Memory;
-use noc_view::{Finding, OTHERS, VERDICTS};
+use noc_view::{Finding, VERDICTS, Verdict};
 use std::alloc::Global;
 use std::marker::Model;
 
-/// The verdicts of each input channel so far, and the findings of the last cycle
-/// in which they were shown.
-///
-/// The cycles in which a channel was empty are those that no other verdict has, so that a router
-/// that holds nothing counts a cycle by one number.
+/// How often each verdict was that of each input channel, and what was found of each channel in
+/// the last cycle.
 #[derive(Drop)]
 pub(crate) struct Tally {
+    // How many cycles are counted: as many of each channel.
     cycles: u64,
-    // Whether findings were shown.
-    begun: bool,
-    // How often each channel had each verdict but Empty.
-    others: Counts<OTHERS>,
-    findings: Findings,
+    counts: Vec<[u64; VERDICTS]>,
+    findings: Vec<Finding>,
 }
 
 impl Model for Tally {
-    ghost use Rattle.std.specs.Prelude.{[], map, if◌then◌else◌};
-    ghost use Rattle.noc_router.specs.Tally.{IsTally, TallyContents, counts_in};
+    ghost use Rattle.std.specs.Prelude.{[], nat_eq, if◌then◌else◌};
+    ghost use Rattle.noc_router.specs.Tally.{IsTally, TallyContents};
 
     ghost Value = { TallyContents };
 
-    ghost view = { λ t. record { counts = map (counts_in t.cycles) t.others; findings = if t.begun then t.findings else [] } };
+    ghost view = { λ t. record { counts = t.counts.items; findings = if nat_eq t.cycles 0 then [] else t.findings.items } };
 
-    ghost invariant = { λ t. IsTally t.cycles t.others t.findings };
+    ghost invariant = { λ t. IsTally t.cycles t.counts.items t.findings.items };
 }
 
 impl Tally {
@@ -53,49 +43,25 @@ impl Tally {
     {
         Ok(Tally {
             cycles: 0,
-            begun: false,
-            others: Counts::new(alloc, size)?,
-            findings: Findings::new(alloc, size)?,
+            counts: vec![in alloc; [0; VERDICTS]; size]?,
+            findings: vec![in alloc; Finding::EMPTY; size]?,
         })
     }
 
-    // Counts a cycle with this plan.
-    #[inline(never)]
-    pub(crate) fn count(&mut self, plan: &Plan)
-        requires { length plan.now.verdicts ≡ length self.old.counts }
-        ensures { self.new ≡ record self.old { counts = map_indexed (λ i counts. counts_after (planned_verdict plan.now i) counts) self.old.counts } }
+    // Counts a cycle with this plan, and keeps what it finds.
+    pub(crate) fn note(&mut self, channels: &Channels, vcs: usize, plan: &Plan)
+        requires some { 0 < vcs }
+        requires plan { IsPlanOf channels.now (length self.old.counts) plan.now }
+        ensures { self.new ≡ record {
+          counts = map_indexed (λ i counts. counts_after (planned_verdict plan.now i) counts) self.old.counts;
+          findings = tabulate (length self.old.counts) (finding_by plan.now vcs channels.now.inputs.items);
+        } }
     {
-        if self.cycles == u64::MAX {
-            return;
+        find_all(&mut self.findings, channels, vcs, plan);
+        if self.cycles < u64::MAX {
+            self.cycles += 1;
+            count_all(&mut self.counts, plan);
         }
-        self.cycles += 1;
-        self.others.count(&plan.verdicts.each());
-    }
-
-    // Counts so many more cycles with this plan.
-    pub(crate) fn count_more(&mut self, plan: &Plan, cycles: u64)
-        requires { length plan.now.verdicts ≡ length self.old.counts }
-        ensures { self.new ≡ record self.old { counts = map_indexed (λ i counts. counted_times cycles (planned_verdict plan.now i) counts) self.old.counts } }
-    {
-        let more = cycles.min(u64::MAX - self.cycles);
-        self.cycles += more;
-        self.others.count_more(&plan.verdicts.each(), more);
-    }
-
-    // Counts so many more cycles in which every channel is empty.
-    pub(crate) fn count_empty(&mut self, cycles: u64)
-        ensures { self.new ≡ record self.old { counts = map (counted_times cycles Empty) self.old.counts } }
-    {
-        self.cycles = self.cycles.saturating_add(cycles);
-    }
-
-    // Records the plan's findings. Unoccupied channels are Empty.
-    pub(crate) fn show(&mut self, channels: &Channels, indices: &Indices, plan: &Plan)
-        requires { IsPlanOf channels.now (length self.old.counts) plan.now }
-        ensures { self.new ≡ record self.old { findings = tabulate (length self.old.counts) (finding_by plan.now indices.now.vcs channels.now.inputs.items) } }
-    {
-        self.begun = true;
-        self.findings.show(channels, indices, plan);
     }
 
     // How often each verdict was that of a channel, in the order of the verdicts.
@@ -103,21 +69,49 @@ impl Tally {
         requires { index < length self.now.counts }
         ensures { result ≡ slice_index_or self.now.counts index [] }
     {
-        let others = self.others.of(index);
-        let mut counts = [0; VERDICTS];
-        let mut empty = self.cycles;
-        for verdict_index in 0..OTHERS {
-            counts[verdict_index + 1] = others[verdict_index];
-            empty -= others[verdict_index];
-        }
-        counts[0] = empty;
-        counts
+        self.counts[index]
     }
 
-    // The findings that were shown last, by input channel: none before the first.
+    // What was found in the last cycle, by input channel: nothing before the first.
     pub(crate) fn findings(&self) -> &[Finding]
         ensures { result.now ≡ self.now.findings }
     {
-        if self.begun { self.findings.all() } else { &[] }
+        if self.cycles == 0 {
+            &[]
+        } else {
+            &self.findings
+        }
     }
+}
+
+// What is found of each channel with this plan.
+fn find_all(findings: &mut [Finding], channels: &Channels, vcs: usize, plan: &Plan)
+    requires some { 0 < vcs }
+    requires plan { IsPlanOf channels.now (length findings.old) plan.now }
+    ensures { findings.new ≡ tabulate (length findings.old) (finding_by plan.now vcs channels.now.inputs.items) }
+{
+    for index in 0..findings.len() {
+        findings[index] = channels.finding(plan, index, vcs);
+    }
+}
+
+// One more cycle of each channel, with its verdict.
+fn count_all(counts: &mut [[u64; VERDICTS]], plan: &Plan)
+    requires plan { length plan.now.verdicts ≡ length counts.old }
+    requires room { All (λ one. sum one < 2 ^ 64 - 1) counts.old }
+    ensures { counts.new ≡ map_indexed (λ i one. counts_after (planned_verdict plan.now i) one) counts.old }
+{
+    for index in 0..counts.len() {
+        counts[index] = raised(counts[index], plan.verdict(index));
+    }
+}
+
+// The counts of a channel after one more cycle with this verdict.
+fn raised(counts: [u64; VERDICTS], verdict: Verdict) -> [u64; VERDICTS]
+    requires { sum counts < 2 ^ 64 - 1 }
+    ensures { result ≡ counts_after verdict counts }
+{
+    let mut raised = counts;
+    raised[verdict as usize] += 1;
+    raised
 }

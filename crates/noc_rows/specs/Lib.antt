@@ -1,8 +1,9 @@
-pub mod Injected
-pub mod InRows
-pub mod Blank
-pub mod Opened
-pub mod Whole
-pub mod Readers
-pub mod Found
+pub mod Blocks
+pub mod Plans
+pub mod Passes
+pub mod Shows
 pub mod Steps
+pub mod Own
+pub mod Opened
+pub mod Sizes
+pub mod Rows

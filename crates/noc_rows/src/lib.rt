@@ -1,16 +1,27 @@
-//! The cycles of a network by rows: one word of channels of each router, for 32 routers at a time.
+//! The cycles of a network by blocks of 32 routers, in which a flit is a bit.
 //!
-//! The passes of a cycle over all blocks (`noc_row_blocks/specs/Stages.antt`), rows before the first cycle, a run, and
-//! the readers. Laws in `proofs/*Laws.antt` say what the passes show of a router's view. All passes together make a
-//! whole cycle: rows that show a network at a count of cycles show it at the next (`IsRows`, `specs/Whole.antt`).
+//! A network is opened (`open`), and one cycle of it (`network`) is a few passes over the blocks
+//! that are awake (`passes`). What these make together is a cycle of the network, or of some of its
+//! blocks where the others run elsewhere (`laws`). In the last cycle of a run it is noted what the
+//! routers find (`notes`). A run is cycle after cycle (`run`), and where nothing happens in one,
+//! time jumps (`waits`). Of a network it is read what was counted, what was found and what has
+//! arrived (`readers`). `Rows` is a network of words of either width.
 #![tactic(auto)]
 
-mod findings;
-mod latest;
-mod lists;
+mod laws;
+mod network;
+mod notes;
 mod open;
 mod passes;
+mod plan;
+mod readers;
 mod rows;
-mod still;
+mod run;
+mod waits;
 
+pub use laws::{
+    a_cycle_of_blocks_keeps_what_they_show, a_cycle_of_own_blocks_keeps_what_they_show,
+    all_blocks_show_the_network, own_blocks_may_step, own_blocks_send_what_the_network_does,
+    tiles_show_the_network_together,
+};
 pub use rows::Rows;

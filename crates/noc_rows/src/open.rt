@@ -1,183 +1,201 @@
-//! Rows before the first cycle.
+//! A network by blocks before its first cycle.
 
-ghost use Rattle.std.specs.Prelude.{◌≡◌, ◌≢◌, ◌+◌, ◌*◌, ◌/◌, ◌%◌, ◌<◌, ◌≤◌, ℕ, true, List, IfOk, bit_or, min, slice_index};
-ghost use Rattle.noc_packet.specs.Set.{has_bit};
-ghost use Rattle.noc_packet.specs.declared.packet.Packet.{Packet};
-ghost use Rattle.noc_topo.specs.Shape.{neighbour, nodes as nodes_of};
-ghost use Rattle.noc_row_words.specs.Column.{place_of};
-ghost use Rattle.noc_row_words.specs.Grants.{leads_by};
-ghost use Rattle.noc_rows.specs.Opened.{AreOpenBlocks, AreOpenWires, AreStartsOf, HasOpened, IsEmptyBlock, LeadsOut};
-ghost use Rattle.noc_row_words.specs.Opening.{AreEmptyMarks, empty_column};
-ghost use Rattle.noc_row_words.specs.Rows.{column_at, column_of, marks_at, planes_of};
+ghost use Rattle.std.specs.Prelude.{◌≡◌, ℕ, ◌+◌, ◌*◌, ◌^◌, ◌<◌, ◌≤◌, All, IfOk, length, slice_get};
+ghost use Rattle.noc_topo.specs.Shape.{nodes};
+ghost use Rattle.noc_route.specs.Routes.{width};
+ghost use Rattle.noc_blocks.specs.Begins.{starts_by};
+ghost use Rattle.noc_blocks.specs.Routers.{frame_by};
+ghost use Rattle.noc_blocks.specs.Routing.{headers_of};
+ghost use Rattle.noc_theory.specs.Good.{IsGoodSetup};
+ghost use Rattle.noc_theory.specs.Network.{Setup};
+ghost use Rattle.noc_theory_bits.specs.Starts.{starts_list};
+ghost use Rattle.noc_opening.specs.Near.{AreNear};
+ghost use Rattle.noc_turns.specs.States.{lane_of};
+ghost use Rattle.noc_rows.specs.Sizes.{BlocksFit, SidesFit, WorkFits};
+ghost use Rattle.noc_rows.specs.Opened.{AreAll, HasNoCounts, IsForeseen, IsMadeFrom, IsOpened, IsWired};
+ghost use Rattle.noc_rows.specs.Shows.{IsPlanOf, ShowsAt};
 
-use crate::lists::after_end;
-use noc_packet::Memory;
+use crate::network::Network;
+use crate::plan::Plan;
+use noc_blocks::{Frame, Header, NEVER, PLACES, Sides, Start};
+use noc_lanes::{LANES, Lanes, Word};
+use noc_opening::{
+    First, Starts, all_starts, empty_work, near_of, open_block, pattern_of, sides_of,
+};
+use noc_packet::{MAX_BUFFER, MAX_PACKETS, Memory, Packet};
 use noc_route::Relation;
-use noc_row_words::block::{Block, Sources, Work};
-use noc_row_words::column::{Lane, Lanes};
-use noc_row_words::cycle::{ArrivedRows, DecidedRows, ReturnedRows, StandingRows};
-use noc_row_words::frame::Frame;
-use noc_row_words::lanes::{CHANNELS, PORTS, ROUTERS};
-use noc_row_words::marks::{Marks, Tallies};
-use noc_row_words::numbers::Numbers;
-use noc_row_words::room::Room;
-use noc_row_words::starts::{NEVER, Start, start_at};
-use noc_row_words::wires::{Inbox, Tails, WORDS, Wires};
+use noc_tallies::Tallies;
+use noc_topo::Shape;
+use noc_turns::{Outlook, State, Work, outlook_of};
+use noc_view::Finding;
+use noc_wires::{BLOCKS, Left};
 use std::alloc::Global;
 
-// Routers in which nothing is, with all credits.
-fn new_block(frame: &Frame) -> Block
-    ensures columns { (k : ℕ) → k < 32 → column_at result.lanes k ≡ empty_column frame.now.link_set frame.now.local_set (planes_of frame.now.place_bits) }
-    ensures marks { (k : ℕ) → k < 32 → AreEmptyMarks (marks_at result.marks k) }
-    ensures blank { IsEmptyBlock result }
-{
-    Block {
-        lanes: Lanes::of(empty_lane(frame)),
-        returned: ReturnedRows::NONE,
-        arrived: ArrivedRows::NONE,
-        standing: StandingRows::NONE,
-        decided: DecidedRows::NONE,
-        selected: [0; ROUTERS],
-        last_event: [0; ROUTERS],
-        marks: Marks::NONE,
-        tallies: Tallies::NONE,
-        sources: Sources::NONE,
-        work: Work::NONE,
-        near: 0,
-        next_due: NEVER,
-        holds: false,
-        moves: false,
-        awake: false,
-    }
-}
-
-// The words of a router in which nothing is.
-fn empty_lane(frame: &Frame) -> Lane
-    ensures { column_of result ≡ empty_column frame.now.link_set frame.now.local_set (planes_of frame.now.place_bits) }
-{
-    Lane {
-        waiting: 0,
-        active: 0,
-        len: Numbers::NONE,
-        supplied: 0,
-        ahead: 0xffff_ffff,
-        wanted: 0,
-        idle: frame.link_set | frame.local_set,
-        draining: 0,
-        credit: frame.place_bits.among(frame.link_set),
-        injecting: 0,
-    }
-}
-
-// The routers of a relation, with the packets that start there.
-pub(crate) fn new_blocks(
+// Where the words stand that the links of so many blocks bring.
+fn all_sides<W: Word>(
     alloc: Global,
     relation: &Relation,
-    frame: &Frame,
-    starts: &[Start],
-) -> Result<Vec<Block>, Memory>
-    ensures { (packets : List Packet) → AreStartsOf relation.now frame.now packets starts.now → IfOk result (λ blocks. AreOpenBlocks relation.now frame.now packets blocks.items) }
-{
-    let count = frame.nodes.div_ceil(ROUTERS);
-    let mut blocks = vec![in alloc; new_block(frame); count]?;
-    let mut queue = 0u32;
-    for node in 0..frame.nodes {
-        if node / ROUTERS < blocks.len() {
-            let block = &mut blocks[node / ROUTERS];
-            open_router(relation, frame, starts, node, count, queue, block);
-        }
-        queue = after_end(starts, queue);
-    }
-    Ok(blocks)
-}
-
-// One router more of so many blocks, with the starts from a place on.
-fn open_router(
-    relation: &Relation,
-    frame: &Frame,
-    starts: &[Start],
-    node: usize,
     blocks: usize,
-    queue: u32,
-    block: &mut Block,
-)
-    ensures { HasOpened relation.now frame.now starts.now node (min blocks 8 * 1024) queue block.old block.new }
+) -> Result<Vec<Sides<Lanes<W>>>, Memory>
+    requires fits { width relation.now.grid relation.now.vcs < W.bits }
+    requires few { blocks ≤ BLOCKS }
+    ensures { IfOk result (λ all. AreAll
+        (IsWired W.value relation.now.grid relation.now.vcs) blocks all.items) }
 {
-    let spare = blocks.min(8) as u32 * 1024;
-    let lane = node % ROUTERS;
-    block.near |= lead_out(relation, node, spare, &mut block.marks.lead);
-    lead_back(frame, lane, &block.marks.lead, &mut block.marks.back);
-    let due = start_at(starts, queue).due;
-    block.sources.queue[lane] = queue;
-    block.sources.due[lane] = due;
-    block.next_due = block.next_due.min(due);
-}
-
-// The neighbours of a router. The answer has the blocks in which they are.
-fn lead_out(relation: &Relation, node: usize, spare: u32, lead: &mut [u32; PORTS]) -> u32
-    requires { spare ≤ 8192 }
-    ensures here { node < nodes_of relation.now.grid → (q : ℕ) → q < 8 → LeadsOut spare (slice_index lead.new (node % 32 * 8 + q)) (neighbour relation.now.grid node q) }
-    ensures others { (p : ℕ) → p / 8 ≢ node % 32 → slice_index lead.new p ≡ slice_index lead.old p }
-    ensures near { (q : ℕ) → q < 8 → has_bit result (slice_index lead.new (node % 32 * 8 + q) / 1024) ≡ true }
-{
-    let mut near = 0u32;
-    for port in 0..8usize {
-        let to = lead_of(relation, node, port, spare);
-        lead[node % ROUTERS * 8 + port] = to;
-        near |= 1u32 << (to / 1024 % 32);
+    let mut all = Vec::new(alloc);
+    for number in 0..blocks {
+        all.push(sides_of(relation, number * LANES))?;
     }
-    near
+    Ok(all)
 }
 
-// What a port of a router leads to. What has no neighbour leads to the spare block.
-fn lead_of(relation: &Relation, node: usize, port: usize, spare: u32) -> u32
-    requires { spare ≤ 8192 }
-    ensures within { result ≤ 8192 }
-    ensures lead { node < nodes_of relation.now.grid → LeadsOut spare result (neighbour relation.now.grid node port) }
+// The blocks to which the links of each lead.
+fn all_near(alloc: Global, shape: &Shape, blocks: usize) -> Result<Vec<u32>, Memory>
+    requires { blocks ≤ BLOCKS }
+    ensures { IfOk result (λ all. AreAll (λ b near. AreNear shape.now (b * LANES) near) blocks
+        all.items) }
 {
-    let shape = relation.shape();
-    if node < shape.nodes() && port < shape.ports() {
-        if let Some((to, _)) = shape.neighbour(node, port) {
-            return to as u32 * 32;
-        }
+    let mut all = Vec::new(alloc);
+    for number in 0..blocks {
+        all.push(near_of(shape, number * LANES))?;
     }
-    spare
+    Ok(all)
 }
 
-// The places of the output channels from which the input channels of a router get their flits.
-fn lead_back(frame: &Frame, lane: usize, lead: &[u32; PORTS], back: &mut [u32; CHANNELS])
-    requires { lane < 32 }
-    ensures here { (i : ℕ) → i < 32 → slice_index back.new (place_of lane i) ≡ bit_or (slice_index lead.now (lane * 8 + leads_by frame.now i)) (slice_index frame.now.other_end i % 32) }
-    ensures others { (p : ℕ) → p / 32 ≢ lane → slice_index back.new p ≡ slice_index back.old p }
-{
-    for channel in 0..32usize {
-        let port = usize::from(frame.port_of[channel] % 8);
-        let end = u32::from(frame.other_end[channel] % 32);
-        back[lane * 32 + channel] = lead[lane * 8 + port] | end;
-    }
-}
-
-// What the routers of so many blocks share: no flit, no beat, no arrival of so many packets.
-pub(crate) fn new_wires(
+// What the routers of each keep.
+#[inline(never)]
+fn open_states<W: Word>(
     alloc: Global,
+    frame: &Frame<W>,
+    firsts: &[First],
     blocks: usize,
+) -> Result<Vec<State<W>>, Memory>
+    requires few { blocks ≤ BLOCKS }
+    ensures { IfOk result (λ all. AreAll
+        (IsOpened W.value W.bits (frame_by W.value frame.now) firsts.now) blocks all.items) }
+{
+    let mut all = Vec::new(alloc);
+    for number in 0..blocks {
+        all.push(open_block(frame, firsts, number * LANES))?;
+    }
+    Ok(all)
+}
+
+// What they work out: nothing.
+#[inline(never)]
+fn empty_works<W: Word>(alloc: Global, blocks: usize) -> Result<Vec<Work<W>>, Memory>
+    ensures { IfOk result (λ all. length all.items ≡ blocks) }
+{
+    let mut all = Vec::new(alloc);
+    for _ in 0..blocks {
+        all.push(empty_work())?;
+    }
+    Ok(all)
+}
+
+// What is counted of each: nothing.
+#[inline(never)]
+fn no_tallies<W: Word>(alloc: Global, blocks: usize) -> Result<Vec<Tallies<W>>, Memory>
+    ensures { IfOk result (λ all. AreAll (λ b one. HasNoCounts W.value one) blocks all.items) }
+{
+    let mut all = Vec::new(alloc);
+    for _ in 0..blocks {
+        all.push(Tallies::none())?;
+    }
+    Ok(all)
+}
+
+// What is known of each.
+#[inline(never)]
+fn first_outlooks<W: Word>(alloc: Global, states: &[State<W>]) -> Result<Vec<Outlook>, Memory>
+    requires memory { WorkFits W.row }
+    requires due { (b k : ℕ) (one : State W) → slice_get states.now b ≡ Some one → k < LANES
+        → (lane_of W.value one k).words.due < 2 ^ 32 }
+    ensures { IfOk result (λ all. AreAll (λ b one. IsForeseen W.value (slice_get states.now b) one)
+        (length states.now) all.items) }
+{
+    let work = empty_work();
+    let mut all = Vec::new(alloc);
+    for number in 0..states.len() {
+        all.push(outlook_of(&states[number], &work))?;
+    }
+    Ok(all)
+}
+
+// The headers of packets.
+fn all_headers(alloc: Global, packets: &[Packet]) -> Result<Vec<Header>, Memory>
+    ensures { IfOk result (λ all. all.items ≡ headers_of packets.now) }
+{
+    let mut all = Vec::new(alloc);
+    for packet in packets {
+        all.push(Header::of(packet))?;
+    }
+    Ok(all)
+}
+
+// What stays as it is, in so many blocks, where these packets start.
+fn plan_of<W: Word>(
+    alloc: Global,
+    relation: &Relation,
     places: usize,
-    packets: usize,
-) -> Result<Wires, Memory>
-    ensures { IfOk result (λ wires. AreOpenWires blocks places packets wires) }
+    packets: &[Packet],
+    starts: Vec<Start>,
+) -> Result<Plan<W>, Memory>
+    requires memory { SidesFit W.row }
+    requires fits { width relation.now.grid relation.now.vcs < W.bits }
+    requires places { places ≤ MAX_BUFFER }
+    requires starts { starts_by starts.items
+        ≡ starts_list packets.now (nodes relation.now.grid) }
+    requires short { length starts.items < 2 ^ 32 }
+    ensures { IfOk result (λ plan. (net : Setup)
+        → IsMadeFrom relation.now places packets.now net → IsPlanOf W.value W.bits net plan) }
 {
-    let blocks = blocks.min(8) + 1;
-    let none = Inbox {
-        flits: [0; ROUTERS],
-        credits: [0; ROUTERS],
-        next: [0; CHANNELS],
-        words: [0; WORDS],
-    };
-    Ok(Wires {
-        inboxes: vec![in alloc; none; blocks]?,
-        busy: vec![in alloc; false; blocks]?,
-        room: Room::of(places),
-        arrivals: vec![in alloc; NEVER; packets.min(20_000) + 1]?,
-        tails: Tails::NONE,
+    let blocks = relation.shape().nodes().div_ceil(LANES);
+    let sides = all_sides(alloc, relation, blocks)?;
+    let near = all_near(alloc, relation.shape(), blocks)?;
+    let headers = all_headers(alloc, packets)?;
+    Ok(Plan {
+        pattern: pattern_of(relation, places),
+        sides,
+        near,
+        starts,
+        headers,
+    })
+}
+
+// The network of a relation, so many flits in each buffer and these packets.
+pub(crate) fn open_network<W: Word>(
+    alloc: Global,
+    relation: &Relation,
+    places: usize,
+    packets: &[Packet],
+) -> Result<Network<W>, Memory>
+    requires memory { BlocksFit W.row }
+    requires fits { width relation.now.grid relation.now.vcs < W.bits }
+    requires places { places ≤ MAX_BUFFER }
+    requires few { length packets.now ≤ MAX_PACKETS }
+    requires flits { All (λ p. 0 < p.length) packets.now }
+    ensures { IfOk result (λ made. (net : Setup)
+        → IsMadeFrom relation.now places packets.now net → IsGoodSetup net
+        → ShowsAt W.value W.bits net 0 made) }
+{
+    let Starts { list, firsts } = all_starts(alloc, relation.shape().nodes(), packets)?;
+    let plan = plan_of(alloc, relation, places, packets, list)?;
+    let blocks = plan.sides.len();
+    let states = open_states(alloc, &plan.pattern.frame, &firsts, blocks)?;
+    let works = empty_works(alloc, blocks)?;
+    let tallies = no_tallies(alloc, blocks)?;
+    let outlooks = first_outlooks(alloc, &states)?;
+    Ok(Network {
+        plan,
+        states,
+        works,
+        tallies,
+        outlooks,
+        left: Left::none(),
+        arrivals: vec![in alloc; NEVER; packets.len()]?,
+        last: 0,
+        cycle: 0,
+        found: vec![in alloc; Finding::EMPTY; relation.shape().nodes() * PLACES]?,
     })
 }

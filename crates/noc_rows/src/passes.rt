@@ -1,154 +1,246 @@
-//! The passes of a cycle over all blocks: each is done in the blocks that are awake.
+//! The passes of a cycle over the blocks that are awake.
 
-ghost use Rattle.std.specs.Prelude.{◌≡◌, ℕ, ◌^◌, ◌<◌, length, slice_get, slice_index, true, Some};
+ghost use Rattle.std.specs.Prelude.{◌≡◌, ℕ, ◌+◌, ◌-◌, ◌*◌, ◌/◌, ◌%◌, ◌^◌, ◌<◌, ◌≤◌, true, false, ◌&&◌, List, Some, length, bit_and, slice_get, slice_index};
 ghost use Rattle.noc_packet.specs.Set.{has_bit};
-ghost use Rattle.noc_row_blocks.specs.Decided.{HasDecided};
-ghost use Rattle.noc_row_words.specs.Rows.{word};
-ghost use Rattle.noc_row_blocks.specs.Stages.{AreWoken, HaveConcluded, HaveDecided, HaveFrozen, next_of, woken};
-ghost use Rattle.noc_row_words.specs.Wires.{inbox_at, room_of};
+ghost use Rattle.noc_route.specs.Routes.{width};
+ghost use Rattle.noc_sets.specs.Unions.{some_below};
+ghost use Rattle.noc_blocks.specs.Begins.{starts_by};
+ghost use Rattle.noc_blocks.specs.Routing.{AreRoutable};
+ghost use Rattle.noc_blocks.specs.declared.links.Sides.{Sides as Wiring};
+ghost use Rattle.noc_turns.specs.Held.{IsAmong, IsPending, MayConclude, MayDecide, MayTake};
+ghost use Rattle.noc_wires.specs.Left.{leaving_of, left_of};
+ghost use Rattle.noc_rows.specs.Blocks.{happened_or, lane_in, pending_or, tails_or, working_in};
+ghost use Rattle.noc_rows.specs.Plans.{IsSound};
+ghost use Rattle.noc_rows.specs.Passes.{HasArrived, HasConcluded, HasCounted, HasDecidedIn, HasGathered, HaveArrivedIn, IsOutlook};
 
+use crate::plan::Plan;
+use noc_lanes::{LANES, Word};
 use noc_route::Relation;
-use noc_row_blocks::moves::move_block;
-use noc_row_blocks::steps::{arrive_one, conclude_one, grant_and_route, stand_one};
-use noc_row_words::block::Block;
-use noc_row_words::frame::Frame;
-use noc_row_words::lanes::know_words;
-use noc_row_words::room::Room;
-use noc_row_words::sheet::Sheet;
-use noc_row_words::starts::{NEVER, Start};
-use noc_row_words::wires::{Inbox, Wires};
+use noc_tallies::{CYCLES, Doings, Tallies};
+use noc_turns::{
+    Outlook, State, Traffic, Work, arrive_block, conclude_block, decide_block, outlook_of,
+};
+use noc_wires::{BLOCKS, Left};
 
-// The blocks in which something is to happen are awake. The answer is when the next one is to be.
-pub(crate) fn wake_all(cycle: u32, busy: &[bool], blocks: &mut [Block]) -> u32
-    ensures { AreWoken cycle result busy.now blocks.old blocks.new }
+// What the links bring is gathered.
+pub(crate) fn gather_all<W: Word>(plan: &Plan<W>, awake: u32, left: &Left<W>, works: &mut [Work<W>])
+    requires plan { IsSound W.value W.bits plan.now }
+    requires few { length works.old ≤ BLOCKS }
+    requires sides { length plan.now.sides.items ≡ length works.old }
+    ensures gathered { (b : ℕ) (one : Wiring (List W)) → slice_get plan.now.sides.items b ≡ Some one
+        → has_bit awake b ≡ true
+        → HasGathered W.value plan.now.pattern (left_of W.value left.now) (b * LANES) one
+        (slice_get works.new b) }
+    ensures kept { (b : ℕ) → has_bit awake b ≡ false
+        → slice_get works.new b ≡ slice_get works.old b }
 {
-    let mut next = NEVER;
-    for number in 0..blocks.len() {
-        let busy_now = number < busy.len() && busy[number];
-        let block = &mut blocks[number];
-        next = next.min(wake_one(cycle, busy_now, block));
-    }
-    next
-}
-
-// A block is awake or asleep in this cycle. The answer is when something is to happen in it.
-fn wake_one(cycle: u32, busy: bool, block: &mut Block) -> u32
-    ensures block { block.new ≡ woken cycle busy block.old }
-    ensures next { result ≡ next_of cycle busy block.old }
-    ensures bytes { (p : ℕ) → slice_index block.new.marks.first p < 256 }
-{
-    know_bytes(&block.marks.first);
-    let now = block.holds || busy;
-    block.awake = now || block.next_due <= cycle;
-    if now { cycle } else { block.next_due }
-}
-
-// Bytes are below 256.
-fn know_bytes(places: &[u8])
-    ensures { (p : ℕ) → slice_index places.now p < 256 }
-{}
-
-// Beats are taken, flits are injected, and it is known where channels stand.
-pub(crate) fn arrive_all(
-    frame: &Frame,
-    cycle: u32,
-    starts: &[Start],
-    room: Room,
-    inboxes: &mut [Inbox],
-    blocks: &mut [Block],
-)
-    ensures { HaveFrozen frame.now cycle (room_of room) starts.now blocks.old blocks.new inboxes.old inboxes.new }
-{
-    for number in 0..blocks.len() {
-        if number < inboxes.len() && blocks[number].awake {
-            let block = &mut blocks[number];
-            arrive_one(frame, cycle, starts, room, &mut inboxes[number], block);
-            stand_one(frame, block);
+    let sides = plan.sides.as_slice();
+    for number in 0..works.len() {
+        if !awake.has(number) {
+            continue;
         }
+        let frame = &plan.pattern.frame;
+        left.gather(frame, &sides[number], &mut works[number].links);
     }
 }
 
-// One block after the other decides: channels are granted, heads are routed, and flits move.
-pub(crate) fn decide_all(
+// What the links bring arrives, and sources inject.
+pub(crate) fn arrive_all<W: Word>(
+    plan: &Plan<W>,
+    cycle: u32,
+    awake: u32,
+    states: &mut [State<W>],
+    works: &mut [Work<W>],
+)
+    requires plan { IsSound W.value W.bits plan.now }
+    requires few { length states.old ≤ BLOCKS }
+    requires works { length works.old ≡ length states.old }
+    requires lanes { (b k : ℕ) → has_bit awake b ≡ true → k < LANES
+        → MayTake W.bits (starts_by plan.now.starts.items) cycle
+        (working_in W.value works.old b k).links (lane_in W.value states.old b k) }
+    ensures arrived { (b : ℕ) → b < length states.old → has_bit awake b ≡ true
+        → HasArrived W.value plan.now.pattern (starts_by plan.now.starts.items) cycle
+        (slice_get states.old b) (slice_get states.new b) (slice_get works.old b)
+        (slice_get works.new b) }
+    ensures kept { (b : ℕ) → has_bit awake b ≡ false
+        → slice_get states.new b ≡ slice_get states.old b }
+{
+    for number in 0..states.len() {
+        if !awake.has(number) {
+            continue;
+        }
+        let state = &mut states[number];
+        arrive_block(
+            &plan.pattern,
+            cycle,
+            &plan.starts,
+            state,
+            &mut works[number],
+        );
+    }
+}
+
+// It is decided what each channel does, by the relation that the plan was made for.
+pub(crate) fn decide_all<W: Word>(
+    plan: &Plan<W>,
     relation: &Relation,
-    frame: &Frame,
-    cycle: u32,
-    blocks: &mut [Block],
-    wires: &mut Wires,
+    awake: u32,
+    states: &mut [State<W>],
+    works: &mut [Work<W>],
 )
-    ensures decided { HaveDecided (HasDecided relation.now frame.now cycle) blocks.old blocks.new wires.old wires.new }
-    ensures fits { (b k : ℕ) → (word (inbox_at wires.new.inboxes.items b).flits k < 2 ^ 32) × (word (inbox_at wires.new.inboxes.items b).credits k < 2 ^ 32) }
+    requires plan { IsSound W.value W.bits plan.now }
+    requires few { length states.old ≤ BLOCKS }
+    requires works { length works.old ≡ length states.old }
+    requires fits { width relation.now.grid relation.now.vcs ≤ W.bits }
+    requires headers { AreRoutable relation.now plan.now.headers.items }
+    requires pending { (b k : ℕ) → has_bit awake b ≡ true → k < LANES
+        → IsPending (pending_or (slice_get works.old b)) k (lane_in W.value states.old b k)
+        (working_in W.value works.old b k) }
+    requires lanes { (b k : ℕ) → has_bit awake b ≡ true → k < LANES
+        → MayDecide relation.now plan.now.pattern.numbering plan.now.headers.items (b * LANES + k)
+        (lane_in W.value states.old b k) (working_in W.value works.old b k) }
+    ensures decided { (b : ℕ) → b < length states.old → has_bit awake b ≡ true
+        → HasDecidedIn W.value W.bits relation.now plan.now.pattern plan.now.headers.items
+        (b * LANES) (slice_get states.old b) (slice_get states.new b) (slice_get works.old b)
+        (slice_get works.new b) }
+    ensures kept { (b : ℕ) → has_bit awake b ≡ false
+        → slice_get states.new b ≡ slice_get states.old b }
 {
-    for number in 0..blocks.len() {
-        if blocks[number].awake {
-            let block = &mut blocks[number];
-            decide_one(relation, frame, cycle, number, block, wires);
+    for number in 0..states.len() {
+        if !awake.has(number) {
+            continue;
         }
-    }
-    know_inboxes(&wires.inboxes);
-}
-
-// The words of in-boxes are below 2 ^ 32.
-fn know_inboxes(inboxes: &[Inbox])
-    ensures { (b k : ℕ) → (word (inbox_at inboxes.now b).flits k < 2 ^ 32) × (word (inbox_at inboxes.now b).credits k < 2 ^ 32) }
-{
-    for number in 0..inboxes.len() {
-        let inbox = &inboxes[number];
-        know_words(&inbox.flits);
-        know_words(&inbox.credits);
+        let traffic = Traffic {
+            relation,
+            headers: &plan.headers,
+        };
+        let first = (number * LANES) as u32;
+        let state = &mut states[number];
+        decide_block(&plan.pattern, &traffic, first, state, &mut works[number]);
     }
 }
 
-// One block decides: channels are granted, heads are routed, and flits move.
-fn decide_one(
-    relation: &Relation,
-    frame: &Frame,
-    cycle: u32,
-    number: usize,
-    block: &mut Block,
-    wires: &mut Wires,
+// What has been decided is counted, before it takes effect.
+pub(crate) fn count_all<W: Word>(
+    awake: u32,
+    states: &[State<W>],
+    works: &[Work<W>],
+    tallies: &mut [Tallies<W>],
 )
-    ensures { HasDecided relation.now frame.now cycle number block.old block.new wires.old wires.new }
+    requires few { length states.now ≤ BLOCKS }
+    requires works { length works.now ≡ length states.now }
+    requires tallies { length tallies.old ≡ length states.now }
+    ensures counted { (b n : ℕ) → b < length states.now → has_bit awake b ≡ true → n < CYCLES
+        → HasCounted W.value n (slice_get states.now b) (slice_get works.now b)
+        (slice_get tallies.old b) (slice_get tallies.new b) }
+    ensures kept { (b : ℕ) → has_bit awake b ≡ false
+        → slice_get tallies.new b ≡ slice_get tallies.old b }
 {
-    grant_and_route(relation, frame, number, block, wires);
-    move_block(frame, cycle, number, block, wires);
-    know_words(&block.decided.released);
-    know_words(&block.decided.freed);
-    know_bytes(&block.marks.first);
-}
-
-// What has happened is counted, and takes effect. The answer has the blocks to which something may be on its way.
-pub(crate) fn conclude_all(
-    frame: &Frame,
-    cycle: u32,
-    blocks: &mut [Block],
-    sheets: &mut [Sheet],
-) -> u32
-    ensures { HaveConcluded frame.now cycle result blocks.old blocks.new sheets.old sheets.new }
-{
-    let mut near = 0u32;
-    for number in 0..blocks.len() {
-        if number < sheets.len() && blocks[number].awake {
-            let block = &mut blocks[number];
-            conclude_one(frame, cycle, block, &mut sheets[number]);
-            near |= near_to(block);
+    for number in 0..states.len() {
+        if !awake.has(number) {
+            continue;
         }
+        let inputs = &states[number].inputs;
+        let work = &works[number];
+        let doings = Doings {
+            waiting: &inputs.waiting,
+            active: &inputs.active,
+            filled: &work.arrived.filled,
+            standing: &work.standing,
+            moved: &work.moves.moved,
+            decided: &work.decided,
+        };
+        tallies[number].count(&doings);
     }
-    near
 }
 
-// The blocks to which something of a block may be on its way.
-fn near_to(block: &Block) -> u32
-    ensures { block.now.moves ≡ true → result ≡ block.now.near }
+// What was decided takes effect, and packets arrive.
+pub(crate) fn conclude_all<W: Word>(
+    plan: &Plan<W>,
+    cycle: u32,
+    awake: u32,
+    states: &mut [State<W>],
+    works: &mut [Work<W>],
+    arrivals: &mut [u32],
+)
+    requires plan { IsSound W.value W.bits plan.now }
+    requires few { length states.old ≤ BLOCKS }
+    requires works { length works.old ≡ length states.old }
+    requires tails { (b k : ℕ) → has_bit awake b ≡ true → k < LANES
+        → IsAmong (tails_or (slice_get works.old b)) k
+        (working_in W.value works.old b k).decided.released }
+    requires lanes { (b k : ℕ) → has_bit awake b ≡ true → k < LANES
+        → MayConclude (length arrivals.old) (lane_in W.value states.old b k)
+        (working_in W.value works.old b k) }
+    ensures concluded { (b : ℕ) → b < length states.old → has_bit awake b ≡ true
+        → HasConcluded W.value plan.now.pattern (slice_get states.old b) (slice_get states.new b)
+        (slice_get works.old b) (slice_get works.new b) }
+    ensures arrivals { HaveArrivedIn cycle awake (length states.old)
+        (λ b k. bit_and (working_in W.value works.old b k).decided.released
+        ((lane_in W.value states.old b k).marks.to_port (plan.now.pattern.frame.ports - 1)))
+        (λ b k. (lane_in W.value states.old b k).marks.packet) (slice_index arrivals.old)
+        (slice_index arrivals.new) }
+    ensures kept { (b : ℕ) → has_bit awake b ≡ false
+        → slice_get states.new b ≡ slice_get states.old b }
 {
-    if block.moves { block.near } else { 0 }
+    for number in 0..states.len() {
+        if !awake.has(number) {
+            continue;
+        }
+        let state = &mut states[number];
+        conclude_block(&plan.pattern, cycle, state, &mut works[number], arrivals);
+    }
 }
 
-// Of the first 32 blocks, those to which something may be on its way are busy.
-pub(crate) fn note_busy(near: u32, busy: &mut [bool])
-    ensures { (b : ℕ) → b < length busy.old → b < 32 → slice_get busy.new b ≡ Some (has_bit near b) }
+// What has left is put into the rows of what left.
+pub(crate) fn put_all<W: Word>(awake: u32, works: &[Work<W>], left: &mut Left<W>)
+    requires few { length works.now ≤ BLOCKS }
+    ensures here { (s : ℕ) → s / LANES < length works.now → has_bit awake (s / LANES) ≡ true
+        → left_of W.value left.new s
+        ≡ leaving_of (working_in W.value works.now (s / LANES) (s % LANES)) }
+    ensures kept { (s : ℕ) → has_bit awake (s / LANES) ≡ false
+        → left_of W.value left.new s ≡ left_of W.value left.old s }
 {
-    for number in 0..busy.len().min(32) {
-        busy[number] = near >> number as u32 & 1 == 1;
+    for number in 0..works.len() {
+        if !awake.has(number) {
+            continue;
+        }
+        left.put(number, &works[number]);
     }
+}
+
+// It is noted what is known of each block after the cycle. The answer is whether anything has
+// happened in one.
+pub(crate) fn look_all<W: Word>(
+    awake: u32,
+    states: &[State<W>],
+    works: &[Work<W>],
+    outlooks: &mut [Outlook],
+) -> bool
+    requires few { length states.now ≤ BLOCKS }
+    requires works { length works.now ≡ length states.now }
+    requires outlooks { length outlooks.old ≡ length states.now }
+    requires heading { (b k : ℕ) → has_bit awake b ≡ true → k < LANES
+        → IsAmong (pending_or (slice_get works.now b)).heading k
+        (working_in W.value works.now b k).standing.heads }
+    requires due { (b k : ℕ) → has_bit awake b ≡ true → k < LANES
+        → (lane_in W.value states.now b k).words.due < 2 ^ 32 }
+    ensures outlooks { (b : ℕ) (outlook : Outlook) → has_bit awake b ≡ true
+        → slice_get outlooks.new b ≡ Some outlook
+        → IsOutlook W.value (slice_get states.now b) (slice_get works.now b) outlook }
+    ensures kept { (b : ℕ) → has_bit awake b ≡ false
+        → slice_get outlooks.new b ≡ slice_get outlooks.old b }
+    ensures happened { result ≡ some_below (length states.now)
+        (λ b. has_bit awake b && happened_or (slice_get outlooks.new b)) }
+{
+    let mut happened = false;
+    for number in 0..states.len() {
+        if !awake.has(number) {
+            continue;
+        }
+        let outlook = outlook_of(&states[number], &works[number]);
+        happened |= outlook.happened;
+        outlooks[number] = outlook;
+    }
+    happened
 }

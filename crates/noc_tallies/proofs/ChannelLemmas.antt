@@ -1,10 +1,10 @@
 -- What is kept of a channel goes on to show its counts.
-use Rattle.std.proofs.Common.{◌≡◌, ℕ, ◌+◌, ◌*◌, ◌<◌, ◌≤◌, Bool, true, false, sum, refl, ap, ap₂, sym, ◌∙◌, arith, bit_and, bit_or}
+use Rattle.std.proofs.Common.{◌≡◌, ℕ, ◌+◌, ◌*◌, ◌≤◌, Bool, true, false, sum, refl, ap, ap₂, subst, sym, ◌∙◌, arith, bit_and, bit_or}
 use Rattle.std.specs.Prelude.{◌&&◌, ◌||◌, not}
 use Rattle.std.proofs.lemmas.Bool.{and_parts, false≢true, true≢false}
 use Rattle.noc_topo.specs.Lists.{one_if}
 use Rattle.noc_packet.specs.Set.{has_bit}
-use Rattle.noc_packet.proofs.SetLemmas.{both_members, either_members}
+use Rattle.noc_packet.proofs.SetLemmas.{either_members}
 use Rattle.noc_sets.specs.Column.{Column}
 use Rattle.noc_sets.specs.Counts.{ByVerdict, RunOn, nine_counts, no_counts, with_verdicts}
 use Rattle.noc_sets.specs.Passes.{lane_ready}
@@ -16,35 +16,12 @@ use Rattle.noc_tallies.specs.Channels.{ShowsChannel}
 use Rattle.noc_tallies.specs.Doings.{CanDo, Doing, owns_after, verdicts_of, waits_after}
 use Rattle.noc_tallies.specs.Sheets.{AreVerdictsOf, alike, one_more}
 use Rattle.noc_tallies.specs.Tallies.{HasOnlyWaited}
-use Rattle.noc_tallies.specs.Times.{minus_if, no_times, plus_if, times_after, times_waited}
+use Rattle.noc_tallies.specs.Times.{no_times, plus_if, times_waited}
 use Rattle.noc_tallies.specs.declared.tallies.TheConstants.{CYCLES}
 use Rattle.noc_tallies.specs.declared.times.ChannelTimes.{ChannelTimes}
+use Rattle.noc_tallies.proofs.TimesLemmas.{same-waited}
 
 -- ---- a cycle
--- of a channel that waits or not, the time in which it waits: granted, it waits no more, and where
--- its head is routed it waits from the next cycle on
-waiting-next : (n spent time : ℕ) (waits granted routed : Bool) → n < CYCLES → spent ≤ n → (granted ≡ true → waits ≡ true) → (routed ≡ true → waits ≡ false)
-    → spent ≡ plus_if waits time n
-    → spent + one_if waits ≡ plus_if ((waits && not granted) || routed) (plus_if granted (minus_if routed time (n + 1)) (n + 1)) (n + 1)
-waiting-next n spent time true true true few within given headed is = absurd (true≢false (headed refl))
-waiting-next n spent time true false true few within given headed is = absurd (true≢false (headed refl))
-waiting-next n spent time true true false few within given headed is = omega (arith, is)
-waiting-next n spent time true false false few within given headed is = omega (arith, is)
-waiting-next n spent time false true routed few within given headed is = absurd (false≢true (given refl))
-waiting-next n spent time false false true few within given headed is = omega (arith, is)
-waiting-next n spent time false false false few within given headed is = omega (arith, is)
-
--- .. the time in which it owns an output channel
-active-next : (n spent time : ℕ) (owns granted released : Bool) → n < CYCLES → spent ≤ n → (granted ≡ true → owns ≡ false) → (released ≡ true → owns ≡ true)
-    → spent ≡ plus_if owns time n
-    → spent + one_if owns ≡ plus_if ((owns || granted) && not released) (plus_if released (minus_if granted time (n + 1)) (n + 1)) (n + 1)
-active-next n spent time true true released few within given left is = absurd (true≢false (given refl))
-active-next n spent time true false true few within given left is = omega (arith, is)
-active-next n spent time true false false few within given left is = omega (arith, is)
-active-next n spent time false granted true few within given left is = absurd (false≢true (left refl))
-active-next n spent time false true false few within given left is = omega (arith, is)
-active-next n spent time false false false few within given left is = omega (arith, is)
-
 -- how many of its packets were routed and not granted
 granted-next : (waits granted routed : Bool) → (granted ≡ true → waits ≡ true) → (routed ≡ true → waits ≡ false)
     → one_if granted + one_if ((waits && not granted) || routed) ≡ one_if waits + one_if routed
@@ -78,14 +55,6 @@ one-verdict false true false one headed = omega arith
 one-verdict false false true one headed = omega arith
 one-verdict false false false one headed = omega arith
 
-routed-next : (n x y : ℕ) (routed : Bool) → n < CYCLES → x ≤ n → x ≡ y → x + one_if routed ≡ plus_if routed y 1
-routed-next n x y true few within is = omega (arith, is)
-routed-next n x y false few within is = omega (arith, is)
-
-neither : (a b : Bool) → (a && b) ≡ false → a ≡ true → b ≡ false
-neither true b e f = e
-neither false b e f = absurd (false≢true f)
-
 -- ---- of a router that does this
 module _ (x : Doing) (c : Column) (can : CanDo c x) (i : ℕ) where
   headed : has_bit x.standing.heads i ≡ true → (has_bit c.waiting i ≡ false) × (has_bit c.active i ≡ false)
@@ -99,14 +68,6 @@ module _ (x : Doing) (c : Column) (can : CanDo c x) (i : ℕ) where
 
   among : (k : ℕ) → has_bit x.standing.picked k ≡ true → has_bit (lane_ready x.filled c) k ≡ true
   among k e = ap (λ n. has_bit n k) (sym can.ready) ∙ can.picked k e
-
-  ready-owns : has_bit x.standing.ready i ≡ true → has_bit c.active i ≡ true
-  ready-owns e =
-      let two = and_parts (has_bit (bit_and c.active x.filled) i) (has_bit c.supplied i) (sym (both_members (bit_and c.active x.filled) c.supplied i) ∙ ap (λ n. has_bit n i) (sym can.ready) ∙ e) in
-      (and_parts (has_bit c.active i) (has_bit x.filled i) (sym (both_members c.active x.filled i) ∙ two.0)).0
-
-  left : has_bit x.decided.released i ≡ true → has_bit c.active i ≡ true
-  left e = ready-owns (can.picked i (can.moved i (can.released i e)))
 
   waits-is : waits_after c x i ≡ ((has_bit c.waiting i && not (has_bit x.decided.granted i)) || has_bit x.standing.heads i)
   waits-is = either_members (less c.waiting x.decided.granted) x.standing.heads i ∙ ap (λ b. b || has_bit x.standing.heads i) (less_members c.waiting x.decided.granted i)
@@ -125,38 +86,35 @@ module _ (x : Doing) (c : Column) (can : CanDo c x) (i : ℕ) where
       ≡ counts.no_flit + counts.no_credit + counts.lost_input + counts.lost_switch + counts.moved + one_if (has_bit c.active i)
   active-rises counts = active-counted x.filled x.standing.picked x.standing.heads x.decided.granted x.decided.lost x.moved c i counts among (can.moved i)
 
-  module _ (words v : Verdicts ℕ) (are : AreVerdictsOf x words) (t : ChannelTimes) (n : ℕ) (few : n < CYCLES) (counts : ByVerdict)
-      (shows : ShowsChannel v t n (has_bit c.waiting i) (has_bit c.active i) counts) where
-    bound : sum (nine_counts counts) ≤ n
-    bound = shows.few
+  pub one-after : (has_bit c.waiting i && has_bit c.active i) ≡ false → (waits_after c x i && owns_after c x i) ≡ false
+  one-after one =
+      ap₂ (λ a b. a && b) waits-is owns-is
+      ∙ apart-next (has_bit c.waiting i) (has_bit c.active i) (has_bit x.decided.granted i) (has_bit x.standing.heads i) (has_bit x.decided.released i) one (can.granted i) headed
 
-    owned-none : has_bit x.decided.granted i ≡ true → has_bit c.active i ≡ false
-    owned-none e = neither (has_bit c.waiting i) (has_bit c.active i) shows.one (can.granted i e)
-
+  module _ (words v : Verdicts ℕ) (are : AreVerdictsOf x words) (t : ChannelTimes) (n : ℕ) (counts : ByVerdict) (one : (has_bit c.waiting i && has_bit c.active i) ≡ false)
+      (shows : ShowsChannel v t n (has_bit c.waiting i) counts) where
     same-bit : (a b : ℕ) → a ≡ b → one_if (has_bit a i) ≡ one_if (has_bit b i)
     same-bit a b e = ap (λ n. one_if (has_bit n i)) e
 
-    pub channel-counted : ShowsChannel (one_more words i v) (times_after (n + 1) (has_bit x.standing.heads i) (has_bit x.decided.granted i) (has_bit x.decided.released i) t) (n + 1)
-        (waits_after c x i) (owns_after c x i) (with_verdicts V i counts)
+    pub channel-counted : ShowsChannel (one_more words i v) t (n + 1) (waits_after c x i) (with_verdicts V i counts)
     channel-counted = record {
-      one = ap₂ (λ a b. a && b) waits-is owns-is
-          ∙ apart-next (has_bit c.waiting i) (has_bit c.active i) (has_bit x.decided.granted i) (has_bit x.standing.heads i) (has_bit x.decided.released i) shows.one (can.granted i) headed;
       few =
-          let one = one-verdict (has_bit c.waiting i) (has_bit c.active i) (has_bit x.standing.heads i) shows.one headed in
+          let bound : sum (nine_counts counts) ≤ n = shows.few in
+          let most = one-verdict (has_bit c.waiting i) (has_bit c.active i) (has_bit x.standing.heads i) one headed in
           let w = waiting-rises counts in
           let a = active-rises counts in
-          omega (arith, one, w, a, bound);
-      routed = routed-next n counts.routed t.routed (has_bit x.standing.heads i) few (omega (arith, bound)) shows.routed;
+          omega (arith, most, w, a, bound);
+      routed = ap₂ (λ a b. a + b) shows.routed (same-bit _ _ (sym are.routed));
       granted =
           let g = granted-next (has_bit c.waiting i) (has_bit x.decided.granted i) (has_bit x.standing.heads i) (can.granted i) (λ e. (headed e).0) in
           let w : one_if (waits_after c x i) ≡ one_if ((has_bit c.waiting i && not (has_bit x.decided.granted i)) || has_bit x.standing.heads i) = ap one_if waits-is in
           omega (arith, g, w, shows.granted);
-      waiting = waiting-rises counts
-          ∙ waiting-next n (counts.no_idle_channel + counts.lost_channel + counts.granted) t.waiting (has_bit c.waiting i) (has_bit x.decided.granted i) (has_bit x.standing.heads i) few (omega (arith, bound)) (can.granted i) (λ e. (headed e).0) shows.waiting
-          ∙ ap (λ b. plus_if b (plus_if (has_bit x.decided.granted i) (minus_if (has_bit x.standing.heads i) t.waiting (n + 1)) (n + 1)) (n + 1)) (sym waits-is);
-      active = active-rises counts
-          ∙ active-next n (counts.no_flit + counts.no_credit + counts.lost_input + counts.lost_switch + counts.moved) t.active (has_bit c.active i) (has_bit x.decided.granted i) (has_bit x.decided.released i) few (omega (arith, bound)) owned-none left shows.active
-          ∙ ap (λ b. plus_if b (plus_if (has_bit x.decided.released i) (minus_if (has_bit x.decided.granted i) t.active (n + 1)) (n + 1)) (n + 1)) (sym owns-is);
+      waiting =
+          let e = same-bit _ _ (are.waiting ∙ can.waiting) in
+          omega (arith, e, waiting-rises counts, shows.waiting);
+      active =
+          let e = same-bit _ _ (are.active ∙ can.active) in
+          omega (arith, e, active-rises counts, shows.active);
       no_credit =
           let e = same-bit _ _ (are.no_credit ∙ ap₂ (λ a b. less (bit_and a x.filled) b) can.active can.ready) in
           omega (arith, e, shows.no_credit);
@@ -169,11 +127,6 @@ module _ (x : Doing) (c : Column) (can : CanDo c x) (i : ℕ) where
     }
 
 -- ---- cycles in which nothing happens
--- a time goes on, where the channel waits
-time-goes : (n times spent time : ℕ) (now : Bool) → n + times ≤ CYCLES → spent ≤ n → spent ≡ plus_if now time n → spent + times * one_if now ≡ plus_if now time (n + times)
-time-goes n times spent time true few within is = omega (arith, is)
-time-goes n times spent time false few within is = omega (arith, is)
-
 -- so many more for each verdict of a channel that waits whose set has channel i
 abbrev pub waited_more : ℕ → ByVerdict → ℕ → ByVerdict → ByVerdict
 waited_more times sets i counts = record counts {
@@ -224,23 +177,22 @@ waited-next n times x y z true few within is = omega (arith, is)
 waited-next n times x y z false few within is = omega (arith, is)
 
 -- what it keeps, where these are the verdicts in each of the cycles
-waited-shows : (v : Verdicts ℕ) (t : ChannelTimes) (n times : ℕ) (waits owns : Bool) (sets : ByVerdict) (i : ℕ) (counts : ByVerdict) (bit : Bool) → n + times ≤ CYCLES
-    → one_if waits ≡ one_if (has_bit sets.no_idle_channel i) → one_if (has_bit sets.no_flit i) + one_if (has_bit sets.no_credit i) ≡ one_if owns → bit ≡ has_bit sets.no_credit i
-    → ShowsChannel v t n waits owns counts → ShowsChannel v (times_waited times bit t) (n + times) waits owns (waited_more times sets i counts)
-waited-shows v t n times waits owns sets i counts bit few idle active same shows =
+waited-shows : (v : Verdicts ℕ) (t : ChannelTimes) (n times : ℕ) (waits owns : Bool) (sets : ByVerdict) (i : ℕ) (counts : ByVerdict) → n + times ≤ CYCLES → (waits && owns) ≡ false
+    → one_if waits ≡ one_if (has_bit sets.no_idle_channel i) → one_if (has_bit sets.no_flit i) + one_if (has_bit sets.no_credit i) ≡ one_if owns
+    → ShowsChannel v t n waits counts → ShowsChannel v (times_waited times waits owns (has_bit sets.no_credit i) t) (n + times) waits (waited_more times sets i counts)
+waited-shows v t n times waits owns sets i counts few one idle active shows =
     let bound : sum (nine_counts counts) ≤ n = shows.few in
     let nf = times * one_if (has_bit sets.no_flit i) in
     let nc = times * one_if (has_bit sets.no_credit i) in
     let ni : times * one_if waits ≡ times * one_if (has_bit sets.no_idle_channel i) = ap (λ b. times * b) idle in
     let both : nf + nc ≡ times * one_if owns = owns-one times owns (has_bit sets.no_flit i) (has_bit sets.no_credit i) active in
     record {
-      one = shows.one;
-      few = let w = one-wait times waits owns (has_bit sets.no_flit i) (has_bit sets.no_credit i) shows.one active in omega (arith, w, ni, bound);
+      few = let w = one-wait times waits owns (has_bit sets.no_flit i) (has_bit sets.no_credit i) one active in omega (arith, w, ni, bound);
       routed = shows.routed;
       granted = shows.granted;
-      waiting = let w = time-goes n times (counts.no_idle_channel + counts.lost_channel + counts.granted) t.waiting waits few (omega (arith, bound)) shows.waiting in omega (arith, w, ni);
-      active = let a = time-goes n times (counts.no_flit + counts.no_credit + counts.lost_input + counts.lost_switch + counts.moved) t.active owns few (omega (arith, bound)) shows.active in omega (arith, a, both);
-      no_credit = waited-next n times counts.no_credit v.no_credit t.no_credit (has_bit sets.no_credit i) few (omega (arith, bound)) shows.no_credit ∙ ap (λ b. v.no_credit + plus_if b t.no_credit times) (sym same);
+      waiting = let w = waited-next n times (counts.no_idle_channel + counts.lost_channel + counts.granted) v.waiting t.waiting waits few (omega (arith, bound)) shows.waiting in omega (arith, w, ni);
+      active = let a = waited-next n times (counts.no_flit + counts.no_credit + counts.lost_input + counts.lost_switch + counts.moved) v.active t.active owns few (omega (arith, bound)) shows.active in omega (arith, a, both);
+      no_credit = waited-next n times counts.no_credit v.no_credit t.no_credit (has_bit sets.no_credit i) few (omega (arith, bound)) shows.no_credit;
       lost_input = shows.lost_input;
       lost_switch = shows.lost_switch;
       moved = shows.moved;
@@ -280,22 +232,23 @@ module _ (x : Doing) (c : Column) (can : CanDo c x) (i : ℕ) (before : ByVerdic
       same true = refl
       same false = refl
 
-  pub channel-waited : (words v : Verdicts ℕ) → AreVerdictsOf x words → (t : ChannelTimes) (n times : ℕ) → n + times ≤ CYCLES
-      → ShowsChannel v t n (waits_after c x i) (owns_after c x i) (with_verdicts (verdicts_of c x) i before)
-      → ShowsChannel v (times_waited times (has_bit words.no_credit i) t) (n + times) (waits_after c x i) (owns_after c x i) (waited_more times (verdicts_of c x) i (with_verdicts (verdicts_of c x) i before))
-  channel-waited words v are t n times few shows =
+  pub channel-waited : (words v : Verdicts ℕ) → AreVerdictsOf x words → (t : ChannelTimes) (n times : ℕ) → n + times ≤ CYCLES → (waits_after c x i && owns_after c x i) ≡ false
+      → ShowsChannel v t n (waits_after c x i) (with_verdicts (verdicts_of c x) i before)
+      → ShowsChannel v (times_waited times (has_bit words.waiting i) (has_bit words.active i) (has_bit words.no_credit i) t) (n + times) (waits_after c x i) (waited_more times (verdicts_of c x) i (with_verdicts (verdicts_of c x) i before))
+  channel-waited words v are t n times few one shows =
       let w = waiting-rises x c can i before in
       let a = active-rises x c can i before in
       let waits : one_if (waits_after c x i) ≡ one_if (has_bit c.waiting i) = ap one_if still-waits in
       let owns : one_if (owns_after c x i) ≡ one_if (has_bit c.active i) = ap one_if still-owns in
-      waited-shows v t n times (waits_after c x i) (owns_after c x i) (verdicts_of c x) i (with_verdicts (verdicts_of c x) i before) (has_bit words.no_credit i) few
-      (omega (arith, w, only.lost_channel, only.granted, waits)) (omega (arith, a, only.lost_input, only.lost_switch, only.moved, owns))
-      (ap (λ n. has_bit n i) (are.no_credit ∙ ap₂ (λ p q. less (bit_and p x.filled) q) can.active can.ready)) shows
+      let same = same-waited times t _ _ _ _ _ _ (ap (λ n. has_bit n i) (are.waiting ∙ can.waiting) ∙ sym still-waits) (ap (λ n. has_bit n i) (are.active ∙ can.active) ∙ sym still-owns)
+      (ap (λ n. has_bit n i) (are.no_credit ∙ ap₂ (λ p q. less (bit_and p x.filled) q) can.active can.ready)) in
+      subst (λ (u : ChannelTimes). ShowsChannel v u (n + times) (waits_after c x i) (waited_more times (verdicts_of c x) i (with_verdicts (verdicts_of c x) i before))) (sym same)
+      (waited-shows v t n times (waits_after c x i) (owns_after c x i) (verdicts_of c x) i (with_verdicts (verdicts_of c x) i before) few one
+      (omega (arith, w, only.lost_channel, only.granted, waits)) (omega (arith, a, only.lost_input, only.lost_switch, only.moved, owns)) shows)
 
 -- nothing was counted
-pub nothing-counted : (n : ℕ) → ShowsChannel (alike 0) no_times n false false no_counts
+pub nothing-counted : (n : ℕ) → ShowsChannel (alike 0) no_times n false no_counts
 nothing-counted n = record {
-  one = refl;
   few = omega arith;
   routed = refl;
   granted = refl;

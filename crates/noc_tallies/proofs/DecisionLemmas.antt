@@ -99,9 +99,9 @@ module _ {w vcs ports single : ℕ} {port vc : ℕ → ℕ} {sets : ℕ → ℕ 
       (λ q k f. left (has_bit x.standing.picked k) (has_bit (d.granted.marks.to_port q) k) (sym (both_members x.standing.picked (d.granted.marks.to_port q) k) ∙ first-among (bit_and x.standing.picked (d.granted.marks.to_port q)) (d.granted.marks.port_turn q) k f))
       i (ap (λ n. has_bit n i) (sym d.moved.moved) ∙ e)
 
-  pub can-count : x.active ≡ still.inputs.active → x.moved ≡ moves.moved
-      → (x.changes ≡ false → (x.standing.heads ≡ 0) × (lane_asks (column_in still) ≡ 0) × (x.decided.released ≡ 0)) → CanDo (column_in still) x
-  can-count active moved changes = record {
+  pub can-count : x.waiting ≡ still.inputs.waiting → x.active ≡ still.inputs.active → x.moved ≡ moves.moved → CanDo (column_in still) x
+  can-count waiting active moved = record {
+    waiting = waiting;
     active = active;
     heads = stands.heads still.outputs still.words;
     ready = stands.ready still.outputs still.words;
@@ -111,11 +111,4 @@ module _ {w vcs ports single : ℕ} {port vc : ℕ → ℕ} {sets : ℕ → ℕ 
     granted = by-asks (λ g l. AreAmong (column_in still).waiting g) (allocated-granted w port (column_in still) still.marks d.granted) (λ k e. absurd (false≢true (sym (has_bit-zero k) ∙ e)));
     lost = by-asks (λ g l. AreAmong (column_in still).waiting l) (allocated-lost w port (column_in still) still.marks d.granted) (λ k e. absurd (false≢true (sym (has_bit-zero k) ∙ e)));
     apart = by-asks (λ g l. (i : ℕ) → (has_bit g i && has_bit l i) ≡ false) (allocated-apart w port (column_in still) still.marks d.granted) (λ k. ap (λ b. b && has_bit 0 k) (has_bit-zero k));
-    unchanged = λ e.
-        let none = changes e in
-        record {
-          routed = none.0;
-          granted = d.given ∙ ap (λ (a : Allocation). a.granted) (d.unasked none.1).0;
-          released = none.2;
-        };
   }

@@ -9,10 +9,10 @@ use Rattle.noc_lanes.specs.Lanes.{word}
 use Rattle.noc_lanes.specs.declared.channels.Verdicts.{Verdicts}
 use Rattle.noc_tallies.specs.Sheets.{CountsAreBelow, alike, verdicts_in, one_more, with_recent}
 
-pub verdicts-same : (a b c d e x y z u v : ℕ) → a ≡ x → b ≡ y → c ≡ z → d ≡ u → e ≡ v
-    → ◌≡◌ {A = Verdicts ℕ} (record { no_credit = a; lost_input = b; lost_switch = c; moved = d; lost_channel = e })
-    (record { no_credit = x; lost_input = y; lost_switch = z; moved = u; lost_channel = v })
-verdicts-same a b c d e x y z u v ea eb ec ed ee = rw (ea, eb, ec, ed, ee) refl
+pub verdicts-same : {a b c d e f g h p q r s t u v w : ℕ} → a ≡ p → b ≡ q → c ≡ r → d ≡ s → e ≡ t → f ≡ u → g ≡ v → h ≡ w
+    → ◌≡◌ {A = Verdicts ℕ} (record { routed = a; waiting = b; active = c; no_credit = d; lost_input = e; lost_switch = f; moved = g; lost_channel = h })
+    (record { routed = p; waiting = q; active = r; no_credit = s; lost_input = t; lost_switch = u; moved = v; lost_channel = w })
+verdicts-same ea eb ec ed ee ef eg eh = rw (ea, eb, ec, ed, ee, ef, eg, eh) refl
 
 module _ {A : Type 0} (value : A → ℕ) where
   recent-same : (a b : List (Verdicts (List A))) (n k i : ℕ) (counts : Verdicts ℕ) → ((j : ℕ) → j < n → slice_index_or a j (alike []) ≡ slice_index_or b j (alike []))
@@ -67,6 +67,9 @@ one-few false = omega arith
 
 pub below-next : (n : ℕ) (sets : Verdicts ℕ) (i : ℕ) (counts : Verdicts ℕ) → CountsAreBelow n counts → CountsAreBelow (n + 1) (one_more sets i counts)
 below-next n sets i counts below = record {
+  routed = omega (arith, one-few (has_bit sets.routed i), below.routed);
+  waiting = omega (arith, one-few (has_bit sets.waiting i), below.waiting);
+  active = omega (arith, one-few (has_bit sets.active i), below.active);
   no_credit = omega (arith, one-few (has_bit sets.no_credit i), below.no_credit);
   lost_input = omega (arith, one-few (has_bit sets.lost_input i), below.lost_input);
   lost_switch = omega (arith, one-few (has_bit sets.lost_switch i), below.lost_switch);
@@ -76,6 +79,9 @@ below-next n sets i counts below = record {
 
 pub below-more : (m n : ℕ) (counts : Verdicts ℕ) → m ≤ n → CountsAreBelow m counts → CountsAreBelow n counts
 below-more m n counts l below = record {
+  routed = omega (arith, below.routed);
+  waiting = omega (arith, below.waiting);
+  active = omega (arith, below.active);
   no_credit = omega (arith, below.no_credit);
   lost_input = omega (arith, below.lost_input);
   lost_switch = omega (arith, below.lost_switch);

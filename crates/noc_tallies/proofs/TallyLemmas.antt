@@ -1,5 +1,5 @@
 -- What is kept shows the same counts later, where a channel neither waits nor owns an output channel.
-use Rattle.std.proofs.Common.{ℕ, ◌≤◌, false, arith}
+use Rattle.std.proofs.Common.{ℕ, ◌≤◌, false, arith, refl}
 use Rattle.noc_sets.specs.Counts.{ByVerdict}
 use Rattle.noc_tallies.specs.Tallies.{ShowsTally}
 use Rattle.noc_tallies.specs.declared.tallies.Tallies.{Tallies}
@@ -11,8 +11,8 @@ counts-stay value tallies k i m n c later shows =
     let was = shows.channel in
     record {
       cycles = omega (arith, cycles, later);
+      one = refl;
       channel = record {
-        one = was.one;
         few = omega (arith, few, later);
         routed = was.routed;
         granted = was.granted;

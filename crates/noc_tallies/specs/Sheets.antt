@@ -1,13 +1,14 @@
--- The verdicts that are counted by bits: how often a channel had each, and those of the last cycle.
-use Rattle.std.specs.Prelude.{ℕ, zero, suc, ◌+◌, ◌/◌, ◌%◌, ◌<◌, List, [], slice_index_or}
+-- The verdicts that are counted by bits, some of them together: how often a channel had each, and
+-- those of the last cycle.
+use Rattle.std.specs.Prelude.{◌≡◌, ℕ, zero, suc, ◌+◌, ◌/◌, ◌%◌, ◌<◌, List, [], slice_index_or, bit_and}
 use Rattle.noc_packet.specs.Set.{has_bit}
 use Rattle.noc_topo.specs.Lists.{one_if}
+use Rattle.noc_sets.specs.Sets.{less}
 use Rattle.noc_lanes.specs.Channels.{verdicts_by}
 use Rattle.noc_lanes.specs.Lanes.{word}
 use Rattle.noc_lanes.specs.Tallies.{counted_at}
 use Rattle.noc_lanes.specs.declared.channels.Verdicts.{Verdicts}
 use Rattle.noc_lanes.specs.declared.tally.Tally.{Tally}
-use Rattle.noc_blocks.specs.Steps.{GivesVerdicts}
 use Rattle.noc_tallies.specs.Doings.{Doing}
 use Rattle.noc_tallies.specs.declared.sheet.Sheet.{Sheet}
 use Rattle.noc_tallies.specs.declared.sheet.TheConstants.{SLOTS}
@@ -15,6 +16,9 @@ use Rattle.noc_tallies.specs.declared.sheet.TheConstants.{SLOTS}
 -- the same for each verdict
 abbrev pub alike : {A : Type 0} → A → Verdicts A
 alike x = record {
+  routed = x;
+  waiting = x;
+  active = x;
   no_credit = x;
   lost_input = x;
   lost_switch = x;
@@ -25,6 +29,9 @@ alike x = record {
 -- one more for each verdict whose set has channel i
 abbrev pub one_more : Verdicts ℕ → ℕ → Verdicts ℕ → Verdicts ℕ
 one_more sets i counts = record {
+  routed = counts.routed + one_if (has_bit sets.routed i);
+  waiting = counts.waiting + one_if (has_bit sets.waiting i);
+  active = counts.active + one_if (has_bit sets.active i);
   no_credit = counts.no_credit + one_if (has_bit sets.no_credit i);
   lost_input = counts.lost_input + one_if (has_bit sets.lost_input i);
   lost_switch = counts.lost_switch + one_if (has_bit sets.lost_switch i);
@@ -56,6 +63,9 @@ sheet_counts value sheet k i =
 
 -- each is below a number
 pub record CountsAreBelow (n : ℕ) (counts : Verdicts ℕ) : Type 0 where
+  pub routed : counts.routed < n
+  pub waiting : counts.waiting < n
+  pub active : counts.active < n
   pub no_credit : counts.no_credit < n
   pub lost_input : counts.lost_input < n
   pub lost_switch : counts.lost_switch < n
@@ -67,5 +77,12 @@ abbrev pub last_in : {A : Type 0} → (A → ℕ) → Sheet A → ℕ → Verdic
 last_in value sheet k = verdicts_in value sheet.recent ((sheet.cycles + 3) % SLOTS) k
 
 -- these are the verdicts of a router that does this
-abbrev pub AreVerdictsOf : Doing → Verdicts ℕ → Type 0
-AreVerdictsOf x = GivesVerdicts x.active x.filled x.standing x.decided.lost x.moved
+pub record AreVerdictsOf (x : Doing) (what : Verdicts ℕ) : Type 0 where
+  pub routed : what.routed ≡ x.standing.heads
+  pub waiting : what.waiting ≡ x.waiting
+  pub active : what.active ≡ x.active
+  pub no_credit : what.no_credit ≡ less (bit_and x.active x.filled) x.standing.ready
+  pub lost_input : what.lost_input ≡ less x.standing.ready x.standing.picked
+  pub lost_switch : what.lost_switch ≡ less x.standing.picked x.moved
+  pub moved : what.moved ≡ x.moved
+  pub lost_channel : what.lost_channel ≡ x.decided.lost

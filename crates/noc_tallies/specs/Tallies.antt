@@ -1,5 +1,5 @@
 -- What the counts of a block show of its channels.
-use Rattle.std.specs.Prelude.{◌≡◌, ℕ, ◌≤◌, Bool}
+use Rattle.std.specs.Prelude.{◌≡◌, ℕ, ◌≤◌, Bool, false, ◌&&◌}
 use Rattle.noc_sets.specs.Counts.{ByVerdict}
 use Rattle.noc_lanes.specs.declared.channels.Verdicts.{Verdicts}
 use Rattle.noc_tallies.specs.Sheets.{last_in, sheet_counts}
@@ -12,8 +12,9 @@ use Rattle.noc_tallies.specs.declared.tallies.Tallies.{Tallies}
 pub record ShowsTally {A : Type 0} (value : A → ℕ) (tallies : Tallies A) (k i n : ℕ)
     (waits owns : Bool) (c : ByVerdict) : Type 0 where
   pub cycles : tallies.sheet.cycles ≤ n
+  pub one : (waits && owns) ≡ false
   pub channel : ShowsChannel (sheet_counts value tallies.sheet k i) (times_in tallies.times k i) n
-      waits owns c
+      waits c
 
 -- the verdicts of router k in the cycle that was counted last
 abbrev pub last_verdicts : {A : Type 0} → (A → ℕ) → Tallies A → ℕ → Verdicts ℕ

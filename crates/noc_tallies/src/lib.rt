@@ -1,8 +1,9 @@
 //! How often each channel of the routers of a block had each of the ten verdicts.
 //!
-//! Five verdicts are counted by bits, for all channels of a block at once. Routed is counted one by
-//! one, and so are the times in which a channel waits for an output channel or owns one: NoFlit and
-//! NoIdleChannel follow from these. Empty is the rest.
+//! Six verdicts are counted by bits, for all channels of a block at once, and so are the cycles in
+//! which a channel waits for an output channel, and those in which it owns one: Granted, NoFlit and
+//! NoIdleChannel follow from these. Empty is the rest. What a wait of many cycles adds is counted
+//! channel by channel.
 #![tactic(auto)]
 
 mod doings;

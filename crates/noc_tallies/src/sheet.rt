@@ -6,7 +6,6 @@ ghost use Rattle.noc_tallies.specs.Doings.{doing_at};
 ghost use Rattle.noc_tallies.specs.Sheets.{CountsAreBelow, AreVerdictsOf, added_at, alike, last_in, sheet_counts, one_more, with_recent};
 
 use crate::doings::Doings;
-use noc_blocks::note_verdicts;
 use noc_lanes::{LANES, Lanes, Tally, Verdicts, Word, alike};
 
 // How many cycles are added at once.
@@ -31,6 +30,9 @@ impl<W: Word> Sheet<W> {
     {
         let none = alike(W::none());
         let verdicts = Verdicts {
+            routed: none,
+            waiting: none,
+            active: none,
             no_credit: none,
             lost_input: none,
             lost_switch: none,
@@ -41,6 +43,9 @@ impl<W: Word> Sheet<W> {
         Sheet {
             recent: [verdicts; SLOTS],
             tallies: Verdicts {
+                routed: tally,
+                waiting: tally,
+                active: tally,
                 no_credit: tally,
                 lost_input: tally,
                 lost_switch: tally,
@@ -63,14 +68,7 @@ impl<W: Word> Sheet<W> {
         ensures cycles { self.new.cycles ≡ (self.old.cycles + 1) % 2 ^ 32 }
     {
         let slot = (self.cycles % SLOTS as u32) as usize;
-        note_verdicts(
-            doings.active,
-            doings.filled,
-            doings.standing,
-            &doings.decided.lost,
-            doings.moved,
-            &mut self.recent[slot],
-        );
+        doings.note(&mut self.recent[slot]);
         if slot + 1 < SLOTS {
             self.cycles = self.cycles.wrapping_add(1);
             return;
@@ -90,6 +88,15 @@ impl<W: Word> Sheet<W> {
         let times = self.cycles / SLOTS as u32;
         let [a, b, c, d] = &self.recent;
         let tallies = &mut self.tallies;
+        tallies
+            .routed
+            .add(&a.routed, &b.routed, &c.routed, &d.routed, times);
+        tallies
+            .waiting
+            .add(&a.waiting, &b.waiting, &c.waiting, &d.waiting, times);
+        tallies
+            .active
+            .add(&a.active, &b.active, &c.active, &d.active, times);
         tallies.no_credit.add(
             &a.no_credit,
             &b.no_credit,
@@ -141,6 +148,9 @@ impl<W: Word> Sheet<W> {
     {
         let times = self.cycles / SLOTS as u32;
         let mut counts = Verdicts {
+            routed: self.tallies.routed.total(lane, channel, times),
+            waiting: self.tallies.waiting.total(lane, channel, times),
+            active: self.tallies.active.total(lane, channel, times),
             no_credit: self.tallies.no_credit.total(lane, channel, times),
             lost_input: self.tallies.lost_input.total(lane, channel, times),
             lost_switch: self.tallies.lost_switch.total(lane, channel, times),
@@ -162,6 +172,9 @@ fn one_more<W: Word>(sets: Verdicts<W>, channel: usize, counts: Verdicts<u64>) -
     ensures { result ≡ one_more (verdicts_by W.value sets) channel counts }
 {
     Verdicts {
+        routed: counts.routed + u64::from(sets.routed.has(channel)),
+        waiting: counts.waiting + u64::from(sets.waiting.has(channel)),
+        active: counts.active + u64::from(sets.active.has(channel)),
         no_credit: counts.no_credit + u64::from(sets.no_credit.has(channel)),
         lost_input: counts.lost_input + u64::from(sets.lost_input.has(channel)),
         lost_switch: counts.lost_switch + u64::from(sets.lost_switch.has(channel)),

@@ -1,6 +1,6 @@
 //! The counts of a block.
 
-ghost use Rattle.std.specs.Prelude.{◌≡◌, ◌+◌, ◌<◌, ◌≤◌, ℕ, false};
+ghost use Rattle.std.specs.Prelude.{◌≡◌, ◌+◌, ◌<◌, ◌≤◌, ℕ, Bool, false};
 ghost use Rattle.noc_packet.specs.Set.{has_bit};
 ghost use Rattle.noc_sets.specs.Column.{Column};
 ghost use Rattle.noc_sets.specs.Counts.{ByVerdict, RunOn, no_counts, ten_counts, with_verdicts};
@@ -10,7 +10,7 @@ ghost use Rattle.noc_tallies.specs.Tallies.{HasOnlyWaited, ShowsTally, last_verd
 
 use crate::doings::Doings;
 use crate::sheet::Sheet;
-use crate::times::{RouterTimes, count_times};
+use crate::times::RouterTimes;
 use noc_blocks::PLACES;
 use noc_lanes::{LANES, Word};
 
@@ -22,7 +22,7 @@ pub const CYCLES: u32 = 1 << 31;
 pub struct Tallies<T> {
     // By bits.
     sheet: Sheet<T>,
-    // Channel by channel.
+    // Channel by channel, in waits.
     times: [RouterTimes; LANES],
 }
 
@@ -40,27 +40,18 @@ impl<W: Word> Tallies<W> {
 
     /// Counts a cycle in which the routers of the block do this, before it takes effect.
     #[inline(always)]
-    pub fn count(&mut self, cycle: u32, doings: &Doings<'_, W>)
-        requires { cycle < CYCLES }
-        ensures counts { (k i : ℕ) (still : Column) (c : ByVerdict) → k < LANES
+    pub fn count(&mut self, doings: &Doings<'_, W>)
+        ensures counts { (k i n : ℕ) (still : Column) (c : ByVerdict) → k < LANES → n < CYCLES
             → CanDo still (doing_at W.value doings.now k)
-            → ShowsTally W.value self.old k i cycle (has_bit still.waiting i)
+            → ShowsTally W.value self.old k i n (has_bit still.waiting i)
             (has_bit still.active i) c
-            → ShowsTally W.value self.new k i (cycle + 1)
+            → ShowsTally W.value self.new k i (n + 1)
             (waits_after still (doing_at W.value doings.now k) i)
             (owns_after still (doing_at W.value doings.now k) i)
             (with_verdicts (verdicts_of still (doing_at W.value doings.now k)) i c) }
         ensures last { (k : ℕ) → k < LANES
             → AreVerdictsOf (doing_at W.value doings.now k) (last_verdicts W.value self.new k) }
     {
-        count_times(
-            cycle + 1,
-            doings.lanes,
-            &doings.standing.heads,
-            &doings.decided.granted,
-            &doings.decided.released,
-            &mut self.times,
-        );
         self.sheet.count(doings);
     }
 
@@ -81,29 +72,23 @@ impl<W: Word> Tallies<W> {
     {
         for lane in 0..LANES {
             let words = self.sheet.last(lane);
-            self.times[lane].wait(words.no_credit, times);
+            self.times[lane].wait(times, words.waiting, words.active, words.no_credit);
         }
     }
 
     /// How often a channel of a router had each verdict after so many cycles, in the order of the
-    /// stall report, where it waits for an output channel now, or owns one, or neither.
-    pub fn counts_of(
-        &self,
-        lane: usize,
-        channel: usize,
-        cycles: u32,
-        waits: bool,
-        owns: bool,
-    ) -> [u64; 10]
+    /// stall report, where it waits for an output channel now or not.
+    pub fn counts_of(&self, lane: usize, channel: usize, cycles: u32, waits: bool) -> [u64; 10]
         requires lane { lane < LANES }
         requires channel { channel < W.bits }
-        requires shown { (c : ByVerdict)
+        requires shown { (owns : Bool) × (c : ByVerdict)
             × ShowsTally W.value self.now lane channel cycles waits owns c }
-        ensures { (c : ByVerdict) → ShowsTally W.value self.now lane channel cycles waits owns c
+        ensures { (owns : Bool) (c : ByVerdict)
+            → ShowsTally W.value self.now lane channel cycles waits owns c
             → result ≡ ten_counts cycles c }
     {
         let by_bits = self.sheet.counts(lane, channel);
         let times = self.times[lane].at(channel);
-        times.counts(cycles, waits, owns, by_bits)
+        times.counts(cycles, waits, by_bits)
     }
 }

@@ -6,3 +6,4 @@ pub mod FollowLemmas
 pub mod EntryLemmas
 pub mod ClockLemmas
 pub mod TimeLemmas
+pub mod ApartLemmas

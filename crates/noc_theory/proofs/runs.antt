@@ -2,6 +2,7 @@ pub mod ArrivalExamples
 pub mod CoreLemmas
 pub mod CoreExamples
 pub mod EventLemmas
+pub mod FindingLemmas
 pub mod InStepLemmas
 pub mod LimitLemmas
 pub mod ListLemmas
@@ -13,7 +14,5 @@ pub mod RunLemmas
 pub mod SentLemmas
 pub mod StepLemmas
 pub mod StillRunLemmas
-pub mod TakeAheadLemmas
 pub mod TakeOrderLemmas
-pub mod UnseenLemmas
 pub mod WireLemmas

@@ -1,4 +1,4 @@
--- A good setup, of which alone a network is made and for which all laws hold, and words for the
+-- A good setup, of which alone a network is made and for which all laws hold, and terms for the
 -- flits of its packets and the slots of its buffers.
 use Rattle.std.specs.Prelude.{ℕ, ◌≢◌, ◌+◌, ◌<◌, ◌≤◌, length, if◌then◌else◌}
 use Rattle.std.specs.List.{All}
@@ -19,7 +19,7 @@ pub record IsGoodPacket (relation : Routes) (p : Packet) : Type 0 where
   pub length : p.length ≤ MAX_LENGTH
   pub due : p.due ≤ MAX_DUE
 
--- the relation was built, each buffer has a place, and the packets are not too
+-- the relation was built, each buffer has a slot, and the packets are not too
 -- many and each can be sent
 pub record IsGoodSetup (net : Setup) : Type 0 where
   pub relation : IsRelation net.relation
@@ -32,7 +32,7 @@ module _ (net : Setup) where
   abbrev pub IsValid : ℕ → ℕ → Type 0
   IsValid p i = (p < length net.packets) × (i < (packet_at net p).length)
 
-  -- the places of the buffer of c that are taken, by flits on its wire and in it, or by a
+  -- the slots of the buffer of c that are taken, by flits on its wire and in it, or by a
   -- credit that is on its way back
-  abbrev pub places_taken : State → Channel → ℕ
-  places_taken S c = count_on net S c + count_in net S c + (if has_channel S.back c then 1 else 0)
+  abbrev pub slots_taken : State → Channel → ℕ
+  slots_taken S c = count_on net S c + count_in net S c + (if has_channel S.back c then 1 else 0)

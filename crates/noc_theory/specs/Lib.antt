@@ -7,6 +7,5 @@ pub mod Lockstep
 pub mod Network
 pub mod Order
 pub mod Progress
-pub mod Unseen
 pub mod Worm
 pub mod Seen

@@ -131,8 +131,8 @@ module _ (net : Setup) where
   goes_on_by S o c = unwrap_or (option_map (same_channel o) (next_channel net S c)) false
 
   -- the input channel of router r whose packet goes on by o
-  abbrev pub seen_source : State → ℕ → Channel → ℕ
-  seen_source S r o =
+  abbrev pub seen_sender : State → ℕ → Channel → ℕ
+  seen_sender S r o =
       unwrap_or (find (λ i. unwrap_or (option_map (goes_on_by S o) (arriving net r i)) false) (below (size net))) 0
 
   -- an owned link channel is draining once the tail has been sent on it
@@ -141,7 +141,7 @@ module _ (net : Setup) where
   seen_holder S r o (Some p) =
       if is_link o && (is_on o (tail_place net S p) || has_come o (packet_at net p).destination (tail_place net S p))
       then Draining
-      else Owned (seen_source S r o) p
+      else Owned (seen_sender S r o) p
 
   -- the output channel o of router r
   abbrev pub seen_output : State → ℕ → Channel → Output

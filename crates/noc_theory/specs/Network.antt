@@ -143,8 +143,8 @@ module _ (net : Setup) where
   abbrev pub tail_place : State → ℕ → Place
   tail_place S p = place_of_flit S p ((packet_at p).length - 1)
 
-  -- the places that a link channel has left: not on the wire, not in the
-  -- buffer, no credit on its way
+  -- the free slots of a link channel's buffer: not for a flit on the wire or in the
+  -- buffer, nor for a credit on its way
   abbrev pub credit_of : State → Channel → ℕ
   credit_of S c = net.depth - count_on S c - count_in S c - (if has_channel S.back c then 1 else 0)
 

@@ -14,9 +14,9 @@ pub fn findings_change_nothing()
         → local_step relation (record view { findings = findings }) beats n ≡ local_step relation view beats n }
 {}
 
-/// What comes to a router in one cycle can be taken in any order: the takes of two ports change
-/// places, from every view and for all beats, those that do not fit included.
-pub fn takes_change_places()
+/// What comes to a router in one cycle can be taken in any order: the takes of two ports
+/// commute, from every view and for all beats, those that do not fit included.
+pub fn takes_commute()
     ensures { (relation : Routes) (p q : ℕ) (one other : Beat) (view : View) → p ≢ q
         → view_after_take relation p one (view_after_take relation q other view) ≡ view_after_take relation q other (view_after_take relation p one view) }
 {}

@@ -19,11 +19,11 @@ mod progress;
 mod views;
 
 pub use event::{Event, NotReady};
-pub use latency::a_packet_alone_is_never_held_up;
-pub use laws::{findings_change_nothing, takes_change_places};
+pub use latency::{a_packet_alone_is_apart_from_others, a_packet_alone_is_never_held_up};
+pub use laws::{findings_change_nothing, takes_commute};
 pub use limits::CYCLE_LIMIT;
 pub use ownership::{
-    a_link_carries_one_credit, a_link_carries_one_flit, credits_are_the_places_left,
+    a_link_carries_one_credit, a_link_carries_one_flit, credits_are_the_free_slots,
     flits_go_out_in_order, packets_keep_worm_order,
 };
 pub use progress::{

@@ -5,7 +5,7 @@ ghost use Rattle.noc_topo.specs.Lists.{Has};
 ghost use Rattle.noc_route.specs.Channel.{Channel, Link};
 ghost use Rattle.noc_theory.specs.Network.{Setup, On, Out, packet_at, place_of_flit, credit_of, state_at, frozen_at};
 ghost use Rattle.noc_theory.specs.Worm.{IsWormOrder};
-ghost use Rattle.noc_theory.specs.Good.{IsGoodSetup, IsValid, places_taken};
+ghost use Rattle.noc_theory.specs.Good.{IsGoodSetup, IsValid, slots_taken};
 
 /// The channels of each packet are one path along the relation, no channel has two owners, and the
 /// flits of a packet stand along its path in order. This holds at the start of every cycle, and in
@@ -15,11 +15,11 @@ pub fn packets_keep_worm_order()
     ensures frozen { (net : Setup) (n : ℕ) → IsGoodSetup net → IsWormOrder net (frozen_at net n) }
 {}
 
-/// The credits of a channel are the places of its buffer that are left. Together with the flits
-/// on its wire, the flits in its buffer and the credit on its way back they are all its places,
-/// never more and never less.
-pub fn credits_are_the_places_left()
-    ensures { (net : Setup) (n : ℕ) (c : Channel) → IsGoodSetup net → credit_of net (state_at net n) c + places_taken net (state_at net n) c ≡ net.depth }
+/// The credits of a channel are the free slots of its buffer. Together with the flits on its wire,
+/// the flits in its buffer and the credit on its way back they are all its slots, never more and
+/// never less.
+pub fn credits_are_the_free_slots()
+    ensures { (net : Setup) (n : ℕ) (c : Channel) → IsGoodSetup net → credit_of net (state_at net n) c + slots_taken net (state_at net n) c ≡ net.depth }
 {}
 
 /// The flits of a packet go out in order of index, each in a cycle of its own, and all that is out

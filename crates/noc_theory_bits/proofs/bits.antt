@@ -12,6 +12,7 @@ pub mod HeadLemmas
 pub mod HolderLemmas
 pub mod NetworkLemmas
 pub mod OpeningLemmas
+pub mod OwnLemmas
 pub mod PacketLemmas
 pub mod ThroughLemmas
 pub mod TimesLemmas

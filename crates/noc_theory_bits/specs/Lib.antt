@@ -2,3 +2,4 @@ pub mod Owners
 pub mod Wires
 pub mod Network
 pub mod Starts
+pub mod Sends

@@ -1,12 +1,12 @@
 -- What the words of all routers show of a network, and a cycle of all of them.
-use Rattle.std.specs.Prelude.{◌≡◌, ◌≢◌, ◌⊎◌, ℕ, suc, ◌+◌, ◌*◌, ◌/◌, ◌%◌, ◌<◌, ◌≤◌, true, false, List, length, Option, Some, None}
-use Rattle.noc_topo.specs.Shape.{Grid, nodes, ports}
+use Rattle.std.specs.Prelude.{◌≡◌, ◌≢◌, ◌⊎◌, ℕ, suc, ◌+◌, ◌*◌, ◌/◌, ◌%◌, ◌<◌, ◌≤◌, Bool, true, false, List, length, Option, Some, None, nat_eq, option_map, unwrap_or}
+use Rattle.noc_topo.specs.Shape.{Grid, neighbour, nodes, ports}
 use Rattle.noc_packet.specs.Set.{has_bit}
 use Rattle.noc_route.specs.Routes.{set_at}
-use Rattle.noc_theory.specs.Lockstep.{beats_at, beats_in, view_at}
+use Rattle.noc_theory.specs.Lockstep.{beats_at, beats_in, has_event_at, view_at}
 use Rattle.noc_theory.specs.declared.limits.TheConstants.{CYCLE_LIMIT}
 use Rattle.noc_theory.specs.Network.{Setup, arrival_in, packet_at, size, state_at}
-use Rattle.noc_theory.specs.Progress.{last_event_before}
+use Rattle.noc_theory.specs.Progress.{events, last_event_before}
 use Rattle.noc_sets.specs.Column.{IsColumn}
 use Rattle.noc_sets.specs.Counts.{RunOn, ShowsCounts, ShowsLastEvent, no_counts}
 use Rattle.noc_sets.specs.Cycle.{HasSlept, HasWorked, Links, Router, Turn, packets_in}
@@ -15,7 +15,8 @@ use Rattle.noc_sets.specs.Gather.{gathered}
 use Rattle.noc_sets.specs.Layout.{Layout}
 use Rattle.noc_sets.specs.Opening.{AreEmptyMarks, IsEmptyColumn}
 use Rattle.noc_sets.specs.Source.{ShowsSource, Start}
-use Rattle.noc_theory_bits.specs.Owners.{ShowsHolders, told}
+use Rattle.noc_theory_bits.specs.Owners.{ShowsHolders, heard}
+use Rattle.noc_theory_bits.specs.Sends.{Sends}
 use Rattle.noc_theory_bits.specs.Starts.{opened_source, starts_list}
 use Rattle.noc_theory_bits.specs.Wires.{ShowsWires}
 
@@ -51,8 +52,40 @@ pub record ShowsNetwork (count : ℕ) (net : Setup) (n : ℕ) (w : Words) : Type
   pub last : ShowsLastEvent w.last (last_event_before net n)
   pub arrivals : (p : ℕ) → p < length net.packets → w.arrivals p ≡ arrival_in net (state_at net n) p
 
--- before the first cycle: every channel is idle and has no flit, nothing is on the wires, nothing
--- was counted, and each source has all its packets
+-- ---- some of the routers of a network, its own
+-- router r is one of them
+abbrev pub IsOwn : Setup → (ℕ → Bool) → ℕ → Type 0
+IsOwn net own r = (r < nodes net.relation.grid) × (own r ≡ true)
+
+-- the word of the last event by count n, as far as they know: it has the cycle after one with an
+-- event, or 0, and since then they have had none
+pub record ShowsLastOf (net : Setup) (own : ℕ → Bool) (n word : ℕ) : Type 0 where
+  pub event : (m : ℕ) → word ≡ m + 1 → (m < n) × (0 < events net m (state_at net m))
+  pub none : (m r : ℕ) → word ≤ m → m < n → IsOwn net own r → has_event_at net m r ≡ false
+
+-- it shows them at count n: their words, and the arrivals of the packets that end in them
+pub record ShowsOwn (count : ℕ) (net : Setup) (own : ℕ → Bool) (n : ℕ) (w : Words) : Type 0 where
+  pub limit : n ≤ CYCLE_LIMIT
+  pub routers : (r : ℕ) → IsOwn net own r → ShowsRouter count net n r (all_starts net) (w.routers r)
+  pub last : ShowsLastOf net own n w.last
+  pub arrivals : (p : ℕ) → p < length net.packets → own (packet_at net p).destination ≡ true → w.arrivals p ≡ arrival_in net (state_at net n) p
+
+-- words have what those of the parts of a network have, where each router is in the part of this
+-- number: the words of each router, the latest of the last events, and of each packet the arrival
+-- in the part where it ends
+pub record AreJoined (net : Setup) (part : ℕ → ℕ) (parts : ℕ → Words) (w : Words) : Type 0 where
+  pub routers : (r : ℕ) → r < nodes net.relation.grid → w.routers r ≡ (parts (part r)).routers r
+  pub latest : (r : ℕ) → r < nodes net.relation.grid → (parts (part r)).last ≤ w.last
+  pub last : (r : ℕ) × (r < nodes net.relation.grid) × (w.last ≡ (parts (part r)).last)
+  pub arrivals : (p : ℕ) → p < length net.packets → w.arrivals p ≡ (parts (part (packet_at net p).destination)).arrivals p
+
+-- the routers of the part that router r is in
+abbrev pub with_router : (ℕ → ℕ) → ℕ → ℕ → Bool
+with_router part r s = nat_eq (part s) (part r)
+
+-- ---- before the first cycle
+-- every channel is idle and has no flit, nothing is on the wires, nothing was counted, and each
+-- source has all its packets
 pub record HasOpened (count : ℕ) (net : Setup) (layout : Layout) (r : ℕ) (w : Router) : Type 0 where
   pub column : IsEmptyColumn count (ports net.relation.grid * net.relation.vcs) layout.links layout.local net.depth w.column
   pub marks : AreEmptyMarks (ports net.relation.grid) (ports net.relation.grid * net.relation.vcs) w.marks
@@ -72,13 +105,18 @@ pub record HaveOpened (count : ℕ) (net : Setup) (layout : Layout) (w : Words) 
 abbrev pub permitted : Setup → ℕ → ℕ → ℕ → ℕ
 permitted net r k p = set_at net.relation (packet_at net p).class r (k / net.relation.vcs) (k % net.relation.vcs) (packet_at net p).destination
 
--- what router r has of all that left the routers, and of what they granted: what its links bring,
--- and the numbers of its packets
-pub record HasGathered (grid : Grid) (vcs : ℕ) (left : ℕ → Links) (grants : ℕ → ℕ → Option ℕ) (packets : ℕ → ℕ → ℕ) (r : ℕ) (w : Router) : Type 0 where
+-- router r makes this turn of cycle n: it has worked or slept
+abbrev pub IsTurn : Setup → Layout → ℕ → ℕ → Router → Turn → Type 0
+IsTurn net layout n r b t =
+    HasWorked (ports net.relation.grid) net.relation.vcs layout (all_starts net) (permitted net r) n b t ⊎ HasSlept n b t
+
+-- what router r has of all that left the routers, and of the numbers of packets that they told by
+-- output channel: what its links bring, and the numbers of its packets, which were these
+pub record HasGathered (grid : Grid) (vcs : ℕ) (left : ℕ → Links) (tells : ℕ → ℕ → Option ℕ) (packets : ℕ → ℕ) (r : ℕ) (w : Router) : Type 0 where
   pub flits : w.links.flits ≡ gathered grid vcs (λ s. (left s).flits) r
   pub tails : w.links.tails ≡ gathered grid vcs (λ s. (left s).tails) r
   pub credits : w.links.credits ≡ gathered grid vcs (λ s. (left s).credits) r
-  pub packet : (i : ℕ) → i < ports grid * vcs → w.marks.packet i ≡ told grid vcs grants packets r i
+  pub packet : (i : ℕ) → i < ports grid * vcs → w.marks.packet i ≡ unwrap_or (heard grid vcs tells r i) (packets i)
 
 -- its other words are those of its turn
 pub record HasTurned (t : Turn) (w : Router) : Type 0 where
@@ -88,27 +126,47 @@ pub record HasTurned (t : Turn) (w : Router) : Type 0 where
   pub source : w.source ≡ t.source
   pub counts : w.counts ≡ t.counts
 
--- the cycle after the last event is that after cycle n, where something happens in a router in it,
--- and else what it was
-pub record IsLastAfter (routers n : ℕ) (t : ℕ → Turn) (before after : ℕ) : Type 0 where
-  pub some : (r : ℕ) → r < routers → (t r).happened ≡ true → after ≡ n + 1
-  pub none : ((r : ℕ) → r < routers → (t r).happened ≡ false) → after ≡ before
+-- the cycle after the last event is that after cycle n, where something happens in one of these
+-- routers in it, and else what it was
+pub record IsLastAfter (Among : ℕ → Type 0) (n : ℕ) (t : ℕ → Turn) (before after : ℕ) : Type 0 where
+  pub some : (r : ℕ) → Among r → (t r).happened ≡ true → after ≡ n + 1
+  pub none : ((r : ℕ) → Among r → (t r).happened ≡ false) → after ≡ before
 
--- the packets of the channels that are left by the local port arrive in cycle n, and no others,
--- where these are the numbers of packets
-pub record AreArrivals (routers size n : ℕ) (t : ℕ → Turn) (packets : ℕ → ℕ → ℕ) (before after : ℕ → Option ℕ) : Type 0 where
-  pub some : (r i : ℕ) → r < routers → i < size → has_bit (t r).arrived i ≡ true → after (packets r i) ≡ Some n
-  pub others : (p : ℕ) → ((r i : ℕ) → r < routers → i < size → has_bit (t r).arrived i ≡ true → packets r i ≢ p) → after p ≡ before p
+-- the packets of the channels of these routers that are left by the local port arrive in cycle n,
+-- and no others, where these are the numbers of packets
+pub record AreArrivals (Among : ℕ → Type 0) (size n : ℕ) (t : ℕ → Turn) (packets : ℕ → ℕ → ℕ) (before after : ℕ → Option ℕ) : Type 0 where
+  pub some : (r i : ℕ) → Among r → i < size → has_bit (t r).arrived i ≡ true → after (packets r i) ≡ Some n
+  pub others : (p : ℕ) → ((r i : ℕ) → Among r → i < size → has_bit (t r).arrived i ≡ true → packets r i ≢ p) → after p ≡ before p
+
+-- the numbers of packets that router r has for its input channels in cycle n, and those that it
+-- tells by output channel in this turn
+abbrev pub numbers_in : Setup → Layout → ℕ → Router → ℕ → ℕ
+numbers_in net layout n b = packets_in layout (all_starts net) n b
+
+abbrev pub tells_in : Setup → Layout → ℕ → Router → Turn → ℕ → Option ℕ
+tells_in net layout n b t o = option_map (numbers_in net layout n b) (t.grants o)
 
 -- cycle n of a network, from the words b to the words `next`, where each router makes this of it
 pub record HasRun (net : Setup) (layout : Layout) (n : ℕ) (b : Words) (t : ℕ → Turn) (next : Words) : Type 0 where
-  pub turns : (r : ℕ) → r < nodes net.relation.grid
-      → HasWorked (ports net.relation.grid) net.relation.vcs layout (all_starts net) (permitted net r) n (b.routers r) (t r) ⊎ HasSlept n (b.routers r) (t r)
+  pub turns : (r : ℕ) → r < nodes net.relation.grid → IsTurn net layout n r (b.routers r) (t r)
   pub gathered_are : (r : ℕ) → r < nodes net.relation.grid
-      → HasGathered net.relation.grid net.relation.vcs (λ s. (t s).left) (λ s. (t s).grants) (λ s. packets_in layout (all_starts net) n (b.routers s)) r (next.routers r)
+      → HasGathered net.relation.grid net.relation.vcs (λ s. (t s).left) (λ s. tells_in net layout n (b.routers s) (t s)) (numbers_in net layout n (b.routers r)) r (next.routers r)
   pub are : (r : ℕ) → r < nodes net.relation.grid → HasTurned (t r) (next.routers r)
-  pub last : IsLastAfter (nodes net.relation.grid) n t b.last next.last
-  pub arrivals : AreArrivals (nodes net.relation.grid) (size net) n t (λ s. packets_in layout (all_starts net) n (b.routers s)) b.arrivals next.arrivals
+  pub last : IsLastAfter (λ r. r < nodes net.relation.grid) n t b.last next.last
+  pub arrivals : AreArrivals (λ r. r < nodes net.relation.grid) (size net) n t (λ s. numbers_in net layout n (b.routers s)) b.arrivals next.arrivals
+
+-- cycle n of the own routers of a network, where this has left all routers, and they have told
+-- these numbers: what the others send over the links to own ones is right
+pub record HasRunOwn (net : Setup) (layout : Layout) (own : ℕ → Bool) (n : ℕ) (b : Words) (t : ℕ → Turn) (left : ℕ → Links) (tells : ℕ → ℕ → Option ℕ) (next : Words) : Type 0 where
+  pub turns : (r : ℕ) → IsOwn net own r → IsTurn net layout n r (b.routers r) (t r)
+  pub left_are : (s : ℕ) → IsOwn net own s → left s ≡ (t s).left
+  pub told_are : (s o : ℕ) → IsOwn net own s → o < size net → tells s o ≡ tells_in net layout n (b.routers s) (t s) o
+  pub sent : (r q s port : ℕ) → IsOwn net own r → neighbour net.relation.grid r q ≡ Some (s, port) → own s ≡ false → Sends net n s port (left s) (tells s)
+  pub gathered_are : (r : ℕ) → IsOwn net own r
+      → HasGathered net.relation.grid net.relation.vcs left tells (numbers_in net layout n (b.routers r)) r (next.routers r)
+  pub are : (r : ℕ) → IsOwn net own r → HasTurned (t r) (next.routers r)
+  pub last : IsLastAfter (IsOwn net own) n t b.last next.last
+  pub arrivals : AreArrivals (IsOwn net own) (size net) n t (λ s. numbers_in net layout n (b.routers s)) b.arrivals next.arrivals
 
 -- cycle after cycle from the words of an opened network: the words at each count
 pub record HasRunTo (count : ℕ) (net : Setup) (layout : Layout) (end : ℕ) (w : ℕ → Words) : Type 0 where

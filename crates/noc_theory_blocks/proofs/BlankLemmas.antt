@@ -31,6 +31,7 @@ use Rattle.noc_blocks.specs.Steps.{channel_by}
 use Rattle.noc_blocks.specs.Turned.{Working}
 use Rattle.noc_blocks.specs.Turning.{Lane, column_in, router_in}
 use Rattle.noc_blocks.specs.declared.numbering.Numbering.{Numbering}
+use Rattle.noc_blocks.specs.Routing.{headers_of}
 use Rattle.noc_blocks.proofs.StillLemmas.{zero-and}
 use Rattle.noc_blocks.proofs.TakenAllLemmas.{taken-still}
 use Rattle.noc_turns.specs.Held.{MayConclude, MayDecide, MayTake}
@@ -222,7 +223,7 @@ module _ (w : ℕ) (net : Setup) (layout : Layout) (numbering : Numbering) (star
   }
 
 pub blank-may-decide : (net : Setup) (layout : Layout) (numbering : Numbering) (starts : List Start) (n r : ℕ) (a s : Lane) (returned : Returned ℕ) (x : Working) → n < NEVER → IsBlank a → x.links.flits ≡ 0
-    → HasTakenLane net layout starts n a s returned x → MayDecide net.relation numbering net.packets r s x
+    → HasTakenLane net layout starts n a s returned x → MayDecide net.relation numbering (headers_of net.packets) r s x
 blank-may-decide net layout numbering starts n r a s returned x soon blank flits takes = record {
   node = λ some. absurd (some none);
   heads = record {

@@ -38,7 +38,7 @@ use Rattle.noc_theory_bits.proofs.network.NetworkLemmas.{start-tidy}
 use Rattle.noc_blocks.specs.Begins.{source_by}
 use Rattle.noc_blocks.specs.Granting.{before}
 use Rattle.noc_blocks.specs.Numbered.{port_in, vc_in}
-use Rattle.noc_blocks.specs.Routing.{sets_by}
+use Rattle.noc_blocks.specs.Routing.{headers_of, sets_by}
 use Rattle.noc_blocks.specs.Sending.{SendsActive, SendsRight}
 use Rattle.noc_blocks.specs.Turned.{AreWorked, HasRoom, IsReady, Working, turn_in}
 use Rattle.noc_blocks.specs.Turning.{HasConcludedAll, HasDecidedAll, Lane, column_in, router_in}
@@ -127,7 +127,7 @@ module _ (count w : ℕ) (net : Setup) (layout : Layout) (numbering : Numbering)
   ready : IsReady net.relation.vcs (ports net.relation.grid) a
   ready = is-ready count w net layout numbering starts n r x.links counts a setup few fits l lane
 
-  pub may-decide : MayDecide net.relation numbering net.packets r s x
+  pub may-decide : MayDecide net.relation numbering (headers_of net.packets) r s x
   may-decide = record {
     node = λ some. l;
     heads = standing-heads count net layout starts numbering n r counts a s returned x setup few fits.layout_is fits.numbered l lane.shows ready takes;
@@ -183,11 +183,11 @@ module _ (count w : ℕ) (net : Setup) (layout : Layout) (numbering : Numbering)
   pub may-conclude : MayConclude (length net.packets) d y
   may-conclude = record {
     owned = λ i e.
-        let moves = released-moved w net.relation.vcs (ports net.relation.grid) (port_in numbering) (vc_in numbering) (sets_by net.relation numbering net.packets r) returned.single s d x.standing y.moves y.decided has.decides i e in
+        let moves = released-moved w net.relation.vcs (ports net.relation.grid) (port_in numbering) (vc_in numbering) (sets_by net.relation numbering (headers_of net.packets) r) returned.single s d x.standing y.moves y.decided has.decides i e in
         let one = selected-sends (ports net.relation.grid) x.standing.picked g.marks.to_port g.marks.port_turn i (ap (λ m. has_bit m i) (sym has.decides.moved.moved) ∙ moves) in
         let taken = ap (λ (m : RouterMarks). m.taken i) has.decides.marks ∙ granted-sends.taken one.0 i one.1 one.2 in
         subst (λ t. 0 < t) (sym taken) (pow_pos (one.0 * net.relation.vcs + plane_number d.vc i));
-    held = λ i e. leaves-known count net layout starts n r counts w (port_in numbering) (vc_in numbering) (sets_by net.relation numbering net.packets r) a s d returned (record x { moves = y.moves; decided = y.decided }) i setup few fits.layout_is l
+    held = λ i e. leaves-known count net layout starts n r counts w (port_in numbering) (vc_in numbering) (sets_by net.relation numbering (headers_of net.packets) r) a s d returned (record x { moves = y.moves; decided = y.decided }) i setup few fits.layout_is l
         lane.shows (is-ready count w net layout numbering starts n r x.links counts a setup few fits l lane) has.takes has.decides e;
   }
 
@@ -208,7 +208,7 @@ module _ (count w : ℕ) (net : Setup) (layout : Layout) (numbering : Numbering)
       ∙ ap (λ (e : Decided ℕ). record x { moves = y.moves; decided = e }) (sym freed-same)
 
   decides : HasDecidedAll w net.relation.vcs (ports net.relation.grid) (port_in numbering) (vc_in numbering) (permitted net r) returned.single s d x.standing y.moves z.decided
-  decides = decided-on w net.relation.vcs (ports net.relation.grid) (port_in numbering) (vc_in numbering) (sets_by net.relation numbering net.packets r) (permitted net r) returned.single s d x.standing y.moves y.decided z.decided
+  decides = decided-on w net.relation.vcs (ports net.relation.grid) (port_in numbering) (vc_in numbering) (sets_by net.relation numbering (headers_of net.packets) r) (permitted net r) returned.single s d x.standing y.moves y.decided z.decided
       (λ m u wanted sets routed. routed-permitted net numbering r x.standing.heads wanted sets m u fits.numbered (heads-below count w net layout numbering starts n r counts a s returned x setup few fits l lane has.decided.takes) routed)
       freed-same has.decided.decides
 

@@ -1,6 +1,6 @@
 -- Rows of what has left all routers.
 use Rattle.std.proofs.Common.{◌≡◌, ◌≢◌, ℕ, ◌+◌, ◌*◌, ◌/◌, ◌%◌, ◌<◌, ◌≤◌, List, Option, ap, sym, ◌∙◌, subst, arith, inl, inr}
-use Rattle.std.specs.Prelude.{◌⊎◌, slice_index}
+use Rattle.std.specs.Prelude.{◌⊎◌, slice_index, unwrap_or}
 use Rattle.std.proofs.lemmas.Bool.{cases_eq, cases_lt}
 use Rattle.std.proofs.lemmas.Nat.{mod_below}
 use Rattle.noc_topo.specs.Shape.{Grid, IsGrid, nodes, ports}
@@ -8,7 +8,7 @@ use Rattle.noc_sets.specs.Cycle.{Links, Router}
 use Rattle.noc_sets.specs.Gather.{gathered_row}
 use Rattle.noc_sets.proofs.GatherLemmas.{row-gathered}
 use Rattle.noc_theory_bits.specs.Network.{HasGathered}
-use Rattle.noc_theory_bits.specs.Owners.{told}
+use Rattle.noc_theory_bits.specs.Owners.{heard}
 use Rattle.noc_theory_blocks.specs.Rows.{AreOfBlock, HasPut, Rows, StandInRow, StandInRows}
 
 -- ---- a block is written
@@ -37,9 +37,9 @@ module _ (block routers : ℕ) (lanes was is : ℕ → ℕ) (old new : List ℕ)
   ]
 
 -- ---- what is gathered
-module _ (g : Grid) (vcs : ℕ) (rows : Rows) (left : ℕ → Links) (grants : ℕ → ℕ → Option ℕ) (packets : ℕ → ℕ → ℕ) (r : ℕ) (w : Router) (sound : IsGrid g) (known : r < nodes g) (stand : StandInRows rows (nodes g) left) where
+module _ (g : Grid) (vcs : ℕ) (rows : Rows) (left : ℕ → Links) (tells : ℕ → ℕ → Option ℕ) (packets : ℕ → ℕ) (r : ℕ) (w : Router) (sound : IsGrid g) (known : r < nodes g) (stand : StandInRows rows (nodes g) left) where
   pub brought : w.links.flits ≡ gathered_row g vcs 256 rows.flits r → w.links.tails ≡ gathered_row g vcs 256 rows.tails r → w.links.credits ≡ gathered_row g vcs 256 rows.credits r
-      → ((i : ℕ) → i < ports g * vcs → w.marks.packet i ≡ told g vcs grants packets r i) → HasGathered g vcs left grants packets r w
+      → ((i : ℕ) → i < ports g * vcs → w.marks.packet i ≡ unwrap_or (heard g vcs tells r i) (packets i)) → HasGathered g vcs left tells packets r w
   brought f t c p = record {
     flits = f ∙ row-gathered g sound vcs 256 (λ s. (left s).flits) rows.flits stand.of_flits r known;
     tails = t ∙ row-gathered g sound vcs 256 (λ s. (left s).tails) rows.tails stand.of_tails r known;

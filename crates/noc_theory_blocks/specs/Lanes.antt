@@ -10,7 +10,7 @@ use Rattle.noc_lanes.specs.declared.channels.Returned.{Returned}
 use Rattle.noc_theory.specs.Network.{Setup, size}
 use Rattle.noc_theory_bits.specs.Network.{ShowsRouter}
 use Rattle.noc_blocks.specs.Numbered.{IsNumbered, port_in, vc_in}
-use Rattle.noc_blocks.specs.Routing.{sets_by}
+use Rattle.noc_blocks.specs.Routing.{headers_of, sets_by}
 use Rattle.noc_blocks.specs.Sending.{SendsRight}
 use Rattle.noc_blocks.specs.Turned.{HasRoom, Working, grants_in}
 use Rattle.noc_blocks.specs.Turning.{HasConcludedAll, HasDecidedAll, HasTakenAll, Lane, router_in}
@@ -44,7 +44,7 @@ pub record HasDecidedLane (w : ℕ) (net : Setup) (layout : Layout) (numbering :
     : Type 0 where
   pub takes : HasTakenLane net layout starts n a s returned x
   pub decides : HasDecidedAll w net.relation.vcs (ports net.relation.grid) (port_in numbering)
-      (vc_in numbering) (sets_by net.relation numbering net.packets r) returned.single s d
+      (vc_in numbering) (sets_by net.relation numbering (headers_of net.packets) r) returned.single s d
       x.standing y.moves y.decided
   pub rest : y ≡ record x { moves = y.moves; decided = y.decided }
 

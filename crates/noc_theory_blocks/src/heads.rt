@@ -14,7 +14,7 @@ ghost use Rattle.noc_theory.specs.Good.{IsGoodSetup};
 ghost use Rattle.noc_theory.specs.Network.{Setup, size};
 ghost use Rattle.noc_theory.specs.declared.limits.TheConstants.{CYCLE_LIMIT};
 ghost use Rattle.noc_theory_bits.specs.Network.{ShowsRouter, permitted};
-ghost use Rattle.noc_blocks.specs.Routing.{AreHeads, AreRoutable, sets_by};
+ghost use Rattle.noc_blocks.specs.Routing.{AreHeads, AreRoutable, headers_of, sets_by};
 ghost use Rattle.noc_blocks.specs.Turned.{IsReady, Working};
 ghost use Rattle.noc_blocks.specs.Turning.{HasTakenAll, Lane, router_in};
 ghost use Rattle.noc_lanes.specs.declared.channels.Returned.{Returned};
@@ -23,7 +23,7 @@ ghost use Rattle.noc_blocks.specs.Numbered.{IsNumbered};
 
 /// The packets of a good setup can be routed.
 pub fn packets_are_routable()
-    ensures { (net : Setup) → IsGoodSetup net → AreRoutable net.relation net.packets }
+    ensures { (net : Setup) → IsGoodSetup net → AreRoutable net.relation (headers_of net.packets) }
 {}
 
 /// In a router that shows the network, its channels with a head are heads of packets.
@@ -34,7 +34,7 @@ pub fn heads_of_a_router_are_heads()
         → IsNumbered (size net) net.relation.vcs numbering
         → r < nodes net.relation.grid → ShowsRouter count net n r starts b
         → AreOwners (lane_raised b.links.credits b.column) b.marks.owner up → up < 2 ^ 64
-        → AreHeads net.relation numbering net.packets
+        → AreHeads net.relation numbering (headers_of net.packets)
         (lane_heads (still_of layout starts n up b).filled (still_of layout starts n up b).column)
         (packets_in layout starts n b) }
 {}
@@ -50,7 +50,7 @@ pub fn standing_heads_are_heads()
         → IsReady net.relation.vcs (ports net.relation.grid) a
         → HasTakenAll net.relation.vcs (ports net.relation.grid) layout starts n x.links a s
         returned x.arrived x.standing
-        → AreHeads net.relation numbering net.packets x.standing.heads s.marks.packet }
+        → AreHeads net.relation numbering (headers_of net.packets) x.standing.heads s.marks.packet }
 {}
 
 /// Where channels of a router are routed by the numbering, they are as the relation permits.
@@ -58,6 +58,6 @@ pub fn heads_are_routed_as_permitted()
     ensures { (net : Setup) (numbering : Numbering) (r heads wanted all : ℕ) (m w : RouterMarks)
         → IsNumbered (size net) net.relation.vcs numbering
         → ((k : ℕ) → has_bit heads k ≡ true → k < size net)
-        → HasRouted heads (sets_by net.relation numbering net.packets r) m w wanted all
+        → HasRouted heads (sets_by net.relation numbering (headers_of net.packets) r) m w wanted all
         → HasRouted heads (permitted net r) m w wanted all }
 {}

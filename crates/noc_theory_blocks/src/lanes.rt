@@ -18,6 +18,7 @@ ghost use Rattle.noc_blocks.specs.Sending.{SendsRight};
 ghost use Rattle.noc_blocks.specs.Turned.{AreWorked, IsAsleep, Working, grants_in, turn_in};
 ghost use Rattle.noc_blocks.specs.Turning.{Lane, router_in};
 ghost use Rattle.noc_blocks.specs.declared.numbering.Numbering.{Numbering};
+ghost use Rattle.noc_blocks.specs.Routing.{headers_of};
 ghost use Rattle.noc_turns.specs.Held.{MayConclude, MayDecide, MayTake};
 ghost use Rattle.noc_turns.specs.Outlooks.{comes_to, held_in};
 ghost use Rattle.noc_theory_blocks.specs.Lanes.{DoesNothing, FitsNetwork, HasConcludedLane, HasDecidedLane, HasTakenLane, IsGranted, ShowsLane};
@@ -35,7 +36,7 @@ pub fn lanes_have_what_is_asked_for()
         → IsGoodSetup net → n < CYCLE_LIMIT → FitsNetwork count w net layout numbering
         → r < nodes net.relation.grid → ShowsLane count net n r starts x.links counts a
         → HasTakenLane net layout starts n a s returned x
-        → MayDecide net.relation numbering net.packets r s x }
+        → MayDecide net.relation numbering (headers_of net.packets) r s x }
     ensures concluding { (count w : ℕ) (net : Setup) (layout : Layout) (numbering : Numbering)
         (starts : List Start) (n r : ℕ) (counts : ℕ → ByVerdict) (a s d : Lane)
         (returned : Returned ℕ) (x y : Working)
@@ -125,7 +126,7 @@ pub fn blank_lanes_have_what_is_asked_for()
         (starts : List Start) (n r : ℕ) (a s : Lane) (returned : Returned ℕ) (x : Working)
         → n < NEVER → IsBlank a → x.links.flits ≡ 0
         → HasTakenLane net layout starts n a s returned x
-        → MayDecide net.relation numbering net.packets r s x }
+        → MayDecide net.relation numbering (headers_of net.packets) r s x }
     ensures concluding { (w : ℕ) (net : Setup) (layout : Layout) (numbering : Numbering)
         (starts : List Start) (n r packets : ℕ) (a s d : Lane) (returned : Returned ℕ)
         (x y : Working)

@@ -1,4 +1,4 @@
--- What a network does in each cycle, in words of its state: who is granted what, which flit
+-- What a network does in each cycle, in terms of its state: who is granted what, which flit
 -- moves, and why others wait (docs/MODEL.md, "Arbiters" and "Verdicts"; Dally and Towles,
 -- chapters 16, 18 and 19).
 use Rattle.std.specs.Prelude.{◌≡◌, ℕ, ◌+◌, ◌*◌, ◌/◌, ◌%◌, ◌<◌, ◌≤◌, true, false, IsTrue, Some, None, ◌↔◌, ◌⊎◌}
@@ -11,7 +11,7 @@ use Rattle.noc_view.specs.declared.verdict.Verdict.{Verdict}
 use Rattle.noc_view.specs.declared.verdict.Verdict.TheVariants.{Empty, Routed, Granted, Moved, NoFlit, NoIdleChannel, LostChannel, NoCredit, LostInput, LostSwitch}
 use Rattle.noc_theory.specs.Network.{Setup, State, Out, size, packet_at, arriving, leaving, owner_of, has_channel, count_in, credit_of, arbiters_at, all_inputs, verdict_in, place_of_flit, state_at, frozen_at}
 use Rattle.noc_theory.specs.Worm.{IsWormOrder}
-use Rattle.noc_theory.specs.Good.{IsValid, places_taken}
+use Rattle.noc_theory.specs.Good.{IsValid, slots_taken}
 
 -- x comes first in turn: of the requesters below the size that ask, none stands
 -- less far behind the pointer
@@ -137,12 +137,12 @@ pub record IsRightCycle (net : Setup) (n : ℕ) : Type 0 where
   pub once : (r i s j : ℕ) (c : Channel) → IsInputOf net r i c → IsInputOf net s j c → (r ≡ s) × (i ≡ j)
   -- it gets each verdict exactly where that says what holds
   pub verdicts : (r i : ℕ) (c : Channel) → IsInputOf net r i c → (verdict : Verdict) → (verdict_in net (frozen_at net n) c ≡ verdict) ↔ Says net (frozen_at net n) r i c verdict
-  -- no buffer holds more than its places or flits of two packets, no channel has two owners
+  -- no buffer holds more than its slots or flits of two packets, no channel has two owners
   pub start : IsWormOrder net (state_at net n)
   pub frozen : IsWormOrder net (frozen_at net n)
-  -- the credits of a channel are the places of its buffer that are left, also those
+  -- the credits of a channel are the free slots of its buffer, also those
   -- that the verdicts look at
-  pub credits : (c : Channel) → credit_of net (state_at net n) c + places_taken net (state_at net n) c ≡ net.depth
-  pub frozen_credits : (c : Channel) → credit_of net (frozen_at net n) c + places_taken net (frozen_at net n) c ≡ net.depth
+  pub credits : (c : Channel) → credit_of net (state_at net n) c + slots_taken net (state_at net n) c ≡ net.depth
+  pub frozen_credits : (c : Channel) → credit_of net (frozen_at net n) c + slots_taken net (frozen_at net n) c ≡ net.depth
   -- the flits of a packet go out in order
   pub out_in_order : (p i j a b : ℕ) → IsValid net p j → i < j → place_of_flit net (state_at net n) p i ≡ Out a → place_of_flit net (state_at net n) p j ≡ Out b → a < b

@@ -18,8 +18,8 @@ ghost use Rattle.noc_route.specs.Ranks.{IsRankedBy, Ranking};
 /// permits, and its request comes first in turn. Its flit moves exactly where its packet owns the
 /// next channel, a credit is there, and the flit wins its input port and its output port. Each
 /// stall names the first condition that fails. No buffer holds more flits than its depth, or flits
-/// of two packets, and no channel has two owners. The credits of a channel are the places that are
-/// left, and the flits of a packet go out in order.
+/// of two packets, and no channel has two owners. The credits of a channel are the slots that are
+/// free, and the flits of a packet go out in order.
 pub fn every_cycle_is_right()
     ensures { (net : Setup) (n : ℕ) → IsGoodSetup net → IsRightCycle net n }
 {}

@@ -2,10 +2,10 @@
 //! and every order of router steps.
 //!
 //! Their premise is `IsGoodSetup` (noc_theory, specs/Good): the relation was built, each buffer has
-//! a place, each packet can be sent. The law on steps asks beside it for a count within the limit,
+//! a slot, each packet can be sent. The law on steps asks beside it for a count within the limit,
 //! which every network keeps (`Network::count` of noc_net), and that on ranks for a relation that
 //! is ranked. They speak of the state of the whole network, its owners, flits, credits and pointers
-//! (noc_theory, specs/Network), and their own words stand in the specs of this crate:
+//! (noc_theory, specs/Network), and their own terms stand in the specs of this crate:
 //! - `Headline` has what each verdict says of a channel, and what holds of
 //!   a cycle (`IsRightCycle`);
 //! - `Effects` has what a cycle does to channels, owners, flits, credits and

@@ -7,11 +7,11 @@ use std::hint;
 use std::sync::atomic::{AtomicBool, Ordering};
 
 // How often a gate looks whether what it waits for has come.
-const TURNS: u32 = 100_000_000;
+const LOOKS: u32 = 100_000_000;
 
 // Waits until a flag is raised. False where it isn't after so many looks.
 fn is_raised_soon(flag: &AtomicBool) -> bool {
-    for _ in 0..TURNS {
+    for _ in 0..LOOKS {
         if flag.load(Ordering::SeqCst) {
             return true;
         }

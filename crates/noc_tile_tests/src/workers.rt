@@ -1,7 +1,7 @@
 //! Every number of workers gives the reports of one.
 
 ghost use Rattle.std.specs.Prelude.{◌≡◌, ◌<◌, ◌≤◌};
-ghost use Rattle.noc_tiles.specs.declared.limits.TheConstants.{MAX_WORKERS};
+ghost use Rattle.noc_tiles.specs.declared.tile.TheConstants.{MAX_WORKERS};
 
 use crate::texts::{
     LINE_LATENCY, LINE_STALLS, RING_LATENCY, TORUS_LATENCY, assert_latency, assert_reports, stalls,

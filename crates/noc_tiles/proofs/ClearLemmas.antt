@@ -6,12 +6,11 @@ use Rattle.std.proofs.lemmas.List.{length-map, get_or-map}
 use Rattle.noc_packet.specs.declared.packet.Beat.{Beat}
 use Rattle.noc_view.specs.View.{idle_beat}
 use Rattle.noc_theory.specs.Halves.{beat_at}
-use Rattle.noc_tiles.specs.Ends.{outlet}
-use Rattle.noc_tiles.specs.RingEnd.{WireEnd}
+use Rattle.noc_tiles.specs.Ends.{outlet, WireEnd}
 use Rattle.noc_tiles.specs.Phases.{IsCleared}
 use Rattle.noc_tiles.specs.TileStep.{arrival_ports, with_beat}
 use Rattle.noc_tiles.specs.Tiles.{AreLinkPorts}
-use Rattle.noc_tiles.specs.declared.wires.Outlet.{Outlet}
+use Rattle.noc_tiles.specs.declared.ends.Outlet.{Outlet}
 use Rattle.noc_tiles.proofs.TileStepLemmas.{Tells}
 
 pub place-of : {X A : Type 0} (f : X → WireEnd A) (xs : List X) (i : ℕ) (d : X) (e : ℕ × ℕ) → i < length xs → get_or (arrival_ports (map f xs)) i e ≡ (f (get_or xs i d)).at

@@ -2,36 +2,32 @@
 use Rattle.std.proofs.Common.{◌≡◌, ◌≢◌, inl, inr, ℕ, suc, ◌+◌, ◌-◌, ◌<◌, ◌≤◌, Bool, true, false, List, [], ◌∷◌, map, length, get_or, Option, Some, None, refl, ap, ap₂, sym, ◌∙◌, arith, subst, ⊎_elim}
 use Rattle.std.specs.Prelude.{nat_eq, ◌&&◌, if◌then◌else◌}
 use Rattle.std.proofs.lemmas.Bool.{cases_lt, false≢true, le-ltb}
-use Rattle.std.proofs.lemmas.List.{get_or-map, length-map, length-replicate, map-id, same_lists}
+use Rattle.std.proofs.lemmas.List.{get_or-map, length-map, length-replicate, same_lists}
 use Rattle.noc_topo.specs.Lists.{tabulate, map_indexed}
 use Rattle.noc_topo.specs.Shape.{local_port, neighbour, nodes}
 use Rattle.noc_topo.proofs.ListLemmas.{length-tabulate, get_or-tabulate, tabulate-from_each, length-map_indexed, get_or-map_indexed}
 use Rattle.noc_packet.specs.declared.packet.Beat.{Beat}
 use Rattle.noc_route.specs.Routes.{Routes}
-use Rattle.noc_view.specs.declared.finding.Recording.{Recording}
-use Rattle.noc_view.specs.declared.finding.Recording.TheVariants.{Record, Leave}
 use Rattle.noc_view.specs.Finish.{view_after_finish}
 use Rattle.noc_view.specs.View.{Site, View, IsRelationOf, view_after_takes, idle_beat, local_step, opening_view}
 use Rattle.noc_view.proofs.SiteLemmas.{all_taken-site}
 use Rattle.noc_theory.specs.Halves.{HasItsBeats, beat_at, view_after_decide, view_after_puts, incoming}
-use Rattle.noc_theory.specs.Unseen.{AreSameViews, without_findings}
 use Rattle.noc_theory.proofs.runs.RunLemmas.{map_map_indexed}
 use Rattle.noc_theory.proofs.runs.StepLemmas.{IsRelationOf-same_site, local_step-view, local_step-beats}
-use Rattle.noc_tiles.specs.Inner.{AreInner, CanFinish, to_send}
-use Rattle.noc_tiles.specs.Phases.{IsCleared}
+use Rattle.noc_tiles.specs.Phases.{AreInner, CanFinish, to_send, IsCleared}
 use Rattle.noc_tiles.specs.TileStep.{Layout, TileState, Beats, with_beat, with_row, is_own, is_from, beat_among, beat_of, beats_arriving, steps, sent_of, out_at, after_steps, put_by}
 use Rattle.noc_tiles.specs.Tiles.{PartsFit}
-use Rattle.noc_tiles.specs.declared.inner.Inner.{Inner}
+use Rattle.noc_tiles.specs.declared.tile.Inner.{Inner}
 use Rattle.noc_tiles.specs.declared.tile.Tile.{Tile}
 use Rattle.noc_tiles.proofs.ClearLemmas.{place_at}
 use Rattle.noc_tiles.proofs.EdgeLemmas.{cases_bool}
-use Rattle.noc_tiles.proofs.FinishLemmas.{finish-site, finish-unseen}
+use Rattle.noc_tiles.proofs.FinishLemmas.{finish-site}
 use Rattle.noc_tiles.proofs.TileStepLemmas.{Tells}
 use Rattle.noc_tiles.proofs.SentLemmas.{past-rows, sent_by}
 use Rattle.std.proofs.lemmas.Bool.Decides.{eqb_tells}
 
 -- the first half of a cycle is to take, and then to finish
-finish-decide : (relation : Routes) (n : ℕ) (beats : List Beat) (v : View) → view_after_finish relation n Record (view_after_takes relation beats v) ≡ view_after_decide relation n Record beats v
+finish-decide : (relation : Routes) (n : ℕ) (beats : List Beat) (v : View) → view_after_finish relation n (view_after_takes relation beats v) ≡ view_after_decide relation n beats v
 unfolding view_after_decide
 finish-decide relation n beats v = refl
 
@@ -101,7 +97,7 @@ module _ (relation : Routes) (first : ℕ) (ins outs : List (ℕ × ℕ)) (views
 
     -- the first half of the cycle of router i
     abbrev pub half : ℕ → View → View
-    half i v = view_after_decide relation n Record (beats_arriving relation at_place at_start row i) v
+    half i v = view_after_decide relation n (beats_arriving relation at_place at_start row i) v
 
     abbrev pub halves : List View
     halves = map_indexed half views
@@ -132,13 +128,13 @@ module _ (relation : Routes) (first : ℕ) (ins outs : List (ℕ × ℕ)) (views
       site1 : (i : ℕ) (d : View) → i < length views → (get_or views1 i d).site ≡ (get_or views i d).site
       site1 i d l = ap (λ (v : View). v.site) (at1 i d l) ∙ all_taken-site relation (beats_arriving relation at_place at_start row i) (get_or views i d)
 
-      half1 : (i : ℕ) (d : View) → i < length views → view_after_finish relation n Record (get_or views1 i d) ≡ half i (get_or views i d)
-      half1 i d l = ap (view_after_finish relation n Record) (at1 i d l) ∙ finish-decide relation n (beats_arriving relation at_place at_start row i) (get_or views i d)
+      half1 : (i : ℕ) (d : View) → i < length views → view_after_finish relation n (get_or views1 i d) ≡ half i (get_or views i d)
+      half1 i d l = ap (view_after_finish relation n) (at1 i d l) ∙ finish-decide relation n (beats_arriving relation at_place at_start row i) (get_or views i d)
 
       sent1 : (d : View) → to_send relation n views1 ≡ sent_of relation at_place made
       sent1 d =
-          ap (map (λ (v : View). (view_after_finish relation n Record v).to_put)) taken
-          ∙ map_map_indexed (λ (v : View). (view_after_finish relation n Record v).to_put) took_in (λ (v : View). v.to_put) half views d d d
+          ap (map (λ (v : View). (view_after_finish relation n v).to_put)) taken
+          ∙ map_map_indexed (λ (v : View). (view_after_finish relation n v).to_put) took_in (λ (v : View). v.to_put) half views d d d
           (λ i v l. ap (λ (w : View). w.to_put) (finish-decide relation n (beats_arriving relation at_place at_start row i) v))
           ∙ sym (made-sent d)
 
@@ -157,40 +153,31 @@ module _ (relation : Routes) (first : ℕ) (ins outs : List (ℕ × ℕ)) (views
 
       -- they have finished
       module _ (d : View) (views5 : List View) (count5 : length views5 ≡ length views) where
-        all5 : (u : View → View) → ((k : ℕ) (e : View) → k < length views → u (get_or views5 k e) ≡ u (view_after_puts (view_after_finish relation n Record (get_or views1 k e)))) → map u views5 ≡ map u (after_steps relation at_place made).views
+        pub all-views : ((k : ℕ) (e : View) → k < length views → get_or views5 k e ≡ view_after_puts (view_after_finish relation n (get_or views1 k e))) → views5 ≡ (after_steps relation at_place made).views
         unfolding after_steps
-        all5 u each =
-            same_lists (map u views5) (map u (map view_after_puts halves))
-            (length-map views5 u ∙ count5 ∙ sym (length-map (map view_after_puts halves) u ∙ length-map halves view_after_puts ∙ length-map_indexed half views))
+        all-views each =
+            same_lists views5 (map view_after_puts halves) (count5 ∙ sym (length-map halves view_after_puts ∙ length-map_indexed half views))
             (λ k e l.
-            let few : k < length views = omega (arith, length-map views5 u, count5, l) in
-            let few' : k < length halves = omega (arith, length-map_indexed half views, few) in
-            get_or-map u views5 k e e (omega (arith, count5, few))
-            ∙ each k e few
-            ∙ ap (λ (v : View). u (view_after_puts v)) (half1 k e few ∙ sym (get_or-map_indexed half views k e e few))
-            ∙ ap u (sym (get_or-map view_after_puts halves k e e few'))
-            ∙ sym (get_or-map u (map view_after_puts halves) k e e (omega (arith, length-map halves view_after_puts, few'))))
-            ∙ ap (map u) (sym (made-views d))
+            let few : k < length views = omega (arith, count5, l) in
+            each k e few
+            ∙ ap view_after_puts (half1 k e few ∙ sym (get_or-map_indexed half views k e e few))
+            ∙ sym (get_or-map view_after_puts halves k e e (omega (arith, length-map_indexed half views, few))))
+            ∙ sym (made-views d)
 
-        pub all-views : (findings : Recording) → ((k : ℕ) (e : View) → k < length views → get_or views5 k e ≡ view_after_puts (view_after_finish relation n findings (get_or views1 k e)))
-            → AreSameViews findings views5 (after_steps relation at_place made).views
-        all-views Record each = let same : View → View = λ v. v in sym (map-id views5) ∙ all5 same each ∙ map-id (after_steps relation at_place made).views
-        all-views Leave each = all5 without_findings (λ k e l. ap without_findings (each k e l) ∙ finish-unseen relation n Leave (get_or views1 k e))
-
-        module _ (did : (k : ℕ) (e : View) → k < length views → without_findings (get_or views5 k e) ≡ without_findings (view_after_puts (view_after_finish relation n Record (get_or views1 k e)))) where
+        module _ (did : (k : ℕ) (e : View) → k < length views → get_or views5 k e ≡ view_after_puts (view_after_finish relation n (get_or views1 k e))) where
           placed5 : (k : ℕ) (e : View) → k < length views5 → HasItsBeats relation (first + k) (get_or views5 k e)
           placed5 k e l =
               let l' : k < length views = omega (arith, count5, l) in
               let was = set.placed k e l' in
               let same = did k e l' in
               let site : (get_or views5 k e).site ≡ (get_or views k e).site =
-              ap (λ (v : View). v.site) same ∙ finish-site relation n Record (get_or views1 k e) ∙ site1 k e l' in
+              ap (λ (v : View). v.site) same ∙ finish-site relation n (get_or views1 k e) ∙ site1 k e l' in
               record {
                 built_for = IsRelationOf-same_site relation (get_or views k e) (get_or views5 k e) site was.built_for;
                 site = ap (λ (s : Site). s.node) site ∙ was.site;
                 beats = ap (λ (v : View). length v.to_put) same
-                    ∙ length-replicate (local_port (view_after_finish relation n Record (get_or views1 k e)).site.grid) idle_beat
-                    ∙ ap (λ (s : Site). local_port s.grid) (finish-site relation n Record (get_or views1 k e) ∙ site1 k e l')
+                    ∙ length-replicate (local_port (view_after_finish relation n (get_or views1 k e)).site.grid) idle_beat
+                    ∙ ap (λ (s : Site). local_port s.grid) (finish-site relation n (get_or views1 k e) ∙ site1 k e l')
                     ∙ ap local_port (sym was.built_for.grid);
               }
 

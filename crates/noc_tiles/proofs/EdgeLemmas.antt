@@ -7,13 +7,10 @@ use Rattle.std.proofs.lemmas.List.{get_or-map}
 use Rattle.noc_topo.specs.Shape.{neighbour, nodes}
 use Rattle.noc_packet.specs.declared.packet.Beat.{Beat}
 use Rattle.noc_route.specs.Routes.{Routes}
-use Rattle.noc_view.specs.declared.finding.Recording.{Recording}
-use Rattle.noc_view.specs.declared.finding.Recording.TheVariants.{Record}
 use Rattle.noc_view.specs.Finish.{view_after_finish}
 use Rattle.noc_view.specs.View.{View, IsRelationOf, idle_beat}
 use Rattle.noc_theory.specs.Halves.{beat_at, view_after_puts}
-use Rattle.noc_tiles.specs.Inner.{CanFinish, HaveFinished, put_from, to_send}
-use Rattle.noc_tiles.specs.Phases.{IsCleared}
+use Rattle.noc_tiles.specs.Phases.{CanFinish, HaveFinished, put_from, to_send, IsCleared}
 use Rattle.noc_tiles.specs.TileStep.{is_own, is_from, beat_among}
 use Rattle.noc_tiles.specs.declared.tile.Tile.{Tile}
 use Rattle.noc_tiles.proofs.SentLemmas.{own-true, own-false, own-within}
@@ -121,8 +118,8 @@ can-part relation i j i' j' t can l m n = record {
 }
 
 -- those that are not among the ones that have finished still can
-pub can-after : (relation : Routes) (n : ℕ) (findings : Recording) (i j i' j' : ℕ) (a b : Tile) → HaveFinished relation n findings i j a b → CanFinish relation i' j' a → i ≤ j → (j ≤ i') ⊎ (j' ≤ i) → CanFinish relation i' j' b
-can-after relation n findings i j i' j' a b done can l apart =
+pub can-after : (relation : Routes) (n : ℕ) (i j i' j' : ℕ) (a b : Tile) → HaveFinished relation n i j a b → CanFinish relation i' j' a → i ≤ j → (j ≤ i') ⊎ (j' ≤ i) → CanFinish relation i' j' b
+can-after relation n i j i' j' a b done can l apart =
     let first : b.first ≡ a.first = ap (λ (t : Tile). t.first) done.rest in
     let other : (k : ℕ) → i' ≤ k → k < j' → (k < i) ⊎ (j ≤ k) = λ k u v. ⊎_elim (λ (x : j ≤ i'). inr (omega arith)) (λ (y : j' ≤ i). inl (omega arith)) apart in
     record {
@@ -163,13 +160,13 @@ can-cleared relation i j k outs a b can rest size cleared =
 
 sent-same : (relation : Routes) (n : ℕ) (vs ws : List View) (k : ℕ) (d : View) → k < length vs → k < length ws → get_or vs k d ≡ get_or ws k d → get_or (to_send relation n vs) k [] ≡ get_or (to_send relation n ws) k []
 sent-same relation n vs ws k d l m same =
-    let put = λ (v : View). (view_after_finish relation n Record v).to_put in
+    let put = λ (v : View). (view_after_finish relation n v).to_put in
     get_or-map put vs k d [] l ∙ ap put same ∙ sym (get_or-map put ws k d [] m)
 
 -- the tile before all, after the routers at its edge below the inner ones and after those above
 -- them, with some wires idle, and after the inner ones
-module _ (relation : Routes) (n : ℕ) (findings : Recording) (i j : ℕ) (t1 t2 t3 t4 t5 : Tile) (order : i ≤ j) (within : j ≤ length t1.routers.items) (one : HaveFinished relation n findings 0 i t1 t2) (two : HaveFinished relation n findings j (length t1.routers.items) t2 t3)
-    (rest : t4 ≡ record t3 { beats = t4.beats; outs = t4.outs }) (three : HaveFinished relation n findings i j t4 t5) where
+module _ (relation : Routes) (n : ℕ) (i j : ℕ) (t1 t2 t3 t4 t5 : Tile) (order : i ≤ j) (within : j ≤ length t1.routers.items) (one : HaveFinished relation n 0 i t1 t2) (two : HaveFinished relation n j (length t1.routers.items) t2 t3)
+    (rest : t4 ≡ record t3 { beats = t4.beats; outs = t4.outs }) (three : HaveFinished relation n i j t4 t5) where
   abbrev pub sent : List (List Beat)
   sent = to_send relation n t1.routers.items
 
@@ -198,7 +195,7 @@ module _ (relation : Routes) (n : ℕ) (findings : Recording) (i j : ℕ) (t1 t2
   above5 k d l = three.others k d (inr l) ∙ ap (λ vs. get_or vs k d) routers4
 
   abbrev finished : View → View
-  finished v = view_after_puts (view_after_finish relation n findings v)
+  finished v = view_after_puts (view_after_finish relation n v)
 
   pub views5 : (k : ℕ) (d : View) → k < length t1.routers.items → get_or t5.routers.items k d ≡ finished (get_or t1.routers.items k d)
   views5 k d l =

@@ -5,9 +5,8 @@ use Rattle.std.proofs.lemmas.Bool.Decides.{eqb_tells}
 use Rattle.std.proofs.lemmas.List.{get_or-map, length-map}
 use Rattle.noc_packet.specs.declared.packet.Beat.{Beat}
 use Rattle.noc_theory.specs.Halves.{beat_at}
-use Rattle.noc_tiles.specs.RingEnd.{WireEnd}
-use Rattle.noc_tiles.specs.Ends.{End}
-use Rattle.noc_tiles.specs.Emptying.{AreEnds, CanEmpty, Empties, Left}
+use Rattle.noc_tiles.specs.Ends.{WireEnd, End}
+use Rattle.noc_tiles.specs.Rings.{AreEnds, CanEmpty, Empties, Left}
 use Rattle.noc_tiles.proofs.ClearLemmas.{place_at}
 use Rattle.noc_tiles.specs.TileStep.{with_beat}
 use Rattle.noc_tiles.proofs.TileStepLemmas.{Tells}

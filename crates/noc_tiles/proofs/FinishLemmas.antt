@@ -7,15 +7,12 @@ use Rattle.std.proofs.lemmas.List.{get_or-map, get_or-set_same, get_or-set_other
 use Rattle.noc_topo.specs.Shape.{local_port, neighbour, nodes}
 use Rattle.noc_packet.specs.declared.packet.Beat.{Beat}
 use Rattle.noc_route.specs.Routes.{Routes}
-use Rattle.noc_view.specs.declared.finding.Recording.{Recording}
-use Rattle.noc_view.specs.declared.finding.Recording.TheVariants.{Record, Leave}
 use Rattle.noc_view.specs.Finish.{view_after_finish}
 use Rattle.noc_view.specs.View.{Site, View, IsRelationOf, idle_beat, beat_to_put, view_after_inject, decisions_of}
 use Rattle.noc_view.proofs.SiteLemmas.{injected-site, committed-site}
 use Rattle.noc_theory.proofs.runs.StepLemmas.{IsRelationOf-same_site, count-committed}
 use Rattle.noc_theory.specs.Halves.{HasItsBeats, beat_at, view_after_puts, wire_after_puts}
-use Rattle.noc_theory.specs.Unseen.{without_findings}
-use Rattle.noc_tiles.specs.Inner.{CanFinish, HaveFinished, put_from, to_send}
+use Rattle.noc_tiles.specs.Phases.{CanFinish, HaveFinished, put_from, to_send}
 use Rattle.noc_tiles.specs.TileStep.{is_own, is_from}
 use Rattle.noc_tiles.specs.declared.tile.Tile.{Tile}
 use Rattle.noc_tiles.proofs.SentLemmas.{own-true, own-false, own-same, past-rows}
@@ -23,26 +20,14 @@ use Rattle.noc_tiles.proofs.TileStepLemmas.{Tells}
 
 -- ---- one router that has finished
 
-pub finish-site : (relation : Routes) (n : ℕ) (findings : Recording) (v : View) → (view_after_finish relation n findings v).site ≡ v.site
-finish-site relation n Record v = committed-site (decisions_of relation (view_after_inject n v)) (view_after_inject n v) ∙ injected-site n v
-finish-site relation n Leave v = committed-site (decisions_of relation (view_after_inject n v)) (view_after_inject n v) ∙ injected-site n v
+pub finish-site : (relation : Routes) (n : ℕ) (v : View) → (view_after_finish relation n v).site ≡ v.site
+finish-site relation n v = committed-site (decisions_of relation (view_after_inject n v)) (view_after_inject n v) ∙ injected-site n v
 
--- whether findings are recorded makes no difference to anything else
-pub finish-put : (relation : Routes) (n : ℕ) (findings : Recording) (v : View) → (view_after_finish relation n findings v).to_put ≡ (view_after_finish relation n Record v).to_put
-finish-put relation n Record v = refl
-finish-put relation n Leave v = refl
-
-pub finish-unseen : (relation : Routes) (n : ℕ) (findings : Recording) (v : View)
-    → without_findings (view_after_puts (view_after_finish relation n findings v)) ≡ without_findings (view_after_puts (view_after_finish relation n Record v))
-finish-unseen relation n Record v = refl
-finish-unseen relation n Leave v = refl
-
-pub finish-placed : (relation : Routes) (n : ℕ) (findings : Recording) (v : View) → IsRelationOf relation v → HasItsBeats relation (view_after_finish relation n findings v).site.node (view_after_finish relation n findings v)
-finish-placed relation n findings v fits = record {
-  built_for = IsRelationOf-same_site relation v (view_after_finish relation n findings v) (finish-site relation n findings v) fits;
+pub finish-placed : (relation : Routes) (n : ℕ) (v : View) → IsRelationOf relation v → HasItsBeats relation (view_after_finish relation n v).site.node (view_after_finish relation n v)
+finish-placed relation n v fits = record {
+  built_for = IsRelationOf-same_site relation v (view_after_finish relation n v) (finish-site relation n v) fits;
   site = refl;
-  beats = ap length (finish-put relation n findings v)
-      ∙ count-committed (decisions_of relation (view_after_inject n v)) (view_after_inject n v)
+  beats = count-committed (decisions_of relation (view_after_inject n v)) (view_after_inject n v)
       ∙ ap (λ (s : Site). local_port s.grid) (injected-site n v)
       ∙ ap local_port (sym fits.grid);
 }
@@ -78,8 +63,8 @@ from-more first i k sent w (Some (a, q)) beat l e g = at (eqb_tells a w.site.nod
 
 -- ---- the tile
 
-module _ (relation : Routes) (n : ℕ) (findings : Recording) (i j : ℕ) (a : Tile) (can : CanFinish relation i j a) where
-  pub finished-none : HaveFinished relation n findings i i a a
+module _ (relation : Routes) (n : ℕ) (i j : ℕ) (a : Tile) (can : CanFinish relation i j a) where
+  pub finished-none : HaveFinished relation n i i a a
   finished-none = record {
     rest = refl;
     count = refl;
@@ -89,7 +74,7 @@ module _ (relation : Routes) (n : ℕ) (findings : Recording) (i j : ℕ) (a : T
     wires = λ r q l. sym (from-none a.first i (to_send relation n a.routers.items) (neighbour relation.grid r q) (beat_at a.beats.items r q));
   }
 
-  module _ (b : Tile) (k : ℕ) (so_far : HaveFinished relation n findings i k a b) (from : i ≤ k) (below : k < j) (v : View) (is : v ≡ get_or b.routers.items k v) where
+  module _ (b : Tile) (k : ℕ) (so_far : HaveFinished relation n i k a b) (from : i ≤ k) (below : k < j) (v : View) (is : v ≡ get_or b.routers.items k v) where
     is-first : v ≡ get_or a.routers.items k v
     is-first = is ∙ so_far.others k v (inr (omega arith))
 
@@ -109,7 +94,7 @@ module _ (relation : Routes) (n : ℕ) (findings : Recording) (i j : ℕ) (a : T
         (λ (past : nodes relation.grid ≤ r). past-rows b.beats.items r q (omega (arith, so_far.size, can.count, past)))
         (cases_lt r (nodes relation.grid))
 
-    module _ (c : Tile) (w : View) (same : w ≡ view_after_puts (view_after_finish relation n findings v)) (set_is : c.routers.items ≡ set b.routers.items k w) where
+    module _ (c : Tile) (w : View) (same : w ≡ view_after_puts (view_after_finish relation n v)) (set_is : c.routers.items ≡ set b.routers.items k w) where
       short : k < length b.routers.items
       short = omega (arith, so_far.count, can.within, below)
 
@@ -123,22 +108,22 @@ module _ (relation : Routes) (n : ℕ) (findings : Recording) (i j : ℕ) (a : T
       first-at d = get_or_read a.routers.items k v (omega (arith, short, so_far.count)) is-first d
 
       pub finished-more : c ≡ record b { plan = c.plan; routers = c.routers; beats = c.beats } → length c.beats.items ≡ length b.beats.items
-          → ((r q : ℕ) → r < nodes relation.grid → beat_at c.beats.items r q ≡ wire_after_puts (view_after_finish relation n findings v) (neighbour relation.grid r q) (beat_at b.beats.items r q))
-          → HaveFinished relation n findings i (k + 1) a c
+          → ((r q : ℕ) → r < nodes relation.grid → beat_at c.beats.items r q ≡ wire_after_puts (view_after_finish relation n v) (neighbour relation.grid r q) (beat_at b.beats.items r q))
+          → HaveFinished relation n i (k + 1) a c
       finished-more rest size wires = record {
         rest = rest ∙ ap (λ (t : Tile). record t { plan = c.plan; routers = c.routers; beats = c.beats }) so_far.rest;
         count = ap length set_is ∙ length-set b.routers.items k w ∙ so_far.count;
         size = size ∙ so_far.size;
         views = λ m d l u.
-            ⊎_elim (λ (e : m ≡ k). rw e (here d ∙ same ∙ ap (λ (x : View). view_after_puts (view_after_finish relation n findings x)) (first-at d)))
+            ⊎_elim (λ (e : m ≡ k). rw e (here d ∙ same ∙ ap (λ (x : View). view_after_puts (view_after_finish relation n x)) (first-at d)))
             (λ (ne : m ≢ k). elsewhere m d ne ∙ so_far.views m d l (omega arith)) (cases_eq m k);
         others = λ m d h. elsewhere m d (omega arith) ∙ so_far.others m d (⊎_elim (λ (l : m < i). inl l) (λ (u : k + 1 ≤ m). inr (omega arith)) h);
         wires = λ r q l.
-            let out = view_after_finish relation n findings v in
+            let out = view_after_finish relation n v in
             wires r q l
             ∙ ap (wire_after_puts out (neighbour relation.grid r q)) (so_far.wires r q l)
             ∙ from-more a.first i k (to_send relation n a.routers.items) out (neighbour relation.grid r q) (beat_at a.beats.items r q) from
-            (ap (λ (s : Site). s.node) (finish-site relation n findings v) ∙ next-node)
-            (get_or-map (λ (x : View). (view_after_finish relation n Record x).to_put) a.routers.items k v [] (omega (arith, short, so_far.count))
-            ∙ ap (λ (x : View). (view_after_finish relation n Record x).to_put) (sym is-first) ∙ sym (finish-put relation n findings v));
+            (ap (λ (s : Site). s.node) (finish-site relation n v) ∙ next-node)
+            (get_or-map (λ (x : View). (view_after_finish relation n x).to_put) a.routers.items k v [] (omega (arith, short, so_far.count))
+            ∙ ap (λ (x : View). (view_after_finish relation n x).to_put) (sym is-first));
       }

@@ -15,7 +15,7 @@ use Rattle.noc_theory.proofs.runs.RunLemmas.{count_views, past_wires}
 use Rattle.noc_tiles.specs.Ends.{End}
 use Rattle.noc_tiles.specs.TileStep.{TileState, arrival_ports, after, beats_put, put_in}
 use Rattle.noc_tiles.specs.Tiles.{CanRun, AllCanRun, inlets, outlets, layout_of, state_of}
-use Rattle.noc_tiles.specs.Emptying.{CanEmpty, Empties, Left}
+use Rattle.noc_tiles.specs.Rings.{CanEmpty, Empties, Left}
 use Rattle.noc_tiles.specs.Partition.{IsPartition, routers_of, wire_rows_of}
 use Rattle.noc_tiles.specs.declared.tile.Tile.{Tile}
 use Rattle.noc_tiles.proofs.FlatLemmas.{offset, flat-at, offset-lt, Found, flat-find, column, length-puts, puts-at}

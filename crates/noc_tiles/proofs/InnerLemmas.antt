@@ -1,9 +1,9 @@
 -- The inner routers of a tile, from one wire that leaves it to the next.
 use Rattle.std.proofs.Common.{◌≡◌, ◌⊎◌, inl, inr, ℕ, ◌+◌, ◌-◌, ◌<◌, ◌≤◌, ◌/◌, false, List, get_or, Option, Some, None, refl, ⊎_elim, subst, arith, below_more}
 use Rattle.noc_topo.specs.Shape.{Grid, neighbour}
-use Rattle.noc_tiles.specs.Inner.{AreInner}
+use Rattle.noc_tiles.specs.Phases.{AreInner}
 use Rattle.noc_tiles.specs.TileStep.{is_from}
-use Rattle.noc_tiles.specs.declared.inner.Inner.{Inner}
+use Rattle.noc_tiles.specs.declared.tile.Inner.{Inner}
 use Rattle.noc_tiles.proofs.SentLemmas.{own-false, own-outside}
 
 -- no router of these is the sender

@@ -7,22 +7,17 @@ use Rattle.noc_topo.specs.Shape.{neighbour, nodes}
 use Rattle.noc_topo.proofs.ListLemmas.{length-map_indexed}
 use Rattle.noc_packet.specs.declared.packet.Beat.{Beat}
 use Rattle.noc_route.specs.Routes.{Routes}
-use Rattle.noc_view.specs.declared.finding.Recording.{Recording}
-use Rattle.noc_view.specs.declared.finding.Recording.TheVariants.{Record}
 use Rattle.noc_view.specs.Finish.{view_after_finish}
 use Rattle.noc_view.specs.View.{View}
 use Rattle.noc_theory.specs.Halves.{beat_at, view_after_puts}
-use Rattle.noc_theory.specs.Unseen.{without_findings}
 use Rattle.noc_tiles.specs.Ends.{End}
-use Rattle.noc_tiles.specs.Inner.{AreInner, CanFinish, HaveFinished, to_send}
-use Rattle.noc_tiles.specs.Phases.{TileHasSent, TileHasTaken, IsCleared}
+use Rattle.noc_tiles.specs.Phases.{AreInner, CanFinish, HaveFinished, to_send, TileHasSent, TileHasTaken, IsCleared}
 use Rattle.noc_tiles.specs.TileStep.{beat_among, ends_after_beats, with_row, is_from, arrival_ports}
 use Rattle.noc_tiles.specs.Tiles.{AreLinkPorts, Cycles, IsReady, inlets, outlets}
-use Rattle.noc_tiles.specs.declared.inner.Inner.{Inner}
+use Rattle.noc_tiles.specs.declared.tile.Inner.{Inner}
 use Rattle.noc_tiles.specs.declared.tile.Tile.{Tile}
 use Rattle.noc_tiles.proofs.CycleLemmas.{all-views, can1, wires5, put5, set5, set-as, some_view}
 use Rattle.noc_tiles.proofs.EdgeLemmas.{can-part, can-after, can-cleared, count5, views5, edge3, whole5, kept5}
-use Rattle.noc_tiles.proofs.FinishLemmas.{finish-unseen}
 use Rattle.noc_tiles.proofs.TileStepLemmas.{names-fed, ports-names}
 
 -- ---- what is taken
@@ -37,7 +32,7 @@ took-as ins row old new b0 b1 before after took r q = ap (λ (b : List (List Bea
 
 -- ---- a whole cycle
 
-module _ (relation : Routes) (n : ℕ) (findings : Recording) (inner : Inner) (row : List Beat) (a t1 : Tile) (ready : IsReady relation a) (within : AreInner relation.grid a.first (vec_len a.routers) (arrival_ports (outlets a)) inner)
+module _ (relation : Routes) (n : ℕ) (inner : Inner) (row : List Beat) (a t1 : Tile) (ready : IsReady relation a) (within : AreInner relation.grid a.first (vec_len a.routers) (arrival_ports (outlets a)) inner)
     (took : TileHasTaken relation row a t1) where
   abbrev ins : List (ℕ × ℕ)
   ins = arrival_ports (inlets a)
@@ -74,16 +69,16 @@ module _ (relation : Routes) (n : ℕ) (findings : Recording) (inner : Inner) (r
   pub edge-can : CanFinish relation 0 inner.from t1
   edge-can = can-part relation 0 (length views) 0 inner.from t1 can (omega arith) (omega arith) (omega (arith, fits.order, fits.within))
 
-  module _ (count : ℕ) (all : count ≡ vec_len t1.routers) (t2 : Tile) (one : HaveFinished relation n findings 0 inner.from t1 t2) where
+  module _ (count : ℕ) (all : count ≡ vec_len t1.routers) (t2 : Tile) (one : HaveFinished relation n 0 inner.from t1 t2) where
     all1 : count ≡ length views1
     all1 = let q : vec_len t1.routers ≡ length views1 = search (rules, arith) in all ∙ q
 
     pub rest-can : CanFinish relation inner.to count t2
     rest-can =
         subst (λ k. CanFinish relation inner.to k t2) (sym (all1 ∙ n1))
-        (can-after relation n findings 0 inner.from inner.to (length views) t1 t2 one (can-part relation 0 (length views) inner.to (length views) t1 can (omega arith) fits.within (omega arith)) (omega arith) (inl fits.order))
+        (can-after relation n 0 inner.from inner.to (length views) t1 t2 one (can-part relation 0 (length views) inner.to (length views) t1 can (omega arith) fits.within (omega arith)) (omega arith) (inl fits.order))
 
-    module _ (t3 : Tile) (two : HaveFinished relation n findings inner.to count t2 t3) where
+    module _ (t3 : Tile) (two : HaveFinished relation n inner.to count t2 t3) where
       outs3 : outlets t3 ≡ outlets a
       outs3 = ap outlets two.rest ∙ ap outlets one.rest ∙ ap outlets took.rest
 
@@ -95,8 +90,8 @@ module _ (relation : Routes) (n : ℕ) (findings : Recording) (inner : Inner) (r
 
       middle3 : CanFinish relation inner.from inner.to t3
       middle3 =
-          can-after relation n findings inner.to count inner.from inner.to t2 t3 two
-          (can-after relation n findings 0 inner.from inner.from inner.to t1 t2 one (can-part relation 0 (length views) inner.from inner.to t1 can (omega arith) fits.order fits.within) (omega arith) (inl (omega arith)))
+          can-after relation n inner.to count inner.from inner.to t2 t3 two
+          (can-after relation n 0 inner.from inner.from inner.to t1 t2 one (can-part relation 0 (length views) inner.from inner.to t1 can (omega arith) fits.order fits.within) (omega arith) (inl (omega arith)))
           (omega (arith, all1, n1, fits.within)) (inr (omega arith))
 
       module _ (t4 : Tile) (sent : TileHasSent t3 t4) where
@@ -109,27 +104,24 @@ module _ (relation : Routes) (n : ℕ) (findings : Recording) (inner : Inner) (r
         pub inner-can : CanFinish relation inner.from inner.to t4
         inner-can = can-cleared relation inner.from inner.to (length outs) outs t3 t4 middle3 rest4 sent.size cleared
 
-        module _ (t5 : Tile) (three : HaveFinished relation n findings inner.from inner.to t4 t5) where
+        module _ (t5 : Tile) (three : HaveFinished relation n inner.from inner.to t4 t5) where
           abbrev views' : List View
           views' = t5.routers.items
 
           d : View
           d = some_view relation
 
-          second : HaveFinished relation n findings inner.to (length views1) t2 t3
-          second = subst (λ k. HaveFinished relation n findings inner.to k t2 t3) all1 two
+          second : HaveFinished relation n inner.to (length views1) t2 t3
+          second = subst (λ k. HaveFinished relation n inner.to k t2 t3) all1 two
 
           below : inner.to ≤ length views1
           below = omega (arith, fits.within, n1)
 
           n5 : length views' ≡ length views
-          n5 = count5 relation n findings inner.from inner.to t1 t2 t3 t4 t5 fits.order below one second rest4 three ∙ n1
+          n5 = count5 relation n inner.from inner.to t1 t2 t3 t4 t5 fits.order below one second rest4 three ∙ n1
 
-          finished-as : (k : ℕ) (e : View) → k < length views → get_or views' k e ≡ view_after_puts (view_after_finish relation n findings (get_or views1 k e))
-          finished-as k e l = views5 relation n findings inner.from inner.to t1 t2 t3 t4 t5 fits.order below one second rest4 three k e (omega (arith, n1, l))
-
-          did : (k : ℕ) (e : View) → k < length views → without_findings (get_or views' k e) ≡ without_findings (view_after_puts (view_after_finish relation n Record (get_or views1 k e)))
-          did k e l = ap without_findings (finished-as k e l) ∙ finish-unseen relation n findings (get_or views1 k e)
+          finished-as : (k : ℕ) (e : View) → k < length views → get_or views' k e ≡ view_after_puts (view_after_finish relation n (get_or views1 k e))
+          finished-as k e l = views5 relation n inner.from inner.to t1 t2 t3 t4 t5 fits.order below one second rest4 three k e (omega (arith, n1, l))
 
           same-put : (r q : ℕ) → beat_among t1.first (length views1) (to_send relation n views1) (neighbour relation.grid r q) ≡ beat_among a.first (length views1) (to_send relation n views1) (neighbour relation.grid r q)
           same-put r q = ap (λ m. beat_among m (length views1) (to_send relation n views1) (neighbour relation.grid r q)) first1
@@ -139,14 +131,14 @@ module _ (relation : Routes) (n : ℕ) (findings : Recording) (inner : Inner) (r
 
           edge : (r q : ℕ) → r < nodes relation.grid → is_from (a.first + inner.from) (inner.to - inner.from) (neighbour relation.grid r q) ≡ false
               → beat_at t3.beats.items r q ≡ beat_among a.first (length views1) (to_send relation n views1) (neighbour relation.grid r q)
-          edge r q l h = edge3 relation n findings inner.from inner.to t1 t2 t3 t4 t5 fits.order below one second rest4 three d took.silent r q l (outside r q h) ∙ same-put r q
+          edge r q l h = edge3 relation n inner.from inner.to t1 t2 t3 t4 t5 fits.order below one second rest4 three d took.silent r q l (outside r q h) ∙ same-put r q
 
           whole : (r q : ℕ) → r < nodes relation.grid → beat_at t4.beats.items r q ≡ beat_at t3.beats.items r q
               → beat_at t5.beats.items r q ≡ beat_among a.first (length views1) (to_send relation n views1) (neighbour relation.grid r q)
-          whole r q l same = whole5 relation n findings inner.from inner.to t1 t2 t3 t4 t5 fits.order below one second rest4 three d took.silent r q l same ∙ same-put r q
+          whole r q l same = whole5 relation n inner.from inner.to t1 t2 t3 t4 t5 fits.order below one second rest4 three d took.silent r q l same ∙ same-put r q
 
           kept : (r q : ℕ) → r < nodes relation.grid → is_from (a.first + inner.from) (inner.to - inner.from) (neighbour relation.grid r q) ≡ false → beat_at t5.beats.items r q ≡ beat_at t4.beats.items r q
-          kept r q l h = kept5 relation n findings inner.from inner.to t1 t2 t3 t4 t5 fits.order below one second rest4 three d took.silent r q l (outside r q h)
+          kept r q l h = kept5 relation n inner.from inner.to t1 t2 t3 t4 t5 fits.order below one second rest4 three d took.silent r q l (outside r q h)
 
           ins5 : inlets t5 ≡ ends_after_beats (inlets a) row
           ins5 = ap inlets three.rest ∙ ap inlets rest4 ∙ ap inlets two.rest ∙ ap inlets one.rest ∙ took.ins
@@ -175,17 +167,17 @@ module _ (relation : Routes) (n : ℕ) (findings : Recording) (inner : Inner) (r
           ready-again = record {
             few_links = ready.few_links;
             parts = set-as relation a.first t5.first ins (arrival_ports (inlets t5)) outs (arrival_ports (outlets t5)) views' views' t5.beats.items t5.beats.items (sym first5) (sym same-ins) (sym same-outs) refl refl
-                (set5 relation a.first ins outs views a.beats.items ready.parts row n views1 took.views d views' n5 did t3.beats.items t4.beats.items t5.beats.items inner fits cleared edge whole kept rows5);
+                (set5 relation a.first ins outs views a.beats.items ready.parts row n views1 took.views d views' n5 finished-as t3.beats.items t4.beats.items t5.beats.items inner fits cleared edge whole kept rows5);
           }
 
           -- the tile has made this cycle
-          pub has-cycled : Cycles relation findings n a t5 row
+          pub has-cycled : Cycles relation n a t5 row
           has-cycled = record {
             width = took.width;
-            views = all-views relation a.first ins outs views a.beats.items ready.parts row n views1 took.views d views' n5 findings finished-as;
-            wires = wires5 relation a.first ins outs views a.beats.items ready.parts row n views1 took.views d views' n5 did t3.beats.items t4.beats.items t5.beats.items inner fits cleared edge whole kept;
+            views = all-views relation a.first ins outs views a.beats.items ready.parts row n views1 took.views d views' n5 finished-as;
+            wires = wires5 relation a.first ins outs views a.beats.items ready.parts row n views1 took.views d views' n5 finished-as t3.beats.items t4.beats.items t5.beats.items inner fits cleared edge whole kept;
             ins = ins5;
             outs = outs5
                 ∙ ap (ends_after_beats (outlets a))
-                (put5 relation a.first ins outs views a.beats.items ready.parts row n views1 took.views d views' n5 did t3.beats.items t4.beats.items t5.beats.items inner fits cleared edge whole kept);
+                (put5 relation a.first ins outs views a.beats.items ready.parts row n views1 took.views d views' n5 finished-as t3.beats.items t4.beats.items t5.beats.items inner fits cleared edge whole kept);
           }

@@ -1,18 +1,13 @@
 -- One more cycle of a tile's run.
-use Rattle.std.proofs.Common.{◌≡◌, ℕ, suc, ◌+◌, ◌<◌, ◌≤◌, List, [], ◌∷◌, ◌++◌, map, length, get_or, refl, ap, ap₂, sym, ◌∙◌, subst, arith, below_more}
-use Rattle.std.proofs.lemmas.List.{length_push, get_or_append_left, get_or_push, length-map, get_or-map, same_lists}
+use Rattle.std.proofs.Common.{◌≡◌, ℕ, suc, ◌+◌, ◌<◌, ◌≤◌, List, [], ◌∷◌, ◌++◌, length, get_or, refl, ap, ap₂, sym, ◌∙◌, arith, below_more}
+use Rattle.std.proofs.lemmas.List.{length_push, get_or_append_left, get_or_push, same_lists}
 use Rattle.noc_topo.specs.Lists.{map_indexed}
 use Rattle.noc_topo.specs.Shape.{local_port, nodes}
 use Rattle.noc_topo.proofs.ListLemmas.{length-map_indexed, get_or-map_indexed}
 use Rattle.noc_packet.specs.declared.packet.Beat.{Beat}
 use Rattle.noc_route.specs.Routes.{Routes}
 use Rattle.noc_view.specs.View.{View, local_step, idle_beat}
-use Rattle.noc_view.specs.declared.finding.Recording.{Recording}
-use Rattle.noc_view.specs.declared.finding.Recording.TheVariants.{Record}
-use Rattle.noc_theory.specs.Halves.{beat_at}
-use Rattle.noc_theory.specs.Unseen.{AreSameViews, without_findings}
-use Rattle.noc_theory.proofs.runs.UnseenLemmas.{findings-local_step, same-unseen}
-use Rattle.noc_tiles.specs.RingEnd.{WireEnd}
+use Rattle.noc_tiles.specs.Ends.{WireEnd}
 use Rattle.noc_tiles.specs.TileStep.{Layout, TileState, ends_after_beats, ends_after_rows, arrival_ports, with_row, beats_arriving, steps, after_steps, put_by, tile_after_cycle, put_in, after, beats_put}
 use Rattle.noc_tiles.specs.Tiles.{IsReady, IsSameTile, Cycles, Runs, inlets, outlets, layout_of, state_of}
 use Rattle.noc_tiles.specs.declared.tile.Tile.{Tile}
@@ -40,54 +35,35 @@ module _ (relation : Routes) (P : Layout) where
       ap (λ ps. put_in relation P n T r ∷ ps)
       (puts-more (suc n) (tile_after_cycle relation P n T r) rows row ∙ ap (λ k. beats_put relation P (suc n) (tile_after_cycle relation P n T r) rows ++ put_in relation P k (after relation P (suc n) (tile_after_cycle relation P n T r) rows) row ∷ []) (omega arith))
 
-  -- what was found before makes no difference
-  pub steps-same : (n : ℕ) (T U : TileState) (row : List Beat) → map without_findings T.views ≡ map without_findings U.views → ((r q : ℕ) → r < nodes relation.grid → T.wires r q ≡ U.wires r q) → P.first + length T.views ≤ nodes relation.grid
+  -- equal views and wires make the same steps
+  pub steps-same : (n : ℕ) (T U : TileState) (row : List Beat) → T.views ≡ U.views → ((r q : ℕ) → r < nodes relation.grid → T.wires r q ≡ U.wires r q) → P.first + length T.views ≤ nodes relation.grid
       → steps relation P n T row ≡ steps relation P n U row
   unfolding steps
   steps-same n T U row same wires wide =
       let f = λ (i : ℕ) (v : View). local_step relation v (beats_arriving relation P T row i) n in
       let g = λ (i : ℕ) (v : View). local_step relation v (beats_arriving relation P U row i) n in
       let d = some_view relation in
-      let count : length T.views ≡ length U.views = sym (length-map T.views without_findings) ∙ ap length same ∙ length-map U.views without_findings in
+      let count : length T.views ≡ length U.views = ap length same in
       same_lists (map_indexed f T.views) (map_indexed g U.views) (length-map_indexed f T.views ∙ count ∙ sym (length-map_indexed g U.views))
       (λ i e l.
       let l' : i < length T.views = omega (arith, length-map_indexed f T.views, l) in
-      let v = get_or T.views i d in
-      let w = get_or U.views i d in
-      let vw : without_findings v ≡ without_findings w = sym (get_or-map without_findings T.views i d (without_findings d) l') ∙ ap (λ vs. get_or vs i (without_findings d)) same ∙ get_or-map without_findings U.views i d (without_findings d) (omega (arith, count, l')) in
       let beats : beats_arriving relation P T row i ≡ beats_arriving relation P U row i =
       tabulate-same (local_port relation.grid) (with_row T.wires P.ins row (P.first + i)) (with_row U.wires P.ins row (P.first + i)) idle_beat
       (λ q h. filled-same T.wires U.wires P.ins row (P.first + i) q (wires (P.first + i) q (omega arith))) in
       get_or-map_indexed f T.views i d e l'
-      ∙ (sym (findings-local_step [] relation v (beats_arriving relation P T row i) n)
-      ∙ (ap₂ (λ u b. local_step relation u b n) vw beats
-      ∙ (findings-local_step [] relation w (beats_arriving relation P U row i) n ∙ sym (get_or-map_indexed g U.views i d e (omega (arith, count, l')))))))
+      ∙ ap₂ (λ u b. local_step relation u b n) (ap (λ vs. get_or vs i d) same) beats
+      ∙ sym (get_or-map_indexed g U.views i d e (omega (arith, count, l'))))
 
--- k cycles; only in the last of all is what is found seen
-pub record RunsSoFar (relation : Routes) (k : ℕ) (a b : Tile) : Type 0 where
-  pub rows : List (List Beat)
-  pub count : length rows ≡ k
-  pub width : (i : ℕ) → i < k → length (get_or rows i []) ≡ length (inlets a)
-  pub views : map without_findings b.routers.items ≡ map without_findings (after relation (layout_of a) a.start (state_of a) rows).views
-  pub seen : k ≡ a.cycles → b.routers.items ≡ (after relation (layout_of a) a.start (state_of a) rows).views
-  pub wires : (r q : ℕ) → r < nodes relation.grid → beat_at b.beats.items r q ≡ (after relation (layout_of a) a.start (state_of a) rows).wires r q
-  pub ins : inlets b ≡ ends_after_rows (inlets a) rows
-  pub outs : outlets b ≡ ends_after_rows (outlets a) (beats_put relation (layout_of a) a.start (state_of a) rows)
-
-pub runs-none : (relation : Routes) (a : Tile) → RunsSoFar relation 0 a a
-runs-none relation a = record { rows = []; count = refl; width = λ i l. absurd (omega arith); views = refl; seen = λ e. refl; wires = λ r q l. refl; ins = refl; outs = refl }
-
-pub runs-all : (relation : Routes) (a b : Tile) → RunsSoFar relation a.cycles a b → Runs relation a.cycles a b
-runs-all relation a b r = record { rows = r.rows; count = r.count; width = r.width; views = r.seen refl; wires = r.wires; ins = r.ins; outs = r.outs }
+pub runs-none : (relation : Routes) (a : Tile) → Runs relation 0 a a
+runs-none relation a = record { rows = []; count = refl; width = λ i l. absurd (omega arith); views = refl; wires = λ r q l. refl; ins = refl; outs = refl }
 
 pub place-same : (a b : Tile) → IsSameTile a b → layout_of b ≡ layout_of a
 place-same a b s =
     let mk : ℕ → List (ℕ × ℕ) → List (ℕ × ℕ) → Layout = λ v p q. record { first = v; ins = p; outs = q } in
     ap₂ (λ v p. mk v p (arrival_ports (outlets b))) s.first (ports-names (inlets b) (inlets a) s.ins) ∙ ap (mk a.first (arrival_ports (inlets a))) (ports-names (outlets b) (outlets a) s.outs)
 
-pub runs-more : (relation : Routes) (k : ℕ) (a b b' : Tile) (findings : Recording) (row : List Beat) → IsSameTile a b → IsReady relation b → (k + 1 ≡ a.cycles → findings ≡ Record)
-    → RunsSoFar relation k a b → Cycles relation findings (a.start + k) b b' row → RunsSoFar relation (k + 1) a b'
-runs-more relation k a b b' findings row s ready last r c =
+pub runs-more : (relation : Routes) (k : ℕ) (a b b' : Tile) (row : List Beat) → IsSameTile a b → IsReady relation b → Runs relation k a b → Cycles relation (a.start + k) b b' row → Runs relation (k + 1) a b'
+runs-more relation k a b b' row s ready r c =
     let P = layout_of a in
     let T = state_of a in
     let U = after relation P a.start T r.rows in
@@ -106,8 +82,7 @@ runs-more relation k a b b' findings row s ready last r c =
       width = below_more (λ i. length (get_or (r.rows ++ row ∷ []) i []) ≡ length (inlets a)) k
           (λ i l. let l' : i < length r.rows = let q = r.count in omega arith in ap length (get_or_append_left r.rows (row ∷ []) [] i l') ∙ r.width i l)
           (ap length (get_or_push r.rows row [] k r.count) ∙ w);
-      views = same-unseen findings b'.routers.items (after_steps relation (layout_of b) (steps relation (layout_of b) (a.start + k) (state_of b) row)).views c.views ∙ ap (λ (z : TileState). map without_findings z.views) next;
-      seen = λ h. subst (λ (f : Recording). AreSameViews f b'.routers.items (after_steps relation (layout_of b) (steps relation (layout_of b) (a.start + k) (state_of b) row)).views) (last h) c.views ∙ ap (λ (z : TileState). z.views) next;
+      views = c.views ∙ ap (λ (z : TileState). z.views) next;
       wires = λ i q l. c.wires i q l ∙ ap (λ (z : TileState). z.wires i q) next;
       ins = c.ins ∙ (ap (λ ws. ends_after_beats ws row) r.ins ∙ sym (fed_all-more (inlets a) r.rows row));
       outs =

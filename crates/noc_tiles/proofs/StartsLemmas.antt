@@ -4,7 +4,7 @@ use Rattle.std.specs.Prelude.{nat_lt}
 use Rattle.std.proofs.lemmas.Bool.Decides.{nat_tests}
 use Rattle.std.proofs.lemmas.Nat.{le-div, mul-le}
 use Rattle.std.proofs.Math.Nat.{div-mul-le_self, div-le_of_le-mul}
-use Rattle.noc_tiles.specs.Starts.{AreApart, tile_start}
+use Rattle.noc_tiles.specs.Rings.{AreApart, tile_start}
 use Rattle.noc_tiles.specs.TileStep.{is_own}
 use Rattle.noc_tiles.proofs.SentLemmas.{own-within, own-outside}
 

@@ -6,7 +6,7 @@ use Rattle.std.proofs.lemmas.List.{set-get_or, length-map, get_or-map, map-set, 
 use Rattle.noc_packet.specs.declared.packet.Beat.{Beat}
 use Rattle.noc_view.specs.View.{idle_beat}
 use Rattle.noc_theory.specs.Halves.{beat_at}
-use Rattle.noc_tiles.specs.RingEnd.{WireEnd, Ring, end_after_beat}
+use Rattle.noc_tiles.specs.Ends.{WireEnd, Ring, end_after_beat}
 use Rattle.noc_tiles.specs.TileStep.{names, ends_after_beats, arrival_ports, with_row, with_beat, Beats}
 use Rattle.noc_tiles.specs.Tiles.{AreLinkPorts}
 

@@ -13,11 +13,10 @@ use Rattle.noc_theory.specs.Network.{Setup}
 use Rattle.noc_tiles.specs.Ends.{End}
 use Rattle.noc_tiles.specs.TileStep.{is_own, is_from, is_inside, arrival_ports}
 use Rattle.noc_tiles.specs.Tiles.{PartsFit, inlets, outlets}
-use Rattle.noc_tiles.specs.Rings.{AreLeftOut, AreSlots, AreTakenIn, AreTakenOut, GoesOutTo}
+use Rattle.noc_tiles.specs.Rings.{AreLeftOut, AreSlots, AreTakenIn, AreTakenOut, GoesOutTo, tile_start}
 use Rattle.noc_tiles.specs.Partition.{InFlight, IsTile, AreUnassigned, AreWires, index_of}
 use Rattle.noc_tiles.specs.declared.tile.Tile.{Tile}
 use Rattle.noc_tiles.proofs.ClearLemmas.{place_at}
-use Rattle.noc_tiles.specs.Starts.{tile_start}
 use Rattle.noc_tiles.proofs.SentLemmas.{own-true}
 use Rattle.noc_tiles.proofs.StartsLemmas.{apart-out, apart-in}
 use Rattle.noc_tiles.proofs.PartitionLemmas.{views-count, parts-fit, tile-covers, in-at, out-at, place-in, place-out}

@@ -1,12 +1,8 @@
-pub mod Emptying
 pub mod Ends
 pub mod Faults
-pub mod Inner
 pub mod TileStep
 pub mod Rings
-pub mod Starts
 pub mod Tiles
 pub mod Partition
 pub mod Phases
-pub mod RingEnd
 pub mod Together

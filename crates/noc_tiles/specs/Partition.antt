@@ -1,5 +1,5 @@
 -- All tiles of a network, and the network again.
-use Rattle.std.specs.Prelude.{ℕ, Bool, true, false, ◌≡◌, ◌⊎◌, ◌+◌, ◌-◌, ◌*◌, ◌^◌, ◌<◌, ◌≤◌, List, [], ◌∷◌, ◌++◌, take, drop, map, length, get_or, Option, Some, None, vec_len, if◌then◌else◌}
+use Rattle.std.specs.Prelude.{ℕ, Bool, true, false, ◌≡◌, ◌⊎◌, ◌+◌, ◌-◌, ◌*◌, ◌<◌, ◌≤◌, List, [], ◌∷◌, ◌++◌, take, drop, map, length, get_or, Option, Some, None, vec_len, if◌then◌else◌}
 use Rattle.std.specs.List.{flat_map}
 use Rattle.noc_topo.specs.Shape.{IsGrid, nodes, neighbour}
 use Rattle.noc_packet.specs.declared.packet.Beat.{Beat}
@@ -8,27 +8,18 @@ use Rattle.noc_theory.specs.Good.{IsGoodSetup}
 use Rattle.noc_theory.specs.Halves.{beat_at}
 use Rattle.noc_theory.specs.Lockstep.{lockstep_at}
 use Rattle.noc_theory.specs.Network.{Setup}
+use Rattle.noc_net.specs.Parts.{setup_in}
 use Rattle.noc_theory.specs.declared.limits.TheConstants.{CYCLE_LIMIT}
 use Rattle.noc_tiles.specs.Ends.{End, inlet, outlet}
 use Rattle.noc_tiles.specs.TileStep.{arrival_ports, is_from, is_inside, is_own}
-use Rattle.noc_tiles.specs.Rings.{AreLeftOut, AreSlots, in_slots, out_slots}
-use Rattle.noc_tiles.specs.Starts.{tile_start}
+use Rattle.noc_tiles.specs.Rings.{AreLeftOut, AreSlots, in_slots, out_slots, tile_start}
 use Rattle.noc_tiles.specs.Tiles.{AllEnded, CanRun, Gating, inlets, outlets}
-use Rattle.noc_tiles.specs.declared.kept.Kept.{Kept}
-use Rattle.noc_tiles.specs.declared.kept.Gathered.{Gathered}
-use Rattle.noc_tiles.specs.declared.limits.TheConstants.{MAX_WORKERS}
+use Rattle.noc_tiles.specs.declared.partition.Kept.{Kept}
+use Rattle.noc_tiles.specs.declared.threads.Gathered.{Gathered}
+use Rattle.noc_tiles.specs.declared.tile.TheConstants.{MAX_WORKERS}
 use Rattle.noc_tiles.specs.declared.partition.Uncut.{Uncut}
 use Rattle.noc_tiles.specs.declared.tile.Tile.{Tile}
 use Rattle.noc_tiles.specs.declared.tile.Outcome.TheVariants.{Whole}
-
-abbrev pub setup_of : Kept → Setup
-setup_of f = record { relation = f.relation; depth = f.buffer; packets = f.packets.items }
-
--- what a network keeps while its tiles run
-pub record IsKept (f : Kept) : Type 0 where
-  pub room : vec_len f.room ≡ nodes f.relation.grid
-  pub good : IsGoodSetup (setup_of f)
-  pub end : f.count + f.cycles ≤ CYCLE_LIMIT
 
 abbrev pub routers_of : Tile → List View
 routers_of t = t.routers.items
@@ -105,11 +96,11 @@ pub record AreNumbered (workers : ℕ) (ts : List Tile) : Type 0 where
   pub worker : (t : ℕ) (d : Tile) → t < length ts → (get_or ts t d).worker ≡ t
 
 -- the tiles of all workers, cut from the network
-pub record AreCut (f : Kept) (ts : List Tile) : Type 0 where
+pub record AreCut (kept : Kept) (ts : List Tile) : Type 0 where
   pub ins : List (Option End)
   pub outs : List (Option End)
-  pub partition : IsPartition (setup_of f) f.count f.cycles ins outs ts
-  pub numbered : AreNumbered f.workers ts
+  pub partition : IsPartition (setup_in kept.parts) kept.parts.count kept.cycles ins outs ts
+  pub numbered : AreNumbered kept.workers ts
 
 -- the ends of the rings of the routers from `first` on are still in their slots: I0 and O0 are the
 -- slots when all were there
@@ -122,49 +113,54 @@ pub record AreUnassigned (net : Setup) (workers first : ℕ) (B : List (List Bea
 abbrev pub InFlight : Setup → ℕ → List (List Beat) → Type 0
 InFlight net n B = (r q : ℕ) → beat_at B r q ≡ beat_at (lockstep_at net n).wires r q
 
--- a network that can be cut into tiles: the setup is good, and the beats are those in flight
-pub record CanCut (f : Kept) (B : List (List Beat)) : Type 0 where
-  pub good : IsGoodSetup (setup_of f)
-  pub some : 0 < f.workers
-  pub few : f.workers ≤ MAX_WORKERS
-  pub size : length B ≡ nodes f.relation.grid
-  pub flight : InFlight (setup_of f) f.count B
-  pub end : f.count + f.cycles < 2 ^ 64
+-- what is kept of a network that can be cut into tiles: the setup is good, and the beats are those
+-- in flight
+pub record IsKept (kept : Kept) : Type 0 where
+  pub good : IsGoodSetup (setup_in kept.parts)
+  pub some : 0 < kept.workers
+  pub few : kept.workers ≤ MAX_WORKERS
+  pub size : length kept.parts.beats.items ≡ nodes kept.parts.relation.grid
+  pub flight : InFlight (setup_in kept.parts) kept.parts.count kept.parts.beats.items
+  pub room : vec_len kept.parts.room ≡ nodes kept.parts.relation.grid
+  pub end : kept.parts.count + kept.cycles ≤ CYCLE_LIMIT
 
 -- the first router of a worker's tile
 abbrev pub first_of : Kept → ℕ → ℕ
-first_of f worker = tile_start (nodes f.relation.grid) f.workers worker
+first_of kept worker = tile_start (nodes kept.parts.relation.grid) kept.workers worker
 
 -- the routers that the network has at its count
 abbrev pub views_of : Kept → List View
-views_of f = (lockstep_at (setup_of f) f.count).views
+views_of kept = (lockstep_at (setup_in kept.parts) kept.parts.count).views
 
 -- these are its routers, and it can be cut into tiles
-pub record IsToCut (f : Kept) (routers : List View) (B : List (List Beat)) : Type 0 where
-  pub can : CanCut f B
-  pub views : routers ≡ views_of f
+pub record IsToCut (kept : Kept) (routers : List View) : Type 0 where
+  pub can : IsKept kept
+  pub views : routers ≡ views_of kept
 
 -- what is left when the workers before this one have their tiles: I0 and O0 are the slots
 -- when all ends were there
-pub record IsUncut (f : Kept) (B : List (List Beat)) (I0 O0 : List (Option End)) (worker : ℕ) (rest : Uncut) : Type 0 where
-  pub first : rest.first ≡ first_of f worker
-  pub routers : rest.routers.items ≡ drop rest.first (views_of f)
-  pub unassigned : AreUnassigned (setup_of f) f.workers rest.first B I0 O0 (in_slots rest.ins.items) (out_slots rest.outs.items)
+pub record IsUncut (kept : Kept) (I0 O0 : List (Option End)) (worker : ℕ) (rest : Uncut)
+    : Type 0 where
+  pub first : rest.first ≡ first_of kept worker
+  pub routers : rest.routers.items ≡ drop rest.first (views_of kept)
+  pub unassigned : AreUnassigned (setup_in kept.parts) kept.workers rest.first
+      kept.parts.beats.items I0 O0 (in_slots rest.ins.items) (out_slots rest.outs.items)
 
 -- the tile of this worker
-pub record IsTileOf (f : Kept) (I0 O0 : List (Option End)) (w : ℕ) (t : Tile) : Type 0 where
-  pub tile : IsTile (setup_of f) f.count f.cycles I0 O0 t
+pub record IsTileOf (kept : Kept) (I0 O0 : List (Option End)) (w : ℕ) (t : Tile) : Type 0 where
+  pub tile : IsTile (setup_in kept.parts) kept.parts.count kept.cycles I0 O0 t
   pub worker : t.worker ≡ w
-  pub first : t.first ≡ first_of f w
-  pub routers : t.routers.items ≡ take (first_of f (w + 1) - first_of f w) (drop (first_of f w) (views_of f))
+  pub first : t.first ≡ first_of kept w
+  pub routers : t.routers.items
+      ≡ take (first_of kept (w + 1) - first_of kept w) (drop (first_of kept w) (views_of kept))
 
 -- tiles that have made all their cycles, each of them from one that was cut from the network
-pub record AreDone (f : Kept) (ts : List Tile) : Type 0 where
+pub record AreDone (kept : Kept) (ts : List Tile) : Type 0 where
   pub ins : List (Option End)
   pub outs : List (Option End)
   pub cut : List Tile
-  pub partition : IsPartition (setup_of f) f.count f.cycles ins outs cut
+  pub partition : IsPartition (setup_in kept.parts) kept.parts.count kept.cycles ins outs cut
   pub stop : Bool
   pub gate : Gating
-  pub ended : AllEnded f.relation stop gate cut ts
+  pub ended : AllEnded kept.parts.relation stop gate cut ts
   pub whole : AllWhole ts

@@ -1,13 +1,26 @@
--- The ends of the rings, before the tiles have them.
-use Rattle.std.specs.Prelude.{ℕ, true, false, ◌≡◌, ◌⊎◌, ◌+◌, ◌*◌, ◌/◌, ◌%◌, ◌<◌, ◌≤◌, List, [], ◌∷◌, map, length, get_or, Option, Some, None, option_map, is_some, slice_set}
+-- The rings between tiles: where the tiles begin, the ends of the rings before the tiles have them,
+-- and all ends back in one thread.
+use Rattle.std.specs.Prelude.{ℕ, true, false, ◌≡◌, ◌≢◌, ◌⊎◌, ◌+◌, ◌*◌, ◌/◌, ◌%◌, ◌<◌, ◌≤◌, nat_lt, List, [], ◌∷◌, ◌++◌, map, length, get_or, Option, Some, None, option_map, is_some, slice_set}
 use Rattle.noc_topo.specs.Shape.{Grid, nodes, neighbour}
 use Rattle.noc_packet.specs.declared.packet.Beat.{Beat}
 use Rattle.noc_theory.specs.Halves.{beat_at}
 use Rattle.noc_tiles.specs.Ends.{End, inlet, outlet}
-use Rattle.noc_tiles.specs.Starts.{AreApart}
 use Rattle.noc_tiles.specs.TileStep.{is_own, is_from, is_inside}
-use Rattle.noc_tiles.specs.declared.wires.Inlet.{Inlet}
-use Rattle.noc_tiles.specs.declared.wires.Outlet.{Outlet}
+use Rattle.noc_tiles.specs.declared.ends.Inlet.{Inlet}
+use Rattle.noc_tiles.specs.declared.ends.Outlet.{Outlet}
+
+-- the first router of a worker's tile, where so many workers share so many routers, and the
+-- end of the tile before it
+abbrev pub tile_start : ℕ → ℕ → ℕ → ℕ
+tile_start nodes workers worker = worker * nodes / workers
+
+-- no tile begins between two routers
+abbrev pub AreTogether : ℕ → ℕ → ℕ → ℕ → Type 0
+AreTogether nodes workers a b = (w : ℕ) → w ≤ workers → nat_lt a (tile_start nodes workers w) ≡ nat_lt b (tile_start nodes workers w)
+
+-- some tile does
+abbrev pub AreApart : ℕ → ℕ → ℕ → ℕ → Type 0
+AreApart nodes workers a b = (w : ℕ) × (w ≤ workers) × (nat_lt a (tile_start nodes workers w) ≢ nat_lt b (tile_start nodes workers w))
 
 abbrev pub in_slots : List (Option Inlet) → List (Option End)
 in_slots slots = map (λ (s : Option Inlet). option_map inlet s) slots
@@ -69,3 +82,27 @@ pub record AreTakenOut (grid : Grid) (first count k : ℕ) (O : List (Option End
 -- what goes out by port p of router s, from port k on, still has its end
 abbrev pub AreLeftOut : Grid → ℕ → List (Option End) → List (Option End) → Type 0
 AreLeftOut grid k O now = (s p r q : ℕ) → s < nodes grid → p < 6 → neighbour grid s p ≡ Some (r, q) → k ≤ s * 6 + p → get_or now (r * 6 + q) None ≡ get_or O (r * 6 + q) None
+
+-- the two ends of one ring, which holds one beat
+pub record AreEnds (i o : End) : Type 0 where
+  pub ring : o.ring ≡ i.ring
+  pub one : length o.past ≡ length i.past + 1
+
+-- each inlet has an outlet of the same port, and those are the two ends of one
+-- ring, which holds one beat
+pub record CanEmpty (rows : ℕ) (I O : List End) : Type 0 where
+  pub placed : (i : ℕ) (d : End) → i < length I → ((get_or I i d).at.0 < rows) × ((get_or I i d).at.1 < 6)
+  pub found : (i : ℕ) → i < length I → (o : ℕ) × (o < length O) × ((d : End) → (get_or O o d).at ≡ (get_or I i d).at)
+  pub rings : (i o : ℕ) (d : End) → i < length I → o < length O → (get_or O o d).at ≡ (get_or I i d).at → AreEnds (get_or I i d) (get_or O o d)
+
+-- x is the beat that is left in the ring of inlet i
+abbrev pub Left : List End → List End → ℕ → Beat → Type 0
+Left I O i x = (o : ℕ) × (o < length O) × ((d : End) → ((get_or O o d).at ≡ (get_or I i d).at) × ((get_or O o d).past ≡ (get_or I i d).past ++ x ∷ []))
+
+-- the wires of the first n inlets have what is left in their rings, and the others are as they were
+pub record Empties (I O : List End) (n : ℕ) (old new : List (List Beat)) : Type 0 where
+  pub same : length new ≡ length old
+  pub left : (i : ℕ) → i < n → (x : Beat) × Left I O i x
+  pub wires : (r q : ℕ)
+      → ((i : ℕ) × (i < n) × ((d : End) → (get_or I i d).at ≡ (r, q)) × Left I O i (beat_at new r q))
+      ⊎ (((i : ℕ) (d : End) → i < n → (get_or I i d).at ≢ (r, q)) × (beat_at new r q ≡ beat_at old r q))

@@ -6,7 +6,7 @@ use Rattle.noc_packet.specs.declared.packet.Beat.{Beat}
 use Rattle.noc_route.specs.Routes.{Routes}
 use Rattle.noc_view.specs.View.{View, local_step, idle_beat}
 use Rattle.noc_theory.specs.Halves.{beat_at}
-use Rattle.noc_tiles.specs.RingEnd.{WireEnd, Ring, end_after_beat}
+use Rattle.noc_tiles.specs.Ends.{WireEnd, Ring, end_after_beat}
 
 module _ {A : Type 0} where
   -- one beat more through each of the first ends

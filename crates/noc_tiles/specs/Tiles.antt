@@ -3,10 +3,8 @@ use Rattle.std.specs.Prelude.{ℕ, Bool, true, false, ◌≡◌, ◌↔◌, ◌+
 use Rattle.noc_topo.specs.Shape.{nodes, local_port, neighbour}
 use Rattle.noc_packet.specs.declared.packet.Beat.{Beat}
 use Rattle.noc_route.specs.Routes.{Routes}
-use Rattle.noc_view.specs.declared.finding.Recording.{Recording}
 use Rattle.noc_view.specs.View.{View, idle_beat}
 use Rattle.noc_theory.specs.Halves.{HasItsBeats, beat_at}
-use Rattle.noc_theory.specs.Unseen.{AreSameViews}
 use Rattle.noc_tiles.specs.Ends.{End, inlet, outlet}
 use Rattle.noc_tiles.specs.TileStep.{Layout, TileState, arrival_ports, is_own, is_from, ends_after_beats, ends_after_rows, steps, after_steps, put_by, after, beats_put}
 use Rattle.noc_tiles.specs.declared.tile.Tile.{Tile}
@@ -59,9 +57,9 @@ pub record IsSameTile (a b : Tile) : Type 0 where
   pub outs : Rattle.noc_tiles.specs.TileStep.names (outlets b) ≡ Rattle.noc_tiles.specs.TileStep.names (outlets a)
 
 -- cycle n, with the beats of a row
-pub record Cycles (relation : Routes) (findings : Recording) (n : ℕ) (a b : Tile) (row : List Beat) : Type 0 where
+pub record Cycles (relation : Routes) (n : ℕ) (a b : Tile) (row : List Beat) : Type 0 where
   pub width : length row ≡ length (inlets a)
-  pub views : AreSameViews findings b.routers.items (after_steps relation (layout_of a) (steps relation (layout_of a) n (state_of a) row)).views
+  pub views : b.routers.items ≡ (after_steps relation (layout_of a) (steps relation (layout_of a) n (state_of a) row)).views
   pub wires : (r q : ℕ) → r < nodes relation.grid → beat_at b.beats.items r q ≡ (after_steps relation (layout_of a) (steps relation (layout_of a) n (state_of a) row)).wires r q
   pub ins : inlets b ≡ ends_after_beats (inlets a) row
   pub outs : outlets b ≡ ends_after_beats (outlets a) (put_by relation (layout_of a) (steps relation (layout_of a) n (state_of a) row))

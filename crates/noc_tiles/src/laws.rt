@@ -11,6 +11,8 @@ ghost use Rattle.noc_tiles.specs.Together.{Agrees, PutsInFlight, TilesRan, Trace
 /// to another tile in one of its cycles is the beat in flight there at the next count, so what it
 /// put last is that at count n + k.
 pub fn tiles_that_ran_apart_are_in_lockstep()
-    ensures lockstep { (net : Setup) (n k m : ℕ) (tiles : ℕ → Trace) (t : ℕ) → TilesRan net n k m tiles → t < m → Agrees net n (tiles t) k }
-    ensures in_flight { (net : Setup) (n k m : ℕ) (tiles : ℕ → Trace) (t i : ℕ) → TilesRan net n k m tiles → t < m → i < k → PutsInFlight net n (tiles t) i }
+    ensures lockstep { (net : Setup) (n k m : ℕ) (tiles : ℕ → Trace) (t : ℕ)
+        → TilesRan net n k m tiles → t < m → Agrees net n (tiles t) k }
+    ensures in_flight { (net : Setup) (n k m : ℕ) (tiles : ℕ → Trace) (t i : ℕ)
+        → TilesRan net n k m tiles → t < m → i < k → PutsInFlight net n (tiles t) i }
 {}

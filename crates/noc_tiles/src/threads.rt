@@ -1,43 +1,227 @@
-//! The tiles of a network, run in threads and put together again.
+//! The tiles of a network, run in threads of their own.
 
-ghost use Rattle.std.specs.Prelude.{ℕ, List, ◌≡◌, ◌+◌, ◌<◌, ◌≤◌, ◌↔◌, get_or, IfOk, IfErr, false, OnOk, IsTrue, vec_len};
-ghost use Rattle.noc_tiles.specs.declared.fault.RunFault.TheVariants.{LostWorker};
-ghost use Rattle.noc_tiles.specs.Partition.{AddsTile, AllWhole, AreDone, IsKept, IsGathered, IsToCut, setup_of};
+ghost use Rattle.std.specs.Prelude.{ℕ, List, ◌≡◌, ◌≢◌, ◌+◌, ◌<◌, ◌≤◌, ◌↔◌, ◌++◌, false, get_or, vec_len, IfErr, IfOk, IsOkAnd, IsTrue, OnOk};
+ghost use Rattle.std.specs.Thread.{IsSync};
+ghost use Rattle.noc_net.specs.Parts.{run_in};
+ghost use Rattle.noc_tiles.specs.Faults.{fault_number};
+ghost use Rattle.noc_tiles.specs.Partition.{AddsTile, AllWhole, AreDone, IsGathered, IsKept, IsToCut};
+ghost use Rattle.noc_tiles.specs.Tiles.{AllCanRun, AllEnded};
+ghost use Rattle.noc_tiles.specs.declared.threads.RunFault.TheVariants.{LostWorker};
 ghost use Rattle.noc_tiles.specs.declared.tile.Tile.{Tile as tile_value};
 
-use crate::emptying::empty_all;
-use crate::fault::RunFault;
-use crate::gate::Gate;
-use crate::halves::run_all;
-use crate::kept::{Gathered, Kept};
-use crate::partition::partition;
-use crate::stop::Stop;
+use crate::ends::{Inlet, Outlet};
+use crate::gate::{Gate, Stop};
+use crate::partition::{Kept, empty_all, partition};
 use crate::tile::{Outcome, Tile};
+use crate::worker::run_tile;
 use noc_net::{Network, Parts};
 use noc_packet::Beat;
+use noc_route::Relation;
 use noc_router::Router;
 use noc_topo::LINKS;
 use std::alloc::{AllocError, Global};
+use std::snapshot::Snapshot;
 use std::sync::Wait;
-use std::thread::Threads;
+use std::thread;
+use std::thread::{Promise, Threads};
+use thiserror::Error;
 
-// What a tile held goes behind what the tiles before it held.
-fn add(all: &mut Gathered, tile: &mut Tile) -> Result<(), AllocError>
-    requires { tile.old.first + vec_len tile.old.routers ≤ vec_len tile.old.beats }
-    ensures { OnOk result (AddsTile tile.old all.old all.new) }
+/// Why a run by workers gave no network.
+#[derive(Clone, Copy, Debug, PartialEq, Eq, Error)]
+pub enum RunFault {
+    /// Memory was refused.
+    #[error("memory was refused")]
+    Memory,
+    /// A worker could not be started.
+    #[error("a worker could not be started")]
+    NoWorker,
+    /// A worker came back without its cycles.
+    #[error("a worker came back without its cycles")]
+    LostWorker,
+}
+
+// Cuts a network into tiles, runs them in threads, and gives what they held then.
+pub(crate) fn run_threads<R: Threads + Wait + Sync, G: Gate>(
+    rt: &R,
+    alloc: Global,
+    kept: &Kept,
+    routers: Vec<Router>,
+    gate: &G,
+) -> Result<Gathered, RunFault>
+    requires { IsToCut kept.now routers.items }
+    ensures asked { IfOk result (λ _. (worker k : ℕ)
+        → worker < kept.now.workers → k < kept.now.cycles
+        → G.shuts gate.now worker (kept.now.parts.count + k) ≡ false) }
+    ensures done { IfOk result (λ all. (done : List tile_value)
+        × AreDone kept.now done × IsGathered all done) }
+    ensures lost { IfErr result (λ e. e ≡ LostWorker → G.opens gate.now ≡ false) }
 {
-    let first = tile.first;
-    let count = tile.routers.len();
-    all.beats
-        .extend_from_slice(&tile.beats[first..first + count])?;
-    all.routers.append(&mut tile.routers)?;
-    all.ins.append(&mut tile.ins)?;
-    all.outs.append(&mut tile.outs)
+    let Ok(tiles) = partition(alloc, kept, routers) else {
+        return Err(RunFault::Memory);
+    };
+    let stop = Stop::new();
+    let tiles = run_all(rt, &kept.parts.relation, tiles, &stop, gate)?;
+    if !all_whole(&tiles) {
+        return Err(if gate.always() {
+            RunFault::NoWorker
+        } else {
+            RunFault::LostWorker
+        });
+    }
+    let Ok(all) = gather(alloc, tiles) else {
+        return Err(RunFault::Memory);
+    };
+    Ok(all)
+}
+
+// Whether every tile has made its cycles.
+fn all_whole(tiles: &Vec<Tile>) -> bool
+    ensures { IsTrue result ↔ AllWhole tiles.now.items }
+{
+    for t in 0..tiles.len() {
+        match tiles[t].outcome {
+            Outcome::Whole => {}
+            _ => return false,
+        }
+    }
+    true
+}
+
+// What a thread promises of its tiles.
+#[derive(Drop)]
+struct RunsOf<'a, G> {
+    before: Snapshot<Vec<Tile>>,
+    relation: &'a Relation,
+    stop: &'a Stop,
+    gate: &'a G,
+}
+
+impl<'a, G: Gate> Promise<Result<Vec<Tile>, RunFault>> for RunsOf<'a, G> {
+    ghost kept_by = { λ p r. IfOk r (λ v. AllEnded p.relation.now p.stop.now
+        (record { opens = G.opens p.gate.now; shuts = G.shuts p.gate.now })
+        p.before.value.items v.items) };
+}
+
+// Runs each tile, the second half of them in a thread of its own. It fails only where memory or a
+// thread is refused.
+pub(crate) fn run_all<R: Threads + Wait + Sync, G: Gate>(
+    rt: &R,
+    relation: &Relation,
+    tiles: Vec<Tile>,
+    stop: &Stop,
+    gate: &G,
+) -> Result<Vec<Tile>, RunFault>
+    requires { AllCanRun relation.now tiles.items }
+    ensures ended { IfOk result (λ v. AllEnded relation.now stop.now
+        (record { opens = G.opens gate.now; shuts = G.shuts gate.now }) tiles.items v.items) }
+    ensures started { IfErr result (λ e. e ≢ LostWorker) }
+{
+    let count = tiles.len();
+    if count <= 1 {
+        return Ok(run_last(rt, relation, tiles, stop, gate));
+    }
+    let mut first = tiles;
+    let Ok(second) = first.split_off(count / 2) else {
+        stop.raise();
+        return Err(RunFault::Memory);
+    };
+    thread::scope(
+        thread::scope_env(),
+        rt,
+        |scope| -> Result<Vec<Tile>, RunFault>
+            requires { AllCanRun relation.now first.items × AllCanRun relation.now second.items
+                × (0 < vec_len first) × (0 < vec_len second) × IsSync R.row × IsSync G.row }
+            ensures ended { IfOk result (λ v. AllEnded relation.entry.now stop.entry.now
+                (record { opens = G.opens gate.entry.now; shuts = G.shuts gate.entry.now })
+                (first.items ++ second.items) v.items) }
+            ensures started { IfErr result (λ e. e ≢ LostWorker) }
+        {
+            let before = Snapshot::of(&second);
+            let promise = RunsOf {
+                before,
+                relation,
+                stop,
+                gate,
+            };
+            let child = scope.spawn_with(
+                promise,
+                move || -> Result<Vec<Tile>, RunFault>
+                    requires { AllCanRun relation.now second.items × IsSync R.row × IsSync G.row }
+                    ensures { IfOk result (λ v. AllEnded relation.entry.now stop.entry.now
+                        (record { opens = G.opens gate.entry.now; shuts = G.shuts gate.entry.now })
+                        second.items v.items) }
+                { run_all(rt, relation, second, stop, gate) },
+            );
+            let Ok(child) = child else {
+                stop.raise();
+                return Err(RunFault::NoWorker);
+            };
+            let first = run_all(rt, relation, first, stop, gate);
+            let second = child.join(rt);
+            joined(first, second)
+        },
+    )
+}
+
+// Runs the one tile of a list of at most one.
+fn run_last<G: Gate>(
+    rt: &impl Wait,
+    relation: &Relation,
+    tiles: Vec<Tile>,
+    stop: &Stop,
+    gate: &G,
+) -> Vec<Tile>
+    requires can { AllCanRun relation.now tiles.items }
+    requires one { vec_len tiles ≤ 1 }
+    ensures { AllEnded relation.now stop.now
+        (record { opens = G.opens gate.now; shuts = G.shuts gate.now }) tiles.items result.items }
+{
+    let mut tiles = tiles;
+    let Some(tile) = tiles.pop() else {
+        return tiles;
+    };
+    let ended = run_tile(rt, relation, tile, stop, gate);
+    tiles.push_reserved(ended);
+    tiles
+}
+
+// Both lists in one, or the fault with the lower number.
+fn joined(
+    first: Result<Vec<Tile>, RunFault>,
+    second: Result<Vec<Tile>, RunFault>,
+) -> Result<Vec<Tile>, RunFault>
+    ensures items { IfOk result (λ v. IsOkAnd first (λ a. IsOkAnd second (λ b.
+        v.items ≡ a.items ++ b.items))) }
+    ensures least { IfErr result (λ e. IfErr first (λ f. fault_number e ≤ fault_number f)
+        × IfErr second (λ f. fault_number e ≤ fault_number f)) }
+    ensures started { IfErr result (λ e. e ≢ LostWorker) }
+{
+    match (first, second) {
+        (Ok(mut first), Ok(mut second)) => {
+            if first.append(&mut second).is_err() {
+                return Err(RunFault::Memory);
+            }
+            Ok(first)
+        }
+        (Err(RunFault::Memory), _) | (_, Err(RunFault::Memory)) => Err(RunFault::Memory),
+        (Err(_), _) | (_, Err(_)) => Err(RunFault::NoWorker),
+    }
+}
+
+// What the tiles held.
+#[derive(Drop)]
+pub(crate) struct Gathered {
+    pub routers: Vec<Router>,
+    pub beats: Vec<[Beat; LINKS]>,
+    pub ins: Vec<Inlet>,
+    pub outs: Vec<Outlet>,
 }
 
 // What all tiles held, one tile after another.
 fn gather(alloc: Global, tiles: Vec<Tile>) -> Result<Gathered, AllocError>
-    requires { (t : ℕ) (d : tile_value) → t < vec_len tiles → (get_or tiles.items t d).first + vec_len (get_or tiles.items t d).routers ≤ vec_len (get_or tiles.items t d).beats }
+    requires { (t : ℕ) (d : tile_value) → t < vec_len tiles
+        → (get_or tiles.items t d).first + vec_len (get_or tiles.items t d).routers
+        ≤ vec_len (get_or tiles.items t d).beats }
     ensures { IfOk result (λ g. IsGathered g tiles.items) }
 {
     let mut all = Gathered {
@@ -56,56 +240,25 @@ fn gather(alloc: Global, tiles: Vec<Tile>) -> Result<Gathered, AllocError>
     Ok(all)
 }
 
-// Whether every tile has made its cycles.
-fn all_whole(tiles: &Vec<Tile>) -> bool
-    ensures { IsTrue result ↔ AllWhole tiles.now.items }
+// What a tile held goes behind what the tiles before it held.
+fn add(all: &mut Gathered, tile: &mut Tile) -> Result<(), AllocError>
+    requires { tile.old.first + vec_len tile.old.routers ≤ vec_len tile.old.beats }
+    ensures { OnOk result (AddsTile tile.old all.old all.new) }
 {
-    for t in 0..tiles.len() {
-        match tiles[t].outcome {
-            Outcome::Whole => {}
-            _ => return false,
-        }
-    }
-    true
-}
-
-// Cuts a network into tiles, runs them in threads, and gives what they held then.
-pub(crate) fn run_threads<R: Threads + Wait + Sync, G: Gate>(
-    rt: &R,
-    alloc: Global,
-    kept: &Kept,
-    routers: Vec<Router>,
-    beats: &[[Beat; LINKS]],
-    gate: &G,
-) -> Result<Gathered, RunFault>
-    requires { IsToCut kept.now routers.items beats.now }
-    ensures asked { IfOk result (λ _. (worker k : ℕ) → worker < kept.now.workers → k < kept.now.cycles → G.shuts gate.now worker (kept.now.count + k) ≡ false) }
-    ensures done { IfOk result (λ all. (done : List tile_value) × AreDone kept.now done × IsGathered all done) }
-    ensures lost { IfErr result (λ e. e ≡ LostWorker → G.opens gate.now ≡ false) }
-{
-    let Ok(tiles) = partition(alloc, kept, routers, beats) else {
-        return Err(RunFault::Memory);
-    };
-    let stop = Stop::new();
-    let tiles = run_all(rt, &kept.relation, tiles, &stop, gate)?;
-    if !all_whole(&tiles) {
-        return Err(if gate.always() {
-            RunFault::NoWorker
-        } else {
-            RunFault::LostWorker
-        });
-    }
-    let Ok(all) = gather(alloc, tiles) else {
-        return Err(RunFault::Memory);
-    };
-    Ok(all)
+    let first = tile.first;
+    let count = tile.routers.len();
+    all.beats
+        .extend_from_slice(&tile.beats[first..first + count])?;
+    all.routers.append(&mut tile.routers)?;
+    all.ins.append(&mut tile.ins)?;
+    all.outs.append(&mut tile.outs)
 }
 
 /// The network of what the tiles held, when they have made all their cycles.
 pub(crate) fn network_of(kept: Kept, all: Gathered) -> Network
     requires kept { IsKept kept }
     requires done { (tiles : List tile_value) × AreDone kept tiles × IsGathered all tiles }
-    ensures { result ≡ record { net = setup_of kept; count = kept.count + kept.cycles } }
+    ensures { result ≡ record (run_in kept.parts) { count = kept.parts.count + kept.cycles } }
 {
     let Gathered {
         routers,
@@ -115,13 +268,9 @@ pub(crate) fn network_of(kept: Kept, all: Gathered) -> Network
     } = all;
     empty_all(&mut ins, &mut outs, &mut beats);
     Network::from_parts(Parts {
-        relation: kept.relation,
-        buffer: kept.buffer,
-        packets: kept.packets,
-        count: kept.count + kept.cycles,
+        count: kept.parts.count + kept.cycles,
         routers,
-        plan: kept.plan,
         beats,
-        room: kept.room,
+        ..kept.parts
     })
 }

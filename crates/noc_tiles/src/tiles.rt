@@ -2,15 +2,15 @@
 
 ghost use Rattle.std.specs.Prelude.{ℕ, ◌≡◌, ◌+◌, ◌<◌, ◌≤◌, true, false, IfErr, IfOk, IsOk};
 ghost use Rattle.noc_theory.specs.declared.limits.TheConstants.{CYCLE_LIMIT as cycle_limit};
-ghost use Rattle.noc_tiles.specs.declared.fault.RunFault.TheVariants.{LostWorker};
-ghost use Rattle.noc_tiles.specs.declared.limits.TheConstants.{MAX_WORKERS};
+ghost use Rattle.noc_tiles.specs.declared.threads.RunFault.TheVariants.{LostWorker};
+ghost use Rattle.noc_tiles.specs.declared.tile.TheConstants.{MAX_WORKERS};
 
-use crate::fault::RunFault;
 use crate::gate::Gate;
-use crate::kept::Kept;
-use crate::threads::{network_of, run_threads};
-use noc_net::{Network, Parts};
+use crate::partition::Kept;
+use crate::threads::{RunFault, network_of, run_threads};
+use noc_net::Network;
 use std::alloc::Global;
+use std::mem;
 use std::sync::Wait;
 use std::thread::Threads;
 
@@ -29,7 +29,8 @@ pub fn run_tiles<R: Threads + Wait + Sync, G: Gate>(
     requires workers { (0 < workers) × (workers ≤ MAX_WORKERS) }
     requires end { network.count + cycles ≤ cycle_limit }
     ensures net { IfOk result (λ v. v ≡ record network { count = network.count + cycles }) }
-    ensures asked { IfOk result (λ _. (worker k : ℕ) → worker < workers → k < cycles → G.shuts gate.now worker (network.count + k) ≡ false) }
+    ensures asked { IfOk result (λ _. (worker k : ℕ) → worker < workers → k < cycles
+        → G.shuts gate.now worker (network.count + k) ≡ false) }
     ensures lost { IfErr result (λ e. e ≡ LostWorker → G.opens gate.now ≡ false) }
     ensures one { workers ≡ 1 → G.opens gate.now ≡ true → IsOk result }
     ensures one_fault { workers ≡ 1 → IfErr result (λ e. e ≡ LostWorker) }
@@ -44,7 +45,8 @@ pub fn run_tiles<R: Threads + Wait + Sync, G: Gate>(
 fn run_single<G: Gate>(network: Network, cycles: u64, gate: &G) -> Result<Network, RunFault>
     requires { network.count + cycles ≤ cycle_limit }
     ensures net { IfOk result (λ v. v ≡ record network { count = network.count + cycles }) }
-    ensures asked { IfOk result (λ _. (k : ℕ) → k < cycles → G.shuts gate.now 0 (network.count + k) ≡ false) }
+    ensures asked { IfOk result (λ _. (k : ℕ) → k < cycles
+        → G.shuts gate.now 0 (network.count + k) ≡ false) }
     ensures fault { IfErr result (λ e. (e ≡ LostWorker) × (G.opens gate.now ≡ false)) }
 {
     let mut network = network;
@@ -74,30 +76,18 @@ fn run_many<R: Threads + Wait + Sync, G: Gate>(
 ) -> Result<Network, RunFault>
     requires { (0 < workers) × (workers ≤ MAX_WORKERS) × (network.count + cycles ≤ cycle_limit) }
     ensures net { IfOk result (λ v. v ≡ record network { count = network.count + cycles }) }
-    ensures asked { IfOk result (λ _. (worker k : ℕ) → worker < workers → k < cycles → G.shuts gate.now worker (network.count + k) ≡ false) }
+    ensures asked { IfOk result (λ _. (worker k : ℕ) → worker < workers → k < cycles
+        → G.shuts gate.now worker (network.count + k) ≡ false) }
     ensures lost { IfErr result (λ e. e ≡ LostWorker → G.opens gate.now ≡ false) }
 {
-    let Parts {
-        relation,
-        buffer,
-        packets,
-        count,
-        routers,
-        plan,
-        beats,
-        room,
-    } = network.into_parts();
+    let mut parts = network.into_parts();
+    let routers = mem::replace(&mut parts.routers, Vec::new(alloc));
     let kept = Kept {
-        relation,
-        buffer,
-        packets,
-        count,
-        plan,
-        room,
+        parts,
         cycles,
         workers,
     };
-    match run_threads(rt, alloc, &kept, routers, &beats, gate) {
+    match run_threads(rt, alloc, &kept, routers, gate) {
         Ok(all) => Ok(network_of(kept, all)),
         Err(fault) => {
             // (by name it is one call; else each of its fields would be let go here, one by one)

@@ -27,7 +27,7 @@ pub enum ShapeFault {
 }
 
 /// A mesh or a torus of 1 to 3 dimensions, each of radix 2 to 16, with at most 256 nodes.
-#[derive(Clone, Copy, Debug)]
+#[derive(Clone, Copy, Debug, PartialEq, Eq)]
 pub struct Shape {
     wraps: bool,
     sizes: [usize; 3],

@@ -2,7 +2,6 @@
 use Rattle.std.specs.Prelude.{◌≡◌, ◌≢◌, ℕ, ◌+◌, ◌<◌, ◌≤◌, true, List, length, not, nat_eq}
 use Rattle.noc_topo.specs.Shape.{nodes}
 use Rattle.noc_packet.specs.Set.{has_bit}
-use Rattle.noc_packet.specs.declared.packet.Packet.{Packet}
 use Rattle.noc_route.specs.Routes.{Routes}
 use Rattle.noc_sets.specs.Passes.{lane_asks, lane_raised}
 use Rattle.noc_sets.specs.Planes.{more_than_one}
@@ -12,6 +11,7 @@ use Rattle.noc_lanes.specs.declared.channels.Links.{Links}
 use Rattle.noc_blocks.specs.Routing.{AreHeads}
 use Rattle.noc_blocks.specs.Turned.{Working}
 use Rattle.noc_blocks.specs.Turning.{Lane, column_in}
+use Rattle.noc_blocks.specs.declared.header.Header.{Header}
 use Rattle.noc_blocks.specs.declared.numbering.Numbering.{Numbering}
 use Rattle.noc_blocks.specs.declared.standing.Pending.{Pending}
 
@@ -26,11 +26,11 @@ pub record MayTake (w : ℕ) (starts : List Start) (cycle : ℕ) (links : Links 
   pub due : a.words.due ≤ cycle → a.queue + 1 < length starts
 
 -- before it decides: it is a node of the network where heads stand in it, and these are heads of
--- packets
-pub record MayDecide (relation : Routes) (numbering : Numbering) (packets : List Packet)
+-- packets with these headers
+pub record MayDecide (relation : Routes) (numbering : Numbering) (headers : List Header)
     (router : ℕ) (s : Lane) (x : Working) : Type 0 where
   pub node : x.standing.heads ≢ 0 → router < nodes relation.grid
-  pub heads : AreHeads relation numbering packets x.standing.heads s.marks.packet
+  pub heads : AreHeads relation numbering headers x.standing.heads s.marks.packet
 
 -- before that takes effect: a channel that a tail leaves owns an output channel, and is held by one
 -- of so many packets

@@ -10,10 +10,11 @@ ghost use Rattle.noc_turns.specs.Held.{IsPending, MayTake};
 ghost use Rattle.noc_turns.specs.Outlooks.{TellsSome, comes_to};
 ghost use Rattle.noc_turns.specs.States.{lane_of, links_of, returned_of, working_of};
 
-use crate::outlook::has_some;
 use crate::pattern::Pattern;
 use crate::state::{State, Work};
-use noc_blocks::{Start, advance_all, begin_all, stand, supply_all, take_credits, take_flits};
+use noc_blocks::{
+    Start, advance_all, begin_all, has_some, stand, supply_all, take_credits, take_flits,
+};
 use noc_lanes::{LANES, Word};
 
 /// What the links bring to the routers of a block arrives, and their sources inject.

@@ -13,9 +13,8 @@ ghost use Rattle.noc_turns.specs.States.{lane_of, working_of};
 
 use crate::pattern::Pattern;
 use crate::state::{State, Work};
-use noc_blocks::{Guide, allocate_all, move_by_ports, note_tails, route_all};
+use noc_blocks::{Guide, Header, allocate_all, move_by_ports, note_tails, route_all};
 use noc_lanes::{LANES, Word};
-use noc_packet::Packet;
 use noc_route::Relation;
 
 /// The packets of a network, and where they may go.
@@ -23,8 +22,8 @@ use noc_route::Relation;
 pub struct Traffic<'a> {
     /// The channels that they may take.
     pub relation: &'a Relation,
-    /// By number.
-    pub packets: &'a [Packet],
+    /// Their headers, by number.
+    pub headers: &'a [Header],
 }
 
 /// Output channels are granted, heads are routed, and flits are selected, in a block whose routers
@@ -38,17 +37,17 @@ pub fn decide_block<W: Word>(
 )
     requires frame { IsFrame W.bits (frame_by W.value pattern.now.frame) }
     requires fits { width traffic.now.relation.now.grid traffic.now.relation.now.vcs ≤ W.bits }
-    requires packets { AreRoutable traffic.now.relation.now traffic.now.packets.now }
+    requires headers { AreRoutable traffic.now.relation.now traffic.now.headers.now }
     requires pending { (k : ℕ) → k < LANES
         → IsPending work.old.pending k (lane_of W.value state.old k)
         (working_of W.value work.old k) }
     requires lanes { (k : ℕ) → k < LANES
-        → MayDecide traffic.now.relation.now pattern.now.numbering traffic.now.packets.now
+        → MayDecide traffic.now.relation.now pattern.now.numbering traffic.now.headers.now
         (first + k) (lane_of W.value state.old k) (working_of W.value work.old k) }
     ensures lanes { (k : ℕ) → k < LANES
         → HasDecidedAll W.bits pattern.now.frame.fields.width pattern.now.frame.ports
         (port_in pattern.now.numbering) (vc_in pattern.now.numbering)
-        (sets_by traffic.now.relation.now pattern.now.numbering traffic.now.packets.now (first + k))
+        (sets_by traffic.now.relation.now pattern.now.numbering traffic.now.headers.now (first + k))
         (word W.value k work.old.returned.single) (lane_of W.value state.old k)
         (lane_of W.value state.new k) (standing_by (word W.value k) work.old.standing)
         (moves_by (word W.value k) work.new.moves)
@@ -73,7 +72,7 @@ pub fn decide_block<W: Word>(
     let guide = Guide {
         relation: traffic.relation,
         numbering: &pattern.numbering,
-        packets: traffic.packets,
+        headers: traffic.headers,
     };
     route_all(
         &guide,

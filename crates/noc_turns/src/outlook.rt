@@ -7,6 +7,7 @@ ghost use Rattle.noc_turns.specs.Outlooks.{IsLeastOf, TellsSome, happens_to, hel
 ghost use Rattle.noc_turns.specs.States.{lane_of, working_of};
 
 use crate::state::{State, Work};
+use noc_blocks::has_some;
 use noc_lanes::{LANES, Lanes, Word, at};
 
 /// What is known of a block after a cycle.
@@ -53,19 +54,6 @@ fn holds_some<W: Word>(state: &State<W>) -> bool
     let active = has_some(&state.inputs.active);
     let injecting = has_some(&state.sources.words.injecting);
     waiting | active | injecting
-}
-
-// Whether a row has a member.
-#[inline(always)]
-pub(crate) fn has_some<W: Word>(row: &Lanes<W>) -> bool
-    ensures { TellsSome (λ k. word W.value k row.now) result }
-{
-    let mut all = W::none();
-    for j in 0..LANES {
-        let here = at(row, j);
-        all = all.or(here);
-    }
-    !all.is_none()
 }
 
 // The least number of a row.

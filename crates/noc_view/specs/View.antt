@@ -40,7 +40,7 @@ pub record View : Type 0 where
   pub misfits : ℕ
   pub last_event : Option ℕ
   pub counts : List (List ℕ)  -- of each input channel, how often it had each verdict
-  pub findings : List Finding  -- by input channel, of the last cycle that kept them, if any
+  pub findings : List Finding  -- by input channel, of the last cycle, if any
   pub given : ℕ  -- the cycle last given to `inject`
   pub had_event : Bool  -- whether the cycle that goes on had an event before its verdicts
   pub to_put : List Beat  -- for each link port, the beat that is still to be put

@@ -1,4 +1,4 @@
-//! What a router finds of an input channel, and whether it records that.
+//! What a router finds of an input channel.
 
 use crate::verdict::Verdict;
 
@@ -19,13 +19,4 @@ impl Finding {
         packet: None,
         out: None,
     };
-}
-
-/// Whether a router records what it finds in a cycle.
-#[derive(Clone, Copy, Debug, PartialEq, Eq)]
-pub enum Recording {
-    /// Its findings are those of this cycle.
-    Record,
-    /// Its findings stay as they were.
-    Leave,
 }

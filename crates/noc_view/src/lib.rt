@@ -8,6 +8,6 @@ mod finding;
 mod sets;
 mod verdict;
 
-pub use finding::{Finding, Recording};
+pub use finding::Finding;
 pub use sets::{ReadySets, VerdictSets};
-pub use verdict::{OTHERS, VERDICTS, Verdict};
+pub use verdict::{VERDICTS, Verdict};

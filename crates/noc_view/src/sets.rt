@@ -1,13 +1,11 @@
 //! The input channels of a router as sets: by what they can go on with, and by their verdicts.
 
-ghost use Rattle.std.specs.Prelude.{◌≡◌, ℕ, ◌+◌, ◌<◌, ◌≤◌, ◌==◌, slice_index_or};
-ghost use Rattle.noc_packet.specs.Set.{has_bit};
-ghost use Rattle.noc_view.specs.Verdict.{column};
+ghost use Rattle.std.specs.Prelude.{◌≡◌, ℕ, ◌<◌};
+ghost use Rattle.noc_packet.specs.declared.limits.TheConstants.{INDICES};
 ghost use Rattle.noc_view.specs.VerdictSets.{sets_with, verdict_by};
-ghost use Rattle.noc_view.specs.declared.verdict.TheConstants.{OTHERS};
 ghost use Rattle.noc_view.specs.declared.verdict.Verdict.TheVariants.{Empty};
 
-use crate::verdict::OTHERS;
+use crate::verdict::Verdict;
 use noc_packet::ChannelSet;
 
 /// What the input channels of a router that hold something can go on with, by the state of their
@@ -63,22 +61,31 @@ impl VerdictSets {
         }
     }
 
-    /// The sets in the order of `Verdict::ALL`, from the verdict behind Empty on.
-    #[inline(always)]
-    pub fn each(&self) -> [ChannelSet; OTHERS]
-        ensures { (j k : ℕ) → sets_with self.now k ≤ 1 → j < OTHERS
-            → has_bit (slice_index_or result j 0) k ≡ (column (verdict_by self.now k) == j + 1) }
+    /// The verdict of a channel, 0 to 55.
+    pub fn verdict(&self, index: usize) -> Verdict
+        requires { index < INDICES }
+        ensures { result ≡ verdict_by self.now index }
     {
-        [
-            self.routed,
-            self.granted,
-            self.moved,
-            self.no_flit,
-            self.no_idle_channel,
-            self.lost_channel,
-            self.no_credit,
-            self.lost_input,
-            self.lost_switch,
-        ]
+        if self.moved.contains(index) {
+            Verdict::Moved
+        } else if self.granted.contains(index) {
+            Verdict::Granted
+        } else if self.routed.contains(index) {
+            Verdict::Routed
+        } else if self.no_flit.contains(index) {
+            Verdict::NoFlit
+        } else if self.no_idle_channel.contains(index) {
+            Verdict::NoIdleChannel
+        } else if self.lost_channel.contains(index) {
+            Verdict::LostChannel
+        } else if self.no_credit.contains(index) {
+            Verdict::NoCredit
+        } else if self.lost_input.contains(index) {
+            Verdict::LostInput
+        } else if self.lost_switch.contains(index) {
+            Verdict::LostSwitch
+        } else {
+            Verdict::Empty
+        }
     }
 }

@@ -6,9 +6,6 @@ ghost use Rattle.noc_view.specs.Names.{column_name, verdict_name};
 /// How many verdicts there are.
 pub const VERDICTS: usize = 10;
 
-/// How many verdicts there are but Empty.
-pub const OTHERS: usize = VERDICTS - 1;
-
 /// What an input channel does in one cycle, or the first condition that fails for it, in the order
 /// of the stall report (docs/MODEL.md, "Verdicts"; Dally and Towles, chapter 16).
 #[derive(Clone, Copy, Debug, PartialEq, Eq)]

@@ -7,7 +7,6 @@ use Rattle.noc_route.specs.Channel.{Channel, Link, Inject, Eject}
 use Rattle.noc_theory.specs.Network.{Setup, State, Place, Source, On, In, Out, packet_at, tail_place, is_past, out_cycle, arrival_in, state_at, frozen_at}
 use Rattle.noc_theory.specs.Progress.{head_place}
 use Rattle.noc_theory.specs.Good.{IsGoodSetup}
-use Rattle.noc_theory.specs.Alone.{IsAlone}
 use Rattle.noc_theory.proofs.worms.BuiltLemmas.{good-built}
 use Rattle.noc_theory.proofs.worms.StateWordLemmas.{goal, last_of}
 use Rattle.noc_theory.proofs.worms.WormRecordLemmas.{valid-last}
@@ -49,14 +48,18 @@ module _ (net : Setup) where
       at (In c) e = absurd (some (ap out_cycle e))
       at (Out m) e = (m, e)
 
-  module _ (good : IsGoodSetup net) (p : ℕ) (alone : IsAlone net p) (n : ℕ) (due : (packet_at net p).due ≤ n) (waits : arrival_in net (state_at net n) p ≡ None) where
+  -- in cycle n every packet but p that is due has its tail out
+  abbrev pub OthersAreOut : ℕ → ℕ → Type 0
+  OthersAreOut p n = (q : ℕ) → q < length net.packets → q ≢ p → (packet_at net q).due ≤ n → arrival_in net (state_at net n) q ≢ None
+
+  module _ (good : IsGoodSetup net) (p n : ℕ) (others : OthersAreOut p n) where
     -- another packet that is not out is due later
     pub due-later : (q : ℕ) → q < length net.packets → q ≢ p → (n < (packet_at net q).due) ⊎ ((m : ℕ) × (tail_place net (state_at net n) q ≡ Out m))
     due-later q l other = at (cases_lt n (packet_at net q).due)
       where
         at : (n < (packet_at net q).due) ⊎ ((packet_at net q).due ≤ n) → (n < (packet_at net q).due) ⊎ ((m : ℕ) × (tail_place net (state_at net n) q ≡ Out m))
         at (inl late) = inl late
-        at (inr early) = inr (arrived-out (state_at net n) q (alone n q due waits l other early))
+        at (inr early) = inr (arrived-out (state_at net n) q (others q l other early))
 
     pub alone-mid : OwnsAlone p (mid_at net good n)
     alone-mid = all-away p (mid_at net good n) (whole-mid_at net good n) (λ q l other. at q l (due-later q l other))

@@ -7,7 +7,7 @@ use Rattle.noc_route.specs.Channel.{Channel, Link, Inject, Eject}
 use Rattle.noc_theory.specs.Network.{Setup, State, Place, Source, On, In, Out, packet_at, place_of_flit, tail_place, out_cycle, arrival_in, landed_place, after_injection, after_verdicts, frozen_state, frozen_at, network_cycle, state_at}
 use Rattle.noc_theory.specs.Progress.{hops, head_place, weight, allocations_left}
 use Rattle.noc_theory.specs.Good.{IsGoodSetup, IsValid}
-use Rattle.noc_theory.specs.Alone.{IsAlone, zero_load_latency}
+use Rattle.noc_theory.specs.Alone.{zero_load_latency}
 use Rattle.noc_theory.proofs.worms.BuiltRecordLemmas.{IsBuilt}
 use Rattle.noc_theory.proofs.worms.BuiltLemmas.{good-built}
 use Rattle.noc_theory.proofs.worms.InjectionPhaseLemmas.{IsInjected, source-behind}
@@ -20,10 +20,14 @@ use Rattle.noc_theory.proofs.worms.WormOrderLemmas.{whole-at, whole-frozen_at}
 use Rattle.noc_theory.proofs.worms.WormRecordLemmas.{valid-last, valid-below}
 use Rattle.noc_theory.proofs.budget.DrainLemmas.{tail-stays-out}
 use Rattle.noc_theory.proofs.alone.UndueLemmas.{place-mid, undue-at}
-use Rattle.noc_theory.proofs.alone.OwnerLemmas.{OwnsAlone, alone-mid, alone-frozen, due-later}
+use Rattle.noc_theory.proofs.alone.OwnerLemmas.{OwnsAlone, OthersAreOut, alone-mid, alone-frozen, due-later}
 use Rattle.noc_theory.proofs.alone.FollowLemmas.{out_time, InTime, follows, follows-first}
 use Rattle.noc_theory.proofs.alone.EntryLemmas.{IsEntering, entry-far, goes-on, begins}
 use Rattle.noc_theory.proofs.alone.ClockLemmas.{IsOnClock, HeadOnClock, clock-time, clock-mid, clock-frozen, clock-verdicts}
+
+-- the cycle in which the tail of a packet is out, where nothing holds the packet up
+abbrev pub last_time : Setup → ℕ → ℕ
+last_time net p = (packet_at net p).due + zero_load_latency net p
 
 module _ (net : Setup) (good : IsGoodSetup net) (two : 2 ≤ net.depth) (p : ℕ) (low : p < length net.packets) where
   abbrev built : IsBuilt net
@@ -36,7 +40,7 @@ module _ (net : Setup) (good : IsGoodSetup net) (two : 2 ≤ net.depth) (p : ℕ
 
   -- ---- one cycle
 
-  module _ (alone : IsAlone net p) (n : ℕ) (due : (packet_at net p).due ≤ n) (waits : arrival_in net (state_at net n) p ≡ None) (on : IsOnTime n) where
+  module _ (n : ℕ) (others : OthersAreOut net p n) (due : (packet_at net p).due ≤ n) (on : IsOnTime n) where
     abbrev T : State
     T = mid_at net good n
 
@@ -50,7 +54,7 @@ module _ (net : Setup) (good : IsGoodSetup net) (two : 2 ≤ net.depth) (p : ℕ
     frozen = whole-frozen_at net good n
 
     mine : OwnsAlone net p F
-    mine = alone-frozen net good p alone n due waits
+    mine = alone-frozen net good p n others
 
     time-landed : (i : ℕ) (x : Place) → InTime net p n i x → InTime net p n i (landed_place net x)
     time-landed i Source t = t
@@ -63,7 +67,7 @@ module _ (net : Setup) (good : IsGoodSetup net) (two : 2 ≤ net.depth) (p : ℕ
 
     -- the head leaves its source at once, and a later flit that has no cycle to lose
     head-enters : head_place net T p ≡ Source → IsEntering net good n p
-    head-enters e = begins net good two n p low (alone-mid net good p alone n due waits) (due-later net good p alone n due waits) due e
+    head-enters e = begins net good two n p low (alone-mid net good p n others) (due-later net good p n others) due e
 
     enters : (i : ℕ) → IsValid net p i → place_of_flit net T p i ≡ Source → n + hops net p + 1 ≡ out_time net p i → IsEntering net good n p
     enters i v e tight = at (head_place net T p) refl
@@ -237,7 +241,11 @@ module _ (net : Setup) (good : IsGoodSetup net) (two : 2 ≤ net.depth) (p : ℕ
         let t : m ≤ out_time net p (last_of net p) = subst (InTime net p n (last_of net p)) out (on.times (last_of net p) (valid-last net built p low)) in
         omega arith
 
-  module _ (alone : IsAlone net p) where
+  same-time : out_time net p (last_of net p) ≡ last_time net p
+  same-time = omega arith
+
+  -- up to then all others are out, while p is not
+  module _ (others : (n : ℕ) → (packet_at net p).due ≤ n → n ≤ last_time net p → arrival_in net (state_at net n) p ≡ None → OthersAreOut net p n) where
     -- p is on time, or its tail is out when it must
     abbrev HasCome : ℕ → Type 0
     HasCome n = IsOnTime n ⊎ (tail_place net (state_at net n) p ≡ Out (out_time net p (last_of net p)))
@@ -249,10 +257,16 @@ module _ (net : Setup) (good : IsGoodSetup net) (two : 2 ≤ net.depth) (p : ℕ
     next n due (inr e) = goes-out n e
     next n due (inl on) = at (tail_place net (state_at net n) p) refl
       where
+        time : (x : Place) → tail_place net (state_at net n) p ≡ x → InTime net p n (last_of net p) x
+        time x e = subst (InTime net p n (last_of net p)) e (on.times (last_of net p) (valid-last net built p low))
+
+        goes-on-time : arrival_in net (state_at net n) p ≡ None → n ≤ last_time net p → HasCome (suc n)
+        goes-on-time waits early = inl (on-time_next n (others n due early waits) due on)
+
         at : (x : Place) → tail_place net (state_at net n) p ≡ x → HasCome (suc n)
-        at Source e = inl (on-time_next alone n due (ap out_cycle e) on)
-        at (On c) e = inl (on-time_next alone n due (ap out_cycle e) on)
-        at (In c) e = inl (on-time_next alone n due (ap out_cycle e) on)
+        at Source e = let t = time Source e in let s = same-time in goes-on-time (ap out_cycle e) (omega arith)
+        at (On c) e = let t = time (On c) e in let s = same-time in goes-on-time (ap out_cycle e) (omega arith)
+        at (In c) e = let t = time (In c) e in let s = same-time in goes-on-time (ap out_cycle e) (omega arith)
         at (Out m) e = goes-out n (e ∙ ap Out (out-then n on m e))
 
     comes : (n : ℕ) → (packet_at net p).due ≤ n → HasCome n
@@ -264,24 +278,21 @@ module _ (net : Setup) (good : IsGoodSetup net) (two : 2 ≤ net.depth) (p : ℕ
         at (inr l) before = next n l (before l)
 
     -- the tail is out in the cycle in which it must
-    pub out-in_time : (n : ℕ) → (packet_at net p).due + zero_load_latency net p < n → arrival_in net (state_at net n) p ≡ Some ((packet_at net p).due + zero_load_latency net p)
+    pub out-in_time : (n : ℕ) → last_time net p < n → arrival_in net (state_at net n) p ≡ Some (last_time net p)
     out-in_time n late = at (comes n (omega arith))
       where
-        same : out_time net p (last_of net p) ≡ (packet_at net p).due + zero_load_latency net p
-        same = omega arith
+        out : (m : ℕ) → tail_place net (state_at net n) p ≡ Out m → m ≡ out_time net p (last_of net p) → arrival_in net (state_at net n) p ≡ Some (last_time net p)
+        out m e is = ap out_cycle e ∙ ap Some (is ∙ same-time)
 
-        out : (m : ℕ) → tail_place net (state_at net n) p ≡ Out m → m ≡ out_time net p (last_of net p) → arrival_in net (state_at net n) p ≡ Some ((packet_at net p).due + zero_load_latency net p)
-        out m e is = ap out_cycle e ∙ ap Some (is ∙ same)
-
-        at : HasCome n → arrival_in net (state_at net n) p ≡ Some ((packet_at net p).due + zero_load_latency net p)
+        at : HasCome n → arrival_in net (state_at net n) p ≡ Some (last_time net p)
         at (inr e) = out (out_time net p (last_of net p)) e refl
         at (inl on) = by (tail_place net (state_at net n) p) refl
           where
             time : (x : Place) → tail_place net (state_at net n) p ≡ x → InTime net p n (last_of net p) x
             time x e = subst (InTime net p n (last_of net p)) e (on.times (last_of net p) (valid-last net built p low))
 
-            by : (x : Place) → tail_place net (state_at net n) p ≡ x → arrival_in net (state_at net n) p ≡ Some ((packet_at net p).due + zero_load_latency net p)
-            by Source e = let t = time Source e in let s = same in absurd (omega arith)
-            by (On c) e = let t = time (On c) e in let s = same in absurd (omega arith)
-            by (In c) e = let t = time (In c) e in let s = same in absurd (omega arith)
+            by : (x : Place) → tail_place net (state_at net n) p ≡ x → arrival_in net (state_at net n) p ≡ Some (last_time net p)
+            by Source e = let t = time Source e in let s = same-time in absurd (omega arith)
+            by (On c) e = let t = time (On c) e in let s = same-time in absurd (omega arith)
+            by (In c) e = let t = time (In c) e in let s = same-time in absurd (omega arith)
             by (Out m) e = out m e (out-then n on m e)

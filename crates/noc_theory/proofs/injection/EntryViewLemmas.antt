@@ -10,7 +10,7 @@ use Rattle.noc_vc.specs.Input.{next_of}
 use Rattle.noc_vc.specs.declared.input.InputState.{InputState}
 use Rattle.noc_vc.specs.declared.input.InputState.TheVariants.{Idle, Waiting}
 use Rattle.noc_vc.specs.declared.output.OutputState.TheVariants.{Owned, Draining}
-use Rattle.noc_theory.specs.Lockstep.{has_come, come_count, seen_flits, seen_input, seen_output, seen_phase, seen_phase_with, seen_set, seen_holder, seen_source, goes_on_by, is_present, last_come}
+use Rattle.noc_theory.specs.Lockstep.{has_come, come_count, seen_flits, seen_input, seen_output, seen_phase, seen_phase_with, seen_set, seen_holder, seen_sender, goes_on_by, is_present, last_come}
 use Rattle.noc_theory.specs.Network.{Setup, State, Located, Place, Source, On, In, Out, Injection, size, arriving, packet_at, tail_place, buffer_of, count_in, count_on, credit_of, owner_of, next_channel, has_channel, is_in, is_on, is_past, is_at_source, injections, injected_place, is_the_flit, first_at_source, after_injection}
 use Rattle.noc_theory.proofs.worms.BufferLemmas.{same_channel-true, filter-kept}
 use Rattle.noc_theory.proofs.worms.MemberLemmas.{find-has}
@@ -146,8 +146,8 @@ module _ (net : Setup) (good : IsGood net) (M : State) (x : IsOrderedFrozen net 
       ∙ ap (λ k. net.depth - count_on net M c - k - (if has_channel (after_injection net n M).back c then 1 else 0)) (ap length (buffer-quiet c quiet))
       ∙ ap (λ (cs : List Channel). net.depth - count_on net M c - count_in net M c - (if has_channel cs c then 1 else 0)) back-same
 
-  source-same : (r : ℕ) (o : Channel) → seen_source net (after_injection net n M) r o ≡ seen_source net M r o
-  source-same r o = ap (λ (k : Option ℕ). unwrap_or k 0) (find-each (below (size net)))
+  sender-same : (r : ℕ) (o : Channel) → seen_sender net (after_injection net n M) r o ≡ seen_sender net M r o
+  sender-same r o = ap (λ (k : Option ℕ). unwrap_or k 0) (find-each (below (size net)))
     where
       each : (c : Option Channel) → unwrap_or (option_map (goes_on_by net (after_injection net n M) o) c) false ≡ unwrap_or (option_map (goes_on_by net M o) c) false
       each None = refl
@@ -183,8 +183,8 @@ module _ (net : Setup) (good : IsGood net) (M : State) (x : IsOrderedFrozen net 
       at : (o : Option ℕ) → owner_of net M c ≡ o → seen_holder net (after_injection net n M) r c o ≡ seen_holder net M r c o
       at None e = refl
       at (Some p) e =
-          ap (λ b. cond b Draining (Owned (seen_source net (after_injection net n M) r c) p)) (sent p (owner-has net M c p e) c refl)
-          ∙ ap (λ k. cond (is_link c && (is_on c (tail_place net M p) || has_come net c (goal net p) (tail_place net M p))) Draining (Owned k p)) (source-same r c)
+          ap (λ b. cond b Draining (Owned (seen_sender net (after_injection net n M) r c) p)) (sent p (owner-has net M c p e) c refl)
+          ∙ ap (λ k. cond (is_link c && (is_on c (tail_place net M p) || has_come net c (goal net p) (tail_place net M p))) Draining (Owned k p)) (sender-same r c)
 
   pub output-quiet : (r : ℕ) (c : Channel) → Quiet net good M x n c → seen_output net (after_injection net n M) r c ≡ seen_output net M r c
   output-quiet r (Link a b w) quiet =

@@ -6,7 +6,7 @@ use Rattle.std.proofs.lemmas.Option.{none-some, same_Some}
 use Rattle.noc_topo.specs.Lists.{Has}
 use Rattle.noc_route.specs.Channel.{Channel, same_channel}
 use Rattle.noc_view.proofs.FindLemmas.{find-at}
-use Rattle.noc_theory.specs.Lockstep.{seen_source, goes_on_by}
+use Rattle.noc_theory.specs.Lockstep.{seen_sender, goes_on_by}
 use Rattle.noc_theory.specs.Network.{Setup, State, size, arriving, leaving, place_of_flit, owner_of, owned_by, next_channel, leads_from, all_inputs}
 use Rattle.noc_theory.proofs.worms.BufferLemmas.{same_channel-refl, same_channel-true}
 use Rattle.noc_theory.proofs.worms.MoveLemmas.{IsNext, next-is, next-once, leads-end, no-end-eject}
@@ -43,8 +43,8 @@ module _ (net : Setup) (good : IsGood net) (S : State) (keyed : IsKeyed net S.at
       let same : a.0 ≡ r = sym end_is ∙ begin_is in
       (a.1, subst (λ (s : ℕ). IsAt net good s a.1 c) same a.2)
 
-  pub source-is : (r i : ℕ) (p : ℕ) (c o : Channel) → IsAt net good r i c → Has (c, p) S.own → IsNext net good.built S keyed w p c o → seen_source net S r o ≡ i
-  source-is r i p c o at h m = ap (λ (k : Option ℕ). unwrap_or k 0) (find-at (λ k. unwrap_or (option_map (goes_on_by net S o) (arriving net r k)) false) (size net) i at.index here only)
+  pub sender-is : (r i : ℕ) (p : ℕ) (c o : Channel) → IsAt net good r i c → Has (c, p) S.own → IsNext net good.built S keyed w p c o → seen_sender net S r o ≡ i
+  sender-is r i p c o at h m = ap (λ (k : Option ℕ). unwrap_or k 0) (find-at (λ k. unwrap_or (option_map (goes_on_by net S o) (arriving net r k)) false) (size net) i at.index here only)
     where
       here : unwrap_or (option_map (goes_on_by net S o) (arriving net r i)) false ≡ true
       here =

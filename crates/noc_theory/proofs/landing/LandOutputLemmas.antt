@@ -8,7 +8,7 @@ use Rattle.noc_route.specs.Channel.{Channel, Link, Inject, Eject, same_channel, 
 use Rattle.noc_vc.specs.Output.{Output, output_after_credit, credit_fits, holder_at}
 use Rattle.noc_vc.specs.declared.output.OutputState.{OutputState}
 use Rattle.noc_vc.specs.declared.output.OutputState.TheVariants.{Idle as Free, Owned, Draining}
-use Rattle.noc_theory.specs.Lockstep.{has_come, seen_output, seen_holder, seen_source}
+use Rattle.noc_theory.specs.Lockstep.{has_come, seen_output, seen_holder, seen_sender}
 use Rattle.noc_theory.specs.Network.{Setup, State, Located, Place, Source, On, In, Out, leaving, place_of_flit, tail_place, is_on, is_in, is_past, owner_of, leads_from, has_channel, credit_of, count_in, count_on, landed_place, after_credits}
 use Rattle.noc_theory.specs.Progress.{weight, hops}
 use Rattle.noc_theory.proofs.worms.BufferLemmas.{same_channel-refl, same_channel-true}
@@ -24,7 +24,7 @@ use Rattle.noc_theory.proofs.landing.ComeLemmas.{come-level}
 use Rattle.noc_theory.proofs.landing.LandLemmas.{keyed, worm, sound, keyedM, wormM, landed-tail, sent-landed, owned-still, owner-still, owner-gone, owner-freed, wire-weight}
 use Rattle.noc_theory.proofs.join.OrderedLemmas.{IsGood, IsOrdered}
 use Rattle.noc_theory.proofs.join.PhaseLemmas.{mid}
-use Rattle.noc_theory.proofs.injection.SourceLemmas.{at-router, source-is, not-end}
+use Rattle.noc_theory.proofs.injection.SourceLemmas.{at-router, sender-is, not-end}
 
 module _ (net : Setup) (good : IsGood net) (S : State) (x : IsOrdered net S) where
   -- ---- credits
@@ -128,9 +128,9 @@ module _ (net : Setup) (good : IsGood net) (S : State) (x : IsOrdered net S) whe
       none (Out k) z t = x.whole.routed.mid.eject a w p k m.owns z
 
   -- the source of a channel on which the tail was not sent stays
-  source-same : (r j p : ℕ) (o : Channel) → leaving net r j ≡ o → Has (o, p) S.own → Has (o, p) (mid net S).own → ((n v : ℕ) → o ≡ Inject n v → ⊥) → (tail_place net S p ≡ On o → ⊥) → (tail_place net S p ≡ In o → ⊥) → is_past net o (goal net p) (tail_place net S p) ≡ false
-      → (is_link o ≡ true → sent S o p ≡ false) → (is_link o ≡ true) ⊎ IsEject o → seen_source net (mid net S) r o ≡ seen_source net S r o
-  source-same r j p o from own ownM none not_on not_in behind unsent kind =
+  sender-same : (r j p : ℕ) (o : Channel) → leaving net r j ≡ o → Has (o, p) S.own → Has (o, p) (mid net S).own → ((n v : ℕ) → o ≡ Inject n v → ⊥) → (tail_place net S p ≡ On o → ⊥) → (tail_place net S p ≡ In o → ⊥) → is_past net o (goal net p) (tail_place net S p) ≡ false
+      → (is_link o ≡ true → sent S o p ≡ false) → (is_link o ≡ true) ⊎ IsEject o → seen_sender net (mid net S) r o ≡ seen_sender net S r o
+  sender-same r j p o from own ownM none not_on not_in behind unsent kind =
       let s = has-source net good.built S.own (place_of_flit net S) (worm net good S x) o p own none not_on not_in behind in
       let c : Channel = s.0 in
       let leads : leads_from net c (leaving net r j) ≡ true = subst (λ (y : Channel). leads_from net c y ≡ true) (sym from) s.2 in
@@ -139,8 +139,8 @@ module _ (net : Setup) (good : IsGood net) (S : State) (x : IsOrdered net S) whe
       let next : IsNext net good.built S (keyed net good S x) (worm net good S x) p c o = record { owns = own; leads = s.2 } in
       let before : is_past net c (goal net p) (tail_place net S p) ≡ false = stays c s.1 next in
       let mine : Has (c, p) (mid net S).own = owned-still net good S x c p s.1 (ap (λ b. is_link c && b) before ∙ none-and (is_link c)) in
-      source-is net good (mid net S) (keyedM net good S x) (wormM net good S x) r at.0 p c o at.1 mine (record { owns = ownM; leads = s.2 })
-      ∙ sym (source-is net good S (keyed net good S x) (worm net good S x) r at.0 p c o at.1 s.1 next)
+      sender-is net good (mid net S) (keyedM net good S x) (wormM net good S x) r at.0 p c o at.1 mine (record { owns = ownM; leads = s.2 })
+      ∙ sym (sender-is net good S (keyed net good S x) (worm net good S x) r at.0 p c o at.1 s.1 next)
     where
       none-and : (b : Bool) → (b && false) ≡ false
       none-and true = refl
@@ -163,7 +163,7 @@ module _ (net : Setup) (good : IsGood net) (S : State) (x : IsOrdered net S) whe
     abbrev out : OutputState → ℕ → Output
     out holder credit = record { holder = holder; credit = Some credit; depth = net.depth }
 
-    holder-link : (T : State) (p : ℕ) → owner_of net T (Link a b w) ≡ Some p → seen_holder net T r (Link a b w) (owner_of net T (Link a b w)) ≡ cond (sent T (Link a b w) p) Draining (Owned (seen_source net T r (Link a b w)) p)
+    holder-link : (T : State) (p : ℕ) → owner_of net T (Link a b w) ≡ Some p → seen_holder net T r (Link a b w) (owner_of net T (Link a b w)) ≡ cond (sent T (Link a b w) p) Draining (Owned (seen_sender net T r (Link a b w)) p)
     holder-link T p e = ap (seen_holder net T r (Link a b w)) e
 
     holder-none : (T : State) → owner_of net T (Link a b w) ≡ None → seen_holder net T r (Link a b w) (owner_of net T (Link a b w)) ≡ Free
@@ -177,14 +177,14 @@ module _ (net : Setup) (good : IsGood net) (S : State) (x : IsOrdered net S) whe
       holder-same : seen_holder net (mid net S) r (Link a b w) (owner_of net (mid net S) (Link a b w)) ≡ seen_holder net S r (Link a b w) (owner_of net S (Link a b w))
       holder-same =
           holder-link (mid net S) p (owner-still net good S x (Link a b w) p e behind)
-          ∙ ap (λ t. cond t Draining (Owned (seen_source net (mid net S) r (Link a b w)) p)) (sent-same (Link a b w) p low)
+          ∙ ap (λ t. cond t Draining (Owned (seen_sender net (mid net S) r (Link a b w)) p)) (sent-same (Link a b w) p low)
           ∙ at (sent S (Link a b w) p) refl
           ∙ sym (holder-link S p e)
         where
-          at : (t : Bool) → sent S (Link a b w) p ≡ t → cond t Draining (Owned (seen_source net (mid net S) r (Link a b w)) p) ≡ cond t Draining (Owned (seen_source net S r (Link a b w)) p)
+          at : (t : Bool) → sent S (Link a b w) p ≡ t → cond t Draining (Owned (seen_sender net (mid net S) r (Link a b w)) p) ≡ cond t Draining (Owned (seen_sender net S r (Link a b w)) p)
           at true t = refl
           at false t = ap (λ k. Owned k p)
-              (source-same r j p (Link a b w) from (owner-has net S (Link a b w) p e) (owner-has net (mid net S) (Link a b w) p (owner-still net good S x (Link a b w) p e behind)) (λ s u z. cc z)
+              (sender-same r j p (Link a b w) from (owner-has net S (Link a b w) p e) (owner-has net (mid net S) (Link a b w) p (owner-still net good S x (Link a b w) p e behind)) (λ s u z. cc z)
               (λ z. true≢false (sym (or_left _ _ (ap (is_on (Link a b w)) z ∙ same_channel-refl (Link a b w))) ∙ t))
               (λ z. true≢false (sym (or_right (is_on (Link a b w) (tail_place net S p)) _ (ap (has_come net (Link a b w) (goal net p)) z ∙ or_left _ _ (same_channel-refl (Link a b w)))) ∙ t)) behind (λ _. t) (inl refl))
 
@@ -255,7 +255,7 @@ module _ (net : Setup) (good : IsGood net) (S : State) (x : IsOrdered net S) whe
                 let sent_S : sent S (Link a b w) p ≡ true = or_right (is_on (Link a b w) (tail_place net S p)) _ (or_right (is_in (Link a b w) (tail_place net S p)) _ t) in
                 let full : credit_of net S (Link a b w) + 1 ≡ net.depth
                 = (let z = empty t in let i = in-landed (Link a b w) in let c = credit-was (Link a b w) bk in let h = held-with (Link a b w) bk in omega (arith, z, i, c, h)) in
-                both Draining Free (holder-none (mid net S) (owner-freed net good S x (Link a b w) p e t)) (holder-link S p e ∙ ap (λ y. cond y Draining (Owned (seen_source net S r (Link a b w)) p)) sent_S)
+                both Draining Free (holder-none (mid net S) (owner-freed net good S x (Link a b w) p e t)) (holder-link S p e ∙ ap (λ y. cond y Draining (Owned (seen_sender net S r (Link a b w)) p)) sent_S)
                 (sym (ap (λ y. cond y Free Draining) (eq-eqb (credit_of net S (Link a b w) + 1) net.depth full)))
             way false t = kind (sent S (Link a b w) p) refl
               where
@@ -264,10 +264,10 @@ module _ (net : Setup) (good : IsGood net) (S : State) (x : IsOrdered net S) whe
 
                 kind : (y : Bool) → sent S (Link a b w) p ≡ y → seen_output net (mid net S) r (Link a b w) ≡ output_after_credit (seen_output net S r (Link a b w))
                 kind false y =
-                    let h : seen_holder net S r (Link a b w) (owner_of net S (Link a b w)) ≡ Owned (seen_source net S r (Link a b w)) p = holder-link S p e ∙ ap (λ z. cond z Draining (Owned (seen_source net S r (Link a b w)) p)) y in
-                    both (Owned (seen_source net S r (Link a b w)) p) (Owned (seen_source net S r (Link a b w)) p) (same ∙ h) h refl
+                    let h : seen_holder net S r (Link a b w) (owner_of net S (Link a b w)) ≡ Owned (seen_sender net S r (Link a b w)) p = holder-link S p e ∙ ap (λ z. cond z Draining (Owned (seen_sender net S r (Link a b w)) p)) y in
+                    both (Owned (seen_sender net S r (Link a b w)) p) (Owned (seen_sender net S r (Link a b w)) p) (same ∙ h) h refl
                 kind true y =
-                    let h : seen_holder net S r (Link a b w) (owner_of net S (Link a b w)) ≡ Draining = holder-link S p e ∙ ap (λ z. cond z Draining (Owned (seen_source net S r (Link a b w)) p)) y in
+                    let h : seen_holder net S r (Link a b w) (owner_of net S (Link a b w)) ≡ Draining = holder-link S p e ∙ ap (λ z. cond z Draining (Owned (seen_sender net S r (Link a b w)) p)) y in
                     let inside : tail_place net (mid net S) p ≡ In (Link a b w) = in-place (tail_place net S p) refl y t in
                     let some : 0 < count_in net (mid net S) (Link a b w) = filled (count_in net (mid net S) (Link a b w)) refl inside in
                     let short : credit_of net S (Link a b w) + 1 ≢ net.depth
@@ -304,7 +304,7 @@ module _ (net : Setup) (good : IsGood net) (S : State) (x : IsOrdered net S) whe
           let own : Has (Eject a w, p) S.own = owner-has net S (Eject a w) p e in
           let ownM = owner-still net good S x (Eject a w) p e refl in
           ap (seen_holder net (mid net S) r (Eject a w)) ownM
-          ∙ ap (λ k. Owned k p) (source-same r j p (Eject a w) from own (owner-has net (mid net S) (Eject a w) p ownM) (λ s u z. cc z) (λ z. off (subst (λ (y : Place). IsPlaced net S.own p y) z (placed own))) (λ z. off-in (subst (λ (y : Place). IsPlaced net S.own p y) z (placed own)))
+          ∙ ap (λ k. Owned k p) (sender-same r j p (Eject a w) from own (owner-has net (mid net S) (Eject a w) p ownM) (λ s u z. cc z) (λ z. off (subst (λ (y : Place). IsPlaced net S.own p y) z (placed own))) (λ z. off-in (subst (λ (y : Place). IsPlaced net S.own p y) z (placed own)))
           (behind own (tail_place net S p) refl) (λ t. absurd (false≢true t)) (inr tt))
           ∙ sym (ap (seen_holder net S r (Eject a w)) e)
         where

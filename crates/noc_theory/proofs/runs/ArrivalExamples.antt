@@ -11,7 +11,8 @@ use Rattle.noc_view.specs.declared.verdict.Verdict.TheVariants.{Empty, Routed, G
 use Rattle.noc_theory.specs.Network.{Setup, State, opening_state, after_landing, after_credits, after_injection, frozen_state, after_verdicts, network_cycle, state_at, arrival_in, verdict_in_cycle}
 use Rattle.noc_theory.specs.Lockstep.{counts_before}
 use Rattle.noc_theory.specs.Progress.{events, last_event_before, is_stuck, remainder, budget}
-use Rattle.noc_theory.proofs.runs.NetworkExamples.{one_flit, three_flits, one_place, one_by_one, draining, one_source, due_first, contended, deadlocked, dateline, joined_twice}
+use Rattle.noc_theory.specs.Alone.{zero_load_latency}
+use Rattle.noc_theory.proofs.runs.NetworkExamples.{one_flit, three_flits, one_slot, one_by_one, draining, one_source, due_first, contended, deadlocked, woken, dateline, joined_twice}
 
 -- the state at count n; to open it is to open all that it is computed by
 unfoldable pub state_after : Setup → ℕ → State
@@ -53,15 +54,20 @@ three_flits-counts : counts_before three_flits 10 0 2 ∷ counts_before three_fl
 unfolding three_flits state_after
 three_flits-counts = refl
 
-one_place-arrives : arrivals one_place 12 ≡ Some 9 ∷ []
-unfolding one_place state_after
-one_place-arrives = refl
+one_slot-arrives : arrivals one_slot 12 ≡ Some 9 ∷ []
+unfolding one_slot state_after
+one_slot-arrives = refl
+
+-- these packets are alone: with two slots they take exactly this, with one slot longer
+alone-latency : zero_load_latency three_flits 0 ∷ zero_load_latency one_slot 0 ∷ zero_load_latency one_by_one 1 ∷ [] ≡ 7 ∷ 7 ∷ 11 ∷ []
+unfolding three_flits one_slot one_by_one
+alone-latency = refl
 
 -- with one place each flit waits for the credit of the one before it
-one_place-counts : counts_before one_place 12 0 2 ∷ counts_before one_place 12 1 1 ∷ []
+one_slot-counts : counts_before one_slot 12 0 2 ∷ counts_before one_slot 12 1 1 ∷ []
     ≡ (3 ∷ 1 ∷ 1 ∷ 3 ∷ 0 ∷ 0 ∷ 0 ∷ 4 ∷ 0 ∷ 0 ∷ []) ∷ (5 ∷ 1 ∷ 1 ∷ 3 ∷ 2 ∷ 0 ∷ 0 ∷ 0 ∷ 0 ∷ 0 ∷ []) ∷ []
-unfolding one_place state_after
-one_place-counts = refl
+unfolding one_slot state_after
+one_slot-counts = refl
 
 -- four flits over two hops take eleven cycles
 one_by_one-arrive : arrivals one_by_one 25 ≡ Some 6 ∷ Some 18 ∷ Some 24 ∷ []
@@ -114,6 +120,16 @@ deadlocked-stuck : map (is_stuck deadlocked) (below 8) ≡ false ∷ false ∷ f
 unfolding deadlocked state_after
 deadlocked-stuck = refl
 
+-- nothing happens in cycles 4 to 8, and in cycle 9 the packet that is due then is injected
+woken-events : map (λ k. events woken k (state_after woken k)) (below 12) ≡ 8 ∷ 4 ∷ 4 ∷ 8 ∷ 0 ∷ 0 ∷ 0 ∷ 0 ∷ 0 ∷ 2 ∷ 0 ∷ 0 ∷ []
+unfolding woken state_after
+woken-events = refl
+
+-- so it is stuck until that packet is due, and not a cycle longer
+woken-stuck : map (is_stuck woken) (below 12) ≡ false ∷ false ∷ false ∷ false ∷ false ∷ true ∷ true ∷ true ∷ true ∷ true ∷ false ∷ true ∷ []
+unfolding woken state_after
+woken-stuck = refl
+
 dateline-arrives : arrivals dateline 46 ≡ Some 24 ∷ Some 14 ∷ Some 44 ∷ Some 34 ∷ []
 unfolding dateline state_after
 dateline-arrives = refl
@@ -141,9 +157,9 @@ joined_twice-counts = refl
 abbrev pub falls : Setup → ℕ → Bool
 falls net n = nat_eq (remainder net (state_at net n)) (remainder net (state_at net (suc n)) + events net n (state_at net n))
 
-one_place-falls : list_all (falls one_place) (below 12) ≡ true
-unfolding one_place state_after
-one_place-falls = refl
+one_slot-falls : list_all (falls one_slot) (below 12) ≡ true
+unfolding one_slot state_after
+one_slot-falls = refl
 
 contended-falls : list_all (falls contended) (below 30) ≡ true
 unfolding contended state_after

@@ -62,9 +62,9 @@ unfoldable pub three_flits : Setup
 unfolding line
 three_flits = line 2 1 2 (packet_of 0 1 0 3 0 ∷ [])
 
-unfoldable pub one_place : Setup
+unfoldable pub one_slot : Setup
 unfolding line
-one_place = line 2 1 1 (packet_of 0 1 0 3 0 ∷ [])
+one_slot = line 2 1 1 (packet_of 0 1 0 3 0 ∷ [])
 
 -- the second packet is alone: the first is out when it is due, and the third is due when it is out
 unfoldable pub one_by_one : Setup
@@ -99,6 +99,11 @@ around = packet_of 0 2 0 4 0 ∷ packet_of 1 3 0 4 0 ∷ packet_of 2 0 0 4 0 ∷
 unfoldable pub deadlocked : Setup
 unfolding ring
 deadlocked = ring Dor 4 1 1 around
+
+-- four short packets around it, which wait for each other too, and one that is due later
+unfoldable pub woken : Setup
+unfolding ring
+woken = ring Dor 4 1 1 (packet_of 0 2 0 1 0 ∷ packet_of 1 3 0 1 0 ∷ packet_of 2 0 0 1 0 ∷ packet_of 3 1 0 1 0 ∷ packet_of 0 1 0 1 9 ∷ [])
 
 unfoldable pub dateline : Setup
 unfolding ring

@@ -8,8 +8,7 @@ use Rattle.noc_topo.specs.Shape.{nodes, local_port, neighbour}
 use Rattle.noc_topo.proofs.ListLemmas.{length-tabulate, get_or-tabulate, tabulate-from_each, length-map_indexed, get_or-map_indexed, below-next}
 use Rattle.noc_packet.specs.declared.packet.Beat.{Beat}
 use Rattle.noc_view.specs.View.{Site, View, IsRelationOf, local_step, opening_view, idle_beat}
-use Rattle.noc_view.specs.declared.finding.Recording.TheVariants.{Record}
-use Rattle.noc_theory.specs.Halves.{beat_at, view_after_decide, view_after_puts, incoming, ArePlaced, IsSilent}
+use Rattle.noc_theory.specs.Halves.{beat_at, view_after_decide, view_after_puts, incoming, HaveTheirBeats, IsSilent}
 use Rattle.noc_theory.specs.Lockstep.{lockstep_at, lockstep_cycle, opening_lockstep, wires_after_puts, beats_at, beat_from, site_at, starts_at, ends_at}
 use Rattle.noc_theory.specs.Network.{Setup}
 use Rattle.noc_theory.proofs.runs.StepLemmas.{local_step-view, local_step-beats, site-decided, count-decided}
@@ -55,7 +54,7 @@ module _ (net : Setup) where
   count_views zero = length-tabulate (nodes net.relation.grid) _
   count_views (suc n) = length-map _ _ ∙ length-map_indexed _ (lockstep_at net n).views ∙ count_views n
 
-  count_rows : (n : ℕ) → length (lockstep_at net n).wires ≡ nodes net.relation.grid
+  pub count_rows : (n : ℕ) → length (lockstep_at net n).wires ≡ nodes net.relation.grid
   unfolding lockstep_at opening_lockstep lockstep_cycle wires_after_puts
   count_rows zero = length-replicate (nodes net.relation.grid) _
   count_rows (suc n) = length-tabulate (nodes net.relation.grid) _
@@ -104,25 +103,25 @@ module _ (net : Setup) where
 
   -- the routers after the first half of the next cycle
   abbrev pub halfway : ℕ → List (List Beat) → List View
-  halfway n beats = map_indexed (λ (r : ℕ) (v : View). view_after_decide net.relation n Record (incoming net.relation.grid (beats_at beats r)) v) (lockstep_at net n).views
+  halfway n beats = map_indexed (λ (r : ℕ) (v : View). view_after_decide net.relation n (incoming net.relation.grid (beats_at beats r)) v) (lockstep_at net n).views
 
   pub next_views : (n : ℕ) (beats : List (List Beat)) → ((r port : ℕ) → beat_at beats r port ≡ beat_at (lockstep_at net n).wires r port)
       → map view_after_puts (halfway n beats) ≡ (lockstep_at net (n + 1)).views
   unfolding lockstep_at lockstep_cycle
   next_views n beats same = rw (add-one n)
       (sym (map_map_indexed (λ (s : View × List Beat). s.0) (λ (r : ℕ) (view : View). local_step net.relation view (beats_at (lockstep_at net n).wires r) n) view_after_puts
-      (λ (r : ℕ) (v : View). view_after_decide net.relation n Record (incoming net.relation.grid (beats_at beats r)) v) (lockstep_at net n).views some_view (some_view, []) some_view
+      (λ (r : ℕ) (v : View). view_after_decide net.relation n (incoming net.relation.grid (beats_at beats r)) v) (lockstep_at net n).views some_view (some_view, []) some_view
       (λ r v l. local_step-view net.relation v (beats_at (lockstep_at net n).wires r) n
-      ∙ ap (λ row. view_after_puts (view_after_decide net.relation n Record row v)) (incoming_row n beats same r (let c = count_views n in omega arith)))))
+      ∙ ap (λ row. view_after_puts (view_after_decide net.relation n row v)) (incoming_row n beats same r (let c = count_views n in omega arith)))))
 
   next_sent : (n : ℕ) (beats : List (List Beat)) → ((r port : ℕ) → beat_at beats r port ≡ beat_at (lockstep_at net n).wires r port)
       → map (λ (s : View × List Beat). s.1) (map_indexed (λ (r : ℕ) (view : View). local_step net.relation view (beats_at (lockstep_at net n).wires r) n) (lockstep_at net n).views)
       ≡ map (λ (v : View). v.to_put) (halfway n beats)
   next_sent n beats same =
       map_map_indexed (λ (s : View × List Beat). s.1) (λ (r : ℕ) (view : View). local_step net.relation view (beats_at (lockstep_at net n).wires r) n) (λ (v : View). v.to_put)
-      (λ (r : ℕ) (v : View). view_after_decide net.relation n Record (incoming net.relation.grid (beats_at beats r)) v) (lockstep_at net n).views some_view (some_view, []) some_view
+      (λ (r : ℕ) (v : View). view_after_decide net.relation n (incoming net.relation.grid (beats_at beats r)) v) (lockstep_at net n).views some_view (some_view, []) some_view
       (λ r v l. local_step-beats net.relation v (beats_at (lockstep_at net n).wires r) n
-      ∙ ap (λ row. (view_after_decide net.relation n Record row v).to_put) (incoming_row n beats same r (let c = count_views n in omega arith)))
+      ∙ ap (λ row. (view_after_decide net.relation n row v).to_put) (incoming_row n beats same r (let c = count_views n in omega arith)))
 
   pub no_link : (r port : ℕ) → local_port net.relation.grid ≤ port → neighbour net.relation.grid r port ≡ None
   no_link r port l = rw (le-ltb port (local_port net.relation.grid) l) refl
@@ -166,14 +165,14 @@ module _ (net : Setup) where
   opening_views = refl
 
   -- the routers halfway are at their places
-  pub placed_halfway : (n : ℕ) (beats : List (List Beat)) → ArePlaced net.relation (halfway n beats)
+  pub placed_halfway : (n : ℕ) (beats : List (List Beat)) → HaveTheirBeats net.relation (halfway n beats)
   placed_halfway n beats r d l =
       let views = (lockstep_at net n).views in
-      let first_half = λ (k : ℕ) (v : View). view_after_decide net.relation n Record (incoming net.relation.grid (beats_at beats k)) v in
+      let first_half = λ (k : ℕ) (v : View). view_after_decide net.relation n (incoming net.relation.grid (beats_at beats k)) v in
       let count : length (map_indexed first_half views) ≡ length views = length-map_indexed first_half views in
       let in_net : r < nodes net.relation.grid = omega (arith, count_views n) in
       let old = get_or views r d in
-      let now : get_or (halfway n beats) r d ≡ view_after_decide net.relation n Record (incoming net.relation.grid (beats_at beats r)) old = get_or-map_indexed first_half views r d d (omega (arith, count_views n)) in
+      let now : get_or (halfway n beats) r d ≡ view_after_decide net.relation n (incoming net.relation.grid (beats_at beats r)) old = get_or-map_indexed first_half views r d d (omega (arith, count_views n)) in
       let old_site : old.site ≡ site_at net r = site_views n r d in_net in
       let site : (get_or (halfway n beats) r d).site ≡ site_at net r = ap (λ (v : View). v.site) now ∙ site-decided net.relation n (incoming net.relation.grid (beats_at beats r)) old ∙ old_site in
       record {

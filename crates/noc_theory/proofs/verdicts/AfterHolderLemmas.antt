@@ -4,7 +4,7 @@ use Rattle.std.specs.Prelude.{◌&&◌, ◌||◌, not, nat_lt}
 use Rattle.std.proofs.lemmas.Bool.{false≢true, true≢false, le-ltb}
 use Rattle.noc_topo.specs.Lists.{Has}
 use Rattle.noc_route.specs.Channel.{Channel, Link, Inject, Eject, is_link, same_channel, channel_vc}
-use Rattle.noc_theory.specs.Lockstep.{has_come, come_count, seen_source}
+use Rattle.noc_theory.specs.Lockstep.{has_come, come_count, seen_sender}
 use Rattle.noc_theory.specs.Network.{Setup, State, Located, Place, Source, On, In, Out, size, leaving, place_of_flit, tail_place, is_on, is_in, is_past, owner_of, leads_from, verdict_in, tail_leaves, is_released, after_verdicts, all_inputs, has_channel, count_in, count_on, next_channel, verdict_at, round_at, claim_with}
 use Rattle.noc_theory.proofs.worms.BufferLemmas.{same_channel-refl, same_channel-true}
 use Rattle.noc_theory.proofs.worms.MoveLemmas.{IsFirst, IsMoved, moved-or-not}
@@ -27,7 +27,7 @@ use Rattle.noc_theory.proofs.verdicts.AfterOutputLemmas.{on-none}
 use Rattle.noc_theory.proofs.landing.ComeLemmas.{count-all}
 use Rattle.noc_theory.proofs.join.OrderedLemmas.{IsGood, IsOrderedFrozen}
 use Rattle.noc_theory.proofs.join.PlaceViewLemmas.{input-at}
-use Rattle.noc_theory.proofs.injection.SourceLemmas.{at-router, source-is, not-end}
+use Rattle.noc_theory.proofs.injection.SourceLemmas.{at-router, sender-is, not-end}
 
 module _ (net : Setup) (good : IsGood net) (F : State) (x : IsOrderedFrozen net F) (n : ℕ) where
   abbrev T : State
@@ -76,7 +76,7 @@ module _ (net : Setup) (good : IsGood net) (F : State) (x : IsOrderedFrozen net 
   -- the source of an output channel on which the tail has not been sent stays
   pub record KeepsSource (r : ℕ) (o : Channel) (p : ℕ) : Type 0 where
     pub owned : Has (o, p) T.own
-    pub same : seen_source net T r o ≡ seen_source net F r o
+    pub same : seen_sender net T r o ≡ seen_sender net F r o
 
   -- the source of an output channel stays where its tail does not leave the channel before it
   pub source-kept : (r j p : ℕ) (o : Channel) → leaving net r j ≡ o → Has (o, p) F.own → ((a u : ℕ) → o ≡ Inject a u → ⊥) → (tail_place net F p ≡ In o → ⊥) → is_past net o (goal net p) (tail_place net F p) ≡ false
@@ -94,8 +94,8 @@ module _ (net : Setup) (good : IsGood net) (F : State) (x : IsOrderedFrozen net 
       record {
         owned = ownT;
         same =
-            source-is net good T (whole net good F x n).sound.keyed (wormT net good F x n) r at.0 p c o at.1 (held-kept net good F x n c p h still) (record { owns = ownT; leads = s.2 })
-            ∙ sym (source-is net good F x.whole.sound.keyed x.whole.sound.worm r at.0 p c o at.1 s.1 next);
+            sender-is net good T (whole net good F x n).sound.keyed (wormT net good F x n) r at.0 p c o at.1 (held-kept net good F x n c p h still) (record { owns = ownT; leads = s.2 })
+            ∙ sym (sender-is net good F x.whole.sound.keyed x.whole.sound.worm r at.0 p c o at.1 s.1 next);
       }
 
   -- a link channel on which the tail was not sent

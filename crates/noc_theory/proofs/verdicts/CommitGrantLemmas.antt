@@ -10,7 +10,7 @@ use Rattle.noc_vc.specs.Input.{Input}
 use Rattle.noc_vc.specs.Output.{output_after_hold}
 use Rattle.noc_vc.specs.declared.output.OutputState.TheVariants.{Owned, Draining}
 use Rattle.noc_view.specs.View.{View, Decisions, view_input, view_output, decisions_of, mover_to, output_after}
-use Rattle.noc_theory.specs.Lockstep.{seen_input, seen_output, seen_holder, seen_source, is_present, come_count, has_come}
+use Rattle.noc_theory.specs.Lockstep.{seen_input, seen_output, seen_holder, seen_sender, is_present, come_count, has_come}
 use Rattle.noc_theory.specs.Network.{Setup, State, Place, size, leaving, owner_of, is_in, is_past, credit_of, tail_place, after_verdicts}
 use Rattle.noc_theory.specs.Progress.{head_place}
 use Rattle.noc_theory.proofs.worms.BufferLemmas.{same_channel-refl}
@@ -25,7 +25,7 @@ use Rattle.noc_theory.proofs.verdicts.MoverLemmas.{GivenTo, grant-given}
 use Rattle.noc_theory.proofs.verdicts.NextViewLemmas.{owner-at}
 use Rattle.noc_theory.proofs.join.OrderedLemmas.{IsGood, IsOrderedFrozen}
 use Rattle.noc_theory.proofs.join.PlaceViewLemmas.{arrives-in, not-eject, begins-at}
-use Rattle.noc_theory.proofs.injection.SourceLemmas.{source-is}
+use Rattle.noc_theory.proofs.injection.SourceLemmas.{sender-is}
 use Rattle.noc_theory.specs.Seen.{IsSeen}
 
 -- what has come to the buffer of c, by its place
@@ -70,10 +70,10 @@ module _ (net : Setup) (good : IsGood net) (F : State) (x : IsOrderedFrozen net 
       ownerT : owner_of net T (leaving net r o) ≡ Some g.packet
       ownerT = owner-at net good.built T (whole net good F x n).sound.keyed (wormT net good F x n) (leaving net r o) g.packet ownT
 
-      source : seen_source net T r (leaving net r o) ≡ i
+      source : seen_sender net T r (leaving net r o) ≡ i
       source =
           let t = giver-kept net good F x n g.channel (leaving net r o) g.packet g.grant in
-          source-is net good T (whole net good F x n).sound.keyed (wormT net good F x n) r i g.packet g.channel (leaving net r o) g.at t.0 (record { owns = ownT; leads = t.1 })
+          sender-is net good T (whole net good F x n).sound.keyed (wormT net good F x n) r i g.packet g.channel (leaving net r o) g.at t.0 (record { owns = ownT; leads = t.1 })
 
       packet-is : (view_input v i).packet ≡ Some g.packet
       packet-is =
@@ -87,8 +87,8 @@ module _ (net : Setup) (good : IsGood net) (F : State) (x : IsOrderedFrozen net 
       holder : (c : Channel) → leaving net r o ≡ c → (is_link c && is_sent_on net good F x n T c g.packet) ≡ false → seen_holder net T r c (owner_of net T c) ≡ Owned i g.packet
       holder c is unsent =
           holder-at net good F x n r l v seen T c (Some g.packet) (ap (owner_of net T) (sym is) ∙ ownerT)
-          ∙ ap (λ b. cond b Draining (Owned (seen_source net T r c) g.packet)) unsent
-          ∙ ap (λ k. Owned k g.packet) (ap (seen_source net T r) (sym is) ∙ source)
+          ∙ ap (λ b. cond b Draining (Owned (seen_sender net T r c) g.packet)) unsent
+          ∙ ap (λ k. Owned k g.packet) (ap (seen_sender net T r) (sym is) ∙ source)
 
       granted : (c : Channel) → leaving net r o ≡ c → output_after_hold (seen_output net F r c) i g.packet ≡ seen_output net T r c
       granted (Link a b w) is =

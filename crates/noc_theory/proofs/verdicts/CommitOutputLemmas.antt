@@ -12,7 +12,7 @@ use Rattle.noc_vc.specs.declared.output.OutputState.TheVariants.{Idle as Free, O
 use Rattle.noc_view.specs.Verdict.{is_moved}
 use Rattle.noc_view.specs.View.{View, Decisions, view_output, decisions_of, first_flit, mover_to, held_by, spent_by, output_after, is_tail as is_tail_flit}
 use Rattle.noc_view.specs.declared.verdict.Verdict.{Verdict}
-use Rattle.noc_theory.specs.Lockstep.{seen_output, seen_holder, seen_source, has_come}
+use Rattle.noc_theory.specs.Lockstep.{seen_output, seen_holder, seen_sender, has_come}
 use Rattle.noc_theory.specs.Network.{Setup, State, Located, Place, On, size, leaving, place_of_flit, owner_of, owned_by, has_channel, verdict_in, tail_leaves, tail_leaves_to, is_tail_of_packet, is_released, is_on, is_past, front_in, credit_of, count_on, tail_place, after_verdicts, all_inputs, next_channel}
 use Rattle.noc_theory.proofs.worms.BufferLemmas.{same_channel-refl}
 use Rattle.noc_theory.proofs.worms.MemberLemmas.{list_any-from}
@@ -123,14 +123,14 @@ module _ (net : Setup) (good : IsGood net) (F : State) (x : IsOrderedFrozen net 
               absurd (nothing-moves net good F x n r l v seen o u k d p (last_of net p) (subst (λ (y : Channel). Moves net good F x n p (last_of net p) d y) (sym e) moving))
 
       holder-kept : (c : Channel) → owner_of net F c ≡ Some p → owner_of net T c ≡ Some p → (is_link c && is_sent_on net good F x n T c p) ≡ (is_link c && is_sent_on net good F x n F c p)
-          → ((is_link c && is_sent_on net good F x n F c p) ≡ false → seen_source net T r c ≡ seen_source net F r c) → seen_holder net T r c (owner_of net T c) ≡ seen_holder net F r c (owner_of net F c)
+          → ((is_link c && is_sent_on net good F x n F c p) ≡ false → seen_sender net T r c ≡ seen_sender net F r c) → seen_holder net T r c (owner_of net T c) ≡ seen_holder net F r c (owner_of net F c)
       holder-kept c before after same source =
           holder-at T c (Some p) after
-          ∙ ap (λ b. cond b Draining (Owned (seen_source net T r c) p)) same
+          ∙ ap (λ b. cond b Draining (Owned (seen_sender net T r c) p)) same
           ∙ at (is_link c && is_sent_on net good F x n F c p) refl
           ∙ sym (holder-at F c (Some p) before)
         where
-          at : (b : Bool) → (is_link c && is_sent_on net good F x n F c p) ≡ b → cond b Draining (Owned (seen_source net T r c) p) ≡ cond b Draining (Owned (seen_source net F r c) p)
+          at : (b : Bool) → (is_link c && is_sent_on net good F x n F c p) ≡ b → cond b Draining (Owned (seen_sender net T r c) p) ≡ cond b Draining (Owned (seen_sender net F r c) p)
           at true e = refl
           at false e = ap (λ k. Owned k p) (source e)
 
@@ -192,7 +192,7 @@ module _ (net : Setup) (good : IsGood net) (F : State) (x : IsOrderedFrozen net 
             let tail = tail-moves net good F x n m.channel (Link a b w) p goes.owns t q in
             let on : is_on (Link a b w) (tail_place net T p) ≡ true = ap (is_on (Link a b w)) tail.now ∙ same_channel-refl (Link a b w) in
             let holder : seen_holder net T r (Link a b w) (owner_of net T (Link a b w)) ≡ Draining
-            = holder-at T (Link a b w) (Some p) (owner-link a b w is) ∙ ap (λ z. cond (z || has_come net (Link a b w) (goal net p) (tail_place net T p)) Draining (Owned (seen_source net T r (Link a b w)) p)) on in
+            = holder-at T (Link a b w) (Some p) (owner-link a b w is) ∙ ap (λ z. cond (z || has_come net (Link a b w) (goal net p) (tail_place net T p)) Draining (Owned (seen_sender net T r (Link a b w)) p)) on in
             ap (link_out Draining) (sym (credit-spent net good F x n (Link a b w) refl (one-on a b w is))) ∙ sym (ap (λ h. link_out h (credit_of net T (Link a b w))) holder)
         tail-out t (Inject a w) is = absurd (not-inject a w is)
         tail-out t (Eject a w) is = sym (ap eject_out (holder-at T (Eject a w) None gone))

@@ -22,7 +22,7 @@ use Rattle.noc_view.specs.declared.verdict.Verdict.{Verdict}
 use Rattle.noc_view.specs.declared.verdict.Verdict.TheVariants.{Empty}
 use Rattle.noc_view.specs.declared.finding.Finding.{Finding}
 use Rattle.noc_view.proofs.FindLemmas.{find-same}
-use Rattle.noc_theory.specs.Lockstep.{site_at, seen_flits, seen_input, seen_phase, seen_phase_with, seen_set, seen_output, seen_holder, seen_source, has_come, finding_in}
+use Rattle.noc_theory.specs.Lockstep.{site_at, seen_flits, seen_input, seen_phase, seen_phase_with, seen_set, seen_output, seen_holder, seen_sender, has_come, finding_in}
 use Rattle.noc_theory.specs.Network.{Setup, State, Located, size, arriving, leaving, packet_at, owner_of, next_channel, has_channel, has_credit_in, is_idle, ask, claim_of, claim_with, stand_of, stands_at, round_at, verdict_in, verdict_at, count_in, buffer_of, is_on, tail_place, leads_from}
 use Rattle.noc_theory.proofs.worms.MoveLemmas.{IsNext, next-is, leads-end}
 use Rattle.noc_theory.proofs.worms.OwnedLemmas.{owner-is}
@@ -39,7 +39,7 @@ module _ (net : Setup) (good : IsGood net) (F : State) (x : IsOrderedFrozen net 
   free-idle c None = refl
   free-idle c (Some p) = at (is_link c && (is_on c (tail_place net F p) || has_come net c (packet_at net p).destination (tail_place net F p)))
     where
-      at : (b : Bool) → is_free (cond b Draining (Owned (seen_source net F r c) p)) ≡ false
+      at : (b : Bool) → is_free (cond b Draining (Owned (seen_sender net F r c) p)) ≡ false
       at true = refl
       at false = refl
 

@@ -1,4 +1,4 @@
--- Phase three keeps buffers within their places.
+-- Phase three keeps buffers within their slots.
 use Rattle.std.proofs.Common.{◌≡◌, ℕ, ◌+◌, ◌<◌, ◌≤◌, Bool, true, false, cond, List, [], ◌∷◌, length, Option, Some, None, refl, ap, sym, ◌∙◌, inl, inr, subst, arith}
 use Rattle.std.specs.Prelude.{filter, find, option_map, ◌⊎◌, nat_eq, nat_lt, nat_le, ◌&&◌, not}
 use Rattle.std.proofs.lemmas.Bool.{false≢true, true≢false, eqb-true, and_parts, and_from, ltb-true, not-true}
@@ -106,7 +106,7 @@ module _ (net : Setup) (built : IsBuilt net) (S : State) (keyed : IsKeyed net S.
       let packets : f.packet ≡ g.packet = sym x.2 ∙ ap (λ (z : Injection net). z.packet) same ∙ y.2 in
       one-flit f g (first_at_source net S f.packet) x.4 (ap (λ z. is_the_flit net g (first_at_source net S z)) packets ∙ y.4)
 
-  -- so injection keeps every buffer within its places
+  -- so injection keeps every buffer within its slots
   pub room-after_injection : (c : Channel) → count_in net S c ≤ net.depth → count_in net (after_injection net n S) c ≤ net.depth
   unfolding after_injection
   room-after_injection c room = cases (filter-some (λ (f : Located). not (is_in c f.place) && is_in c (step f).place) S.at)

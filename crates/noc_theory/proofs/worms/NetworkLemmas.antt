@@ -7,7 +7,7 @@ use Rattle.noc_topo.specs.Shape.{nodes, neighbour}
 use Rattle.noc_route.specs.Channel.{Channel, Link, Eject}
 use Rattle.noc_route.specs.Routes.{set_at}
 use Rattle.noc_theory.specs.Network.{Setup, count_in, count_on, credit_of, State, Source, On, place_of_flit, has_channel, after_landing, after_credits, network_cycle, frozen_at, state_at}
-use Rattle.noc_theory.specs.Good.{IsGoodSetup, places_taken, IsValid}
+use Rattle.noc_theory.specs.Good.{IsGoodSetup, slots_taken, IsValid}
 use Rattle.noc_theory.proofs.worms.StateWordLemmas.{class_of, goal}
 use Rattle.noc_theory.proofs.worms.BuiltRecordLemmas.{IsBuilt}
 use Rattle.noc_theory.proofs.worms.BuiltLemmas.{good-built, good-wired, good-covering}
@@ -38,7 +38,7 @@ module _ (net : Setup) (good : IsGoodSetup net) where
   pub whole-mid_at : (n : ℕ) → IsWholeFrozen net (mid_at n)
   whole-mid_at n = whole-mid net built wired (good-covering net good) (state_at net n) (whole-at net good n)
 
-  -- no buffer holds more than its places, and nothing is on a wire
+  -- no buffer holds more than its slots, and nothing is on a wire
   pub room-frozen_at : (n : ℕ) (c : Channel) → count_in net (frozen_at net n) c ≤ net.depth
   room-frozen_at n c = (whole-frozen_at net good n).sound.room c
 
@@ -100,8 +100,8 @@ module _ (net : Setup) (good : IsGoodSetup net) where
   pub none_back-frozen_at : (n : ℕ) (c : Channel) → has_channel (frozen_at net n).back c ≡ false
   none_back-frozen_at n c = ap (λ (cs : List Channel). has_channel cs c) (no-back-frozen net n (state_at net n))
 
-  -- so the credits of a frozen state are the places that are left too
-  pub frozen_credit-at : (n : ℕ) (c : Channel) → credit_of net (frozen_at net n) c + places_taken net (frozen_at net n) c ≡ net.depth
+  -- so the credits of a frozen state are the free slots too
+  pub frozen_credit-at : (n : ℕ) (c : Channel) → credit_of net (frozen_at net n) c + slots_taken net (frozen_at net n) c ≡ net.depth
   frozen_credit-at n c =
       let on = none-on net built (frozen_at net n) (whole-frozen_at net good n).sound.keyed (whole-frozen_at net good n).sound.worm n (whole-frozen_at net good n).sound.still c in
       let back = ap (λ (b : Bool). if b then 1 else 0) (none_back-frozen_at n c) in

@@ -7,7 +7,7 @@ use Rattle.noc_route.specs.Channel.{Channel}
 use Rattle.noc_theory.specs.Network.{Setup, State, Located, Place, Source, On, In, Out, place_of_flit, count_in, landed_place, after_landing, after_credits, after_injection, after_verdicts, frozen_state, network_cycle}
 use Rattle.noc_theory.proofs.worms.BuiltRecordLemmas.{IsBuilt}
 use Rattle.noc_theory.proofs.worms.GrantLemmas.{IsWired}
-use Rattle.noc_theory.specs.Good.{IsValid, places_taken}
+use Rattle.noc_theory.specs.Good.{IsValid, slots_taken}
 use Rattle.noc_theory.proofs.worms.StateWordLemmas.{IsKeyed}
 use Rattle.noc_theory.proofs.worms.PlaceLemmas.{place-stepped, keyed-stepped}
 use Rattle.noc_theory.proofs.worms.WormRecordLemmas.{IsWorm, worm-landed, worm-freed}
@@ -23,7 +23,7 @@ module _ (net : Setup) where
   pub record IsSoundState (S : State) : Type 0 where
     pub keyed : IsKeyed net S.at
     pub worm : IsWorm net S.own (place_of_flit net S)
-    pub room : (c : Channel) → places_taken net S c ≤ net.depth
+    pub room : (c : Channel) → slots_taken net S c ≤ net.depth
 
   -- the invariant of the frozen state: nothing is on a wire
   pub record IsSoundFrozen (F : State) : Type 0 where

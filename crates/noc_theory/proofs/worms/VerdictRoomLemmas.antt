@@ -1,5 +1,5 @@
 -- Phase five keeps what is on the wire, in the buffer and on its way back
--- within the places of a buffer.
+-- within the slots of a buffer.
 use Rattle.std.proofs.Common.{◌≡◌, ◌≢◌, ℕ, ◌+◌, ◌-◌, ◌*◌, ◌<◌, ◌≤◌, Bool, true, false, cond, List, [], ◌∷◌, length, Option, Some, None, refl, ap, sym, ◌∙◌, inl, inr, subst, arith, length-drop}
 use Rattle.std.specs.Prelude.{◌⊎◌, nat_eq, nat_lt, ◌&&◌, not, if◌then◌else◌}
 use Rattle.std.specs.List.{AllByRecursion}
@@ -14,7 +14,7 @@ use Rattle.noc_view.proofs.MoverLemmas.{is_moved-true}
 use Rattle.noc_topo.specs.Lists.{Has, Pairs}
 use Rattle.noc_theory.proofs.worms.MemberLemmas.{Has-filter, Has-map, list_any-has, each-at}
 use Rattle.noc_theory.proofs.worms.OwnedLemmas.{once-same}
-use Rattle.noc_theory.specs.Good.{IsValid, places_taken}
+use Rattle.noc_theory.specs.Good.{IsValid, slots_taken}
 use Rattle.noc_theory.proofs.worms.StateWordLemmas.{IsKeyed, IsSortedPair}
 use Rattle.noc_theory.proofs.worms.PlaceLemmas.{place-of-flit, place-stepped, is_on-is}
 use Rattle.noc_theory.proofs.worms.WormRecordLemmas.{IsWorm}
@@ -52,8 +52,8 @@ module _ (net : Setup) (F : State) where
       at : (a : Option (ℕ × ℕ)) → arrival_of net.relation.grid c ≡ a → (0 < count_in net F c) × (has_credit_in net F o ≡ true)
       at None h = let g : Empty ≡ Moved = sym (ap (verdict_at net F c) h) ∙ e in absurd (cc g)
       at (Some place) h =
-          let places_taken = moved-holds net.relation.vcs (round_at net F place.0) (place.1 * net.relation.vcs + channel_vc c) (claim_of net F place.0 c) (nat_lt 0 (count_in net F c)) (sym (ap (verdict_at net F c) h) ∙ e) in
-          (ltb-true _ _ places_taken.2, holding place.0 places_taken.0 places_taken.1)
+          let slots_taken = moved-holds net.relation.vcs (round_at net F place.0) (place.1 * net.relation.vcs + channel_vc c) (claim_of net F place.0 c) (nat_lt 0 (count_in net F c)) (sym (ap (verdict_at net F c) h) ∙ e) in
+          (ltb-true _ _ slots_taken.2, holding place.0 slots_taken.0 slots_taken.1)
 
 module _ (net : Setup) (built : IsBuilt net) (F : State) (keyed : IsKeyed net F.at) (w : IsWorm net F.own (place_of_flit net F))
     (n : ℕ) (still : (p i : ℕ) → IsValid net p i → (c : Channel) → place_of_flit net F p i ≢ On c) where
@@ -152,7 +152,7 @@ module _ (net : Setup) (built : IsBuilt net) (F : State) (keyed : IsKeyed net F.
           absurd (still f.packet f.index (keyed.valid f r.1) o (place-of-flit net F keyed f r.1 ∙ is_on-is o f.place r.2))
 
   -- the credit law: on + in + back ≤ the places of a buffer
-  pub room-after_verdicts : (c : Channel) → count_in net F c ≤ net.depth → places_taken net T c ≤ net.depth
+  pub room-after_verdicts : (c : Channel) → count_in net F c ≤ net.depth → slots_taken net T c ≤ net.depth
   unfolding after_verdicts
   room-after_verdicts c room = cases (filter-some (λ (f : Located). is_on c f.place) T.at)
     where
@@ -182,7 +182,7 @@ module _ (net : Setup) (built : IsBuilt net) (F : State) (keyed : IsKeyed net F.
       link-of f h d (Inject k u) m e = let z : In d ≡ On (Inject k u) = sym m.now ∙ e in absurd (cc z)
       link-of f h d (Eject k u) m e = let z : Out n ≡ On (Eject k u) = sym m.now ∙ e in absurd (cc z)
 
-      cases : (count_on net T c ≡ 0) ⊎ ((f : Located) × Has f T.at × (is_on c f.place ≡ true)) → places_taken net T c ≤ net.depth
+      cases : (count_on net T c ≡ 0) ⊎ ((f : Located) × Has f T.at × (is_on c f.place ≡ true)) → slots_taken net T c ≤ net.depth
       cases (inl e) = let r = rest in omega arith
       cases (inr r) =
           let m = Has-map step r.0 F.at r.1 in

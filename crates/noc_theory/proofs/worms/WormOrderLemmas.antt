@@ -7,7 +7,7 @@ use Rattle.noc_topo.specs.Lists.{Has}
 use Rattle.noc_route.specs.Channel.{Channel, Link, Inject, Eject, is_link}
 use Rattle.noc_theory.specs.Network.{Setup, State, Located, Place, Source, On, In, Out, place_of_flit, tail_place, count_in, count_on, credit_of, has_channel, owner_of, owned_by, is_past, packet_at, state_at, frozen_at}
 use Rattle.noc_theory.specs.Worm.{IsWormOrder, IsPath, IsRear}
-use Rattle.noc_theory.specs.Good.{IsGoodSetup, places_taken}
+use Rattle.noc_theory.specs.Good.{IsGoodSetup, slots_taken}
 use Rattle.noc_theory.proofs.worms.BuiltRecordLemmas.{IsBuilt}
 use Rattle.noc_theory.proofs.worms.BuiltLemmas.{good-built, good-wired, good-covering}
 use Rattle.noc_theory.proofs.worms.OwnedLemmas.{of-has, has-of, owner-is}
@@ -155,13 +155,13 @@ module _ (net : Setup) (good : IsGoodSetup net) where
       worm_order-from net (good-built net good) (frozen_at net n) x.sound.keyed x.sound.worm
       (λ c p h l e. absurd (false≢true (sym (x.routed.behind c p h) ∙ e))) x.routed.mid.eject x.sound.room
 
-  -- what is on the wire, in the buffer and on its way back is never more than the places of a
+  -- what is on the wire, in the buffer and on its way back is never more than the slots of a
   -- buffer, at the start of each cycle
-  pub held-at : (n : ℕ) (c : Channel) → places_taken net (state_at net n) c ≤ net.depth
+  pub held-at : (n : ℕ) (c : Channel) → slots_taken net (state_at net n) c ≤ net.depth
   held-at n c = (whole-at n).sound.room c
 
   -- and the credits are all that is left
-  pub credit-at : (n : ℕ) (c : Channel) → credit_of net (state_at net n) c + places_taken net (state_at net n) c ≡ net.depth
+  pub credit-at : (n : ℕ) (c : Channel) → credit_of net (state_at net n) c + slots_taken net (state_at net n) c ≡ net.depth
   credit-at n c =
       rest (count_on net (state_at net n) c) (count_in net (state_at net n) c) (if has_channel (state_at net n).back c then 1 else 0) (held-at n c)
     where

@@ -29,7 +29,7 @@ use Rattle.noc_theory.specs.Good.{IsGoodSetup}
 use Rattle.noc_theory.specs.Halves.{IsSilent}
 use Rattle.noc_theory.specs.Lockstep.{view_at, has_event_at, last_event_at, view_in, findings_before}
 use Rattle.noc_theory.specs.Network.{Setup, frozen_at, state_at, size}
-use Rattle.noc_theory.specs.Unseen.{without_findings}
+use Rattle.noc_theory.proofs.runs.StillRunLemmas.{without_findings}
 use Rattle.noc_theory.proofs.join.ViewLemmas.{view_at-seen}
 use Rattle.noc_sets.specs.Sets.{lowest}
 use Rattle.noc_sets.specs.Column.{IsColumn}

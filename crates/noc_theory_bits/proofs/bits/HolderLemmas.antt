@@ -1,7 +1,7 @@
 -- The packet that holds an input channel: what a router sees of it, and how it comes to be known by
 -- the grants of the senders.
 use Rattle.std.proofs.Common.{◌≡◌, ℕ, ◌+◌, ◌-◌, ◌*◌, ◌/◌, ◌%◌, ◌<◌, ◌≤◌, Bool, true, false, List, [], ◌∷◌, length, Option, Some, None, IfSome, suc, refl, ap, ap₂, sym, ◌∙◌, subst, arith, inl, inr, get_or}
-use Rattle.std.specs.Prelude.{◌⊎◌, ◌&&◌, ◌||◌, find, not, is_some, nat_eq, option_and_then, option_map, IsTrue, if◌then◌else◌}
+use Rattle.std.specs.Prelude.{◌⊎◌, ◌&&◌, ◌||◌, find, not, is_some, nat_eq, option_and_then, option_map, unwrap_or, IsTrue, if◌then◌else◌}
 use Rattle.std.proofs.lemmas.Bool.{cases_lt, eqb-true, false≢true, ne_eqb}
 use Rattle.std.proofs.lemmas.List.{get_or_past}
 use Rattle.std.proofs.lemmas.Nat.{div-mul-add, mod-mul-add, mod_below, mul-add-lt, div-add-mod'}
@@ -21,7 +21,7 @@ use Rattle.noc_vc.specs.declared.output.OutputState.TheVariants.{Owned, Draining
 use Rattle.noc_view.specs.View.{Site, View, size_of, view_buffer, view_input, view_output, view_round, decisions_of, idle_beat}
 use Rattle.noc_view.specs.Verdict.{Round}
 use Rattle.noc_theory.specs.Good.{IsGoodSetup}
-use Rattle.noc_theory.specs.Lockstep.{beats_at, beats_in, beat_by, flit_on, view_at, seen_input, seen_holder, seen_source, is_present, has_come}
+use Rattle.noc_theory.specs.Lockstep.{beats_at, beats_in, beat_by, flit_on, view_at, seen_input, seen_holder, seen_sender, is_present, has_come}
 use Rattle.noc_theory.specs.Network.{Setup, State, Located, Place, On, In, Out, credit_of, size, arriving, leaving, packet_at, owner_of, is_on, tail_place, state_at, frozen_at, after_verdicts, is_released, network_cycle, Source}
 use Rattle.noc_theory.specs.Seen.{IsSeen}
 use Rattle.noc_theory.proofs.worms.OwnedLemmas.{IsOnce, once-same, owner-has, owner-is}
@@ -39,7 +39,7 @@ use Rattle.noc_theory.proofs.worms.WormOrderLemmas.{worm_order-at}
 use Rattle.noc_sets.specs.Taken.{flit_from, flit_on_vc}
 use Rattle.noc_theory_bits.proofs.network.NetworkLemmas.{good, frozen-seen, frozen-tidy, steady-state, steady-still}
 use Rattle.noc_theory_bits.proofs.wiring.WireLemmas.{flit-at}
-use Rattle.noc_theory_bits.specs.Owners.{ShowsHolders, holder_at, told, told_by, told_over, frozen_of, grants_of}
+use Rattle.noc_theory_bits.specs.Owners.{ShowsHolders, frozen_of, granted_to, grants_of, heard, heard_over, holder_at, told}
 
 -- ---- what a router sees
 module _ (net : Setup) (S : State) (r : ℕ) (v : View) (seen : IsSeen net S r v) where
@@ -79,7 +79,7 @@ module _ (net : Setup) (S : State) (r : ℕ) (v : View) (seen : IsSeen net S r v
       by None h = absurd (cc h)
       by (Some q) h = sent (is_link (leaving net r o) && (is_on (leaving net r o) (tail_place net S q) || has_come net (leaving net r o) (packet_at net q).destination (tail_place net S q))) h
         where
-          sent : (b : Bool) → (if b then Draining else Owned (seen_source net S r (leaving net r o)) q) ≡ Owned k p → Some q ≡ Some p
+          sent : (b : Bool) → (if b then Draining else Owned (seen_sender net S r (leaving net r o)) q) ≡ Owned k p → Some q ≡ Some p
           sent true m = absurd (cc m)
           sent false m = let same : q ≡ p = cc in ap Some same
 
@@ -91,7 +91,7 @@ module _ (net : Setup) (S : State) (r : ℕ) (v : View) (seen : IsSeen net S r v
       by None h = refl
       by (Some q) h = absurd (sent (is_link (leaving net r o) && (is_on (leaving net r o) (tail_place net S q) || has_come net (leaving net r o) (packet_at net q).destination (tail_place net S q))) h)
         where
-          sent : (b : Bool) → is_free (if b then Draining else Owned (seen_source net S r (leaving net r o)) q) ≡ true → ⊥
+          sent : (b : Bool) → is_free (if b then Draining else Owned (seen_sender net S r (leaving net r o)) q) ≡ true → ⊥
           sent true m = false≢true m
           sent false m = false≢true m
 
@@ -258,23 +258,35 @@ module _ (net : Setup) (setup : IsGoodSetup net) (n : ℕ) where
           owned-given net (good net setup) (frozen_at net n) (ordered-frozen net (good net setup) n) n g.channel (leaving net s o) g.packet (arrives-in net (good net setup) g.at) g.pair,
         )
 
-  -- the packet numbers of all routers, and those after the grants
-  module _ (packets : ℕ → ℕ → ℕ) (shows : (s : ℕ) → s < nodes net.relation.grid → ShowsHolders net (frozen_at net n) s (packets s)) (r : ℕ) (l : r < nodes net.relation.grid) where
-    abbrev after : ℕ → ℕ
-    after i = told net.relation.grid net.relation.vcs (grants_of net n) packets r i
+    -- what it tells is the packet to which the channel is granted
+    pub tells-granted : (packets : ℕ → ℕ) → ShowsHolders net (frozen_at net n) s packets → (o : ℕ) → o < size net → option_map packets (grants_of net n s o) ≡ granted_to net n s o
+    tells-granted packets shows o u = by (grants_of net n s o) refl
+      where
+        by : (g : Option ℕ) → grants_of net n s o ≡ g → option_map packets g ≡ option_and_then (holder_at net (frozen_at net n) s) g
+        by None e = refl
+        by (Some i) e =
+            let one = granted-holder o i u e in
+            let knows : packets i ≡ one.0 = subst (λ (q : Option ℕ). IfSome q (λ p. packets i ≡ p)) one.2 (shows i one.1) in
+            ap Some knows ∙ sym one.2
 
-    -- what is told is what a packet number is where the holder is known
+  -- the packet numbers of a router, and those after what it has heard
+  module _ (packets : ℕ → ℕ) (tells : ℕ → ℕ → Option ℕ) (r : ℕ) (l : r < nodes net.relation.grid) (shows : ShowsHolders net (frozen_at net n) r packets)
+      (right : (i to port : ℕ) → neighbour net.relation.grid r (i / net.relation.vcs) ≡ Some (to, port) → tells to (port * net.relation.vcs + i % net.relation.vcs) ≡ granted_to net n to (port * net.relation.vcs + i % net.relation.vcs)) where
+    abbrev after : ℕ → ℕ
+    after i = unwrap_or (heard net.relation.grid net.relation.vcs tells r i) (packets i)
+
+    -- what is heard is what a packet number is where the holder is known
     old-told : (i p : ℕ) → i < size net → holder_at net F r i ≡ Some p → after i ≡ p
     old-told i p u e = by (neighbour net.relation.grid r (i / net.relation.vcs)) refl
       where
-        was : packets r i ≡ p
-        was = subst (λ (o : Option ℕ). IfSome o (λ q. packets r i ≡ q)) e (shows r l i u)
+        was : packets i ≡ p
+        was = subst (λ (o : Option ℕ). IfSome o (λ q. packets i ≡ q)) e (shows i u)
 
-        by : (o : Option (ℕ × ℕ)) → neighbour net.relation.grid r (i / net.relation.vcs) ≡ o → told_over net.relation.vcs (grants_of net n) packets (packets r i) (i % net.relation.vcs) o ≡ p
+        by : (o : Option (ℕ × ℕ)) → neighbour net.relation.grid r (i / net.relation.vcs) ≡ o → unwrap_or (heard_over net.relation.vcs tells (i % net.relation.vcs) o) (packets i) ≡ p
         by None h = was
-        by (Some (to, port)) h = at (get_or (grants to) (port * net.relation.vcs + i % net.relation.vcs) None) refl
+        by (Some (to, port)) h = ap (λ (x : Option ℕ). unwrap_or x (packets i)) (right i to port h) ∙ at (get_or (grants to) (port * net.relation.vcs + i % net.relation.vcs) None) refl
           where
-            at : (g : Option ℕ) → get_or (grants to) (port * net.relation.vcs + i % net.relation.vcs) None ≡ g → told_by (packets to) (packets r i) g ≡ p
+            at : (g : Option ℕ) → get_or (grants to) (port * net.relation.vcs + i % net.relation.vcs) None ≡ g → unwrap_or (option_and_then (holder_at net (frozen_at net n) to) g) (packets i) ≡ p
             at None is = was
             at (Some k) is =
                 let low = link_back net.relation.grid r (i / net.relation.vcs) to port (good net setup).relation.table.grid l h in
@@ -293,7 +305,7 @@ module _ (net : Setup) (setup : IsGoodSetup net) (n : ℕ) where
             at true e t = no-inject net (good net setup).built _ _ d r (i % net.relation.vcs) (subst (λ (y : Channel). IsTrue (permits net.relation (packet_at net p).class d (packet_at net p).destination y)) (same_Some _ _ e) g.allowed)
             at false e t = none-some c (sym (e ∙ ap (option_map (λ (from : ℕ × ℕ). Link from.0 from.1 (i % net.relation.vcs))) none))
 
-        by : (o : Option (ℕ × ℕ)) → neighbour net.relation.grid r (i / net.relation.vcs) ≡ o → told_over net.relation.vcs (grants_of net n) packets (packets r i) (i % net.relation.vcs) o ≡ p
+        by : (o : Option (ℕ × ℕ)) → neighbour net.relation.grid r (i / net.relation.vcs) ≡ o → unwrap_or (heard_over net.relation.vcs tells (i % net.relation.vcs) o) (packets i) ≡ p
         by None h = absurd (never h found)
         by (Some (to, port)) h =
             let low = link_back net.relation.grid r (i / net.relation.vcs) to port (good net setup).relation.table.grid l h in
@@ -303,12 +315,12 @@ module _ (net : Setup) (setup : IsGoodSetup net) (n : ℕ) where
             (port * net.relation.vcs + i % net.relation.vcs) p d size (subst (λ (y : Channel). IsGrant net F d y p) same g) in
             let is : get_or (grants to) (port * net.relation.vcs + i % net.relation.vcs) None ≡ Some t.0 = ap (λ (round : Round). get_or round.grants (port * net.relation.vcs + i % net.relation.vcs) None) (sym (same-round (frozen_of net n to))) ∙ t.1 in
             let h2 = granted-holder to low.node (port * net.relation.vcs + i % net.relation.vcs) t.0 size is in
-            let knows : packets to t.0 ≡ h2.0 = subst (λ (o : Option ℕ). IfSome o (λ q. packets to t.0 ≡ q)) h2.2 (shows to low.node t.0 h2.1) in
-            ap (told_by (packets to) (packets r i)) is ∙ knows
+            let hears : tells to (port * net.relation.vcs + i % net.relation.vcs) ≡ Some h2.0 = right i to port h ∙ ap (option_and_then (holder_at net (frozen_at net n) to)) is ∙ h2.2 in
+            ap (λ (x : Option ℕ). unwrap_or x (packets i)) hears
             ∙ ap (λ (x : Channel × ℕ). x.1) (once-same (leaving net to (port * net.relation.vcs + i % net.relation.vcs), h2.0) (c, p) (after_verdicts net n F).own once h2.3 has (sym same))
 
-    pub holders-told : ShowsHolders net (state_at net (suc n)) r after
-    holders-told i u = subst (λ (S : State). IfSome (holder_at net S r i) (λ p. after i ≡ p)) next-state (at (holder_at net (after_verdicts net n F) r i) refl)
+    pub holders-heard : ShowsHolders net (state_at net (suc n)) r after
+    holders-heard i u = subst (λ (S : State). IfSome (holder_at net S r i) (λ p. after i ≡ p)) next-state (at (holder_at net (after_verdicts net n F) r i) refl)
       where
         at : (o : Option ℕ) → holder_at net (after_verdicts net n F) r i ≡ o → IfSome (holder_at net (after_verdicts net n F) r i) (λ p. after i ≡ p)
         at None e = subst (λ (o : Option ℕ). IfSome o (λ p. after i ≡ p)) (sym e) tt
@@ -320,6 +332,14 @@ module _ (net : Setup) (setup : IsGoodSetup net) (n : ℕ) where
                 cases : (Has (h.0, p) F.own × (not (is_released net F (h.0, p)) ≡ true)) ⊎ ((d : Channel) × IsGrant net F d h.0 p) → after i ≡ p
                 cases (inl k) = old-told i p u (has-holder net F r i p h.0 (steady-still net setup n).worm.once h.1 k.0)
                 cases (inr g) = new-told i p h.0 g.0 u h.1 g.1 h.2
+
+  -- .. where the senders have known whom they granted
+  pub holders-told : (packets : ℕ → ℕ → ℕ) → ((s : ℕ) → s < nodes net.relation.grid → ShowsHolders net (frozen_at net n) s (packets s)) → (r : ℕ) → r < nodes net.relation.grid
+      → ShowsHolders net (state_at net (suc n)) r (told net.relation.grid net.relation.vcs (grants_of net n) packets r)
+  holders-told packets shows r l =
+      holders-heard (packets r) (λ s o. option_map (packets s) (grants_of net n s o)) r l (shows r l)
+      (λ i to port e. let low = link_back net.relation.grid r (i / net.relation.vcs) to port (good net setup).relation.table.grid l e in
+      tells-granted to low.node (packets to) (shows to low.node) (port * net.relation.vcs + i % net.relation.vcs) (link-size net setup r l i to port e))
 
 -- ---- the sender knows who holds the channel at the other end
 pub sender-knows : (net : Setup) → IsGoodSetup net → (n s o k p r port : ℕ) → s < nodes net.relation.grid → o < size net → (view_output (view_at net n s) o).holder ≡ Owned k p

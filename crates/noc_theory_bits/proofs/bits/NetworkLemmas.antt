@@ -1,78 +1,70 @@
--- A network by the words of its routers: opened, after a cycle, and after many.
-use Rattle.std.proofs.Common.{◌≡◌, ℕ, zero, suc, ◌<◌, ◌≤◌, Bool, true, false, length, Some, refl, ap, sym, ◌∙◌, subst, arith, inl, inr, []}
-use Rattle.std.specs.Prelude.{◌⊎◌, nat_lt, if◌then◌else◌, slice_index_or}
-use Rattle.std.proofs.lemmas.Bool.{lt-ltb, ltb-true, true≢false}
+-- A network by the words of its routers: after a cycle, and after many.
+use Rattle.std.proofs.Common.{◌≡◌, ℕ, zero, suc, ◌<◌, ◌≤◌, Bool, true, refl, sym, ◌∙◌, arith, [], subst}
+use Rattle.std.specs.Prelude.{slice_index_or}
+use Rattle.std.proofs.lemmas.Bool.{eq-eqb, true≢false}
 use Rattle.noc_topo.specs.Shape.{nodes}
 use Rattle.noc_topo.proofs.ListLemmas.{get_or-tabulate}
 use Rattle.noc_view.specs.Found.{empty_finding}
 use Rattle.noc_theory.specs.declared.limits.TheConstants.{CYCLE_LIMIT}
 use Rattle.noc_theory.specs.Good.{IsGoodSetup}
-use Rattle.noc_theory.specs.Lockstep.{has_event_at, counts_before, findings_before, view_at, view_in}
-use Rattle.noc_theory.specs.Network.{Setup, arrival_in, size, state_at}
-use Rattle.noc_theory.specs.Progress.{events, last_event_before}
-use Rattle.noc_theory.proofs.join.LastEventLemmas.{event-here, event-somewhere}
-use Rattle.noc_sets.specs.Counts.{ShowsLastEvent, ten_counts}
-use Rattle.noc_sets.specs.Cycle.{Turn, packets_in}
+use Rattle.noc_theory.specs.Lockstep.{counts_before, findings_before, view_at, view_in}
+use Rattle.noc_theory.specs.Network.{Setup, packet_at, size}
+use Rattle.noc_sets.specs.Counts.{ten_counts}
+use Rattle.noc_sets.specs.Cycle.{Router, Turn}
 use Rattle.noc_sets.specs.Layout.{IsLayoutOf, Layout}
-use Rattle.noc_theory_bits.specs.Network.{HasRun, ShowsNetwork, Words, HasRunTo, all_starts}
-use Rattle.noc_theory_bits.proofs.bits.ThroughLemmas.{IsThrough, router-next, through}
-use Rattle.noc_theory_bits.proofs.network.ArrivalLemmas.{TailOut, no-arrival, out-or-not, tail-arrives}
+use Rattle.noc_theory_bits.specs.Network.{AreJoined, HasRun, HasRunTo, ShowsNetwork, ShowsOwn, ShowsRouter, Words, all_starts, tells_in, with_router}
+use Rattle.noc_theory_bits.proofs.bits.OwnLemmas.{last-of-all, last-of-own, own-next}
 use Rattle.noc_theory_bits.proofs.bits.OpeningLemmas.{network-opens}
+use Rattle.noc_theory_bits.proofs.bits.ThroughLemmas.{through}
 
-module _ {count : ℕ} (net : Setup) (setup : IsGoodSetup net) (layout : Layout) (is_layout : IsLayoutOf count net.relation net.depth layout) (n : ℕ) (b : Words) (t : ℕ → Turn) (next : Words)
-    (few : n < CYCLE_LIMIT) (shows : ShowsNetwork count net n b) (run : HasRun net layout n b t next) where
-  abbrev packets : ℕ → ℕ → ℕ
-  packets s = packets_in layout (all_starts net) n (b.routers s)
+-- ---- some of the routers, and all
+pub network-own : {count : ℕ} (net : Setup) → IsGoodSetup net → (own : ℕ → Bool) (n : ℕ) (w : Words) → ShowsNetwork count net n w → ShowsOwn count net own n w
+network-own net setup own n w shows = record {
+  limit = shows.limit;
+  routers = λ r k. shows.routers r k.0;
+  last = last-of-own net setup own n w.last shows.last;
+  arrivals = λ p low ours. shows.arrivals p low;
+}
 
-  pub all-through : (r : ℕ) → r < nodes net.relation.grid → IsThrough count net n r (all_starts net) (packets r) (t r)
-  all-through r l = through net setup n few layout is_layout (all_starts net) r l (b.routers r) (shows.routers r l) (t r) (run.turns r l)
+pub own-network : {count : ℕ} (net : Setup) → IsGoodSetup net → (n : ℕ) (w : Words) → ShowsOwn count net (λ r. true) n w → ShowsNetwork count net n w
+own-network net setup n w shows = record {
+  limit = shows.limit;
+  routers = λ r l. shows.routers r (l, refl);
+  last = last-of-all net setup n w.last shows.last;
+  arrivals = λ p low. shows.arrivals p low refl;
+}
 
-  -- ---- the last event
-  last-next : ShowsLastEvent next.last (last_event_before net (suc n))
-  last-next = by (nat_lt 0 (events net n (state_at net n))) refl
-    where
-      -- no router has an event where the network has none
-      quiet : nat_lt 0 (events net n (state_at net n)) ≡ false → (r : ℕ) → r < nodes net.relation.grid → (t r).happened ≡ false
-      quiet e r l = at (has_event_at net n r) refl
-        where
-          at : (y : Bool) → has_event_at net n r ≡ y → (t r).happened ≡ false
-          at true h = absurd (true≢false (sym (lt-ltb 0 (events net n (state_at net n)) (event-here net setup n r l h)) ∙ e))
-          at false h = (all-through r l).happened ∙ h
+-- parts that together have all routers show it together
+pub parts-network : {count : ℕ} (net : Setup) → IsGoodSetup net → (part : ℕ → ℕ) (n : ℕ) (parts : ℕ → Words) (w : Words)
+    → ((r : ℕ) → r < nodes net.relation.grid → ShowsOwn count net (with_router part r) n (parts (part r))) → AreJoined net part parts w → ShowsNetwork count net n w
+parts-network {count = count} net setup part n parts w shows joined = own-network net setup n w (record {
+  limit = (shows joined.last.0 joined.last.1).limit;
+  routers = λ r k. subst (λ (x : Router). ShowsRouter count net n r (all_starts net) x) (sym (joined.routers r k.0)) ((shows r k.0).routers r (k.0, eq-eqb (part r) (part r) refl));
+  last = record {
+    event = λ m e. (shows joined.last.0 joined.last.1).last.event m (sym joined.last.2 ∙ e);
+    none = λ m r low l k. (shows r k.0).last.none m r (let latest = joined.latest r k.0 in omega (arith, latest, low)) l (k.0, eq-eqb (part r) (part r) refl);
+  };
+  arrivals = λ p low ours.
+      let d = (packet_at net p).destination in
+      joined.arrivals p low ∙ (shows d (setup.packets p _ low).destination).arrivals p low (eq-eqb (part d) (part d) refl);
+})
 
-      by : (y : Bool) → nat_lt 0 (events net n (state_at net n)) ≡ y → ShowsLastEvent next.last (last_event_before net (suc n))
-      by true e =
-          let here = event-somewhere net setup n (ltb-true 0 (events net n (state_at net n)) e) in
-          subst (ShowsLastEvent next.last) (sym (ap (λ y. if y then Some n else last_event_before net n) e))
-          (run.last.some here.0 here.1 ((all-through here.0 here.1).happened ∙ here.2))
-      by false e =
-          subst (ShowsLastEvent next.last) (sym (ap (λ y. if y then Some n else last_event_before net n) e))
-          (subst (λ w. ShowsLastEvent w (last_event_before net n)) (sym (run.last.none (quiet e))) shows.last)
-
-  -- ---- arrivals
-  arrivals-next : (p : ℕ) → p < length net.packets → next.arrivals p ≡ arrival_in net (state_at net (suc n)) p
-  arrivals-next p low = by (out-or-not net setup n p low)
-    where
-      by : TailOut net n p ⊎ (TailOut net n p → ⊥) → next.arrivals p ≡ arrival_in net (state_at net (suc n)) p
-      by (inl x) =
-          let one = all-through x.router x.goes.known in
-          let is = one.arrived.comes x.channel x.goes x.last in
-          subst (λ q. next.arrivals q ≡ Some n) (is.1 ∙ x.packet) (run.arrivals.some x.router x.channel x.goes.known x.goes.mover.channel is.0)
-          ∙ sym (tail-arrives net setup n p x)
-      by (inr never) =
-          run.arrivals.others p (λ r i l u bit same.
-          let out = (all-through r l).arrived.goes i u bit in
-          never (record { router = r; channel = i; goes = out.0; last = out.1; packet = sym out.2 ∙ same }))
-          ∙ shows.arrivals p low
-          ∙ sym (no-arrival net setup n p low never)
-
-  -- where the words show the network, and it runs a cycle, they show it again
-  pub network-next : ShowsNetwork count net (suc n) next
-  network-next = record {
-    limit = omega (arith, few);
-    routers = λ r l. router-next net setup n few (all_starts net) packets t all-through next.routers r l (run.gathered_are r l) (run.are r l);
-    last = last-next;
-    arrivals = arrivals-next;
-  }
+-- ---- a cycle of all
+-- where the words show the network, and it runs a cycle, they show it again
+pub network-next : {count : ℕ} (net : Setup) (setup : IsGoodSetup net) (layout : Layout) (is_layout : IsLayoutOf count net.relation net.depth layout) (n : ℕ) (b : Words) (t : ℕ → Turn) (next : Words)
+    → n < CYCLE_LIMIT → ShowsNetwork count net n b → HasRun net layout n b t next → ShowsNetwork count net (suc n) next
+network-next {count = count} net setup layout is_layout n b t next few shows run =
+    own-network net setup (suc n) next
+    (own-next net setup layout is_layout (λ r. true) n b t (λ s. (t s).left) (λ s. tells_in net layout n (b.routers s) (t s)) next few (network-own net setup (λ r. true) n b shows) (record {
+      turns = λ r k. run.turns r k.0;
+      left_are = λ s k. refl;
+      told_are = λ s o k u. refl;
+      sent = λ r q s port k e no. absurd (true≢false no);
+      gathered_are = λ r k. run.gathered_are r k.0;
+      are = λ r k. run.are r k.0;
+      last = record { some = λ r k. run.last.some r k.0; none = λ none. run.last.none (λ r l. none r (l, refl)) };
+      arrivals = record { some = λ r i k. run.arrivals.some r i k.0; others = λ p none. run.arrivals.others p (λ r i l. none r i (l, refl)) };
+    }))
 
 -- a run from the opening on shows the network at each count
 pub run-shows : {count : ℕ} (net : Setup) (setup : IsGoodSetup net) (layout : Layout) (is_layout : IsLayoutOf count net.relation net.depth layout) (end : ℕ) (w : ℕ → Words)
@@ -91,4 +83,4 @@ counts-read net n w shows r i l u = sym ((shows.routers r l).counts i u).0 ∙ g
 -- what was found of it in a cycle
 pub found-read : {count : ℕ} (net : Setup) (setup : IsGoodSetup net) (layout : Layout) (is_layout : IsLayoutOf count net.relation net.depth layout) (n : ℕ) (b : Words) (t : ℕ → Turn) (next : Words)
     → n < CYCLE_LIMIT → ShowsNetwork count net n b → HasRun net layout n b t next → (r i : ℕ) → r < nodes net.relation.grid → i < size net → (t r).found i ≡ slice_index_or (findings_before net (suc n) r) i empty_finding
-found-read net setup layout is_layout n b t next few shows run r i l u = (all-through net setup layout is_layout n b t next few shows run r l).found i u
+found-read net setup layout is_layout n b t next few shows run r i l u = (through net setup n few layout is_layout (all_starts net) r l (b.routers r) (shows.routers r l) (t r) (run.turns r l)).found i u

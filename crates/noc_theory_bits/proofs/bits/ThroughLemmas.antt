@@ -1,11 +1,10 @@
--- A cycle of all routers: where the words of each show its view at a count, those after the cycle
--- show the next.
-use Rattle.std.proofs.Common.{◌≡◌, ℕ, suc, ◌+◌, ◌*◌, ◌/◌, ◌%◌, ◌<◌, ◌≤◌, List, Option, refl, ap, sym, ◌∙◌, subst, arith, inl, inr, mul-le-mul_right, Some, None, true}
-use Rattle.std.specs.Prelude.{◌⊎◌, IfSome, is_some, slice_index_or}
-use Rattle.std.proofs.lemmas.Nat.{div-add-mod', mod_below}
+-- A cycle of one router: where its words show its view at a count, what leaves it is what it sends
+-- in the network, and once it has what its neighbours send, its words show the next.
+use Rattle.std.proofs.Common.{◌≡◌, ℕ, suc, ◌+◌, ◌*◌, ◌/◌, ◌%◌, ◌<◌, ◌≤◌, List, Option, ap, sym, ◌∙◌, subst, arith, inl, inr, mul-le-mul_right, Some, None, true}
+use Rattle.std.specs.Prelude.{◌⊎◌, IfSome, is_some, option_map, slice_index_or}
+use Rattle.std.proofs.lemmas.Nat.{div-add-mod', mod_below, mul-add-lt}
 use Rattle.std.proofs.lemmas.Bool.{false≢true}
 use Rattle.noc_topo.specs.Shape.{IsGrid, nodes, ports, neighbour}
-use Rattle.noc_topo.proofs.LinkLemmas.{link_back}
 use Rattle.noc_packet.specs.Set.{has_bit}
 use Rattle.noc_packet.specs.declared.packet.Beat.{Beat}
 use Rattle.noc_packet.proofs.SetLemmas.{has_bit-zero}
@@ -27,16 +26,17 @@ use Rattle.noc_sets.specs.Source.{ShowsSource, Source, Start}
 use Rattle.noc_sets.specs.Taken.{credit_from, flit_from}
 use Rattle.noc_sets.proofs.GatherLemmas.{gathered-is, gathered-links}
 use Rattle.noc_theory_bits.specs.Network.{HasGathered, HasTurned, ShowsRouter, permitted}
-use Rattle.noc_theory_bits.specs.Owners.{ShowsHolders, frozen_of, holder_at, told_by, told_over}
-use Rattle.noc_theory_bits.specs.Wires.{ShowsLeaving, ShowsWires}
+use Rattle.noc_theory_bits.specs.Owners.{ShowsHolders, frozen_of, holder_at}
+use Rattle.noc_theory_bits.specs.Sends.{Sends, beat_of}
+use Rattle.noc_theory_bits.specs.Wires.{ShowsBeat, ShowsLeaving, ShowsWires}
 use Rattle.noc_theory_bits.proofs.bits.AsleepLemmas.{column-rests, counts-rest, ended-rests, event-rests, grants-nothing, holders-rest, leaves-nothing, source-rests, found-nothing}
 use Rattle.noc_theory_bits.proofs.bits.CameLemmas.{came-event}
 use Rattle.noc_theory_bits.proofs.bits.CountedLemmas.{counts-next, event-next}
 use Rattle.noc_theory_bits.proofs.bits.CycleLemmas.{column-next, ended-after, grants-are, leaves, source-after}
 use Rattle.noc_theory_bits.proofs.bits.FreezeLemmas.{ShowsStill, shows-still}
-use Rattle.noc_theory_bits.proofs.bits.HolderLemmas.{holders-told, link-size as link-over}
+use Rattle.noc_theory_bits.proofs.bits.HolderLemmas.{holders-heard, tells-granted}
 use Rattle.noc_theory_bits.proofs.bits.PacketLemmas.{with-packets}
-use Rattle.noc_theory_bits.proofs.bits.WireLemmas.{credits-over, flits-over, tails-over}
+use Rattle.noc_theory_bits.proofs.bits.WireLemmas.{beat-shown, credits-over, flits-over, tails-over}
 use Rattle.noc_theory_bits.proofs.network.NetworkLemmas.{frozen-seen, frozen_view, good}
 use Rattle.noc_theory_bits.proofs.bits.ArrivedLemmas.{ShowsArrived, arrived-shows}
 use Rattle.noc_theory_bits.proofs.network.ArrivalLemmas.{GoesOut}
@@ -127,19 +127,19 @@ module _ {count : ℕ} (net : Setup) (setup : IsGoodSetup net) (n : ℕ) (few : 
   through (inl k) = awake k
   through (inr k) = asleep k
 
--- where all are, and each has what left the others
-module _ {count : ℕ} (net : Setup) (setup : IsGoodSetup net) (n : ℕ) (few : n < CYCLE_LIMIT) (starts : List Start) (packets : ℕ → ℕ → ℕ) (t : ℕ → Turn)
-    (all : (r : ℕ) → r < nodes net.relation.grid → IsThrough count net n r starts (packets r) (t r)) where
-  abbrev left : ℕ → Links
-  left s = (t s).left
+-- ---- it is, and so are its neighbours
+module _ {count : ℕ} (net : Setup) (setup : IsGoodSetup net) (n : ℕ) (starts : List Start) (r : ℕ) (l : r < nodes net.relation.grid) (packets : ℕ → ℕ) (t : Turn) (one : IsThrough count net n r starts packets t) where
+  -- what leaves it, and what it tells, is what the router of the network sends
+  pub sends : (port : ℕ) → port < ports net.relation.grid → Sends net n r port t.left (λ o. option_map packets (t.grants o))
+  sends port low = record {
+    beat = beat-shown net setup n r l t.left one.leaves port low;
+    told = λ vc u.
+        let within : port * net.relation.vcs + vc < size net = (let m = mul-add-lt port net.relation.vcs vc (ports net.relation.grid) low u in omega (arith, m)) in
+        ap (option_map packets) (one.granted (port * net.relation.vcs + vc) within) ∙ tells-granted net setup n r l packets one.holders (port * net.relation.vcs + vc) within;
+  }
 
-  leaves-are : (r : ℕ) → r < nodes net.relation.grid → ShowsLeaving (frozen_of net n r) (t r).left
-  leaves-are r l = (all r l).leaves
-
-  holders-still : (r : ℕ) → r < nodes net.relation.grid → ShowsHolders net (frozen_at net n) r (packets r)
-  holders-still r l = (all r l).holders
-
-  module _ (next : ℕ → Router) (r : ℕ) (l : r < nodes net.relation.grid) (have : HasGathered net.relation.grid net.relation.vcs (λ s. (t s).left) (λ s. (t s).grants) packets r (next r)) where
+  module _ (few : n < CYCLE_LIMIT) (left : ℕ → Links) (tells : ℕ → ℕ → Option ℕ) (sent : (q s port : ℕ) → neighbour net.relation.grid r q ≡ Some (s, port) → Sends net n s port (left s) (tells s))
+      (next : Router) (have : HasGathered net.relation.grid net.relation.vcs left tells packets r next) where
     abbrev v : View
     v = view_at net (suc n) r
 
@@ -155,6 +155,9 @@ module _ {count : ℕ} (net : Setup) (setup : IsGoodSetup net) (n : ℕ) (few : 
     site : (view_at net (suc n) r).site ≡ site_at net r
     site = (view_at-seen net (suc n) r).site
 
+    beats : (q s port : ℕ) → neighbour net.relation.grid r q ≡ Some (s, port) → ShowsBeat net.relation.vcs port (beat_of net n s port) (left s)
+    beats q s port e = (sent q s port e).beat
+
     -- a channel of a link is one of the router
     link-size : (words : ℕ → ℕ) → AreBelow (size net) (gathered net.relation.grid net.relation.vcs words r)
     link-size words k e =
@@ -168,49 +171,40 @@ module _ {count : ℕ} (net : Setup) (setup : IsGoodSetup net) (n : ℕ) (few : 
     over words i = gathered-is net.relation.grid grid net.relation.vcs some-vcs words r l i
 
     abbrev Wires : Site → Type 0
-    Wires s = ((i : ℕ) → i < size_of s → has_bit (next r).links.flits i ≡ is_some (flit_from s.vcs 0 row i)) × AreBelow (size_of s) (next r).links.flits
-        × ((i : ℕ) → i < size_of s → has_bit (next r).links.tails i ≡ is_tail (flit_from s.vcs 0 row i)) × AreBelow (size_of s) (next r).links.tails
-        × ((o : ℕ) → o < size_of s → has_bit (next r).links.credits o ≡ credit_from s.vcs 0 row o) × AreBelow (size_of s) (next r).links.credits
+    Wires s = ((i : ℕ) → i < size_of s → has_bit next.links.flits i ≡ is_some (flit_from s.vcs 0 row i)) × AreBelow (size_of s) next.links.flits
+        × ((i : ℕ) → i < size_of s → has_bit next.links.tails i ≡ is_tail (flit_from s.vcs 0 row i)) × AreBelow (size_of s) next.links.tails
+        × ((o : ℕ) → o < size_of s → has_bit next.links.credits o ≡ credit_from s.vcs 0 row o) × AreBelow (size_of s) next.links.credits
 
     wires-at : Wires (site_at net r)
     wires-at = (
-      λ i u. ap (λ k. has_bit k i) have.flits ∙ over (λ s. (t s).left.flits) i ∙ sym (flits-over net setup n few left leaves-are r l i),
-      subst (AreBelow (size net)) (sym have.flits) (link-size (λ s. (t s).left.flits)),
-      λ i u. ap (λ k. has_bit k i) have.tails ∙ over (λ s. (t s).left.tails) i ∙ sym (tails-over net setup n few left leaves-are r l i),
-      subst (AreBelow (size net)) (sym have.tails) (link-size (λ s. (t s).left.tails)),
-      λ o u. ap (λ k. has_bit k o) have.credits ∙ over (λ s. (t s).left.credits) o ∙ sym (credits-over net setup n few left leaves-are r l o),
-      subst (AreBelow (size net)) (sym have.credits) (link-size (λ s. (t s).left.credits)),
+      λ i u. ap (λ k. has_bit k i) have.flits ∙ over (λ s. (left s).flits) i ∙ sym (flits-over net setup n few left r l beats i),
+      subst (AreBelow (size net)) (sym have.flits) (link-size (λ s. (left s).flits)),
+      λ i u. ap (λ k. has_bit k i) have.tails ∙ over (λ s. (left s).tails) i ∙ sym (tails-over net setup n few left r l beats i),
+      subst (AreBelow (size net)) (sym have.tails) (link-size (λ s. (left s).tails)),
+      λ o u. ap (λ k. has_bit k o) have.credits ∙ over (λ s. (left s).credits) o ∙ sym (credits-over net setup n few left r l beats o),
+      subst (AreBelow (size net)) (sym have.credits) (link-size (λ s. (left s).credits)),
     )
 
-    pub wires-are : ShowsWires (view_at net (suc n) r) (next r).links.flits (next r).links.tails (next r).links.credits (beats_at (beats_in net (state_at net (suc n))) r)
+    wires-are : ShowsWires (view_at net (suc n) r) next.links.flits next.links.tails next.links.credits (beats_at (beats_in net (state_at net (suc n))) r)
     wires-are =
         let all = subst Wires (sym site) wires-at in
         record { comes = all.0; comes_below = all.1; tail_comes = all.2; tail_comes_below = all.3; returns = all.4; returns_below = all.5 }
 
-    pub holders-are : ShowsHolders net (state_at net (suc n)) r (next r).marks.packet
+    holders-are : ShowsHolders net (state_at net (suc n)) r next.marks.packet
     holders-are i u =
-        subst (λ k. IfSome (holder_at net (state_at net (suc n)) r i) (λ p. k ≡ p)) (sym (have.packet i u ∙ same (neighbour net.relation.grid r (i / net.relation.vcs)) refl))
-        (holders-told net setup n packets holders-still r l i u)
-      where
-        -- what is told by the words is told by the round
-        same : (o : Option (ℕ × ℕ)) → neighbour net.relation.grid r (i / net.relation.vcs) ≡ o
-            → told_over net.relation.vcs (λ s. (t s).grants) packets (packets r i) (i % net.relation.vcs) o
-            ≡ told_over net.relation.vcs (λ s o. slice_index_or (view_round (frozen_of net n s)).grants o None) packets (packets r i) (i % net.relation.vcs) o
-        same None e = refl
-        same (Some (to, port)) e =
-            ap (told_by (packets to) (packets r i))
-            ((all to (link_back net.relation.grid r (i / net.relation.vcs) to port grid l e).node).granted (port * net.relation.vcs + i % net.relation.vcs) (link-over net setup r l i to port e))
+        subst (λ k. IfSome (holder_at net (state_at net (suc n)) r i) (λ p. k ≡ p)) (sym (have.packet i u))
+        (holders-heard net setup n packets tells r l one.holders (λ k to port e. (sent (k / net.relation.vcs) to port e).told (k % net.relation.vcs) (mod_below k net.relation.vcs some-vcs)) i u)
 
     -- all of it
-    pub router-next : HasTurned (t r) (next r) → ShowsRouter count net (suc n) r starts (next r)
+    pub router-next : HasTurned t next → ShowsRouter count net (suc n) r starts next
     router-next turned = record {
       column =
-          subst (λ (d : Column). IsColumn count d (next r).marks v) (sym turned.column)
-          (subst (λ (m : RouterMarks). IsColumn count (t r).column m v) (sym turned.marks)
-          (with-packets net (state_at net (suc n)) r v (view_at-seen net (suc n) r) count (t r).column (t r).marks (next r).marks.packet (all r l).column holders-are));
-      ended = subst (λ k. ShowsEnded k v) (sym turned.ended) (all r l).tails;
+          subst (λ (d : Column). IsColumn count d next.marks v) (sym turned.column)
+          (subst (λ (m : RouterMarks). IsColumn count t.column m v) (sym turned.marks)
+          (with-packets net (state_at net (suc n)) r v (view_at-seen net (suc n) r) count t.column t.marks next.marks.packet one.column holders-are));
+      ended = subst (λ k. ShowsEnded k v) (sym turned.ended) one.tails;
       holders = holders-are;
       wires = wires-are;
-      source = subst (λ (s : Source). ShowsSource starts s v) (sym turned.source) (all r l).queue;
-      counts = subst (λ (c : ℕ → ByVerdict). ShowsCounts (suc n) c v) (sym turned.counts) (all r l).counts;
+      source = subst (λ (s : Source). ShowsSource starts s v) (sym turned.source) one.queue;
+      counts = subst (λ (c : ℕ → ByVerdict). ShowsCounts (suc n) c v) (sym turned.counts) one.counts;
     }

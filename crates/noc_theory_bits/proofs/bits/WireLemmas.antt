@@ -4,8 +4,7 @@ use Rattle.std.specs.Prelude.{option_and_then, option_map, is_some, nat_eq, if�
 use Rattle.std.proofs.lemmas.Bool.{eq-eqb, eqb-true}
 use Rattle.std.proofs.lemmas.Nat.{div-add-mod', div-mul-add, mod-mul-add, mod_below, mul-add-lt}
 use Rattle.noc_topo.specs.Lists.{is_some_of}
-use Rattle.noc_topo.specs.Shape.{IsLinkBack, nodes, ports, neighbour}
-use Rattle.noc_topo.proofs.LinkLemmas.{link_back}
+use Rattle.noc_topo.specs.Shape.{nodes, ports, neighbour}
 use Rattle.noc_packet.specs.Set.{has_bit}
 use Rattle.noc_packet.specs.declared.packet.Beat.{Beat}
 use Rattle.noc_packet.specs.declared.packet.Flit.{Flit}
@@ -25,7 +24,8 @@ use Rattle.noc_theory_bits.proofs.network.NetworkLemmas.{good, frozen-seen}
 use Rattle.noc_theory_bits.proofs.network.PutLemmas.{credit-put}
 use Rattle.noc_theory_bits.proofs.network.SteadyLemmas.{same-truth}
 use Rattle.noc_theory_bits.proofs.wiring.LinkLemmas.{put_by, flit-came, credit-came}
-use Rattle.noc_theory_bits.specs.Wires.{ShowsLeaving, is_tail_of}
+use Rattle.noc_theory_bits.specs.Sends.{beat_of}
+use Rattle.noc_theory_bits.specs.Wires.{ShowsBeat, ShowsLeaving, is_tail_of}
 use Rattle.noc_theory_bits.specs.Owners.{frozen_of}
 
 -- ---- of one router: the flit on a virtual channel of a beat, and the input channel that moves to the output channel
@@ -72,73 +72,72 @@ module _ (relation : Routes) (v : View) (port vc : ℕ) (low : port < ports v.si
   pub tail-left : is_tail (flit_on_vc vc (beat_out (decisions_of relation v) v port).flit) ≡ is_tail_of v (mover_to v (view_round v) (port * v.site.vcs + vc))
   tail-left = same-left is_tail (is_tail_of v) refl refl (λ i f e. ap is_tail (sym e))
 
--- ---- of all routers
-module _ (net : Setup) (setup : IsGoodSetup net) (n : ℕ) (few : n < CYCLE_LIMIT) (left : ℕ → Links)
-    (shows : (s : ℕ) → s < nodes net.relation.grid → ShowsLeaving (frozen_of net n s) (left s)) (r : ℕ) (l : r < nodes net.relation.grid) where
+-- ---- of a router of a network
+module _ (net : Setup) (setup : IsGoodSetup net) (n : ℕ) where
   some-vcs : 0 < net.relation.vcs
   some-vcs = (good net setup).relation.table.some_vcs
 
-  same-site : (s : ℕ) → s < nodes net.relation.grid → (frozen_of net n s).site ≡ site_at net s
-  same-site s k = (frozen-seen net setup n s k).site
+  -- what leaves it by a port is the beat that it puts
+  module _ (s : ℕ) (known : s < nodes net.relation.grid) (left : Links) (shows : ShowsLeaving (frozen_of net n s) left) (port : ℕ) (low : port < ports net.relation.grid) where
+    same-site : (frozen_of net n s).site ≡ site_at net s
+    same-site = (frozen-seen net setup n s known).site
 
-  back : (i to port : ℕ) → neighbour net.relation.grid r (i / net.relation.vcs) ≡ Some (to, port) → IsLinkBack net.relation.grid r (i / net.relation.vcs) to port
-  back i to port e = link_back net.relation.grid r (i / net.relation.vcs) to port (good net setup).relation.table.grid l e
-
-  abbrev Out : ℕ → ℕ → ℕ → Option Flit
-  Out to port vc = flit_on_vc vc (beat_out (decisions_of net.relation (frozen_of net n to)) (frozen_of net n to) port).flit
-
-  -- what leaves the channel at the other end
-  module _ (i to port : ℕ) (e : neighbour net.relation.grid r (i / net.relation.vcs) ≡ Some (to, port)) where
-    low : port < ports net.relation.grid
-    low = let k = (back i to port e).port in omega (arith, k)
-
-    in-size : port * net.relation.vcs + i % net.relation.vcs < size net
-    in-size = let m = mul-add-lt port net.relation.vcs (i % net.relation.vcs) (ports net.relation.grid) low (mod_below i net.relation.vcs some-vcs) in omega (arith, m)
+    in-size : (vc : ℕ) → vc < net.relation.vcs → port * net.relation.vcs + vc < size net
+    in-size vc u = let m = mul-add-lt port net.relation.vcs vc (ports net.relation.grid) low u in omega (arith, m)
 
     abbrev Says : Site → Type 0
-    Says site = port < ports site.grid → i % net.relation.vcs < site.vcs → port * site.vcs + i % net.relation.vcs < size_of site
-        → (is_some (Out to port (i % net.relation.vcs)) ≡ has_bit (left to).flits (port * site.vcs + i % net.relation.vcs))
-        × (is_tail (Out to port (i % net.relation.vcs)) ≡ has_bit (left to).tails (port * site.vcs + i % net.relation.vcs))
-        × (is_some_of (beat_out (decisions_of net.relation (frozen_of net n to)) (frozen_of net n to) port).credit (i % net.relation.vcs) ≡ has_bit (left to).credits (port * site.vcs + i % net.relation.vcs))
+    Says site = port < ports site.grid → (vc : ℕ) → vc < site.vcs → port * site.vcs + vc < size_of site
+        → (has_bit left.flits (port * site.vcs + vc) ≡ is_some (flit_on_vc vc (beat_of net n s port).flit))
+        × (has_bit left.tails (port * site.vcs + vc) ≡ is_tail (flit_on_vc vc (beat_of net n s port).flit))
+        × (has_bit left.credits (port * site.vcs + vc) ≡ is_some_of (beat_of net n s port).credit vc)
 
-    says : Says (site_at net to)
+    says : Says (site_at net s)
     says =
-        subst Says (same-site to (back i to port e).node)
-        (λ p u k. (
-          flit-left net.relation (frozen_of net n to) port (i % net.relation.vcs) p u ∙ sym (one.flits (port * (frozen_of net n to).site.vcs + i % net.relation.vcs) k),
-          tail-left net.relation (frozen_of net n to) port (i % net.relation.vcs) p u ∙ sym (one.tails (port * (frozen_of net n to).site.vcs + i % net.relation.vcs) k),
-          credit-put net.relation (frozen_of net n to) (left to).credits (subst (λ (x : Site). 0 < x.vcs) (sym (same-site to (back i to port e).node)) some-vcs) (record { each = one.credits }) port (i % net.relation.vcs) p u,
+        subst Says same-site
+        (λ p vc u k. (
+          shows.flits (port * (frozen_of net n s).site.vcs + vc) k ∙ sym (flit-left net.relation (frozen_of net n s) port vc p u),
+          shows.tails (port * (frozen_of net n s).site.vcs + vc) k ∙ sym (tail-left net.relation (frozen_of net n s) port vc p u),
+          sym (credit-put net.relation (frozen_of net n s) left.credits (subst (λ (x : Site). 0 < x.vcs) (sym same-site) some-vcs) (record { each = shows.credits }) port vc p u),
         ))
+
+    pub beat-shown : ShowsBeat net.relation.vcs port (beat_of net n s port) left
+    beat-shown = record {
+      flits = λ vc u. (says low vc u (in-size vc u)).0;
+      tails = λ vc u. (says low vc u (in-size vc u)).1;
+      credits = λ vc u. (says low vc u (in-size vc u)).2;
+    }
+
+  -- what its neighbours put is on its wires at the next count
+  module _ (few : n < CYCLE_LIMIT) (left : ℕ → Links) (r : ℕ) (l : r < nodes net.relation.grid)
+      (shows : (q s port : ℕ) → neighbour net.relation.grid r q ≡ Some (s, port) → ShowsBeat net.relation.vcs port (beat_of net n s port) (left s)) where
+    abbrev pub next : List Beat
+    next = beats_at (beats_in net (state_at net (suc n))) r
+
+    -- the beat at the other end of the link of a channel
+    other : (i to port : ℕ) → neighbour net.relation.grid r (i / net.relation.vcs) ≡ Some (to, port) → ShowsBeat net.relation.vcs port (beat_of net n to port) (left to)
+    other i to port e = shows (i / net.relation.vcs) to port e
+
+    low : (i : ℕ) → i % net.relation.vcs < net.relation.vcs
+    low i = mod_below i net.relation.vcs some-vcs
+
+    -- the flits that come, the tails among them, and the credits
+    pub flits-over : (i : ℕ) → is_some (flit_from net.relation.vcs 0 next i) ≡ comes_over net.relation.grid net.relation.vcs (λ s. (left s).flits) r i
+    flits-over i = ap (λ (f : Option Flit). is_some f) (flit-came net setup n few r l i) ∙ by (neighbour net.relation.grid r (i / net.relation.vcs)) refl
       where
-        one : ShowsLeaving (frozen_of net n to) (left to)
-        one = shows to (back i to port e).node
+        by : (o : Option (ℕ × ℕ)) → neighbour net.relation.grid r (i / net.relation.vcs) ≡ o → is_some (flit_on_vc (i % net.relation.vcs) (put_by net setup n o).flit) ≡ is_over net.relation.vcs (λ s. (left s).flits) (i % net.relation.vcs) o
+        by None e = refl
+        by (Some (to, port)) e = sym ((other i to port e).flits (i % net.relation.vcs) (low i))
 
-    pub over : (is_some (Out to port (i % net.relation.vcs)) ≡ has_bit (left to).flits (port * net.relation.vcs + i % net.relation.vcs))
-        × (is_tail (Out to port (i % net.relation.vcs)) ≡ has_bit (left to).tails (port * net.relation.vcs + i % net.relation.vcs))
-        × (is_some_of (beat_out (decisions_of net.relation (frozen_of net n to)) (frozen_of net n to) port).credit (i % net.relation.vcs) ≡ has_bit (left to).credits (port * net.relation.vcs + i % net.relation.vcs))
-    over = says low (mod_below i net.relation.vcs some-vcs) in-size
+    pub tails-over : (i : ℕ) → is_tail (flit_from net.relation.vcs 0 next i) ≡ comes_over net.relation.grid net.relation.vcs (λ s. (left s).tails) r i
+    tails-over i = ap is_tail (flit-came net setup n few r l i) ∙ by (neighbour net.relation.grid r (i / net.relation.vcs)) refl
+      where
+        by : (o : Option (ℕ × ℕ)) → neighbour net.relation.grid r (i / net.relation.vcs) ≡ o → is_tail (flit_on_vc (i % net.relation.vcs) (put_by net setup n o).flit) ≡ is_over net.relation.vcs (λ s. (left s).tails) (i % net.relation.vcs) o
+        by None e = refl
+        by (Some (to, port)) e = sym ((other i to port e).tails (i % net.relation.vcs) (low i))
 
-  abbrev pub next : List Beat
-  next = beats_at (beats_in net (state_at net (suc n))) r
-
-  -- the flits that come, the tails among them, and the credits
-  pub flits-over : (i : ℕ) → is_some (flit_from net.relation.vcs 0 next i) ≡ comes_over net.relation.grid net.relation.vcs (λ s. (left s).flits) r i
-  flits-over i = ap (λ (f : Option Flit). is_some f) (flit-came net setup n few r l i) ∙ by (neighbour net.relation.grid r (i / net.relation.vcs)) refl
-    where
-      by : (o : Option (ℕ × ℕ)) → neighbour net.relation.grid r (i / net.relation.vcs) ≡ o → is_some (flit_on_vc (i % net.relation.vcs) (put_by net setup n o).flit) ≡ is_over net.relation.vcs (λ s. (left s).flits) (i % net.relation.vcs) o
-      by None e = refl
-      by (Some (to, port)) e = (over i to port e).0
-
-  pub tails-over : (i : ℕ) → is_tail (flit_from net.relation.vcs 0 next i) ≡ comes_over net.relation.grid net.relation.vcs (λ s. (left s).tails) r i
-  tails-over i = ap is_tail (flit-came net setup n few r l i) ∙ by (neighbour net.relation.grid r (i / net.relation.vcs)) refl
-    where
-      by : (o : Option (ℕ × ℕ)) → neighbour net.relation.grid r (i / net.relation.vcs) ≡ o → is_tail (flit_on_vc (i % net.relation.vcs) (put_by net setup n o).flit) ≡ is_over net.relation.vcs (λ s. (left s).tails) (i % net.relation.vcs) o
-      by None e = refl
-      by (Some (to, port)) e = (over i to port e).1
-
-  pub credits-over : (o : ℕ) → credit_from net.relation.vcs 0 next o ≡ comes_over net.relation.grid net.relation.vcs (λ s. (left s).credits) r o
-  credits-over o = credit-came net setup n few r l o ∙ by (neighbour net.relation.grid r (o / net.relation.vcs)) refl
-    where
-      by : (x : Option (ℕ × ℕ)) → neighbour net.relation.grid r (o / net.relation.vcs) ≡ x → is_some_of (put_by net setup n x).credit (o % net.relation.vcs) ≡ is_over net.relation.vcs (λ s. (left s).credits) (o % net.relation.vcs) x
-      by None e = refl
-      by (Some (to, port)) e = (over o to port e).2
+    pub credits-over : (o : ℕ) → credit_from net.relation.vcs 0 next o ≡ comes_over net.relation.grid net.relation.vcs (λ s. (left s).credits) r o
+    credits-over o = credit-came net setup n few r l o ∙ by (neighbour net.relation.grid r (o / net.relation.vcs)) refl
+      where
+        by : (x : Option (ℕ × ℕ)) → neighbour net.relation.grid r (o / net.relation.vcs) ≡ x → is_some_of (put_by net setup n x).credit (o % net.relation.vcs) ≡ is_over net.relation.vcs (λ s. (left s).credits) (o % net.relation.vcs) x
+        by None e = refl
+        by (Some (to, port)) e = sym ((other o to port e).credits (o % net.relation.vcs) (low o))

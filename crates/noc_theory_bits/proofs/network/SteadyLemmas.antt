@@ -11,8 +11,8 @@ use Rattle.noc_route.proofs.BuiltLemmas.{linked-port}
 use Rattle.noc_vc.specs.declared.input.InputState.TheVariants.{Idle, Waiting, Active}
 use Rattle.noc_vc.specs.declared.output.OutputState.TheVariants.{Owned, Draining}
 use Rattle.noc_view.specs.Verdict.{is_moved}
-use Rattle.noc_theory.specs.Good.{places_taken}
-use Rattle.noc_theory.specs.Lockstep.{has_come, seen_phase, seen_phase_with, seen_holder, seen_source, seen_set}
+use Rattle.noc_theory.specs.Good.{slots_taken}
+use Rattle.noc_theory.specs.Lockstep.{has_come, seen_phase, seen_phase_with, seen_holder, seen_sender, seen_set}
 use Rattle.noc_theory.specs.Network.{Setup, State, Place, On, In, Out, leaving, place_of_flit, tail_place, is_on, is_in, is_past, owner_of, leads_from, next_channel, verdict_in, is_released, after_verdicts, all_inputs, has_channel, opening_state, network_cycle, state_at, frozen_at, Source}
 use Rattle.noc_theory.specs.Progress.{hops}
 use Rattle.noc_theory.proofs.worms.BufferLemmas.{same_channel-refl, same_channel-true}
@@ -31,7 +31,7 @@ use Rattle.noc_theory.proofs.verdicts.AfterLemmas.{owned-kept}
 use Rattle.noc_theory.proofs.join.OrderedLemmas.{IsGood, IsOrdered, IsOrderedFrozen}
 use Rattle.noc_theory.proofs.join.OrderedStateLemmas.{ordered-frozen}
 use Rattle.noc_theory.proofs.join.PlaceViewLemmas.{IsAt, IsFrom, input-at, eject-from, link-from, mod-below}
-use Rattle.noc_theory.proofs.injection.SourceLemmas.{same-owner, next-owner, at-router, source-is, not-end}
+use Rattle.noc_theory.proofs.injection.SourceLemmas.{same-owner, next-owner, at-router, sender-is, not-end}
 
 -- equal where each follows from the other
 pub same-truth : (a b : Bool) → (a ≡ true → b ≡ true) → (b ≡ true → a ≡ true) → a ≡ b
@@ -46,7 +46,7 @@ module _ (net : Setup) (good : IsGood net) where
     pub worm : IsWorm net S.own (place_of_flit net S)
     pub routed : IsRoutedMid net S
     pub covered : IsCovered net S
-    pub room : (c : Channel) → places_taken net S c ≤ net.depth
+    pub room : (c : Channel) → slots_taken net S c ≤ net.depth
     pub low : (a u p : ℕ) → Has (Eject a u, p) S.own → u < net.relation.vcs
     -- the tail is past an owned link channel only while its last credit is on the way
     pub backed : (c : Channel) (p : ℕ) → IsHeld net S c p → is_link c ≡ true → is_past net c (goal net p) (tail_place net S p) ≡ true → has_channel S.back c ≡ true
@@ -108,7 +108,7 @@ module _ (net : Setup) (good : IsGood net) where
     owed = λ c e. absurd (false≢true (sym (x.no_credit c) ∙ e));
   }
     where
-      room : (c : Channel) → places_taken net F c ≤ net.depth
+      room : (c : Channel) → slots_taken net F c ≤ net.depth
       room c =
           let on = none-on net good.built F x.whole.sound.keyed x.whole.sound.worm 0 x.whole.sound.still c in
           let back : one_if (has_channel F.back c) ≡ 0 = ap one_if (x.no_credit c) in
@@ -277,8 +277,8 @@ module _ (net : Setup) (good : IsGood net) where
       pub holder-sends : (i o : ℕ) (s : Sends i o) → seen_holder net S r s.to (owner_of net S s.to) ≡ Owned i s.packet
       holder-sends i o s =
           ap (seen_holder net S r s.to) (owner-is net S s.to s.packet x.worm.once s.next.owns)
-          ∙ ap (λ b. cond b Draining (Owned (seen_source net S r s.to) s.packet)) (free s.to s.next)
-          ∙ ap (λ k. Owned k s.packet) (source-is net good S x.keyed x.worm r i s.packet s.from s.to s.here s.owned s.next)
+          ∙ ap (λ b. cond b Draining (Owned (seen_sender net S r s.to) s.packet)) (free s.to s.next)
+          ∙ ap (λ k. Owned k s.packet) (sender-is net good S x.keyed x.worm r i s.packet s.from s.to s.here s.owned s.next)
         where
           free : (d : Channel) → Next s.packet s.from d → (is_link d && sent d s.packet) ≡ false
           free (Link a b w) m = unsent s.packet s.from a b w m s.behind
@@ -298,7 +298,7 @@ module _ (net : Setup) (good : IsGood net) where
         where
           -- the channel of q before c, where the tail of q is not on c, in it or past it
           with : (q : ℕ) → owner_of net S c ≡ Some q → ((a u : ℕ) → c ≡ Inject a u → ⊥) → (tail_place net S q ≡ On c → ⊥) → (tail_place net S q ≡ In c → ⊥) → is_past net c (goal net q) (tail_place net S q) ≡ false
-              → ((d : Channel) → Next q d c → is_past net d (goal net q) (tail_place net S q) ≡ false) → seen_source net S r c ≡ i → Sends i o
+              → ((d : Channel) → Next q d c → is_past net d (goal net q) (tail_place net S q) ≡ false) → seen_sender net S r c ≡ i → Sends i o
           with q k none not_on not_in behind unpast source =
               let own : Has (c, q) S.own = owner-has net S c q k in
               let s = has-source net good.built S.own (place_of_flit net S) x.worm c q own none not_on not_in behind in
@@ -308,7 +308,7 @@ module _ (net : Setup) (good : IsGood net) where
               let place = at-router net good S x.keyed x.worm r o d (x.covered d q h) leads in
               let next : Next q d c = record { owns = own; leads = s.2 } in
               let past = unpast d next in
-              let same : place.0 ≡ i = sym (source-is net good S x.keyed x.worm r place.0 q d c place.1 s.1 next) ∙ source in
+              let same : place.0 ≡ i = sym (sender-is net good S x.keyed x.worm r place.0 q d c place.1 s.1 next) ∙ source in
               record {
                 packet = q;
                 from = d;
@@ -327,10 +327,10 @@ module _ (net : Setup) (good : IsGood net) where
           parts false true k e = absurd (true≢false e)
           parts false false true e = absurd (true≢false e)
 
-          source-of : (q : ℕ) → Owned (seen_source net S r c) q ≡ Owned i p → seen_source net S r c ≡ i
-          source-of q f = cc f
+          sender-of : (q : ℕ) → Owned (seen_sender net S r c) q ≡ Owned i p → seen_sender net S r c ≡ i
+          sender-of q f = cc f
 
-          tell : (q : ℕ) → owner_of net S c ≡ Some q → (d : Channel) → d ≡ c → (b : Bool) → (is_link d && sent d q) ≡ b → cond b Draining (Owned (seen_source net S r c) q) ≡ Owned i p → Sends i o
+          tell : (q : ℕ) → owner_of net S c ≡ Some q → (d : Channel) → d ≡ c → (b : Bool) → (is_link d && sent d q) ≡ b → cond b Draining (Owned (seen_sender net S r c) q) ≡ Owned i p → Sends i o
           tell q k d g true t f = absurd (cc f)
           tell q k (Link a b w) g false t f =
               let z = parts (is_on (Link a b w) (tail_place net S q)) (is_in (Link a b w) (tail_place net S q)) (is_past net (Link a b w) (goal net q) (tail_place net S q)) t in
@@ -338,7 +338,7 @@ module _ (net : Setup) (good : IsGood net) where
               (λ y. true≢false (sym (ap (is_on (Link a b w)) (y ∙ ap On (sym g)) ∙ same_channel-refl (Link a b w)) ∙ z.0))
               (λ y. true≢false (sym (ap (is_in (Link a b w)) (y ∙ ap In (sym g)) ∙ same_channel-refl (Link a b w)) ∙ z.1))
               (subst (λ (y : Channel). is_past net y (goal net q) (tail_place net S q) ≡ false) g z.2)
-              (λ e' m. unpast-link q e' a b w (subst (λ (y : Channel). Next q e' y) (sym g) m) t) (source-of q f)
+              (λ e' m. unpast-link q e' a b w (subst (λ (y : Channel). Next q e' y) (sym g) m) t) (sender-of q f)
           tell q k (Inject a w) g false t f =
               let b : Some r ≡ None = sym (Rattle.noc_theory.proofs.join.PlaceViewLemmas.begins-at net good r o) ∙ ap sending_router (from.found ∙ sym g) in absurd (cc b)
           tell q k (Eject a w) g false t f =
@@ -348,7 +348,7 @@ module _ (net : Setup) (good : IsGood net) where
               (λ y. subst (λ (z : Place). IsPlaced net S.own q z) (y ∙ ap On (sym g)) placed)
               (λ y. subst (λ (z : Place). IsPlaced net S.own q z) (y ∙ ap In (sym g)) placed)
               (subst (λ (y : Channel). is_past net y (goal net q) (tail_place net S q) ≡ false) g (behind (tail_place net S q) refl))
-              (λ e' m. unpast-eject q e' a w (subst (λ (y : Channel). Next q e' y) (sym g) m)) (source-of q f)
+              (λ e' m. unpast-eject q e' a w (subst (λ (y : Channel). Next q e' y) (sym g) m)) (sender-of q f)
             where
               behind : (y : Place) → tail_place net S q ≡ y → is_past net (Eject a w) (goal net q) y ≡ false
               behind Source h = refl

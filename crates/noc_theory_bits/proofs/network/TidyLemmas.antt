@@ -18,7 +18,7 @@ use Rattle.noc_vc.specs.declared.output.OutputState.{OutputState}
 use Rattle.noc_vc.specs.declared.output.OutputState.TheVariants.{Idle as Free, Owned, Draining}
 use Rattle.noc_view.specs.States.{owns, is_owned_from}
 use Rattle.noc_view.specs.View.{Site, View, size_of, view_buffer, view_output}
-use Rattle.noc_theory.specs.Lockstep.{has_come, seen_flits, seen_input, seen_output, seen_phase_with, seen_holder, seen_source, goes_on_by}
+use Rattle.noc_theory.specs.Lockstep.{has_come, seen_flits, seen_input, seen_output, seen_phase_with, seen_holder, seen_sender, goes_on_by}
 use Rattle.noc_theory.specs.Network.{Setup, State, Located, Place, On, In, Out, size, arriving, leaving, packet_at, place_of_flit, tail_place, is_on, is_in, is_past, owner_of, next_channel, has_channel, count_in, count_on, credit_of, buffer_of, Source}
 use Rattle.noc_theory.specs.Progress.{head_place}
 use Rattle.noc_theory.proofs.worms.BufferLemmas.{same_channel-refl}
@@ -151,7 +151,7 @@ module _ (net : Setup) (good : IsGood net) (S : State) (x : IsSteady net good S)
         at (Some p) h f = by (is_on (Link a b w) (tail_place net S p) || has_come net (Link a b w) (goal net p) (tail_place net S p)) refl f
           where
             by : (t : Bool) → (is_on (Link a b w) (tail_place net S p) || has_come net (Link a b w) (goal net p) (tail_place net S p)) ≡ t
-                → is_draining (cond t Draining (Owned (seen_source net S r (Link a b w)) p)) ≡ true → credit_of net S (Link a b w) < v.site.depth
+                → is_draining (cond t Draining (Owned (seen_sender net S r (Link a b w)) p)) ≡ true → credit_of net S (Link a b w) < v.site.depth
             by true t g =
                 let k = drained (Link a b w) p (owner-has net S (Link a b w) p h) (λ z. z) refl t in
                 let q = places in
@@ -193,7 +193,7 @@ module _ (net : Setup) (good : IsGood net) (S : State) (x : IsSteady net good S)
 
             by : (q : Option ℕ) → owner_of net S (Link a b w) ≡ q → is_free (seen_holder net S r (Link a b w) q) ≡ true → credit_of net S (Link a b w) ≡ v.site.depth
             by None k f = credits-full (Link a b w) k ∙ sym places
-            by (Some p) k f = absurd (tell (is_on (Link a b w) (tail_place net S p) || has_come net (Link a b w) (goal net p) (tail_place net S p)) (seen_source net S r (Link a b w)) p f)
+            by (Some p) k f = absurd (tell (is_on (Link a b w) (tail_place net S p) || has_come net (Link a b w) (goal net p) (tail_place net S p)) (seen_sender net S r (Link a b w)) p f)
         at (Inject a w) e = tt
         at (Eject a w) e = tt
 
@@ -315,8 +315,8 @@ module _ (net : Setup) (good : IsGood net) (S : State) (x : IsSteady net good S)
 
     -- ---- all
 
-    source-below : (c : Channel) → 0 < size net → seen_source net S r c < size net
-    source-below c some = at (find (λ i. unwrap_or (option_map (goes_on_by net S c) (arriving net r i)) false) (below (size net))) refl
+    sender-below : (c : Channel) → 0 < size net → seen_sender net S r c < size net
+    sender-below c some = at (find (λ i. unwrap_or (option_map (goes_on_by net S c) (arriving net r i)) false) (below (size net))) refl
       where
         at : (o : Option ℕ) → find (λ i. unwrap_or (option_map (goes_on_by net S c) (arriving net r i)) false) (below (size net)) ≡ o → unwrap_or o 0 < size net
         at None e = some
@@ -325,9 +325,9 @@ module _ (net : Setup) (good : IsGood net) (S : State) (x : IsSteady net good S)
     owner-below : (c : Channel) (i : ℕ) → 0 < size net → is_owned_from (seen_output net S r c).holder i ≡ true → i < size net
     owner-below c i some e = at (owner_of net S c) (ap (λ h. is_owned_from h i) (sym (holder-is c)) ∙ e)
       where
-        tell : (t : Bool) (p : ℕ) → is_owned_from (cond t Draining (Owned (seen_source net S r c) p)) i ≡ true → i < size net
+        tell : (t : Bool) (p : ℕ) → is_owned_from (cond t Draining (Owned (seen_sender net S r c) p)) i ≡ true → i < size net
         tell true p f = absurd (false≢true f)
-        tell false p f = subst (λ k. k < size net) (eqb-true (seen_source net S r c) i f) (source-below c some)
+        tell false p f = subst (λ k. k < size net) (eqb-true (seen_sender net S r c) i f) (sender-below c some)
 
         at : (o : Option ℕ) → is_owned_from (seen_holder net S r c o) i ≡ true → i < size net
         at None f = absurd (false≢true f)

@@ -26,7 +26,7 @@ use Rattle.noc_theory.specs.Good.{IsGoodSetup}
 use Rattle.noc_theory.specs.Halves.{IsSilent}
 use Rattle.noc_theory.specs.Lockstep.{beats_at, beats_in, beat_by, flit_on, view_at}
 use Rattle.noc_theory.specs.Network.{Setup, State, has_channel, state_at}
-use Rattle.noc_theory.specs.Unseen.{without_findings}
+use Rattle.noc_theory.proofs.runs.StillRunLemmas.{without_findings}
 use Rattle.noc_theory.proofs.worms.GrantLemmas.{Has-below}
 use Rattle.noc_theory.proofs.worms.MemberLemmas.{find-has}
 use Rattle.noc_theory.proofs.join.PlaceViewLemmas.{in-size}

@@ -24,7 +24,7 @@ use Rattle.noc_theory.specs.Halves.{IsSilent}
 use Rattle.noc_theory.specs.Lockstep.{beats_at, beats_in, seen_flits, seen_input, seen_phase_with, has_come, view_at, view_in}
 use Rattle.noc_theory.specs.Network.{Setup, State, Located, Place, On, In, Out, size, arriving, packet_at, place_of_flit, tail_place, is_in, is_past, has_channel, next_channel, buffer_of, state_at, Source}
 use Rattle.noc_theory.specs.Progress.{weight, hops, head_place}
-use Rattle.noc_theory.specs.Unseen.{without_findings}
+use Rattle.noc_theory.proofs.runs.StillRunLemmas.{without_findings}
 use Rattle.noc_theory.proofs.worms.BufferLemmas.{same_channel-refl}
 use Rattle.noc_theory.proofs.worms.OwnedLemmas.{owner-has}
 use Rattle.noc_theory.proofs.worms.StateWordLemmas.{IsEject, IsHeld, IsPlaced, goal, last_of, far_of}

@@ -1,36 +1,29 @@
 -- Routers in which nothing happens up to a cycle, with nothing in flight: each stays as it is, but
 -- for its counts.
-use Rattle.std.proofs.Common.{◌≡◌, ℕ, ◌-◌, ◌<◌, ◌≤◌, false, List, [], map, length, get_or, ap, sym, ◌∙◌, subst, arith}
+use Rattle.std.proofs.Common.{◌≡◌, ℕ, ◌-◌, ◌<◌, ◌≤◌, false, List, get_or, ap, sym, ◌∙◌, subst, ⊎_elim, arith}
 use Rattle.std.specs.List.{All}
-use Rattle.std.proofs.lemmas.List.{length-map, get_or-map, get_or_default}
-use Rattle.noc_topo.specs.Lists.{tabulate}
+use Rattle.std.proofs.lemmas.Bool.{cases_lt}
 use Rattle.noc_topo.specs.Shape.{nodes}
-use Rattle.noc_topo.proofs.ListLemmas.{get_or-tabulate, length-tabulate}
+use Rattle.noc_topo.proofs.ListLemmas.{get_or-tabulate}
+use Rattle.noc_packet.specs.declared.packet.Beat.{Beat}
 use Rattle.noc_view.specs.Still.{IsHeldBefore, takes_effect, view_after_waiting}
-use Rattle.noc_view.specs.View.{View}
-use Rattle.noc_view.specs.declared.finding.Recording.TheVariants.{Leave}
+use Rattle.noc_view.specs.View.{View, idle_beat}
 use Rattle.noc_theory.specs.declared.limits.TheConstants.{CYCLE_LIMIT}
 use Rattle.noc_theory.specs.Good.{IsGoodSetup}
 use Rattle.noc_theory.specs.Halves.{IsSilent, beat_at}
-use Rattle.noc_theory.specs.Lockstep.{beats_at, beats_in, view_at}
+use Rattle.noc_theory.specs.Lockstep.{beats_at, beats_in, lockstep_at, view_at}
 use Rattle.noc_theory.specs.Network.{Setup, state_at}
 use Rattle.noc_theory.specs.Seen.{AreSeen}
-use Rattle.noc_theory.specs.Unseen.{AreInStep, without_findings}
-use Rattle.noc_theory.proofs.runs.StillRunLemmas.{still-wait}
+use Rattle.noc_theory.proofs.runs.RunLemmas.{count_views, past_wires}
+use Rattle.noc_theory.proofs.runs.StillRunLemmas.{still-wait, without_findings}
 use Rattle.noc_theory.proofs.join.LockstepTheoremLemmas.{lockstep-is_state}
 
 module _ (net : Setup) (setup : IsGoodSetup net) (n end : ℕ) (less : n < end) (limit : end ≤ CYCLE_LIMIT)
     (effect : (r : ℕ) → r < nodes net.relation.grid → takes_effect net.relation (view_at net n r) ≡ false)
     (held : (r : ℕ) → r < nodes net.relation.grid → IsHeldBefore end (view_at net n r))
     (silent : (r : ℕ) → r < nodes net.relation.grid → IsSilent (beats_at (beats_in net (state_at net n)) r)) where
-  abbrev views : List View
-  views = tabulate (nodes net.relation.grid) (view_at net n)
-
   abbrev w : View → View
   w = view_after_waiting net.relation (end - n) (end - 1)
-
-  many : length views ≡ nodes net.relation.grid
-  many = length-tabulate (nodes net.relation.grid) (view_at net n)
 
   now : AreSeen net n
   now = lockstep-is_state net setup n (omega (arith, less, limit))
@@ -38,36 +31,28 @@ module _ (net : Setup) (setup : IsGoodSetup net) (n end : ℕ) (less : n < end) 
   then_seen : AreSeen net end
   then_seen = lockstep-is_state net setup end limit
 
-  in_step : AreInStep net Leave n views (beats_in net (state_at net n))
-  in_step = record { views = ap (map without_findings) (sym now.views); wires = λ s port. ap (λ ws. beat_at ws s port) (sym now.wires) }
+  -- the view of a router in the lockstep run
+  at : (m : ℕ) → AreSeen net m → (r : ℕ) (d : View) → r < nodes net.relation.grid → get_or (lockstep_at net m).views r d ≡ view_at net m r
+  at m seen r d l = ap (λ vs. get_or vs r d) seen.views ∙ get_or-tabulate (nodes net.relation.grid) r (view_at net m) d l
 
-  each : (P : View → Type 0) → ((s : ℕ) → s < nodes net.relation.grid → P (view_at net n s)) → All P views
-  each P all s d u = let low : s < nodes net.relation.grid = omega (arith, u, many) in subst P (sym (get_or-tabulate (nodes net.relation.grid) s (view_at net n) d low)) (all s low)
+  each : (P : View → Type 0) → ((s : ℕ) → s < nodes net.relation.grid → P (view_at net n s)) → All P (lockstep_at net n).views
+  each P all s d u = let low : s < nodes net.relation.grid = omega (arith, u, count_views net n) in subst P (sym (at n now s d low)) (all s low)
 
-  rows : length (beats_in net (state_at net n)) ≡ nodes net.relation.grid
-  unfolding beats_in
-  rows = length-tabulate (nodes net.relation.grid) _
+  quiet : (s port : ℕ) → beat_at (lockstep_at net n).wires s port ≡ idle_beat
+  quiet s port =
+      ⊎_elim (λ (l : s < nodes net.relation.grid). ap (λ (ws : List (List Beat)). beat_at ws s port) now.wires ∙ silent s l port)
+      (λ (past : nodes net.relation.grid ≤ s). past_wires net n s port past)
+      (cases_lt s (nodes net.relation.grid))
 
-  quiet : All IsSilent (beats_in net (state_at net n))
-  quiet s d u =
-      let low : s < nodes net.relation.grid = omega (arith, u, rows) in
-      subst IsSilent (get_or_default (beats_in net (state_at net n)) s [] d u) (silent s low)
-
-  waits : AreInStep net Leave end (map w views) (beats_in net (state_at net n))
-  waits =
-      still-wait net n end views (beats_in net (state_at net n)) less in_step quiet rows
-      (each (λ v. takes_effect net.relation v ≡ false) effect) (each (IsHeldBefore end) held)
+  waits : ((r : ℕ) (d : View) → r < nodes net.relation.grid → without_findings (get_or (lockstep_at net end).views r d) ≡ without_findings (w (get_or (lockstep_at net n).views r d)))
+      × ((r port : ℕ) → beat_at (lockstep_at net end).wires r port ≡ idle_beat)
+  waits = still-wait net n end less quiet (each (λ v. takes_effect net.relation v ≡ false) effect) (each (IsHeldBefore end) held)
 
   pub all-still : (r : ℕ) → r < nodes net.relation.grid → without_findings (view_at net end r) ≡ without_findings (view_after_waiting net.relation (end - n) (end - 1) (view_at net n r))
   all-still r l =
-      let more : length (map w views) ≡ nodes net.relation.grid = length-map views w ∙ many in
-      let later : length (tabulate (nodes net.relation.grid) (view_at net end)) ≡ nodes net.relation.grid = length-tabulate (nodes net.relation.grid) (view_at net end) in
-      let d : View = w (view_at net n r) in
-      sym (get_or-map without_findings (tabulate (nodes net.relation.grid) (view_at net end)) r d (without_findings d) (omega (arith, l, later)) ∙ ap without_findings (get_or-tabulate (nodes net.relation.grid) r (view_at net end) d l))
-      ∙ ap (λ vs. get_or vs r (without_findings d)) (sym (waits.views ∙ ap (map without_findings) then_seen.views))
-      ∙ get_or-map without_findings (map w views) r d (without_findings d) (omega (arith, l, more))
-      ∙ ap without_findings (get_or-map w views r (view_at net n r) d (omega (arith, l, many)) ∙ ap w (get_or-tabulate (nodes net.relation.grid) r (view_at net n) (view_at net n r) l))
+      let d : View = view_at net n r in
+      ap without_findings (sym (at end then_seen r d l)) ∙ waits.0 r d l ∙ ap (λ v. without_findings (w v)) (at n now r d l)
 
   -- nothing is in flight then either
   pub still-silent : (r : ℕ) → r < nodes net.relation.grid → IsSilent (beats_at (beats_in net (state_at net end)) r)
-  still-silent r l port = ap (λ ws. beat_at ws r port) (sym then_seen.wires) ∙ sym (waits.wires r port) ∙ silent r l port
+  still-silent r l port = ap (λ (ws : List (List Beat)). beat_at ws r port) (sym then_seen.wires) ∙ waits.1 r port

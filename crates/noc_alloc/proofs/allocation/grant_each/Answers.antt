@@ -27,15 +27,15 @@ loop-requester-preserved-in-Some-get c =
     let first : c.nearer-first.result ≡ nearer (arbiter_at c.args.arbiters.now o).pointer (get_or l.grants o None) i =
     c.nearer-first.ensures ∙ ap (λ p. nearer p c.get-in-Some-get.result i) pointer ∙ ap (λ held. nearer (arbiter_at c.args.arbiters.now o).pointer held i) c.get-in-Some-get.ensures in
     let now : c.fill.new.self ≡ firsts_after_request c.args.arbiters.now (Some o) i l.grants = c.fill.ensures ∙ ap (λ x. set l.grants o (Some x)) first in (
-      subst (AreOffered (length c.args.asks.now) c.args.arbiters.now asks c.without-rest.result) (sym now)
-          (offered-next (length c.args.asks.now) c.args.arbiters.now asks l.rest c.without-rest.result i l.grants (Some o) ask l.invariant.1 c.in-Some.ensures.least c.without-rest.ensures.members l.invariant.0),
+      subst (AreOffered (length c.args.asks.now) c.args.arbiters.now asks c.pop_least.new.self) (sym now)
+          (offered-next (length c.args.asks.now) c.args.arbiters.now asks l.rest c.pop_least.new.self i l.grants (Some o) ask l.invariant.1 c.in-Some.ensures.least c.in-Some.ensures.rest l.invariant.0),
       ap length now ∙ length-firsts c.args.arbiters.now (Some o) i l.grants ∙ l.invariant.1,
     )
 
 pub loop-requester-preserved : goal.loop-requester-preserved
 loop-requester-preserved c = (
-  offered-next (length c.args.asks.now) c.args.arbiters.now (λ i. get_or c.args.asks.now i None) c.loop-requester.rest c.without-rest.result c.in-Some.requester c.loop-requester.grants None
-      (sym c.get.ensures ∙ c.in_default-get.is) c.loop-requester.invariant.1 c.in-Some.ensures.least c.without-rest.ensures.members c.loop-requester.invariant.0,
+  offered-next (length c.args.asks.now) c.args.arbiters.now (λ i. get_or c.args.asks.now i None) c.loop-requester.rest c.pop_least.new.self c.in-Some.requester c.loop-requester.grants None
+      (sym c.get.ensures ∙ c.in_default-get.is) c.loop-requester.invariant.1 c.in-Some.ensures.least c.in-Some.ensures.rest c.loop-requester.invariant.0,
   c.loop-requester.invariant.1,
 )
 

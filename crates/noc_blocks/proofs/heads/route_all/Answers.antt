@@ -24,11 +24,11 @@ route_router-sets-requires g c =
     let each = inv.each (λ q. 0) (λ q. 0) in
     let m = get_or c.loop-lane.marks t c.index-marks-lane.result in
     let here : slice_get c.loop-lane.marks t ≡ Some m = slice_get-get_or c.loop-lane.marks t c.index-marks-lane.result (omega (arith, inv.size, within)) in
-    let heads : AreHeads c.args.guide.now.relation.now c.args.guide.now.numbering.now c.args.guide.now.packets.now (value c.at-begins.result) (slice_index m.packet) =
-    heads-here value c.args.guide.now.relation.now c.args.guide.now.numbering.now c.args.guide.now.packets.now (value c.at-begins.result) (word value t c.args.heads.now) c.args.marks.now c.loop-lane.marks m t
+    let heads : AreHeads c.args.guide.now.relation.now c.args.guide.now.numbering.now c.args.guide.now.headers.now (value c.at-begins.result) (slice_index m.packet) =
+    heads-here value c.args.guide.now.relation.now c.args.guide.now.numbering.now c.args.guide.now.headers.now (value c.at-begins.result) (word value t c.args.heads.now) c.args.marks.now c.loop-lane.marks m t
     c.at-begins.ensures here (ap (λ (x : Routed). x.marks) (each.left t c.least-lane.ensures.least.0)) (c.requires.heads t within) in
     let node = c.requires.nodes t within (in-lanes c.args.heading t within (each.part t c.least-lane.ensures.least.0)) in
-    (search rules, (c.requires.fits, (node, (c.requires.packets, assumption heads))))
+    (search rules, (c.requires.fits, (node, (c.requires.headers, assumption heads))))
 
 pub loop-lane-preserved : goal.loop-lane-preserved
 loop-lane-preserved g c =
@@ -47,7 +47,7 @@ loop-lane-preserved g c =
       size = length-set was.marks t w ∙ inv.size;
       each = λ to_port port_turn.
           each-stepped _ _ _ _ _ _ (was.rest % 2 ^ 32) _ t c.least-lane.ensures.least (inv.each to_port port_turn)
-          (routed-in-block value (value c.at-begins.result) (word value t c.args.heads.now) (sets_by c.args.guide.now.relation.now c.args.guide.now.numbering.now c.args.guide.now.packets.now (c.args.first + t)) c.args.marks.now was.marks after m w to_port port_turn t
+          (routed-in-block value (value c.at-begins.result) (word value t c.args.heads.now) (sets_by c.args.guide.now.relation.now c.args.guide.now.numbering.now c.args.guide.now.headers.now (c.args.first + t)) c.args.marks.now was.marks after m w to_port port_turn t
           (word value t c.args.wanted.now) (word value t was.wanted) (word value t c.put.new.lanes) (value got.result) c.at-begins.ensures here now
           ((inv.each to_port port_turn).left t c.least-lane.ensures.least.0)
           (c.put.ensures.here ∙ c.or.ensures ∙ ap (λ n. bit_or n (value got.result)) c.at.ensures) (got.ensures to_port port_turn))

@@ -13,7 +13,7 @@ invariant-loop-lane g l =
     record {
       size : length l.marks ≡ 32;
       each : (to_port port_turn : ℕ → ℕ)
-          → IsEach Routed (λ k x. HasRouted (word value k l.heads) (sets_by l.guide.relation.now l.guide.numbering.now l.guide.packets.now (l.first + k)) (marks_at value l.fn.marks to_port port_turn k) x.marks (word value k l.fn.wanted) x.wanted)
+          → IsEach Routed (λ k x. HasRouted (word value k l.heads) (sets_by l.guide.relation.now l.guide.numbering.now l.guide.headers.now (l.first + k)) (marks_at value l.fn.marks to_port port_turn k) x.marks (word value k l.fn.wanted) x.wanted)
           (λ k. the-routed (marks_at value l.fn.marks to_port port_turn k) (word value k l.fn.wanted)) (λ k. the-routed (marks_at value l.marks to_port port_turn k) (word value k l.wanted)) (l.fn.heading % 2 ^ 32) (l.rest % 2 ^ 32);
     }
 

@@ -10,4 +10,4 @@ loop-port-preserved g c =
     c.or-all.ensures
     ∙ ap₂ bit_or c.loop-port.invariant
     (c.and-comes.ensures ∙ ap₂ bit_and (c.moved-moved.ensures ∙ ap (moved_by g.W.Word.bits c.args.width (nat_eq (p % 2) 0)) c.word_at-over.ensures) c.at-here.ensures)
-    ∙ sym (ap (λ n. union_from 0 n (brought_by g.W.Word.value g.W.Word.bits c.args.width c.args.side.now c.args.row.now c.args.lane)) (add-one p))
+    ∙ sym (ap (λ n. union_from 0 n (brought_by g.W.Word.value g.W.Word.bits c.args.width (record { starts = c.args.starts.now; masks = c.args.masks.now }) c.args.row.now c.args.lane)) (add-one p))

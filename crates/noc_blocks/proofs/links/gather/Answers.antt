@@ -14,7 +14,7 @@ returns-clause-gathered g c = λ grid first k are same l r.
     let row = c.args.row.now in
     c.gather_rings.ensures k l
     ∙ ap (λ x. bit_or x (if sides.closes then union_from 0 c.args.links (brought_by v w width sides.round row k) else 0))
-    (c.gather_side.ensures k l ∙ ap (λ x. bit_or x (union_from 0 c.args.links (brought_by v w width sides.straight row k))) (c.alike.ensures k l ∙ c.none.ensures)
+    (c.gather_side.ensures k l ∙ ap (λ x. bit_or x (union_from 0 c.args.links (brought_by v w width sides.straight row k))) (c.alike-all.ensures k l ∙ c.none.ensures)
     ∙ zero-or (union_from 0 c.args.links (brought_by v w width sides.straight row k)))
     ∙ ap (λ n. bit_or (union_from 0 n (brought_by v w width sides.straight row k)) (if sides.closes then union_from 0 n (brought_by v w width sides.round row k) else 0)) same
     ∙ gathered-is v w g.met.W.Word.fits grid width first sides are row k l r
@@ -28,6 +28,6 @@ returns-clause-nothing g c = λ k l none.
     let row = c.args.row.now in
     c.gather_rings.ensures k l
     ∙ ap (λ x. bit_or x (if sides.closes then union_from 0 c.args.links (brought_by v w width sides.round row k) else 0))
-    (c.gather_side.ensures k l ∙ ap (λ x. bit_or x (union_from 0 c.args.links (brought_by v w width sides.straight row k))) (c.alike.ensures k l ∙ c.none.ensures)
+    (c.gather_side.ensures k l ∙ ap (λ x. bit_or x (union_from 0 c.args.links (brought_by v w width sides.straight row k))) (c.alike-all.ensures k l ∙ c.none.ensures)
     ∙ zero-or (union_from 0 c.args.links (brought_by v w width sides.straight row k)))
     ∙ nothing-is v w width c.args.links sides row k none

@@ -25,7 +25,7 @@ loop-port-preserved g c =
     let old = c.args.ports.now in
     let rows = c.loop-port.ports.turn in
     let is-long : length c.loop-port.ports.turn ≡ 8 = search rules in
-    let few : c.loop-port.port < length c.loop-port.ports.turn = omega (arith, is-long, c.requires.count, c.requires.frame.few) in
+    let few : c.loop-port.port < length c.loop-port.ports.turn = omega (arith, is-long, c.requires.ports, c.requires.frame.few) in
     let requests : v c.and-requests.result ≡ bit_and (v c.args.picked) (by_port v c.args.ports.now.sends.to_port c.args.lane c.loop-port.port) =
     c.and-requests.ensures ∙ ap (bit_and (v c.args.picked)) (c.at-to_port.ensures ∙ same-port v lane p inv.sends) in
     let turn : v c.at-turn.result ≡ by_port v c.args.ports.now.turn c.args.lane c.loop-port.port = c.at-turn.ensures ∙ inv.left p lane (omega arith) in
@@ -60,7 +60,7 @@ returns-clause-moves g c =
     let inv = c.loop-port.invariant in
     let frame = c.args.frame.now in
     let lane = c.args.lane in
-    let all : c.loop-port.port ≡ c.args.frame.now.ports = omega (arith, c.requires.count) in
+    let all : c.loop-port.port ≡ c.args.frame.now.ports = omega (arith, c.requires.ports) in
     let have = subst (λ n. HaveMoved g.W.Word.bits frame.fields.width n (v c.args.picked) (v c.args.single) (digits_of (word v lane) c.args.ports.now.sends.vc) (by_port v c.args.ports.now.sends.to_port lane) (by_port v c.args.ports.now.turn lane) (moves_by v c.loop-port.moves)) all inv.moved in
     record {
       moved = have.moved;

@@ -9,7 +9,7 @@ abbrev pub invariant-loop-rest : goal.invariant-loop-rest
 invariant-loop-rest g l =
     let value = g.W.Word.value in
     record {
-      here : (to_port port_turn : ℕ → ℕ) → AreRouted (value l.fn.heads) (sets_by l.relation l.numbering l.packets l.node) (marks_by value l.fn.marks to_port port_turn) (λ k. word value k l.marks.set) (value l.all) (value l.rest);
+      here : (to_port port_turn : ℕ → ℕ) → AreRouted (value l.fn.heads) (sets_by l.relation l.numbering l.headers l.node) (marks_by value l.fn.marks to_port port_turn) (λ k. word value k l.marks.set) (value l.all) (value l.rest);
       same : l.marks ≡ record l.fn.marks { set = l.marks.set };
     }
 

@@ -86,12 +86,12 @@ loop-step-preserved g c =
     let handed = Appends-keeps (w.contents c.loop-step.sink) (w.contents c.put_cycle.new.sink) (w.contents c.hand_on.new.self) (text step) put c.hand_on.ensures.bytes in
     let begun : first ≤ first + step = omega arith in
     let later : first + step + 1 ≡ first + (step + 1) = omega arith in
-    let rows : (r : ℕ) → r < length c.loop-step.trace.1 → slice_get c.keep.new.self.1 r ≡ Some (findings_before net (first + step + 1) r) = λ r l. c.keep.ensures.rows r l ∙ ap Some (ap₂ (λ (z : Setup) k. findings_before z k r) same count) in
+    let found : (r : ℕ) → r < length c.loop-step.trace.1 → slice_get c.keep.new.self.1 r ≡ Some (findings_before net (first + step + 1) r) = λ r l. c.keep.ensures.found r l ∙ ap Some (ap₂ (λ (z : Setup) k. findings_before z k r) same count) in
     record {
       net = same;
       count = omega (arith, count);
       traced = c.keep.ensures.traced ∙ inv.traced;
-      kept = subst (λ n. IsKept net traced first n c.keep.new.self.1) later (next_kept net traced first (first + step) c.loop-step.trace.1 c.keep.new.self.1 begun inv.kept c.keep.ensures.many rows);
+      kept = subst (λ n. IsKept net traced first n c.keep.new.self.1) later (next_kept net traced first (first + step) c.loop-step.trace.1 c.keep.new.self.1 begun inv.kept c.keep.ensures.many found);
       took = took_more text trace_header w.contents w.has_failed step c.args.sink.now c.loop-step.sink c.hand_on.new.self inv.took handed;
       counted = long_more text trace_header step c.loop-step.written c.in-Ok.more inv.counted (c.in-Ok.ensures.puts.0 ∙ ap length is);
       short = omega (arith, c.in-Ok.ensures.few, inv.short);

@@ -13,4 +13,4 @@ finish-requires c =
 
 pub returns-clause-router : goal.returns-clause-router
 unfolding view_after_decide
-returns-clause-router c = c.finish.ensures ∙ ap (view_after_finish c.args.relation.now c.args.cycle c.args.recording) c.take_beats.ensures.router
+returns-clause-router c = c.finish.ensures ∙ ap (view_after_finish c.args.relation.now c.args.cycle) c.take_beats.ensures.router

@@ -6,7 +6,7 @@ use Rattle.noc_net.proofs.cycles.decide_all.Goals as goal
 
 pub returns-clause-routers : goal.returns-clause-routers
 returns-clause-routers c =
-    let first_half = λ (r : ℕ) (v : View). view_after_decide c.args.relation.now c.args.cycle c.args.recording (incoming c.args.relation.now.grid (get_or c.args.beats.now r [])) v in
+    let first_half = λ (r : ℕ) (v : View). view_after_decide c.args.relation.now c.args.cycle (incoming c.args.relation.now.grid (get_or c.args.beats.now r [])) v in
     let end : c.loop-node.node ≡ length c.args.routers.now = omega (arith, c.loop-node.auto.node-end) in
     done_all first_half c.args.routers.now c.loop-node.routers
     (subst (λ (k : ℕ). IsDoneTo first_half c.args.routers.now c.loop-node.routers k) end c.loop-node.invariant.routers)

@@ -1,38 +1,67 @@
-use Rattle.std.proofs.Common.{◌+◌, List, arith, set, sym, subst}
-use Rattle.noc_row_words.specs.declared.block.Block.{Block}
-use Rattle.noc_row_words.specs.declared.wires.Inbox.{Inbox}
-use Rattle.noc_row_words.specs.Wires.{room_of}
-use Rattle.noc_rows.proofs.blocks.PassAllLemmas.{HaveFrozenTo, frozen-all, frozen-more, frozen-none, frozen-skip, frozen-without}
-use Rattle.noc_rows.proofs.blocks.StageLemmas.{frozen-stands}
+use Rattle.std.proofs.Common.{◌≡◌, ◌∙◌, List, Some, ap, arith, get_or, length, subst, sym, refl, rules}
+use Rattle.std.specs.Prelude.{Option, slice_get}
+use Rattle.noc_lanes.specs.Channels.{links_by}
+use Rattle.noc_lanes.proofs.SetLemmas.{low_members}
+use Rattle.noc_lanes.specs.Lanes.{word}
+use Rattle.noc_lanes.specs.declared.channels.Links.{Links}
+use Rattle.noc_blocks.specs.Begins.{starts_by}
+use Rattle.noc_blocks.specs.declared.sources.Start.{Start}
+use Rattle.noc_turns.specs.Held.{MayTake}
+use Rattle.noc_turns.specs.States.{lane_of, links_of}
+use Rattle.noc_turns.specs.declared.state.State.{State}
+use Rattle.noc_turns.specs.declared.state.Work.{Work}
+use Rattle.noc_rows.specs.Blocks.{lane_or, working_or}
+use Rattle.noc_rows.specs.Passes.{HasArrived}
+use Rattle.noc_rows.proofs.ListLemmas.{along4, back2, both, others, there, up-to-asleep, up-to-next, written}
 use Rattle.noc_rows.proofs.passes.arrive_all.Goals as goal
-use Rattle.noc_rows.proofs.passes.arrive_all.Goals.{then-number-inboxes+then-blocks-number, else-number-inboxes, else-number-inboxes-via-then-number-inboxes+else-blocks-number, else-number-inboxes-via-else-number-inboxes}
 
-pub loop-number-init : goal.loop-number-init
-loop-number-init c = frozen-none c.args.frame.now c.args.cycle _ c.args.starts.now c.args.blocks.now c.args.inboxes.now
+pub arrive_block-requires : goal.arrive_block-requires
+arrive_block-requires g c =
+    let value = g.W.Word.value in
+    let t = c.loop-number.number in
+    let was = c.loop-number.invariant.left t (omega arith) in
+    let s = get_or c.loop-number.states t c.index-states-number.result in
+    let x = get_or c.loop-number.works t c.index-works-number.result in
+    let state : slice_get c.args.states.now t ≡ Some s = sym (ap (λ p. p.0) was) ∙ there c.loop-number.states t _ c.index-states-number.result refl (omega arith) in
+    let work : slice_get c.args.works.now t ≡ Some x = sym (ap (λ p. p.1) was) ∙ there c.loop-number.works t _ c.index-works-number.result refl (omega arith) in (
+      search rules,
+      (
+        search rules,
+        (
+          c.requires.plan.frame,
+          (
+            omega (arith, c.requires.plan.few, ap length c.deref.ensures.value),
+            λ k l.
+                subst (λ (xs : List Start). MayTake g.W.Word.bits (starts_by xs) c.args.cycle (links_of value x k) (lane_of value s k)) (sym c.deref.ensures.value)
+                (back2 (λ (o : Option (State g.row.W.Denot)) (p : Option (Work g.row.W.Denot)). MayTake g.W.Word.bits (starts_by c.args.plan.now.starts.items) c.args.cycle (working_or value p k).links (lane_or value o k))
+                _ _ s x state work (c.requires.lanes t k (sym (low_members c.args.awake t 32 (omega (arith, c.requires.few))) ∙ sym c.has.ensures ∙ c.if-not-has.false) l)),
+          ),
+        ),
+      ),
+    )
 
 pub loop-number-preserved : goal.loop-number-preserved
-loop-number-preserved c =
-    let so_far = c.loop-number.invariant in
-    elim c.if-number-inboxes.branch [
-      | then-number-inboxes+then-blocks-number w ↦
-          (subst (λ (blocks : List Block). HaveFrozenTo (c.loop-number.number + 1) c.args.frame.now c.args.cycle (room_of c.args.room) c.args.starts.now c.args.blocks.now blocks c.args.inboxes.now c.if-number-inboxes.inboxes) (sym w.blocks-is)
-          (subst (λ (inboxes : List Inbox). HaveFrozenTo (c.loop-number.number + 1) c.args.frame.now c.args.cycle (room_of c.args.room) c.args.starts.now c.args.blocks.now (set c.loop-number.blocks c.loop-number.number w.stand_one.new.block) c.args.inboxes.now inboxes) (sym w.inboxes-is)
-          (frozen-more c.loop-number.number c.args.frame.now c.args.cycle (room_of c.args.room) c.args.starts.now c.args.blocks.now c.loop-number.blocks c.args.inboxes.now c.loop-number.inboxes so_far
-          (omega arith) _ w.stand_one.new.block w.arrive_one.new.inbox _ (omega (arith, w.if-number-inboxes.true)) w.if-blocks-number.true
-          (frozen-stands _ _ _ _ _ w.arrive_one.new.block w.stand_one.new.block _ w.arrive_one.new.inbox w.arrive_one.ensures.lanes w.arrive_one.ensures.rest
-          w.stand_one.ensures.standing w.stand_one.ensures.heading w.stand_one.ensures.asking w.stand_one.ensures.decided w.stand_one.ensures.rest))))
-      | else-number-inboxes w ↦
-          (subst (λ (blocks : List Block). HaveFrozenTo (c.loop-number.number + 1) c.args.frame.now c.args.cycle (room_of c.args.room) c.args.starts.now c.args.blocks.now blocks c.args.inboxes.now c.if-number-inboxes.inboxes) (sym w.blocks-is)
-          (subst (λ (inboxes : List Inbox). HaveFrozenTo (c.loop-number.number + 1) c.args.frame.now c.args.cycle (room_of c.args.room) c.args.starts.now c.args.blocks.now c.loop-number.blocks c.args.inboxes.now inboxes) (sym w.inboxes-is)
-          (elim w.else-number-inboxes.branch [
-            | else-number-inboxes-via-then-number-inboxes+else-blocks-number x ↦
-                frozen-skip c.loop-number.number c.args.frame.now c.args.cycle (room_of c.args.room) c.args.starts.now c.args.blocks.now c.loop-number.blocks c.args.inboxes.now c.loop-number.inboxes _ so_far
-                (omega arith) x.if-blocks-number.false
-            | else-number-inboxes-via-else-number-inboxes x ↦
-                frozen-without c.loop-number.number c.args.frame.now c.args.cycle (room_of c.args.room) c.args.starts.now c.args.blocks.now c.loop-number.blocks c.args.inboxes.now c.loop-number.inboxes so_far
-                (omega arith) (omega (arith, x.if-number-inboxes.false))
-          ])))
-    ]
+loop-number-preserved g c =
+    let value = g.W.Word.value in
+    let t = c.loop-number.number in
+    let was = c.loop-number.invariant.left t (omega arith) in
+    let s = get_or c.loop-number.states t c.index-states-number.result in
+    let x = get_or c.loop-number.works t c.index-works-number.result in
+    let state : slice_get c.args.states.now t ≡ Some s = sym (ap (λ p. p.0) was) ∙ there c.loop-number.states t _ c.index-states-number.result refl (omega arith) in
+    let work : slice_get c.args.works.now t ≡ Some x = sym (ap (λ p. p.1) was) ∙ there c.loop-number.works t _ c.index-works-number.result refl (omega arith) in
+    let e = c.arrive_block.ensures in
+    up-to-next _ _ _ _ _ _ t (sym (low_members c.args.awake t 32 (omega (arith, c.requires.few))) ∙ sym c.has.ensures ∙ c.if-not-has.false) c.loop-number.invariant
+    (along4 (HasArrived value c.args.plan.now.pattern (starts_by c.args.plan.now.starts.items) c.args.cycle) _ _ _ _ s c.arrive_block.new.state x c.arrive_block.new.work
+    state (written c.loop-number.states t _ c.arrive_block.new.state refl (omega arith)) work (written c.loop-number.works t _ c.arrive_block.new.work refl (omega arith))
+    (subst (λ (xs : List Start). HasArrived value c.args.plan.now.pattern (starts_by xs) c.args.cycle (Some s) (Some c.arrive_block.new.state) (Some x) (Some c.arrive_block.new.work)) c.deref.ensures.value
+    (record { lanes = e.lanes; pending = e.pending; came = e.came; links = λ k. ap (λ (l : Links (List g.row.W.Denot)). links_by (word value k) l) e.links })))
+    (λ b other. both _ _ _ _ (others c.loop-number.states t b c.arrive_block.new.state other) (others c.loop-number.works t b c.arrive_block.new.work other))
 
-pub returns : goal.returns
-returns c = frozen-all c.loop-number.number c.args.frame.now c.args.cycle _ c.args.starts.now c.args.blocks.now c.loop-number.blocks c.args.inboxes.now c.loop-number.inboxes (omega arith) c.loop-number.invariant
+pub loop-number-preserved-then-not-has : goal.loop-number-preserved-then-not-has
+loop-number-preserved-then-not-has g c = up-to-asleep _ _ _ _ _ c.loop-number.number (sym (low_members c.args.awake c.loop-number.number 32 (omega (arith, c.requires.few))) ∙ sym c.has.ensures ∙ c.if-not-has.true) c.loop-number.invariant
+
+pub returns-clause-arrived : goal.returns-clause-arrived
+returns-clause-arrived g c = λ b l e. c.loop-number.invariant.done b (omega (arith, l)) e
+
+pub returns-clause-kept : goal.returns-clause-kept
+returns-clause-kept g c = λ b e. ap (λ p. p.0) (c.loop-number.invariant.kept b e)

@@ -1,6 +1,12 @@
-use Rattle.noc_row_words.specs.Wires.{room_of}
-use Rattle.noc_rows.proofs.blocks.PassAllLemmas.{HaveFrozenTo}
+use Rattle.std.specs.Prelude.{Option, slice_get}
+use Rattle.noc_blocks.specs.Begins.{starts_by}
+use Rattle.noc_turns.specs.declared.state.State.{State}
+use Rattle.noc_turns.specs.declared.state.Work.{Work}
+use Rattle.noc_rows.specs.Passes.{HasArrived}
+use Rattle.noc_rows.proofs.ListLemmas.{IsUpTo}
 use Rattle.noc_rows.proofs.passes.arrive_all.Given as goal
 
 abbrev pub invariant-loop-number : goal.invariant-loop-number
-invariant-loop-number l = HaveFrozenTo l.number l.frame l.cycle (room_of l.room) l.starts l.initial.blocks l.blocks l.initial.inboxes l.inboxes
+invariant-loop-number g l = IsUpTo (Option (State g.row.W.Denot) × Option (Work g.row.W.Denot))
+    (λ b now. HasArrived g.W.Word.value l.plan.pattern (starts_by l.plan.starts.items) l.cycle (slice_get l.fn.states b) now.0 (slice_get l.fn.works b) now.1)
+    (λ b. (slice_get l.fn.states b, slice_get l.fn.works b)) (λ b. (slice_get l.states b, slice_get l.works b)) l.awake l.number

@@ -1,4 +1,4 @@
-use Rattle.noc_theory.proofs.runs.UnseenLemmas.{findings-local_step}
+use Rattle.noc_theory.proofs.runs.FindingLemmas.{findings-local_step}
 use Rattle.noc_theory.proofs.laws.findings_change_nothing.Goals as goal
 
 pub returns : goal.returns

@@ -10,6 +10,6 @@ abbrev pub invariant-loop-worker : goal.invariant-loop-worker
 invariant-loop-worker l = record {
   count : length l.tiles.items ≡ l.worker;
   room : l.kept.workers ≤ vec_capacity l.tiles;
-  rest : IsUncut l.kept l.beats (in_slots l.initial.rest.ins.items) (out_slots l.initial.rest.outs.items) l.worker l.rest;
+  rest : IsUncut l.kept (in_slots l.initial.rest.ins.items) (out_slots l.initial.rest.outs.items) l.worker l.rest;
   tiles : AreTilesOf l.kept (in_slots l.initial.rest.ins.items) (out_slots l.initial.rest.outs.items) l.tiles.items;
 }

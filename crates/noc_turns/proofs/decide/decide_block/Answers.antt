@@ -26,7 +26,7 @@ route_all-requires g c =
     let all = c.allocate_all.new in
     let relation = c.args.traffic.now.relation.now in
     let numbering = c.args.pattern.now.numbering in
-    let packets = c.args.traffic.now.packets.now in (
+    let headers = c.args.traffic.now.headers.now in (
       search rules,
       (
         search rules,
@@ -37,7 +37,7 @@ route_all-requires g c =
             (
               λ k l e. let some = some-there (word v k work.standing.heads) (has_bit work.pending.heading k) (c.requires.pending k l).heading e in (c.requires.lanes k l).node (λ none. absurd (omega (arith, some, none))),
               (
-                c.requires.packets,
+                c.requires.headers,
                 (
                   λ k l. (c.requires.pending k l).heading,
                   λ k l.
@@ -48,7 +48,7 @@ route_all-requires g c =
                       let turn = by_port v state.ports.turn k in
                       let same = allotted-packet g.W.Word.bits (port_in numbering) (vc_in numbering) was is (word v k all.decided.granted) (word v k all.decided.lost) (source_by (word v k) state.sources.words) turn which in
                       let packet = sym same ∙ packet-is v all.marks (by_port v all.sends.to_port k) turn k in
-                      subst (AreHeads relation numbering packets (word v k work.standing.heads)) packet (c.requires.lanes k l).heads,
+                      subst (AreHeads relation numbering headers (word v k work.standing.heads)) packet (c.requires.lanes k l).heads,
                 ),
               ),
             ),
@@ -70,7 +70,7 @@ returns-clause-lanes g c = λ k l.
     let ports = c.move_by_ports.new.ports in
     let frame = c.args.pattern.now.frame in
     let numbering = c.args.pattern.now.numbering in
-    let sets = sets_by c.args.traffic.now.relation.now numbering c.args.traffic.now.packets.now (c.args.first + k) in
+    let sets = sets_by c.args.traffic.now.relation.now numbering c.args.traffic.now.headers.now (c.args.first + k) in
     let single = word v k work.returned.single in
     let standing = standing_by (word v k) work.standing in
     let moves = moves_by (word v k) c.move_by_ports.new.moves in

@@ -1,7 +1,7 @@
 use Rattle.std.proofs.Common.{None, false, ap, get_or, sym, ◌∙◌}
 use Rattle.std.specs.Prelude.{if◌then◌else◌, is_some}
 use Rattle.noc_alloc.specs.Requests.{Requested, is_given}
-use Rattle.noc_alloc.proofs.RequestLemmas.{least_member, marked-first, marked-skip, none_left}
+use Rattle.noc_alloc.proofs.RequestLemmas.{marked-first, marked-skip}
 use Rattle.noc_alloc.proofs.allocation.Allocation.granted.Goals as goal
 
 pub loop-requester-init : goal.loop-requester-init
@@ -13,10 +13,10 @@ pub loop-requester-preserved : goal.loop-requester-preserved
 loop-requester-preserved c =
     let a = c.args.self.now in
     let l = c.loop-requester in
-    marked-skip l.rest c.without-rest.result (λ k. is_given a.grants (get_or a.asks k None) k) l.granted c.in-Some.requester l.invariant c.without-rest.ensures.members
-    (least_member _ _ c.in-Some.ensures.least) (sym c.is_granted.ensures ∙ c.if-is_granted.false)
+    marked-skip l.rest c.pop_least.new.self (λ k. is_given a.grants (get_or a.asks k None) k) l.granted c.in-Some.requester l.invariant c.in-Some.ensures.rest
+    c.in-Some.ensures.least.0 (sym c.is_granted.ensures ∙ c.if-is_granted.false)
 
 pub returns : goal.returns
 returns c = λ k.
     let a = c.args.self.now in
-    c.loop-requester.invariant k ∙ ap (λ b. if b then false else is_given a.grants (get_or a.asks k None) k) (none_left _ c.in_default.ensures.least k)
+    c.loop-requester.invariant k ∙ ap (λ b. if b then false else is_given a.grants (get_or a.asks k None) k) (c.in_default.ensures.least k)

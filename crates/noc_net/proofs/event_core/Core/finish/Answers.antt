@@ -73,11 +73,9 @@ from_parts-requires c =
     let beats : length c.land_all.new.beats ≡ nodes parts.relation.grid = omega (arith, c.land_all.auto.beats, c.deref_mut.ensures.len, sound.beats) in
     let items = with_items_is parts.beats c.land_all.new.beats (omega (arith, beats, sound.beats)) in
     parts-in_step _ sound.good (steps-within parts count sound.in_step sound.within all)
-    (record {
-      views = rested_views parts count sound.in_step routers rooms all;
-      wires = λ r port. ap (λ (rows : List (List Beat)). beat_at rows r port) items
-          ∙ rested_wires parts count c.land_all.new.beats sound.in_step routers rooms beats all
-          (λ r one port at. c.land_all.ensures r one port (ap (λ (rooms : List Room). slice_get rooms r) c.deref-2.ensures.value ∙ at)
-          ∙ ap (λ n. front_of (get_or (take n (wires_in one)) port [])) links) r port;
-    })
+    (rested_views parts count sound.in_step routers rooms all)
+    (λ r port. ap (λ (rows : List (List Beat)). beat_at rows r port) items
+    ∙ rested_wires parts count c.land_all.new.beats sound.in_step routers rooms beats all
+    (λ r one port at. c.land_all.ensures r one port (ap (λ (rooms : List Room). slice_get rooms r) c.deref-2.ensures.value ∙ at)
+    ∙ ap (λ n. front_of (get_or (take n (wires_in one)) port [])) links) r port)
     sound.beats sound.room

@@ -20,15 +20,13 @@ invariant_of-result c =
     (c.in_default.ensures.good c.args.depth c.requires.some_depth) in
     record {
       parts = parts-in_step _ good (omega arith)
-          (record {
-            views = views ∙ sym (opening_views net);
-            wires = opening_wires net c.in_ok-routers.beats.items (silent_at c.in_ok-routers.beats.items c.in_ok-routers.ensures.idle);
-          })
+          (views ∙ sym (opening_views net))
+          (opening_wires net c.in_ok-routers.beats.items (silent_at c.in_ok-routers.beats.items c.in_ok-routers.ensures.idle))
           c.in_ok-routers.ensures.beats
           c.in_ok-routers.ensures.room;
       behind = omega arith;
       within = omega arith;
-      rows = c.in_ok-rows.ensures.rows net refl refl (sym c.deref-3.ensures.value) good;
+      rows = c.in_ok-rows.ensures net (record { relation_is = refl; depth_is = refl; packets_are = sym c.deref-3.ensures.value }) good;
       routers = λ e. refl;
     }
 

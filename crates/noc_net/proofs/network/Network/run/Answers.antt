@@ -1,13 +1,19 @@
-use Rattle.std.proofs.Common.{◌+◌, ◌≤◌, refl, sym, subst}
+use Rattle.std.proofs.Common.{◌+◌, ◌≤◌, sym, subst}
 use Rattle.noc_theory.specs.declared.limits.TheConstants.{CYCLE_LIMIT}
 use Rattle.noc_theory.specs.Network.{Run}
 use Rattle.noc_theory.proofs.budget.ProgressTheoremLemmas.{not-stuck}
 use Rattle.noc_net.specs.declared.network.Network.TheInside.{Inside}
 use Rattle.noc_net.specs.Inside.{IsNetwork}
 use Rattle.noc_net.specs.Parts.{setup_in}
-use Rattle.noc_net.proofs.NetworkLemmas.{by-routers, by-rows, shown}
+use Rattle.noc_net.proofs.NetworkLemmas.{by-routers, by-rows, may-run}
 use Rattle.noc_net.proofs.network.Network.run.Goals.{in-Some, in-None}
 use Rattle.noc_net.proofs.network.Network.run.Goals as goal
+
+pub run-requires : goal.run-requires
+run-requires c =
+    let n = c.self.inside in
+    let within : n.count + c.args.cycles ≤ CYCLE_LIMIT = subst (λ (u : Run). u.count + c.args.cycles ≤ CYCLE_LIMIT) (sym c.self.view_is) c.requires in
+    (setup_in n.parts, n.count, may-run n c.self.invariant c.in-Some.rows c.in-Some.is c.args.cycles within)
 
 pub invariant_of-self : goal.invariant_of-self
 invariant_of-self c =
@@ -16,7 +22,7 @@ invariant_of-self c =
     elim c.match-self.branch [
       | in-Some w ↦ subst (λ (m : Inside). IsNetwork (record { parts = m.parts; rows = m.rows; count = m.count + c.args.cycles })) (sym w.self-inside-is)
           (by-rows n c.self.invariant c.args.cycles within w.run.new.self
-          (w.run.ensures (setup_in n.parts) n.count c.self.invariant.parts.good refl within (shown n c.self.invariant w.in-Some.rows w.in-Some.is)))
+          (w.run.ensures (setup_in n.parts) n.count (may-run n c.self.invariant w.in-Some.rows w.in-Some.is c.args.cycles within)))
       | in-None w ↦ subst (λ (m : Inside). IsNetwork (record { parts = m.parts; rows = m.rows; count = m.count + c.args.cycles })) (sym w.self-inside-is)
           (by-routers n c.self.invariant w.in-None.is c.args.cycles within w.run-in-None.new.self w.run-in-None.ensures.parts w.run-in-None.ensures.network)
     ]

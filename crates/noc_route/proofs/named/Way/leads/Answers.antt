@@ -4,9 +4,9 @@ use Rattle.noc_route.proofs.RuleLemmas.{is_led-past}
 use Rattle.noc_route.proofs.WayLemmas.{is_led-outside}
 use Rattle.noc_route.proofs.named.Way.leads.Goals as goal
 
-pub returns-then-not-is_in_block : goal.returns-then-not-is_in_block
-returns-then-not-is_in_block c = λ r t w.
-    sym (is_led-outside (parts_of c.args.routing.now) c.args.class r t c.args.port c.args.vc (sym c.is_in_block.ensures ∙ c.if-not-is_in_block.true))
+pub returns-then-not-is_of_class : goal.returns-then-not-is_of_class
+returns-then-not-is_of_class c = λ r t w.
+    sym (is_led-outside (parts_of c.args.routing.now) c.args.class r t c.args.port c.args.vc (sym c.is_of_class.ensures ∙ c.if-not-is_of_class.true))
 
 pub returns-then-port-ge-LINKS : goal.returns-then-port-ge-LINKS
 returns-then-port-ge-LINKS c = λ r t w.

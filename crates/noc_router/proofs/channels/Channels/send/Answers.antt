@@ -1,8 +1,7 @@
 use Rattle.std.proofs.Common.{◌≡◌, arith, ap, sym, refl, ◌∙◌}
 use Rattle.std.specs.Prelude.{◌&&◌, not, nat_lt}
-use Rattle.noc_vc.specs.Input.{is_active}
-use Rattle.noc_vc.specs.Output.{Output, ejection_output, has_credit_at, is_free, is_owned, output_after_spend}
-use Rattle.noc_router.proofs.ChannelLemmas.{AreSound-sent, KeepsAwaiting-sent, filled-count, free-kept, has_credit-count, is_owned-from, owner-there, read-at}
+use Rattle.noc_vc.specs.Output.{Output, ejection_output, has_credit_at, is_owned}
+use Rattle.noc_router.proofs.ChannelLemmas.{AreSound-sent, KeepsAwaiting-sent, filled-count, has_credit-count, is_owned-from, owner-there, read-at}
 use Rattle.noc_router.proofs.channels.Channels.send.Goals.{then-not-flit, else-not-flit}
 use Rattle.noc_router.proofs.channels.Channels.send.Goals as goal
 
@@ -12,18 +11,6 @@ spend-requires-clause-owned c =
     let there = read-at s.outputs.items c.args.next c.index_mut-output.result.now ejection_output (omega arith) c.index_mut-output.ensures.value in
     ap (λ (x : Output). is_owned x.holder) there
     ∙ is_owned-from _ c.args.index (owner-there s.size _ s.bank s.inputs.items s.outputs.items c.args.index c.args.next s.sound c.requires.input c.requires.output c.requires.owned)
-
-pub let_go-requires-clause-owner : goal.let_go-requires-clause-owner
-let_go-requires-clause-owner c =
-    let s = c.args.self.now in
-    s.sound.active_is c.args.index c.requires.input ∙ ap is_active c.requires.owned
-
-pub let_go-requires-clause-still : goal.let_go-requires-clause-still
-let_go-requires-clause-still c = λ more.
-    let s = c.args.self.now in
-    let there = read-at s.outputs.items c.args.next c.index_mut-output.result.now ejection_output (omega arith) c.index_mut-output.ensures.value in
-    s.sound.idle_is c.args.next c.requires.output ∙ sym (ap (λ (x : Output). is_free x.holder) there) ∙ sym (free-kept c.index_mut-output.result.now)
-    ∙ sym (c.is_idle.ensures ∙ ap (λ (x : Output). is_free x.holder) (c.spend.ensures ∙ ap (λ last. output_after_spend last c.index_mut-output.result.now) more))
 
 pub invariant_of-self-clause-sound : goal.invariant_of-self-clause-sound
 invariant_of-self-clause-sound c =
@@ -35,11 +22,11 @@ invariant_of-self-clause-sound c =
     ] in
     AreSound-sent s.size _ _ s.bank c.send-flit.new.bank s.inputs.items s.outputs.items c.args.index c.args.next _ _ _ _ c.send-flit.result
     s.sound (omega arith) (omega arith) (omega arith) c.requires.input c.requires.output
-    (record { at = c.marked-self.ensures.at ∙ ap (nat_lt 0) c.len.ensures.count ∙ filled-count _; others = c.marked-self.ensures.others })
+    (record { at = c.marked-self-3.ensures.at ∙ ap (nat_lt 0) c.len.ensures.count ∙ filled-count _; others = c.marked-self-3.ensures.others })
     refl
-    c.let_go.ensures.active
-    (record { at = c.marked-self-2.ensures.at ∙ supplied; others = c.marked-self-2.ensures.others })
-    (record { at = c.let_go.ensures.idle.at ∙ c.is_idle.ensures; others = c.let_go.ensures.idle.others })
+    (record { at = c.marked-self-2.ensures.at; others = c.marked-self-2.ensures.others })
+    (record { at = c.marked-self-4.ensures.at ∙ supplied; others = c.marked-self-4.ensures.others })
+    (record { at = c.marked-self.ensures.at ∙ c.is_idle.ensures; others = c.marked-self.ensures.others })
     c.send-flit.ensures.first c.send-flit.ensures.bank
     (read-at s.inputs.items c.args.index _ _ (omega arith) c.index_mut.ensures.value) c.send-flit.ensures.channel c.requires.owned
     (read-at s.outputs.items c.args.next _ _ (omega arith) c.index_mut-output.ensures.value) c.spend.ensures

@@ -1,5 +1,5 @@
 use Rattle.std.proofs.Common.{◌≡◌, ◌≢◌, ℕ, ◌<◌, List, Option, None, length, get_or, set, arith, ap, sym, ◌∙◌, length-set, get_or-set_same, get_or-set_other}
-use Rattle.noc_router.proofs.LinkLemmas.{leads-more, no_lead}
+use Rattle.noc_router.proofs.LeadLemmas.{leads-more, no_lead}
 use Rattle.noc_router.proofs.leads.Leads.new.Goals as goal
 use Rattle.noc_router.proofs.leads.Leads.new.Goals.{then-port-ports, else-port-ports}
 

@@ -10,10 +10,7 @@ use Rattle.noc_router.proofs.PlannedLemmas.{no_event, no_outcome-parts}
 use Rattle.noc_router.proofs.plan.Plan.clear.Goals as goal
 
 pub invariant_of-self : goal.invariant_of-self
-invariant_of-self c = record {
-  events = λ k e. no_event (verdict_by c.none-self-inside.result k) k c.clear.new.self.size (c.none-self-inside.ensures.verdicts k) e;
-  apart = λ k l. omega (arith, c.none-self-inside.ensures.sets k);
-}
+invariant_of-self c = λ k e. no_event (verdict_by c.none-self-inside.result k) k c.clear.new.self.size (c.none-self-inside.ensures.verdicts k) e
 
 pub returns : goal.returns
 returns c =

@@ -11,4 +11,4 @@ pub returns : goal.returns
 returns c = λ k.
     let sets = c.self.inside.verdicts in
     c.either-2.ensures k ∙ ap (λ b. has_bit sets.moved k || b) (c.either.ensures k) ∙ sym (event-by sets k)
-    ∙ event-at c.self.inside.requests.size sets k (c.self.invariant.events k) ∙ ap (λ (x : PlanContents). is_event (get_or x.verdicts k Empty)) c.self.view_is
+    ∙ event-at c.self.inside.requests.size sets k (c.self.invariant k) ∙ ap (λ (x : PlanContents). is_event (get_or x.verdicts k Empty)) c.self.view_is

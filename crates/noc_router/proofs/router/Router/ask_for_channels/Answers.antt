@@ -4,7 +4,6 @@ use Rattle.noc_view.specs.Verdict.{ask_of}
 use Rattle.noc_view.specs.View.{size_of, view_claim}
 use Rattle.noc_router.proofs.FilledLemmas.{filled-last, filled-next, filled-skip}
 use Rattle.noc_router.proofs.MemberLemmas.{without-member}
-use Rattle.noc_alloc.proofs.RequestLemmas.{least_member, none_left}
 use Rattle.noc_router.proofs.AskedLemmas.{asked-view}
 use Rattle.noc_view.proofs.StandLemmas.{asks_of-stands}
 use Rattle.noc_router.proofs.WholeLemmas.{size_view}
@@ -13,13 +12,13 @@ use Rattle.noc_router.proofs.router.Router.ask_for_channels.Goals as goal
 pub asked-requires : goal.asked-requires
 asked-requires c =
     let v = c.args.self.now in
-    let l : c.in-Some.index < size_of v.site = c.requires.waiting.below c.in-Some.index (c.loop-index.invariant.among c.in-Some.index (least_member _ _ c.in-Some.ensures.least)) in
+    let l : c.in-Some.index < size_of v.site = c.requires.waiting.below c.in-Some.index (c.loop-index.invariant.among c.in-Some.index c.in-Some.ensures.least.0) in
     omega (arith, l, size_view c.self.inside v c.self.view_is c.self.invariant, c.self.invariant.channels)
 
 pub ask_for_channel-requires : goal.ask_for_channel-requires
 ask_for_channel-requires c =
     let v = c.args.self.now in
-    let l : c.in-Some.index < size_of v.site = c.requires.waiting.below c.in-Some.index (c.loop-index.invariant.among c.in-Some.index (least_member _ _ c.in-Some.ensures.least)) in
+    let l : c.in-Some.index < size_of v.site = c.requires.waiting.below c.in-Some.index (c.loop-index.invariant.among c.in-Some.index c.in-Some.ensures.least.0) in
     let size : c.loop-index.requests.size ≡ size_of v.site = ap (λ (x : RequestLists). x.size) c.loop-index.invariant.lists ∙ c.requires.size.size in
     record {
       input = omega (arith, l, size);
@@ -33,14 +32,14 @@ loop-index-preserved-in-Some-asked c =
     let before = c.loop-index.requests in
     let after = c.ask_for_channel.new.self in
     let kept = λ (x : RequestLists). record x { asks = after.channels.asks } in
-    let l : i < size_of v.site = c.requires.waiting.below i (c.loop-index.invariant.among i (least_member _ _ c.in-Some.ensures.least)) in
+    let l : i < size_of v.site = c.requires.waiting.below i (c.loop-index.invariant.among i c.in-Some.ensures.least.0) in
     let size : before.size ≡ size_of v.site = ap (λ (x : RequestLists). x.size) c.loop-index.invariant.lists ∙ c.requires.size.size in
     let asked : Some c.in-Some-asked.output ≡ ask_of (view_claim v i) = sym c.in-Some-asked.is ∙ asked-view c.self.inside v i c.asked.result c.self.view_is c.self.invariant c.asked.ensures.value in
     record {
-      among = λ k is. c.loop-index.invariant.among k (without-member c.loop-index.rest c.without-rest.result i k c.without-rest.ensures.members is);
+      among = λ k is. c.loop-index.invariant.among k (without-member c.loop-index.rest c.pop_least.new.self i k c.in-Some.ensures.rest is);
       lists = ap kept c.ask_for_channel.ensures ∙ ap kept c.loop-index.invariant.lists;
       asks =
-          filled-next (size_of v.site) c.loop-index.rest c.without-rest.result None (λ k. ask_of (view_claim v k)) before.channels.asks after.channels.asks i c.loop-index.invariant.asks c.without-rest.ensures.members
+          filled-next (size_of v.site) c.loop-index.rest c.pop_least.new.self None (λ k. ask_of (view_claim v k)) before.channels.asks after.channels.asks i c.loop-index.invariant.asks c.in-Some.ensures.rest
           (omega (arith, before.an_ask_each)) (ap (λ (x : RequestLists). x.asks) c.ask_for_channel.ensures ∙ ap (set before.channels.asks i) asked);
     }
 
@@ -50,11 +49,11 @@ loop-index-preserved c =
     let i = c.in-Some.index in
     let l = c.loop-index in
     record {
-      among = λ k is. l.invariant.among k (without-member l.rest c.without-rest.result i k c.without-rest.ensures.members is);
+      among = λ k is. l.invariant.among k (without-member l.rest c.pop_least.new.self i k c.in-Some.ensures.rest is);
       lists = l.invariant.lists;
       asks =
-          filled-skip (size_of v.site) l.rest c.without-rest.result None (λ k. ask_of (view_claim v k)) l.requests.channels.asks i l.invariant.asks c.without-rest.ensures.members
-          (least_member _ _ c.in-Some.ensures.least) (sym (sym c.in_default-asked.is ∙ asked-view c.self.inside v i c.asked.result c.self.view_is c.self.invariant c.asked.ensures.value));
+          filled-skip (size_of v.site) l.rest c.pop_least.new.self None (λ k. ask_of (view_claim v k)) l.requests.channels.asks i l.invariant.asks c.in-Some.ensures.rest
+          c.in-Some.ensures.least.0 (sym (sym c.in_default-asked.is ∙ asked-view c.self.inside v i c.asked.result c.self.view_is c.self.invariant c.asked.ensures.value));
     }
 
 pub returns : goal.returns
@@ -64,4 +63,4 @@ returns c =
     let size : l.requests.size ≡ size_of v.site = ap (λ (x : RequestLists). x.size) l.invariant.lists ∙ c.requires.size.size in
     l.invariant.lists
     ∙ ap (λ xs. record (lists_in c.args.requests.now) { asks = xs })
-    (filled-last (size_of v.site) l.rest None (λ k. ask_of (view_claim v k)) l.requests.channels.asks l.invariant.asks (none_left _ c.in_default.ensures.least) (omega (arith, l.requests.an_ask_each)) ∙ sym (asks_of-stands v))
+    (filled-last (size_of v.site) l.rest None (λ k. ask_of (view_claim v k)) l.requests.channels.asks l.invariant.asks c.in_default.ensures.least (omega (arith, l.requests.an_ask_each)) ∙ sym (asks_of-stands v))

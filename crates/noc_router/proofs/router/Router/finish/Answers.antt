@@ -16,6 +16,3 @@ commit-requires c = record {
   fits = relation-there c.args.relation.now c.args.self.now c.inject.new.self c.inject.ensures.site c.requires;
   is = c.plan.ensures.value;
 }
-
-pub advance-requires : goal.advance-requires
-advance-requires c = relation-there c.args.relation.now c.args.self.now c.inject.new.self c.inject.ensures.site c.requires

@@ -1,4 +1,4 @@
-use Rattle.std.proofs.Common.{◌≡◌, ◌<◌, ◌/◌, ◌%◌, ℕ, true, ap, ◌∙◌, arith}
+use Rattle.std.proofs.Common.{◌≡◌, ◌<◌, ◌/◌, ◌%◌, ℕ, true, ap, sym, ◌∙◌, arith}
 use Rattle.std.proofs.lemmas.Bool.{lt-ltb}
 use Rattle.noc_topo.specs.Shape.{ports}
 use Rattle.noc_router.specs.Parts.{ChannelStates}
@@ -12,10 +12,10 @@ use Rattle.noc_router.proofs.WholeLemmas.{size_view}
 use Rattle.noc_router.proofs.router.Router.move_flit.Goals as goal
 
 -- the port of a channel is one of the router's
-placed : (r : Inside) (v : View) (i : ℕ) (p : ℕ × ℕ) → view_of r ≡ v → IsRouter r → i < size_of v.site → p ≡ (i / r.indices.vcs, i % r.indices.vcs) → p.0 < ports r.shape
+placed : (r : Inside) (v : View) (i : ℕ) (p : ℕ × ℕ) → view_of r ≡ v → IsRouter r → i < size_of v.site → p ≡ (i / v.site.vcs, i % v.site.vcs) → p.0 < ports r.shape
 placed r v i p view is l at =
     let within : i < r.channels.size = omega (arith, l, size_view r v view is, is.channels) in
-    omega (arith, port-below r i is (lt-ltb i r.channels.size within), ap (λ (q : ℕ × ℕ). q.0) at, is.ports)
+    omega (arith, port-below r i is (lt-ltb i r.channels.size within), ap (λ (q : ℕ × ℕ). q.0) at ∙ ap (λ (w : View). i / w.site.vcs) (sym view), is.ports)
 
 pub put_credit-requires-clause-port : goal.put_credit-requires-clause-port
 put_credit-requires-clause-port c = placed c.self.inside c.args.self.now c.args.index c.split-port.result c.self.view_is c.self.invariant c.requires.input c.split-port.ensures

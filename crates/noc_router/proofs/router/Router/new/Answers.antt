@@ -1,5 +1,4 @@
-use Rattle.std.proofs.Common.{◌*◌, ap, arith, length, replicate, sym, ◌∙◌}
-use Rattle.std.proofs.lemmas.Bool.{false≢true}
+use Rattle.std.proofs.Common.{◌*◌, ap, arith, length, replicate, ◌∙◌}
 use Rattle.std.proofs.lemmas.List.{length-replicate}
 use Rattle.noc_topo.specs.Shape.{Grid, nodes}
 use Rattle.noc_router.specs.Asked.{SizedArbiters}
@@ -19,20 +18,19 @@ invariant_of-result c = record {
   channels = ap (λ (s : ChannelStates). s.size) c.in_ok-channels.ensures;
   depth = ap (λ (s : ChannelStates). s.bank.capacity) c.in_ok-channels.ensures;
   leads = c.new-6.ensures;
-  loaded = λ k e. absurd (false≢true (sym (c.new-7.ensures.loaded k) ∙ e));
+  beats = omega arith;
   sending = λ vc e. absurd (cc (c.new-5.ensures.vc));
   awaiting = λ vc e. absurd (cc (c.new-5.ensures.vc));
   counts = ap (λ (t : TallyContents). length t.counts) c.in_ok-tally.ensures ∙ length-replicate (c.ports-ports.result * c.vcs-vcs.result) (replicate 10 0);
   arbiter_ports = ap (λ (t : SizedArbiters). t.ports) c.in_ok-arbiters.ensures;
   arbiter_vcs = ap (λ (t : SizedArbiters). t.vcs) c.in_ok-arbiters.ensures;
-  index_vcs = c.new-8.ensures;
 }
 
 pub returns : goal.returns
 returns c =
-    opening-is c.args.node c.ports-ports.result c.vcs-vcs.result c.args.depth c.shape.result.now c.new-5.result c.in_ok-channels.channels c.new-6.result c.new-7.result c.in_ok-tally.tally c.in_ok-arbiters.arbiters c.in_ok-arrivals.arrivals c.new-8.result c.args.starts.items c.args.ends.items
+    opening-is c.args.node c.ports-ports.result c.vcs-vcs.result c.args.depth c.shape.result.now c.new-5.result c.in_ok-channels.channels c.new-6.result _ c.in_ok-tally.tally c.in_ok-arbiters.arbiters c.in_ok-arrivals.arrivals c.args.starts.items c.args.ends.items
     c.ports-ports.ensures.grid c.ports-ports.ensures.value c.new-5.ensures.queue c.new-5.ensures.vc
-    c.in_ok-channels.ensures c.new-7.ensures.beats
+    c.in_ok-channels.ensures (ap (replicate 6) c.idle.ensures)
     c.in_ok-tally.ensures
     c.in_ok-arbiters.ensures c.in_ok-arrivals.ensures
     ∙ ap (λ (g : Grid). opening_view (record { grid = g; node = c.args.node; vcs = c.vcs-vcs.result; depth = c.args.depth }) c.args.starts.items c.args.ends.items) c.shape.ensures.value

@@ -1,4 +1,4 @@
-use Rattle.std.proofs.Common.{◌≡◌, ◌+◌, ◌*◌, ℕ, true, Some, ap, sym, ◌∙◌}
+use Rattle.std.proofs.Common.{◌≡◌, ◌+◌, ◌*◌, ℕ, true, ap, sym, ◌∙◌}
 use Rattle.std.proofs.lemmas.Bool.{false≢true}
 use Rattle.noc_vc.specs.Input.{is_active}
 use Rattle.noc_vc.specs.declared.input.InputState.{InputState}
@@ -19,7 +19,7 @@ returns-in-Active-clause-pick c =
     let at = at-pick r v c.args.ready c.args.port c.pick.result c.in_ok-vc.vc c.self.view_is c.self.invariant c.requires.ready c.requires.port c.pick.ensures.pick c.in_ok-vc.was in
     let phase : (view_input v (c.args.port * r.vcs + c.in_ok-vc.vc)).phase ≡ Active c.in-Active.next =
     ap (λ (w : View). (view_input w (c.args.port * r.vcs + c.in_ok-vc.vc)).phase) (sym c.self.view_is) ∙ sym c.in-Active.ensures.value in
-    (at.pick, (at.goes c.in-Active.next phase).0 ∙ ap Some (sym (ap (λ (p : ℕ × ℕ). p.0) c.split.ensures)))
+    (at.pick, (at.goes c.in-Active.next phase).0)
 
 never : (phase state : InputState) → is_active phase ≡ true → state ≡ phase → ((n : ℕ) → state ≡ Active n → ⊥) → ⊥
 never Idle state e is other = false≢true e

@@ -50,7 +50,4 @@ invariant_of-plan c =
     let made : lists_in n ≡ planned_lists c.args.relation.now v =
     lists-made c.args.relation.now c.self.inside v _ _ _ _ (lists_in n) c.self.view_is c.self.invariant c.clear.ensures c.route_heads.ensures c.ask_for_channels.ensures c.ask_for_ports.ensures c.grant.ensures in
     let size : n.size ≡ size_of v.site = ap (λ (x : RequestLists). x.size) made in
-    record {
-      events = λ k e. let l = c.verdicts-plan-inside.ensures.events k e in omega arith;
-      apart = λ k l. c.verdicts-plan-inside.ensures.apart k (omega arith);
-    }
+    λ k e. let l = c.verdicts-plan-inside.ensures.events k e in omega arith

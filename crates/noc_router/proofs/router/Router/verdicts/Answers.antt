@@ -11,7 +11,7 @@ use Rattle.noc_view.specs.Verdict.{ask_of}
 use Rattle.noc_view.specs.View.{View, size_of, view_claim, view_input}
 use Rattle.noc_view.proofs.StandLemmas.{ask_of-stand}
 use Rattle.noc_router.proofs.SwitchLemmas.{picked-moves, picked-ready, picks-below}
-use Rattle.noc_view.proofs.VerdictSetLemmas.{AreVerdicts, apart-on, verdict-on}
+use Rattle.noc_view.proofs.VerdictSetLemmas.{AreVerdicts, verdict-on}
 use Rattle.noc_router.proofs.PlanSetLemmas.{among-both, event-below, given-below, member-passes}
 use Rattle.noc_router.proofs.router.Router.verdicts.Goals as goal
 
@@ -71,5 +71,4 @@ returns c =
     record {
       verdicts = λ k l. verdict-on v round s c.asking-asking.result picked _ k l c.requires.sets (are k l);
       events = λ k e. event-below _ k (size_of v.site) (moved_below k) (granted k) (c.requires.sets.heads_below k) e;
-      apart = λ k l. apart-on v round s c.asking-asking.result picked _ k l c.requires.sets (are k l);
     }

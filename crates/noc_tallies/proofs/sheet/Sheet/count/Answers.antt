@@ -12,7 +12,7 @@ returns-then-slot-lt-SLOTS-clause-counts g c = λ k i l few.
     let value = g.W.Word.value in
     let old = c.args.self.now in
     let slot = old.cycles % 4 in
-    let x = c.note_verdicts.new.verdicts in
+    let x = c.note.new.verdicts in
     let recent = set old.recent slot x in
     let added = added_at value old.tallies (old.cycles / 4) k i in
     let next : (old.cycles + 1) % 2 ^ 32 % 4 ≡ old.cycles % 4 + 1 = omega arith in
@@ -26,14 +26,14 @@ pub returns-then-slot-lt-SLOTS-clause-last : goal.returns-then-slot-lt-SLOTS-cla
 returns-then-slot-lt-SLOTS-clause-last g c = λ k l.
     let old = c.args.self.now in
     subst (AreVerdictsOf (doing_at g.W.Word.value c.args.doings.now k))
-    (sym (last-noted g.W.Word.value old.recent c.note_verdicts.new.verdicts old.cycles k (omega arith))) (c.note_verdicts.ensures k l)
+    (sym (last-noted g.W.Word.value old.recent c.note.new.verdicts old.cycles k (omega arith))) (c.note.ensures k l)
 
 pub returns-clause-counts : goal.returns-clause-counts
 returns-clause-counts g c = λ k i l few.
     let value = g.W.Word.value in
     let old = c.args.self.now in
     let slot = old.cycles % 4 in
-    let x = c.note_verdicts.new.verdicts in
+    let x = c.note.new.verdicts in
     let recent = set old.recent slot x in
     let added = added_at value old.tallies (old.cycles / 4) k i in
     let full : old.cycles % 4 + 1 ≡ 4 = omega arith in
@@ -51,9 +51,9 @@ pub returns-clause-last : goal.returns-clause-last
 returns-clause-last g c = λ k l.
     let value = g.W.Word.value in
     let old = c.args.self.now in
-    let x = c.note_verdicts.new.verdicts in
+    let x = c.note.new.verdicts in
     let last : last_in value c.add_recent.new.self k ≡ verdicts_by (word value k) x
     = ap (λ m. verdicts_in value c.add_recent.new.self.recent ((m + 3) % 4) k) c.add_recent.ensures.cycles
     ∙ ap (λ (xs : List (Verdicts (List g.row.W.Denot))). verdicts_in value xs (((old.cycles + 1) % 2 ^ 32 + 3) % 4) k) c.add_recent.ensures.recent
     ∙ last-noted value old.recent x old.cycles k (omega arith) in
-    subst (AreVerdictsOf (doing_at value c.args.doings.now k)) (sym last) (c.note_verdicts.ensures k l)
+    subst (AreVerdictsOf (doing_at value c.args.doings.now k)) (sym last) (c.note.ensures k l)

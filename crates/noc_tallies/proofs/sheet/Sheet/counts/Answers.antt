@@ -1,4 +1,4 @@
-use Rattle.std.proofs.Common.{◌∙◌, ◌+◌, ◌^◌, ◌/◌, List, [], ap, sym, subst, arith}
+use Rattle.std.proofs.Common.{◌≡◌, ◌∙◌, ◌+◌, ◌%◌, ◌^◌, ◌/◌, List, [], ap, sym, subst, arith}
 use Rattle.std.proofs.lemmas.List.{get_or_default}
 use Rattle.noc_lanes.specs.Channels.{verdicts_by}
 use Rattle.noc_lanes.specs.Lanes.{word}
@@ -9,14 +9,17 @@ use Rattle.noc_tallies.proofs.sheet.Sheet.counts.Goals as goal
 
 pub loop-slot-init : goal.loop-slot-init
 loop-slot-init g c = record {
-  counts = verdicts-same _ _ _ _ _ _ _ _ _ _ c.total.ensures.count c.total-2.ensures.count c.total-3.ensures.count c.total-4.ensures.count c.total-5.ensures.count
+  counts = verdicts-same c.total.ensures.count c.total-2.ensures.count c.total-3.ensures.count c.total-4.ensures.count c.total-5.ensures.count c.total-6.ensures.count c.total-7.ensures.count c.total-8.ensures.count
       ∙ sym (recent-none g.W.Word.value c.args.self.now.recent c.args.lane c.args.channel _);
   small = record {
-    no_credit = c.total.ensures.small;
-    lost_input = c.total-2.ensures.small;
-    lost_switch = c.total-3.ensures.small;
-    moved = c.total-4.ensures.small;
-    lost_channel = c.total-5.ensures.small;
+    routed = c.total.ensures.small;
+    waiting = c.total-2.ensures.small;
+    active = c.total-3.ensures.small;
+    no_credit = c.total-4.ensures.small;
+    lost_input = c.total-5.ensures.small;
+    lost_switch = c.total-6.ensures.small;
+    moved = c.total-7.ensures.small;
+    lost_channel = c.total-8.ensures.small;
   };
 }
 
@@ -41,3 +44,10 @@ loop-slot-preserved g c =
       small = subst (CountsAreBelow (2 ^ 33 + (slot + 1))) (sym c.one_more-counts.ensures)
           (below-more (2 ^ 33 + slot + 1) (2 ^ 33 + (slot + 1)) _ (omega arith) (below-next (2 ^ 33 + slot) _ channel c.loop-slot.counts c.loop-slot.invariant.small));
     }
+
+pub returns : goal.returns
+returns g c =
+    let self = c.args.self.now in
+    let last : c.loop-slot.slot ≡ self.cycles % 4 = omega arith in
+    c.loop-slot.invariant.counts
+    ∙ ap (λ n. with_recent g.W.Word.value self.recent n c.args.lane c.args.channel (added_at g.W.Word.value self.tallies (self.cycles / 4) c.args.lane c.args.channel)) last

@@ -8,13 +8,13 @@ use Rattle.noc_tallies.proofs.tallies.Tallies.counts_of.Goals as goal
 pub counts-requires : goal.counts-requires
 counts-requires g c =
     let one = c.requires.shown in (
-      one.0,
-      subst (λ (v : Verdicts _). ShowsChannel v c.at-times.result c.args.cycles c.args.waits c.args.owns one.0) (sym c.counts-by_bits.ensures)
-          (subst (λ (t : ChannelTimes). ShowsChannel (sheet_counts g.W.Word.value c.args.self.now.sheet c.args.lane c.args.channel) t c.args.cycles c.args.waits c.args.owns one.0) (sym c.at-times.ensures) one.1.channel),
+      one.1,
+      subst (λ (v : Verdicts _). ShowsChannel v c.at-times.result c.args.cycles c.args.waits one.1) (sym c.counts-by_bits.ensures)
+          (subst (λ (t : ChannelTimes). ShowsChannel (sheet_counts g.W.Word.value c.args.self.now.sheet c.args.lane c.args.channel) t c.args.cycles c.args.waits one.1) (sym c.at-times.ensures) one.2.channel),
     )
 
 pub returns : goal.returns
-returns g c = λ counts shows.
+returns g c = λ owns counts shows.
     c.counts.ensures counts
-    (subst (λ (v : Verdicts _). ShowsChannel v c.at-times.result c.args.cycles c.args.waits c.args.owns counts) (sym c.counts-by_bits.ensures)
-    (subst (λ (t : ChannelTimes). ShowsChannel (sheet_counts g.W.Word.value c.args.self.now.sheet c.args.lane c.args.channel) t c.args.cycles c.args.waits c.args.owns counts) (sym c.at-times.ensures) shows.channel))
+    (subst (λ (v : Verdicts _). ShowsChannel v c.at-times.result c.args.cycles c.args.waits counts) (sym c.counts-by_bits.ensures)
+    (subst (λ (t : ChannelTimes). ShowsChannel (sheet_counts g.W.Word.value c.args.self.now.sheet c.args.lane c.args.channel) t c.args.cycles c.args.waits counts) (sym c.at-times.ensures) shows.channel))

@@ -1,4 +1,4 @@
-use Rattle.std.proofs.Common.{◌≡◌, ◌∙◌, [], ap, arith, replicate, subst, sym}
+use Rattle.std.proofs.Common.{◌≡◌, ◌∙◌, [], ap, arith, refl, replicate, subst, sym}
 use Rattle.std.specs.Prelude.{false, slice_index_or}
 use Rattle.std.proofs.lemmas.List.{get_or-replicate}
 use Rattle.noc_sets.specs.Counts.{no_counts}
@@ -17,6 +17,7 @@ returns g c = λ k i n l.
     = ap (λ (r : RouterTimes). channel_in r i) (get_or-replicate 32 k c.none-none.result (record { channels = [] }) l) ∙ c.none-none.ensures i in
     record {
       cycles = omega (arith, c.none.ensures.cycles);
-      channel = subst (λ (v : Verdicts _). ShowsChannel v (channel_in (slice_index_or (replicate 32 c.none-none.result) k (record { channels = [] })) i) n false false no_counts) (sym (c.none.ensures.counts k i l))
-          (subst (λ (t : ChannelTimes). ShowsChannel (alike 0) t n false false no_counts) (sym none) (nothing-counted n));
+      one = refl;
+      channel = subst (λ (v : Verdicts _). ShowsChannel v (channel_in (slice_index_or (replicate 32 c.none-none.result) k (record { channels = [] })) i) n false no_counts) (sym (c.none.ensures.counts k i l))
+          (subst (λ (t : ChannelTimes). ShowsChannel (alike 0) t n false no_counts) (sym none) (nothing-counted n));
     }

@@ -1,16 +1,16 @@
 use Rattle.std.proofs.Common.{◌≡◌, ◌+◌, ◌∙◌, [], ap, arith, get_or-set_other, get_or-set_same, refl, subst, sym}
 use Rattle.std.proofs.lemmas.List.{length-set}
-use Rattle.noc_packet.specs.Set.{has_bit}
 use Rattle.noc_sets.specs.Counts.{with_verdicts}
 use Rattle.noc_lanes.specs.declared.channels.Verdicts.{Verdicts}
 use Rattle.noc_lanes.proofs.PassLemmas.{passed-next, passed-none}
 use Rattle.noc_tallies.specs.Channels.{ShowsChannel}
-use Rattle.noc_tallies.specs.Doings.{owns_after, verdicts_of, waits_after}
+use Rattle.noc_tallies.specs.Doings.{verdicts_of, waits_after}
 use Rattle.noc_tallies.specs.Sheets.{last_in, sheet_counts}
-use Rattle.noc_tallies.specs.Times.{channel_in, times_in, times_waited}
+use Rattle.noc_tallies.specs.Times.{channel_in, times_in}
 use Rattle.noc_tallies.specs.declared.sheet.Sheet.{Sheet}
 use Rattle.noc_tallies.specs.declared.times.ChannelTimes.{ChannelTimes}
 use Rattle.noc_tallies.specs.declared.times.RouterTimes.{RouterTimes}
+use Rattle.noc_tallies.proofs.TimesLemmas.{after_wait}
 use Rattle.noc_tallies.proofs.ChannelLemmas.{channel-waited, runs-on, waited_more}
 use Rattle.noc_tallies.proofs.tallies.Tallies.repeat.Goals as goal
 
@@ -30,8 +30,8 @@ loop-lane-preserved g c =
       sheet = inv.sheet;
       times = λ i. passed-next _ _ _ _ _ t (inv.times i)
           (ap (λ (r : RouterTimes). channel_in r i) (get_or-set_same was t x (record { channels = [] }) (omega (arith, inv.size))) ∙ c.wait.ensures i
-          ∙ ap (λ (v : Verdicts _). times_waited c.args.times (has_bit v.no_credit i) (times_in was t i)) words
-          ∙ ap (times_waited c.args.times (has_bit (last_in value c.args.self.now.sheet t).no_credit i)) ((inv.times i).left t (omega arith)))
+          ∙ ap (λ (v : Verdicts _). after_wait c.args.times v i (times_in was t i)) words
+          ∙ ap (after_wait c.args.times (last_in value c.args.self.now.sheet t) i) ((inv.times i).left t (omega arith)))
           (λ k other. ap (λ (r : RouterTimes). channel_in r i) (get_or-set_other was t k x (record { channels = [] }) other));
     }
 
@@ -43,7 +43,6 @@ returns-clause-counts g c = λ k i n still x before l few can are only shows.
     let times = c.args.times in
     let sets = verdicts_of still x in
     let waits = waits_after still x i in
-    let owns = owns_after still x i in
     let later = waited_more times sets i (with_verdicts sets i before) in
     let done : c.loop-lane.lane ≡ 32 = omega arith in
     let was = shows.cycles in
@@ -52,9 +51,10 @@ returns-clause-counts g c = λ k i n still x before l few can are only shows.
       runs-on times sets i before,
       record {
         cycles = omega (arith, same, was);
-        channel = subst (λ (v : Verdicts _). ShowsChannel v (times_in c.loop-lane.self.times k i) (n + times) waits owns later) (sym (ap (λ (s : Sheet g.row.W.Denot). sheet_counts value s k i) inv.sheet))
-            (subst (λ (t : ChannelTimes). ShowsChannel (sheet_counts value old.sheet k i) t (n + times) waits owns later) (sym ((inv.times i).done k (omega (arith, l, done))))
-            (channel-waited x still can i before only (last_in value old.sheet k) (sheet_counts value old.sheet k i) are (times_in old.times k i) n times few shows.channel));
+        one = shows.one;
+        channel = subst (λ (v : Verdicts _). ShowsChannel v (times_in c.loop-lane.self.times k i) (n + times) waits later) (sym (ap (λ (s : Sheet g.row.W.Denot). sheet_counts value s k i) inv.sheet))
+            (subst (λ (t : ChannelTimes). ShowsChannel (sheet_counts value old.sheet k i) t (n + times) waits later) (sym ((inv.times i).done k (omega (arith, l, done))))
+            (channel-waited x still can i before only (last_in value old.sheet k) (sheet_counts value old.sheet k i) are (times_in old.times k i) n times few shows.one shows.channel));
       },
     )
 

@@ -5,13 +5,13 @@ use Rattle.noc_tallies.specs.declared.times.ChannelTimes.{ChannelTimes}
 use Rattle.noc_tallies.proofs.TimesLemmas.{IsWaited}
 use Rattle.noc_tallies.proofs.times.RouterTimes.wait.Given as goal
 
-abbrev pub invariant-loop-rest : goal.invariant-loop-rest
-invariant-loop-rest g l =
+abbrev pub invariant-loop-waiting : goal.invariant-loop-waiting
+invariant-loop-waiting g l =
     let value = g.W.Word.value in
     record {
       size : length l.self.channels ≡ 64;
-      each : IsEach ChannelTimes (IsWaited l.times (value l.fn.channels) (channel_in l.fn.self)) (channel_in l.fn.self) (channel_in l.self) (value l.fn.channels) (value l.rest);
+      each : IsEach ChannelTimes (IsWaited l.times (value l.waiting) (value l.active) (value l.no_credit) (channel_in l.fn.self)) (channel_in l.fn.self) (channel_in l.self) (value l.initial.rest) (value l.rest);
     }
 
-abbrev pub decreases-loop-rest : goal.decreases-loop-rest
-decreases-loop-rest g l = g.W.Word.value l.rest
+abbrev pub decreases-loop-waiting : goal.decreases-loop-waiting
+decreases-loop-waiting g l = g.W.Word.value l.rest

@@ -1,0 +1,275 @@
+-- Tables by columns.
+use Rattle.std.proofs.Math.Seq.{take-append_seam}
+use Rattle.std.proofs.Common.{◌≡◌, ◌≢◌, ℕ, ◌*◌, ◌+◌, ◌++◌, ◌-◌, ◌<◌, ◌≤◌, ◌/◌, ◌%◌, List, length, get_or, take, drop, set, arith, inl, inr, subst, sym, ap, ◌∙◌, below_more}
+use Rattle.std.specs.Prelude.{◌⊎◌}
+use Rattle.std.proofs.Math.Nat.{mul-le-mul_right, mul_comm, mul_assoc, add-mul, div-lt_iff_lt-mul, mod-lt}
+use Rattle.std.proofs.lemmas.List.{get_or-set_same, get_or-set_other, get_or_default, get_or-take, get_or-drop}
+use Rattle.noc_topo.proofs.ListLemmas.{tabulate-from_each, get_or-tabulate}
+use Rattle.noc_topo.specs.Shape.{nodes, ports}
+use Rattle.noc_route.specs.Columns.{table_of, column_set, IsColumnAt, AreKept, AreKeptTo}
+use Rattle.noc_route.specs.Routes.{width, pages}
+use Rattle.noc_route.specs.declared.sizes.Sizes.{Sizes}
+use Rattle.noc_route.proofs.EntryLemmas.{flat-below, flat-div, flat-mod, pages-few}
+use Rattle.noc_route.proofs.TrimLemmas.{index-parts}
+
+-- the set at a destination, in a block of n rows of w sets, is there
+pub block-below : (block : List ℕ) (t input n nodes width w : ℕ) → n ≡ nodes → width ≡ w → length block ≡ nodes * w → input < w → t < n → t * width + input < length block
+block-below block t input n nodes width w same wide long inside l =
+    let below : t * w + input < nodes * w = flat-below t nodes input w (omega arith) inside in
+    let row : t * width ≡ t * w = ap (λ x. t * x) wide in
+    omega (arith, below, row)
+
+-- ---- reading and writing a column
+
+-- the column of an input of a block stands at `start` as far as destination n
+abbrev pub StandsTo : List ℕ → ℕ → ℕ → List ℕ → ℕ → ℕ → Type 0
+StandsTo block w input sets start n = (t : ℕ) → t < n → get_or sets (start + t) 0 ≡ get_or block (t * w + input) 0
+
+pub stands-more : (block : List ℕ) (width w input : ℕ) (sets : List ℕ) (start n a b : ℕ) → width ≡ w → start + n < length sets → n * width + input < length block
+    → a ≡ get_or sets (start + n) a → b ≡ get_or block (n * width + input) b → a ≡ b → StandsTo block w input sets start n → StandsTo block w input sets start (n + 1)
+stands-more block width w input sets start n a b wide there from at_a at_b same all =
+    below_more (λ t. get_or sets (start + t) 0 ≡ get_or block (t * w + input) 0) n all
+    (sym (get_or_default sets (start + n) a 0 there) ∙ sym at_a ∙ same ∙ at_b ∙ get_or_default block (n * width + input) b 0 from ∙ ap (λ x. get_or block (n * x + input) 0) wide)
+
+-- what is left alone by a column that is written as far as destination n
+abbrev pub LeavesOthers : List ℕ → List ℕ → ℕ → ℕ → Type 0
+LeavesOthers before sets start n = (j : ℕ) → (j < start) ⊎ (start + n ≤ j) → get_or sets j 0 ≡ get_or before j 0
+
+pub written-more : (block : List ℕ) (width w input : ℕ) (sets : List ℕ) (start n b : ℕ) → width ≡ w → start + n < length sets → n * width + input < length block
+    → b ≡ get_or block (n * width + input) b → StandsTo block w input sets start n → StandsTo block w input (set sets (start + n) b) start (n + 1)
+written-more block width w input sets start n b wide there from at_b all =
+    below_more (λ t. get_or (set sets (start + n) b) (start + t) 0 ≡ get_or block (t * w + input) 0) n
+    (λ t l. let other : start + t ≢ start + n = omega arith in get_or-set_other sets (start + n) (start + t) b 0 other ∙ all t l)
+    (get_or-set_same sets (start + n) b 0 there ∙ at_b ∙ get_or_default block (n * width + input) b 0 from ∙ ap (λ x. get_or block (n * x + input) 0) wide)
+
+pub others-more : (before sets : List ℕ) (start n b : ℕ) → LeavesOthers before sets start n → LeavesOthers before (set sets (start + n) b) start (n + 1)
+others-more before sets start n b all j (inl l) = let other : j ≢ start + n = omega arith in get_or-set_other sets (start + n) j b 0 other ∙ all j (inl l)
+others-more before sets start n b all j (inr l) = let other : j ≢ start + n = omega arith in get_or-set_other sets (start + n) j b 0 other ∙ all j (inr (omega arith))
+
+-- ---- the columns of a router and a class
+
+row-next : (i n : ℕ) → (i + 1) * n ≡ i * n + n
+row-next i n = omega arith
+
+-- one more column ends within the block
+column-ends : (first end input w n : ℕ) → input < w → end ≤ first + input * n → end + n ≤ first + n * w
+column-ends first end input w n l few =
+    let rows : (input + 1) * n ≤ w * n = mul-le-mul_right n (omega arith) in
+    omega (arith, few, rows, row-next input n, mul_comm w n)
+
+-- it ends within the table
+pub column-room : (first end input w n size total : ℕ) → input < w → end ≤ first + input * n → size ≡ n * w → first + size ≤ total → end + n ≤ total
+column-room first end input w n size total inside few long room =
+    let last = column-ends first end input w n inside few in
+    omega (arith, last, long, room)
+
+-- the start of an earlier input stays
+start-kept : (starts : List ℕ) (row input start i : ℕ) → i < input → get_or (set starts (row + input) start) (row + i) 0 ≡ get_or starts (row + i) 0
+start-kept starts row input start i l = let other : row + i ≢ row + input = omega arith in get_or-set_other starts (row + input) (row + i) start 0 other
+
+-- what is left alone by one more column is left alone by all so far
+others-kept : (before sets after : List ℕ) (first input end size w n : ℕ) → size ≡ n * w → input < w → first ≤ end → end ≤ first + input * n
+    → ((j : ℕ) → (j < end) ⊎ (end + n ≤ j) → get_or after j 0 ≡ get_or sets j 0)
+    → ((j : ℕ) → (j < first) ⊎ (first + size ≤ j) → get_or sets j 0 ≡ get_or before j 0)
+    → (j : ℕ) → (j < first) ⊎ (first + size ≤ j) → get_or after j 0 ≡ get_or before j 0
+others-kept before sets after first input end size w n long inside grown few left others j (inl l) = left j (inl (omega (arith, l, grown))) ∙ others j (inl l)
+others-kept before sets after first input end size w n long inside grown few left others j (inr l) =
+    let ends = column-ends first end input w n inside few in
+    left j (inr (omega (arith, l, long, ends))) ∙ others j (inr l)
+
+at_most : (a b c : ℕ) → a ≤ b → b ≤ c → a ≤ c
+at_most a b c l k = omega arith
+
+grown_by : (next end first i n : ℕ) → next ≤ end + n → end ≤ first + i * n → next ≤ first + (i + 1) * n
+grown_by next end first i n l k = omega (arith, row-next i n)
+
+inner : (s t n end : ℕ) → t < n → s + n ≤ end → s + t < end
+inner s t n end l k = omega arith
+
+not_last : (c row i : ℕ) → c < row → c ≢ row + i
+not_last c row i l = omega arith
+
+pub kept-more : (f : Sizes) (block before sets after old_starts starts : List ℕ) (pair first input end start next : ℕ)
+    → length block ≡ nodes f.shape * width f.shape f.vcs → input < width f.shape f.vcs → pair * width f.shape f.vcs + input < length starts
+    → start ≤ end → end ≤ next → start + nodes f.shape ≤ next → next ≤ end + nodes f.shape
+    → IsColumnAt f block input after start
+    → ((j : ℕ) → (j < end) ⊎ (end + nodes f.shape ≤ j) → get_or after j 0 ≡ get_or sets j 0)
+    → AreKeptTo f block before sets old_starts starts pair first input end
+    → AreKeptTo f block before after old_starts (set starts (pair * width f.shape f.vcs + input) start) pair first (input + 1) next
+kept-more f block before sets after old_starts starts pair first input end start next long inside there order more last close stands left h =
+    let n = nodes f.shape in
+    let w = width f.shape f.vcs in
+    let new = set starts (pair * w + input) start in
+    let here : get_or new (pair * w + input) 0 ≡ start = get_or-set_same starts (pair * w + input) start 0 there in
+    record {
+      grown = at_most first end next h.grown more;
+      few = grown_by next end first input n close h.few;
+      within =
+          below_more (λ i. get_or new (pair * w + i) 0 + n ≤ next) input
+          (λ i l. subst (λ x. x + n ≤ next) (sym (start-kept starts (pair * w) input start i l)) (at_most (get_or starts (pair * w + i) 0 + n) end next (h.within i l) more))
+          (subst (λ x. x + n ≤ next) (sym here) last);
+      same =
+          below_more (λ i. IsColumnAt f block i after (get_or new (pair * w + i) 0)) input
+          (λ i l. subst (IsColumnAt f block i after) (sym (start-kept starts (pair * w) input start i l))
+          (λ t m. left (get_or starts (pair * w + i) 0 + t) (inl (inner (get_or starts (pair * w + i) 0) t n end m (h.within i l))) ∙ h.same i l t m))
+          (subst (IsColumnAt f block input after) (sym here) stands);
+      others = others-kept before sets after first input end (length block) w n long inside h.grown h.few left h.others;
+      earlier = λ c l. get_or-set_other starts (pair * w + input) c start 0 (not_last c (pair * w) input l) ∙ h.earlier c l;
+    }
+
+-- ---- the columns of one more router and class
+
+-- an index of a block, and of the table
+place-index : (pair n w t i : ℕ) → pair * (n * w) + (t * w + i) ≡ (pair * n + t) * w + i
+place-index pair n w t i =
+    let whole : (pair * n + t) * w ≡ pair * n * w + t * w = add-mul (pair * n) t w in
+    omega (arith, whole, mul_assoc pair n w)
+
+block-end : (pair end next n w : ℕ) → end ≤ pair * (n * w) → next ≤ end + w * n → next ≤ (pair + 1) * (n * w)
+block-end pair end next n w few l = omega (arith, row-next pair (n * w), mul_comm w n)
+
+past-block : (pair end n w j size : ℕ) → size ≡ n * w → end ≤ pair * (n * w) → (pair + 1) * (n * w) ≤ j → end + size ≤ j
+past-block pair end n w j size long few l = omega (arith, row-next pair (n * w))
+
+past-pair : (pair n w j : ℕ) → (pair + 1) * (n * w) ≤ j → pair * (n * w) ≤ j
+past-pair pair n w j l = omega (arith, row-next pair (n * w))
+
+-- what the loop over the routers and classes keeps
+pub record IsKeptSoFar (f : Sizes) (table sets starts : List ℕ) (pair end : ℕ) : Type 0 where
+  pub few : end ≤ pair * (nodes f.shape * width f.shape f.vcs)
+  pub kept : AreKept f table sets starts pair end
+  pub rest : (j : ℕ) → pair * (nodes f.shape * width f.shape f.vcs) ≤ j → get_or sets j 0 ≡ get_or table j 0
+
+pub pairs-more : (f : Sizes) (table sets after block starts new : List ℕ) (pair end next : ℕ)
+    → length block ≡ nodes f.shape * width f.shape f.vcs
+    → ((k : ℕ) → k < nodes f.shape * width f.shape f.vcs → get_or block k 0 ≡ get_or sets (pair * (nodes f.shape * width f.shape f.vcs) + k) 0)
+    → AreKeptTo f block sets after starts new pair end (width f.shape f.vcs) next
+    → IsKeptSoFar f table sets starts pair end → IsKeptSoFar f table after new (pair + 1) next
+pairs-more f table sets after block starts new pair end next long copied g h =
+    let n = nodes f.shape in
+    let w = width f.shape f.vcs in
+    record {
+      few = block-end pair end next n w h.few g.few;
+      kept = record {
+        within = λ q i l m.
+            below_more (λ q. get_or new (q * w + i) 0 + n ≤ next) pair
+            (λ q l. subst (λ x. x + n ≤ next) (sym (g.earlier (q * w + i) (flat-below q pair i w l m))) (at_most (get_or starts (q * w + i) 0 + n) end next (h.kept.within q i l m) g.grown))
+            (g.within i m) q l;
+        same = λ q i t l m k.
+            below_more (λ q. get_or after (get_or new (q * w + i) 0 + t) 0 ≡ get_or table ((q * n + t) * w + i) 0) pair
+            (λ q l. ap (λ s. get_or after (s + t) 0) (g.earlier (q * w + i) (flat-below q pair i w l m))
+            ∙ g.others (get_or starts (q * w + i) 0 + t) (inl (inner (get_or starts (q * w + i) 0) t n end k (h.kept.within q i l m)))
+            ∙ h.kept.same q i t l m k)
+            (g.same i m t k ∙ copied (t * w + i) (flat-below t n i w k m) ∙ h.rest (pair * (n * w) + (t * w + i)) (omega arith)
+            ∙ ap (λ j. get_or table j 0) (place-index pair n w t i))
+            q l;
+      };
+      rest = λ j l. g.others j (inr (past-block pair end n w j (length block) long h.few l)) ∙ h.rest j (past-pair pair n w j l);
+    }
+
+-- ---- the whole table
+
+-- a column of the table, its router and class, and its input
+pair-below : (c p w : ℕ) → 1 ≤ w → c < p * w → c / w < p
+pair-below c p w some l = (div-lt_iff_lt-mul {k = w} {x = c} {y = p} some).1 l
+
+pub all-within : (f : Sizes) (table sets starts : List ℕ) (end : ℕ) → 1 ≤ width f.shape f.vcs → AreKept f table sets starts (nodes f.shape * f.classes) end
+    → (c : ℕ) → c < nodes f.shape * f.classes * width f.shape f.vcs → get_or starts c 0 + nodes f.shape ≤ end
+all-within f table sets starts end some h c l =
+    let w = width f.shape f.vcs in
+    subst (λ x. get_or starts x 0 + nodes f.shape ≤ end) (index-parts w c) (h.within (c / w) (c % w) (pair-below c (nodes f.shape * f.classes) w some l) (mod-lt c some))
+
+pub table-kept : (f : Sizes) (table sets starts : List ℕ) (end : ℕ) → 1 ≤ nodes f.shape → 1 ≤ width f.shape f.vcs
+    → length table ≡ pages f.shape f.classes * width f.shape f.vcs → AreKept f table sets starts (nodes f.shape * f.classes) end
+    → table_of f (take end sets) starts ≡ table
+table-kept f table sets starts end nodes_some some long h =
+    let n = nodes f.shape in
+    let w = width f.shape f.vcs in
+    sym
+    (tabulate-from_each (pages f.shape f.classes * w) (column_set f (take end sets) starts) table 0 long
+    (λ j l.
+    let page = pair-below j (n * f.classes * n) w some l in
+    let q = pair-below (j / w) (n * f.classes) n nodes_some page in
+    let i = mod-lt j some in
+    let t = mod-lt (j / w) nodes_some in
+    let start = get_or starts (j / w / n * w + j % w) 0 in
+    let inside = inner start (j / w % n) n end t (h.within (j / w / n) (j % w) q i) in
+    sym
+    (get_or-take end sets (start + j / w % n) 0 inside
+    ∙ h.same (j / w / n) (j % w) (j / w % n) q i t
+    ∙ ap (λ b. get_or table (b * w + j % w) 0) (index-parts n (j / w))
+    ∙ ap (λ k. get_or table k 0) (index-parts w j))))
+
+-- the set of an entry of the table
+pub table-at : (f : Sizes) (sets starts : List ℕ) (pair t i : ℕ) → pair < nodes f.shape * f.classes → t < nodes f.shape → i < width f.shape f.vcs
+    → get_or (table_of f sets starts) ((pair * nodes f.shape + t) * width f.shape f.vcs + i) 0 ≡ get_or sets (get_or starts (pair * width f.shape f.vcs + i) 0 + t) 0
+table-at f sets starts pair t i l k m =
+    let n = nodes f.shape in
+    let w = width f.shape f.vcs in
+    let j = (pair * n + t) * w + i in
+    let page : pair * n + t < n * f.classes * n = flat-below pair (n * f.classes) t n l k in
+    get_or-tabulate (n * f.classes * n * w) j (column_set f sets starts) 0 (flat-below (pair * n + t) (n * f.classes * n) i w page m)
+    ∙ ap (λ b. get_or sets (get_or starts (b / n * w + j % w) 0 + b % n) 0) (flat-div (pair * n + t) w i m)
+    ∙ ap (λ x. get_or sets (get_or starts ((pair * n + t) / n * w + x) 0 + (pair * n + t) % n) 0) (flat-mod (pair * n + t) w i m)
+    ∙ ap (λ x. get_or sets (get_or starts (x * w + i) 0 + (pair * n + t) % n) 0) (flat-div pair n t k)
+    ∙ ap (λ x. get_or sets (get_or starts (pair * w + i) 0 + x) 0) (flat-mod pair n t k)
+
+-- ---- sizes
+
+-- a router has few channels
+width-few : (p v : ℕ) → p ≤ 7 → v ≤ 8 → p * v ≤ 56
+width-few p v few_ports few_vcs =
+    let all : p * v ≤ 7 * v = mul-le-mul_right v few_ports in
+    omega (arith, all, few_vcs)
+
+some-of : (p v : ℕ) → 1 ≤ p → 1 ≤ v → 1 ≤ p * v
+some-of p v some_ports some_vcs =
+    let all : 1 * v ≤ p * v = mul-le-mul_right v some_ports in
+    omega (arith, all, some_vcs)
+
+pub width-some : (f : Sizes) → 1 ≤ width f.shape f.vcs
+width-some f = some-of (ports f.shape) f.vcs (omega arith) f.some_vcs
+
+-- a table is short
+table-short : (n k w : ℕ) → n ≤ 256 → k ≤ 4 → w ≤ 56 → n * k * n * w ≤ 14680064
+table-short n k w a b few =
+    let all : n * k * n * w ≤ 262144 * w = mul-le-mul_right w (pages-few n k a b).1 in
+    omega (arith, all, few)
+
+pub table-few : (f : Sizes) → pages f.shape f.classes * width f.shape f.vcs ≤ 14680064
+table-few f =
+    table-short (nodes f.shape) f.classes (width f.shape f.vcs) (subst (λ n. n ≤ 256) f.all_nodes f.few_nodes) f.few_classes
+    (width-few (ports f.shape) f.vcs (subst (λ p. p ≤ 7) f.all_ports f.few_ports) f.few_vcs)
+
+-- a block of the table, and the blocks before it
+pub block-room : (f : Sizes) (pair size : ℕ) → pair < f.node_count * f.classes → size ≡ nodes f.shape * width f.shape f.vcs → pair * size + size ≤ pages f.shape f.classes * width f.shape f.vcs
+block-room f pair size l long = at (nodes f.shape) (width f.shape f.vcs) (subst (λ n. pair < n * f.classes) f.all_nodes l) long
+  where
+    at : (n w : ℕ) → pair < n * f.classes → size ≡ n * w → pair * size + size ≤ n * f.classes * n * w
+    at n w l long =
+        let rows : (pair + 1) * size ≤ n * f.classes * size = mul-le-mul_right size (omega arith) in
+        let all : n * f.classes * size ≡ n * f.classes * (n * w) = ap (λ x. n * f.classes * x) long in
+        omega (arith, rows, row-next pair size, all, mul_assoc (n * f.classes) n w)
+
+-- what is kept lies within the table
+pub end-within : (f : Sizes) (pair end : ℕ) → pair ≤ f.node_count * f.classes → end ≤ pair * (nodes f.shape * width f.shape f.vcs) → end ≤ pages f.shape f.classes * width f.shape f.vcs
+end-within f pair end l few = at (nodes f.shape) (width f.shape f.vcs) (subst (λ n. pair ≤ n * f.classes) f.all_nodes l) few
+  where
+    at : (n w : ℕ) → pair ≤ n * f.classes → end ≤ pair * (n * w) → end ≤ n * f.classes * n * w
+    at n w l few =
+        let rows : pair * (n * w) ≤ n * f.classes * (n * w) = mul-le-mul_right (n * w) l in
+        omega (arith, rows, few, mul_assoc (n * f.classes) n w)
+
+-- a block that was copied
+pub copied : (sets block : List ℕ) (pair size row : ℕ) → size ≡ row → block ≡ take (pair * size + size - pair * size) (drop (pair * size) sets)
+    → (k : ℕ) → k < row → get_or block k 0 ≡ get_or sets (pair * row + k) 0
+copied sets block pair size row long same k l =
+    let inside : k < pair * size + size - pair * size = omega (arith, long, l) in
+    ap (λ (xs : List ℕ). get_or xs k 0) same ∙ get_or-take (pair * size + size - pair * size) (drop (pair * size) sets) k 0 inside ∙ get_or-drop (pair * size) sets k 0
+    ∙ ap (λ x. get_or sets (pair * x + k) 0) long
+
+-- ---- lists that stand in a vector
+
+-- what a vector has once its elements were written through a slice
+pub all-written : (xs items : List ℕ) (len : ℕ) → length xs ≡ len → take len (xs ++ drop (length xs) items) ≡ xs
+all-written xs items len long = subst (λ n. take n (xs ++ drop (length xs) items) ≡ xs) long (take-append_seam xs (drop (length xs) items))

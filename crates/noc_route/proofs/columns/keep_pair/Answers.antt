@@ -1,0 +1,45 @@
+use Rattle.std.proofs.Common.{◌+◌, ◌*◌, ◌<◌, length, set, ap, arith, subst, sym}
+use Rattle.noc_topo.specs.Shape.{nodes}
+use Rattle.noc_route.specs.Columns.{AreKeptTo}
+use Rattle.noc_route.specs.Routes.{width}
+use Rattle.noc_route.proofs.EntryLemmas.{flat-below}
+use Rattle.noc_route.proofs.ColumnLemmas.{column-room, kept-more, table-few}
+use Rattle.noc_route.proofs.columns.keep_pair.Goals as goal
+
+pub place-start-requires-clause-room : goal.place-start-requires-clause-room
+place-start-requires-clause-room c =
+    let f = c.args.sizes.now in
+    let w = width f.shape f.vcs in
+    let inside : c.loop-input.input < w = subst (λ x. c.loop-input.input < x) c.width-width.ensures.value c.loop-input-test.true in
+    let room = column-room c.args.first c.loop-input.end c.loop-input.input w (nodes f.shape) (length c.args.block.now) (length c.args.sets.now) inside c.loop-input.invariant.few c.requires.block c.requires.room in
+    omega (arith, room, c.loop-input.auto.sets)
+
+pub overflow_cast-starts : goal.overflow_cast-starts
+overflow_cast-starts c =
+    let f = c.args.sizes.now in
+    let w = width f.shape f.vcs in
+    let inside : c.loop-input.input < w = subst (λ x. c.loop-input.input < x) c.width-width.ensures.value c.loop-input-test.true in
+    let room = column-room c.args.first c.loop-input.end c.loop-input.input w (nodes f.shape) (length c.args.block.now) (length c.args.sets.now) inside c.loop-input.invariant.few c.requires.block c.requires.room in
+    omega (arith, room, c.place-start.ensures.start, c.requires.sets, table-few f)
+
+pub bounds-starts-pair : goal.bounds-starts-pair
+bounds-starts-pair c =
+    let f = c.args.sizes.now in
+    let below = flat-below c.args.pair (nodes f.shape * f.classes) c.loop-input.input c.width-width.result c.requires.pair c.loop-input-test.true in
+    let long = ap (λ w. nodes f.shape * f.classes * w) c.width-width.ensures.value in
+    omega (arith, below, long, c.requires.starts, c.loop-input.auto.starts)
+
+pub loop-input-preserved : goal.loop-input-preserved
+loop-input-preserved c =
+    let f = c.args.sizes.now in
+    let w = width f.shape f.vcs in
+    let start = c.place-start.result in
+    let i = c.loop-input.input in
+    let next = c.max-end.result in
+    let inside : i < w = subst (λ x. i < x) c.width-width.ensures.value c.loop-input-test.true in
+    let below = flat-below c.args.pair (nodes f.shape * f.classes) i w c.requires.pair inside in
+    let there : c.args.pair * w + i < length c.loop-input.starts = omega (arith, below, c.requires.starts, c.loop-input.auto.starts) in
+    subst (λ x. AreKeptTo f c.args.block.now c.args.sets.now c.place-start.new.sets c.args.starts.now (set c.loop-input.starts (c.args.pair * x + i) start) c.args.pair c.args.first (i + 1) next) (sym c.width-width.ensures.value)
+    (kept-more f c.args.block.now c.args.sets.now c.loop-input.sets c.place-start.new.sets c.args.starts.now c.loop-input.starts c.args.pair c.args.first i c.loop-input.end start next
+    c.requires.block inside there c.place-start.ensures.start (omega (arith, c.max-end.ensures)) (omega (arith, c.max-end.ensures, f.all_nodes)) (omega (arith, c.max-end.ensures, f.all_nodes, c.place-start.ensures.start))
+    c.place-start.ensures.kept c.place-start.ensures.others c.loop-input.invariant)

@@ -1,0 +1,193 @@
+//! The table of a relation by columns: the sets of an input channel, by destination.
+
+ghost use Rattle.std.specs.Prelude.{◌≡◌, ◌⊎◌, ℕ, ◌+◌, ◌*◌, ◌<◌, ◌≤◌, IfOk, IfSome, IsTrue, length, slice_index, vec_len};
+ghost use Rattle.noc_topo.specs.Shape.{nodes, ports};
+ghost use Rattle.noc_route.specs.Columns.{table_of, AreColumns, IsColumnAt, AreKept, AreKeptTo};
+ghost use Rattle.noc_route.specs.Gathering.{IsTable};
+ghost use Rattle.noc_route.specs.Routes.{width, entry_index};
+
+use crate::sizes::Sizes;
+use noc_packet::ChannelSet;
+use std::alloc::{AllocError, Global};
+
+// The columns of a table. Equal ones of a router and a class are kept once: in dimension order all
+// channels of an input port have the same.
+#[derive(Drop)]
+pub(crate) struct Columns {
+    pub(crate) sizes: Sizes,
+    sets: Vec<ChannelSet>,
+    starts: Vec<u32>,
+    ghost all: { AreColumns sizes starts.items (vec_len sets) },
+}
+
+impl Columns {
+    // The columns of this table.
+    pub(crate) fn new(
+        alloc: Global,
+        sizes: Sizes,
+        sets: Vec<ChannelSet>,
+    ) -> Result<Columns, AllocError>
+        requires { IsTable sizes sets.items }
+        ensures sizes { IfOk result (λ columns. columns.sizes ≡ sizes) }
+        ensures table { IfOk result (λ c. table_of c.sizes c.sets.items c.starts.items ≡ sets.items) }
+    {
+        let mut sets = sets;
+        let mut block = vec![in alloc; ChannelSet::empty(); sizes.node_count * sizes.width()]?;
+        let mut starts = vec![in alloc; 0u32; sizes.columns()]?;
+        let end = keep(&sizes, &mut sets, &mut block, &mut starts);
+        sets.truncate(end);
+        sets.shrink_to_fit();
+        Ok(Columns {
+            sizes,
+            sets,
+            starts,
+        })
+    }
+
+    // The set of an entry.
+    pub(crate) fn set(
+        &self,
+        class: usize,
+        router: usize,
+        in_port: usize,
+        in_vc: usize,
+        dst: usize,
+    ) -> ChannelSet
+        requires class { class < self.now.sizes.classes }
+        requires router { router < nodes self.now.sizes.shape }
+        requires in_port { in_port < ports self.now.sizes.shape }
+        requires in_vc { in_vc < self.now.sizes.vcs }
+        requires dst { dst < nodes self.now.sizes.shape }
+        ensures { let f = self.now.sizes in result ≡ slice_index (table_of f self.now.sets.items self.now.starts.items) (entry_index f.shape f.vcs f.classes class router in_port in_vc dst) }
+    {
+        let column = self.sizes.column(class, router, in_port, in_vc);
+        self.sets[self.starts[column] as usize + dst]
+    }
+}
+
+// Brings the columns of a table to its front, equal ones of a router and a class once, and writes
+// where each begins. Answers how many sets they have. `block` is room for a router and a class.
+fn keep(
+    sizes: &Sizes,
+    sets: &mut [ChannelSet],
+    block: &mut [ChannelSet],
+    starts: &mut [u32],
+) -> usize
+    requires sets { IsTable sizes.now sets.old }
+    requires block { length block.old ≡ nodes sizes.now.shape * width sizes.now.shape sizes.now.vcs }
+    requires starts { length starts.old ≡ nodes sizes.now.shape * sizes.now.classes * width sizes.now.shape sizes.now.vcs }
+    ensures within { result ≤ length sets.new }
+    ensures kept { AreKept sizes.now sets.old sets.new starts.new (nodes sizes.now.shape * sizes.now.classes) result }
+{
+    let mut end = 0;
+    for pair in 0..sizes.node_count * sizes.classes {
+        let from = pair * block.len();
+        block.copy_from_slice(&sets[from..from + block.len()]);
+        end = keep_pair(sizes, block, sets, starts, pair, end);
+    }
+    end
+}
+
+// Keeps the columns of a router and a class from `first` on, and answers where they end.
+fn keep_pair(
+    sizes: &Sizes,
+    block: &[ChannelSet],
+    sets: &mut [ChannelSet],
+    starts: &mut [u32],
+    pair: usize,
+    first: usize,
+) -> usize
+    requires block { length block.now ≡ nodes sizes.now.shape * width sizes.now.shape sizes.now.vcs }
+    requires sets { IsTable sizes.now sets.old }
+    requires starts { length starts.old ≡ nodes sizes.now.shape * sizes.now.classes * width sizes.now.shape sizes.now.vcs }
+    requires pair { pair < nodes sizes.now.shape * sizes.now.classes }
+    requires room { first + length block.now ≤ length sets.old }
+    ensures { let f = sizes.now in AreKeptTo f block.now sets.old sets.new starts.old starts.new pair first (width f.shape f.vcs) result }
+{
+    let width = sizes.width();
+    let mut end = first;
+    for input in 0..width {
+        let start = place(sizes, block, input, sets, first, end);
+        starts[pair * width + input] = start as u32;
+        end = end.max(start + sizes.node_count);
+    }
+    end
+}
+
+// Where the column of an input is kept: with an equal one of those from `first` on, or at their end.
+fn place(
+    sizes: &Sizes,
+    block: &[ChannelSet],
+    input: usize,
+    sets: &mut [ChannelSet],
+    first: usize,
+    end: usize,
+) -> usize
+    requires block { length block.now ≡ nodes sizes.now.shape * width sizes.now.shape sizes.now.vcs }
+    requires input { input < width sizes.now.shape sizes.now.vcs }
+    requires order { first ≤ end }
+    requires room { end + nodes sizes.now.shape ≤ length sets.old }
+    ensures start { result ≤ end }
+    ensures kept { IsColumnAt sizes.now block.now input sets.new result }
+    ensures others { (j : ℕ) → (j < end) ⊎ (end + nodes sizes.now.shape ≤ j) → slice_index sets.new j ≡ slice_index sets.old j }
+{
+    match find(sizes, block, input, &sets[first..end]) {
+        Some(offset) => first + offset,
+        None => {
+            write(sizes, block, input, sets, end);
+            end
+        }
+    }
+}
+
+// Where the column of an input stands among others, of which the last is looked at first.
+fn find(sizes: &Sizes, block: &[ChannelSet], input: usize, kept: &[ChannelSet]) -> Option<usize>
+    requires block { length block.now ≡ nodes sizes.now.shape * width sizes.now.shape sizes.now.vcs }
+    requires input { input < width sizes.now.shape sizes.now.vcs }
+    ensures within { IfSome result (λ start. start + nodes sizes.now.shape ≤ length kept.now) }
+    ensures same { IfSome result (IsColumnAt sizes.now block.now input kept.now) }
+{
+    for k in 0..kept.len() / sizes.node_count {
+        let start = kept.len() - (k + 1) * sizes.node_count;
+        if is_at(sizes, block, input, kept, start) {
+            return Some(start);
+        }
+    }
+    None
+}
+
+// Whether the column of an input stands there.
+fn is_at(
+    sizes: &Sizes,
+    block: &[ChannelSet],
+    input: usize,
+    kept: &[ChannelSet],
+    start: usize,
+) -> bool
+    requires block { length block.now ≡ nodes sizes.now.shape * width sizes.now.shape sizes.now.vcs }
+    requires input { input < width sizes.now.shape sizes.now.vcs }
+    requires start { start + nodes sizes.now.shape ≤ length kept.now }
+    ensures { IsTrue result → IsColumnAt sizes.now block.now input kept.now start }
+{
+    let width = sizes.width();
+    for dst in 0..sizes.node_count {
+        if kept[start + dst] != block[dst * width + input] {
+            return false;
+        }
+    }
+    true
+}
+
+// Writes the column of an input.
+fn write(sizes: &Sizes, block: &[ChannelSet], input: usize, sets: &mut [ChannelSet], start: usize)
+    requires block { length block.now ≡ nodes sizes.now.shape * width sizes.now.shape sizes.now.vcs }
+    requires input { input < width sizes.now.shape sizes.now.vcs }
+    requires start { start + nodes sizes.now.shape ≤ length sets.old }
+    ensures written { IsColumnAt sizes.now block.now input sets.new start }
+    ensures others { (j : ℕ) → (j < start) ⊎ (start + nodes sizes.now.shape ≤ j) → slice_index sets.new j ≡ slice_index sets.old j }
+{
+    let width = sizes.width();
+    for dst in 0..sizes.node_count {
+        sets[start + dst] = block[dst * width + input];
+    }
+}

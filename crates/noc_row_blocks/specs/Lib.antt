@@ -1,9 +1,0 @@
-pub mod Arrive
-pub mod Outlook
-pub mod Moves
-pub mod Routed
-pub mod Carried
-pub mod Switched
-pub mod Cycle
-pub mod Stages
-pub mod Decided

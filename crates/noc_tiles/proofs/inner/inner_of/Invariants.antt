@@ -1,9 +1,0 @@
-use Rattle.std.proofs.Common.{map}
-use Rattle.noc_tiles.specs.Ends.{outlet}
-use Rattle.noc_tiles.specs.TileStep.{arrival_ports}
-use Rattle.noc_tiles.proofs.InnerLemmas.{AreInnerTo}
-use Rattle.noc_tiles.proofs.inner.inner_of.Given as goal
-
--- none of the wires before this one begins at an inner router
-abbrev pub invariant-loop-k : goal.invariant-loop-k
-invariant-loop-k l = AreInnerTo l.relation.grid l.first l.count (arrival_ports (map outlet l.outs.items)) l.k l.inner
