@@ -3,14 +3,17 @@ use Rattle.std.proofs.Common.{◌≡◌, ℕ, ◌+◌, ◌-◌, ◌^◌, ◌<◌
 use Rattle.std.specs.Prelude.{nat_lt, if◌then◌else◌}
 use Rattle.std.proofs.lemmas.Bool.{cases_eq, le-ltb, lt-ltb}
 use Rattle.std.proofs.lemmas.List.{get_or-set_other, get_or-set_same, length-set}
-use Rattle.noc_topo.specs.Lists.{map_indexed}
-use Rattle.noc_topo.proofs.ListLemmas.{get_or-map_indexed, length-map_indexed, map_indexed-from_each}
+use Rattle.noc_topo.specs.Lists.{map_indexed, tabulate}
+use Rattle.noc_topo.proofs.ListLemmas.{get_or-map_indexed, get_or-tabulate, length-map_indexed, length-tabulate, map_indexed-from_each}
+use Rattle.noc_vc.specs.Input.{Input}
 use Rattle.noc_view.specs.Verdict.{column}
-use Rattle.noc_view.specs.View.{counts_after}
+use Rattle.noc_view.specs.Found.{empty_finding, finding_at}
+use Rattle.noc_view.specs.View.{PlanContents, counts_after}
 use Rattle.noc_view.specs.declared.finding.Finding.{Finding}
 use Rattle.noc_view.specs.declared.verdict.Verdict.{Verdict}
 use Rattle.noc_view.proofs.ColumnLemmas.{column-small, sum-raised}
-use Rattle.noc_router.specs.Tally.{IsTally}
+use Rattle.noc_router.specs.Settled.{finding_by, planned_verdict}
+use Rattle.noc_router.specs.Tally.{HaveVerdicts, IsTally}
 
 -- with room, one of the counts of a channel rises
 pub raised-is : (v : Verdict) (xs : List ℕ) → sum xs < 2 ^ 64 - 1 → set xs (column v) (get_or xs (column v) 0 + 1) ≡ counts_after v xs
@@ -70,3 +73,9 @@ counted-more verdict old now n xs l so_far is = record {
 
 pub counted-all : (verdict : ℕ → Verdict) (old now : List (List ℕ)) → length now ≡ length old → AreCountedTo verdict old now (length old) → now ≡ map_indexed (λ i xs. counts_after (verdict i) xs) old
 counted-all verdict old now same all = map_indexed-from_each (λ i xs. counts_after (verdict i) xs) old now [] [] same (λ i l. all.done i l)
+
+-- what is found with a plan has its verdicts
+pub found-verdicts : (p : PlanContents) (vcs n : ℕ) (inputs : List Input) (findings : List Finding) → findings ≡ tabulate n (finding_by p vcs inputs) → HaveVerdicts (planned_verdict p) findings
+found-verdicts p vcs n inputs findings are i l =
+    let many : length findings ≡ n = ap length are ∙ length-tabulate n (finding_by p vcs inputs) in
+    ap (λ (xs : List Finding). (finding_at xs i).verdict) are ∙ ap (λ (one : Finding). one.verdict) (get_or-tabulate n i (finding_by p vcs inputs) empty_finding (omega (arith, l, many)))

@@ -1,8 +1,10 @@
 -- What a router counts of its input channels, and what it finds of them.
 use Rattle.std.specs.Prelude.{◌≡◌, ℕ, ◌^◌, ◌<◌, ◌≤◌, List, [], sum, length, replicate, slice_index_or}
 use Rattle.noc_packet.specs.declared.limits.TheConstants.{INDICES}
+use Rattle.noc_view.specs.Found.{finding_at}
 use Rattle.noc_view.specs.View.{PlanContents}
 use Rattle.noc_view.specs.declared.finding.Finding.{Finding}
+use Rattle.noc_view.specs.declared.verdict.Verdict.{Verdict}
 use Rattle.noc_router.specs.declared.channels.Channels.{Channels}
 
 -- the ten counts of each channel, and what was found of each in the last cycle: nothing before the
@@ -28,3 +30,8 @@ pub record IsPlanOf (router : Channels) (size : ℕ) (p : PlanContents) : Type 0
   pub channels : router.size ≡ size
   pub asks : length p.asks ≡ size
   pub verdicts : length p.verdicts ≡ size
+
+-- what is found of the channels has these verdicts
+abbrev pub HaveVerdicts : (ℕ → Verdict) → List Finding → Type 0
+HaveVerdicts verdict findings =
+    (i : ℕ) → i < length findings → (finding_at findings i).verdict ≡ verdict i

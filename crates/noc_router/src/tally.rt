@@ -1,10 +1,10 @@
 //! What a router has counted and found.
 
-ghost use Rattle.std.specs.Prelude.{◌≡◌, ◌-◌, ◌^◌, ◌<◌, ◌≤◌, All, IfOk, [], length, slice_index_or, sum};
+ghost use Rattle.std.specs.Prelude.{◌≡◌, ℕ, ◌-◌, ◌^◌, ◌<◌, ◌≤◌, All, IfOk, [], length, slice_index_or, sum};
 ghost use Rattle.noc_packet.specs.declared.limits.TheConstants.{INDICES};
 ghost use Rattle.noc_topo.specs.Lists.{map_indexed, tabulate};
 ghost use Rattle.noc_router.specs.Settled.{finding_by, planned_verdict};
-ghost use Rattle.noc_router.specs.Tally.{IsPlanOf, empty_tally};
+ghost use Rattle.noc_router.specs.Tally.{HaveVerdicts, IsPlanOf, empty_tally};
 ghost use Rattle.noc_view.specs.View.{counts_after};
 
 use crate::channels::Channels;
@@ -60,7 +60,7 @@ impl Tally {
         find_all(&mut self.findings, channels, vcs, plan);
         if self.cycles < u64::MAX {
             self.cycles += 1;
-            count_all(&mut self.counts, plan);
+            count_all(&mut self.counts, &self.findings);
         }
     }
 
@@ -95,23 +95,22 @@ fn find_all(findings: &mut [Finding], channels: &Channels, vcs: usize, plan: &Pl
     }
 }
 
-// One more cycle of each channel, with its verdict.
-fn count_all(counts: &mut [[u64; VERDICTS]], plan: &Plan)
-    requires plan { length plan.now.verdicts ≡ length counts.old }
+// One more cycle of each channel, with the verdict that was found.
+fn count_all(counts: &mut [[u64; VERDICTS]], findings: &[Finding])
+    requires findings { length findings.now ≡ length counts.old }
     requires room { All (λ one. sum one < 2 ^ 64 - 1) counts.old }
-    ensures { counts.new ≡ map_indexed (λ i one. counts_after (planned_verdict plan.now i) one) counts.old }
+    ensures { (verdict : ℕ → Verdict) → HaveVerdicts verdict findings.now
+        → counts.new ≡ map_indexed (λ i one. counts_after (verdict i) one) counts.old }
 {
     for index in 0..counts.len() {
-        counts[index] = raised(counts[index], plan.verdict(index));
+        raise(&mut counts[index], findings[index].verdict);
     }
 }
 
-// The counts of a channel after one more cycle with this verdict.
-fn raised(counts: [u64; VERDICTS], verdict: Verdict) -> [u64; VERDICTS]
-    requires { sum counts < 2 ^ 64 - 1 }
-    ensures { result ≡ counts_after verdict counts }
+// A channel has one more cycle with this verdict.
+fn raise(counts: &mut [u64; VERDICTS], verdict: Verdict)
+    requires { sum counts.old < 2 ^ 64 - 1 }
+    ensures { counts.new ≡ counts_after verdict counts.old }
 {
-    let mut raised = counts;
-    raised[verdict as usize] += 1;
-    raised
+    counts[verdict as usize] += 1;
 }

@@ -8,7 +8,7 @@ use Rattle.noc_router.specs.Settled.{finding_by, planned_verdict}
 use Rattle.noc_router.specs.Tally.{IsPlanOf, IsTally, TallyContents}
 use Rattle.noc_view.specs.View.{counts_after}
 use Rattle.noc_view.specs.declared.finding.Finding.{Finding}
-use Rattle.noc_router.proofs.TallyLemmas.{full-same, noted-tally}
+use Rattle.noc_router.proofs.TallyLemmas.{found-verdicts, full-same, noted-tally}
 use Rattle.noc_router.proofs.tally.Tally.note.Goals as goal
 
 pub find_all-requires-clause-plan : goal.find_all-requires-clause-plan
@@ -23,9 +23,12 @@ invariant_of-self c =
     let f : ℕ → List ℕ → List ℕ = λ i one. counts_after (verdict i) one in
     let found : List Finding = (with_items t.findings c.find_all.new.findings).items in
     let kept : found ≡ c.find_all.new.findings = with_items_is t.findings c.find_all.new.findings (omega (arith, c.find_all.auto.findings, c.deref_mut.ensures.len)) in
+    let g : ℕ → Finding = finding_by c.args.plan.now c.args.vcs c.args.channels.now.inputs.items in
+    let n : length c.deref_mut.result.now ≡ length t.counts.items = ap length c.deref_mut.ensures.value ∙ c.self.invariant.found in
+    let is : found ≡ tabulate (length t.counts.items) g = kept ∙ c.find_all.ensures ∙ ap (λ m. tabulate m g) n in
     let counted : (with_items t.counts c.count_all.new.counts).items ≡ map_indexed f t.counts.items =
     with_items_is t.counts c.count_all.new.counts (omega (arith, c.count_all.auto.counts, c.deref_mut-then-self-lt18446744073709551615.ensures.len))
-    ∙ c.count_all.ensures ∙ ap (map_indexed f) c.deref_mut-then-self-lt18446744073709551615.ensures.value in
+    ∙ c.count_all.ensures (planned_verdict c.args.plan.now) (found-verdicts c.args.plan.now c.args.vcs (length t.counts.items) c.args.channels.now.inputs.items c.deref.result.now (c.deref.ensures.value ∙ is)) ∙ ap (map_indexed f) c.deref_mut-then-self-lt18446744073709551615.ensures.value in
     subst (λ xs. IsTally (t.cycles + 1) xs found) (sym counted)
     (noted-tally verdict t.cycles t.counts.items t.findings.items found c.self.invariant (omega (arith, c.if-self-lt18446744073709551615.true))
     (ap length kept ∙ c.find_all.auto.findings ∙ ap length c.deref_mut.ensures.value))
@@ -41,7 +44,7 @@ returns-then-self-lt18446744073709551615 c =
     with_items_is t.findings c.find_all.new.findings (omega (arith, c.find_all.auto.findings, c.deref_mut.ensures.len)) ∙ c.find_all.ensures ∙ ap (λ m. tabulate m g) n in
     let counted : (with_items t.counts c.count_all.new.counts).items ≡ map_indexed f t.counts.items =
     with_items_is t.counts c.count_all.new.counts (omega (arith, c.count_all.auto.counts, c.deref_mut-then-self-lt18446744073709551615.ensures.len))
-    ∙ c.count_all.ensures ∙ ap (map_indexed f) c.deref_mut-then-self-lt18446744073709551615.ensures.value in
+    ∙ c.count_all.ensures (planned_verdict c.args.plan.now) (found-verdicts c.args.plan.now c.args.vcs (length t.counts.items) c.args.channels.now.inputs.items c.deref.result.now (c.deref.ensures.value ∙ is)) ∙ ap (map_indexed f) c.deref_mut-then-self-lt18446744073709551615.ensures.value in
     let some : nat_eq (t.cycles + 1) 0 ≡ false = ne_eqb (t.cycles + 1) 0 (λ e. absurd (omega (arith, e))) in
     ap (λ xs. record { counts = xs; findings = if nat_eq (t.cycles + 1) 0 then [] else found }) counted
     ∙ ap (λ b. record { counts = map_indexed f t.counts.items; findings = if b then [] else found }) some
