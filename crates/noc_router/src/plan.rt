@@ -5,7 +5,7 @@
 //! the view, so `commit` reads them there. A whole cycle is defined by `Decisions`, which adds
 //! findings; `decisions-are` proves once that both agree.
 
-ghost use Rattle.std.specs.Prelude.{◌≡◌, ℕ, ◌<◌, IfOk, IfSome, length, slice_index, slice_index_or, None};
+ghost use Rattle.std.specs.Prelude.{◌≡◌, ℕ, ◌<◌, IsOkAnd, IfSome, length, slice_index, slice_index_or, None};
 ghost use Rattle.noc_topo.specs.Shape.{ports as ports_of};
 ghost use Rattle.noc_packet.specs.Set.{has_bit};
 ghost use Rattle.noc_packet.specs.declared.limits.TheConstants.{INDICES};
@@ -45,10 +45,10 @@ impl Model for Plan {
 }
 
 impl Plan {
-    /// A plan without requests, of a router of this relation's network. It
-    /// takes no memory from `alloc`.
+    /// A plan without requests, of a router of this relation's network. It takes no memory from
+    /// `alloc`, so it is never refused.
     pub fn new(alloc: Global, relation: &Relation) -> Result<Plan, Memory>
-        ensures { IfOk result (λ plan. plan ≡ empty_plan_contents (ports_of relation.now.grid) relation.now.vcs) }
+        ensures { IsOkAnd result (λ plan. plan ≡ empty_plan_contents (ports_of relation.now.grid) relation.now.vcs) }
     {
         let _ = alloc;
         let mut plan = Plan {
