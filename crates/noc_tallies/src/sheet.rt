@@ -12,7 +12,7 @@ use noc_lanes::{LANES, Lanes, Tally, Verdicts, Word, alike};
 const SLOTS: usize = 4;
 
 // How often the channels of a block had each verdict.
-#[derive(Drop)]
+#[derive(Clone, Copy)]
 pub(crate) struct Sheet<T> {
     // The verdicts of the cycles after those that were added, and of the last one.
     recent: [Verdicts<Lanes<T>>; SLOTS],

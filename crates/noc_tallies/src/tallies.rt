@@ -18,7 +18,7 @@ use noc_lanes::{LANES, Word};
 pub const CYCLES: u32 = 1 << 31;
 
 /// How often each channel of the routers of a block had each verdict.
-#[derive(Drop)]
+#[derive(Clone, Copy)]
 pub struct Tallies<T> {
     // By bits.
     sheet: Sheet<T>,

@@ -1,5 +1,5 @@
 -- What is to happen in a block, lane by lane.
-use Rattle.std.proofs.Common.{◌≡◌, ◌≢◌, ℕ, ◌+◌, ◌%◌, ◌^◌, ◌<◌, ◌≤◌, Bool, true, false, refl, ap, arith, inl, inr, subst, sym, ◌∙◌, bit_or, mod-eq_of_lt}
+use Rattle.std.proofs.Common.{◌≡◌, ◌≢◌, ℕ, ◌+◌, ◌^◌, ◌<◌, ◌≤◌, Bool, true, false, refl, ap, arith, inl, inr, sym, ◌∙◌, bit_or}
 use Rattle.std.specs.Prelude.{◌⊎◌, ◌||◌, not, nat_eq, nat_le, if◌then◌else◌}
 use Rattle.std.proofs.lemmas.Bool.{cases_eq, cases_lt, eq-eqb, false≢true, le-leb, lt-leb, ne_eqb, true≢false}
 use Rattle.noc_packet.specs.Set.{has_bit}
@@ -87,15 +87,12 @@ least-next numbers most j low number now was is few now_is = at (cases_lt low nu
         same : now ≡ low
         same = now_is ∙ ap (λ b. if b then number else low) (lt-leb number low l)
 
-pub least-all : (numbers : ℕ → ℕ) (most j low result : ℕ) → j ≡ 32 → ((k : ℕ) → k < 32 → numbers k < 2 ^ 32) → IsLeastBelow numbers most j low → result ≡ low % 2 ^ 32 → IsLeastOf numbers result
-least-all numbers most j low result all fit is e = at is.one
+pub least-all : (numbers : ℕ → ℕ) (most j low : ℕ) → j ≡ 32 → IsLeastBelow numbers most j low → IsLeastOf numbers low
+least-all numbers most j low all is = at is.one
   where
-    at : ((j ≡ 0) × (low ≡ most)) ⊎ ((k : ℕ) × (k < j) × (numbers k ≡ low)) → IsLeastOf numbers result
+    at : ((j ≡ 0) × (low ≡ most)) ⊎ ((k : ℕ) × (k < j) × (numbers k ≡ low)) → IsLeastOf numbers low
     at (inl none) = absurd (omega (arith, all, none.0))
-    at (inr some) =
-        let small : low < 2 ^ 32 = subst (λ n. n < 2 ^ 32) some.2 (fit some.0 (omega (arith, all, some.1))) in
-        let same : result ≡ low = e ∙ mod-eq_of_lt small in
-        record {
-          below = λ k l. subst (λ n. n ≤ numbers k) (sym same) (is.below k (omega (arith, all, l)));
-          one = (some.0, omega (arith, all, some.1), some.2 ∙ sym same);
-        }
+    at (inr some) = record {
+      below = λ k l. is.below k (omega (arith, all, l));
+      one = (some.0, omega (arith, all, some.1), some.2);
+    }

@@ -8,7 +8,7 @@ ghost use Rattle.noc_turns.specs.States.{lane_of, working_of};
 
 use crate::state::{State, Work};
 use noc_blocks::has_some;
-use noc_lanes::{LANES, Lanes, Word, at};
+use noc_lanes::{LANES, Word, at};
 
 /// What is known of a block after a cycle.
 #[derive(Clone, Copy)]
@@ -37,48 +37,42 @@ pub fn outlook_of<W: Word>(state: &State<W>, work: &Work<W>) -> Outlook
     let moves = has_some(&work.moves.moved);
     let heads = work.pending.heading != 0;
     let grants = has_some(&work.decided.granted);
+    let (holds, due) = held_and_due(state);
     Outlook {
-        holds: holds_some(state),
+        holds,
         moves,
         happened: work.came | heads | grants | moves,
-        due: least_of(&state.sources.words.due),
+        due,
     }
 }
 
-// Whether a channel of a block waits or is active, or a packet is being injected.
+// Whether a channel of a block waits or is active, or a packet is being injected, and the first
+// cycle in which a packet is due. (It is one loop, since of one for the least number alone the
+// compiler makes a chain of comparisons, lane by lane.)
 #[inline(always)]
-fn holds_some<W: Word>(state: &State<W>) -> bool
-    ensures { TellsSome (λ k. held_in (lane_of W.value state.now k)) result }
+fn held_and_due<W: Word>(state: &State<W>) -> (bool, u32)
+    requires { (k : ℕ) → k < LANES → (lane_of W.value state.now k).words.due < 2 ^ 32 }
+    ensures holds { TellsSome (λ k. held_in (lane_of W.value state.now k)) result.0 }
+    ensures due { IsLeastOf (λ k. (lane_of W.value state.now k).words.due) result.1 }
 {
-    let waiting = has_some(&state.inputs.waiting);
-    let active = has_some(&state.inputs.active);
-    let injecting = has_some(&state.sources.words.injecting);
-    waiting | active | injecting
-}
-
-// The least number of a row.
-#[inline(always)]
-fn least_of<W: Word>(row: &Lanes<W>) -> u32
-    requires { (k : ℕ) → k < LANES → word W.value k row.now < 2 ^ 32 }
-    ensures { IsLeastOf (λ k. word W.value k row.now) result }
-{
-    let mut least = W::all();
+    let mut held = W::none();
+    let mut least = u32::MAX;
     for j in 0..LANES {
-        let number = at(row, j);
-        least = lesser(number, least);
+        let waiting = at(&state.inputs.waiting, j);
+        let active = at(&state.inputs.active, j);
+        let injecting = at(&state.sources.words.injecting, j);
+        let here = waiting.or(active).or(injecting);
+        held = held.or(here);
+        let due = at(&state.sources.words.due, j);
+        least = lesser(due.lanes(), least);
     }
-    least.lanes()
+    (!held.is_none(), least)
 }
 
 // The lesser of two numbers.
 #[inline(always)]
-fn lesser<W: Word>(number: W, other: W) -> W
-    ensures { W.value result
-        ≡ (if nat_le (W.value number) (W.value other) then W.value number else W.value other) }
+fn lesser(number: u32, other: u32) -> u32
+    ensures { result ≡ (if nat_le number other then number else other) }
 {
-    if number.is_at_most(other) {
-        number
-    } else {
-        other
-    }
+    if number <= other { number } else { other }
 }

@@ -6,7 +6,7 @@ use noc_lanes::{
 };
 
 /// What the routers of a block are between two cycles.
-#[derive(Drop)]
+#[derive(Clone, Copy)]
 pub struct State<W: Word> {
     /// Their input channels.
     pub inputs: Inputs<Lanes<W>>,
@@ -21,7 +21,7 @@ pub struct State<W: Word> {
 }
 
 /// What the routers of a block work out in a cycle.
-#[derive(Drop)]
+#[derive(Clone, Copy)]
 pub struct Work<W: Word> {
     /// What the links bring.
     pub links: Links<Lanes<W>>,
