@@ -37,9 +37,6 @@ or-crossed a b c d = same-word _ _ (λ k. or-members4 a b c d k ∙ crossed (has
 pub or-zero : (a : ℕ) → bit_or a 0 ≡ a
 or-zero a = same-word _ _ (λ k. either_members a 0 k ∙ ap (λ b. has_bit a k || b) (has_bit-zero k) ∙ or-none (has_bit a k))
 
-pub zero-or : (a : ℕ) → bit_or 0 a ≡ a
-zero-or a = same-word _ _ (λ k. either_members 0 a k ∙ ap (λ b. b || has_bit a k) (has_bit-zero k))
-
 and-zero : (a : ℕ) → bit_and a 0 ≡ 0
 and-zero a = zero_from_none (bit_and a 0) (λ k. both_members a 0 k ∙ ap (λ b. has_bit a k && b) (has_bit-zero k) ∙ off (has_bit a k))
   where

@@ -24,9 +24,6 @@ use noc_lanes::{
     Decided, Inputs, LANES, Lanes, Outputs, Word, alike, at, first_in_turn, put, where_some,
 };
 
-// The requests for each output channel, and an entry for none.
-const REQUESTS: usize = PLACES + 1;
-
 // What is asked for.
 #[derive(Clone, Copy)]
 struct Asked<W> {
@@ -39,7 +36,7 @@ struct Asked<W> {
 }
 
 // Each waiting channel asks for the least idle channel of its set.
-fn ask<W: Word>(waiting: W, idle: W, sets: &[W; PLACES], requests: &mut [W; REQUESTS]) -> Asked<W>
+fn ask<W: Word>(waiting: W, idle: W, sets: &[W; PLACES], requests: &mut [W; PLACES]) -> Asked<W>
     requires { (o : ℕ) → word W.value o requests.old ≡ 0 }
     ensures { AreAsks (has_bit (W.value waiting)) (W.value idle) (λ k. word W.value k sets.now)
         (λ o. word W.value o requests.new) (W.value result.outs) (W.value result.inputs)
@@ -54,7 +51,8 @@ fn ask<W: Word>(waiting: W, idle: W, sets: &[W; PLACES], requests: &mut [W; REQU
         let set = entry(sets, input);
         let free = set.and(idle);
         let asks = where_some(free, W::one(input));
-        let out = free.least_or_bits();
+        // (Where none is free, nothing is added to what stands there.)
+        let out = free.least_or_bits() % PLACES;
         let others = entry(requests, out);
         note(requests, out, others.or(asks));
         outs = outs.or(free.lowest());
@@ -118,7 +116,7 @@ fn grant_all<W: Word>(
     numbering: &Numbering,
     lane: usize,
     outs: W,
-    requests: &[W; REQUESTS],
+    requests: &[W; PLACES],
     marks: &mut Marks<W>,
     sends: &mut Sends<Lanes<W>>,
 ) -> W
@@ -179,7 +177,7 @@ fn allocate_router<W: Word>(
         (plane_number (digits_of (word W.value lane) sends.new.vc)) }
     ensures others { (j : ℕ) → j ≢ lane → IsSameSends W.value sends.old sends.new j }
 {
-    let mut requests = [W::none(); REQUESTS];
+    let mut requests = [W::none(); PLACES];
     let asked = ask(waiting, idle, &marks.set, &mut requests);
     let granted = grant_all(numbering, lane, asked.outs, &requests, marks, sends);
     Allocated {

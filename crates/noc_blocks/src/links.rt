@@ -58,15 +58,12 @@ pub fn gather<W: Word>(
     ensures nothing { (k : ℕ) → k < LANES → BringsNothing W.value links k sides.now
         → word W.value k into.new ≡ 0 }
 {
-    let mut all = alike(W::none());
-    gather_side(width, links, &sides.straight, row, &mut all);
-    gather_rings(width, links, sides, row, &mut all);
-    *into = all;
+    gather_sides(width, links, sides, row, into);
 }
 
-// What the neighbours at the other end of a ring bring, where there are rings.
+// What both sides bring. (The loop over ports is unrolled where their number is known.)
 #[inline(always)]
-fn gather_rings<W: Word>(
+fn gather_sides<W: Word>(
     width: u32,
     links: usize,
     sides: &Sides<Lanes<W>>,
@@ -78,37 +75,115 @@ fn gather_rings<W: Word>(
     requires row { FitsRow links sides.now.straight.starts sides.now.round.starts }
     ensures { (k : ℕ) → k < LANES
         → word W.value k into.new
-        ≡ bit_or (word W.value k into.old) (if sides.now.closes then union_from 0 links
-        (brought_by W.value W.bits width sides.now.round row.now k) else 0) }
+        ≡ bit_or (union_from 0 links
+        (brought_by W.value W.bits width sides.now.straight row.now k)) (if sides.now.closes
+        then union_from 0 links (brought_by W.value W.bits width sides.now.round row.now k)
+        else 0) }
 {
-    if sides.closes {
-        gather_side(width, links, &sides.round, row, into);
+    match links {
+        2 => gather_by(width, links, 2, sides, row, into),
+        4 => gather_by(width, links, 4, sides, row, into),
+        6 => gather_by(width, links, 6, sides, row, into),
+        _ => gather_any(width, links, sides, row, into),
     }
 }
 
-// What the neighbours at one distance bring. (The loop over ports is unrolled where their number is
-// known.)
-#[inline(always)]
-fn gather_side<W: Word>(
+// .. by any number of ports. (A call of its own, so that the others save no registers for it.)
+#[inline(never)]
+fn gather_any<W: Word>(
     width: u32,
     links: usize,
-    side: &Side<Lanes<W>>,
+    sides: &Sides<Lanes<W>>,
     row: &[W; ROW],
     into: &mut Lanes<W>,
 )
     requires width { width < W.bits }
     requires links { links ≤ PORTS }
-    requires row { (q : ℕ) → q < links → slice_index side.now.starts q + LANES ≤ ROW }
+    requires row { FitsRow links sides.now.straight.starts sides.now.round.starts }
     ensures { (k : ℕ) → k < LANES
         → word W.value k into.new
-        ≡ bit_or (word W.value k into.old)
-        (union_from 0 links (brought_by W.value W.bits width side.now row.now k)) }
+        ≡ bit_or (union_from 0 links
+        (brought_by W.value W.bits width sides.now.straight row.now k)) (if sides.now.closes
+        then union_from 0 links (brought_by W.value W.bits width sides.now.round row.now k)
+        else 0) }
 {
-    match links {
-        2 => join_side(width, links, 2, side, row, into),
-        4 => join_side(width, links, 4, side, row, into),
-        6 => join_side(width, links, 6, side, row, into),
-        count => join_side(width, links, count, side, row, into),
+    gather_by(width, links, links, sides, row, into);
+}
+
+// .. by so many ports. (What is brought is in a value of its own before it is written, as the
+// compiler does not know that it is written nowhere into the row.)
+#[inline(always)]
+fn gather_by<W: Word>(
+    width: u32,
+    links: usize,
+    count: usize,
+    sides: &Sides<Lanes<W>>,
+    row: &[W; ROW],
+    into: &mut Lanes<W>,
+)
+    requires width { width < W.bits }
+    requires links { links ≤ PORTS }
+    requires count { count ≡ links }
+    requires row { FitsRow links sides.now.straight.starts sides.now.round.starts }
+    ensures { (k : ℕ) → k < LANES
+        → word W.value k into.new
+        ≡ bit_or (union_from 0 links
+        (brought_by W.value W.bits width sides.now.straight row.now k)) (if sides.now.closes
+        then union_from 0 links (brought_by W.value W.bits width sides.now.round row.now k)
+        else 0) }
+{
+    let mut all = brought_all(width, links, count, &sides.straight, row);
+    join_rings(width, links, count, sides, row, &mut all);
+    *into = all;
+}
+
+// What the neighbours at one distance bring, lane by lane.
+#[inline(always)]
+fn brought_all<W: Word>(
+    width: u32,
+    links: usize,
+    count: usize,
+    side: &Side<Lanes<W>>,
+    row: &[W; ROW],
+) -> Lanes<W>
+    requires width { width < W.bits }
+    requires links { links ≤ PORTS }
+    requires count { count ≡ links }
+    requires row { (q : ℕ) → q < links → slice_index side.now.starts q + LANES ≤ ROW }
+    ensures { (k : ℕ) → k < LANES
+        → word W.value k result
+        ≡ union_from 0 links (brought_by W.value W.bits width side.now row.now k) }
+{
+    let starts = side.starts;
+    let mut all = alike(W::none());
+    for j in 0..LANES {
+        let comes = brought_to(width, count, &starts, &side.masks, row, j);
+        put(&mut all, j, comes);
+    }
+    all
+}
+
+// What the neighbours at the other end of a ring bring too, where there are rings.
+#[inline(always)]
+fn join_rings<W: Word>(
+    width: u32,
+    links: usize,
+    count: usize,
+    sides: &Sides<Lanes<W>>,
+    row: &[W; ROW],
+    into: &mut Lanes<W>,
+)
+    requires width { width < W.bits }
+    requires links { links ≤ PORTS }
+    requires count { count ≡ links }
+    requires row { FitsRow links sides.now.straight.starts sides.now.round.starts }
+    ensures { (k : ℕ) → k < LANES
+        → word W.value k into.new
+        ≡ bit_or (word W.value k into.old) (if sides.now.closes then union_from 0 links
+        (brought_by W.value W.bits width sides.now.round row.now k) else 0) }
+{
+    if sides.closes {
+        join_side(width, links, count, &sides.round, row, into);
     }
 }
 

@@ -6,7 +6,7 @@ use Rattle.noc_blocks.proofs.LoopLemmas.{fits-most}
 use Rattle.noc_blocks.proofs.allocate.allocate_router.Goals as goal
 
 pub ask-asked-requires : goal.ask-asked-requires
-ask-asked-requires g c = (search rules, (search rules, λ o. requests-empty g.W.Word.value 65 _ c.none-requests.ensures o))
+ask-asked-requires g c = (search rules, λ o. requests-empty g.W.Word.value 64 _ c.none-requests.ensures o)
 
 pub grant_all-granted-requires : goal.grant_all-granted-requires
 grant_all-granted-requires g c = (
