@@ -80,11 +80,11 @@ AreSound-changed : (size : ℕ) (sets next : Sets) (buffers : List (List Flit)) 
     → IsMarked sets.active next.active i (is_active x.phase) → IsMarked sets.supplied next.supplied i (is_supplied after x.phase)
     → AreBelow size next.idle → ((o : ℕ) → o < size → has_bit next.idle o ≡ is_free (slice_index_or after o ejection_output).holder)
     → ((k : ℕ) → k < size → k ≢ i → is_supplied after (slice_index_or inputs k idle_input).phase ≡ is_supplied outputs (slice_index_or inputs k idle_input).phase)
-    → is_within size x.phase ≡ true → is_worm_of x flits ≡ true
+    → is_within size x.phase ≡ true → is_worm_of x flits ≡ true → (is_occupied x flits ≡ false → x.packet ≡ None)
     → ((o : ℕ) → o < size → owns x.phase o ≡ is_owned_from (slice_index_or after o ejection_output).holder i)
     → ((k o : ℕ) → o < size → k ≢ i → is_owned_from (slice_index_or after o ejection_output).holder k ≡ is_owned_from (slice_index_or outputs o ejection_output).holder k)
     → AreSound size next (slice_set buffers i flits) (slice_set inputs i x) after
-AreSound-changed size sets next buffers inputs outputs after i x flits s rings each l filled waiting active supplied idle_below idle_is supplies within worm owned others =
+AreSound-changed size sets next buffers inputs outputs after i x flits s rings each l filled waiting active supplied idle_below idle_is supplies within worm gone owned others =
     let in_rings : i < length buffers = omega arith in
     let in_inputs : i < length inputs = omega arith in
     record {
@@ -108,6 +108,9 @@ AreSound-changed size sets next buffers inputs outputs after i x flits s rings e
       worms = each-set (λ k input. k < size → is_worm_of input (slice_index_or (slice_set buffers i flits) k []) ≡ true) inputs i x idle_input in_inputs
           (λ _. rw (get_or-set_same buffers i flits [] in_rings) worm)
           (λ k n u. rw (get_or-set_other buffers i k flits [] n) (s.worms k u));
+      vacant = each-set (λ k input. k < size → is_occupied input (slice_index_or (slice_set buffers i flits) k []) ≡ false → input.packet ≡ None) inputs i x idle_input in_inputs
+          (λ _. rw (get_or-set_same buffers i flits [] in_rings) gone)
+          (λ k n u. rw (get_or-set_other buffers i k flits [] n) (s.vacant k u));
     }
   where
     owner : (k o : ℕ) → o < size → is_owned_from (slice_index_or after o ejection_output).holder k ≡ true → (k ≡ i) ⊎ (k ≢ i) → k < size
@@ -120,16 +123,16 @@ AreSound-input : (size : ℕ) (sets next : Sets) (buffers : List (List Flit)) (i
     → IsMarked sets.filled next.filled i (not (is_empty flits)) → IsMarked sets.waiting next.waiting i (is_waiting x.phase)
     → next.active ≡ sets.active → next.supplied ≡ sets.supplied → next.idle ≡ sets.idle
     → is_active x.phase ≡ is_active (slice_index_or inputs i idle_input).phase → is_supplied outputs x.phase ≡ is_supplied outputs (slice_index_or inputs i idle_input).phase
-    → is_within size x.phase ≡ true → is_worm_of x flits ≡ true
+    → is_within size x.phase ≡ true → is_worm_of x flits ≡ true → (is_occupied x flits ≡ false → x.packet ≡ None)
     → ((o : ℕ) → owns x.phase o ≡ owns (slice_index_or inputs i idle_input).phase o)
     → AreSound size next (slice_set buffers i flits) (slice_set inputs i x) outputs
-AreSound-input size sets next buffers inputs outputs i x flits s rings each l filled waiting same_active same_supplied same_idle acts has within worm owned =
+AreSound-input size sets next buffers inputs outputs i x flits s rings each l filled waiting same_active same_supplied same_idle acts has within worm gone owned =
     AreSound-changed size sets next buffers inputs outputs outputs i x flits s rings each l filled waiting
     (record { at = ap (λ set. has_bit set i) same_active ∙ s.active_is i l ∙ sym acts; others = λ k n. ap (λ set. has_bit set k) same_active })
     (record { at = ap (λ set. has_bit set i) same_supplied ∙ s.supplied_is i l ∙ sym has; others = λ k n. ap (λ set. has_bit set k) same_supplied })
     (subst (AreBelow size) (sym same_idle) s.idle_below)
     (λ o u. ap (λ set. has_bit set o) same_idle ∙ s.idle_is o u)
-    (λ k u n. refl) within worm
+    (λ k u n. refl) within worm gone
     (λ o u. owned o ∙ s.owners i o l u) (λ k o u n. refl)
 
 -- an output channel that a packet does not own says nothing of its supply
@@ -144,19 +147,19 @@ AreSound-turned : (size : ℕ) (sets next : Sets) (buffers : List (List Flit)) (
     → IsMarked sets.filled next.filled i (not (is_empty flits)) → IsMarked sets.waiting next.waiting i (is_waiting x.phase)
     → IsMarked sets.active next.active i (is_active x.phase) → IsMarked sets.supplied next.supplied i (is_supplied (slice_set outputs o y) x.phase)
     → IsMarked sets.idle next.idle o (is_free y.holder)
-    → is_within size x.phase ≡ true → is_worm_of x flits ≡ true
+    → is_within size x.phase ≡ true → is_worm_of x flits ≡ true → (is_occupied x flits ≡ false → x.packet ≡ None)
     → owns x.phase o ≡ is_owned_from y.holder i
     → ((q : ℕ) → q ≢ o → owns x.phase q ≡ owns (slice_index_or inputs i idle_input).phase q)
     → ((k : ℕ) → k ≢ i → is_owned_from (slice_index_or outputs o ejection_output).holder k ≡ false)
     → ((k : ℕ) → k ≢ i → is_owned_from y.holder k ≡ false)
     → AreSound size next (slice_set buffers i flits) (slice_set inputs i x) (slice_set outputs o y)
-AreSound-turned size sets next buffers inputs outputs i o x flits y s rings each outs l u filled waiting active supplied idle within worm owned rest before after =
+AreSound-turned size sets next buffers inputs outputs i o x flits y s rings each outs l u filled waiting active supplied idle within worm gone owned rest before after =
     let inside : o < length outputs = omega arith in
     AreSound-changed size sets next buffers inputs outputs (slice_set outputs o y) i x flits s rings each l filled waiting active supplied
     (below-marked size sets.idle next.idle o _ u idle s.idle_below)
     (marked-each (λ (output : Output). is_free output.holder) size sets.idle next.idle o outputs y ejection_output inside idle s.idle_is)
     (λ k v n. is_supplied-other outputs o y (slice_index_or inputs k idle_input).phase (s.owners k o v u ∙ before k n))
-    within worm
+    within worm gone
     (each-set (λ q (output : Output). q < size → owns x.phase q ≡ is_owned_from output.holder i) outputs o y ejection_output inside (λ _. owned) (λ q n v. rest q n ∙ s.owners i q l v))
     (λ k q v n. each-set (λ j (output : Output). is_owned_from output.holder k ≡ is_owned_from (slice_index_or outputs j ejection_output).holder k) outputs o y ejection_output inside
     (after k n ∙ sym (before k n))
@@ -188,6 +191,7 @@ AreSound-output size sets idle supplied buffers inputs outputs o y s each l mark
       owners = λ i k u v. each-set (λ j (output : Output). j < size → owns (slice_index_or inputs i idle_input).phase j ≡ is_owned_from output.holder i) outputs o y ejection_output inside
           (λ w. s.owners i o u w ∙ sym (owned i)) (λ j n w. s.owners i j u w) k v;
       worms = s.worms;
+      vacant = s.vacant;
     }
 
 -- ---- flits of one packet
@@ -285,7 +289,12 @@ AreSound-landed size sets before after inputs outputs filled i old new f s rings
     refl refl refl refl refl
     (s.owned_below i l)
     (is_worm-landed (is_some input.packet) (is_some input.awaited) flits f (s.worms i l) (ap (λ (x : Input). is_empty flits || is_some x.awaited) (sym at) ∙ more))
+    (λ off. absurd (false≢true (sym off ∙ occupied (is_idle_phase input.phase) (is_empty (flits ++ f ∷ [])) (not_empty-more flits f))))
     (λ o. refl))
+  where
+    occupied : (a b : Bool) → b ≡ false → not (a && b) ≡ true
+    occupied true b e = ap not e
+    occupied false b e = refl
 
 -- the packet of an idle channel that holds a flit
 pub packet-there : (size : ℕ) (sets : Sets) (bank : Buffers) (inputs : List Input) (outputs : List Output) (i : ℕ) (old : Input)
@@ -313,6 +322,7 @@ AreSound-routed size sets bank inputs outputs waiting i set old new s rings each
     refl refl refl (ap is_active (sym was)) (ap (is_supplied outputs) (sym was))
     refl
     (s.worms i l)
+    (λ off. absurd (false≢true (sym off)))
     (λ o. ap (λ p. owns p o) (sym was))))
 
 is_waiting-nothing : (phase : InputState) → is_waiting phase ≡ true → (o : ℕ) → owns phase o ≡ false
@@ -351,6 +361,7 @@ AreSound-granted size sets next bank inputs outputs i o p old new out after s ri
     (record { at = idle.at ∙ ap is_free (sym holder); others = idle.others })
     (lt-ltb o size u)
     (s.worms i l)
+    (λ off. absurd (false≢true (sym off)))
     (eq-eqb o o refl ∙ sym (ap (λ h. is_owned_from h i) holder ∙ eq-eqb i i refl))
     (λ q n. ne_eqb o q (λ e. n (sym e)) ∙ sym (is_waiting-nothing input.phase waits q))
     (λ k n. is_free-nobody (slice_index_or outputs o ejection_output).holder free k)
@@ -540,6 +551,7 @@ AreSound-sent size sets next before after inputs outputs i o old new out left f 
     idle
     (within_then f.last (s.owned_below i l))
     (worm_then f.last refl worm)
+    (gone_then f.last)
     (owner_then f.last (s.owners i o l u) ∙ ap (λ (x : Output). is_owned_from x.holder i) (sym leaves))
     (λ q n. other_then f.last q (ne_eqb o q (λ e. n (sym e))))
     alone
@@ -564,6 +576,10 @@ AreSound-sent size sets next before after inputs outputs i o old new out left f 
     worm_then : (last : Bool) → f.last ≡ last → is_worm_of (slice_index_or inputs i idle_input) (f ∷ buffer_at after i) ≡ true → is_worm_of (if last then idle_input else slice_index_or inputs i idle_input) (buffer_at after i) ≡ true
     worm_then true e w = ap (is_worm false false) (is_worm-tail (is_some (slice_index_or inputs i idle_input).packet) (is_some (slice_index_or inputs i idle_input).awaited) f (buffer_at after i) w e).0
     worm_then false e w = is_worm-rest (is_some (slice_index_or inputs i idle_input).packet) (is_some (slice_index_or inputs i idle_input).awaited) f (buffer_at after i) w
+
+    gone_then : (last : Bool) → is_occupied (if last then idle_input else slice_index_or inputs i idle_input) (buffer_at after i) ≡ false → (if last then idle_input else slice_index_or inputs i idle_input).packet ≡ None
+    gone_then true off = refl
+    gone_then false off = absurd (false≢true (sym off ∙ ap (λ p. not (is_idle_phase p && is_empty (buffer_at after i))) phase))
 
     owner_then : (last : Bool) → owns (slice_index_or inputs i idle_input).phase o ≡ is_owned_from (slice_index_or outputs o ejection_output).holder i
         → owns (if last then idle_input else slice_index_or inputs i idle_input).phase o ≡ is_owned_from (output_after_spend last (slice_index_or outputs o ejection_output)).holder i
@@ -622,6 +638,20 @@ occupied-is size sets buffers inputs outputs first all s firsts alls i l =
     at (Waiting set) false = refl
     at (Active o) true = refl
     at (Active o) false = refl
+
+-- they are below the size
+pub occupied-below : (size : ℕ) (sets : Sets) (buffers : List (List Flit)) (inputs : List Input) (outputs : List Output) (first all : ℕ)
+    → AreSound size sets buffers inputs outputs
+    → ((k : ℕ) → has_bit first k ≡ (has_bit sets.filled k || has_bit sets.waiting k)) → ((k : ℕ) → has_bit all k ≡ (has_bit first k || has_bit sets.active k))
+    → AreBelow size all
+occupied-below size sets buffers inputs outputs first all s firsts alls = λ k is.
+    one_of (k < size) (has_bit first k) (has_bit sets.active k)
+    (λ e. one_of (k < size) (has_bit sets.filled k) (has_bit sets.waiting k) (s.filled_below k) (s.waiting_below k) (sym (firsts k) ∙ e))
+    (s.active_below k) (sym (alls k) ∙ is)
+  where
+    one_of : (P : Type 0) (a b : Bool) → (a ≡ true → P) → (b ≡ true → P) → (a || b) ≡ true → P
+    one_of P true b f g e = f refl
+    one_of P false b f g e = g e
 
 -- what the input channels can go on with
 pub AreReadySets-by : (size : ℕ) (sets : Sets) (buffers : List (List Flit)) (inputs : List Input) (outputs : List Output) (sendable rest : ℕ) (t : ReadySets)
@@ -719,4 +749,5 @@ AreSound-opening size links depth sets bank inputs outputs few filled waiting ac
       owner_below = λ i o l from. absurd (false≢true (sym (ap (λ h. is_owned_from h i) (holder o l)) ∙ from));
       owners = λ i o l u. ap (λ (x : Input). owns x.phase o) (input i l) ∙ sym (ap (λ h. is_owned_from h i) (holder o u));
       worms = λ i l. ap (λ (x : Input). is_worm_of x (buffer_at bank i)) (input i l) ∙ ap (is_worm_of idle_input) (empty i l);
+      vacant = λ i l off. ap (λ (x : Input). x.packet) (input i l);
     }

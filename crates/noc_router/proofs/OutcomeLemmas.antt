@@ -1,5 +1,5 @@
 -- What the outcome of a view says of its channels, and the decisions that it is rebuilt to.
-use Rattle.std.proofs.Common.{◌≡◌, ℕ, ◌<◌, ◌≤◌, true, List, [], length, get_or, Option, None, refl, ap, sym, ◌∙◌, arith, inl, inr, subst}
+use Rattle.std.proofs.Common.{◌≡◌, ℕ, ◌<◌, ◌≤◌, Bool, true, false, List, [], length, get_or, Option, None, refl, ap, sym, ◌∙◌, arith, inl, inr, subst}
 use Rattle.std.specs.Prelude.{◌⊎◌, ◌&&◌, not, option_map, nat_eq}
 use Rattle.std.proofs.lemmas.Bool.{cases_lt, false≢true}
 use Rattle.std.proofs.lemmas.List.{get_or_past}
@@ -8,14 +8,16 @@ use Rattle.noc_topo.specs.Lists.{map_indexed, tabulate}
 use Rattle.noc_topo.proofs.ListLemmas.{get_or-map_indexed, get_or-tabulate, length-map_indexed, length-tabulate, map_indexed-from_each, tabulate-from_each}
 use Rattle.noc_packet.specs.Set.{has_bit}
 use Rattle.noc_route.specs.Routes.{Routes}
+use Rattle.noc_vc.specs.Input.{is_empty, is_idle_phase}
 use Rattle.noc_vc.specs.declared.input.InputState.{InputState}
 use Rattle.noc_vc.specs.declared.input.InputState.TheVariants.{Idle, Waiting, Active}
 use Rattle.noc_router.specs.Decided.{IsDecidedFor}
 use Rattle.noc_router.specs.Settled.{CanTakeEffect, AreContentsFor, decisions_by, effect_of, finding_by, found_with, planned_verdict, view_after_tally}
 use Rattle.noc_router.specs.Sound.{out_in}
 use Rattle.noc_view.specs.Found.{empty_finding}
+use Rattle.noc_view.specs.States.{is_occupied}
 use Rattle.noc_view.specs.Verdict.{ask_of, out_of, is_event, verdict_of}
-use Rattle.noc_view.specs.View.{View, PlanContents, Decisions, claim_in, counts_after, decided_verdict, finding_of, plan_contents, decisions_of, port_and_vc, route_of, size_of, view_claim, view_input, view_round, idle_beats}
+use Rattle.noc_view.specs.View.{View, PlanContents, Decisions, claim_in, counts_after, decided_verdict, finding_of, plan_contents, decisions_of, port_and_vc, route_of, size_of, view_buffer, view_claim, view_input, view_round, idle_beats}
 use Rattle.noc_view.specs.declared.verdict.Verdict.{Verdict}
 use Rattle.noc_view.specs.declared.verdict.Verdict.TheVariants.{Empty}
 use Rattle.noc_view.specs.declared.finding.Finding.{Finding}
@@ -61,6 +63,16 @@ outcome-ask p v i is l = ap (λ (x : PlanContents). get_or x.asks i None) is.is 
 -- the verdict on it
 outcome-verdict : (p : PlanContents) (v : View) (i : ℕ) → AreContentsFor p v → i < size_of v.site → planned_verdict p i ≡ verdict_of v.site.vcs p.round i (view_claim v i) (holds_flit v i)
 outcome-verdict p v i is l = sym (decided-outcome p v i l) ∙ decided-is (decisions_by p v) v i (lists_of p v is) l
+
+-- the verdict on one that holds nothing
+pub outcome-vacant : (p : PlanContents) (v : View) (i : ℕ) → AreContentsFor p v → i < size_of v.site → is_occupied (view_input v i) (view_buffer v i) ≡ false → planned_verdict p i ≡ Empty
+outcome-vacant p v i is l off = outcome-verdict p v i is l ∙ at (view_input v i).phase (is_empty (view_buffer v i)) off
+  where
+    at : (phase : InputState) (empty : Bool) → not (is_idle_phase phase && empty) ≡ false → verdict_of v.site.vcs p.round i (claim_in v phase) (not empty) ≡ Empty
+    at Idle true e = refl
+    at Idle false e = absurd (false≢true (sym e))
+    at (Waiting set) empty e = absurd (false≢true (sym e))
+    at (Active o) empty e = absurd (false≢true (sym e))
 
 -- what is found of it, by its state
 pub outcome-finding : (p : PlanContents) (v : View) (i : ℕ) → AreContentsFor p v → i < size_of v.site → finding_by p v.site.vcs v.inputs i ≡ found_with v (planned_verdict p i) i

@@ -1,6 +1,6 @@
 -- What is true of the channels of one router: what its sets of channels have, and which input
 -- channel owns which output channel.
-use Rattle.std.specs.Prelude.{◌≡◌, ◌≢◌, ℕ, ◌<◌, ◌≤◌, ◌/◌, ◌%◌, ◌⊎◌, Bool, true, ◌&&◌, not, length, List, [], ◌∷◌, find, Option, Some, None, is_some, option_map, slice_index_or, if◌then◌else◌}
+use Rattle.std.specs.Prelude.{◌≡◌, ◌≢◌, ℕ, ◌<◌, ◌≤◌, ◌/◌, ◌%◌, ◌⊎◌, Bool, true, false, ◌&&◌, not, length, List, [], ◌∷◌, find, Option, Some, None, is_some, option_map, slice_index_or, if◌then◌else◌}
 use Rattle.noc_topo.specs.Lists.{below}
 use Rattle.noc_packet.specs.Set.{has_bit}
 use Rattle.noc_packet.specs.declared.packet.Flit.{Flit}
@@ -13,7 +13,7 @@ use Rattle.noc_alloc.specs.Sparse.{AreBelow}
 use Rattle.noc_router.specs.Members.{is_within}
 use Rattle.noc_view.specs.declared.verdict.Verdict.{Verdict}
 use Rattle.noc_view.specs.declared.finding.Finding.{Finding}
-use Rattle.noc_view.specs.States.{owns, is_owned_from, is_supplied}
+use Rattle.noc_view.specs.States.{is_occupied, owns, is_owned_from, is_supplied}
 
 -- the sizes of one router's channels: how many there are, how many of their output channels go on
 -- links, and the depth of each buffer
@@ -126,3 +126,4 @@ pub record AreSound (size : ℕ) (sets : Sets) (buffers : List (List Flit)) (inp
   pub owner_below : (i o : ℕ) → o < size → is_owned_from (slice_index_or outputs o ejection_output).holder i ≡ true → i < size
   pub owners : (i o : ℕ) → i < size → o < size → owns (slice_index_or inputs i idle_input).phase o ≡ is_owned_from (slice_index_or outputs o ejection_output).holder i
   pub worms : (i : ℕ) → i < size → is_worm_of (slice_index_or inputs i idle_input) (slice_index_or buffers i []) ≡ true
+  pub vacant : (i : ℕ) → i < size → is_occupied (slice_index_or inputs i idle_input) (slice_index_or buffers i []) ≡ false → (slice_index_or inputs i idle_input).packet ≡ None

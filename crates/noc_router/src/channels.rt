@@ -18,6 +18,7 @@ ghost use Rattle.noc_router.specs.Members.{is_within};
 ghost use Rattle.noc_router.specs.Sound.{nth_input, nth_output, CanHold, CanInject, CanRoute, CanSend, IsMarked, KeepsAwaiting, AreSizes, AreSound, asked_in};
 ghost use Rattle.noc_router.specs.Settled.{finding_by};
 ghost use Rattle.noc_view.specs.ReadySets.{AreReadySets};
+ghost use Rattle.noc_view.specs.States.{is_occupied};
 
 use crate::plan::Plan;
 use noc_packet::{ChannelSet, Flit, Memory};
@@ -82,16 +83,20 @@ impl Channels {
         })
     }
 
+    // The input channels that hold a packet or a flit.
+    pub(crate) fn occupied(&self) -> ChannelSet
+        ensures below { AreBelow self.now.size result }
+        ensures members { (i : ℕ) → i < self.now.size → has_bit result i ≡ is_occupied (nth_input self.now.inputs.items i) (buffer_at self.now.bank i) }
+    {
+        self.filled.either(self.waiting).either(self.active)
+    }
+
     // Whether an input channel is idle with an empty buffer.
     pub(crate) fn is_vacant(&self, index: usize) -> bool
         requires { index < self.now.size }
         ensures { result ≡ (is_idle_phase (nth_input self.now.inputs.items index).phase && is_empty (buffer_at self.now.bank index)) }
     {
-        !self
-            .filled
-            .either(self.waiting)
-            .either(self.active)
-            .contains(index)
+        !self.occupied().contains(index)
     }
 
     // What the input channels that hold something can go on with.

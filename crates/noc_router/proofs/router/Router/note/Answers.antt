@@ -7,7 +7,7 @@ use Rattle.noc_router.specs.Inside.{view_of}
 use Rattle.noc_router.specs.Settled.{AreContentsFor, decisions_by, finding_by, planned_verdict, view_after_tally}
 use Rattle.noc_router.specs.Tally.{TallyContents}
 use Rattle.noc_view.specs.View.{counts_after, idle_beat, size_of}
-use Rattle.noc_router.proofs.OutcomeLemmas.{counted-outcome, found-outcome, outcome-decided}
+use Rattle.noc_router.proofs.OutcomeLemmas.{counted-outcome, found-outcome, outcome-decided, outcome-vacant}
 use Rattle.noc_router.proofs.WholeLemmas.{size_view}
 use Rattle.noc_router.proofs.RouterLemmas.{IsRouter-counted}
 use Rattle.noc_router.proofs.router.Router.note.Goals as goal
@@ -17,11 +17,13 @@ note-requires-clause-plan c =
     let r = c.self.inside in
     let h = c.self.invariant in
     let size : size_of c.args.self.now.site ≡ r.ports * r.vcs = size_view r c.args.self.now c.self.view_is h in
+    let own : size_of (view_of r).site ≡ r.ports * r.vcs = ap (λ n. n * r.vcs) (sym h.ports) in
     let decided = outcome-decided c.args.plan.now c.args.self.now c.requires in
     record {
       channels = h.channels ∙ sym h.counts;
       asks = decided.asks ∙ size ∙ sym h.counts;
       verdicts = decided.verdicts ∙ size ∙ sym h.counts;
+      vacant = λ k l. outcome-vacant c.args.plan.now (view_of r) k (subst (AreContentsFor c.args.plan.now) (sym c.self.view_is) c.requires) (omega (arith, l, h.counts, own));
     }
 
 pub invariant_of-self : goal.invariant_of-self
