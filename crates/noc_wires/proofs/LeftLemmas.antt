@@ -1,11 +1,12 @@
 -- Rows of what has left all routers.
-use Rattle.std.proofs.Common.{◌≡◌, ℕ, zero, suc, ◌+◌, ◌*◌, ◌/◌, ◌%◌, ◌<◌, ◌≤◌, List, map, replicate, refl, ap, arith, inl, inr}
+use Rattle.std.proofs.Common.{◌≡◌, ℕ, zero, suc, ◌+◌, ◌*◌, ◌/◌, ◌%◌, ◌<◌, ◌≤◌, List, [], ◌∷◌, map, replicate, refl, ap, arith, inl, inr}
 use Rattle.std.specs.Prelude.{◌⊎◌, ◌-◌, slice_index}
 use Rattle.std.proofs.lemmas.Bool.{cases_lt}
 use Rattle.noc_topo.specs.Shape.{Grid, IsGrid, local_port, nodes, ports}
 use Rattle.noc_sets.specs.Cycle.{Links}
 use Rattle.noc_sets.specs.Gather.{gathered, gathered_row}
 use Rattle.noc_sets.proofs.GatherLemmas.{row-gathered}
+use Rattle.noc_lanes.specs.Lanes.{word}
 use Rattle.noc_lanes.specs.declared.channels.Links.{Links as Brought}
 
 -- ---- one word at all places
@@ -13,6 +14,12 @@ pub row-alike : {A : Type 0} (value : A → ℕ) (n : ℕ) (x : A) → value x �
 row-alike value zero x none p = refl
 row-alike value (suc n) x none zero = none
 row-alike value (suc n) x none (suc p) = row-alike value n x none p
+
+-- ---- the word at a place
+pub word-mapped : {A : Type 0} (value : A → ℕ) (row : List A) (p : ℕ) → word value p row ≡ slice_index (map value row) p
+word-mapped value [] p = refl
+word-mapped value (x ∷ row) zero = refl
+word-mapped value (x ∷ row) (suc p) = word-mapped value row p
 
 -- ---- three words
 pub left-same : (f t c f' t' c' : ℕ) → f ≡ f' → t ≡ t' → c ≡ c' → ◌≡◌ {A = Links} (record { flits = f; tails = t; credits = c }) (record { flits = f'; tails = t'; credits = c' })

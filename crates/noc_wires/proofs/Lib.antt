@@ -5,3 +5,5 @@ pub mod StateLemmas
 pub mod TellingLemmas
 pub mod LinkLemmas
 pub mod RestLemmas
+pub mod HearLemmas
+pub mod LetterLemmas

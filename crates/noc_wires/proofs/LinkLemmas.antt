@@ -1,4 +1,4 @@
--- One grant and its link.
+-- One output channel and its link.
 use Rattle.std.proofs.Common.{◌≡◌, ℕ, ◌+◌, ◌-◌, ◌*◌, ◌/◌, ◌%◌, ◌^◌, ◌<◌, ◌≤◌, Bool, true, false, List, get_or, length, Option, Some, None, refl, ap, ap₂, sym, ◌∙◌, subst, arith, inl, inr}
 use Rattle.std.specs.Prelude.{◌⊎◌, ◌&&◌, ◌||◌, is_some, nat_eq, slice_get, slice_index, if◌then◌else◌}
 use Rattle.std.proofs.Math.Nat.{mul-pos}
@@ -19,7 +19,8 @@ use Rattle.noc_turns.specs.declared.pattern.Pattern.{Pattern}
 use Rattle.noc_turns.specs.declared.state.State.{State}
 use Rattle.noc_theory_blocks.specs.Tells.{AreTold, HasNoted}
 use Rattle.noc_theory_blocks.proofs.TellLemmas.{other-end}
-use Rattle.noc_wires.specs.Telling.{CanBeTold, HasGrant, Telling, grants_if, packets_in, place_in, place_of, place_or_none, taken_in}
+use Rattle.noc_wires.specs.Letters.{IsNotedOver, IsOutput}
+use Rattle.noc_wires.specs.Telling.{CanBeTold, HasGrant, HasWires, Telling, grants_if, packets_in, place_in, place_of, place_or_none, taken_in}
 use Rattle.noc_wires.proofs.TellingLemmas.{told-nobody, told-over}
 
 -- ---- where the word of a neighbour stands
@@ -78,79 +79,59 @@ module _ {A : Type 0} (value : A → ℕ) (g : Grid) (sound : IsGrid g) (vcs fir
           ∙ are.round q k link lane ∙ on-span (is_plus q) refl r ∙ ap (λ n. 256 + n) (sym (ap (λ (x : ℕ × ℕ). x.0) is))
       at false e false r = absurd (none-some (to, port) (sym (by-distance ∙ ap₂ By e r)))
 
--- ---- what is noted
-noted-same : (r r' c c' n n' : ℕ) (old new : ℕ → ℕ → ℕ) → r ≡ r' → c ≡ c' → n ≡ n' → HasNoted r c n old new → HasNoted r' c' n' old new
-noted-same r r' c c' n n' old new a b d h = rw (sym a, sym b, sym d) h
-
--- ---- one that is granted
-module _ {A : Type 0} (value : A → ℕ) (w : ℕ) (pattern : Pattern A) (sides : List (Sides (List A))) (states : List (State A)) (t : Telling) (can : CanBeTold value w pattern sides states t)
-    (s k : ℕ) (granted : has_bit (t.granted s) k ≡ true) where
+-- ---- an output channel
+module _ {A : Type 0} (value : A → ℕ) (w : ℕ) (pattern : Pattern A) (sides : List (Sides (List A))) (g : Grid) (wires : HasWires value w g pattern sides)
+    (s o : ℕ) (is : IsOutput g pattern.frame.fields.width s o) where
   abbrev pub vcs : ℕ
   vcs = pattern.frame.fields.width
 
-  abbrev pub one : HasGrant (ports t.grid * vcs) t (taken_in value states) s k
-  one = can.grants_are.each s k granted
+  known : s < nodes g
+  known = is.0
+
+  below : o < ports g * vcs
+  below = is.1
 
   pub in-sides : s / 32 < length sides
-  in-sides = let l = one.router in let b = can.wires.blocks in omega (arith, l, b)
+  in-sides = let l = known in let b = wires.blocks in omega (arith, l, b)
 
-  pub in-states : s / 32 < length states
-  in-states = let l = in-sides in let b = can.blocks in omega (arith, l, b)
+  pub out-fits : o < w
+  out-fits = let l = below in let f = wires.room.few in omega (arith, l, f)
 
-  pub input-places : k < 64
-  input-places = let l = one.input in let f = can.wires.room.few in let b = can.wires.room.word in omega (arith, l, f, b)
+  pub out-places : o < 64
+  out-places = let l = out-fits in let b = wires.room.word in omega (arith, l, b)
 
-  pub out-fits : one.out < w
-  out-fits = let l = one.below in let f = can.wires.room.few in omega (arith, l, f)
-
-  pub out-places : one.out < 64
-  out-places = let l = out-fits in let b = can.wires.room.word in omega (arith, l, b)
-
-  module _ (x out : ℕ) (is : x ≡ taken_in value states s k) where
-    pub taken-some : 0 < x
-    taken-some = subst (λ n. 0 < n) (sym (is ∙ one.is_taken)) (pow_pos one.out)
-
-    pub out-is : IsLeast (has_bit x) (Some out) → out ≡ one.out
-    out-is least = eqb-true out one.out (sym (power-members one.out out) ∙ ap (λ n. has_bit n out) (sym (is ∙ one.is_taken)) ∙ least.0)
-
-  pub port-is : port_in pattern.numbering one.out ≡ one.out / vcs
-  port-is = can.wires.room.port_is one.out one.below
-
-  pub port-below : one.out / vcs < ports t.grid
-  port-below = div_below one.out vcs (ports t.grid) can.wires.room.some one.below
+  port-is : port_in pattern.numbering o ≡ o / vcs
+  port-is = wires.room.port_is o below
 
   -- of a local port
-  pub no-link : local_port t.grid ≤ one.out / vcs → neighbour t.grid s (one.out / vcs) ≡ None
-  no-link past = rw (le-ltb (one.out / vcs) (local_port t.grid) past) refl
+  no-link : local_port g ≤ o / vcs → neighbour g s (o / vcs) ≡ None
+  no-link past = rw (le-ltb (o / vcs) (local_port g) past) refl
 
   -- .. and of a link
-  module _ (link : one.out / vcs < local_port t.grid) where
-    pub linked : (to : ℕ × ℕ) × (neighbour t.grid s (one.out / vcs) ≡ Some to)
-    linked = at (neighbour t.grid s (one.out / vcs)) refl
+  module _ (link : o / vcs < local_port g) where
+    linked : (to : ℕ × ℕ) × (neighbour g s (o / vcs) ≡ Some to)
+    linked = at (neighbour g s (o / vcs)) refl
       where
-        at : (x : Option (ℕ × ℕ)) → neighbour t.grid s (one.out / vcs) ≡ x → (to : ℕ × ℕ) × (neighbour t.grid s (one.out / vcs) ≡ Some to)
-        at None h = absurd (false≢true (sym (ap is_some h) ∙ can.grants_are.linked s one.out k one.router one.below one.is_granted link))
+        at : (x : Option (ℕ × ℕ)) → neighbour g s (o / vcs) ≡ x → (to : ℕ × ℕ) × (neighbour g s (o / vcs) ≡ Some to)
+        at None h = absurd (false≢true (sym (ap is_some h) ∙ is.2 link))
         at (Some to) h = (to, h)
 
-    abbrev pub node : ℕ
+    abbrev node : ℕ
     node = linked.0.0
 
-    abbrev pub back : ℕ
+    abbrev back : ℕ
     back = linked.0.1
 
-    pub over : neighbour t.grid s (one.out / vcs) ≡ Some (node, back)
+    over : neighbour g s (o / vcs) ≡ Some (node, back)
     over = linked.1
 
-    pub node-known : node < nodes t.grid
-    node-known = (link_back t.grid s (one.out / vcs) node back can.wires.sound one.router over).node
+    node-known : node < nodes g
+    node-known = (link_back g s (o / vcs) node back wires.sound known over).node
 
-    pub back-link : back < local_port t.grid
-    back-link = (link_back t.grid s (one.out / vcs) node back can.wires.sound one.router over).port
+    back-link : back < local_port g
+    back-link = (link_back g s (o / vcs) node back wires.sound known over).port
 
-    pub node-states : node / 32 < length states
-    node-states = let l = node-known in let b = can.wires.blocks in let e = can.blocks in omega (arith, l, b, e)
-
-    pub node-place : place_in value sides s (one.out / vcs) ≡ 256 + node
+    node-place : place_in value sides s (o / vcs) ≡ 256 + node
     node-place = at (slice_get sides (s / 32)) refl
       where
         whole : s / 32 * 32 + s % 32 ≡ s
@@ -159,62 +140,57 @@ module _ {A : Type 0} (value : A → ℕ) (w : ℕ) (pattern : Pattern A) (sides
         lane : s % 32 < 32
         lane = mod_below s 32 (omega arith)
 
-        at : (o : Option (Sides (List A))) → slice_get sides (s / 32) ≡ o → place_in value sides s (one.out / vcs) ≡ 256 + node
+        at : (x : Option (Sides (List A))) → slice_get sides (s / 32) ≡ x → place_in value sides s (o / vcs) ≡ 256 + node
         at None h = absurd (none-some-of (slice_get sides (s / 32)) h (slice_get_cases sides (s / 32)).1)
           where
-            none-some-of : (o : Option (Sides (List A))) → o ≡ None → ((x : Sides (List A)) × (s / 32 < length sides) × (o ≡ Some x) × (get_or sides (s / 32) x ≡ x)) ⊎ ((length sides ≤ s / 32) × (o ≡ None)) → ⊥
-            none-some-of o e (inl x) = none-some x.0 (sym e ∙ x.2)
-            none-some-of o e (inr x) = let l = x.0 in let m = in-sides in omega (arith, l, m)
+            none-some-of : (y : Option (Sides (List A))) → y ≡ None → ((x : Sides (List A)) × (s / 32 < length sides) × (y ≡ Some x) × (get_or sides (s / 32) x ≡ x)) ⊎ ((length sides ≤ s / 32) × (y ≡ None)) → ⊥
+            none-some-of y e (inl x) = none-some x.0 (sym e ∙ x.2)
+            none-some-of y e (inr x) = let l = x.0 in let m = in-sides in omega (arith, l, m)
         at (Some x) h =
-            ap (λ o. place_or_none value o (s % 32) (one.out / vcs)) h
-            ∙ place-is value t.grid can.wires.sound vcs (s / 32 * 32) can.wires.room.some x (can.wires.each (s / 32) x h) (s % 32) (one.out / vcs) node back lane
-            (subst (λ n. n < nodes t.grid) (sym whole) one.router) link (ap (λ n. neighbour t.grid n (one.out / vcs)) whole ∙ over)
+            ap (λ y. place_or_none value y (s % 32) (o / vcs)) h
+            ∙ place-is value g wires.sound vcs (s / 32 * 32) wires.room.some x (wires.each (s / 32) x h) (s % 32) (o / vcs) node back lane
+            (subst (λ n. n < nodes g) (sym whole) known) link (ap (λ n. neighbour g n (o / vcs)) whole ∙ over)
 
-    pub node-few : 256 + node < 768
-    node-few = let l = node-known in let f = can.wires.sound.few_nodes in omega (arith, l, f)
+    node-few : 256 + node < 768
+    node-few = let l = node-known in let f = wires.sound.few_nodes in omega (arith, l, f)
 
     -- the channel there
-    pub channel-is : back * vcs + one.out % vcs ≡ (if is_plus (one.out / vcs) then one.out + vcs else one.out - vcs)
-    channel-is = other-end t.grid vcs s one.out node back can.wires.sound can.wires.room.some over
+    channel-is : back * vcs + o % vcs ≡ (if is_plus (o / vcs) then o + vcs else o - vcs)
+    channel-is = other-end g vcs s o node back wires.sound wires.room.some over
 
-    pub channel-places : back * vcs + one.out % vcs < 64
+    channel-places : back * vcs + o % vcs < 64
     channel-places =
-        let low : back < ports t.grid = let b = back-link in omega (arith, b) in
-        let m = mul-add-lt back vcs (one.out % vcs) (ports t.grid) low (mod_below one.out vcs can.wires.room.some) in
-        let f = can.wires.room.few in
-        let b = can.wires.room.word in
+        let low : back < ports g = let b = back-link in omega (arith, b) in
+        let m = mul-add-lt back vcs (o % vcs) (ports g) low (mod_below o vcs wires.room.some) in
+        let f = wires.room.few in
+        let b = wires.room.word in
         omega (arith, m, f, b)
 
-  pub down-fits : is_plus (one.out / vcs) ≡ false → vcs ≤ one.out
-  down-fits e = elim (cases_lt one.out vcs) [
+  down-fits : is_plus (o / vcs) ≡ false → vcs ≤ o
+  down-fits e = elim (cases_lt o vcs) [
     | inl l ↦
-        let first : one.out / vcs ≡ 0 = let z = div_below one.out vcs 1 can.wires.room.some (omega (arith, l)) in omega (arith, z) in
+        let first : o / vcs ≡ 0 = let z = div_below o vcs 1 wires.room.some (omega (arith, l)) in omega (arith, z) in
         absurd (true≢false (sym (ap is_plus first) ∙ e))
     | inr u ↦ u
   ]
 
-  -- ---- what the code reads of it: the set of the channel that it has taken, its least member, and the
-  -- port of that
-  module _ (x out port : ℕ) (is : x ≡ taken_in value states s k) (least : IsLeast (has_bit x) (Some out)) (port_of : port ≡ port_in pattern.numbering out) where
-    same-out : out ≡ one.out
-    same-out = out-is x out is least
+  -- ---- what the code reads of it: its port
+  module _ (port : ℕ) (port_of : port ≡ port_in pattern.numbering o) where
+    same-port : port ≡ o / vcs
+    same-port = port_of ∙ port-is
 
-    same-port : port ≡ one.out / vcs
-    same-port = port_of ∙ ap (port_in pattern.numbering) same-out ∙ port-is
-
-    pub down : is_plus port ≡ false → vcs ≤ out
-    down e = subst (λ n. vcs ≤ n) (sym same-out) (down-fits (ap is_plus (sym same-port) ∙ e))
+    pub down : is_plus port ≡ false → vcs ≤ o
+    down e = down-fits (ap is_plus (sym same-port) ∙ e)
 
     -- nobody is told
-    pub untold : pattern.frame.ports ≤ port + 1 → (test : ℕ → ℕ → Bool) → AreTold t.grid vcs (grants_if test t.grants) t.packets (packets_in value states)
-        → AreTold t.grid vcs (grants_if (λ u j. test u j || (nat_eq u s && nat_eq j k)) t.grants) t.packets (packets_in value states)
-    untold past test told =
-        told-nobody t vcs (taken_in value states) can.wires.sound can.wires.room.some can.grants_are s k one test (packets_in value states) told
-        (no-link (let p = same-port in let e = can.wires.ports_are in omega (arith, past, p, e)))
+    pub untold : pattern.frame.ports ≤ port + 1 → (packet : ℕ) (now : ℕ → ℕ → ℕ) → IsNotedOver vcs o packet now now (neighbour g s (o / vcs))
+    untold past packet now =
+        let none = no-link (let p = same-port in let e = wires.ports_are in omega (arith, past, p, e)) in
+        subst (IsNotedOver vcs o packet now now) (sym none) (λ r i. refl)
 
     module _ (within : port + 1 < pattern.frame.ports) where
-      leads : one.out / vcs < local_port t.grid
-      leads = let p = same-port in let e = can.wires.ports_are in omega (arith, within, p, e)
+      leads : o / vcs < local_port g
+      leads = let p = same-port in let e = wires.ports_are in omega (arith, within, p, e)
 
       place : place_in value sides s port ≡ 256 + node leads
       place = ap (place_in value sides s) same-port ∙ node-place leads
@@ -225,22 +201,68 @@ module _ {A : Type 0} (value : A → ℕ) (w : ℕ) (pattern : Pattern A) (sides
       pub high : place_in value sides s port < 768
       high = let e = place in let l = node-few leads in omega (arith, e, l)
 
-      module _ (to channel : ℕ) (to_is : 256 + to ≡ place_in value sides s port) (channel_of : channel ≡ (if is_plus port then out + vcs else out - vcs)) where
+      module _ (to channel : ℕ) (to_is : 256 + to ≡ place_in value sides s port) (channel_of : channel ≡ (if is_plus port then o + vcs else o - vcs)) where
         same-node : to ≡ node leads
         same-node = let e = place in omega (arith, to_is, e)
 
-        same-channel : channel ≡ back leads * vcs + one.out % vcs
-        same-channel = channel_of ∙ ap₂ (λ q o. if is_plus q then o + vcs else o - vcs) same-port same-out ∙ sym (channel-is leads)
+        same-channel : channel ≡ back leads * vcs + o % vcs
+        same-channel = channel_of ∙ ap (λ q. if is_plus q then o + vcs else o - vcs) same-port ∙ sym (channel-is leads)
 
-        pub to-known : to / 32 < length states
-        to-known = subst (λ n. n / 32 < length states) (sym same-node) (node-states leads)
+        pub to-known : to / 32 < length sides
+        to-known = let e = same-node in let l = node-known leads in let b = wires.blocks in omega (arith, e, l, b)
 
         pub channel-known : channel < 64
         channel-known = subst (λ n. n < 64) (sym same-channel) (channel-places leads)
 
-        pub told : (test : ℕ → ℕ → Bool) (packet : ℕ) (next : ℕ → ℕ → ℕ) → packet ≡ packets_in value states s k → HasNoted to channel packet (packets_in value states) next
-            → AreTold t.grid vcs (grants_if test t.grants) t.packets (packets_in value states)
-            → AreTold t.grid vcs (grants_if (λ u j. test u j || (nat_eq u s && nat_eq j k)) t.grants) t.packets next
-        told test packet next packet_is noted before =
-            told-over t vcs (taken_in value states) can.wires.sound can.wires.room.some can.grants_are s k one test (packets_in value states) before (node leads) (back leads) next (over leads)
-            (noted-same to (node leads) channel (back leads * vcs + one.out % vcs) packet (packets_in value states s k) (packets_in value states) next same-node same-channel packet_is noted)
+        pub told : (packet : ℕ) (now next : ℕ → ℕ → ℕ) → HasNoted to channel packet now next → IsNotedOver vcs o packet now next (neighbour g s (o / vcs))
+        told packet now next noted =
+            subst (IsNotedOver vcs o packet now next) (sym (over leads))
+            (subst (λ r. HasNoted r (back leads * vcs + o % vcs) packet now next) same-node (subst (λ c. HasNoted to c packet now next) same-channel noted))
+
+-- ---- one that is granted
+module _ {A : Type 0} (value : A → ℕ) (w : ℕ) (pattern : Pattern A) (sides : List (Sides (List A))) (states : List (State A)) (t : Telling) (can : CanBeTold value w pattern sides states t)
+    (s k : ℕ) (granted : has_bit (t.granted s) k ≡ true) where
+  abbrev width : ℕ
+  width = pattern.frame.fields.width
+
+  abbrev one : HasGrant (ports t.grid * width) t (taken_in value states) s k
+  one = can.grants_are.each s k granted
+
+  pub in-states : s / 32 < length states
+  in-states = let l = one.router in let b = can.wires.blocks in let e = can.blocks in omega (arith, l, b, e)
+
+  pub input-places : k < 64
+  input-places = let l = one.input in let f = can.wires.room.few in let b = can.wires.room.word in omega (arith, l, f, b)
+
+  -- what the code reads of it: the set of the channel that it has taken, and its least member
+  module _ (x out : ℕ) (is : x ≡ taken_in value states s k) where
+    pub taken-some : 0 < x
+    taken-some = subst (λ n. 0 < n) (sym (is ∙ one.is_taken)) (pow_pos one.out)
+
+    module _ (least : IsLeast (has_bit x) (Some out)) where
+      out-is : out ≡ one.out
+      out-is = eqb-true out one.out (sym (power-members one.out out) ∙ ap (λ n. has_bit n out) (sym (is ∙ one.is_taken)) ∙ least.0)
+
+      pub output : IsOutput t.grid width s out
+      output = subst (IsOutput t.grid width s) (sym out-is) (one.router, one.below, can.grants_are.linked s one.out k one.router one.below one.is_granted)
+
+      -- it is told
+      pub told-one : (test : ℕ → ℕ → Bool) (packet : ℕ) (next : ℕ → ℕ → ℕ) → packet ≡ packets_in value states s k → IsNotedOver width out packet (packets_in value states) next (neighbour t.grid s (out / width))
+          → AreTold t.grid width (grants_if test t.grants) t.packets (packets_in value states)
+          → AreTold t.grid width (grants_if (λ u j. test u j || (nat_eq u s && nat_eq j k)) t.grants) t.packets next
+      told-one test packet next packet_is noted before =
+          at (neighbour t.grid s (one.out / width)) refl (subst (λ o. IsNotedOver width o packet now next (neighbour t.grid s (o / width))) out-is noted)
+        where
+          now : ℕ → ℕ → ℕ
+          now = packets_in value states
+
+          at : (link : Option (ℕ × ℕ)) → neighbour t.grid s (one.out / width) ≡ link → IsNotedOver width one.out packet now next (neighbour t.grid s (one.out / width))
+              → AreTold t.grid width (grants_if (λ u j. test u j || (nat_eq u s && nat_eq j k)) t.grants) t.packets next
+          at None h noted_there =
+              let same : (r i : ℕ) → next r i ≡ now r i = subst (IsNotedOver width one.out packet now next) h noted_there in
+              let told_now = told-nobody t width (taken_in value states) can.wires.sound can.wires.room.some can.grants_are s k one test now before h in
+              λ r i l u. same r i ∙ told_now r i l u
+          at (Some (r, port)) h noted_there =
+              let noted_here : HasNoted r (port * width + one.out % width) packet now next = subst (IsNotedOver width one.out packet now next) h noted_there in
+              told-over t width (taken_in value states) can.wires.sound can.wires.room.some can.grants_are s k one test now before r port next h
+              (subst (λ n. HasNoted r (port * width + one.out % width) n now next) packet_is noted_here)

@@ -1,22 +1,20 @@
 //! What has left all routers in the last cycle.
 
-ghost use Rattle.std.specs.Prelude.{◌≡◌, ◌≢◌, ℕ, ◌+◌, ◌-◌, ◌/◌, ◌%◌, ◌<◌};
+ghost use Rattle.std.specs.Prelude.{◌≡◌, ◌≢◌, ℕ, ◌+◌, ◌-◌, ◌/◌, ◌%◌, ◌<◌, ◌≤◌, map, slice_index};
 ghost use Rattle.noc_topo.specs.Shape.{Grid, IsGrid, nodes, ports};
 ghost use Rattle.noc_lanes.specs.Channels.{links_by};
 ghost use Rattle.noc_lanes.specs.Lanes.{word};
 ghost use Rattle.noc_blocks.specs.Blank.{BringsNothing};
 ghost use Rattle.noc_blocks.specs.Routers.{IsFrame, frame_by};
 ghost use Rattle.noc_blocks.specs.Sides.{AreSides, FitsRow};
-ghost use Rattle.noc_turns.specs.States.{working_of};
 
 use crate::awake::BLOCKS;
-use noc_blocks::{Frame, ROOM, ROW, Sides, gather, put_row};
-use noc_lanes::{LANES, Lanes, Links, Word};
-use noc_turns::Work;
+use noc_blocks::{Frame, ROOM, ROW, Sides, entry, gather, put_row};
+use noc_lanes::{LANES, Lanes, Links, Word, alike, put};
 
 /// By router, what has left it: the words of the routers stand one after the other, behind some
 /// room.
-#[derive(Drop)]
+#[derive(Clone, Copy)]
 pub struct Left<W: Word> {
     // Output channels by which a flit has left.
     flits: [W; ROW],
@@ -27,7 +25,7 @@ pub struct Left<W: Word> {
 }
 
 impl<W: Word> Left<W> {
-    ghost use Rattle.noc_wires.specs.Left.{NOTHING, brought, leaving_of, left_of};
+    ghost use Rattle.noc_wires.specs.Left.{NOTHING, brought, left_of};
 
     /// Nothing has left.
     pub fn none() -> Left<W>
@@ -63,18 +61,49 @@ impl<W: Word> Left<W> {
         gather(width, ports, sides, &self.credits, &mut links.credits);
     }
 
-    /// What has left a block.
+    /// What has left a block: by router, these channels.
     #[inline(always)]
-    pub fn put(&mut self, block: usize, work: &Work<W>)
+    pub fn put(&mut self, block: usize, flits: &Lanes<W>, tails: &Lanes<W>, credits: &Lanes<W>)
         requires { block < BLOCKS }
         ensures here { (s : ℕ) → s / LANES ≡ block
-            → left_of W.value self.new s ≡ leaving_of (working_of W.value work.now (s % LANES)) }
+            → left_of W.value self.new s ≡ record {
+              flits = word W.value (s % LANES) flits.now;
+              tails = word W.value (s % LANES) tails.now;
+              credits = word W.value (s % LANES) credits.now;
+            } }
         ensures others { (s : ℕ) → s / LANES ≢ block
             → left_of W.value self.new s ≡ left_of W.value self.old s }
     {
         let start = ROOM + block * LANES;
-        put_row(&work.moves.out, start, &mut self.flits);
-        put_row(&work.decided.freed, start, &mut self.tails);
-        put_row(&work.moves.moved, start, &mut self.credits);
+        put_row(flits, start, &mut self.flits);
+        put_row(tails, start, &mut self.tails);
+        put_row(credits, start, &mut self.credits);
     }
+
+    /// What has left a block in another network.
+    pub fn copy_block(&mut self, block: usize, other: &Left<W>)
+        requires { block < BLOCKS }
+        ensures here { (s : ℕ) → s / LANES ≡ block
+            → left_of W.value self.new s ≡ left_of W.value other.now s }
+        ensures others { (s : ℕ) → s / LANES ≢ block
+            → left_of W.value self.new s ≡ left_of W.value self.old s }
+    {
+        let start = ROOM + block * LANES;
+        put_row(&block_of(&other.flits, start), start, &mut self.flits);
+        put_row(&block_of(&other.tails, start), start, &mut self.tails);
+        put_row(&block_of(&other.credits, start), start, &mut self.credits);
+    }
+}
+
+// The words of a block that stand in a row from a place on.
+fn block_of<W: Word>(row: &[W; ROW], start: usize) -> Lanes<W>
+    requires { start + LANES ≤ ROW }
+    ensures { (k : ℕ) → k < LANES
+        → word W.value k result ≡ slice_index (map W.value row.now) (start + k) }
+{
+    let mut lanes = alike(W::none());
+    for lane in 0..LANES {
+        put(&mut lanes, lane, entry(row, start + lane));
+    }
+    lanes
 }

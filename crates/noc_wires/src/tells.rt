@@ -2,11 +2,12 @@
 //! them.
 
 ghost use Rattle.std.specs.Prelude.{◌≡◌, ◌≢◌, ◌⊎◌, ℕ, ◌+◌, ◌-◌, ◌*◌, ◌/◌, ◌<◌, ◌≤◌, ◌^◌, true, false, Some, ◌&&◌, length, nat_eq, if◌then◌else◌};
-ghost use Rattle.noc_topo.specs.Shape.{is_plus};
+ghost use Rattle.noc_topo.specs.Shape.{Grid, is_plus, neighbour};
 ghost use Rattle.noc_packet.specs.Set.{has_bit};
 ghost use Rattle.noc_blocks.specs.Marks.{marks_at, packet_at, taken_at};
 ghost use Rattle.noc_theory_blocks.specs.Tells.{AreTold, HasNoted};
-ghost use Rattle.noc_wires.specs.Telling.{AreSameButPackets, CanBeTold, IsTelling, Telling, TellsMore, granted_or_none, packets_in, place_in, place_of, taken_in};
+ghost use Rattle.noc_wires.specs.Letters.{IsNotedOver, IsOutput};
+ghost use Rattle.noc_wires.specs.Telling.{AreSameButPackets, CanBeTold, HasWires, IsTelling, Telling, TellsMore, granted_or_none, packets_in, place_in, place_of, taken_in};
 
 use crate::awake::BLOCKS;
 use noc_blocks::{Marks, PLACES, PORTS, ROOM, ROW, Sides, entry};
@@ -106,6 +107,30 @@ fn tell_one<W: Word>(
 {
     let packet = packet_held(states, router, input);
     let out = channel_taken(states, router, input).least();
+    tell_over(pattern, sides, router, out, packet, states);
+}
+
+/// The number of a packet that has been granted an output channel is told over its link, if it is
+/// one of a link.
+#[inline(always)]
+pub(crate) fn tell_over<W: Word>(
+    pattern: &Pattern<W>,
+    sides: &[Sides<Lanes<W>>],
+    router: usize,
+    out: usize,
+    packet: u32,
+    states: &mut [State<W>],
+)
+    requires wires { (g : Grid) × HasWires W.value W.bits g pattern.now sides.now
+        × IsOutput g pattern.now.frame.fields.width router out }
+    requires blocks { length states.old ≡ length sides.now }
+    ensures told { (g : Grid) → HasWires W.value W.bits g pattern.now sides.now
+        → IsOutput g pattern.now.frame.fields.width router out
+        → IsNotedOver pattern.now.frame.fields.width out packet (packets_in W.value states.old)
+        (packets_in W.value states.new)
+        (neighbour g router (out / pattern.now.frame.fields.width)) }
+    ensures rest { AreSameButPackets W.value states.old states.new }
+{
     let port = usize::from(pattern.numbering.port[out]);
     if port + 1 < pattern.frame.ports {
         let node = neighbour(sides, router, port);

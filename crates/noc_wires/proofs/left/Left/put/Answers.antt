@@ -11,9 +11,9 @@ returns-clause-here g c = λ s e.
     let place = place-of s c.args.block e in
     let k : s % 32 < 32 = mod_below s 32 (omega arith) in
     left-same _ _ _ _ _ _
-    (subst (λ p. slice_index (map value c.put_row.new.row) p ≡ word value (s % 32) c.args.work.now.moves.out) place (c.put_row.ensures.here (s % 32) k))
-    (subst (λ p. slice_index (map value c.put_row-2.new.row) p ≡ word value (s % 32) c.args.work.now.decided.freed) place (c.put_row-2.ensures.here (s % 32) k))
-    (subst (λ p. slice_index (map value c.put_row-3.new.row) p ≡ word value (s % 32) c.args.work.now.moves.moved) place (c.put_row-3.ensures.here (s % 32) k))
+    (subst (λ p. slice_index (map value c.put_row.new.row) p ≡ word value (s % 32) c.args.flits.now) place (c.put_row.ensures.here (s % 32) k))
+    (subst (λ p. slice_index (map value c.put_row-2.new.row) p ≡ word value (s % 32) c.args.tails.now) place (c.put_row-2.ensures.here (s % 32) k))
+    (subst (λ p. slice_index (map value c.put_row-3.new.row) p ≡ word value (s % 32) c.args.credits.now) place (c.put_row-3.ensures.here (s % 32) k))
 
 pub returns-clause-others : goal.returns-clause-others
 returns-clause-others g c = λ s other.

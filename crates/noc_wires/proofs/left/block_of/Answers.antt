@@ -1,0 +1,22 @@
+use Rattle.std.proofs.Common.{◌+◌, ◌∙◌, ap, arith, inl, inr, sym}
+use Rattle.std.proofs.lemmas.Bool.{cases_eq}
+use Rattle.noc_lanes.specs.Lanes.{word}
+use Rattle.noc_wires.proofs.LeftLemmas.{word-mapped}
+use Rattle.noc_wires.proofs.left.block_of.Goals as goal
+
+pub loop-lane-init : goal.loop-lane-init
+loop-lane-init g c = λ k l. absurd (omega (arith, l))
+
+pub loop-lane-preserved : goal.loop-lane-preserved
+loop-lane-preserved g c = λ k l.
+    let value = g.W.Word.value in
+    let row = c.args.row.now in
+    elim (cases_eq k c.loop-lane.lane) [
+      | inl same ↦ ap (λ n. word value n c.put.new.lanes) same ∙ c.put.ensures.here ∙ c.entry.ensures ∙ ap (λ n. word value (c.args.start + n) row) (sym same)
+      | inr other ↦ c.put.ensures.others k other ∙ c.loop-lane.invariant k (omega (arith, l, other))
+    ]
+
+pub returns : goal.returns
+returns g c = λ k l.
+    let value = g.W.Word.value in
+    c.loop-lane.invariant k (omega (arith, l, c.loop-lane-test.false)) ∙ word-mapped value c.args.row.now (c.args.start + k)

@@ -1,0 +1,67 @@
+-- What a block sends in a cycle to routers that run elsewhere, and what these note of it.
+use Rattle.std.specs.Prelude.{◌≡◌, ℕ, ◌+◌, ◌*◌, ◌/◌, ◌%◌, ◌^◌, ◌<◌, true, List, Option, Some, None, is_some, slice_index, slice_index_or, unwrap_or, [], if◌then◌else◌}
+use Rattle.noc_topo.specs.Shape.{Grid, local_port, neighbour, nodes, ports}
+use Rattle.noc_packet.specs.Set.{has_bit}
+use Rattle.noc_sets.specs.Cycle.{Links}
+use Rattle.noc_lanes.specs.Lanes.{word}
+use Rattle.noc_lanes.specs.declared.lanes.TheConstants.{LANES}
+use Rattle.noc_theory_bits.specs.Owners.{heard}
+use Rattle.noc_theory_blocks.specs.Tells.{HasNoted}
+use Rattle.noc_wires.specs.declared.letter.Letter.{Letter}
+
+-- ---- of router k of the block
+-- what has left it
+abbrev pub links_in : {A : Type 0} → (A → ℕ) → Letter A → ℕ → Links
+links_in value letter k = record {
+  flits = word value k letter.flits;
+  tails = word value k letter.tails;
+  credits = word value k letter.credits;
+}
+
+-- the number of the packet that has been granted output channel o, if one has, where these have
+-- been, and these are the numbers by channel
+abbrev pub number_of : ℕ → List ℕ → ℕ → Option ℕ
+number_of granted packets o = if has_bit granted o then Some (slice_index packets o) else None
+
+-- .. output channel o of it
+abbrev pub tells_in : {A : Type 0} → (A → ℕ) → Letter A → ℕ → ℕ → Option ℕ
+tells_in value letter k o =
+    if has_bit letter.asked k
+    then number_of (word value k letter.granted) (slice_index_or letter.packets k []) o
+    else None
+
+-- these numbers are told by output channel: for each input channel that is granted one, that of its
+-- packet by the output channel that it has taken, and no others
+pub record AreTellings (size granted : ℕ) (taken packets : ℕ → ℕ) (tells : ℕ → Option ℕ)
+    : Type 0 where
+  pub each : (k : ℕ) → has_bit granted k ≡ true
+      → (o : ℕ) × (o < size) × (taken k ≡ 2 ^ o) × (tells o ≡ Some (packets k))
+  pub all : (o p : ℕ) → o < size → tells o ≡ Some p
+      → (k : ℕ) × (has_bit granted k ≡ true) × (taken k ≡ 2 ^ o) × (packets k ≡ p)
+
+-- ---- over links
+-- router s has output channel o, and this leads to a router if it is one of a link
+abbrev pub IsOutput : Grid → ℕ → ℕ → ℕ → Type 0
+IsOutput g vcs s o =
+    (s < nodes g) × (o < ports g * vcs)
+    × (o / vcs < local_port g → is_some (neighbour g s (o / vcs)) ≡ true)
+
+-- it tells only of routers and channels that there are, in block b, and of a link only where it
+-- leads to a router
+abbrev pub IsLinked : {A : Type 0} → (A → ℕ) → Grid → ℕ → ℕ → Letter A → Type 0
+IsLinked value g vcs b letter =
+    (k o p : ℕ) → k < LANES → tells_in value letter k o ≡ Some p
+    → IsOutput g vcs (b * LANES + k) o
+
+-- at the other end of output channel o, if it is one of a link, this number of a packet is noted
+abbrev pub IsNotedOver : ℕ → ℕ → ℕ → (ℕ → ℕ → ℕ) → (ℕ → ℕ → ℕ) → Option (ℕ × ℕ) → Type 0
+IsNotedOver vcs o packet old new None = (r i : ℕ) → new r i ≡ old r i
+IsNotedOver vcs o packet old new (Some (r, port)) =
+    HasNoted r (port * vcs + o % vcs) packet old new
+
+-- these numbers are noted by the routers that hear them, where each router tells them by output
+-- channel
+abbrev pub AreHeard : Grid → ℕ → (ℕ → ℕ → Option ℕ) → (ℕ → ℕ → ℕ) → (ℕ → ℕ → ℕ) → Type 0
+AreHeard g vcs tells old new =
+    (r i : ℕ) → r < nodes g → i < ports g * vcs
+    → new r i ≡ unwrap_or (heard g vcs tells r i) (old r i)
