@@ -1,12 +1,4 @@
 //! The ends of the wires between tiles, and the table of the beats on a tile's wires.
-//!
-//! A worker that waits looks 500 times before it yields, with a rest of the processor between two
-//! looks after the first 32. A yield costs a time slice of milliseconds, and what is waited for
-//! takes microseconds. After 8000 looks, about half a millisecond, it sleeps for 50 microseconds,
-//! and again after every 500 looks. By then the neighbour has probably lost its processor to
-//! another program, and sleeping lets it have this one. It sleeps on a word of its own
-//! (`park_timeout`), since a sleep by the clock would need a clock, and nobody wakes it.
-//! `crossbeam_utils::Backoff` does not serve: it yields after 127 rests, and never sleeps.
 
 ghost use Rattle.std.specs.Prelude.{ℕ, ◌≡◌, ◌<◌, true, length, IsFalse, IsTrue, MatchOption};
 ghost use Rattle.noc_theory.specs.Halves.{beat_at};
@@ -16,11 +8,9 @@ ghost use Rattle.noc_tiles.specs.TileStep.{with_beat};
 use crate::gate::Stop;
 use noc_packet::Beat;
 use noc_topo::LINKS;
+use noc_waiting::rested;
 use rtrb::{Consumer, Producer};
 use std::sync::Wait;
-use std::sync::atomic::AtomicU64;
-use std::time::Duration;
-use std::{hint, thread};
 
 /// The end of a wire that arrives at a router and a link port of the tile.
 #[derive(Drop)]
@@ -42,35 +32,6 @@ pub struct Outlet {
     pub port: usize,
     /// The end of the ring.
     pub end: Producer<Beat>,
-}
-
-// How often a worker that waits looks again before it gives its processor to others.
-const LOOKS: u32 = 500;
-
-// The first of these follow each other at once: a pause costs about 140 processor cycles, and a
-// beat may be nearer than that.
-const LOOKS_AT_ONCE: u32 = 32;
-
-// After how many looks it sleeps instead, which frees its processor for a worker whose
-// own another program has.
-const LOOKS_AWAKE: u32 = 16 * LOOKS;
-
-// How many microseconds it sleeps.
-const NAP: u64 = 50;
-
-// Rests after so many looks, and answers how many count then: one more, or after a sleep as many as
-// put the next sleep 500 looks away.
-fn rested(rt: &impl Wait, looks: u32) -> u32 {
-    if looks >= LOOKS_AWAKE {
-        AtomicU64::new(0).park_timeout(rt, 0, Duration::from_micros(NAP));
-        return LOOKS_AWAKE - LOOKS;
-    }
-    if looks % LOOKS == LOOKS - 1 {
-        thread::yield_now();
-    } else if looks >= LOOKS_AT_ONCE {
-        hint::spin_loop();
-    }
-    looks + 1
 }
 
 impl Inlet {
