@@ -107,6 +107,16 @@ taken-here : {A : Type 0} (value : A → ℕ) (o : Option (State A)) (j k : ℕ)
 taken-here value None j k = refl
 taken-here value (Some x) j k = refl
 
+-- the blocks of a network have its links
+pub has-wires : {A : Type 0} (value : A → ℕ) (w : ℕ) (net : Setup) (plan : Plan A) → IsGoodSetup net → IsPlanOf value w net plan → HasWires value w net.relation.grid plan.pattern plan.sides.items
+has-wires value w net plan setup is_plan = record {
+  sound = setup.relation.table.grid;
+  ports_are = is_plan.frame.ports_are;
+  room = subst (λ (v : ℕ). HasRoom w v (ports net.relation.grid) (port_in plan.pattern.numbering) (vc_in plan.pattern.numbering)) (sym is_plan.frame.width_is) is_plan.room;
+  blocks = is_plan.blocks;
+  each = λ b one h. subst (λ (v : ℕ). AreSides value net.relation.grid v (b * 32) one) (sym is_plan.frame.width_is) (is_plan.sides b one h);
+}
+
 -- ---- of all routers
 -- the grants of routers that are still these and have chosen those, where their blocks take part
 abbrev pub grants_by : ℕ → (ℕ → Lane) → (ℕ → Lane) → ℕ → ℕ → Option ℕ
@@ -190,21 +200,12 @@ module _ {A : Type 0} (value : A → ℕ) (w : ℕ) (net : Setup) (n : ℕ) (pla
     stays = λ s o k l u h. granted-keeps net n awake s o k (grants_by awake still chosen) (packets_in value settled) setup l u as_network h;
   }
 
-  has-wires : HasWires value w net.relation.grid plan.pattern plan.sides.items
-  has-wires = record {
-    sound = setup.relation.table.grid;
-    ports_are = is_plan.frame.ports_are;
-    room = subst (λ (v : ℕ). HasRoom w v (ports net.relation.grid) (port_in plan.pattern.numbering) (vc_in plan.pattern.numbering)) (sym is_plan.frame.width_is) is_plan.room;
-    blocks = is_plan.blocks;
-    each = λ b one h. subst (λ (v : ℕ). AreSides value net.relation.grid v (b * 32) one) (sym is_plan.frame.width_is) (is_plan.sides b one h);
-  }
-
   pub is-telling : IsTelling value w plan.pattern plan.sides.items worked awake settled t
   is-telling = record {
     granted_are = refl;
     packets_are = refl;
     can = record {
-      wires = has-wires;
+      wires = has-wires value w net plan setup is_plan;
       blocks = settled_are;
       grants_are = subst (λ (v : ℕ). AreGrants (ports net.relation.grid * v) v t takes) (sym is_plan.frame.width_is) are-grants;
     };

@@ -1,5 +1,5 @@
 -- Tiles of a network that show it, each in its own blocks, show it together.
-use Rattle.std.proofs.Common.{◌≡◌, ℕ, ◌+◌, ◌*◌, ◌/◌, ◌%◌, ◌<◌, true, length, Option, Some, None, refl, ap, ap₂, sym, ◌∙◌, subst, arith}
+use Rattle.std.proofs.Common.{◌≡◌, ◌≢◌, ℕ, zero, suc, ◌+◌, ◌*◌, ◌/◌, ◌%◌, ◌<◌, true, List, [], ◌∷◌, length, Option, Some, None, refl, ap, ap₂, sym, ◌∙◌, subst, arith}
 use Rattle.std.specs.Prelude.{nat_eq, slice_get}
 use Rattle.std.proofs.lemmas.Bool.{eq-eqb}
 use Rattle.std.proofs.lemmas.Option.{slice_get_within}
@@ -53,6 +53,12 @@ over-alike net setup r known words others same =
     over i None e = refl
     over i (Some (s, port)) e = same (i / net.relation.vcs) s port (i % net.relation.vcs) e (mod_below i net.relation.vcs setup.relation.table.some_vcs)
 
+-- where there is an item, one is read
+some-item : {S : Type 0} (xs : List S) (i : ℕ) → i < length xs → slice_get xs i ≢ None
+some-item [] i l e = absurd (omega (arith, l))
+some-item (x ∷ xs) zero l e = cc
+some-item (x ∷ xs) (suc i) l e = some-item xs i (omega (arith, l)) e
+
 module _ {A : Type 0} (value : A → ℕ) (w : ℕ) (net : Setup) (setup : IsGoodSetup net) (tile : ℕ → ℕ) (n : ℕ) (parts : ℕ → Network A) (all : Network A) (shows : (i : ℕ) → ShowsIn value w net (in_tile tile i) n (parts i)) (joined : AreJoined value net tile parts all) where
   abbrev g : Grid
   g = net.relation.grid
@@ -68,10 +74,21 @@ module _ {A : Type 0} (value : A → ℕ) (w : ℕ) (net : Setup) (setup : IsGoo
   first = shows (tile 0)
 
   is-plan : IsPlanOf value w net all.plan
-  is-plan = subst (λ (p : Plan A). IsPlanOf value w net p) (joined.plan (tile 0)) first.plan
+  is-plan = subst (λ (p : Plan A). IsPlanOf value w net p) joined.plan.1 (shows joined.plan.0).plan
 
   there : (r : ℕ) → r < nodes g → r / 32 < length all.plan.sides.items
   there r l = let blocks = is-plan.blocks in omega (arith, blocks, l)
+
+  -- a tile has a block that is its own
+  has-block : (b : ℕ) → b < length all.plan.sides.items → b < length (parts (tile b)).plan.sides.items
+  has-block b l =
+      by (slice_get all.states.items b) refl
+    where
+      by : (o : Option (State A)) → slice_get all.states.items b ≡ o → b < length (parts (tile b)).plan.sides.items
+      by None none = absurd (some-item all.states.items b (omega (arith, l, joined.states_are)) none)
+      by (Some one) is =
+          let within = slice_get_within (parts (tile b)).states.items b one (sym (joined.states b l) ∙ is) in
+          omega (arith, within, (shows (tile b)).states_are)
 
   same-lane : (b k : ℕ) → b < length all.plan.sides.items → lane_in value all.states.items b k ≡ lane_in value (parts (tile b)).states.items b k
   same-lane b k l = ap (λ (o : Option (State A)). lane_or value o k) (joined.states b l)
@@ -124,7 +141,7 @@ module _ {A : Type 0} (value : A → ℕ) (w : ℕ) (net : Setup) (setup : IsGoo
     counts = counts;
     shows = shows-network;
     sends = λ r l. subst (λ (a : Lane). SendsRight net.relation.vcs (ports g) a.vc a.marks) (sym (same-lane (r / 32) (r % 32) (there r l))) ((shows (part r)).sends r (l, own (r / 32)));
-    blank = λ b k m l u. subst IsBlank (sym (same-lane b k m)) ((shows (tile b)).blank b k (own b) (subst (λ (p : Plan A). b < length p.sides.items) (sym (joined.plan (tile b))) m) l u);
+    blank = λ b k m l u. subst IsBlank (sym (same-lane b k m)) ((shows (tile b)).blank b k (own b) (has-block b m) l u);
     tallied = λ r i l u.
         subst (λ (a : Lane). ShowsTallyOr value (slice_get all.tallies.items (r / 32)) (r % 32) i n (has_bit a.inputs.waiting i) (has_bit a.inputs.active i) (counts r i)) (sym (same-lane (r / 32) (r % 32) (there r l)))
         (subst (λ (o : Option (Tallies A)). ShowsTallyOr value o (r % 32) i n (has_bit (lane_by value (parts (part r)).states.items r).inputs.waiting i) (has_bit (lane_by value (parts (part r)).states.items r).inputs.active i) (counts r i)) (sym (joined.tallies (r / 32) (there r l)))

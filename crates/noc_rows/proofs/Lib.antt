@@ -9,6 +9,9 @@ pub mod LawLemmas
 pub mod TurnLemmas
 pub mod NextLemmas
 pub mod JoinLemmas
+pub mod CopyLemmas
+pub mod TakeOverLemmas
+pub mod TogetherLemmas
 pub mod WaitLemmas
 pub mod IdleLemmas
 pub mod RunLemmas
@@ -19,3 +22,12 @@ pub mod ReaderLemmas
 pub mod NoteLemmas
 pub mod FoundLemmas
 pub mod FindLemmas
+pub mod MailLemmas
+pub mod WriteLemmas
+pub mod ApartLemmas
+pub mod CutLemmas
+pub mod RoundLemmas
+pub mod PostLemmas
+pub mod TileLemmas
+pub mod ThreadLemmas
+pub mod SendLemmas

@@ -6,11 +6,11 @@ use Rattle.std.proofs.lemmas.Option.{slice_get_within}
 use Rattle.noc_rows.specs.Opened.{AreAll}
 use Rattle.noc_rows.proofs.ListLemmas.{same-item}
 
-at-seam : {S : Type 0} (xs : List S) (x : S) → slice_get (xs ++ x ∷ []) (length xs) ≡ Some x
+pub at-seam : {S : Type 0} (xs : List S) (x : S) → slice_get (xs ++ x ∷ []) (length xs) ≡ Some x
 at-seam [] x = refl
 at-seam (w ∷ xs) x = at-seam xs x
 
-before-seam : {S : Type 0} (xs : List S) (x : S) (i : ℕ) → i < length xs → slice_get (xs ++ x ∷ []) i ≡ slice_get xs i
+pub before-seam : {S : Type 0} (xs : List S) (x : S) (i : ℕ) → i < length xs → slice_get (xs ++ x ∷ []) i ≡ slice_get xs i
 before-seam [] x i l = absurd (omega (arith, l))
 before-seam (w ∷ xs) x zero l = refl
 before-seam (w ∷ xs) x (suc i) l = before-seam xs x i (omega (arith, l))

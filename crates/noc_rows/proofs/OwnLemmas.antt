@@ -1,5 +1,5 @@
 -- Some blocks of a network, and all of them.
-use Rattle.std.proofs.Common.{◌≡◌, ℕ, ◌/◌, ◌%◌, ◌<◌, Bool, true, Option, Some, None, length, refl, sym, ◌∙◌}
+use Rattle.std.proofs.Common.{◌≡◌, ℕ, ◌/◌, ◌%◌, Bool, true, Option, Some, None, refl}
 use Rattle.std.specs.Prelude.{option_map, unwrap_or}
 use Rattle.std.proofs.lemmas.Bool.{true≢false}
 use Rattle.noc_blocks.specs.Turning.{Lane}
@@ -8,11 +8,8 @@ use Rattle.noc_theory.specs.Network.{Setup}
 use Rattle.noc_theory_bits.proofs.bits.NetworkLemmas.{network-own, own-network}
 use Rattle.noc_theory_bits.specs.Owners.{heard_over}
 use Rattle.noc_topo.specs.Shape.{neighbour}
-use Rattle.noc_packet.specs.Set.{has_bit}
-use Rattle.noc_route.specs.Routes.{Routes}
-use Rattle.noc_theory.specs.declared.limits.TheConstants.{CYCLE_LIMIT}
 use Rattle.noc_wires.specs.Telling.{packets_in, packets_or_none, with_packets, lane_in as told_lane}
-use Rattle.noc_rows.specs.Own.{HasHeard, MayStepIn, ShowsIn, of_blocks}
+use Rattle.noc_rows.specs.Own.{HasHeard, ShowsIn, of_blocks}
 use Rattle.noc_rows.specs.Shows.{ShowsAt, words_by}
 use Rattle.noc_rows.specs.declared.network.Network.{Network}
 
@@ -73,16 +70,3 @@ nothing-heard value net n tells all = record {
     by : (r i : ℕ) (x : Option (ℕ × ℕ)) → packets_in value all.states.items r i ≡ unwrap_or (heard_over net.relation.vcs (λ s o. None) (i % net.relation.vcs) x) (packets_in value all.states.items r i)
     by r i None = refl
     by r i (Some from) = refl
-
--- where all own blocks take part, nothing is asked of those that sleep
-pub may-step-in : {A : Type 0} (value : A → ℕ) (w : ℕ) (relation : Routes) (net : Setup) (own n : ℕ) (all : Network A) → IsGoodSetup net → net.relation ≡ relation → n < CYCLE_LIMIT → ShowsIn value w net (has_bit own) n all
-    → ((b : ℕ) → has_bit own b ≡ true → b < length all.plan.sides.items) → MayStepIn value w relation (has_bit own) own net n all
-may-step-in value w relation net own n all setup is few shows there = record {
-  good = setup;
-  is = is;
-  few = few;
-  shows = shows;
-  own_awake = λ b e. (e, there b e);
-  asleep = λ r k e. absurd (true≢false (sym k.1 ∙ e));
-  nothing = λ r k e. absurd (true≢false (sym k.1 ∙ e));
-}

@@ -28,7 +28,7 @@ use Rattle.noc_rows.specs.Steps.{HasPassed, HasStepped}
 use Rattle.noc_rows.specs.declared.network.Network.{Network}
 use Rattle.noc_rows.proofs.NextLemmas.{later-is, shows-next, shows-next-in}
 use Rattle.noc_rows.proofs.OwnLemmas.{in-shows, nothing-heard, shows-in}
-use Rattle.noc_rows.proofs.StepLemmas.{step-in}
+use Rattle.noc_rows.proofs.StepLemmas.{may-step-in, step-in}
 use Rattle.noc_rows.proofs.TurnLemmas.{can-do, concluded-at, doing, lane-stays, turn-asleep, turn-awake, turns}
 use Rattle.noc_rows.proofs.WaitLemmas.{HasJustCounted, HasJustSlept, waits}
 
@@ -38,7 +38,7 @@ module _ {A : Type 0} (value : A → ℕ) (w : ℕ) (relation : Routes) (net : S
   part = step-in value w relation net awake n all may
 
   counts-were : (r : ℕ) → part.shows.counts r ≡ may.shows.counts r
-  unfolding step-in shows-in
+  unfolding step-in may-step-in shows-in
   counts-were r = refl
 
   abbrev pub after : ShowsAt value w net (n + 1) next
@@ -133,7 +133,6 @@ wait-within n most times limit some most_is few = omega (arith, some, most_is, f
 -- of so many cycles these are left
 pub record IsRunning {A : Type 0} (value : A → ℕ) (w : ℕ) (relation : Routes) (cycles left : ℕ) (first now : Network A) : Type 0 where
   pub within : left ≤ cycles
-  pub some : 0 < cycles → 0 < left
   pub shows : (net : Setup) (n : ℕ) → MayRun value w relation net cycles first → n + left ≡ first.cycle + cycles → ShowsAt value w net n now
   pub kept : cycles ≡ 0 → now ≡ first
 
@@ -141,7 +140,6 @@ module _ {A : Type 0} (value : A → ℕ) (w : ℕ) (relation : Routes) (cycles 
   pub none-run : IsRunning value w relation cycles cycles first first
   none-run = record {
     within = omega arith;
-    some = λ l. l;
     shows = λ net n may e. let same : first.cycle ≡ n = omega (arith, e) in subst (λ m. ShowsAt value w net m first) same may.shows;
     kept = λ e. refl;
   }
@@ -165,11 +163,80 @@ module _ {A : Type 0} (value : A → ℕ) (w : ℕ) (relation : Routes) (cycles 
       pub all-run : (more : ℕ) (next : Network A) → more ≡ left → ShowsAt value w net (now.cycle + more) next → ShowsAt value w net (first.cycle + cycles) next
       all-run more next same shows = subst (λ m. ShowsAt value w net m next) (ap (λ m. now.cycle + m) same ∙ left-then) shows
 
-    pub some-run : (more : ℕ) (next : Network A) → 1 < left → more ≤ left - 1 → ((net : Setup) → MayRun value w relation net (left - 1) now → ShowsAt value w net (now.cycle + more) next)
+    pub some-run : (most more : ℕ) (next : Network A) → 0 < left → most ≤ left → more ≤ most → ((net : Setup) → MayRun value w relation net most now → ShowsAt value w net (now.cycle + more) next)
         → IsRunning value w relation cycles (left - more) first next
-    some-run more next many few advances = record {
+    some-run most more next some few within runs = record {
       within = omega (arith, running.within);
-      some = λ l. omega (arith, many, few);
-      shows = λ net n may e. subst (λ m. ShowsAt value w net m next) (omega (arith, e, left-then net may, many, few)) (advances net (may-go-on net may (left - 1) (omega arith)));
-      kept = λ e. absurd (omega (arith, e, many, running.within));
+      shows = λ net n may e. subst (λ m. ShowsAt value w net m next) (omega (arith, e, left-then net may, few, within)) (runs net (may-go-on net may most few));
+      kept = λ e. absurd (omega (arith, e, some, running.within));
     }
+
+  -- after all but the last of them it may run that one
+  pub may-end : (net : Setup) (now : Network A) → 0 < cycles → MayRun value w relation net cycles first → ShowsAt value w net (first.cycle + (cycles - 1)) now → MayRun value w relation net 1 now
+  may-end net now some may shows = record {
+    good = may.good;
+    is = may.is;
+    within = omega (arith, some, shows.cycle, may.within);
+    shows = subst (λ m. ShowsAt value w net m now) (sym shows.cycle) shows;
+  }
+
+  pub may-begin : (net : Setup) → MayRun value w relation net cycles first → MayRun value w relation net (cycles - 1) first
+  may-begin net may = record { good = may.good; is = may.is; within = omega (arith, may.within); shows = may.shows }
+
+  pub ends : (net : Setup) (now next : Network A) → 0 < cycles → ShowsAt value w net (first.cycle + (cycles - 1)) now → ShowsAt value w net (now.cycle + 1) next → ShowsAt value w net (first.cycle + cycles) next
+  ends net now next some shows after = subst (λ m. ShowsAt value w net m next) (omega (arith, some, shows.cycle)) after
+
+-- it is known of how many blocks it has outlooks
+pub may-look : {A : Type 0} (value : A → ℕ) (w : ℕ) (relation : Routes) (net : Setup) (cycles : ℕ) (all : Network A) → MayRun value w relation net cycles all
+    → (length all.outlooks.items ≤ BLOCKS) × (length all.plan.near.items ≡ length all.outlooks.items)
+may-look value w relation net cycles all may =
+    let outlooks = may.shows.outlooks_are in
+    let few = may.shows.plan.few in
+    (omega (arith, outlooks, few), may.shows.plan.near_are ∙ sym outlooks)
+
+-- so many fewer
+pub may-fewer : {A : Type 0} (value : A → ℕ) (w : ℕ) (relation : Routes) (net : Setup) (cycles part : ℕ) (all : Network A) → part ≤ cycles → MayRun value w relation net cycles all → MayRun value w relation net part all
+may-fewer value w relation net cycles part all few may = record { good = may.good; is = may.is; within = omega (arith, few, may.within); shows = may.shows }
+
+-- ---- a run of one network in stretches
+-- of so many cycles these are left, of which the last one is to be noted
+pub record IsStretching {A : Type 0} (value : A → ℕ) (w : ℕ) (net : Setup) (cycles left : ℕ) (first now : Network A) : Type 0 where
+  pub within : left ≤ cycles
+  pub some : 0 < cycles → 0 < left
+  pub shows : (n : ℕ) → n + left ≡ first.cycle + cycles → ShowsAt value w net n now
+  pub kept : cycles ≡ 0 → now ≡ first
+
+module _ {A : Type 0} (value : A → ℕ) (w : ℕ) (relation : Routes) (net : Setup) (cycles : ℕ) (first : Network A) (may : MayRun value w relation net cycles first) where
+  pub none-stretched : IsStretching value w net cycles cycles first first
+  none-stretched = record {
+    within = omega arith;
+    some = λ some. some;
+    shows = λ n e. let same : first.cycle ≡ n = omega (arith, e) in subst (λ m. ShowsAt value w net m first) same may.shows;
+    kept = λ e. refl;
+  }
+
+  module _ (left : ℕ) (now : Network A) (up : IsStretching value w net cycles left first now) where
+    shows-then : ShowsAt value w net (first.cycle + (cycles - left)) now
+    shows-then = up.shows (first.cycle + (cycles - left)) (omega (arith, up.within))
+
+    left-over : now.cycle + left ≡ first.cycle + cycles
+    left-over = omega (arith, shows-then.cycle, up.within)
+
+    pub may-stretch : (part : ℕ) → part ≤ left → MayRun value w relation net part now
+    may-stretch part few = record {
+      good = may.good;
+      is = may.is;
+      within = omega (arith, few, left-over, may.within);
+      shows = up.shows now.cycle left-over;
+    }
+
+    pub some-stretched : (part : ℕ) (next : Network A) → part < left → ShowsAt value w net (now.cycle + part) next → IsStretching value w net cycles (left - part) first next
+    some-stretched part next few shows = record {
+      within = omega (arith, up.within);
+      some = λ some. omega (arith, few);
+      shows = λ n e. let same : now.cycle + part ≡ n = omega (arith, e, left-over, few) in subst (λ m. ShowsAt value w net m next) same shows;
+      kept = λ none. absurd (omega (arith, none, few, up.within));
+    }
+
+    pub last-stretched : (next : Network A) → left ≤ 1 → 0 < left → ShowsAt value w net (now.cycle + 1) next → ShowsAt value w net (first.cycle + cycles) next
+    last-stretched next few some shows = let same : now.cycle + 1 ≡ first.cycle + cycles = omega (arith, left-over, few, some) in subst (λ m. ShowsAt value w net m next) same shows

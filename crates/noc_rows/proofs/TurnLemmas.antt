@@ -33,10 +33,11 @@ use Rattle.noc_theory_bits.proofs.bits.ThroughLemmas.{sends, through}
 use Rattle.noc_theory_blocks.proofs.BlankLemmas.{nothing-comes}
 use Rattle.noc_theory_blocks.specs.Lanes.{DoesNothing, HasConcludedLane}
 use Rattle.noc_wires.specs.Left.{brought, left_of}
+use Rattle.noc_wires.specs.Letters.{AreTellings}
 use Rattle.noc_wires.specs.Telling.{packets_or_none, packets_in as told_packets, AreGrants, IsTelling, granted_in, taken_in}
 use Rattle.noc_wires.proofs.WakingLemmas.{QUIET}
 use Rattle.noc_rows.specs.Blocks.{NO_LINKS, came_or, doing_or, happened_or, lane_in, lane_or, returned_or, working_in}
-use Rattle.noc_rows.specs.Own.{IsIn, MayStepIn, ShowsIn, of_blocks, told_in, AreTellings}
+use Rattle.noc_rows.specs.Own.{IsIn, MayStepIn, ShowsIn, of_blocks, told_in}
 use Rattle.noc_rows.specs.Passes.{HasArrived, HasDecidedIn, layout_by}
 use Rattle.noc_rows.specs.Shows.{lane_by}
 use Rattle.noc_rows.specs.Steps.{HasStepped}
@@ -320,7 +321,7 @@ module _ {A : Type 0} (value : A → ℕ) (w : ℕ) (relation : Routes) (own : �
   pub own-told : AreTold g vcs grants (told_packets value step.settled) (told_packets value ran.states.items)
   own-told = stage.telling-told value w relation own awake net n all fits may step.gathered near beyond step.arrived step.came step.arrives step.chosen step.decided decides step.settled step.worked step.concludes (told_packets value ran.states.items) (step.tells (stage.telling value w relation own awake net n all fits may step.gathered near beyond step.arrived step.came step.arrives step.chosen step.decided decides step.settled step.worked step.concludes) is-telling)
 
-  are-grants : AreGrants (size net) vcs (stage.telling value w relation own awake net n all fits may step.gathered near beyond step.arrived step.came step.arrives step.chosen step.decided decides step.settled step.worked step.concludes) (taken_in value step.settled)
+  pub are-grants : AreGrants (size net) vcs (stage.telling value w relation own awake net n all fits may step.gathered near beyond step.arrived step.came step.arrives step.chosen step.decided decides step.settled step.worked step.concludes) (taken_in value step.settled)
   are-grants = subst (λ (v : ℕ). AreGrants (ports g * v) v (stage.telling value w relation own awake net n all fits may step.gathered near beyond step.arrived step.came step.arrives step.chosen step.decided decides step.settled step.worked step.concludes) (taken_in value step.settled)) shows.plan.frame.width_is is-telling.can.grants_are
 
   -- the number of a channel that has a grant stays

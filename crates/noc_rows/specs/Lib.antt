@@ -4,6 +4,13 @@ pub mod Passes
 pub mod Shows
 pub mod Steps
 pub mod Own
+pub mod Mails
+pub mod Rounds
+pub mod Tiles
+pub mod TileSizes
+pub mod Cuts
+pub mod Copies
+pub mod Joins
 pub mod Opened
 pub mod Sizes
 pub mod Rows

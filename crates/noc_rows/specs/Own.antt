@@ -1,6 +1,6 @@
 -- What some of the blocks of a network, its own, show of it, and a cycle of them, where the others
 -- run elsewhere and only what they send comes here.
-use Rattle.std.specs.Prelude.{◌≡◌, ℕ, ◌+◌, ◌*◌, ◌/◌, ◌%◌, ◌^◌, ◌<◌, ◌≤◌, Bool, true, false, List, length, Option, Some, None, nat_eq, option_map, slice_get, slice_index, slice_index_or, unwrap_or, if◌then◌else◌}
+use Rattle.std.specs.Prelude.{◌≡◌, ℕ, ◌+◌, ◌*◌, ◌/◌, ◌%◌, ◌<◌, ◌≤◌, Bool, true, false, List, length, Option, Some, None, nat_eq, option_map, slice_get, slice_index, slice_index_or, unwrap_or, if◌then◌else◌}
 use Rattle.noc_topo.specs.Shape.{neighbour, nodes, ports}
 use Rattle.noc_packet.specs.Set.{has_bit}
 use Rattle.noc_route.specs.Routes.{Routes}
@@ -89,15 +89,6 @@ told_in value awake arrived chosen settled s o =
     then grants_in (lane_by value arrived s) (lane_by value chosen s) o
     else None)
 
--- these numbers are told by output channel: for each input channel that is granted one, that of its
--- packet by the output channel that it has taken, and no others
-pub record AreTellings (size granted : ℕ) (taken packets : ℕ → ℕ) (tells : ℕ → Option ℕ)
-    : Type 0 where
-  pub each : (k : ℕ) → has_bit granted k ≡ true
-      → (o : ℕ) × (o < size) × (taken k ≡ 2 ^ o) × (tells o ≡ Some (packets k))
-  pub all : (o p : ℕ) → o < size → tells o ≡ Some p
-      → (k : ℕ) × (has_bit granted k ≡ true) × (taken k ≡ 2 ^ o) × (packets k ≡ p)
-
 -- to own blocks that have run cycle n, from `was` to `is`, comes what the others have sent in it:
 -- what has left these, and the numbers that they have told
 pub record HasHeard {A : Type 0} (value : A → ℕ) (net : Setup) (own : ℕ → Bool) (n : ℕ)
@@ -137,12 +128,12 @@ pub record AreAlike (vcs port : ℕ) (here there : Links) : Type 0 where
   pub credits : (vc : ℕ) → vc < vcs
       → has_bit here.credits (port * vcs + vc) ≡ has_bit there.credits (port * vcs + vc)
 
--- a network has of each block what the tile has of which it is, the latest of their last events,
--- and of each packet the arrival in the tile where it ends; and the tiles have the same of the
--- links between them
+-- a network has the plan of a tile, of each block what the tile has of which it is, the latest of
+-- their last events, and of each packet the arrival in the tile where it ends; and the tiles have
+-- the same of the links between them
 pub record AreJoined {A : Type 0} (value : A → ℕ) (net : Setup) (tile : ℕ → ℕ)
     (tiles : ℕ → Network A) (all : Network A) : Type 0 where
-  pub plan : (i : ℕ) → (tiles i).plan ≡ all.plan
+  pub plan : (i : ℕ) × ((tiles i).plan ≡ all.plan)
   pub cycle : (i : ℕ) → (tiles i).cycle ≡ all.cycle
   pub states : (b : ℕ) → b < length all.plan.sides.items
       → slice_get all.states.items b ≡ slice_get (tiles (tile b)).states.items b

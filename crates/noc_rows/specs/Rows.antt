@@ -5,9 +5,18 @@ use Rattle.noc_theory.specs.Good.{IsGoodSetup}
 use Rattle.noc_theory.specs.Network.{Setup}
 use Rattle.noc_theory.specs.declared.limits.TheConstants.{CYCLE_LIMIT}
 use Rattle.noc_rows.specs.Shows.{AreFindings, ShowsAt}
+use Rattle.noc_rows.specs.declared.origin.Setup.{Setup as Made}
 use Rattle.noc_rows.specs.declared.rows.Rows.{Rows}
 use Rattle.noc_rows.specs.declared.rows.Words.{Words}
 use Rattle.noc_rows.specs.declared.rows.Words.TheVariants.{Narrow, Wide}
+
+-- the network that is made from this
+abbrev pub setup_by : Made → Setup
+setup_by made = record {
+  relation = made.relation.now;
+  depth = made.depth;
+  packets = made.packets.now.items;
+}
 
 -- words of either width show a network at count n, and have what its routers found last
 abbrev pub ShowsWords : Setup → ℕ → Words → Type 0

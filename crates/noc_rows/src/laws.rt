@@ -1,7 +1,7 @@
-//! What the passes make of a network of blocks together, and of some of its blocks, its own. Nothing
-//! here runs.
+//! What the passes make of a network of blocks together, and of some of its blocks, its own.
+//! Nothing here runs.
 
-ghost use Rattle.std.specs.Prelude.{◌≡◌, ℕ, ◌+◌, ◌^◌, ◌<◌, Bool, true, length, Option};
+ghost use Rattle.std.specs.Prelude.{◌≡◌, ℕ, ◌+◌, ◌^◌, ◌<◌, Bool, true, false, ◌&&◌, length, Option};
 ghost use Rattle.noc_packet.specs.Set.{has_bit};
 ghost use Rattle.noc_sets.specs.Cycle.{Links};
 ghost use Rattle.noc_theory.specs.Good.{IsGoodSetup};
@@ -10,8 +10,11 @@ ghost use Rattle.noc_theory.specs.declared.limits.TheConstants.{CYCLE_LIMIT};
 ghost use Rattle.noc_theory_bits.specs.Sends.{Sends};
 ghost use Rattle.noc_topo.specs.Shape.{nodes, ports};
 ghost use Rattle.noc_wires.specs.Left.{left_of};
+ghost use Rattle.noc_wires.specs.Letters.{AreTellings};
+ghost use Rattle.noc_wires.specs.Waking.{has_moved, is_awake};
 ghost use Rattle.noc_wires.specs.Telling.{granted_in, packets_in, taken_in};
-ghost use Rattle.noc_rows.specs.Own.{AreAlike, AreFindingsIn, AreJoined, AreTellings, HasHeard, IsIn, MayStepIn, ShowsIn, in_tile, told_in};
+ghost use Rattle.noc_rows.specs.Mails.{AreAround, HasHeardFrom, HaveLeft};
+ghost use Rattle.noc_rows.specs.Own.{AreAlike, AreFindingsIn, AreJoined, HasHeard, IsIn, MayStepIn, ShowsIn, in_tile, told_in};
 ghost use Rattle.noc_rows.specs.Shows.{MayStep, ShowsAt};
 ghost use Rattle.noc_rows.specs.Steps.{HasStepped};
 ghost use Rattle.noc_rows.specs.declared.network.Network.{Network as Blocks};
@@ -62,13 +65,34 @@ pub fn own_blocks_send_what_the_network_does<W: Word>(relation: &Relation)
         (told_in W.value awake step.arrived step.chosen step.settled s) }
 {}
 
-/// Own blocks that show a network may run a cycle in which all of them take part.
+/// Own blocks that have gone through the passes of a cycle, and to which what the other blocks near
+/// them have sent in it has come, show the next count, and have what has left all of these.
+pub fn own_blocks_that_have_heard_show_the_network<W: Word>(relation: &Relation)
+    ensures shows { (net : Setup) (own from : ℕ → Bool) (awake n routers : ℕ)
+        (all ran next : Blocks W)
+        → MayStepIn W.value W.bits relation.now own awake net n all
+        → HasStepped W.value W.bits relation.now awake n routers all ran
+        → HasHeardFrom W.value net own from n ran next → AreAround net own from
+        → ShowsIn W.value W.bits net own (n + 1) next }
+    ensures left { (net : Setup) (own from : ℕ → Bool) (awake n routers : ℕ)
+        (all ran next : Blocks W)
+        → MayStepIn W.value W.bits relation.now own awake net n all
+        → HasStepped W.value W.bits relation.now awake n routers all ran
+        → HasHeardFrom W.value net own from n ran next → AreAround net own from
+        → HaveLeft W.value net own n next }
+{}
+
+/// Own blocks that show a network may run a cycle in which those of them take part that are awake,
+/// where it is taken that flits have moved in all others.
 pub fn own_blocks_may_step<W: Word>(relation: &Relation)
-    ensures { (net : Setup) (own n : ℕ) (all : Blocks W)
+    ensures { (net : Setup) (own : ℕ → Bool) (awake n : ℕ) (all : Blocks W)
         → IsGoodSetup net → net.relation ≡ relation.now → n < CYCLE_LIMIT
-        → ShowsIn W.value W.bits net (has_bit own) n all
-        → ((b : ℕ) → has_bit own b ≡ true → b < length all.plan.sides.items)
-        → MayStepIn W.value W.bits relation.now (has_bit own) own net n all }
+        → ShowsIn W.value W.bits net own n all
+        → ((b : ℕ) → b < length all.plan.sides.items → own b ≡ false
+        → has_moved all.outlooks.items b ≡ true)
+        → ((b : ℕ) → has_bit awake b
+        ≡ (is_awake all.outlooks.items all.plan.near.items n b && own b))
+        → MayStepIn W.value W.bits relation.now own awake net n all }
 {}
 
 /// Blocks that show a network show it in each choice of own ones, and where all are own, blocks

@@ -205,7 +205,8 @@ pub(crate) fn put_all<W: Word>(awake: u32, works: &[Work<W>], left: &mut Left<W>
         if !awake.has(number) {
             continue;
         }
-        left.put(number, &works[number]);
+        let Work { moves, decided, .. } = &works[number];
+        left.put(number, &moves.out, &decided.freed, &moves.moved);
     }
 }
 

@@ -4,17 +4,21 @@ ghost use Rattle.std.specs.Prelude.{◌≡◌, ℕ, ◌+◌, ◌*◌, ◌<◌, �
 ghost use Rattle.noc_topo.specs.Shape.{nodes, ports};
 ghost use Rattle.noc_theory.specs.Good.{IsGoodSetup};
 ghost use Rattle.noc_theory.specs.Lockstep.{counts_before, findings_before};
-ghost use Rattle.noc_theory.specs.Network.{Setup, arrival_in, state_at};
+ghost use Rattle.noc_theory.specs.Network.{Setup as TheSetup, arrival_in, state_at};
 ghost use Rattle.noc_theory.specs.Progress.{last_event_before};
 ghost use Rattle.noc_rows.specs.Opened.{IsMadeFrom};
-ghost use Rattle.noc_rows.specs.Rows.{MayRunRows, ShowsRun};
+ghost use Rattle.noc_rows.specs.Rows.{MayRunRows, ShowsRun, setup_by};
 
 use crate::network::Network;
 use crate::open::open_network;
+use crate::origin::Setup;
+use crate::threads::NotRun;
 use noc_packet::{MAX_BUFFER, MAX_PACKETS, Memory, Packet};
 use noc_route::Relation;
 use noc_view::Finding;
 use std::alloc::Global;
+use std::sync::Wait;
+use std::thread::Threads;
 
 // The most channels of a router whose rows are of words of 32 bits: one bit stays free, so that a
 // mask of n channels, 2^n - 1, can be worked out.
@@ -46,7 +50,7 @@ impl Rows {
         requires places { places ≤ MAX_BUFFER }
         requires few { length packets.now ≤ MAX_PACKETS }
         requires flits { All (λ p. 0 < p.length) packets.now }
-        ensures { IfOk result (λ made. (net : Setup)
+        ensures { IfOk result (λ made. (net : TheSetup)
             → IsMadeFrom relation.now places packets.now net → IsGoodSetup net
             → ShowsRun net 0 made) }
     {
@@ -62,8 +66,8 @@ impl Rows {
     /// are run at once, but for the last one, of which it is noted what each router finds. It takes
     /// no memory.
     pub fn run(&mut self, relation: &Relation, cycles: u32)
-        requires { (net : Setup) × (n : ℕ) × MayRunRows relation.now net n cycles self.old }
-        ensures { (net : Setup) (n : ℕ) → MayRunRows relation.now net n cycles self.old
+        requires { (net : TheSetup) × (n : ℕ) × MayRunRows relation.now net n cycles self.old }
+        ensures { (net : TheSetup) (n : ℕ) → MayRunRows relation.now net n cycles self.old
             → ShowsRun net (n + cycles) self.new }
     {
         match &mut self.words {
@@ -72,11 +76,34 @@ impl Rows {
         }
     }
 
+    /// Runs so many cycles, as `run` does, by up to so many threads, each of which has whole blocks
+    /// of routers; or tells that memory or a thread was refused. The caller's thread is one of
+    /// them.
+    pub fn run_by<R: Threads + Wait + Sync>(
+        self,
+        rt: &R,
+        alloc: Global,
+        setup: &Setup<'_>,
+        cycles: u32,
+        workers: usize,
+    ) -> Result<Rows, NotRun>
+        requires { (n : ℕ) × MayRunRows setup.now.relation.now (setup_by setup.now) n cycles self }
+        ensures { (n : ℕ) → MayRunRows setup.now.relation.now (setup_by setup.now) n cycles self
+            → IfOk result (ShowsRun (setup_by setup.now) (n + cycles)) }
+    {
+        let mut rows = self;
+        match &mut rows.words {
+            Words::Narrow(network) => network.run_by(rt, alloc, setup, cycles, workers)?,
+            Words::Wide(network) => network.run_by(rt, alloc, setup, cycles, workers)?,
+        }
+        Ok(rows)
+    }
+
     /// The cycle in which the tail of a packet was out.
     pub fn arrival(&self, packet: usize) -> Option<u64>
-        requires { (net : Setup) × (n : ℕ) × ShowsRun net n self.now
+        requires { (net : TheSetup) × (n : ℕ) × ShowsRun net n self.now
             × (packet < length net.packets) }
-        ensures { (net : Setup) (n : ℕ) → ShowsRun net n self.now
+        ensures { (net : TheSetup) (n : ℕ) → ShowsRun net n self.now
             → packet < length net.packets → result ≡ arrival_in net (state_at net n) packet }
     {
         match &self.words {
@@ -87,10 +114,10 @@ impl Rows {
 
     /// How often an input channel of a router had each verdict, in the order of the stall report.
     pub fn counts(&self, router: usize, port: usize, vc: usize) -> [u64; 10]
-        requires { (net : Setup) × (n : ℕ) × ShowsRun net n self.now
+        requires { (net : TheSetup) × (n : ℕ) × ShowsRun net n self.now
             × (router < nodes net.relation.grid) × (port < ports net.relation.grid)
             × (vc < net.relation.vcs) }
-        ensures { (net : Setup) (n : ℕ) → ShowsRun net n self.now
+        ensures { (net : TheSetup) (n : ℕ) → ShowsRun net n self.now
             → router < nodes net.relation.grid → port < ports net.relation.grid
             → vc < net.relation.vcs
             → result ≡ counts_before net n router (port * net.relation.vcs + vc) }
@@ -104,9 +131,9 @@ impl Rows {
     /// What a router has found in the last cycle, of each input channel, by port and virtual
     /// channel: nothing before the first cycle.
     pub fn findings(&self, router: usize) -> &[Finding]
-        requires { (net : Setup) × (n : ℕ) × ShowsRun net n self.now
+        requires { (net : TheSetup) × (n : ℕ) × ShowsRun net n self.now
             × (router < nodes net.relation.grid) }
-        ensures { (net : Setup) (n : ℕ) → ShowsRun net n self.now
+        ensures { (net : TheSetup) (n : ℕ) → ShowsRun net n self.now
             → router < nodes net.relation.grid → result.now ≡ findings_before net n router }
     {
         match &self.words {
@@ -117,7 +144,7 @@ impl Rows {
 
     /// The last cycle in which something happened.
     pub fn last_event(&self) -> Option<u64>
-        ensures { (net : Setup) (n : ℕ) → IsGoodSetup net → ShowsRun net n self.now
+        ensures { (net : TheSetup) (n : ℕ) → IsGoodSetup net → ShowsRun net n self.now
             → result ≡ last_event_before net n }
     {
         match &self.words {

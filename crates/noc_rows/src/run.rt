@@ -1,37 +1,71 @@
 //! A network runs.
 
-ghost use Rattle.std.specs.Prelude.{◌≡◌, ◌+◌, ◌<◌, ◌≤◌, ◌^◌, length};
-ghost use Rattle.noc_theory.specs.Network.{Setup};
+ghost use Rattle.std.specs.Prelude.{◌≡◌, ◌+◌, ◌*◌, ◌<◌, ◌≤◌, ◌^◌, length, IfOk, OnOk};
+ghost use Rattle.noc_theory.specs.Network.{Setup as TheSetup};
 ghost use Rattle.noc_wires.specs.declared.awake.TheConstants.{BLOCKS};
 ghost use Rattle.noc_rows.specs.Shows.{AreFindings, MayRun, ShowsAt};
-ghost use Rattle.noc_rows.specs.Sizes.{BlocksFit};
+ghost use Rattle.noc_rows.specs.Rows.{setup_by};
+ghost use Rattle.noc_rows.specs.Sizes.{BlocksFit, LetterFits};
+ghost use Rattle.noc_rows.specs.TileSizes.{TileFits};
 ghost use Rattle.noc_rows.specs.Steps.{HasPassed};
 
 use crate::network::Network;
+use crate::origin::Setup;
+use crate::pace::Pace;
+use crate::threads::NotRun;
 use crate::waits::{next_due, repeat_all};
 use noc_blocks::PLACES;
 use noc_lanes::Word;
 use noc_route::Relation;
 use noc_wires::wake;
+use std::alloc::Global;
+use std::sync::Wait;
+use std::thread::Threads;
 
 impl<W: Word> Network<W> {
     // Runs so many cycles, by the relation that it was made for. Those in which nothing happens are
     // run at once, but for the last one, of which it is noted what each router finds.
     pub(crate) fn run(&mut self, relation: &Relation, cycles: u32)
         requires memory { BlocksFit W.row }
-        requires may { (net : Setup) × MayRun W.value W.bits relation.now net cycles self.old }
-        ensures shows { (net : Setup) → MayRun W.value W.bits relation.now net cycles self.old
+        requires may { (net : TheSetup) × MayRun W.value W.bits relation.now net cycles self.old }
+        ensures shows { (net : TheSetup) → MayRun W.value W.bits relation.now net cycles self.old
             → ShowsAt W.value W.bits net (self.old.cycle + cycles) self.new }
-        ensures found { (net : Setup) → MayRun W.value W.bits relation.now net cycles self.old
+        ensures found { (net : TheSetup) → MayRun W.value W.bits relation.now net cycles self.old
             → 0 < cycles → AreFindings net self.new }
         ensures kept { cycles ≡ 0 → self.new ≡ self.old }
     {
-        let mut left = cycles;
-        while left > 1 {
-            left -= self.advance(relation, left - 1);
-        }
-        if left > 0 {
+        if cycles > 0 {
+            self.go(relation, cycles - 1);
             self.finish(relation);
+        }
+    }
+
+    // How many tiles are to run the next cycles: as many as there are blocks and workers, where at
+    // least half of the blocks are awake. Else blocks sleep, and that pays more.
+    fn tiles_that_pay(&self, workers: usize) -> usize
+        requires few { length self.now.outlooks.items ≤ BLOCKS }
+        requires near { length self.now.plan.near.items ≡ length self.now.outlooks.items }
+        ensures { 1 < result → result ≤ length self.now.plan.sides.items }
+    {
+        let blocks = self.plan.sides.len();
+        let awake = wake(&self.outlooks, &self.plan.near, self.cycle).awake;
+        if awake.count_ones() as usize * 2 < blocks {
+            return 1;
+        }
+        workers.min(blocks)
+    }
+
+    // Runs so many cycles. Those in which nothing happens are run at once.
+    fn go(&mut self, relation: &Relation, cycles: u32)
+        requires memory { BlocksFit W.row }
+        requires may { (net : TheSetup) × MayRun W.value W.bits relation.now net cycles self.old }
+        ensures shows { (net : TheSetup) → MayRun W.value W.bits relation.now net cycles self.old
+            → ShowsAt W.value W.bits net (self.old.cycle + cycles) self.new }
+        ensures kept { cycles ≡ 0 → self.new ≡ self.old }
+    {
+        let mut left = cycles;
+        while left > 0 {
+            left -= self.advance(relation, left);
         }
     }
 
@@ -39,10 +73,10 @@ impl<W: Word> Network<W> {
     fn advance(&mut self, relation: &Relation, most: u32) -> u32
         requires memory { BlocksFit W.row }
         requires some { 0 < most }
-        requires may { (net : Setup) × MayRun W.value W.bits relation.now net most self.old }
+        requires may { (net : TheSetup) × MayRun W.value W.bits relation.now net most self.old }
         ensures some { 0 < result }
         ensures within { result ≤ most }
-        ensures shows { (net : Setup) → MayRun W.value W.bits relation.now net most self.old
+        ensures shows { (net : TheSetup) → MayRun W.value W.bits relation.now net most self.old
             → ShowsAt W.value W.bits net (self.old.cycle + result) self.new }
     {
         let waking = wake(&self.outlooks, &self.plan.near, self.cycle);
@@ -58,10 +92,10 @@ impl<W: Word> Network<W> {
     // Runs one cycle, the last of a run, and notes what each router finds in it.
     fn finish(&mut self, relation: &Relation)
         requires memory { BlocksFit W.row }
-        requires may { (net : Setup) × MayRun W.value W.bits relation.now net 1 self.old }
-        ensures shows { (net : Setup) → MayRun W.value W.bits relation.now net 1 self.old
+        requires may { (net : TheSetup) × MayRun W.value W.bits relation.now net 1 self.old }
+        ensures shows { (net : TheSetup) → MayRun W.value W.bits relation.now net 1 self.old
             → ShowsAt W.value W.bits net (self.old.cycle + 1) self.new }
-        ensures found { (net : Setup) → MayRun W.value W.bits relation.now net 1 self.old
+        ensures found { (net : TheSetup) → MayRun W.value W.bits relation.now net 1 self.old
             → AreFindings net self.new }
     {
         let awake = wake(&self.outlooks, &self.plan.near, self.cycle).awake;
@@ -86,5 +120,75 @@ impl<W: Word> Network<W> {
         repeat_all(times, awake, self.tallies.as_mut_slice());
         self.cycle += times;
         times
+    }
+}
+
+impl<W: Word + Send> Network<W> {
+    // Runs so many cycles, by up to so many threads. The last one is one thread's.
+    pub(crate) fn run_by<R: Threads + Wait + Sync>(
+        &mut self,
+        rt: &R,
+        alloc: Global,
+        setup: &Setup<'_>,
+        cycles: u32,
+        workers: usize,
+    ) -> Result<(), NotRun>
+        requires memory { BlocksFit W.row }
+        requires letters { LetterFits W.row }
+        requires tile { TileFits W.row W.Word W.Clone }
+        requires may { MayRun W.value W.bits setup.now.relation.now (setup_by setup.now) cycles
+            self.old }
+        ensures shows { OnOk result (ShowsAt W.value W.bits (setup_by setup.now)
+            (self.old.cycle + cycles) self.new) }
+        ensures found { 0 < cycles → OnOk result (AreFindings (setup_by setup.now) self.new) }
+        ensures kept { cycles ≡ 0 → OnOk result (self.new ≡ self.old) }
+    {
+        let mut pace = Pace::new(workers);
+        let mut left = cycles;
+        while left > 1 {
+            let ran = self.stretch(rt, alloc, setup, left - 1, &mut pace)?;
+            left -= ran;
+        }
+        if left > 0 {
+            self.finish(setup.relation);
+        }
+        Ok(())
+    }
+
+    // Runs some of so many cycles, by as many threads as pay at this pace; or one, with those after
+    // it in which nothing happens, where nothing happened in the last. The answer is how many.
+    fn stretch<R: Threads + Wait + Sync>(
+        &mut self,
+        rt: &R,
+        alloc: Global,
+        setup: &Setup<'_>,
+        most: u32,
+        pace: &mut Pace,
+    ) -> Result<u32, NotRun>
+        requires memory { BlocksFit W.row }
+        requires letters { LetterFits W.row }
+        requires tile { TileFits W.row W.Word W.Clone }
+        requires some { 0 < most }
+        requires may { MayRun W.value W.bits setup.now.relation.now (setup_by setup.now) most
+            self.old }
+        ensures some { IfOk result (λ cycles. (0 < cycles) × (cycles ≤ most)) }
+        ensures shows { IfOk result (λ cycles. ShowsAt W.value W.bits (setup_by setup.now)
+            (self.old.cycle + cycles) self.new) }
+    {
+        if self.last < self.cycle {
+            let ran = self.advance(setup.relation, most);
+            pace.heed(1, ran, 0);
+            return Ok(ran);
+        }
+        let tiles = self.tiles_that_pay(pace.tiles(most));
+        let cycles = pace.cycles(tiles, most);
+        if tiles > 1 {
+            let yields = self.run_apart(rt, alloc, setup, cycles, tiles)?;
+            pace.heed(tiles, cycles, yields);
+            return Ok(cycles);
+        }
+        self.go(setup.relation, cycles);
+        pace.heed(1, cycles, 0);
+        Ok(cycles)
     }
 }

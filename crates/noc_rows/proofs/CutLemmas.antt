@@ -1,0 +1,380 @@
+-- A network cut into tiles: their blocks, and the rings between them.
+use Rattle.std.proofs.Common.{◌≡◌, ◌≢◌, ℕ, ◌+◌, ◌*◌, ◌/◌, ◌^◌, ◌<◌, ◌≤◌, Bool, true, false, List, [], ◌∷◌, ◌++◌, Some, length, set as write, bit_and, bit_or, ap, ap₂, sym, ◌∙◌, subst, refl, arith, inl, inr}
+use Rattle.std.specs.Prelude.{◌⊎◌, ◌&&◌, ◌||◌, nat_eq, nat_lt, slice_get, slice_index}
+use prog.Memory.{pad, up}
+use Rattle.std.proofs.Math.Nat.{div-lt_iff_lt-mul, mul_comm, mul-lt-mul_of_pos_right}
+use Rattle.std.proofs.lemmas.Bool.{and_parts, cases_eq, cases_lt, eq-eqb, eqb-true, false≢true, le-ltb, lt-ltb, ltb-true, ne_eqb, true≢false}
+use Rattle.std.proofs.lemmas.List.{length-set, map-append}
+use Rattle.std.proofs.lemmas.Option.{slice_get_within}
+use Rattle.noc_topo.specs.Shape.{neighbour, nodes}
+use Rattle.noc_topo.proofs.LinkLemmas.{get_or-past, link_back}
+use Rattle.noc_packet.specs.Set.{has_bit}
+use Rattle.noc_packet.proofs.SetLemmas.{both_members, either_members, has_bit-zero}
+use Rattle.noc_sets.proofs.MemberLemmas.{or-cases, or-false, or-left, or-right, power-members}
+use Rattle.noc_theory.specs.Good.{IsGoodSetup}
+use Rattle.noc_turns.specs.declared.outlook.Outlook.{Outlook}
+use Rattle.noc_wires.specs.Waking.{has_moved, moves_or_not}
+use Rattle.noc_rows.specs.Cuts.{AreBlocksOf, AreCut, AreNearIn, AreNew, HasRoused, IsNew, MeetsMore, tile_of}
+use Rattle.noc_rows.specs.Own.{IsIn, ShowsIn}
+use Rattle.noc_rows.specs.Rounds.{Start}
+use Rattle.noc_rows.specs.Shows.{ShowsAt}
+use Rattle.noc_rows.specs.Tiles.{AreBlocks, AreReady, HasBlock, IsReadyPost, IsTileAt, near_in, nears_in}
+use Rattle.noc_rows.specs.declared.network.Network.{Network}
+use Rattle.noc_rows.specs.declared.post.Post.{Post}
+use Rattle.noc_rows.specs.declared.tile.Tile.{Tile}
+use Rattle.noc_rows.proofs.ListLemmas.{others, same-item, written}
+use Rattle.noc_rows.proofs.OpenLemmas.{all-next, at-seam, before-seam}
+use Rattle.noc_rows.proofs.OwnLemmas.{shows-in}
+
+-- ---- the numbers below n that pass a test
+abbrev pub AreBelow : (ℕ → Bool) → ℕ → ℕ → Type 0
+AreBelow test n own = (b : ℕ) → has_bit own b ≡ (nat_lt b n && test b)
+
+module _ (test : ℕ → Bool) where
+  pub below-none : AreBelow test 0 0
+  below-none b = has_bit-zero b ∙ sym (ap (λ x. x && test b) (le-ltb b 0 (omega arith)))
+
+  -- other numbers are below n + 1 where they are below n
+  same-below : (n b : ℕ) → b ≢ n → nat_lt b n ≡ nat_lt b (n + 1)
+  same-below n b other = elim (cases_lt b n) [
+    | inl l ↦ lt-ltb b n l ∙ sym (lt-ltb b (n + 1) (omega (arith, l)))
+    | inr l ↦ le-ltb b n l ∙ sym (le-ltb b (n + 1) (omega (arith, l, other)))
+  ]
+
+  pub below-next : (n own new : ℕ) → test n ≡ true → new ≡ bit_or own (2 ^ n) → AreBelow test n own → AreBelow test (n + 1) new
+  below-next n own new passes is are b = ap (λ x. has_bit x b) is ∙ either_members own (2 ^ n) b ∙ at (cases_eq b n)
+    where
+      at : (b ≡ n) ⊎ (b ≢ n) → (has_bit own b || has_bit (2 ^ n) b) ≡ (nat_lt b (n + 1) && test b)
+      at (inl same) = or-right (has_bit own b) (has_bit (2 ^ n) b) (power-members n b ∙ eq-eqb b n same) ∙ sym (ap₂ (λ x y. x && y) (lt-ltb b (n + 1) (omega (arith, same))) (ap test same ∙ passes))
+      at (inr other) = ap (λ x. has_bit own b || x) (power-members n b ∙ ne_eqb b n other) ∙ or-false (has_bit own b) ∙ are b ∙ ap (λ x. x && test b) (same-below n b other)
+
+  pub below-past : (n own : ℕ) → test n ≡ false → AreBelow test n own → AreBelow test (n + 1) own
+  below-past n own fails are b = are b ∙ at (cases_eq b n)
+    where
+      none : (x y z : Bool) → z ≡ false → (x && z) ≡ (y && z)
+      none x y z e = ap (λ w. x && w) e ∙ and-false x ∙ sym (ap (λ w. y && w) e ∙ and-false y)
+        where
+          and-false : (a : Bool) → (a && false) ≡ false
+          and-false true = refl
+          and-false false = refl
+
+      at : (b ≡ n) ⊎ (b ≢ n) → (nat_lt b n && test b) ≡ (nat_lt b (n + 1) && test b)
+      at (inl same) = none (nat_lt b n) (nat_lt b (n + 1)) (test b) (ap test same ∙ fails)
+      at (inr other) = ap (λ x. x && test b) (same-below n b other)
+
+pub none-in : (a k : ℕ) → a ≡ 0 → has_bit a k ≡ true → ⊥
+none-in a k none e = false≢true (sym (has_bit-zero k) ∙ ap (λ x. has_bit x k) (sym none) ∙ e)
+
+-- ---- the own ones among the blocks below n from which links lead to others
+pub record AreNearBelow (near : List ℕ) (own others n found : ℕ) : Type 0 where
+  pub within : (c : ℕ) → has_bit found c ≡ true → has_bit own c ≡ true
+  pub all : (b c : ℕ) → c < n → has_bit own c ≡ true → has_bit others b ≡ true → has_bit (slice_index near c) b ≡ true → has_bit found c ≡ true
+
+module _ (near : List ℕ) (own others : ℕ) where
+  pub near-none : AreNearBelow near own others 0 0
+  near-none = record {
+    within = λ c e. absurd (false≢true (sym (has_bit-zero c) ∙ e));
+    all = λ b c l. absurd (omega (arith, l));
+  }
+
+  pub near-next : (n found new : ℕ) → has_bit own n ≡ true → new ≡ bit_or found (2 ^ n) → AreNearBelow near own others n found → AreNearBelow near own others (n + 1) new
+  near-next n found new ours is are = record {
+    within = λ c e. within c (or-cases (has_bit found c) (has_bit (2 ^ n) c) (sym (members c) ∙ e));
+    all = λ b c l e f h. members c ∙ all b c l e f h (cases_eq c n);
+  }
+    where
+      members : (c : ℕ) → has_bit new c ≡ (has_bit found c || has_bit (2 ^ n) c)
+      members c = ap (λ x. has_bit x c) is ∙ either_members found (2 ^ n) c
+
+      within : (c : ℕ) → (has_bit found c ≡ true) ⊎ (has_bit (2 ^ n) c ≡ true) → has_bit own c ≡ true
+      within c (inl e) = are.within c e
+      within c (inr e) = ap (has_bit own) (eqb-true c n (sym (power-members n c) ∙ e)) ∙ ours
+
+      all : (b c : ℕ) → c < n + 1 → has_bit own c ≡ true → has_bit others b ≡ true → has_bit (slice_index near c) b ≡ true → (c ≡ n) ⊎ (c ≢ n) → (has_bit found c || has_bit (2 ^ n) c) ≡ true
+      all b c l e f h (inl same) = or-right (has_bit found c) (has_bit (2 ^ n) c) (power-members n c ∙ eq-eqb c n same)
+      all b c l e f h (inr other) = or-left (has_bit found c) (has_bit (2 ^ n) c) (are.all b c (omega (arith, l, other)) e f h)
+
+  -- it is no own block, or no links lead from it to the others
+  pub near-past : (n found : ℕ) → ((b : ℕ) → has_bit own n ≡ true → has_bit others b ≡ true → has_bit (slice_index near n) b ≡ true → ⊥) → AreNearBelow near own others n found → AreNearBelow near own others (n + 1) found
+  near-past n found past are = record {
+    within = are.within;
+    all = λ b c l e f h. all b c l e f h (cases_eq c n);
+  }
+    where
+      all : (b c : ℕ) → c < n + 1 → has_bit own c ≡ true → has_bit others b ≡ true → has_bit (slice_index near c) b ≡ true → (c ≡ n) ⊎ (c ≢ n) → has_bit found c ≡ true
+      all b c l e f h (inl same) = absurd (past b (ap (has_bit own) (sym same) ∙ e) f (ap (λ x. has_bit (slice_index near x) b) (sym same) ∙ h))
+      all b c l e f h (inr other) = are.all b c (omega (arith, l, other)) e f h
+
+  pub near-done : (n found : ℕ) → length near ≤ n → AreNearBelow near own others n found → (b c : ℕ) → has_bit own c ≡ true → has_bit others b ≡ true → has_bit (slice_index near c) b ≡ true → has_bit found c ≡ true
+  near-done n found all are b c e f h = by (cases_lt c n)
+    where
+      by : (c < n) ⊎ (n ≤ c) → has_bit found c ≡ true
+      by (inl l) = are.all b c l e f h
+      by (inr l) = absurd (none-in (slice_index near c) b (get_or-past near c (omega (arith, l, all))) h)
+
+pub none-common : (a b k : ℕ) → bit_and a b ≡ 0 → has_bit a k ≡ true → has_bit b k ≡ true → ⊥
+none-common a b k none e f = none-in (bit_and a b) k none (both_members a b k ∙ ap₂ (λ x y. x && y) e f)
+
+-- ---- rings to one tile more
+has-kept : (xs : List ℕ) (x b : ℕ) → HasBlock xs b → HasBlock (xs ++ x ∷ []) b
+has-kept xs x b (k, set, there, has) = (k, set, before-seam xs x k (slice_get_within xs k set there) ∙ there, has)
+
+has-last : (xs : List ℕ) (x b : ℕ) → has_bit x b ≡ true → HasBlock (xs ++ x ∷ []) b
+has-last xs x b has = (length xs, x, at-seam xs x, has)
+
+pub meets-none : {A : Type 0} (start : Start) (near : List ℕ) (own other : ℕ) (old new : List (Post A)) → new ≡ old → ((b c : ℕ) → has_bit own b ≡ true → has_bit other c ≡ true → has_bit (slice_index near c) b ≡ true → ⊥)
+    → MeetsMore start near own other old new
+meets-none start near own other old new same none = subst (MeetsMore start near own other old) (sym same) (record {
+  ready = λ h. h;
+  kept = λ b h. h;
+  more = λ b c e f h. absurd (none b c e f h);
+})
+
+pub meets-one : {A : Type 0} (start : Start) (near : List ℕ) (own other : ℕ) (old new : List (Post A)) (post : Post A) → new ≡ old ++ post ∷ [] → IsReadyPost start (has_bit own) 0 post
+    → ((b c : ℕ) → has_bit own b ≡ true → has_bit other c ≡ true → has_bit (slice_index near c) b ≡ true → has_bit (near_in post) c ≡ true) → MeetsMore start near own other old new
+meets-one {A = A} start near own other old new post pushed is all = record {
+  ready = λ h. (all-next (λ k one. IsReadyPost start (has_bit own) 0 one) (length old) old new post pushed (record { many = refl; each = h }) is).each;
+  kept = λ b h. subst (λ xs. HasBlock xs b) (sym sets) (has-kept (nears_in old) (near_in post) b h);
+  more = λ b c e f h. subst (λ xs. HasBlock xs c) (sym sets) (has-last (nears_in old) (near_in post) c (all b c e f h));
+}
+  where
+    sets : nears_in new ≡ nears_in old ++ near_in post ∷ []
+    sets = ap (λ (xs : List (Post A)). nears_in xs) pushed ∙ map-append near_in old (post ∷ [])
+
+-- those of some own blocks are own ones, and no others
+pub are-ours : (start : Start) (own some : ℕ) → ((b : ℕ) → has_bit own b ≡ true → b < start.blocks) → ((b : ℕ) → has_bit some b ≡ true → has_bit own b ≡ true) → AreBlocks start (has_bit own) true some
+are-ours start own some few within b e = (within b e, few b (within b e))
+
+pub are-theirs : (start : Start) (own other some : ℕ) → ((b : ℕ) → has_bit other b ≡ true → b < start.blocks) → ((b : ℕ) → has_bit other b ≡ true → has_bit own b ≡ false) → ((b : ℕ) → has_bit some b ≡ true → has_bit other b ≡ true)
+    → AreBlocks start (has_bit own) false some
+are-theirs start own other some few apart within b e = (apart b (within b e), few b (within b e))
+
+pub apart-back : (own other : ℕ) → ((b : ℕ) → has_bit own b ≡ true → has_bit other b ≡ false) → (b : ℕ) → has_bit other b ≡ true → has_bit own b ≡ false
+apart-back own other apart b e = by (has_bit own b) refl
+  where
+    by : (x : Bool) → has_bit own b ≡ x → has_bit own b ≡ false
+    by true h = absurd (true≢false (sym e ∙ apart b h))
+    by false h = h
+
+-- ---- blocks of others
+-- of those before this one it is taken that flits have moved in them
+pub record IsRousing (own : ℕ) (old now : List Outlook) (number : ℕ) : Type 0 where
+  pub kept : (b : ℕ) → (has_bit own b ≡ true) ⊎ (number ≤ b) → slice_get now b ≡ slice_get old b
+  pub others : (b : ℕ) → b < number → has_bit own b ≡ false → has_moved now b ≡ true
+
+pub rousing-none : (own : ℕ) (old : List Outlook) → IsRousing own old old 0
+rousing-none own old = record { kept = λ b h. refl; others = λ b l. absurd (omega (arith, l)) }
+
+pub rousing-past : (own : ℕ) (old now : List Outlook) (n : ℕ) → has_bit own n ≡ true → IsRousing own old now n → IsRousing own old now (n + 1)
+rousing-past own old now n ours is = record {
+  kept = λ b h. elim h [ inl e ↦ is.kept b (inl e) | inr l ↦ is.kept b (inr (omega (arith, l))) ];
+  others = λ b l e. by b l e (cases_eq b n);
+}
+  where
+    by : (b : ℕ) → b < n + 1 → has_bit own b ≡ false → (b ≡ n) ⊎ (b ≢ n) → has_moved now b ≡ true
+    by b l e (inl same) = absurd (true≢false (sym ours ∙ ap (has_bit own) (sym same) ∙ e))
+    by b l e (inr other) = is.others b (omega (arith, l, other)) e
+
+pub rousing-next : (own : ℕ) (old now : List Outlook) (n : ℕ) (outlook : Outlook) → n < length now → outlook.moves ≡ true → has_bit own n ≡ false → IsRousing own old now n → IsRousing own old (write now n outlook) (n + 1)
+rousing-next own old now n outlook within moves other is = record {
+  kept = λ b h. elim h [
+    | inl e ↦ others now n b outlook (λ same. true≢false (sym e ∙ ap (has_bit own) same ∙ other)) ∙ is.kept b (inl e)
+    | inr l ↦ others now n b outlook (λ same. omega (arith, l, same)) ∙ is.kept b (inr (omega (arith, l)))
+  ];
+  others = λ b l e. by b l e (cases_eq b n);
+}
+  where
+    by : (b : ℕ) → b < n + 1 → has_bit own b ≡ false → (b ≡ n) ⊎ (b ≢ n) → has_moved (write now n outlook) b ≡ true
+    by b l e (inl same) = ap (λ k. has_moved (write now n outlook) k) same ∙ ap moves_or_not (written now n (length now) outlook refl within) ∙ moves
+    by b l e (inr apart) = ap moves_or_not (others now n b outlook apart) ∙ is.others b (omega (arith, l, apart)) e
+
+pub rousing-done : (own : ℕ) (old now : List Outlook) (n : ℕ) → length now ≡ length old → length old ≤ n → IsRousing own old now n → HasRoused (has_bit own) old now
+rousing-done own old now n same all is = record { many = same; kept = λ b e. is.kept b (inl e); others = λ b l. is.others b (omega (arith, l, all)) }
+
+-- ---- the blocks of tiles
+module _ (count blocks : ℕ) where
+  pub is-of : (i own b : ℕ) → AreBlocksOf count blocks i own → b < blocks → tile_of count blocks b ≡ i → has_bit own b ≡ true
+  is-of i own b are l e = are b ∙ ap₂ (λ x y. x && y) (lt-ltb b blocks l) (eq-eqb (tile_of count blocks b) i e)
+
+  pub of-is : (i own b : ℕ) → AreBlocksOf count blocks i own → has_bit own b ≡ true → (b < blocks) × (tile_of count blocks b ≡ i)
+  of-is i own b are e =
+      let both = and_parts (nat_lt b blocks) (nat_eq (tile_of count blocks b) i) (sym (are b) ∙ e) in
+      (ltb-true b blocks both.0, eqb-true (tile_of count blocks b) i both.1)
+
+  pub apart-of : (i j own other : ℕ) → i ≢ j → AreBlocksOf count blocks i own → AreBlocksOf count blocks j other → (b : ℕ) → has_bit own b ≡ true → has_bit other b ≡ false
+  apart-of i j own other apart ours theirs b e = by (has_bit other b) refl
+    where
+      by : (x : Bool) → has_bit other b ≡ x → has_bit other b ≡ false
+      by true h = absurd (apart (sym (of-is i own b ours e).1 ∙ (of-is j other b theirs h).1))
+      by false h = h
+
+  pub tile-below : (b : ℕ) → 0 < count → b < blocks → tile_of count blocks b < count
+  tile-below b some l =
+      let less : b * count < blocks * count = mul-lt-mul_of_pos_right l some in
+      (div-lt_iff_lt-mul {k = blocks} {x = b * count} {y = count} (omega (arith, l))).1 (subst (λ n. b * count < n) (mul_comm blocks count) less)
+
+-- ---- new tiles
+module _ {A : Type 0} (value : A → ℕ) (w : ℕ) (start : Start) (count : ℕ) where
+  -- a tile that has no rings yet
+  -- what is taken of the others does not show
+  roused-shows : (own : ℕ → Bool) (n : ℕ) (copy is : Network A) → ShowsIn value w start.net own n copy → HasRoused own copy.outlooks.items is.outlooks.items → is ≡ record copy { outlooks = is.outlooks } → ShowsIn value w start.net own n is
+  roused-shows own n copy is shows roused same = subst (λ (x : Network A). ShowsIn value w start.net own n x) (sym same) (record {
+    plan = shows.plan;
+    cycle = shows.cycle;
+    states_are = shows.states_are;
+    works_are = shows.works_are;
+    tallies_are = shows.tallies_are;
+    outlooks_are = roused.many ∙ shows.outlooks_are;
+    arrivals_are = shows.arrivals_are;
+    found_are = shows.found_are;
+    counts = shows.counts;
+    shows = shows.shows;
+    sends = shows.sends;
+    blank = shows.blank;
+    tallied = shows.tallied;
+    known = λ b outlook ours e. shows.known b outlook ours (sym (roused.kept b ours) ∙ e);
+  })
+
+  pub new-tile : (i : ℕ) (copy : Network A) (one : Tile A) → IsGoodSetup start.net → ShowsAt value w start.net start.cycle copy → start.blocks ≡ length copy.plan.sides.items → AreBlocksOf count start.blocks i one.own → one.posts.items ≡ [] → HasRoused (has_bit one.own) copy.outlooks.items one.network.outlooks.items → one.network ≡ record copy { outlooks = one.network.outlooks }
+      → IsNew value w start count i 0 one
+  new-tile i copy one good shows blocks own none roused same = record {
+    own = own;
+    shows = roused-shows (has_bit one.own) start.cycle copy one.network (shows-in value w start.net good (has_bit one.own) start.cycle copy shows) roused same;
+    others = λ b l e. roused.others b (omega (arith, l, blocks, shows.outlooks_are)) e;
+    blocks = ap (λ (x : Network A). length x.states.items) same ∙ shows.states_are ∙ sym blocks;
+    posts = subst (AreReady start (has_bit one.own) 0) (sym none) (λ k post e. absurd (let l = slice_get_within [] k post e in omega (arith, l)));
+    near = λ r q s port inside e other l. absurd (omega (arith, l));
+  }
+
+  -- there is a block for each router
+  block-of : (near : List ℕ) (s : ℕ) → AreNearIn start near → s < nodes start.net.relation.grid → s / 32 < start.blocks
+  block-of near s is l = omega (arith, l, is.blocks)
+
+  -- it has met tile m too
+  pub new-more : (near : List ℕ) (i m other : ℕ) (old new : Tile A) → AreNearIn start near → IsNew value w start count i m old → AreBlocksOf count start.blocks m other → (new.own ≡ old.own) × (new.network ≡ old.network)
+      → MeetsMore start near old.own other old.posts.items new.posts.items → IsNew value w start count i (m + 1) new
+  new-more near i m other old new sides is theirs same meets = record {
+    own = λ b. ap (λ o. has_bit o b) same.0 ∙ is.own b;
+    shows = subst (λ o. ShowsIn value w start.net (has_bit o) start.cycle new.network) (sym same.0) (subst (λ (x : Network A). ShowsIn value w start.net (has_bit old.own) start.cycle x) (sym same.1) is.shows);
+    others = λ b l e. ap (λ (x : Network A). has_moved x.outlooks.items b) same.1 ∙ is.others b l (sym (ap (λ o. has_bit o b) same.0) ∙ e);
+    blocks = ap (λ (x : Network A). length x.states.items) same.1 ∙ is.blocks;
+    posts = subst (λ o. AreReady start (has_bit o) 0 new.posts.items) (sym same.0) (meets.ready is.posts);
+    near = λ r q s port inside e out l. near-by r q s port (inside.0, sym (ap (λ o. has_bit o (r / 32)) same.0) ∙ inside.1) e (sym (ap (λ o. has_bit o (s / 32)) same.0) ∙ out) l (cases_eq (tile_of count start.blocks (s / 32)) m);
+  }
+    where
+      near-by : (r q s port : ℕ) → IsIn start.net (has_bit old.own) r → neighbour start.net.relation.grid r q ≡ Some (s, port) → has_bit old.own (s / 32) ≡ false → tile_of count start.blocks (s / 32) < m + 1
+          → (tile_of count start.blocks (s / 32) ≡ m) ⊎ (tile_of count start.blocks (s / 32) ≢ m) → HasBlock (nears_in new.posts.items) (s / 32)
+      near-by r q s port inside e out l (inl here) =
+          let back = link_back start.net.relation.grid r q s port sides.good.relation.table.grid inside.0 e in
+          meets.more (r / 32) (s / 32) inside.1 (is-of count start.blocks m other (s / 32) theirs (block-of near s sides back.node) here) (sides.near s port r q back.node back.back)
+      near-by r q s port inside e out l (inr past) = meets.kept (s / 32) (is.near r q s port inside e out (omega (arith, l, past)))
+
+  -- and itself
+  pub new-self : (near : List ℕ) (i : ℕ) (one : Tile A) → AreNearIn start near → IsNew value w start count i i one → IsNew value w start count i (i + 1) one
+  new-self near i one sides is = record {
+    own = is.own;
+    shows = is.shows;
+    others = is.others;
+    blocks = is.blocks;
+    posts = is.posts;
+    near = λ r q s port inside e out l. near-by r q s port inside e out l (cases_eq (tile_of count start.blocks (s / 32)) i);
+  }
+    where
+      near-by : (r q s port : ℕ) → IsIn start.net (has_bit one.own) r → neighbour start.net.relation.grid r q ≡ Some (s, port) → has_bit one.own (s / 32) ≡ false → tile_of count start.blocks (s / 32) < i + 1
+          → (tile_of count start.blocks (s / 32) ≡ i) ⊎ (tile_of count start.blocks (s / 32) ≢ i) → HasBlock (nears_in one.posts.items) (s / 32)
+      near-by r q s port inside e out l (inl here) =
+          let back = link_back start.net.relation.grid r q s port sides.good.relation.table.grid inside.0 e in
+          absurd (false≢true (sym out ∙ is-of count start.blocks i one.own (s / 32) is.own (block-of near s sides back.node) here))
+      near-by r q s port inside e out l (inr past) = is.near r q s port inside e out (omega (arith, l, past))
+
+  -- ---- one new tile meets all
+  -- tile m has met those below k
+  pub record AreMeeting (m k : ℕ) (tiles : List (Tile A)) (tile : Tile A) : Type 0 where
+    pub many : length tiles ≡ m
+    pub met : (i : ℕ) (one : Tile A) → i < k → slice_get tiles i ≡ Some one → IsNew value w start count i (m + 1) one
+    pub left : (i : ℕ) (one : Tile A) → k ≤ i → slice_get tiles i ≡ Some one → IsNew value w start count i m one
+    pub new : IsNew value w start count m k tile
+
+  pub meeting-none : (m : ℕ) (tiles : List (Tile A)) (tile : Tile A) → AreNew value w start count m m tiles → IsNew value w start count m 0 tile → AreMeeting m 0 tiles tile
+  meeting-none m tiles tile are is = record {
+    many = are.many;
+    met = λ i one l. absurd (omega (arith, l));
+    left = λ i one l. are.each i one;
+    new = is;
+  }
+
+  pub meeting-next : (near : List ℕ) (m k : ℕ) (tiles : List (Tile A)) (old new was is : Tile A) → AreNearIn start near → k < length tiles → slice_get tiles k ≡ Some old → AreMeeting m k tiles was
+      → (new.own ≡ old.own) × (new.network ≡ old.network) → (is.own ≡ was.own) × (is.network ≡ was.network) → MeetsMore start near old.own was.own old.posts.items new.posts.items → MeetsMore start near was.own old.own was.posts.items is.posts.items
+      → AreMeeting m (k + 1) (write tiles k new) is
+  meeting-next near m k tiles old new was is sides within there are here_stays there_stays here back = record {
+    many = length-set tiles k new ∙ are.many;
+    met = λ i one l e. met i one l e (cases_eq i k);
+    left = λ i one l e. are.left i one (omega (arith, l)) (sym (others tiles k i new (λ same. omega (arith, l, same))) ∙ e);
+    new = new-more near m k old.own was is sides are.new (are.left k old (omega arith) there).own there_stays back;
+  }
+    where
+      met : (i : ℕ) (one : Tile A) → i < k + 1 → slice_get (write tiles k new) i ≡ Some one → (i ≡ k) ⊎ (i ≢ k) → IsNew value w start count i (m + 1) one
+      met i one l e (inl same) =
+          let grown : IsNew value w start count k (m + 1) new = new-more near k m was.own old new sides (are.left k old (omega arith) there) are.new.own here_stays here in
+          subst (λ n. IsNew value w start count n (m + 1) one) (sym same)
+          (subst (IsNew value w start count k (m + 1)) (same-item new one (slice_get (write tiles k new) k) (written tiles k (length tiles) new refl within) (ap (slice_get (write tiles k new)) (sym same) ∙ e)) grown)
+      met i one l e (inr other) = are.met i one (omega (arith, l, other)) (sym (others tiles k i new other) ∙ e)
+
+  pub meeting-done : (near : List ℕ) (m k : ℕ) (tiles : List (Tile A)) (tile : Tile A) → AreNearIn start near → k ≡ m → AreMeeting m k tiles tile → AreNew value w start count m (m + 1) tiles × IsNew value w start count m (m + 1) tile
+  meeting-done near m k tiles tile sides all are = (
+    record {
+      many = are.many;
+      each = λ i one e. are.met i one (let l = slice_get_within tiles i one e in let n = are.many in omega (arith, l, all, n)) e;
+    },
+    new-self near m tile sides (subst (λ n. IsNew value w start count m n tile) all are.new),
+  )
+
+  -- where they meet they are apart, and blocks of the network
+  pub apart-in : (m k : ℕ) (tiles : List (Tile A)) (old was : Tile A) → k < length tiles → slice_get tiles k ≡ Some old → AreMeeting m k tiles was → (b : ℕ) → has_bit old.own b ≡ true → has_bit was.own b ≡ false
+  apart-in m k tiles old was within there are = let n = are.many in apart-of count start.blocks k m old.own was.own (λ same. omega (arith, within, n, same)) (are.left k old (omega arith) there).own are.new.own
+
+  pub here-in : (m k : ℕ) (tiles : List (Tile A)) (old was : Tile A) → slice_get tiles k ≡ Some old → AreMeeting m k tiles was → (b : ℕ) → has_bit old.own b ≡ true → b < start.blocks
+  here-in m k tiles old was there are b e = (of-is count start.blocks k old.own b (are.left k old (omega arith) there).own e).0
+
+  pub there-in : (m k : ℕ) (tiles : List (Tile A)) (was : Tile A) → AreMeeting m k tiles was → (b : ℕ) → has_bit was.own b ≡ true → b < start.blocks
+  there-in m k tiles was are b e = (of-is count start.blocks m was.own b are.new.own e).0
+
+  -- ---- all tiles
+  pub near-in : (all : Network A) → IsGoodSetup start.net → ShowsAt value w start.net start.cycle all → start.blocks ≡ length all.plan.sides.items → AreNearIn start all.plan.near.items
+  near-in all good shows blocks = record {
+    good = good;
+    few = subst (λ n. n ≤ 8) (sym shows.plan.near_are) shows.plan.few;
+    blocks = subst (λ n. nodes start.net.relation.grid ≤ n * 32) (sym blocks) shows.plan.blocks;
+    near = shows.plan.near;
+  }
+
+  at-start : (near : List ℕ) (i : ℕ) (one : Tile A) → AreNearIn start near → i < count → IsNew value w start count i count one → IsTileAt value w start 0 one
+  at-start near i one sides l is = record {
+    shows = subst (λ n. ShowsIn value w start.net (has_bit one.own) n one.network) (omega arith) is.shows;
+    left = λ m e. absurd (omega (arith, e));
+    others = is.others;
+    blocks = is.blocks;
+    own = λ b e. (of-is count start.blocks i one.own b is.own e).0;
+    posts = is.posts;
+    near = λ r q s port inside e out.
+        let back = link_back start.net.relation.grid r q s port sides.good.relation.table.grid inside.0 e in
+        is.near r q s port inside e out (tile-below count start.blocks (s / 32) (omega (arith, l)) (block-of near s sides back.node));
+  }
+
+  pub are-cut : (near : List ℕ) (n : ℕ) (tiles : List (Tile A)) → AreNearIn start near → n ≡ count → AreNew value w start count n n tiles → AreCut value w start count tiles
+  are-cut near n tiles sides all are = record {
+    many = are.many ∙ all;
+    own = λ i one e. (are.each i one e).own;
+    at = λ i one e. at-start near i one sides (let l = slice_get_within tiles i one e in let m = are.many in omega (arith, l, all, m)) (subst (λ k. IsNew value w start count i k one) all (are.each i one e));
+  }
+
+-- ---- a tile is larger than its network
+less : (a b n : ℕ) → a + b < n → a < n
+less a b n l = omega (arith, l)
+
+more : (a b n : ℕ) → a + b < n → b < n
+more a b n l = omega (arith, l)
+
+pub network-fits : (n k x net : ℕ) → up k (up 1 (up 8 (x + net) + 24) + 1) < n → net < n
+network-fits n k x net l = more x net n (less (x + net) (pad 8 (x + net)) n (less (up 8 (x + net)) 24 n (less (up 8 (x + net) + 24) (pad 1 (up 8 (x + net) + 24)) n
+    (less (up 1 (up 8 (x + net) + 24)) 1 n (less (up 1 (up 8 (x + net) + 24) + 1) (pad k (up 1 (up 8 (x + net) + 24) + 1)) n l)))))

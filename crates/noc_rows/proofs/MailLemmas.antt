@@ -1,0 +1,285 @@
+-- What own blocks of a network hear of the others in a cycle, by letters and mails.
+use Rattle.std.proofs.Common.{◌≡◌, ◌≢◌, ℕ, ◌+◌, ◌*◌, ◌/◌, ◌%◌, ◌<◌, ◌≤◌, ◌^◌, Bool, true, false, length, Option, Some, None, refl, ap, ap₂, sym, ◌∙◌, subst, arith, inl, inr}
+use Rattle.std.specs.Prelude.{◌&&◌, ◌||◌, nat_eq, nat_lt, slice_get, unwrap_or, if◌then◌else◌}
+use Rattle.std.proofs.Math.Path.{fun_ext}
+use Rattle.std.proofs.lemmas.Bool.{cases_eq, cases_lt, eq-eqb, eqb-true, false≢true, le-ltb, lt-ltb, ne_eqb, true≢false}
+use Rattle.std.proofs.lemmas.Nat.{mod_below}
+use Rattle.noc_topo.specs.Shape.{Grid, neighbour, nodes, ports}
+use Rattle.noc_topo.proofs.LinkLemmas.{link_back}
+use Rattle.noc_packet.specs.Set.{has_bit}
+use Rattle.noc_route.specs.Routes.{Routes}
+use Rattle.noc_sets.specs.Cycle.{Links}
+use Rattle.noc_theory.specs.Good.{IsGoodSetup}
+use Rattle.noc_theory.specs.Network.{Setup, size}
+use Rattle.noc_theory_bits.specs.Owners.{granted_to, heard, heard_over}
+use Rattle.noc_theory_bits.specs.Sends.{Sends}
+use Rattle.noc_wires.proofs.TellingLemmas.{rest-then}
+use Rattle.noc_wires.specs.Left.{left_of}
+use Rattle.noc_wires.specs.Telling.{AreSameButPackets, packets_in, lane_in as told_lane}
+use Rattle.noc_wires.specs.Letters.{links_in, tells_in}
+use Rattle.noc_rows.specs.Mails.{HasHeardFrom, HaveLeft, IsLetter, IsMail}
+use Rattle.noc_rows.specs.Own.{HasHeard, IsIn, MayStepIn, ShowsIn, told_in}
+use Rattle.noc_rows.specs.Shows.{IsPlanOf}
+use Rattle.noc_rows.specs.Steps.{HasStepped}
+use Rattle.noc_wires.specs.declared.letter.Letter.{Letter}
+use Rattle.noc_rows.specs.declared.mail.Mail.{Mail}
+use Rattle.noc_rows.specs.declared.network.Network.{Network}
+use Rattle.noc_rows.proofs.NextLemmas.{shows-next-in}
+use Rattle.noc_rows.proofs.OwnLemmas.{same-packets}
+use Rattle.noc_rows.proofs.TurnLemmas.{own-sends}
+
+-- ---- of two tests
+or-none : (a b : Bool) → (a || b) ≡ false → (a ≡ false) × (b ≡ false)
+or-none true b e = absurd (true≢false e)
+or-none false b e = (refl, e)
+
+or-first : (a b : Bool) → b ≡ false → (a || b) ≡ true → a ≡ true
+or-first true b none e = refl
+or-first false b none e = absurd (false≢true (sym none ∙ e))
+
+-- a neighbour is a router, at a port of it
+pub behind : (net : Setup) → IsGoodSetup net → (r q s port : ℕ) → r < nodes net.relation.grid → neighbour net.relation.grid r q ≡ Some (s, port) → (s < nodes net.relation.grid) × (port < ports net.relation.grid)
+behind net setup r q s port l e =
+    let back = link_back net.relation.grid r q s port setup.relation.table.grid l e in
+    let link = back.port in
+    (back.node, omega (arith, link))
+
+-- what a router sends is what it sends, whatever says which packets are granted channels
+pub sends-so : (net : Setup) (n s port : ℕ) (left : Links) (tells : ℕ → Option ℕ) → Sends net n s port left tells → Sends net n s port left (granted_to net n s)
+sends-so net n s port left tells sent = record { beat = sent.beat; told = λ vc u. refl }
+
+-- ---- what some blocks have sent comes to own ones
+module _ {A : Type 0} (value : A → ℕ) (net : Setup) (own : ℕ → Bool) (n : ℕ) where
+  abbrev g : Grid
+  g = net.relation.grid
+
+  abbrev vcs : ℕ
+  vcs = net.relation.vcs
+
+  -- the numbers that these blocks tell
+  abbrev by : (ℕ → Bool) → ℕ → ℕ → Option ℕ
+  by from s o = if from (s / 32) then granted_to net n s o else None
+
+  -- nothing comes of no block
+  pub heard-none : (all : Network A) → HasHeardFrom value net own (λ b. false) n all all
+  heard-none all = record {
+    sent = λ r q s port k e h. absurd (false≢true h);
+    left = λ s e. refl;
+    packets = λ r i k u. at (packets_in value all.states.items r i) (i % vcs) (neighbour g r (i / vcs));
+    told = λ s. same-packets (told_lane value all.states.items s);
+    states_are = refl;
+    rest = refl;
+  }
+    where
+      at : (old vc : ℕ) (x : Option (ℕ × ℕ)) → old ≡ unwrap_or (heard_over vcs (λ s o. None) vc x) old
+      at old vc None = refl
+      at old vc (Some to) = refl
+
+  -- it is the same for blocks that are the same
+  pub heard-same : (from same : ℕ → Bool) (was is : Network A) → ((b : ℕ) → from b ≡ same b) → HasHeardFrom value net own from n was is → HasHeardFrom value net own same n was is
+  heard-same from same was is alike hears = subst (λ (f : ℕ → Bool). HasHeardFrom value net own f n was is) (fun_ext alike) hears
+
+  -- what some have sent comes, and then what others have
+  pub heard-more : (from more : ℕ → Bool) (a b c : Network A) → HasHeardFrom value net own from n a b → HasHeardFrom value net own more n b c → HasHeardFrom value net own (λ x. from x || more x) n a c
+  heard-more from more a b c first second = record {
+    sent = λ r q s port k e h. sent r q s port k e h (more (s / 32)) refl;
+    left = λ s h. let none = or-none (from (s / 32)) (more (s / 32)) h in second.left s none.1 ∙ first.left s none.0;
+    packets = λ r i k u. second.packets r i k u ∙ ap (unwrap_or (heard g vcs (by more) r i)) (first.packets r i k u) ∙ over (packets_in value a.states.items r i) (i % vcs) (neighbour g r (i / vcs));
+    told = rest-then value a.states.items b.states.items first.told c.states.items second.told;
+    states_are = second.states_are ∙ first.states_are;
+    rest = second.rest ∙ ap (λ (x : Network A). record x { states = c.states; left = c.left }) first.rest;
+  }
+    where
+      sent : (r q s port : ℕ) → IsIn net own r → neighbour g r q ≡ Some (s, port) → (from (s / 32) || more (s / 32)) ≡ true → (x : Bool) → more (s / 32) ≡ x → Sends net n s port (left_of value c.left s) (granted_to net n s)
+      sent r q s port k e h true m = second.sent r q s port k e m
+      sent r q s port k e h false m = subst (λ (x : Links). Sends net n s port x (granted_to net n s)) (sym (second.left s m)) (first.sent r q s port k e (or-first (from (s / 32)) (more (s / 32)) m h))
+
+      twice : (old : ℕ) (x : Option ℕ) → unwrap_or x (unwrap_or x old) ≡ unwrap_or x old
+      twice old None = refl
+      twice old (Some p) = refl
+
+      at : (old : ℕ) (told : Option ℕ) (x y : Bool) → unwrap_or (if y then told else None) (unwrap_or (if x then told else None) old) ≡ unwrap_or (if x || y then told else None) old
+      at old told true true = twice old told
+      at old told true false = refl
+      at old told false true = refl
+      at old told false false = refl
+
+      over : (old vc : ℕ) (x : Option (ℕ × ℕ)) → unwrap_or (heard_over vcs (by more) vc x) (unwrap_or (heard_over vcs (by from) vc x) old) ≡ unwrap_or (heard_over vcs (by (λ z. from z || more z)) vc x) old
+      over old vc None = refl
+      over old vc (Some (to, port)) = at old (granted_to net n to (port * vcs + vc)) (from (to / 32)) (more (to / 32))
+
+-- ---- what one block has sent
+module _ {A : Type 0} (value : A → ℕ) (net : Setup) (setup : IsGoodSetup net) (n b : ℕ) (letter : Letter A) (letter_is : IsLetter value net n b letter) where
+  letter-sends : (s port : ℕ) → s / 32 ≡ b → s < nodes net.relation.grid → port < ports net.relation.grid → Sends net n s port (links_in value letter (s % 32)) (tells_in value letter (s % 32))
+  letter-sends s port here low few =
+      let whole : b * 32 + s % 32 ≡ s = omega (arith, here) in
+      subst (λ (x : ℕ). Sends net n x port (links_in value letter (s % 32)) (tells_in value letter (s % 32))) whole
+      (letter_is.sends (s % 32) port (mod_below s 32 (omega arith)) (subst (λ (x : ℕ). x < nodes net.relation.grid) (sym whole) low) few)
+
+  pub letter-heard : (own : ℕ → Bool) (was is : Network A) → ((s : ℕ) → s / 32 ≡ b → left_of value is.left s ≡ links_in value letter (s % 32)) → ((s : ℕ) → s / 32 ≢ b → left_of value is.left s ≡ left_of value was.left s)
+      → ((r i : ℕ) → r < nodes net.relation.grid → i < size net
+      → packets_in value is.states.items r i ≡ unwrap_or (heard net.relation.grid net.relation.vcs (λ s o. if nat_eq (s / 32) b then tells_in value letter (s % 32) o else None) r i) (packets_in value was.states.items r i))
+      → AreSameButPackets value was.states.items is.states.items → length is.states.items ≡ length was.states.items → is ≡ record was { states = is.states; left = is.left } → HasHeardFrom value net own (λ c. nat_eq c b) n was is
+  letter-heard own was is here others told same states_are rest = record {
+    sent = λ r q s port k e h.
+        let there = eqb-true (s / 32) b h in
+        let to = behind net setup r q s port k.0 e in
+        subst (λ (x : Links). Sends net n s port x (granted_to net n s)) (sym (here s there)) (sends-so net n s port (links_in value letter (s % 32)) (tells_in value letter (s % 32)) (letter-sends s port there to.0 to.1));
+    left = λ s h. others s (λ there. true≢false (sym (eq-eqb (s / 32) b there) ∙ h));
+    packets = λ r i k u. told r i k.0 u ∙ ap (λ x. unwrap_or x (packets_in value was.states.items r i)) (over r i k.0 (neighbour net.relation.grid r (i / net.relation.vcs)) refl);
+    told = same;
+    states_are = states_are;
+    rest = rest;
+  }
+    where
+      at : (to port vc : ℕ) → to < nodes net.relation.grid → port < ports net.relation.grid → vc < net.relation.vcs → (x : Bool) → nat_eq (to / 32) b ≡ x
+          → (if x then tells_in value letter (to % 32) (port * net.relation.vcs + vc) else None) ≡ (if x then granted_to net n to (port * net.relation.vcs + vc) else None)
+      at to port vc l u v false e = refl
+      at to port vc l u v true e = (letter-sends to port (eqb-true (to / 32) b e) l u).told vc v
+
+      over : (r i : ℕ) → r < nodes net.relation.grid → (x : Option (ℕ × ℕ)) → neighbour net.relation.grid r (i / net.relation.vcs) ≡ x
+          → heard_over net.relation.vcs (λ s o. if nat_eq (s / 32) b then tells_in value letter (s % 32) o else None) (i % net.relation.vcs) x
+          ≡ heard_over net.relation.vcs (λ s o. if nat_eq (s / 32) b then granted_to net n s o else None) (i % net.relation.vcs) x
+      over r i l None e = refl
+      over r i l (Some (to, port)) e =
+          let back = behind net setup r (i / net.relation.vcs) to port l e in
+          at to port (i % net.relation.vcs) back.0 back.1 (mod_below i net.relation.vcs setup.relation.table.some_vcs) (nat_eq (to / 32) b) refl
+
+-- ---- own blocks have run a cycle, and what the others near them have sent has come
+module _ {A : Type 0} (value : A → ℕ) (w : ℕ) (relation : Routes) (own from : ℕ → Bool) (awake : ℕ) (net : Setup) (n routers : ℕ) (all ran next : Network A) (fits : (x : A) → value x < 2 ^ 64) (may : MayStepIn value w relation own awake net n all)
+    (step : HasStepped value w relation awake n routers all ran) (hears : HasHeardFrom value net own from n ran next) (apart : (b : ℕ) → own b ≡ true → from b ≡ false)
+    (near : (r q s port : ℕ) → IsIn net own r → neighbour net.relation.grid r q ≡ Some (s, port) → own (s / 32) ≡ false → from (s / 32) ≡ true) where
+  pub heard-all : HasHeard value net own n (granted_to net n) ran next
+  heard-all = record {
+    sent = λ r q s port k e other. hears.sent r q s port k e (near r q s port k e other);
+    left = λ s ours. hears.left s (apart (s / 32) ours);
+    packets = λ r i k u. hears.packets r i k u ∙ ap (λ x. unwrap_or x (packets_in value ran.states.items r i)) (over r i k (neighbour net.relation.grid r (i / net.relation.vcs)) refl);
+    told = hears.told;
+    states_are = hears.states_are;
+    rest = hears.rest;
+  }
+    where
+      at : (told : Option ℕ) (s : ℕ) → (own (s / 32) ≡ false → from (s / 32) ≡ true) → (x : Bool) → own (s / 32) ≡ x → (if from (s / 32) then told else None) ≡ (if x then None else told)
+      at told s other true e = ap (λ b. if b then told else None) (apart (s / 32) e)
+      at told s other false e = ap (λ b. if b then told else None) (other e)
+
+      over : (r i : ℕ) → IsIn net own r → (x : Option (ℕ × ℕ)) → neighbour net.relation.grid r (i / net.relation.vcs) ≡ x
+          → heard_over net.relation.vcs (λ s o. if from (s / 32) then granted_to net n s o else None) (i % net.relation.vcs) x ≡ heard_over net.relation.vcs (λ s o. if own (s / 32) then None else granted_to net n s o) (i % net.relation.vcs) x
+      over r i k None e = refl
+      over r i k (Some (to, port)) e = at (granted_to net n to (port * net.relation.vcs + i % net.relation.vcs)) to (near r (i / net.relation.vcs) to port k e) (own (to / 32)) refl
+
+  -- so they show the next count
+  pub shows-heard : ShowsIn value w net own (n + 1) next
+  shows-heard = shows-next-in value w relation own awake net n routers all ran next fits may step (granted_to net n) heard-all
+
+  own-left : (s port : ℕ) → IsIn net own s → port < ports net.relation.grid → Sends net n s port (left_of value next.left s) (granted_to net n s)
+  own-left s port k u = subst (λ (x : Links). Sends net n s port x (granted_to net n s)) (sym (hears.left s (apart (s / 32) k.1)))
+      (sends-so net n s port (left_of value ran.left s) (told_in value awake step.arrived step.chosen step.settled s) (own-sends value w relation own awake net n routers all ran fits may step s port k u))
+
+  -- and they have what has left all of them
+  pub left-heard : HaveLeft value net own n next
+  left-heard = record {
+    own_ones = own-left;
+    others = λ r q s port k e. by r q s port k e (own (s / 32)) refl;
+  }
+    where
+      by : (r q s port : ℕ) → IsIn net own r → neighbour net.relation.grid r q ≡ Some (s, port) → (x : Bool) → own (s / 32) ≡ x → Sends net n s port (left_of value next.left s) (granted_to net n s)
+      by r q s port k e true ours = let back = behind net may.good r q s port k.0 e in own-left s port (back.0, ours) back.1
+      by r q s port k e false other = hears.sent r q s port k e (near r q s port k e other)
+
+-- ---- what stays
+module _ {A : Type 0} (value : A → ℕ) (net : Setup) (own from : ℕ → Bool) (n : ℕ) (was is : Network A) (hears : HasHeardFrom value net own from n was is) where
+  pub heard-plan : is.plan ≡ was.plan
+  heard-plan = ap (λ (x : Network A). x.plan) hears.rest
+
+  pub heard-cycle : is.cycle ≡ was.cycle
+  heard-cycle = ap (λ (x : Network A). x.cycle) hears.rest
+
+  pub heard-works : length is.works.items ≡ length was.works.items
+  heard-works = ap (λ (x : Network A). length x.works.items) hears.rest
+
+  pub heard-found : is.found ≡ was.found
+  heard-found = ap (λ (x : Network A). x.found) hears.rest
+
+-- ---- a mail, letter after letter
+-- the blocks of a test below a number
+abbrev pub up-to : ℕ → (ℕ → Bool) → ℕ → Bool
+up-to m test b = nat_lt b m && test b
+
+and-false : (a : Bool) → (a && false) ≡ false
+and-false true = refl
+and-false false = refl
+
+or-false : (a : Bool) → (a || false) ≡ a
+or-false true = refl
+or-false false = refl
+
+or-true : (a : Bool) → (a || true) ≡ true
+or-true true = refl
+or-true false = refl
+
+up-to-none : (test : ℕ → Bool) (b : ℕ) → false ≡ up-to 0 test b
+up-to-none test b = ap (λ x. x && test b) (sym (le-ltb b 0 (omega arith)))
+
+-- below the next number are those that are below this one, and this one
+below-more : (m b : ℕ) → b ≢ m → nat_lt b m ≡ nat_lt b (m + 1)
+below-more m b other = elim (cases_lt b m) [
+  | inl l ↦ lt-ltb b m l ∙ sym (lt-ltb b (m + 1) (omega (arith, l)))
+  | inr u ↦ le-ltb b m u ∙ sym (le-ltb b (m + 1) (omega (arith, u, other)))
+]
+
+up-to-in : (m : ℕ) (test : ℕ → Bool) → test m ≡ true → (b : ℕ) → (up-to m test b || nat_eq b m) ≡ up-to (m + 1) test b
+up-to-in m test e b = elim (cases_eq b m) [
+  | inl same ↦
+      ap (λ x. up-to m test b || x) (eq-eqb b m same) ∙ or-true (up-to m test b)
+      ∙ sym (ap₂ (λ x y. x && y) (lt-ltb b (m + 1) (omega (arith, same))) (ap test same ∙ e))
+  | inr other ↦ ap (λ x. up-to m test b || x) (ne_eqb b m other) ∙ or-false (up-to m test b) ∙ ap (λ x. x && test b) (below-more m b other)
+]
+
+up-to-out : (m : ℕ) (test : ℕ → Bool) → test m ≡ false → (b : ℕ) → up-to m test b ≡ up-to (m + 1) test b
+up-to-out m test e b = elim (cases_eq b m) [
+  | inl same ↦ ap (λ x. nat_lt b m && x) (ap test same ∙ e) ∙ and-false (nat_lt b m) ∙ sym (ap (λ x. nat_lt b (m + 1) && x) (ap test same ∙ e) ∙ and-false (nat_lt b (m + 1)))
+  | inr other ↦ ap (λ x. x && test b) (below-more m b other)
+]
+
+up-to-all : (m : ℕ) (test : ℕ → Bool) → ((b : ℕ) → test b ≡ true → b < m) → (b : ℕ) → up-to m test b ≡ test b
+up-to-all m test within b = by (test b) refl
+  where
+    by : (x : Bool) → test b ≡ x → up-to m test b ≡ test b
+    by true e = ap (λ y. y && test b) (lt-ltb b m (within b e))
+    by false e = ap (λ y. nat_lt b m && y) e ∙ and-false (nat_lt b m) ∙ sym e
+
+-- what the blocks of a mail below a number have sent has come
+abbrev pub IsHeardTo : {A : Type 0} → (A → ℕ) → ℕ → Mail A → Network A → ℕ → Network A → Type 0
+IsHeardTo value w mail was number is =
+    (net : Setup) (own : ℕ → Bool) (n : ℕ) → IsGoodSetup net → IsPlanOf value w net was.plan → IsMail value net n mail → HasHeardFrom value net own (up-to number (has_bit mail.from)) n was is
+
+module _ {A : Type 0} (value : A → ℕ) (w : ℕ) (mail : Mail A) (was : Network A) where
+  pub heard-to-none : IsHeardTo value w mail was 0 was
+  heard-to-none net own n setup plan sent = heard-same value net own n (λ b. false) (up-to 0 (has_bit mail.from)) was was (up-to-none (has_bit mail.from)) (heard-none value net own n was)
+
+  pub heard-to-out : (number : ℕ) (now : Network A) → has_bit mail.from number ≡ false → IsHeardTo value w mail was number now → IsHeardTo value w mail was (number + 1) now
+  heard-to-out number now e heard net own n setup plan sent =
+      heard-same value net own n (up-to number (has_bit mail.from)) (up-to (number + 1) (has_bit mail.from)) was now (up-to-out number (has_bit mail.from) e) (heard net own n setup plan sent)
+
+  pub heard-to-in : (number : ℕ) (letter : Letter A) (now next : Network A) → has_bit mail.from number ≡ true → slice_get mail.letters.items number ≡ Some letter → IsHeardTo value w mail was number now
+      → ((net : Setup) (own : ℕ → Bool) (n : ℕ) → IsGoodSetup net → IsPlanOf value w net now.plan → IsLetter value net n number letter → HasHeardFrom value net own (λ b. nat_eq b number) n now next)
+      → IsHeardTo value w mail was (number + 1) next
+  heard-to-in number letter now next e has heard one net own n setup plan sent =
+      let first = heard net own n setup plan sent in
+      let same = heard-plan value net own (up-to number (has_bit mail.from)) n was now first in
+      let second = one net own n setup (subst (IsPlanOf value w net) (sym same) plan) (sent.each number letter e has) in
+      heard-same value net own n (λ b. up-to number (has_bit mail.from) b || nat_eq b number) (up-to (number + 1) (has_bit mail.from)) was next (up-to-in number (has_bit mail.from) e)
+      (heard-more value net own n (up-to number (has_bit mail.from)) (λ b. nat_eq b number) was now next first second)
+
+  pub heard-to-all : (m : ℕ) (now : Network A) → ((b : ℕ) → has_bit mail.from b ≡ true → b < m) → IsHeardTo value w mail was m now
+      → (net : Setup) (own : ℕ → Bool) (n : ℕ) → IsGoodSetup net → IsPlanOf value w net was.plan → IsMail value net n mail → HasHeardFrom value net own (has_bit mail.from) n was now
+  heard-to-all m now within heard net own n setup plan sent =
+      heard-same value net own n (up-to m (has_bit mail.from)) (has_bit mail.from) was now (up-to-all m (has_bit mail.from) within) (heard net own n setup plan sent)
+
+-- a block of a list of so many, which are few
+pub few-at : (number end len states sides : ℕ) → number < end → end ≡ len → len ≡ states → states ≡ sides → sides ≤ 8 → (number < states) × (number < 32)
+few-at number end len states sides l e f h few = (omega arith, omega arith)
+
+pub all-below : (b number end len states : ℕ) → end ≤ number → end ≡ len → len ≡ states → b < states → b < number
+all-below b number end len states l e f within = omega arith

@@ -1,0 +1,243 @@
+-- What own blocks of a network write of a cycle that they have run, in the letter of each.
+use Rattle.std.proofs.Common.{◌≡◌, ℕ, ◌+◌, ◌*◌, ◌/◌, ◌<◌, ◌≤◌, ◌^◌, Bool, true, false, List, length, Option, Some, None, refl, ap, ap₂, sym, ◌∙◌, subst, arith, inl, inr, mul_comm, set as write}
+use Rattle.std.specs.Prelude.{is_some, nat_lt, option_map, slice_get, if◌then◌else◌}
+use Rattle.std.proofs.Math.Nat.{mul-le-mul_right}
+use Rattle.std.proofs.lemmas.Bool.{cases_eq, cases_lt, le-ltb, lt-ltb, true≢false}
+use Rattle.std.proofs.lemmas.Nat.{mul-add-lt}
+use Rattle.std.proofs.lemmas.Option.{none-some}
+use prog.Memory.{up}
+use Rattle.noc_topo.specs.Shape.{Grid, local_port, neighbour, nodes, ports}
+use Rattle.noc_packet.specs.Set.{has_bit}
+use Rattle.noc_route.specs.Routes.{Routes}
+use Rattle.noc_sets.specs.Cycle.{Links}
+use Rattle.noc_blocks.specs.Marks.{marks_or_none, packet_at, packet_or_none, taken_at, taken_or_none}
+use Rattle.noc_blocks.specs.Turned.{grants_in}
+use Rattle.noc_blocks.specs.declared.marks.Marks.{Marks}
+use Rattle.noc_theory.specs.Network.{Setup, size}
+use Rattle.noc_theory_bits.specs.Sends.{beat_of}
+use Rattle.noc_theory_bits.specs.Wires.{ShowsBeat}
+use Rattle.noc_turns.specs.States.{lane_of, working_of}
+use Rattle.noc_turns.specs.declared.state.State.{State}
+use Rattle.noc_turns.specs.declared.state.Work.{Work}
+use Rattle.noc_wires.specs.Left.{NOTHING, leaving_of, left_of}
+use Rattle.noc_wires.specs.Telling.{granted_in, granted_or_none, packets_in, packets_or_none, taken_in, taken_or_none as lane_taken}
+use Rattle.noc_rows.specs.Blocks.{working_in, working_or}
+use Rattle.noc_wires.specs.Letters.{AreTellings, IsLinked, links_in, tells_in}
+use Rattle.noc_rows.specs.Mails.{IsLetter}
+use Rattle.noc_rows.specs.Own.{MayStepIn, told_in}
+use Rattle.noc_rows.specs.Shows.{lane_by}
+use Rattle.noc_rows.specs.Steps.{HasStepped}
+use Rattle.noc_wires.specs.declared.letter.Letter.{Letter}
+use Rattle.noc_rows.specs.declared.network.Network.{Network}
+use Rattle.noc_rows.proofs.GrantLemmas.{grants_by}
+use Rattle.noc_rows.proofs.ListLemmas.{others, same-item, written}
+use Rattle.noc_rows.proofs.StageLemmas.{block-of, block-there, lane-of}
+use Rattle.noc_rows.proofs.TurnLemmas.{are-grants, own-sends, tells-read}
+
+-- ---- memory
+-- what stands last in a struct fits where that fits, and one of 32 where all do
+pub last-fits : (k first last : ℕ) → up k (first + last) < 2 ^ 63 → last < 2 ^ 63
+last-fits k first last l = omega (arith, l)
+
+pub one-fits : (n : ℕ) → 32 * n < 2 ^ 63 → n < 2 ^ 63
+one-fits n l = omega (arith, l)
+
+-- where an item stands
+pub offset-fits : (number n size : ℕ) → number < n → n * size < 2 ^ 63 → number * size < 2 ^ 64
+offset-fits number n size l fits =
+    let low : number * size ≤ n * size = mul-le-mul_right size (omega (arith, l)) in
+    omega (arith, low, fits)
+
+-- ---- the marks of a router, of those of its block
+marks-taken : {A : Type 0} (value : A → ℕ) (o : Option (Marks A)) (to_port port_turn : ℕ → ℕ) (i : ℕ) → (marks_or_none value o to_port port_turn).taken i ≡ taken_or_none value o i
+marks-taken value None to_port port_turn i = refl
+marks-taken value (Some marks) to_port port_turn i = refl
+
+marks-packet : {A : Type 0} (value : A → ℕ) (o : Option (Marks A)) (to_port port_turn : ℕ → ℕ) (i : ℕ) → (marks_or_none value o to_port port_turn).packet i ≡ packet_or_none o i
+marks-packet value None to_port port_turn i = refl
+marks-packet value (Some marks) to_port port_turn i = refl
+
+-- a letter of a block that sends nothing tells of nothing
+pub nothing-linked : {A : Type 0} (value : A → ℕ) (g : Grid) (vcs b : ℕ) (letter : Letter A) → ((k o : ℕ) → k < 32 → tells_in value letter k o ≡ None) → IsLinked value g vcs b letter
+nothing-linked value g vcs b letter none k o p l h = absurd (none-some p (sym (none k o l) ∙ h))
+
+module _ {A : Type 0} (value : A → ℕ) (w : ℕ) (relation : Routes) (own : ℕ → Bool) (awake : ℕ) (net : Setup) (n routers : ℕ) (all ran : Network A) (fits : (x : A) → value x < 2 ^ 64) (may : MayStepIn value w relation own awake net n all)
+    (step : HasStepped value w relation awake n routers all ran) where
+  abbrev g : Grid
+  g = net.relation.grid
+
+  abbrev vcs : ℕ
+  vcs = net.relation.vcs
+
+  -- what router s tells
+  abbrev told : ℕ → ℕ → Option ℕ
+  told = told_in value awake step.arrived step.chosen step.settled
+
+  -- what is written of router k of block b: nothing where there is none
+  abbrev pub tells-of : ℕ → ℕ → ℕ → Option ℕ
+  tells-of b k o = if nat_lt (b * 32 + k) (nodes g) then told (b * 32 + k) o else None
+
+  tells-there : (b k o : ℕ) → b * 32 + k < nodes g → tells-of b k o ≡ told (b * 32 + k) o
+  tells-there b k o l = ap (λ x. if x then told (b * 32 + k) o else None) (lt-ltb (b * 32 + k) (nodes g) l)
+
+  tells-beyond : (b k o : ℕ) → nodes g ≤ b * 32 + k → tells-of b k o ≡ None
+  tells-beyond b k o l = ap (λ x. if x then told (b * 32 + k) o else None) (le-ltb (b * 32 + k) (nodes g) l)
+
+  -- ---- what the block has of it
+  granted-of : (b k : ℕ) (work : Work A) → k < 32 → has_bit awake b ≡ true → slice_get ran.works.items b ≡ Some work → granted_in value ran.works.items awake (b * 32 + k) ≡ granted_or_none value (Some work) k
+  granted-of b k work l e has =
+      ap₂ (λ c j. if has_bit awake c then granted_or_none value (slice_get ran.works.items c) j else 0) (block-of b k l) (lane-of b k l)
+      ∙ ap (λ x. if x then granted_or_none value (slice_get ran.works.items b) k else 0) e ∙ ap (λ (o : Option (Work A)). granted_or_none value o k) has
+
+  taken-of : (b k : ℕ) (state : State A) → k < 32 → slice_get ran.states.items b ≡ Some state → (i : ℕ) → taken_in value ran.states.items (b * 32 + k) i ≡ taken_at value state.marks k i
+  taken-of b k state l has i =
+      ap₂ (λ c j. lane_taken (option_map (λ (x : State A). lane_of value x j) (slice_get ran.states.items c)) i) (block-of b k l) (lane-of b k l)
+      ∙ ap (λ (o : Option (State A)). lane_taken (option_map (λ (x : State A). lane_of value x k) o) i) has
+      ∙ marks-taken value (slice_get state.marks k) _ _ i
+
+  packets-of : (b k : ℕ) (state : State A) → k < 32 → slice_get ran.states.items b ≡ Some state → (i : ℕ) → packets_in value ran.states.items (b * 32 + k) i ≡ packet_at state.marks k i
+  packets-of b k state l has i =
+      ap₂ (λ c j. packets_or_none (option_map (λ (x : State A). lane_of value x j) (slice_get ran.states.items c)) i) (block-of b k l) (lane-of b k l)
+      ∙ ap (λ (o : Option (State A)). packets_or_none (option_map (λ (x : State A). lane_of value x k) o) i) has
+      ∙ marks-packet value (slice_get state.marks k) _ _ i
+
+  -- the same numbers are read of it
+  tellings-there : (b k : ℕ) (state : State A) (work : Work A) → own b ≡ true → has_bit awake b ≡ true → slice_get ran.states.items b ≡ Some state → slice_get ran.works.items b ≡ Some work → k < 32 → b * 32 + k < nodes g
+      → AreTellings (size net) (granted_or_none value (Some work) k) (taken_at value state.marks k) (packet_at state.marks k) (tells-of b k)
+  tellings-there b k state work ours e has_state has_work l u =
+      let are = tells-read value w relation own awake net n routers all ran fits may step (b * 32 + k) (u, ap own (block-of b k l) ∙ ours) in
+      let granted = granted-of b k work l e has_work in
+      let taken = taken-of b k state l has_state in
+      let packets = packets-of b k state l has_state in
+      record {
+        each = λ i h.
+            let one = are.each i (ap (λ x. has_bit x i) granted ∙ h) in
+            (one.0, one.1, sym (taken i) ∙ one.2, tells-there b k one.0 u ∙ one.3 ∙ ap Some (packets i));
+        all = λ o p v h.
+            let one = are.all o p v (sym (tells-there b k o u) ∙ h) in
+            (one.0, ap (λ x. has_bit x one.0) (sym granted) ∙ one.1, sym (taken one.0) ∙ one.2, sym (packets one.0) ∙ one.3);
+      }
+
+  tellings-beyond : (b k : ℕ) (state : State A) (work : Work A) → has_bit awake b ≡ true → slice_get ran.works.items b ≡ Some work → k < 32 → nodes g ≤ b * 32 + k
+      → AreTellings (size net) (granted_or_none value (Some work) k) (taken_at value state.marks k) (packet_at state.marks k) (tells-of b k)
+  tellings-beyond b k state work e has_work l u = record {
+    each = λ i h.
+        let worked = ap (λ (xs : List (Work A)). has_bit (granted_in value xs awake (b * 32 + k)) i) (sym step.works) in
+        let one = are-grants value w relation own awake net n routers all ran fits may step in
+        let there = (one.each (b * 32 + k) i (worked ∙ ap (λ x. has_bit x i) (granted-of b k work l e has_work) ∙ h)).router in
+        absurd (omega (arith, there, u));
+    all = λ o p v h. absurd (none-some p (sym (tells-beyond b k o u) ∙ h));
+  }
+
+  pub tellings : (b k : ℕ) (state : State A) (work : Work A) → own b ≡ true → has_bit awake b ≡ true → slice_get ran.states.items b ≡ Some state → slice_get ran.works.items b ≡ Some work → k < 32
+      → AreTellings (size net) (granted_or_none value (Some work) k) (taken_at value state.marks k) (packet_at state.marks k) (tells-of b k)
+  tellings b k state work ours e has_state has_work l = elim (cases_lt (b * 32 + k) (nodes g)) [
+    | inl u ↦ tellings-there b k state work ours e has_state has_work l u
+    | inr u ↦ tellings-beyond b k state work e has_work l u
+  ]
+
+  -- a channel is one of the router
+  channel : (port vc : ℕ) → port < ports g → vc < vcs → port * vcs + vc < size net
+  channel port vc u v = subst (λ x. port * vcs + vc < x) (mul_comm vcs (ports g)) (mul-add-lt port vcs vc (ports g) u v)
+
+  -- ---- a block that takes part
+  module _ (b : ℕ) (work : Work A) (letter : Letter A) (ours : own b ≡ true) (woken : has_bit awake b ≡ true) (has_work : slice_get ran.works.items b ≡ Some work)
+      (links : (k : ℕ) → k < 32 → links_in value letter k ≡ leaving_of (working_of value work k))
+      (tells : (k o : ℕ) → k < 32 → tells_in value letter k o ≡ (if nat_lt o (size net) then tells-of b k o else None)) where
+    tells-below : (k o : ℕ) → k < 32 → o < size net → tells_in value letter k o ≡ tells-of b k o
+    tells-below k o l u = tells k o l ∙ ap (λ x. if x then tells-of b k o else None) (lt-ltb o (size net) u)
+
+    tells-above : (k o : ℕ) → k < 32 → size net ≤ o → tells_in value letter k o ≡ None
+    tells-above k o l u = tells k o l ∙ ap (λ x. if x then tells-of b k o else None) (le-ltb o (size net) u)
+
+    linked : IsLinked value g vcs b letter
+    linked k o p l h = elim (cases_lt o (size net)) [
+      | inl v ↦ elim (cases_lt (b * 32 + k) (nodes g)) [
+        | inl u ↦ (u, v, there u v (grants_by awake (lane_by value step.arrived) (lane_by value step.chosen) (b * 32 + k) o) refl (sym (tells-below k o l v ∙ tells-there b k o u) ∙ h))
+        | inr u ↦ absurd (none-some p (sym (tells-below k o l v ∙ tells-beyond b k o u) ∙ h))
+      ]
+      | inr v ↦ absurd (none-some p (sym (tells-above k o l v) ∙ h))
+    ]
+      where
+        there : b * 32 + k < nodes g → o < size net → (x : Option ℕ) → grants_by awake (lane_by value step.arrived) (lane_by value step.chosen) (b * 32 + k) o ≡ x → option_map (packets_in value step.settled (b * 32 + k)) x ≡ Some p
+            → o / vcs < local_port g → is_some (neighbour g (b * 32 + k) (o / vcs)) ≡ true
+        there u v None e f = absurd (none-some p f)
+        there u v (Some i) e f = (are-grants value w relation own awake net n routers all ran fits may step).linked (b * 32 + k) o i u v e
+
+    leaves : (k : ℕ) → k < 32 → b * 32 + k < nodes g → left_of value ran.left (b * 32 + k) ≡ links_in value letter k
+    leaves k l u =
+        step.puts (b * 32 + k) (block-there value w net all.plan may.shows.plan (b * 32 + k) u) (ap (has_bit awake) (block-of b k l) ∙ woken)
+        ∙ ap₂ (λ c j. leaving_of (working_in value step.worked c j)) (block-of b k l) (lane-of b k l)
+        ∙ ap (λ (o : Option (Work A)). leaving_of (working_or value o k)) (ap (λ (xs : List (Work A)). slice_get xs b) (sym step.works) ∙ has_work)
+        ∙ sym (links k l)
+
+    pub letter-written : IsLetter value net n b letter
+    letter-written = record {
+      linked = linked;
+      sends = λ k port l u v.
+          let one = own-sends value w relation own awake net n routers all ran fits may step (b * 32 + k) port (u, ap own (block-of b k l) ∙ ours) v in
+          record {
+            beat = subst (λ (x : Links). ShowsBeat vcs port (beat_of net n (b * 32 + k) port) x) (leaves k l u) one.beat;
+            told = λ vc y. tells-below k (port * vcs + vc) l (channel port vc v y) ∙ tells-there b k (port * vcs + vc) u ∙ one.told vc y;
+          };
+    }
+
+  -- ---- one that does not
+  pub letter-cleared : (b : ℕ) (letter : Letter A) → own b ≡ true → has_bit awake b ≡ false → ((k : ℕ) → k < 32 → links_in value letter k ≡ NOTHING) → ((k o : ℕ) → k < 32 → tells_in value letter k o ≡ None) → IsLetter value net n b letter
+  letter-cleared b letter ours asleep links tells = record {
+    linked = nothing-linked value g vcs b letter tells;
+    sends = λ k port l u v.
+        let s = b * 32 + k in
+        let e : has_bit awake (s / 32) ≡ false = ap (has_bit awake) (block-of b k l) ∙ asleep in
+        let known = ap own (block-of b k l) ∙ ours in
+        let one = own-sends value w relation own awake net n routers all ran fits may step s port (u, known) v in
+        record {
+          beat = subst (λ (x : Links). ShowsBeat vcs port (beat_of net n s port) x) (step.left_stays s e ∙ may.nothing s (u, known) e ∙ sym (links k l)) one.beat;
+          told = λ vc y. tells k (port * vcs + vc) l ∙ sym (untold s (port * vcs + vc) e) ∙ one.told vc y;
+        };
+  }
+    where
+      untold : (s o : ℕ) → has_bit awake (s / 32) ≡ false → told s o ≡ None
+      untold s o e = ap (λ x. option_map (packets_in value step.settled s) (if x then grants_in (lane_by value step.arrived s) (lane_by value step.chosen s) o else None)) e
+
+  -- a channel has a place, and a bit
+  pub few-channels : (size net ≤ 64) × (size net ≤ w)
+  few-channels =
+      let few = may.shows.plan.room.few in
+      let most = may.shows.plan.room.word in
+      (omega (arith, few, most), omega (arith, few))
+
+  -- its blocks are few, and have all that blocks have
+  pub few-blocks : length ran.states.items ≤ 8
+  few-blocks = omega (arith, step.states_are, may.shows.states_are, may.shows.plan.few)
+
+  pub all-works : length ran.works.items ≡ length ran.states.items
+  all-works = omega (arith, step.states_are, step.works_are, may.shows.states_are, may.shows.works_are)
+
+-- ---- a mail, letter after letter
+-- the letters of the blocks below a number, of those that a mail is from, are written
+abbrev pub AreWritten : {A : Type 0} → (A → ℕ) → ℕ → ℕ → ℕ → Network A → ℕ → List (Letter A) → Type 0
+AreWritten value w awake from ran number letters =
+    (relation : Routes) (net : Setup) (own : ℕ → Bool) (n routers : ℕ) (all : Network _) → MayStepIn value w relation own awake net n all → HasStepped value w relation awake n routers all ran
+    → ((b : ℕ) → has_bit from b ≡ true → own b ≡ true) → (b : ℕ) (letter : Letter _) → b < number → has_bit from b ≡ true → slice_get letters b ≡ Some letter → IsLetter value net n b letter
+
+module _ {A : Type 0} (value : A → ℕ) (w awake from : ℕ) (ran : Network A) where
+  pub written-none : (letters : List (Letter A)) → AreWritten value w awake from ran 0 letters
+  written-none letters relation net own n routers all may step ours b letter l e has = absurd (omega (arith, l))
+
+  pub written-out : (number : ℕ) (letters : List (Letter A)) → has_bit from number ≡ false → AreWritten value w awake from ran number letters → AreWritten value w awake from ran (number + 1) letters
+  written-out number letters out up relation net own n routers all may step ours b letter l e has = elim (cases_eq b number) [
+    | inl same ↦ absurd (true≢false (sym e ∙ ap (has_bit from) same ∙ out))
+    | inr other ↦ up relation net own n routers all may step ours b letter (omega (arith, l, other)) e has
+  ]
+
+  pub written-in : (number : ℕ) (letters : List (Letter A)) (one : Letter A) → number < length letters → has_bit from number ≡ true → AreWritten value w awake from ran number letters
+      → ((relation : Routes) (net : Setup) (own : ℕ → Bool) (n routers : ℕ) (all : Network A) → MayStepIn value w relation own awake net n all → HasStepped value w relation awake n routers all ran → own number ≡ true → IsLetter value net n number one)
+      → AreWritten value w awake from ran (number + 1) (write letters number one)
+  written-in number letters one within is up here relation net own n routers all may step ours b letter l e has = elim (cases_eq b number) [
+    | inl same ↦
+        let found : slice_get (write letters number one) number ≡ Some letter = ap (slice_get (write letters number one)) (sym same) ∙ has in
+        let alike = same-item one letter (slice_get (write letters number one) number) (written letters number (length letters) one refl within) found in
+        subst (λ (x : ℕ). IsLetter value net n x letter) (sym same) (subst (IsLetter value net n number) alike (here relation net own n routers all may step (ours number is)))
+    | inr other ↦ up relation net own n routers all may step ours b letter (omega (arith, l, other)) e (sym (others letters number b one other) ∙ has)
+  ]

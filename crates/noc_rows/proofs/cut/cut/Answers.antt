@@ -1,0 +1,70 @@
+use Rattle.std.proofs.Common.{◌≡◌, ◌+◌, ◌∙◌, ℕ, List, false, length, refl, ap, arith, subst, sym}
+use Rattle.std.specs.Vec.{with_items}
+use Rattle.std.proofs.lemmas.List.{with_items_is}
+use Rattle.noc_packet.specs.Set.{has_bit}
+use Rattle.noc_turns.specs.declared.outlook.Outlook.{Outlook}
+use Rattle.noc_rows.specs.Cuts.{AreNearIn, HasRoused, IsNew}
+use Rattle.noc_rows.specs.declared.network.Network.{Network}
+use Rattle.noc_rows.specs.Rounds.{start_by}
+use Rattle.noc_rows.specs.declared.tile.Tile.{Tile}
+use Rattle.noc_rows.proofs.CutLemmas.{are-cut, near-in, new-tile}
+use Rattle.noc_rows.proofs.OpenLemmas.{all-next, all-none}
+use Rattle.noc_rows.proofs.cut.cut.Given as given
+use Rattle.noc_rows.proofs.cut.cut.Goals as goal
+
+pub rouse-requires : goal.rouse-requires
+rouse-requires g c =
+    let all = c.requires.shows in
+    let outlooks = all.outlooks_are in
+    let few = all.plan.few in
+    omega (arith, outlooks, few, ap length c.as_mut_slice.ensures.value, ap length c.in_ok-copy.ensures.is.outlooks)
+
+-- what is taken of the others, in the copy
+roused : (g : given.Over) (copy : Network g.row.W.Denot) (own : ℕ) (was new : List Outlook) → was ≡ copy.outlooks.items → length new ≡ length was → HasRoused (has_bit own) was new
+    → HasRoused (has_bit own) copy.outlooks.items (with_items copy.outlooks new).items
+roused g copy own was new same long are =
+    subst (HasRoused (has_bit own) copy.outlooks.items) (sym (with_items_is copy.outlooks new (long ∙ ap length same ∙ sym copy.outlooks.ok.0)))
+    (subst (λ (xs : List Outlook). HasRoused (has_bit own) xs new) same are)
+
+pub loop-number-init : goal.loop-number-init
+loop-number-init g c = all-none (λ (i : ℕ) (one : Tile g.row.W.Denot). IsNew g.W.Word.value g.W.Word.bits (start_by c.args.run.now) c.args.count i 0 one) c.new-tiles.result.items c.new-tiles.ensures.items
+
+pub blocks_of-own-requires-clause-blocks : goal.blocks_of-own-requires-clause-blocks
+blocks_of-own-requires-clause-blocks g c = let few = c.requires.shows.plan.few in let blocks = c.requires.blocks in omega (arith, few, blocks)
+
+pub blocks_of-own-requires-clause-tiles : goal.blocks_of-own-requires-clause-tiles
+blocks_of-own-requires-clause-tiles g c = let few = c.requires.shows.plan.few in let blocks = c.requires.blocks in let count = c.requires.count in omega (arith, few, blocks, count)
+
+pub meet_all-requires : goal.meet_all-requires
+meet_all-requires g c =
+    let value = g.W.Word.value in
+    let w = g.W.Word.bits in
+    let start = start_by c.args.run.now in
+    let one : Tile g.row.W.Denot = record { own = c.blocks_of-own.result; network = record c.in_ok-copy.copy { outlooks = with_items c.in_ok-copy.copy.outlooks c.rouse.new.outlooks }; posts = c.new.result; is_whole = false } in
+    let copy = c.in_ok-copy.ensures.is in
+    let sides = subst (AreNearIn (start_by c.args.run.now)) (sym c.deref.ensures.value) (near-in value w start c.args.count c.args.network.now c.requires.good c.requires.shows c.requires.blocks) in
+    let new = new-tile value w start c.args.count c.loop-number.number c.in_ok-copy.copy one c.requires.good (c.in_ok-copy.ensures.shows start.net c.args.run.now.cycle c.requires.shows) (c.requires.blocks ∙ ap length (sym copy.plan.sides)) c.blocks_of-own.ensures c.new.ensures.items (roused g c.in_ok-copy.copy c.blocks_of-own.result c.as_mut_slice.result.now c.rouse.new.outlooks c.as_mut_slice.ensures.value c.rouse.auto.outlooks c.rouse.ensures) refl in
+    (c.requires.tile, (c.requires.letters, (sides, (c.args.count, c.loop-number.number, c.loop-number.invariant, new))))
+
+pub loop-number-preserved : goal.loop-number-preserved
+loop-number-preserved g c =
+    let value = g.W.Word.value in
+    let w = g.W.Word.bits in
+    let start = start_by c.args.run.now in
+    let count = c.args.count in
+    let number = c.loop-number.number in
+    let one : Tile g.row.W.Denot = record { own = c.blocks_of-own.result; network = record c.in_ok-copy.copy { outlooks = with_items c.in_ok-copy.copy.outlooks c.rouse.new.outlooks }; posts = c.new.result; is_whole = false } in
+    let copy = c.in_ok-copy.ensures.is in
+    let both = c.in_ok-meet_all.ensures count number c.loop-number.invariant
+    (new-tile value w start count number c.in_ok-copy.copy one c.requires.good (c.in_ok-copy.ensures.shows start.net c.args.run.now.cycle c.requires.shows) (c.requires.blocks ∙ ap length (sym copy.plan.sides)) c.blocks_of-own.ensures c.new.ensures.items (roused g c.in_ok-copy.copy c.blocks_of-own.result c.as_mut_slice.result.now c.rouse.new.outlooks c.as_mut_slice.ensures.value c.rouse.auto.outlooks c.rouse.ensures) refl) in
+    all-next (λ (i : ℕ) (one : Tile g.row.W.Denot). IsNew g.W.Word.value g.W.Word.bits (start_by c.args.run.now) c.args.count i (c.loop-number.number + 1) one) number c.meet_all.new.tiles.items c.push.new.self.items c.meet_all.new.tile
+    c.in_ok-push.ensures.items both.0 both.1
+
+pub returns : goal.returns
+returns g c =
+    let value = g.W.Word.value in
+    let w = g.W.Word.bits in
+    let start = start_by c.args.run.now in
+    let network = c.args.network.now in
+    are-cut value w start c.args.count network.plan.near.items c.loop-number.number c.loop-number.tiles.items (near-in value w start c.args.count network c.requires.good c.requires.shows c.requires.blocks)
+    (omega (arith, c.loop-number-test.false, c.loop-number.auto.number-end)) c.loop-number.invariant

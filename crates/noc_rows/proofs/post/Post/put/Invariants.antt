@@ -1,0 +1,12 @@
+use Rattle.std.proofs.Common.{◌≡◌}
+use Rattle.rtrb.specs.Ring.{sent}
+use Rattle.noc_rows.proofs.post.Post.put.Given as goal
+
+-- the mail is not on its way yet
+abbrev pub invariant-loop : goal.invariant-loop
+invariant-loop g l = record {
+  past : sent l.self.out ≡ sent l.initial.self.out;
+  mail : l.mail ≡ l.initial.mail;
+  from : l.self.from ≡ l.initial.self.from;
+  back : l.self.back ≡ l.initial.self.back;
+}

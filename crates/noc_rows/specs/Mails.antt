@@ -1,0 +1,62 @@
+-- What tiles of a network send each other in a cycle.
+use Rattle.std.specs.Prelude.{◌≡◌, ℕ, ◌+◌, ◌*◌, ◌/◌, ◌<◌, Bool, true, false, length, Some, None, option_map, slice_get, unwrap_or, if◌then◌else◌}
+use Rattle.noc_topo.specs.Shape.{neighbour, nodes, ports}
+use Rattle.noc_packet.specs.Set.{has_bit}
+use Rattle.noc_lanes.specs.declared.lanes.TheConstants.{LANES}
+use Rattle.noc_theory.specs.Network.{Setup, size}
+use Rattle.noc_theory_bits.specs.Owners.{granted_to, heard}
+use Rattle.noc_theory_bits.specs.Sends.{Sends}
+use Rattle.noc_wires.specs.Left.{left_of}
+use Rattle.noc_wires.specs.Telling.{packets_in, with_packets, lane_in as told_lane}
+use Rattle.noc_wires.specs.Letters.{IsLinked, links_in, tells_in}
+use Rattle.noc_rows.specs.Own.{IsIn}
+use Rattle.noc_wires.specs.declared.letter.Letter.{Letter}
+use Rattle.noc_rows.specs.declared.mail.Mail.{Mail}
+use Rattle.noc_rows.specs.declared.network.Network.{Network}
+
+-- a letter is what block b of a network sends in cycle n
+pub record IsLetter {A : Type 0} (value : A → ℕ) (net : Setup) (n b : ℕ) (letter : Letter A)
+    : Type 0 where
+  pub linked : IsLinked value net.relation.grid net.relation.vcs b letter
+  pub sends : (k port : ℕ) → k < LANES → b * LANES + k < nodes net.relation.grid
+      → port < ports net.relation.grid
+      → Sends net n (b * LANES + k) port (links_in value letter k) (tells_in value letter k)
+
+-- a mail has what these blocks of it send in cycle n, each in a letter
+pub record IsMail {A : Type 0} (value : A → ℕ) (net : Setup) (n : ℕ) (mail : Mail A)
+    : Type 0 where
+  pub many : (b : ℕ) → has_bit mail.from b ≡ true → b < length mail.letters.items
+  pub each : (b : ℕ) (letter : Letter A) → has_bit mail.from b ≡ true
+      → slice_get mail.letters.items b ≡ Some letter → IsLetter value net n b letter
+
+-- to own blocks that have run cycle n, from `was` to `is`, comes what the blocks `from` have sent
+pub record HasHeardFrom {A : Type 0} (value : A → ℕ) (net : Setup) (own from : ℕ → Bool) (n : ℕ)
+    (was is : Network A) : Type 0 where
+  pub sent : (r q s port : ℕ) → IsIn net own r → neighbour net.relation.grid r q ≡ Some (s, port)
+      → from (s / LANES) ≡ true
+      → Sends net n s port (left_of value is.left s) (granted_to net n s)
+  pub left : (s : ℕ) → from (s / LANES) ≡ false → left_of value is.left s ≡ left_of value was.left s
+  pub packets : (r i : ℕ) → IsIn net own r → i < size net
+      → packets_in value is.states.items r i
+      ≡ unwrap_or (heard net.relation.grid net.relation.vcs
+      (λ s o. if from (s / LANES) then granted_to net n s o else None) r i)
+      (packets_in value was.states.items r i)
+  pub told : (s : ℕ) → told_lane value is.states.items s
+      ≡ option_map (with_packets (packets_in value is.states.items s))
+      (told_lane value was.states.items s)
+  pub states_are : length is.states.items ≡ length was.states.items
+  pub rest : is ≡ record was { states = is.states; left = is.left }
+
+-- these are other blocks than own ones, and all of those to which links lead from own routers
+pub record AreAround (net : Setup) (own from : ℕ → Bool) : Type 0 where
+  pub others : (b : ℕ) → own b ≡ true → from b ≡ false
+  pub all : (r q s port : ℕ) → IsIn net own r → neighbour net.relation.grid r q ≡ Some (s, port)
+      → own (s / LANES) ≡ false → from (s / LANES) ≡ true
+
+-- after cycle n, own blocks and those of their neighbours have what left them in it
+pub record HaveLeft {A : Type 0} (value : A → ℕ) (net : Setup) (own : ℕ → Bool) (n : ℕ)
+    (all : Network A) : Type 0 where
+  pub own_ones : (s port : ℕ) → IsIn net own s → port < ports net.relation.grid
+      → Sends net n s port (left_of value all.left s) (granted_to net n s)
+  pub others : (r q s port : ℕ) → IsIn net own r → neighbour net.relation.grid r q ≡ Some (s, port)
+      → Sends net n s port (left_of value all.left s) (granted_to net n s)

@@ -1,0 +1,9 @@
+-- A tile of a network is no larger than memory.
+use Rattle.std.specs.Borrow.{RattleType}
+use Rattle.std.specs.Mem.{FitsInMemory}
+use Rattle.std.specs.declared.clone.Clone.{Ghosts as Cloning}
+use Rattle.noc_lanes.specs.declared.word.Word.{Ghosts as Wording}
+use Rattle.noc_rows.specs.contracts.tile.Tile as tile_type
+
+abbrev pub TileFits : (W : RattleType) → Wording W.Denot → Cloning W.Denot → Type 0
+TileFits W word clone = FitsInMemory (tile_type.the_row W word clone)

@@ -1,0 +1,209 @@
+//! The rings between two tiles, and waiting at them.
+
+ghost use Rattle.std.specs.Prelude.{◌≡◌, ℕ, ◌+◌, ◌++◌, ◌∷◌, [], Bool, true, false, length, IfNone, IfOk, IfSome, IsTrue};
+ghost use Rattle.rtrb.specs.Ring.{SameConsumer, SameProducer, sent, received};
+ghost use Rattle.noc_packet.specs.Set.{has_bit};
+ghost use Rattle.noc_theory.specs.Good.{IsGoodSetup};
+ghost use Rattle.noc_rows.specs.Rounds.{Follows, Start, start_by};
+ghost use Rattle.noc_rows.specs.Shows.{IsPlanOf};
+ghost use Rattle.noc_rows.specs.Mails.{HasHeardFrom};
+ghost use Rattle.noc_rows.specs.Sizes.{BlocksFit, LetterFits};
+ghost use Rattle.noc_rows.specs.Tiles.{AreBlocks, HasRun, IsPost, IsReadyPost, near_in};
+ghost use Rattle.noc_rows.specs.declared.network.Network.{Network as Blocks};
+
+use crate::mail::Mail;
+use crate::network::Network;
+use crate::origin::Run;
+use noc_lanes::Word;
+use noc_packet::Memory;
+use noc_waiting::{LOOKS, rested};
+use rtrb::{Consumer, Producer, Protocol, PushError, RingBuffer};
+use std::alloc::Global;
+use std::marker::PhantomData;
+use std::sync::Wait;
+
+// How often a worker has given its processor up at the last of so many looks: once, or not.
+fn given_up(looks: u32) -> u32 {
+    u32::from(looks % LOOKS == 0)
+}
+
+// What a ring between two tiles carries.
+pub(crate) struct Rounds<W: Word> {
+    word: PhantomData<W>,
+}
+
+impl<W: Word> Protocol<Mail<W>> for Rounds<W> {
+    ghost allows = { λ sent mail. Follows W.value sent mail };
+}
+
+// The rings between a tile and another one, in both directions.
+#[derive(Drop)]
+pub(crate) struct Post<W: Word> {
+    // The blocks that send by it.
+    pub(crate) from: u32,
+    // The mail that goes next: none while it is on its way, until the other's has come.
+    pub(crate) mail: Option<Mail<W>>,
+    // How often its worker has yielded or slept while it waited here.
+    pub(crate) yields: u32,
+    pub(crate) out: Producer<Mail<W>, Global, Rounds<W>>,
+    pub(crate) back: Consumer<Mail<W>, Global, Rounds<W>>,
+}
+
+impl<W: Word> Post<W> {
+    // Sends what these blocks have sent in the cycle that the network has run, in which these were
+    // awake, and waits until it is on its way. False where the other tile is gone.
+    pub(crate) fn send(&mut self, rt: &impl Wait, network: &Network<W>, awake: u32) -> bool
+        requires memory { BlocksFit W.row }
+        requires letters { LetterFits W.row }
+        requires may { (start : Start) × (own : ℕ → Bool) × (c : ℕ) × (was : Blocks W)
+            × IsReadyPost start own c self.old
+            × HasRun W.value W.bits start own awake c was network.now }
+        ensures same { near_in self.new ≡ near_in self.old }
+        ensures sent { IsTrue result → (start : Start) (own : ℕ → Bool) (c : ℕ) (was : Blocks W)
+            → IsReadyPost start own c self.old
+            → HasRun W.value W.bits start own awake c was network.now
+            → IsPost start own (c + 1) c self.new }
+    {
+        let Some(mut mail) = self.mail.take() else {
+            return false;
+        };
+        mail.from = self.from;
+        network.write(awake, &mut mail);
+        self.put(rt, mail)
+    }
+
+    // Waits until the mail is on its way. False where the other tile is gone.
+    fn put(&mut self, rt: &impl Wait, mail: Mail<W>) -> bool
+        requires { Follows W.value (sent self.old.out) mail }
+        ensures from { self.new.from ≡ self.old.from }
+        ensures back { self.new.back ≡ self.old.back }
+        ensures sent { IsTrue result → sent self.new.out ≡ sent self.old.out ++ mail ∷ [] }
+    {
+        let mut mail = mail;
+        let mut looks = 0u32;
+        for _ in rt.forever() {
+            match self.out.push(mail) {
+                Ok(()) => return true,
+                Err(PushError::Full(unsent)) => mail = unsent,
+            }
+            if self.out.is_abandoned() {
+                return false;
+            }
+            looks = rested(rt, looks);
+            self.yields = self.yields.saturating_add(given_up(looks));
+        }
+        unreachable!()
+    }
+
+    // Waits for what the other tile's blocks have sent in the cycle that the network has run, and
+    // has it hear that. False where the other tile is gone.
+    pub(crate) fn receive(&mut self, rt: &impl Wait, network: &mut Network<W>) -> bool
+        requires memory { BlocksFit W.row }
+        requires letters { LetterFits W.row }
+        requires post { (start : Start) × (own : ℕ → Bool) × (c : ℕ)
+            × IsGoodSetup start.net × IsPost start own (c + 1) c self.old
+            × IsPlanOf W.value W.bits start.net network.old.plan
+            × (length network.old.states.items ≡ start.blocks) }
+        requires states { length network.old.states.items ≡ length network.old.plan.sides.items }
+        ensures same { near_in self.new ≡ near_in self.old }
+        ensures plan { network.new.plan ≡ network.old.plan }
+        ensures states { length network.new.states.items ≡ length network.old.states.items }
+        ensures ready { IsTrue result → (start : Start) (own : ℕ → Bool) (c : ℕ)
+            → IsPost start own (c + 1) c self.old → IsReadyPost start own (c + 1) self.new }
+        ensures heard { IsTrue result → (start : Start) (own : ℕ → Bool) (c : ℕ)
+            → IsPost start own (c + 1) c self.old → IsGoodSetup start.net
+            → IsPlanOf W.value W.bits start.net network.old.plan
+            → HasHeardFrom W.value start.net own (has_bit (near_in self.old)) (start.cycle + c)
+            network.old network.new }
+    {
+        let Some(mail) = self.take(rt) else {
+            return false;
+        };
+        network.hear(&mail);
+        self.mail = Some(mail);
+        true
+    }
+
+    // Waits for a mail. `None` where the other tile is gone and has left none.
+    fn take(&mut self, rt: &impl Wait) -> Option<Mail<W>>
+        ensures from { self.new.from ≡ self.old.from }
+        ensures out { self.new.out ≡ self.old.out }
+        ensures none { IfNone result (received self.new.back ≡ received self.old.back) }
+        ensures taken { IfSome result (λ mail. Follows W.value (received self.old.back) mail
+            × (received self.new.back ≡ received self.old.back ++ mail ∷ [])) }
+    {
+        let mut looks = 0u32;
+        for _ in rt.forever() {
+            if let Ok(mail) = self.back.pop() {
+                return Some(mail);
+            }
+            if self.back.is_abandoned() {
+                // (it may have sent one since, and then ended)
+                return self.back.pop().ok();
+            }
+            looks = rested(rt, looks);
+            self.yields = self.yields.saturating_add(given_up(looks));
+        }
+        unreachable!()
+    }
+}
+
+// A ring through which this mail has gone.
+#[derive(Drop)]
+struct Greeted<W: Word> {
+    out: Producer<Mail<W>, Global, Rounds<W>>,
+    back: Consumer<Mail<W>, Global, Rounds<W>>,
+    mail: Mail<W>,
+}
+
+// A ring through which its first mail has gone.
+fn greet<W: Word>(alloc: Global, hello: Mail<W>) -> Result<Greeted<W>, Memory>
+    ensures mail { IfOk result (λ ring. ring.mail ≡ hello) }
+    ensures ends { IfOk result (λ ring. (sent ring.out ≡ hello ∷ [])
+        × (received ring.back ≡ hello ∷ [])) }
+{
+    let (mut out, mut back) = RingBuffer::with_protocol::<Global, Rounds<W>>(alloc, 2)?;
+    out.push_reserved(hello);
+    back.slots_beside(&mut out);
+    let mail = back.pop_known();
+    Ok(Greeted { out, back, mail })
+}
+
+/// The rings between two tiles of a run: the blocks `from` of the one send by them, and `back` of
+/// the other.
+pub(crate) fn meet<W: Word>(
+    alloc: Global,
+    from: u32,
+    back: u32,
+    run: &Run<'_>,
+) -> Result<(Post<W>, Post<W>), Memory>
+    requires { LetterFits W.row }
+    ensures near { IfOk result (λ posts. (near_in posts.0 ≡ back) × (near_in posts.1 ≡ from)) }
+    ensures one { IfOk result (λ posts. (own : ℕ → Bool)
+        → AreBlocks (start_by run.now) own true from
+        → AreBlocks (start_by run.now) own false back
+        → IsReadyPost (start_by run.now) own 0 posts.0) }
+    ensures other { IfOk result (λ posts. (own : ℕ → Bool)
+        → AreBlocks (start_by run.now) own true back
+        → AreBlocks (start_by run.now) own false from
+        → IsReadyPost (start_by run.now) own 0 posts.1) }
+{
+    let one = greet(alloc, Mail::new(alloc, from, run)?)?;
+    let other = greet(alloc, Mail::new(alloc, back, run)?)?;
+    Ok((
+        Post {
+            from,
+            mail: Some(other.mail),
+            yields: 0,
+            out: one.out,
+            back: other.back,
+        },
+        Post {
+            from: back,
+            mail: Some(one.mail),
+            yields: 0,
+            out: other.out,
+            back: one.back,
+        },
+    ))
+}
