@@ -4,7 +4,7 @@ use Rattle.std.specs.Prelude.{◌⊎◌}
 use Rattle.std.proofs.lemmas.Bool.{cases_lt, cases_order, false≢true}
 use Rattle.noc_route.specs.Ranks.{IsRankedBy, Ranking}
 use Rattle.noc_theory.specs.Good.{IsGoodSetup}
-use Rattle.noc_net.specs.Limit.{are_all_out, IsLimit}
+use Rattle.noc_net.specs.Limit.{IsLimit}
 use Rattle.noc_theory.specs.Network.{Run, Setup, packet_at, state_at}
 use Rattle.noc_theory.specs.Progress.{NoneDue, events}
 use Rattle.noc_theory.proofs.budget.UnchangedLemmas.{state-until}
@@ -71,6 +71,12 @@ module _ (net : Setup) (limit : ℕ) where
       at (inl more) further = drains-on n (n + 64) end early here (omega arith) (further more)
       at (inr last) further = drains-on n e end early here (omega (arith, is)) rest
 
+  -- where it ends that goes on from the end of a piece, over looks at which not every packet is out
+  pub drains-waiting : (n waiting ahead cycles end : ℕ) → n < limit → ((k : ℕ) → k ≤ waiting → is_out_at net (n + k) ≡ false)
+      → (k : ℕ) × (ahead ≡ (k + 1) * 64) × (k * 64 < max waiting 1) → cycles ≡ min ahead (limit - n) → DrainsBy net limit (n + cycles) end → DrainsBy net limit n end
+  drains-waiting n waiting ahead cycles end early none step piece rest =
+      drains-over step.0 n (n + cycles) end early (λ j l. none (j * 64) (omega (arith, step.2, l))) (omega (arith, piece, step.1)) rest
+
   -- a run that drains has one end
   pub drains-once : (n d e : ℕ) → DrainsBy net limit n d → DrainsBy net limit n e → d ≡ e
   drains-once n d e (at_once late) (at_once also) = refl
@@ -133,15 +139,13 @@ abbrev pub GoesOn : Run → ℕ → ℕ → Type 0
 GoesOn first limit count = (end : ℕ) → DrainsBy first.net limit count end → DrainsBy first.net limit first.count end
 
 module _ (first now : Run) (limit : ℕ) (same : now.net ≡ first.net) (goes : GoesOn first limit now.count) where
-  -- after a piece more, over looks at which the state is as it is now
-  pub goes-on : (next : Run) (quiet ahead cycles : ℕ) → now.count < limit → is_out_at now.net now.count ≡ false → ((k : ℕ) → k ≤ quiet → state_at now.net (now.count + k) ≡ state_at now.net now.count)
-      → (k : ℕ) × (ahead ≡ (k + 1) * 64) × (k * 64 < max quiet 1) → cycles ≡ min ahead (limit - now.count) → next ≡ record now { count = now.count + cycles } → GoesOn first limit next.count
-  goes-on next quiet ahead cycles early here unchanged step piece ran = λ end rest.
+  -- after a piece more, from whose end it drains as it does from here
+  pub goes-on : (next : Run) (cycles : ℕ) → ((end : ℕ) → DrainsBy now.net limit (now.count + cycles) end → DrainsBy now.net limit now.count end)
+      → next ≡ record now { count = now.count + cycles } → GoesOn first limit next.count
+  goes-on next cycles piece ran = λ end rest.
       let count : next.count ≡ now.count + cycles = ap (λ (u : Run). u.count) ran in
-      goes end
-      (drains-over first.net limit step.0 now.count next.count end early
-      (λ j l. ap (λ net. is_out_at net (look now.count j)) (sym same) ∙ ap (are_all_out now.net) (unchanged (j * 64) (omega (arith, step.2, l))) ∙ here)
-      (omega (arith, count, piece, step.1)) rest)
+      let there : DrainsBy first.net limit (now.count + cycles) end = subst (λ n. DrainsBy first.net limit n end) count rest in
+      goes end (subst (λ net. DrainsBy net limit now.count end) same (piece end (subst (λ net. DrainsBy net limit (now.count + cycles) end) (sym same) there)))
 
   -- at its end
   pub goes-to : IsLimit first.net limit → (limit ≤ now.count) ⊎ (is_out_at now.net now.count ≡ true) → DrainsAt now.net first.count now.count

@@ -12,3 +12,4 @@ pub mod OneCheckLemmas
 pub mod OneAnswerLemmas
 pub mod OneFaultLemmas
 pub mod WorkersLemmas
+pub mod WaitingLemmas

@@ -17,6 +17,7 @@ use Rattle.noc_answers.specs.Drain.{RunsTo}
 use Rattle.noc_answers.specs.Check.{RanksFault, checked_ranks}
 use Rattle.noc_answers.specs.Run.{AsksForRun, Opens, cycles_asked, runs_until_out, report_of}
 use Rattle.noc_commands.specs.Workers.{workers_of}
+use Rattle.noc_answers.proofs.DrainLemmas.{ends-some}
 
 -- a command with a report runs
 pub runs-report : (x : Command) (report : Report) → report_of x ≡ Some report → runs x ≡ true
@@ -51,6 +52,14 @@ ran-report a report drain before after opens n reports drains is same ends =
     let from = subst (λ net. P drain net n) same ends in
     let cycles = subst (λ k. P drain before.net k) (is ∙ cycles-report a.command report opens.settings reports) from in
     ran a before after opens same (subst (λ b. P b before.net (cycles_asked a.command opens.settings)) (sym drains) cycles)
+
+-- a command that asks for a report asks for some run
+pub some-run : (a : Asked) (report : Report) (drain : Bool) (before : Run) (opens : Opens a before.net) → report_of a.command ≡ Some report → runs_until_out a.command ≡ drain
+    → (run : Run) × AsksForRun a run
+some-run a report drain before opens reports drains =
+    let end = ends-some before.net drain opens.settings.cycles in
+    let run : Run = record { net = before.net; count = end.0 } in
+    (run, ran-report a report drain before run opens opens.settings.cycles reports drains refl refl end.1)
 
 -- the fault of ranks that are checked
 pub in_checked_ranks : (a : Asked) (s : Settings) (routes : Routes) (f : Fault) (ranks : Option TextValue) → AsksForRelation a s routes → checked_ranks a ≡ ranks

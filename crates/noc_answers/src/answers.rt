@@ -12,7 +12,7 @@ use crate::accept::answer_check;
 use crate::explain::explain;
 use crate::formula::answer_ranks;
 use crate::request::{Files, Request, files_of};
-use crate::run::run;
+use crate::run::{Task, run, run_by_workers};
 use crate::trace::trace;
 use noc_commands::{Command, Report};
 use noc_faults::{Fault, Status};
@@ -32,8 +32,8 @@ const _: () = prove!(noc_commands::MAX_WORKERS == noc_tiles::MAX_WORKERS);
 /// A `run` with a rank file that ends without a fault is done, and never stuck. Where it is to
 /// drain, every packet has arrived.
 ///
-/// Workers change no report, and at present no threads are started for them: one thread runs each
-/// network, by rows.
+/// A `run` by two or more workers starts threads (`noc_net::Network::run_by`). Workers change no
+/// report.
 pub fn answer<R: Threads + Wait + Sync, W: Sink>(
     rt: &R,
     alloc: Global,
@@ -45,10 +45,24 @@ pub fn answer<R: Threads + Wait + Sync, W: Sink>(
     ensures ranked { IsRankedRun request.now → IfOk result (λ status. status ≡ done) }
     ensures drained { IsRankedDrain request.now → IfOk result (λ _. (text : List ℕ) × AsksForArrivals request.now text × Wrote W.contents W.has_failed sink.old sink.new text (Ok tt)) }
 {
-    answer_one(rt, alloc, request, sink)
+    match request.command {
+        Command::Run {
+            workers,
+            report,
+            drain,
+        } if 1 < workers => {
+            let task = Task {
+                workers,
+                report,
+                drain,
+            };
+            run_by_workers(rt, alloc, &files_of(request), task, sink)
+        }
+        _ => answer_one(rt, alloc, request, sink),
+    }
 }
 
-/// Answers a request as `answer` does, and needs no right to wait.
+/// Answers a request as `answer` does, with one thread, and needs no right to wait.
 pub fn answer_one<W: Sink>(
     rt: &(impl Threads + Sync),
     alloc: Global,

@@ -1,12 +1,15 @@
 //! Running a network for its cycles, and on until every packet is out.
 
-ghost use Rattle.std.specs.Prelude.{◌≡◌, ℕ, ◌+◌, ◌*◌, ◌<◌, ◌≤◌, max, true};
-ghost use Rattle.noc_answers.specs.Drain.{RunsTo};
+ghost use Rattle.std.specs.Prelude.{◌≡◌, ℕ, ◌+◌, ◌*◌, ◌<◌, ◌≤◌, max, false, true, IfOk};
+ghost use Rattle.noc_answers.specs.Drain.{DrainsBy, RunsTo, is_out_at};
 ghost use Rattle.noc_theory.specs.Network.{state_at};
 ghost use Rattle.noc_theory.specs.Progress.{events};
 ghost use Rattle.noc_theory.specs.declared.limits.TheConstants.{CYCLE_LIMIT};
 
-use noc_net::Network;
+use noc_net::{Network, NotRun};
+use std::alloc::Global;
+use std::sync::Wait;
+use std::thread::Threads;
 
 // After how many cycles a run that is to drain looks again whether every packet is out.
 const DRAIN_CHECK_INTERVAL: u64 = 64;
@@ -21,11 +24,64 @@ pub(crate) fn run_on(network: &mut Network, drain: bool)
     }
     let limit = network.limit();
     while network.count() < limit && !network.all_out() {
-        let left = limit - network.count();
-        let quiet = unchanged_cycles(network, left);
-        let cycles = to_next_look(quiet).min(left);
+        let cycles = next_piece(network, limit);
         network.run(cycles);
     }
+}
+
+// The network where it is then, run on by so many workers.
+pub(crate) fn run_on_by<R: Threads + Wait + Sync>(
+    rt: &R,
+    alloc: Global,
+    network: Network,
+    drain: bool,
+    workers: usize,
+) -> Result<Network, NotRun>
+    ensures net { IfOk result (λ n. n.net ≡ network.net) }
+    ensures end { IfOk result (λ n. RunsTo drain n.net network.count n.count) }
+{
+    if !drain {
+        return Ok(network);
+    }
+    let mut network = network;
+    let limit = network.limit();
+    while network.count() < limit && !network.all_out() {
+        let cycles = next_piece(&network, limit);
+        network = network.run_by(rt, alloc, cycles, workers)?;
+    }
+    Ok(network)
+}
+
+// How many cycles a network with packets that are not out runs before it looks again whether they
+// are: up to a look before which they cannot be, or to its limit.
+fn next_piece(network: &Network, limit: u64) -> u64
+    requires early { network.now.count < limit }
+    requires limit { limit ≤ CYCLE_LIMIT }
+    requires waiting { is_out_at network.now.net network.now.count ≡ false }
+    ensures some { 0 < result }
+    ensures within { network.now.count + result ≤ limit }
+    ensures on { (end : ℕ) → DrainsBy network.now.net limit (network.now.count + result) end
+        → DrainsBy network.now.net limit network.now.count end }
+{
+    let left = limit - network.count();
+    let waiting = unchanged_cycles(network, left).max(undue_cycles(network, left));
+    to_next_look(waiting).min(left)
+}
+
+// How many of the next cycles, at most `most`, it takes until every packet is due: before it is, a
+// packet is not out.
+fn undue_cycles(network: &Network, most: u64) -> u64
+    ensures within { result ≤ most }
+    ensures waiting { (k : ℕ) → 0 < k → k ≤ result
+        → is_out_at network.now.net (network.now.count + k) ≡ false }
+{
+    let count = network.count();
+    let mut cycles = 0u64;
+    for number in 0..network.packets() {
+        let due = u64::from(network.packet(number).due);
+        cycles = cycles.max(due.saturating_sub(count));
+    }
+    cycles.min(most)
 }
 
 // How many of the next cycles, at most `most`, are known to leave the state as it is: after a cycle

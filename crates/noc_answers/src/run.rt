@@ -1,25 +1,30 @@
 //! Running the network that is asked for.
 
-ghost use Rattle.std.specs.Prelude.{◌≡◌, ◌<◌, ◌≤◌, Some, true, IfErr, IfOk};
+ghost use Rattle.std.specs.Prelude.{◌≡◌, ◌+◌, ◌<◌, ◌≤◌, Some, true, IfErr, IfOk};
 ghost use Rattle.noc_files.specs.Gives.{Gives};
 ghost use Rattle.noc_files.specs.Traffic.{traffic_of};
 ghost use Rattle.noc_files.specs.Writing.{Wrote};
 ghost use Rattle.noc_answers.specs.Asked.{lent_files, lent_text, read_by};
 ghost use Rattle.noc_answers.specs.Ending.{Refuses};
+ghost use Rattle.noc_commands.specs.Workers.{workers_of};
 ghost use Rattle.noc_answers.specs.Answer.{IsAnswered, TextsFault, runs};
+ghost use Rattle.noc_answers.specs.Drain.{RunsTo};
+ghost use Rattle.noc_theory.specs.declared.limits.TheConstants.{CYCLE_LIMIT};
 ghost use Rattle.noc_answers.specs.Run.{IsNetworkOf, Opens, PacketsFault, runs_until_out, report_of};
 
 use crate::accept::checked_relation;
-use crate::drain::run_on;
+use crate::drain::{run_on, run_on_by};
 use crate::ending::{ended, ending};
 use crate::request::{Bytes, Files};
 use noc_commands::Report;
 use noc_faults::{Fault, Status};
 use noc_files::{InputFault, MAX_CYCLES, Sink, read_traffic, write_report};
-use noc_net::Network;
+use noc_net::{Network, NotRun};
 use noc_packet::{MAX_BUFFER, Packet};
 use noc_route::Relation;
+use noc_tiles::RunFault;
 use std::alloc::Global;
+use std::sync::Wait;
 use std::thread::Threads;
 
 // Runs the network for its cycles, and writes a report; ranks are checked before, if there are any.
@@ -39,6 +44,53 @@ pub(crate) fn run<W: Sink>(
     network.run(cycles);
     run_on(&mut network, drain);
     ended(write_report(&network, report, sink), ending(&network))
+}
+
+// What is asked of a run by workers: how many these are, the report, and whether it is to drain.
+#[derive(Clone, Copy)]
+pub(crate) struct Task {
+    pub(crate) workers: usize,
+    pub(crate) report: Report,
+    pub(crate) drain: bool,
+}
+
+// The same by two or more workers.
+pub(crate) fn run_by_workers<R: Threads + Wait + Sync, W: Sink>(
+    rt: &R,
+    alloc: Global,
+    files: &Files<'_>,
+    task: Task,
+    sink: &mut W,
+) -> Result<Status, Fault>
+    requires report { report_of files.now.command ≡ Some task.report }
+    requires drain { runs_until_out files.now.command ≡ task.drain }
+    requires workers { workers_of files.now.command ≡ task.workers }
+    requires number { 1 < task.workers }
+    ensures { IsAnswered W.contents W.has_failed sink.old sink.new (lent_files files.now) result }
+{
+    let (network, cycles) = opening_network(rt, alloc, files)?;
+    match run_to_end(rt, alloc, network, cycles, task) {
+        Ok(network) => ended(write_report(&network, task.report, sink), ending(&network)),
+        Err(NotRun::Memory) => Err(Fault::Run(RunFault::Memory)),
+        Err(NotRun::NoWorker) => Err(Fault::Run(RunFault::NoWorker)),
+    }
+}
+
+// The network after so many cycles and, where it is to drain, those that this takes: all by the
+// workers.
+fn run_to_end<R: Threads + Wait + Sync>(
+    rt: &R,
+    alloc: Global,
+    network: Network,
+    cycles: u64,
+    task: Task,
+) -> Result<Network, NotRun>
+    requires { network.count + cycles ≤ CYCLE_LIMIT }
+    ensures net { IfOk result (λ n. n.net ≡ network.net) }
+    ensures end { IfOk result (λ n. RunsTo task.drain n.net (network.count + cycles) n.count) }
+{
+    let network = network.run_by(rt, alloc, cycles, task.workers)?;
+    run_on_by(rt, alloc, network, task.drain, task.workers)
 }
 
 // The network before its first cycle, and the cycles of the configuration, once the ranks are

@@ -59,8 +59,8 @@ const AFTER_RUN_HELP: &str =
 every 64 cycles it ends if all packets are out, and it ends at the limit, which is the last due
 time and the number of events that the traffic takes. With ranks, all packets are out by then.
 
-The report is the same for every number of workers. At present one thread runs each network, so a
-greater number makes no run faster.
+The report is the same for every number of workers. N workers run N tiles of the network, each in a
+thread, or as many tiles as there are blocks of 32 routers.
 
 Examples:
   noc run mesh.toml traffic.csv --report stalls

@@ -54,6 +54,7 @@ pub use event_core::Core;
 pub use fault::NetFault;
 pub use limit::MAX_LIMIT;
 pub use network::Network;
+pub use noc_rows::NotRun;
 pub use noc_theory::{CYCLE_LIMIT, Event, NotReady};
 pub use parts::Parts;
 pub use room::Room;

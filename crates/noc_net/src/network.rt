@@ -33,11 +33,13 @@ use crate::room::Room;
 use noc_packet::{Beat, MAX_PACKETS, Memory, Packet, ends_at, starts_at};
 use noc_route::Relation;
 use noc_router::{Finding, Plan, Router, VERDICTS};
-use noc_rows::Rows;
+use noc_rows::{NotRun, Rows, Setup};
 use noc_theory::CYCLE_LIMIT;
 use noc_topo::LINKS;
 use std::alloc::Global;
 use std::marker::Model;
+use std::sync::Wait;
+use std::thread::Threads;
 
 /// A network of routers with one wire in each direction of each link, run in lockstep.
 ///
@@ -163,6 +165,45 @@ impl Network {
             None => self.parts.run(cycles),
         }
         self.count += cycles;
+    }
+
+    /// Runs so many cycles by up to so many threads, of which the caller's is one, each with whole
+    /// blocks of 32 routers; or tells that memory or a thread was refused. One worker runs them as
+    /// `run` does, and is refused nothing.
+    pub fn run_by<R: Threads + Wait + Sync>(
+        self,
+        rt: &R,
+        alloc: Global,
+        cycles: u64,
+        workers: usize,
+    ) -> Result<Network, NotRun>
+        requires { self.count + cycles ≤ CYCLE_LIMIT }
+        ensures { IfOk result (λ n. n ≡ record self { count = self.count + cycles }) }
+    {
+        let Network {
+            mut parts,
+            rows,
+            count,
+        } = self;
+        let rows = match rows {
+            Some(rows) => {
+                let setup = Setup {
+                    relation: &parts.relation,
+                    depth: parts.buffer,
+                    packets: &parts.packets,
+                };
+                Some(rows.run_by(rt, alloc, &setup, cycles as u32, workers)?)
+            }
+            None => {
+                parts.run(cycles);
+                None
+            }
+        };
+        Ok(Network {
+            parts,
+            rows,
+            count: count + cycles,
+        })
     }
 
     /// How many cycles have run, at most the limit: a network never goes beyond it.

@@ -26,3 +26,5 @@ mod relations;
 mod rules;
 #[cfg(test)]
 mod same;
+#[cfg(test)]
+mod threads;

@@ -1,18 +1,14 @@
-use Rattle.std.proofs.Common.{◌-◌, ◌<◌, ◌≤◌, ◌∙◌, ap, arith, inl, inr, min, sym}
+use Rattle.std.proofs.Common.{◌≤◌, ◌∙◌, ap, arith, inl, inr, sym}
 use Rattle.noc_theory.specs.Network.{Run}
 use Rattle.noc_answers.proofs.DrainLemmas.{goes-on, goes-to}
 use Rattle.noc_answers.proofs.drain.run_on.Goals as goal
 
 pub loop-network-preserved : goal.loop-network-preserved
 loop-network-preserved c =
-    let now = c.loop-network.network in
     let so_far = c.loop-network.invariant in
-    let early : now.count < c.limit-limit.result = omega (arith, c.count.ensures.value, c.loop-network-test.true) in
-    let piece = c.min-cycles.ensures ∙ ap (λ n. min c.to_next_look.result (c.limit-limit.result - n)) c.count-in-loop-network.ensures.value in
     record {
       net = ap (λ (u : Run). u.net) c.run.ensures.value ∙ so_far.net;
-      on = goes-on c.args.network.now now c.limit-limit.result so_far.net so_far.on c.run.new.self c.unchanged_cycles-quiet.result c.to_next_look.result c.min-cycles.result early
-          (sym c.all_out.ensures.value ∙ c.if-not-all_out.true) c.unchanged_cycles-quiet.ensures.same c.to_next_look.ensures.look piece c.run.ensures.value;
+      on = goes-on c.args.network.now c.loop-network.network c.limit-limit.result so_far.net so_far.on c.run.new.self c.next_piece-cycles.result c.next_piece-cycles.ensures.on c.run.ensures.value;
     }
 
 pub returns-else-not-all_out-clause-end : goal.returns-else-not-all_out-clause-end
