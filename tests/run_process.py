@@ -413,17 +413,69 @@ def bounded_memory(calls):
 
 
 def threads_refused(calls):
-    """Where no thread may start, all runs are as ever, also those by several workers: one thread runs each network."""
-    calls.put(many=PLAIN.replace(b"[2]", b"[2, 2]").replace(b"channels = 1", b"channels = 8"))
+    """Where no thread may start, a run that wants one says so and writes nothing. All others are as ever: those by one
+    worker, and those of networks of one block of routers."""
+    calls.put(many=PLAIN.replace(b"[2]", b"[2, 2]").replace(b"channels = 1", b"channels = 8"), **busy_texts(8, 5000))
     for workers in ([], ["--workers", "2"], ["--workers", "4"]):
         calls.answers("no thread", ["run", "many", "traffic", *workers], REPORT, preexec_fn=no_thread_more)
     calls.answers("no thread", ["run", "plain", "traffic"], REPORT, preexec_fn=no_thread_more)
+    alone = calls.run(["run", "whole", "busy"])
+    calls.answers("no thread is wanted", ["run", "whole", "busy"], alone.stdout, preexec_fn=no_thread_more)
+    for name, workers, drain in product(("whole", "started"), ("2", "3"), ([], ["--drain"])):
+        if name == "whole" or drain:
+            calls.answers("no thread", ["run", name, "busy", "--workers", workers, *drain], b"fault run 2 NoWorker\n",
+                          preexec_fn=no_thread_more)
+
+
+def busy_texts(side, cycles):
+    """A mesh of so many by so many routers that all have something to send for so many cycles; `whole` runs for them,
+    and `started` for one, so that a drain has all others."""
+    nodes, most = side * side, min(20000, side * side * cycles // 64)
+    packets = [b"%d,%d,0,64,%d" % (number % nodes, (number + 1 + number % (nodes - 1)) % nodes, number * cycles // most)
+               for number in range(most)]
+    mesh = f'kind = "mesh"\nradix = [{side}, {side}]\nchannels = 2\nbuffer = 4\nclasses = 1\nrule = "dor"\n'
+    return {"whole": f"{mesh}cycles = {cycles}\n".encode(), "started": f"{mesh}cycles = 1\n".encode(),
+            "busy": TRAFFIC_HEADER + b"\n".join(packets) + b"\n"}
+
+
+def most_threads(calls, words):
+    """The most threads that the system was seen to list of a call until it ended, and the call."""
+    with tempfile.TemporaryFile() as out, tempfile.TemporaryFile() as errors:
+        process = subprocess.Popen([calls.program, *words], cwd=calls.folder, stdout=out, stderr=errors)
+        most = 0
+        while process.poll() is None:
+            try:
+                most = max(most, len(os.listdir(f"/proc/{process.pid}/task")))
+            except FileNotFoundError:
+                pass
+            time.sleep(0.0005)
+        texts = []
+        for text in (out, errors):
+            text.seek(0)
+            texts.append(text.read())
+    return most, subprocess.CompletedProcess(words, process.returncode, *texts)
+
+
+def threads_that_run(calls):
+    """A run by workers has as many threads as workers, the first one of the process among them, or as many as there
+    are blocks of 32 routers. So it has where a drain runs up to the last due time."""
+    if not os.path.isdir("/proc/self/task"):
+        print("threads are not looked for: there is no list of them (/proc/self/task)")
+        return
+    for side, blocks in ((8, 2), (16, 8)):
+        calls.put(**busy_texts(side, 20000))
+        for workers, words in product((1, 2, 4), (["whole"], ["started", "--drain"])):
+            call = ["run", words[0], "busy", "--report", "summary", "--workers", str(workers), *words[1:]]
+            most, ran = most_threads(calls, call)
+            right = most == min(workers, blocks) and not ran.stderr
+            calls.count(f"{most} threads {call}, {side} by {side}", right, ran)
 
 
 def reports_by_workers(calls):
     """Runs by several workers are reported as by one: on tori and in three dimensions, with ranks and without, over
     more cycles than workers run in one go. Packets become due up to the last cycles."""
-    networks = (("torus", "4, 4", 8, "dateline"), ("mesh", "3, 3, 2", 5, "dor"), ("torus", "4, 4", 7, "dor"))
+    networks = (("torus", "4, 4", 8, "dateline"), ("mesh", "3, 3, 2", 5, "dor"), ("torus", "4, 4", 7, "dor"),
+                ("torus", "8, 8", 8, "dateline"), ("mesh", "5, 5, 4", 2, "dor"), ("torus", "9, 4", 2, "dor"))
     for (kind, radix, channels, rule), drain in product(networks, ([], ["--drain"])):
         nodes = prod(int(size) for size in radix.split(","))
         packets = [b"%d,%d,0,%d,%d\n" % (number % nodes, (number + 1 + number % (nodes - 1)) % nodes, number % 5 + 1,
@@ -473,8 +525,8 @@ def drains_that_are_stuck(calls):
 
 GROUPS = [inputs_that_cannot_be_read, inputs_at_the_limit, names, wrong_words, outputs_that_fail,
           pipe_that_closes_early, trace_cycle_by_cycle, reports_cut_off, fault_lines_in_one_write, order_of_faults,
-          bytes_that_are_no_text, bounded_memory, threads_refused, reports_by_workers, drains_that_are_stuck,
-          refused_growths, cut_texts, worked_texts]
+          bytes_that_are_no_text, bounded_memory, threads_refused, threads_that_run, reports_by_workers,
+          drains_that_are_stuck, refused_growths, cut_texts, worked_texts]
 
 
 def main():
