@@ -146,12 +146,24 @@ def workloads():
     ]
 
 
+def large_workloads():
+    """Two more of 256 routers, with which bench/workers.py measures."""
+    return [
+        # 0.42, more than it takes
+        Workload("i_mesh16", Network("mesh", (16, 16), 4, 4, 1, "dor", 12000), 22, [64], 12000, uniform(256)),
+        # 0.13
+        Workload(
+            "j_mesh884", Network("mesh", (8, 8, 4), 4, 4, 1, "dor", 24000), 23, [64], 23500, uniform(256), packets=12000
+        ),
+    ]
+
+
 def main():
     if len(sys.argv) != 2:
         sys.exit("usage: make_workloads.py FOLDER")
     folder = Path(sys.argv[1])
     folder.mkdir(parents=True, exist_ok=True)
-    for load in workloads():
+    for load in workloads() + large_workloads():
         texts_in(folder, load)
 
 

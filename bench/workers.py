@@ -1,31 +1,34 @@
 #!/usr/bin/env python3
 """Measures what several workers gain.
 
-    workers.py PROGRAM [--workers W..] [--repeat N] [--only NAME..]
+    workers.py PROGRAM [--workers W..] [--repeat N] [--beside N] [--channels N] [--only NAME..]
 
 For workloads of make_workloads.py on 64 and on 256 routers the program runs with 1, 2 and 4 workers, or those that
-are named, in turn: once for the workload's cycles and once for one cycle. The networks have eight channels here. At
-present one thread runs each network, whatever the number of workers, so all figures are about 1. What the first takes
-longer is the time of the cycle loop. Of each, the least of N runs counts (5 by default). A table in Markdown goes to
-standard output: router-cycles per second of the first number of workers, and how many times as fast the others are.
-Reports that differ are an error.
+are named, in turn: once for the workload's cycles and once for one cycle. What the first takes longer is the time of
+the cycle loop. Of each, the least of N runs counts (9 by default). A table in Markdown goes to standard output:
+router-cycles per second of the first number of workers, and how many times as fast the others are. With --channels
+each network has so many virtual channels, and its traffic is the same. Reports that differ are an error.
 
 More workers than free processors do not pay, so what other programs do on the machine shows in every figure: its load
-comes first.
+comes first. With --beside so many processes that are always busy run beside the program.
 """
 import argparse
 import os
+import subprocess
 import sys
 import tempfile
+from contextlib import contextmanager
 from dataclasses import replace
 from pathlib import Path
 
 sys.dont_write_bytecode = True
-from make_workloads import texts_in, workloads  # noqa: E402
+from make_workloads import large_workloads, texts_in, workloads  # noqa: E402
 from measure import Joined, measure  # noqa: E402
 
-WIDE = 8
-WORKLOADS = ["a_long", "b_long", "d_transpose16", "h_torus16"]
+LOADS = {load.name: load for load in workloads() + large_workloads()}
+# Those that are busy for long enough.
+WORKLOADS = ["a_long", "b_long", "c_torus8", "f_hotspot8", "g_mesh444", "d_transpose16", "h_torus16", "i_mesh16",
+             "j_mesh884"]
 
 
 class Workers(Joined):
@@ -40,33 +43,52 @@ class Workers(Joined):
         self.words = [self.program, "run", "/dev/stdin", texts_in(folder, load)[1], "--workers", self.workers]
 
 
-def main():
-    parser = argparse.ArgumentParser(description="Measures what several workers gain.")
-    parser.add_argument("program")
-    parser.add_argument("--workers", nargs="+", type=int, default=[1, 2, 4], metavar="W", help="numbers of workers")
-    parser.add_argument("--repeat", type=int, default=5, metavar="N", help="runs of which the best counts")
-    parser.add_argument("--only", nargs="+", metavar="NAME", default=WORKLOADS, help="these workloads")
-    options = parser.parse_args()
-    print(f"Load before: {os.getloadavg()[0]:.1f} on {os.cpu_count()} processors.\n")
+@contextmanager
+def busy(count):
+    """So many processes that are always busy."""
+    started = [subprocess.Popen([sys.executable, "-c", "while True: pass"]) for _ in range(count)]
+    try:
+        yield
+    finally:
+        for process in started:
+            process.kill()
+            process.wait()
+
+
+def table(options, folder):
+    """Writes the table; returns whether no report differed."""
     least, *others = options.workers
     heads = ["workload", "routers", "cycles", f"M router-cycles/s by {least}", *(f"by {workers}" for workers in others)]
     print("|", " | ".join(heads), "|")
     print("|---|" + "--:|" * (len(heads) - 1))
     well = True
-    with tempfile.TemporaryDirectory(prefix="noc-bench-") as folder:
-        for load in workloads():
-            if load.name not in options.only:
-                continue
-            load = replace(load, network=replace(load.network, channels=WIDE))
-            sides = [Workers(options.program, workers) for workers in options.workers]
-            (first, *more), reports = measure(load, sides, options.repeat, Path(folder))
-            figures = [f"{first / 1e6:.1f}", *(f"{speed / first:.2f}" for speed in more)]
-            cells = [load.name, str(load.network.nodes), str(load.network.cycles), *figures]
-            print("|", " | ".join(cells), "|", flush=True)
-            if len(reports) > 1:
-                print(f"workers: the reports on {load.name} differ", file=sys.stderr)
-                well = False
-    return 0 if well else 1
+    for load in map(LOADS.get, options.only):
+        if options.channels:
+            load = replace(load, network=replace(load.network, channels=options.channels))
+        sides = [Workers(options.program, workers) for workers in options.workers]
+        (first, *more), reports = measure(load, sides, options.repeat, folder)
+        figures = [f"{first / 1e6:.1f}", *(f"{speed / first:.2f}" for speed in more)]
+        cells = [load.name, str(load.network.nodes), str(load.network.cycles), *figures]
+        print("|", " | ".join(cells), "|", flush=True)
+        if len(reports) > 1:
+            print(f"workers: the reports on {load.name} differ", file=sys.stderr)
+            well = False
+    return well
+
+
+def main():
+    parser = argparse.ArgumentParser(description="Measures what several workers gain.")
+    parser.add_argument("program")
+    parser.add_argument("--workers", nargs="+", type=int, default=[1, 2, 4], metavar="W", help="numbers of workers")
+    parser.add_argument("--repeat", type=int, default=9, metavar="N", help="runs of which the best counts")
+    parser.add_argument("--beside", type=int, default=0, metavar="N", help="busy processes that run meanwhile")
+    parser.add_argument("--channels", type=int, metavar="N", help="virtual channels of each network")
+    parser.add_argument("--only", nargs="+", metavar="NAME", choices=LOADS, default=WORKLOADS,
+                        help="these workloads")
+    options = parser.parse_args()
+    print(f"Load before: {os.getloadavg()[0]:.1f} on {os.cpu_count()} processors; {options.beside} busy beside.\n")
+    with tempfile.TemporaryDirectory(prefix="noc-bench-") as folder, busy(options.beside):
+        return 0 if table(options, Path(folder)) else 1
 
 
 if __name__ == "__main__":
