@@ -438,27 +438,31 @@ def busy_texts(side, cycles):
             "busy": TRAFFIC_HEADER + b"\n".join(packets) + b"\n"}
 
 
-def most_threads(calls, words):
-    """The most threads that the system was seen to list of a call until it ended, and the call."""
+def threads_of(calls, words):
+    """The most threads at a time that the system was seen to list of a call until it ended, how many it listed in all,
+    and the call."""
     with tempfile.TemporaryFile() as out, tempfile.TemporaryFile() as errors:
         process = subprocess.Popen([calls.program, *words], cwd=calls.folder, stdout=out, stderr=errors)
-        most = 0
+        most, all_of_them = 0, set()
         while process.poll() is None:
             try:
-                most = max(most, len(os.listdir(f"/proc/{process.pid}/task")))
+                now = os.listdir(f"/proc/{process.pid}/task")
             except FileNotFoundError:
-                pass
+                now = []
+            most = max(most, len(now))
+            all_of_them.update(now)
             time.sleep(0.0005)
         texts = []
         for text in (out, errors):
             text.seek(0)
             texts.append(text.read())
-    return most, subprocess.CompletedProcess(words, process.returncode, *texts)
+    return most, len(all_of_them), subprocess.CompletedProcess(words, process.returncode, *texts)
 
 
 def threads_that_run(calls):
-    """A run by workers has as many threads as workers, the first one of the process among them, or as many as there
-    are blocks of 32 routers. So it has where a drain runs up to the last due time."""
+    """A run by workers has as many threads at a time as workers, the first one of the process among them, or as many
+    as there are blocks of 32 routers. So it has where a drain runs up to the last due time. And they run free: they are
+    joined after thousands of cycles, so that 20,000 cycles start no more than three times as many."""
     if not os.path.isdir("/proc/self/task"):
         print("threads are not looked for: there is no list of them (/proc/self/task)")
         return
@@ -466,9 +470,10 @@ def threads_that_run(calls):
         calls.put(**busy_texts(side, 20000))
         for workers, words in product((1, 2, 4), (["whole"], ["started", "--drain"])):
             call = ["run", words[0], "busy", "--report", "summary", "--workers", str(workers), *words[1:]]
-            most, ran = most_threads(calls, call)
-            right = most == min(workers, blocks) and not ran.stderr
-            calls.count(f"{most} threads {call}, {side} by {side}", right, ran)
+            most, in_all, ran = threads_of(calls, call)
+            tiles = min(workers, blocks)
+            right = most == tiles and in_all <= 1 + 3 * (tiles - 1) and not ran.stderr
+            calls.count(f"{most} threads, {in_all} in all {call}, {side} by {side}", right, ran)
 
 
 def reports_by_workers(calls):
