@@ -27,7 +27,7 @@ number_of granted packets o = if has_bit granted o then Some (slice_index packet
 abbrev pub tells_in : {A : Type 0} → (A → ℕ) → Letter A → ℕ → ℕ → Option ℕ
 tells_in value letter k o =
     if has_bit letter.asked k
-    then number_of (word value k letter.granted) (slice_index_or letter.packets k []) o
+    then number_of (word value k letter.told.value.granted) (slice_index_or letter.told.value.packets k []) o
     else None
 
 -- these numbers are told by output channel: for each input channel that is granted one, that of its

@@ -1,6 +1,6 @@
 //! What a block sends in a cycle to routers that run elsewhere.
 
-ghost use Rattle.std.specs.Prelude.{◌≡◌, ◌≢◌, ℕ, ◌+◌, ◌*◌, ◌/◌, ◌%◌, ◌<◌, ◌≤◌, true, None, Option, Some, length, nat_eq, nat_lt, slice_index, if◌then◌else◌};
+ghost use Rattle.std.specs.Prelude.{◌≡◌, ◌≢◌, ℕ, ◌+◌, ◌*◌, ◌/◌, ◌%◌, ◌<◌, ◌≤◌, true, None, Option, Some, length, nat_eq, nat_lt, slice_index, if◌then◌else◌, IfOk};
 ghost use Rattle.noc_packet.specs.Set.{has_bit};
 ghost use Rattle.noc_topo.specs.Shape.{Grid};
 ghost use Rattle.noc_blocks.specs.Marks.{packet_at, taken_at};
@@ -15,9 +15,12 @@ use crate::left::Left;
 use crate::tells::tell_over;
 use noc_blocks::{Marks, PLACES, Sides, entry};
 use noc_lanes::{LANES, Lanes, Word, alike, at, put};
+use noc_packet::Memory;
 use noc_turns::{Pattern, State, Work};
+use std::alloc::Global;
 
-/// What a block sends in a cycle.
+/// What a block sends in a cycle. It goes to the receiver by value. Of packets it tells behind a
+/// pointer, which is followed only where routers have been asked for channels.
 #[derive(Drop)]
 pub struct Letter<W: Word> {
     // Output channels by which a flit has left.
@@ -28,7 +31,14 @@ pub struct Letter<W: Word> {
     credits: Lanes<W>,
     // The routers in which packets have asked for channels.
     asked: u32,
-    // Of these, the output channels that packets have been granted.
+    // What it tells of these.
+    told: Box<Told<W>>,
+}
+
+// What a letter tells of packets.
+#[derive(Drop)]
+struct Told<W: Word> {
+    // The output channels that packets have been granted.
     granted: Lanes<W>,
     // By output channel that one has been granted, the number of the packet.
     packets: [[u32; PLACES]; LANES],
@@ -36,18 +46,23 @@ pub struct Letter<W: Word> {
 
 impl<W: Word> Letter<W> {
     /// Of a block that sends nothing.
-    pub fn none() -> Letter<W>
-        ensures links { (k : ℕ) → k < LANES → links_in W.value result k ≡ NOTHING }
-        ensures tells { (k o : ℕ) → k < LANES → tells_in W.value result k o ≡ None }
+    pub fn new(alloc: Global) -> Result<Letter<W>, Memory>
+        ensures links { IfOk result (λ letter.
+            (k : ℕ) → k < LANES → links_in W.value letter k ≡ NOTHING) }
+        ensures tells { IfOk result (λ letter.
+            (k o : ℕ) → k < LANES → tells_in W.value letter k o ≡ None) }
     {
-        Letter {
+        let told = Told {
+            granted: alike(W::none()),
+            packets: [[0; PLACES]; LANES],
+        };
+        Ok(Letter {
             flits: alike(W::none()),
             tails: alike(W::none()),
             credits: alike(W::none()),
             asked: 0,
-            granted: alike(W::none()),
-            packets: [[0; PLACES]; LANES],
-        }
+            told: Box::new(alloc, told)?,
+        })
     }
 
     /// The block sends nothing in this cycle.
@@ -106,8 +121,9 @@ impl<W: Word> Letter<W> {
         ensures links { (k : ℕ) → links_in W.value self.new k ≡ links_in W.value self.old k }
         ensures asked { self.new.asked ≡ self.old.asked }
     {
-        let given = write_packets(marks, granted, &mut self.packets[lane]);
-        put(&mut self.granted, lane, given);
+        let told = &mut *self.told;
+        let given = write_packets(marks, granted, &mut told.packets[lane]);
+        put(&mut told.granted, lane, given);
     }
 }
 
@@ -195,8 +211,9 @@ fn hear_router<W: Word>(
         (packets_in W.value states.old) (packets_in W.value states.new) }
     ensures rest { AreSameButPackets W.value states.old states.new }
 {
-    let packets = &letter.packets[lane];
-    let mut rest = at(&letter.granted, lane);
+    let told = &*letter.told;
+    let packets = &told.packets[lane];
+    let mut rest = at(&told.granted, lane);
     while !rest.is_none() {
         let out = rest.least();
         let router = block * LANES + lane;

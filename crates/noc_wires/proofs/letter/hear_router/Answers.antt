@@ -1,10 +1,12 @@
-use Rattle.std.proofs.Common.{◌≡◌, ◌<◌, ◌≤◌, ◌∙◌, ◌+◌, ◌*◌, None, Some, [], ap, arith, rules, sym, ℕ}
+use Rattle.std.proofs.Common.{◌≡◌, ◌<◌, ◌≤◌, ◌∙◌, ◌+◌, ◌*◌, ◌/◌, None, Some, [], ap, arith, rules, subst, sym, ℕ}
 use Rattle.std.specs.Prelude.{◌&&◌, nat_eq, not, slice_index, slice_index_or, if◌then◌else◌}
 use Rattle.noc_packet.specs.Set.{has_bit}
 use Rattle.noc_packet.proofs.SetLemmas.{has_bit-zero}
 use Rattle.noc_lanes.specs.Lanes.{word}
 use Rattle.noc_blocks.proofs.LoopLemmas.{left-members, left-part, more-left, none-more}
-use Rattle.noc_wires.specs.Letters.{tells_in}
+use Rattle.noc_topo.specs.Shape.{neighbour}
+use Rattle.noc_wires.specs.Letters.{IsNotedOver, tells_in}
+use Rattle.noc_wires.specs.declared.letter.Told.{Told}
 use Rattle.noc_wires.specs.Telling.{packets_in}
 use Rattle.noc_wires.proofs.HearLemmas.{all-now, granted-told, heard-none, heard-one, heard-same, heard-then, none-yet, not-granted, some_of}
 use Rattle.noc_wires.proofs.RestLemmas.{but-one-of, keeps-all, keeps-then}
@@ -17,11 +19,12 @@ loop-packets-init g c =
     let width = a.pattern.now.frame.fields.width in
     let router = a.block * 32 + a.lane in
     let rest = v c.at-rest.result in
+    let same : (o : ℕ) → has_bit rest o ≡ has_bit (word v a.lane a.letter.now.told.value.granted) o = λ o. ap (λ n. has_bit n o) (c.at-rest.ensures ∙ ap (λ (t : Told g.row.W.Denot). word v a.lane t.granted) c.deref-told.ensures) in
     record {
       heard = λ grid wires linked. heard-none grid width (some_of (λ s o. nat_eq s router && not (has_bit rest o)) (λ s o. tells_in v a.letter.now a.lane o)) (packets_in v a.states.now)
-          (λ s o. none-yet (nat_eq s router) (has_bit rest o) (tells_in v a.letter.now a.lane o) (λ e. not-granted v a.letter.now a.lane o (ap (λ n. has_bit n o) (sym c.at-rest.ensures) ∙ e)));
+          (λ s o. none-yet (nat_eq s router) (has_bit rest o) (tells_in v a.letter.now a.lane o) (λ e. not-granted v a.letter.now a.lane o (sym (same o) ∙ e)));
       keeps = keeps-all v g.W.Word.bits a.pattern.now a.sides.now a.states.now;
-      part = λ o e. ap (λ n. has_bit n o) (sym c.at-rest.ensures) ∙ e;
+      part = λ o e. sym (same o) ∙ e;
     }
 
 pub least-out-requires : goal.least-out-requires
@@ -76,7 +79,7 @@ loop-packets-preserved g c =
     let rest = v c.loop-packets.rest in
     let after = v c.but_lowest-rest.result in
     let left : (o : ℕ) → has_bit after o ≡ (has_bit rest o && not (nat_eq o out)) = λ o. ap (λ n. has_bit n o) c.but_lowest-rest.ensures.members ∙ left-members rest out o is in
-    let packet = slice_index (slice_index_or a.letter.now.packets a.lane []) out in
+    let packet = slice_index (slice_index_or a.letter.now.told.value.packets a.lane []) out in
     let tells : tells_in v a.letter.now a.lane out ≡ Some packet = granted-told v a.letter.now a.lane out c.requires.asked (inv.part out is.0) in
     let was = packets_in v c.loop-packets.states in
     let new = packets_in v c.tell_over.new.states in
@@ -87,9 +90,10 @@ loop-packets-preserved g c =
           (packets_in v a.states.now) was new
           (λ s o. ap (λ b. nat_eq s router && not b) (left o) ∙ but-one-of (nat_eq s router) (has_bit rest o) (nat_eq o out))
           (inv.heard grid wires linked)
-          (heard-one grid width router out packet (λ s o. tells_in v a.letter.now a.lane o) was new wires.sound wires.room.some there.0 tells (c.tell_over.ensures.told grid wires there));
+          (heard-one grid width router out packet (λ s o. tells_in v a.letter.now a.lane o) was new wires.sound wires.room.some there.0 tells
+          (subst (λ (t : Told g.row.W.Denot). IsNotedOver width out (slice_index (slice_index_or t.packets a.lane []) out) was new (neighbour grid router (out / width))) c.deref-told.ensures (c.tell_over.ensures.told grid wires there)));
       keeps = keeps-then v w a.pattern.now a.sides.now a.states.now c.loop-packets.states c.tell_over.new.states inv.keeps c.tell_over.ensures.rest;
-      part = λ o e. left-part (word v a.lane a.letter.now.granted) rest out is inv.part o (ap (λ n. has_bit n o) (sym c.but_lowest-rest.ensures.members) ∙ e);
+      part = λ o e. left-part (word v a.lane a.letter.now.told.value.granted) rest out is inv.part o (ap (λ n. has_bit n o) (sym c.but_lowest-rest.ensures.members) ∙ e);
     }
 
 pub returns-clause-heard : goal.returns-clause-heard

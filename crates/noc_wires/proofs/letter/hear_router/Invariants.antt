@@ -15,7 +15,7 @@ invariant-loop-packets g l =
       heard : (grid : Grid) → HasWires value g.W.Word.bits grid l.pattern l.sides → IsLinked value grid l.pattern.frame.fields.width l.block l.letter
           → AreHeard grid l.pattern.frame.fields.width (some_of (λ s o. nat_eq s (l.block * 32 + l.lane) && not (has_bit (value l.rest) o)) (λ s o. tells_in value l.letter l.lane o)) (packets_in value l.fn.states) (packets_in value l.states);
       keeps : AreSameButPackets value l.fn.states l.states;
-      part : (o : ℕ) → has_bit (value l.rest) o ≡ true → has_bit (word value l.lane l.letter.granted) o ≡ true;
+      part : (o : ℕ) → has_bit (value l.rest) o ≡ true → has_bit (word value l.lane l.letter.told.value.granted) o ≡ true;
     }
 
 abbrev pub decreases-loop-packets : goal.decreases-loop-packets

@@ -23,7 +23,7 @@ loop-lane-init g c =
       part = λ k e. e;
       told = λ size tells are k o l e.
           let none : has_bit asking k ≡ false = sym (low_members asking k 32 l) ∙ e in
-          ap (λ b. if b then number_of (word v k a.self.now.granted) (slice_index_or a.self.now.packets k []) o else None) none
+          ap (λ b. if b then number_of (word v k a.self.now.told.value.granted) (slice_index_or a.self.now.told.value.packets k []) o else None) none
           ∙ sym (none-asked v a.marks.now size asking (word v k work.decided.granted) k (tells k) (are k l) none o);
     }
 
