@@ -48,6 +48,8 @@ pub fn empty_work<W: Word>() -> Work<W>
             released: none,
             freed: none,
         },
+        waiting: none,
+        active: none,
         pending: Pending {
             heading: 0,
             asking: 0,

@@ -16,7 +16,7 @@ use noc_blocks::{PORTS, arrive_all, release_all, settle_inputs, settle_outputs};
 use noc_lanes::{LANES, Word, alike};
 
 /// What was decided in a block takes effect. The packets of the tails that leave by the local port
-/// arrive in this cycle.
+/// arrive in this cycle. Which input channels waited and which were active before it is kept.
 pub fn conclude_block<W: Word>(
     pattern: &Pattern<W>,
     cycle: u32,
@@ -45,9 +45,13 @@ pub fn conclude_block<W: Word>(
     ensures rest { work.new ≡ record work.old {
       decided =
           record work.old.decided { freed = work.new.decided.freed };
+      waiting = state.old.inputs.waiting;
+      active = state.old.inputs.active;
     } }
 {
     arrive_by(pattern.frame.ports - 1, cycle, state, work, arrivals);
+    work.waiting = state.inputs.waiting;
+    work.active = state.inputs.active;
     work.decided.freed = alike(W::none());
     release_all(
         &pattern.numbering,

@@ -35,6 +35,10 @@ pub struct Work<W: Word> {
     pub moves: Moves<Lanes<W>>,
     /// What is decided.
     pub decided: Decided<Lanes<W>>,
+    /// The input channels that waited before it took effect.
+    pub waiting: Lanes<W>,
+    /// Those that owned an output channel then.
+    pub active: Lanes<W>,
     /// The lanes in which something is to be done one by one.
     pub pending: Pending,
     /// The lanes in which tails leave.
