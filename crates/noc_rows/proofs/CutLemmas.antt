@@ -1,6 +1,6 @@
 -- A network cut into tiles: their blocks, and the rings between them.
-use Rattle.std.proofs.Common.{◌≡◌, ◌≢◌, ℕ, ◌+◌, ◌*◌, ◌/◌, ◌^◌, ◌<◌, ◌≤◌, Bool, true, false, List, [], ◌∷◌, ◌++◌, Some, length, set as write, bit_and, bit_or, ap, ap₂, sym, ◌∙◌, subst, refl, arith, inl, inr}
-use Rattle.std.specs.Prelude.{◌⊎◌, ◌&&◌, ◌||◌, nat_eq, nat_lt, slice_get, slice_index}
+use Rattle.std.proofs.Common.{◌≡◌, ◌≢◌, ℕ, ◌+◌, ◌*◌, ◌/◌, ◌^◌, ◌<◌, ◌≤◌, Bool, true, false, List, [], ◌∷◌, ◌++◌, Option, None, Some, length, set as write, bit_and, bit_or, ap, ap₂, sym, ◌∙◌, subst, refl, arith, inl, inr}
+use Rattle.std.specs.Prelude.{◌⊎◌, ◌&&◌, ◌||◌, nat_eq, nat_lt, not, slice_get, slice_index}
 use prog.Memory.{pad, up}
 use Rattle.std.proofs.Math.Nat.{div-lt_iff_lt-mul, mul_comm, mul-lt-mul_of_pos_right}
 use Rattle.std.proofs.lemmas.Bool.{and_parts, cases_eq, cases_lt, eq-eqb, eqb-true, false≢true, le-ltb, lt-ltb, ltb-true, ne_eqb, true≢false}
@@ -8,13 +8,16 @@ use Rattle.std.proofs.lemmas.List.{length-set, map-append}
 use Rattle.std.proofs.lemmas.Option.{slice_get_within}
 use Rattle.noc_topo.specs.Shape.{neighbour, nodes}
 use Rattle.noc_topo.proofs.LinkLemmas.{get_or-past, link_back}
-use Rattle.noc_packet.specs.Set.{has_bit}
+use Rattle.noc_packet.specs.Set.{IsLeast, has_bit}
 use Rattle.noc_packet.proofs.SetLemmas.{both_members, either_members, has_bit-zero}
-use Rattle.noc_sets.proofs.MemberLemmas.{or-cases, or-false, or-left, or-right, power-members}
+use Rattle.noc_sets.specs.Sets.{less as without, lowest}
+use Rattle.noc_sets.proofs.MemberLemmas.{less_members, or-cases, or-false, or-left, or-right, power-members}
+use Rattle.noc_blocks.proofs.LoopLemmas.{left-members}
 use Rattle.noc_theory.specs.Good.{IsGoodSetup}
 use Rattle.noc_turns.specs.declared.outlook.Outlook.{Outlook}
 use Rattle.noc_wires.specs.Waking.{has_moved, moves_or_not}
 use Rattle.noc_rows.specs.Cuts.{AreBlocksOf, AreCut, AreNearIn, AreNew, HasRoused, IsNew, MeetsMore, tile_of}
+use Rattle.noc_rows.specs.Mails.{alone}
 use Rattle.noc_rows.specs.Own.{IsIn, ShowsIn}
 use Rattle.noc_rows.specs.Rounds.{Start}
 use Rattle.noc_rows.specs.Shows.{ShowsAt}
@@ -122,24 +125,69 @@ has-kept xs x b (k, set, there, has) = (k, set, before-seam xs x k (slice_get_wi
 has-last : (xs : List ℕ) (x b : ℕ) → has_bit x b ≡ true → HasBlock (xs ++ x ∷ []) b
 has-last xs x b has = (length xs, x, at-seam xs x, has)
 
-pub meets-none : {A : Type 0} (start : Start) (near : List ℕ) (own other : ℕ) (old new : List (Post A)) → new ≡ old → ((b c : ℕ) → has_bit own b ≡ true → has_bit other c ≡ true → has_bit (slice_index near c) b ≡ true → ⊥)
-    → MeetsMore start near own other old new
-meets-none start near own other old new same none = subst (MeetsMore start near own other old) (sym same) (record {
-  ready = λ h. h;
-  kept = λ b h. h;
-  more = λ b c e f h. absurd (none b c e f h);
-})
+-- ---- one block after the other
+-- where one is the first of some, it is one of them
+pub first-in : (blocks : ℕ) (first : Option ℕ) → IsLeast (has_bit blocks) first → (b : ℕ) → has_bit (alone first) b ≡ true → has_bit blocks b ≡ true
+first-in blocks None none b e = absurd (none-in 0 b refl e)
+first-in blocks (Some f) least b e = ap (has_bit blocks) (eqb-true b f (sym (power-members f b) ∙ e)) ∙ least.0
 
-pub meets-one : {A : Type 0} (start : Start) (near : List ℕ) (own other : ℕ) (old new : List (Post A)) (post : Post A) → new ≡ old ++ post ∷ [] → IsReadyPost start (has_bit own) 0 post
-    → ((b c : ℕ) → has_bit own b ≡ true → has_bit other c ≡ true → has_bit (slice_index near c) b ≡ true → has_bit (near_in post) c ≡ true) → MeetsMore start near own other old new
-meets-one {A = A} start near own other old new post pushed is all = record {
-  ready = λ h. (all-next (λ k one. IsReadyPost start (has_bit own) 0 one) (length old) old new post pushed (record { many = refl; each = h }) is).each;
-  kept = λ b h. subst (λ xs. HasBlock xs b) (sym sets) (has-kept (nears_in old) (near_in post) b h);
-  more = λ b c e f h. subst (λ xs. HasBlock xs c) (sym sets) (has-last (nears_in old) (near_in post) c (all b c e f h));
+-- each of them is the first, or one of those after it
+pub first-or-after : (blocks after : ℕ) (first : Option ℕ) → IsLeast (has_bit blocks) first → after ≡ without blocks (lowest blocks) → (b : ℕ) → has_bit blocks b ≡ true → (has_bit (alone first) b ≡ true) ⊎ (has_bit after b ≡ true)
+first-or-after blocks after None none is b e = absurd (true≢false (sym e ∙ none b))
+first-or-after blocks after (Some f) least is b e = at (cases_eq b f)
+  where
+    at : (b ≡ f) ⊎ (b ≢ f) → (has_bit (2 ^ f) b ≡ true) ⊎ (has_bit after b ≡ true)
+    at (inl same) = inl (power-members f b ∙ eq-eqb b f same)
+    at (inr other) = inr (ap (λ x. has_bit x b) is ∙ left-members blocks f b least ∙ ap₂ (λ x y. x && not y) e (ne_eqb b f other))
+
+-- and those after it are of them
+pub after-in : (blocks after : ℕ) → after ≡ without blocks (lowest blocks) → (b : ℕ) → has_bit after b ≡ true → has_bit blocks b ≡ true
+after-in blocks after is b e = (and_parts (has_bit blocks b) (not (has_bit (lowest blocks) b)) (sym (ap (λ x. has_bit x b) is ∙ less_members blocks (lowest blocks) b) ∙ e)).0
+
+-- own blocks have met these blocks of another tile, but for some that are left
+pub record IsMeetingOnes {A : Type 0} (start : Start) (own ones left : ℕ) (old now : List (Post A)) : Type 0 where
+  pub ready : AreReady start (has_bit own) 0 old → AreReady start (has_bit own) 0 now
+  pub kept : (b : ℕ) → HasBlock (nears_in old) b → HasBlock (nears_in now) b
+  pub met : (b : ℕ) → has_bit ones b ≡ true → (has_bit left b ≡ true) ⊎ HasBlock (nears_in now) b
+  pub part : (b : ℕ) → has_bit left b ≡ true → has_bit ones b ≡ true
+
+pub meets-none : {A : Type 0} (start : Start) (own ones : ℕ) (old : List (Post A)) → IsMeetingOnes start own ones ones old old
+meets-none start own ones old = record { ready = λ h. h; kept = λ b h. h; met = λ b e. inl e; part = λ b e. e }
+
+pub meets-next : {A : Type 0} (start : Start) (own ones left after : ℕ) (first : Option ℕ) (old now next : List (Post A)) (post : Post A) → next ≡ now ++ post ∷ [] → IsReadyPost start (has_bit own) 0 post → near_in post ≡ alone first
+    → IsLeast (has_bit left) first → after ≡ without left (lowest left) → IsMeetingOnes start own ones left old now → IsMeetingOnes start own ones after old next
+meets-next {A = A} start own ones left after first old now next post pushed is of least others meets = record {
+  ready = λ h. (all-next (λ k one. IsReadyPost start (has_bit own) 0 one) (length now) now next post pushed (record { many = refl; each = meets.ready h }) is).each;
+  kept = λ b h. more b (meets.kept b h);
+  met = λ b e. met b (meets.met b e);
+  part = λ b e. meets.part b (after-in left after others b e);
 }
   where
-    sets : nears_in new ≡ nears_in old ++ near_in post ∷ []
-    sets = ap (λ (xs : List (Post A)). nears_in xs) pushed ∙ map-append near_in old (post ∷ [])
+    sets : nears_in next ≡ nears_in now ++ near_in post ∷ []
+    sets = ap (λ (xs : List (Post A)). nears_in xs) pushed ∙ map-append near_in now (post ∷ [])
+
+    more : (b : ℕ) → HasBlock (nears_in now) b → HasBlock (nears_in next) b
+    more b h = subst (λ xs. HasBlock xs b) (sym sets) (has-kept (nears_in now) (near_in post) b h)
+
+    here : (b : ℕ) → (has_bit (alone first) b ≡ true) ⊎ (has_bit after b ≡ true) → (has_bit after b ≡ true) ⊎ HasBlock (nears_in next) b
+    here b (inl e) = inr (subst (λ xs. HasBlock xs b) (sym sets) (has-last (nears_in now) (near_in post) b (ap (λ x. has_bit x b) of ∙ e)))
+    here b (inr e) = inl e
+
+    met : (b : ℕ) → (has_bit left b ≡ true) ⊎ HasBlock (nears_in now) b → (has_bit after b ≡ true) ⊎ HasBlock (nears_in next) b
+    met b (inl e) = here b (first-or-after left after first least others b e)
+    met b (inr h) = inr (more b h)
+
+pub meets-all : {A : Type 0} (start : Start) (near : List ℕ) (own other ones left : ℕ) (old now : List (Post A)) → left ≡ 0 → ((b c : ℕ) → has_bit own b ≡ true → has_bit other c ≡ true → has_bit (slice_index near c) b ≡ true → has_bit ones c ≡ true)
+    → IsMeetingOnes start own ones left old now → MeetsMore start near own other old now
+meets-all start near own other ones left old now none all meets = record {
+  ready = meets.ready;
+  kept = meets.kept;
+  more = λ b c e f h. done c (meets.met c (all b c e f h));
+}
+  where
+    done : (c : ℕ) → (has_bit left c ≡ true) ⊎ HasBlock (nears_in now) c → HasBlock (nears_in now) c
+    done c (inl e) = absurd (none-in left c none e)
+    done c (inr h) = h
 
 -- those of some own blocks are own ones, and no others
 pub are-ours : (start : Start) (own some : ℕ) → ((b : ℕ) → has_bit own b ≡ true → b < start.blocks) → ((b : ℕ) → has_bit some b ≡ true → has_bit own b ≡ true) → AreBlocks start (has_bit own) true some

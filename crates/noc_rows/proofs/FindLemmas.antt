@@ -5,6 +5,7 @@ use Rattle.noc_topo.specs.Shape.{nodes, ports}
 use Rattle.noc_packet.specs.Set.{has_bit}
 use Rattle.noc_route.specs.Routes.{Routes}
 use Rattle.noc_view.specs.Found.{empty_finding, finding_at}
+use Rattle.noc_view.specs.declared.finding.Finding.{Finding}
 use Rattle.noc_sets.specs.Cycle.{Router}
 use Rattle.noc_blocks.specs.Turned.{Working, turn_asleep, turn_in}
 use Rattle.noc_blocks.specs.Turning.{router_in}
@@ -22,6 +23,7 @@ use Rattle.noc_rows.specs.Own.{MayStepIn, AreFindingsIn, IsIn}
 use Rattle.noc_rows.specs.Shows.{AreFindings, MayRun, MayStep, lane_by}
 use Rattle.noc_rows.specs.Steps.{HasStepped}
 use Rattle.noc_rows.specs.declared.network.Network.{Network}
+use Rattle.noc_rows.proofs.SteppedLemmas as stepped
 use Rattle.noc_rows.proofs.StepLemmas.{step-in}
 use Rattle.noc_rows.proofs.TurnLemmas.{has-worked}
 
@@ -43,11 +45,11 @@ module _ {A : Type 0} (value : A → ℕ) (w : ℕ) (relation : Routes) (own : �
 
   -- what a router has found that is awake, and what one has that sleeps
   found-awake : (r i : ℕ) → IsIn net own r → i < size net → has_bit awake (r / 32) ≡ true
-      → found_of net.relation.vcs (lane_by value step.arrived r) (working_in value step.worked (r / 32) (r % 32)) i ≡ slice_index_or (findings_before net (suc n) r) i empty_finding
+      → found_of net.relation.vcs (lane_by value step.turns.arrived r) (working_in value step.between.works.items (r / 32) (r % 32)) i ≡ slice_index_or (findings_before net (suc n) r) i empty_finding
   unfolding before
   found-awake r i l u e = (through net may.good n may.few (layout_by value all.plan.pattern) may.shows.plan.frame.layout (all_starts net) r l.0 (before r) (may.shows.shows.routers r l)
-      (turn_in net.relation.vcs (ports net.relation.grid) (layout_by value all.plan.pattern) n (may.shows.counts r) (lane_by value all.states.items r) (lane_by value step.arrived r) (lane_by value step.chosen r) (lane_by value step.settled r) (working_in value step.worked (r / 32) (r % 32)))
-      (inl (has-worked value w relation own awake net n routers all next fits may step r l.0 e))).found i u
+      (turn_in net.relation.vcs (ports net.relation.grid) (layout_by value all.plan.pattern) n (may.shows.counts r) (lane_by value all.states.items r) (lane_by value step.turns.arrived r) (lane_by value step.turns.chosen r) (lane_by value step.between.states.items r) (working_in value step.between.works.items (r / 32) (r % 32)))
+      (inl (has-worked value w relation own awake net n routers all step.between fits may step.turns r l.0 e))).found i u
 
   found-asleep : (r i : ℕ) → IsIn net own r → i < size net → has_bit awake (r / 32) ≡ false
       → empty_finding ≡ slice_index_or (findings_before net (suc n) r) i empty_finding
@@ -67,27 +69,30 @@ module _ {A : Type 0} (value : A → ℕ) (w : ℕ) (relation : Routes) (own : �
 
   -- what takes effect leaves what was found
   found-worked : (r i : ℕ) → r < nodes net.relation.grid → has_bit awake (r / 32) ≡ true
-      → found_of all.plan.pattern.frame.fields.width (lane_in value step.arrived (r / 32) (r % 32)) (working_in value step.decided (r / 32) (r % 32)) i
-      ≡ found_of net.relation.vcs (lane_by value step.arrived r) (working_in value step.worked (r / 32) (r % 32)) i
+      → found_of all.plan.pattern.frame.fields.width (lane_in value step.turns.arrived (r / 32) (r % 32)) (working_in value step.turns.decided (r / 32) (r % 32)) i
+      ≡ found_of net.relation.vcs (lane_by value step.turns.arrived r) (working_in value step.between.works.items (r / 32) (r % 32)) i
   found-worked r i l e =
-      ap (λ (v : ℕ). found_of v (lane_by value step.arrived r) (working_in value step.decided (r / 32) (r % 32)) i) may.shows.plan.frame.width_is
-      ∙ ap (λ (x : Working). found_of net.relation.vcs (lane_by value step.arrived r) x i) (sym ((step.concludes (r / 32) (there r l) e).rest (r % 32)))
+      ap (λ (v : ℕ). found_of v (lane_by value step.turns.arrived r) (working_in value step.turns.decided (r / 32) (r % 32)) i) may.shows.plan.frame.width_is
+      ∙ ap (λ (x : Working). found_of net.relation.vcs (lane_by value step.turns.arrived r) x i) (sym ((step.turns.concludes (r / 32) (there r l) e).rest (r % 32)))
     where
       there : (r : ℕ) → r < nodes net.relation.grid → r / 32 < length all.states.items
       there r l = let enough = may.shows.plan.blocks in omega (arith, l, enough, may.shows.states_are)
 
   pub finds-next-in : AreFindingsIn net own next
   finds-next-in = record {
-    each = λ r i l u some. noted r i l u (has_bit awake (r / 32)) refl ∙ ap (λ m. slice_index_or (findings_before net m r) i empty_finding) (sym (add-one n) ∙ sym step.cycle);
+    each = λ r i l u some. noted r i l u (has_bit awake (r / 32)) refl ∙ ap (λ m. slice_index_or (findings_before net m r) i empty_finding) (sym (add-one n) ∙ sym (stepped.next-cycle value w relation awake n routers all next step));
   }
     where
       low : (i : ℕ) → i < size net → i < 64
       low i u = omega (arith, u, may.shows.plan.room.few, may.shows.plan.room.word)
 
+      found : (r i : ℕ) → finding_at next.found.items (r * 64 + i) ≡ finding_at step.between.found.items (r * 64 + i)
+      found r i = ap (λ (xs : List Finding). finding_at xs (r * 64 + i)) (stepped.same-found value w relation awake n routers all next step)
+
       noted : (r i : ℕ) → IsIn net own r → i < size net → (b : Bool) → has_bit awake (r / 32) ≡ b
           → finding_at next.found.items (r * 64 + i) ≡ slice_index_or (findings_before net (suc n) r) i empty_finding
-      noted r i l u true e = step.notes r (let there = l.0 in omega (arith, there, enough)) e i (low i u) ∙ found-worked r i l.0 e ∙ found-awake r i l u e
-      noted r i l u false e = step.notes_none r (let there = l.0 in omega (arith, there, enough)) e i (low i u) ∙ found-asleep r i l u e
+      noted r i l u true e = found r i ∙ step.turns.notes r (let there = l.0 in omega (arith, there, enough)) e i (low i u) ∙ found-worked r i l.0 e ∙ found-awake r i l u e
+      noted r i l u false e = found r i ∙ step.turns.notes_none r (let there = l.0 in omega (arith, there, enough)) e i (low i u) ∙ found-asleep r i l u e
 
 -- .. of all routers
 pub finds-next : {A : Type 0} (value : A → ℕ) (w : ℕ) (relation : Routes) (net : Setup) (awake n routers : ℕ) (all next : Network A) → ((x : A) → value x < 2 ^ 64) → MayStep value w relation awake net n all

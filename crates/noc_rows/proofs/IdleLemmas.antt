@@ -63,42 +63,44 @@ module _ {A : Type 0} (value : A → ℕ) (w : ℕ) (all : Network A) (t : Telli
 -- ---- a cycle of it
 idle-cycle : {A : Type 0} (value : A → ℕ) (w : ℕ) (relation : Routes) (n : ℕ) (all : Network A) → HasStepped value w relation 0 n 0 all (record all { cycle = n + 1 })
 idle-cycle value w relation n all = record {
-  gathered = [];
-  came = [];
-  decided = [];
-  worked = all.works.items;
-  arrived = [];
-  chosen = [];
-  settled = all.states.items;
-  gathers = λ b one h e. absurd (none-awake b e);
-  arrives = λ b l e. absurd (none-awake b e);
-  decides = λ b l e. absurd (none-awake b e);
-  counts = λ b l e. absurd (none-awake b e);
-  concludes = λ b l e. absurd (none-awake b e);
-  arrivals = record { some = λ b k i l e m h. absurd (none-awake b e); others = λ p none. refl };
-  puts = λ s l e. absurd (none-awake (s / 32) e);
-  tells = none-is-told value w all;
-  told = λ s. same-packets (told_lane value all.states.items s);
-  looks = λ b o e h. absurd (none-awake b e);
-  notes = λ r l e. absurd (omega (arith, l));
-  notes_none = λ r l e. absurd (omega (arith, l));
-  states_stay = λ b e. refl;
-  tallies_stay = λ b e. refl;
-  left_stays = λ s e. refl;
-  outlooks_stay = λ b e. refl;
-  happened = false;
-  any = nothing-happens (length all.plan.sides.items) (λ b. happened_or (slice_get all.outlooks.items b));
-  last = refl;
-  cycle = refl;
-  plan = refl;
-  states_are = refl;
-  settled_are = refl;
-  works = refl;
-  works_are = refl;
-  tallies_are = refl;
-  outlooks_are = refl;
-  arrivals_are = refl;
-  found_are = refl;
+  between = all;
+  turns = record {
+    gathered = [];
+    came = [];
+    decided = [];
+    arrived = [];
+    chosen = [];
+    gathers = λ b one h e. absurd (none-awake b e);
+    arrives = λ b l e. absurd (none-awake b e);
+    decides = λ b l e. absurd (none-awake b e);
+    concludes = λ b l e. absurd (none-awake b e);
+    arrivals = record { some = λ b k i l e m h. absurd (none-awake b e); others = λ p none. refl };
+    puts = λ s l e. absurd (none-awake (s / 32) e);
+    notes = λ r l e. absurd (omega (arith, l));
+    notes_none = λ r l e. absurd (omega (arith, l));
+    states_stay = λ b e. refl;
+    left_stays = λ s e. refl;
+    states_are = refl;
+    works_are = refl;
+    arrivals_are = refl;
+    found_are = refl;
+    rest = refl;
+  };
+  ends = record {
+    counts = λ b l e. absurd (none-awake b e);
+    tells = none-is-told value w all;
+    told = λ s. same-packets (told_lane value all.states.items s);
+    looks = λ b o e h. absurd (none-awake b e);
+    tallies_stay = λ b e. refl;
+    outlooks_stay = λ b e. refl;
+    happened = false;
+    any = nothing-happens (length all.plan.sides.items) (λ b. happened_or (slice_get all.outlooks.items b));
+    last = refl;
+    states_are = refl;
+    tallies_are = refl;
+    outlooks_are = refl;
+    rest = refl;
+  };
 }
 
 -- ---- so many cycles of it, until the next one in which a block is awake

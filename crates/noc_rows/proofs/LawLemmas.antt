@@ -16,7 +16,7 @@ use Rattle.noc_blocks.specs.declared.links.Sides.{Sides}
 use Rattle.noc_theory.specs.Network.{Setup}
 use Rattle.noc_blocks.specs.Begins.{starts_by}
 use Rattle.noc_wires.specs.Left.{brought, left_of}
-use Rattle.noc_wires.specs.Telling.{IsTelling, Telling, packets_in, with_packets, lane_in as told_lane}
+use Rattle.noc_wires.specs.Telling.{packets_in, with_packets, lane_in as told_lane}
 use Rattle.noc_wires.proofs.LeftLemmas.{links-are}
 use Rattle.noc_turns.specs.Held.{IsAmong, IsPending, MayConclude, MayDecide, MayTake}
 use Rattle.noc_turns.specs.declared.state.State.{State}
@@ -27,7 +27,7 @@ use Rattle.noc_rows.specs.Blocks.{NO_LINKS, lane_in, pending_or, tails_or, worki
 use Rattle.noc_rows.specs.Own.{MayStepIn}
 use Rattle.noc_rows.specs.declared.network.Network.{Network}
 use Rattle.noc_rows.proofs.StageLemmas as stage
-use Rattle.noc_rows.proofs.StageLemmas.{are-heading, are-pending, are-tails, block-there, due-in-time, grants-are-told, later-due, telling, whole}
+use Rattle.noc_rows.proofs.StageLemmas.{are-heading, are-pending, are-tails, block-there, due-in-time, later-due, whole}
 
 -- an item of a list that is long enough
 is-there : {S : Type 0} (xs : List S) (b : ℕ) → b < length xs → (x : S) × (slice_get xs b ≡ Some x)
@@ -112,9 +112,6 @@ module _ {A : Type 0} (value : A → ℕ) (w : ℕ) (relation : Routes) (own : �
         -- ---- once that has taken effect
         module _ (settled : List (State A)) (worked : List (Work A)) (concludes : (b : ℕ) → b < length all.states.items → has_bit awake b ≡ true
             → HasConcluded value all.plan.pattern (slice_get chosen b) (slice_get settled b) (slice_get decided b) (slice_get worked b)) where
-          pub tellable : length settled ≡ length all.plan.sides.items → (t : Telling) × IsTelling value w all.plan.pattern all.plan.sides.items worked awake settled t
-          tellable long = (telling value w relation own awake net n all fits may gathered near beyond arrived came arrives chosen decided decides-so settled worked concludes, grants-are-told value w relation own awake net n all fits may gathered near beyond arrived came arrives chosen decided decides-so settled worked concludes long)
-
           pub heading : (b k : ℕ) → has_bit awake b ≡ true → k < 32 → IsAmong (pending_or (slice_get worked b)).heading k (working_in value worked b k).standing.heads
           heading b k e l = are-heading value w relation own awake net n all fits may gathered near beyond arrived came arrives chosen decided decides-so settled worked concludes b k e l
 

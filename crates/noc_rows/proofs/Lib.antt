@@ -7,6 +7,7 @@ pub mod StepLemmas
 pub mod StageLemmas
 pub mod LawLemmas
 pub mod TurnLemmas
+pub mod SteppedLemmas
 pub mod NextLemmas
 pub mod JoinLemmas
 pub mod CopyLemmas

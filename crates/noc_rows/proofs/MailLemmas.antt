@@ -7,6 +7,8 @@ use Rattle.std.proofs.lemmas.Nat.{mod_below}
 use Rattle.noc_topo.specs.Shape.{Grid, neighbour, nodes, ports}
 use Rattle.noc_topo.proofs.LinkLemmas.{link_back}
 use Rattle.noc_packet.specs.Set.{has_bit}
+use Rattle.noc_packet.proofs.SetLemmas.{has_bit-zero}
+use Rattle.noc_sets.proofs.MemberLemmas.{power-members}
 use Rattle.noc_route.specs.Routes.{Routes}
 use Rattle.noc_sets.specs.Cycle.{Links}
 use Rattle.noc_theory.specs.Good.{IsGoodSetup}
@@ -15,15 +17,16 @@ use Rattle.noc_theory_bits.specs.Owners.{granted_to, heard, heard_over}
 use Rattle.noc_theory_bits.specs.Sends.{Sends}
 use Rattle.noc_wires.proofs.TellingLemmas.{rest-then}
 use Rattle.noc_wires.specs.Left.{left_of}
+use Rattle.noc_wires.specs.declared.left.Left.{Left}
 use Rattle.noc_wires.specs.Telling.{AreSameButPackets, packets_in, lane_in as told_lane}
 use Rattle.noc_wires.specs.Letters.{links_in, tells_in}
-use Rattle.noc_rows.specs.Mails.{HasHeardFrom, HaveLeft, IsLetter, IsMail}
+use Rattle.noc_rows.specs.Mails.{HasHeardFrom, HaveLeft, IsLetter, alone}
 use Rattle.noc_rows.specs.Own.{HasHeard, IsIn, MayStepIn, ShowsIn, told_in}
 use Rattle.noc_rows.specs.Shows.{IsPlanOf}
 use Rattle.noc_rows.specs.Steps.{HasStepped}
 use Rattle.noc_wires.specs.declared.letter.Letter.{Letter}
-use Rattle.noc_rows.specs.declared.mail.Mail.{Mail}
 use Rattle.noc_rows.specs.declared.network.Network.{Network}
+use Rattle.noc_rows.proofs.SteppedLemmas as stepped
 use Rattle.noc_rows.proofs.NextLemmas.{shows-next-in}
 use Rattle.noc_rows.proofs.OwnLemmas.{same-packets}
 use Rattle.noc_rows.proofs.TurnLemmas.{own-sends}
@@ -173,8 +176,8 @@ module _ {A : Type 0} (value : A → ℕ) (w : ℕ) (relation : Routes) (own fro
   shows-heard = shows-next-in value w relation own awake net n routers all ran next fits may step (granted_to net n) heard-all
 
   own-left : (s port : ℕ) → IsIn net own s → port < ports net.relation.grid → Sends net n s port (left_of value next.left s) (granted_to net n s)
-  own-left s port k u = subst (λ (x : Links). Sends net n s port x (granted_to net n s)) (sym (hears.left s (apart (s / 32) k.1)))
-      (sends-so net n s port (left_of value ran.left s) (told_in value awake step.arrived step.chosen step.settled s) (own-sends value w relation own awake net n routers all ran fits may step s port k u))
+  own-left s port k u = subst (λ (x : Links). Sends net n s port x (granted_to net n s)) (sym (hears.left s (apart (s / 32) k.1) ∙ ap (λ (x : Left A). left_of value x s) (stepped.same-left value w relation awake n routers all ran step)))
+      (sends-so net n s port (left_of value step.between.left s) (told_in value awake step.turns.arrived step.turns.chosen step.between.states.items s) (own-sends value w relation own awake net n routers all step.between fits may step.turns s port k u))
 
   -- and they have what has left all of them
   pub left-heard : HaveLeft value net own n next
@@ -201,85 +204,12 @@ module _ {A : Type 0} (value : A → ℕ) (net : Setup) (own from : ℕ → Bool
   pub heard-found : is.found ≡ was.found
   heard-found = ap (λ (x : Network A). x.found) hears.rest
 
--- ---- a mail, letter after letter
--- the blocks of a test below a number
-abbrev pub up-to : ℕ → (ℕ → Bool) → ℕ → Bool
-up-to m test b = nat_lt b m && test b
+-- ---- a mail
+-- of no block nothing is heard
+pub heard-of-none : {A : Type 0} (value : A → ℕ) (net : Setup) (own : ℕ → Bool) (n : ℕ) (block : Option ℕ) (all : Network A) → block ≡ None → HasHeardFrom value net own (has_bit (alone block)) n all all
+heard-of-none value net own n block all none = heard-same value net own n (λ b. false) (has_bit (alone block)) all all (λ b. sym (ap (λ o. has_bit (alone o) b) none ∙ has_bit-zero b)) (heard-none value net own n all)
 
-and-false : (a : Bool) → (a && false) ≡ false
-and-false true = refl
-and-false false = refl
-
-or-false : (a : Bool) → (a || false) ≡ a
-or-false true = refl
-or-false false = refl
-
-or-true : (a : Bool) → (a || true) ≡ true
-or-true true = refl
-or-true false = refl
-
-up-to-none : (test : ℕ → Bool) (b : ℕ) → false ≡ up-to 0 test b
-up-to-none test b = ap (λ x. x && test b) (sym (le-ltb b 0 (omega arith)))
-
--- below the next number are those that are below this one, and this one
-below-more : (m b : ℕ) → b ≢ m → nat_lt b m ≡ nat_lt b (m + 1)
-below-more m b other = elim (cases_lt b m) [
-  | inl l ↦ lt-ltb b m l ∙ sym (lt-ltb b (m + 1) (omega (arith, l)))
-  | inr u ↦ le-ltb b m u ∙ sym (le-ltb b (m + 1) (omega (arith, u, other)))
-]
-
-up-to-in : (m : ℕ) (test : ℕ → Bool) → test m ≡ true → (b : ℕ) → (up-to m test b || nat_eq b m) ≡ up-to (m + 1) test b
-up-to-in m test e b = elim (cases_eq b m) [
-  | inl same ↦
-      ap (λ x. up-to m test b || x) (eq-eqb b m same) ∙ or-true (up-to m test b)
-      ∙ sym (ap₂ (λ x y. x && y) (lt-ltb b (m + 1) (omega (arith, same))) (ap test same ∙ e))
-  | inr other ↦ ap (λ x. up-to m test b || x) (ne_eqb b m other) ∙ or-false (up-to m test b) ∙ ap (λ x. x && test b) (below-more m b other)
-]
-
-up-to-out : (m : ℕ) (test : ℕ → Bool) → test m ≡ false → (b : ℕ) → up-to m test b ≡ up-to (m + 1) test b
-up-to-out m test e b = elim (cases_eq b m) [
-  | inl same ↦ ap (λ x. nat_lt b m && x) (ap test same ∙ e) ∙ and-false (nat_lt b m) ∙ sym (ap (λ x. nat_lt b (m + 1) && x) (ap test same ∙ e) ∙ and-false (nat_lt b (m + 1)))
-  | inr other ↦ ap (λ x. x && test b) (below-more m b other)
-]
-
-up-to-all : (m : ℕ) (test : ℕ → Bool) → ((b : ℕ) → test b ≡ true → b < m) → (b : ℕ) → up-to m test b ≡ test b
-up-to-all m test within b = by (test b) refl
-  where
-    by : (x : Bool) → test b ≡ x → up-to m test b ≡ test b
-    by true e = ap (λ y. y && test b) (lt-ltb b m (within b e))
-    by false e = ap (λ y. nat_lt b m && y) e ∙ and-false (nat_lt b m) ∙ sym e
-
--- what the blocks of a mail below a number have sent has come
-abbrev pub IsHeardTo : {A : Type 0} → (A → ℕ) → ℕ → Mail A → Network A → ℕ → Network A → Type 0
-IsHeardTo value w mail was number is =
-    (net : Setup) (own : ℕ → Bool) (n : ℕ) → IsGoodSetup net → IsPlanOf value w net was.plan → IsMail value net n mail → HasHeardFrom value net own (up-to number (has_bit mail.from)) n was is
-
-module _ {A : Type 0} (value : A → ℕ) (w : ℕ) (mail : Mail A) (was : Network A) where
-  pub heard-to-none : IsHeardTo value w mail was 0 was
-  heard-to-none net own n setup plan sent = heard-same value net own n (λ b. false) (up-to 0 (has_bit mail.from)) was was (up-to-none (has_bit mail.from)) (heard-none value net own n was)
-
-  pub heard-to-out : (number : ℕ) (now : Network A) → has_bit mail.from number ≡ false → IsHeardTo value w mail was number now → IsHeardTo value w mail was (number + 1) now
-  heard-to-out number now e heard net own n setup plan sent =
-      heard-same value net own n (up-to number (has_bit mail.from)) (up-to (number + 1) (has_bit mail.from)) was now (up-to-out number (has_bit mail.from) e) (heard net own n setup plan sent)
-
-  pub heard-to-in : (number : ℕ) (letter : Letter A) (now next : Network A) → has_bit mail.from number ≡ true → slice_get mail.letters.items number ≡ Some letter → IsHeardTo value w mail was number now
-      → ((net : Setup) (own : ℕ → Bool) (n : ℕ) → IsGoodSetup net → IsPlanOf value w net now.plan → IsLetter value net n number letter → HasHeardFrom value net own (λ b. nat_eq b number) n now next)
-      → IsHeardTo value w mail was (number + 1) next
-  heard-to-in number letter now next e has heard one net own n setup plan sent =
-      let first = heard net own n setup plan sent in
-      let same = heard-plan value net own (up-to number (has_bit mail.from)) n was now first in
-      let second = one net own n setup (subst (IsPlanOf value w net) (sym same) plan) (sent.each number letter e has) in
-      heard-same value net own n (λ b. up-to number (has_bit mail.from) b || nat_eq b number) (up-to (number + 1) (has_bit mail.from)) was next (up-to-in number (has_bit mail.from) e)
-      (heard-more value net own n (up-to number (has_bit mail.from)) (λ b. nat_eq b number) was now next first second)
-
-  pub heard-to-all : (m : ℕ) (now : Network A) → ((b : ℕ) → has_bit mail.from b ≡ true → b < m) → IsHeardTo value w mail was m now
-      → (net : Setup) (own : ℕ → Bool) (n : ℕ) → IsGoodSetup net → IsPlanOf value w net was.plan → IsMail value net n mail → HasHeardFrom value net own (has_bit mail.from) n was now
-  heard-to-all m now within heard net own n setup plan sent =
-      heard-same value net own n (up-to m (has_bit mail.from)) (has_bit mail.from) was now (up-to-all m (has_bit mail.from) within) (heard net own n setup plan sent)
-
--- a block of a list of so many, which are few
-pub few-at : (number end len states sides : ℕ) → number < end → end ≡ len → len ≡ states → states ≡ sides → sides ≤ 8 → (number < states) × (number < 32)
-few-at number end len states sides l e f h few = (omega arith, omega arith)
-
-pub all-below : (b number end len states : ℕ) → end ≤ number → end ≡ len → len ≡ states → b < states → b < number
-all-below b number end len states l e f within = omega arith
+-- .. of one
+pub heard-of-one : {A : Type 0} (value : A → ℕ) (net : Setup) (own : ℕ → Bool) (n : ℕ) (block : Option ℕ) (number : ℕ) (was is : Network A) → block ≡ Some number → HasHeardFrom value net own (λ b. nat_eq b number) n was is
+    → HasHeardFrom value net own (has_bit (alone block)) n was is
+heard-of-one value net own n block number was is one hears = heard-same value net own n (λ b. nat_eq b number) (has_bit (alone block)) was is (λ b. sym (ap (λ o. has_bit (alone o) b) one ∙ power-members number b)) hears

@@ -31,7 +31,6 @@ use Rattle.noc_turns.specs.Outlooks.{IsLeastOf, TellsSome, held_in}
 use Rattle.noc_turns.specs.declared.outlook.Outlook.{Outlook}
 use Rattle.noc_turns.specs.declared.state.State.{State}
 use Rattle.noc_tallies.proofs.TallyLemmas.{counts-stay}
-use Rattle.noc_tallies.specs.Doings.{verdicts_of}
 use Rattle.noc_tallies.specs.declared.tallies.Tallies.{Tallies}
 use Rattle.noc_theory.specs.Good.{IsGoodSetup}
 use Rattle.noc_theory.specs.Network.{Setup, size}
@@ -43,6 +42,7 @@ use Rattle.noc_theory_blocks.proofs.LaneLemmas.{released-moved}
 use Rattle.noc_wires.proofs.LeftLemmas.{left-same}
 use Rattle.noc_wires.proofs.TellingLemmas.{rest-then}
 use Rattle.noc_wires.specs.Left.{leaving_of, left_of}
+use Rattle.noc_wires.specs.declared.left.Left.{Left}
 use Rattle.noc_wires.specs.Telling.{with_packets, lane_in as told_lane, packets_in as told_packets}
 use Rattle.noc_rows.specs.Blocks.{ShowsTallyOr, lane_in, lane_or, returned_or, working_in}
 use Rattle.noc_rows.specs.Own.{HasHeard, IsIn, MayStepIn, ShowsIn, of_blocks, told_in}
@@ -55,9 +55,10 @@ use Rattle.noc_rows.proofs.CycleLemmas.{arrivals-are, gathered-are, last-is, lef
 use Rattle.noc_rows.proofs.GrantLemmas.{grants_by}
 use Rattle.noc_rows.proofs.OwnLemmas.{in-shows, nothing-heard}
 use Rattle.noc_rows.proofs.StageLemmas as stage
+use Rattle.noc_rows.proofs.SteppedLemmas as stepped
 use Rattle.noc_rows.proofs.StageLemmas.{block-of, lane-of, block-there, in-lanes}
 use Rattle.noc_rows.proofs.StepLemmas.{step-in}
-use Rattle.noc_rows.proofs.TurnLemmas.{arrived-turn, beyond, can-do, concluded-at, decides, doing, has-concluded, lane-stays, made, near, nobody, one-happened, packets-settled, released-below, sends-right, some-below, some-happened, stays-blank, tells-as-turn, turn-arrived, turn-asleep, turn-awake, turns, own-told}
+use Rattle.noc_rows.proofs.TurnLemmas.{arrived-turn, beyond, can-do, concluded-at, decides, has-concluded, lane-stays, made, near, nobody, one-happened, packets-settled, released-below, sends-right, some-below, some-happened, stays-blank, tells-as-turn, turn-arrived, turn-asleep, turn-awake, turns, own-told}
 
 -- ---- where no flit moves nothing leaves
 union-none : (m : ℕ) (f : ℕ → ℕ) → union_from 0 m f ≡ 0 → (q : ℕ) → q < m → f q ≡ 0
@@ -135,57 +136,61 @@ module _ {A : Type 0} (value : A → ℕ) (w : ℕ) (relation : Routes) (own : �
 
   -- what the turns of the routers are
   abbrev turn : ℕ → Turn
-  turn = turns value w relation own awake net n routers all ran fits may step
+  turn = turns value w relation own awake net n routers all step.between fits may step.turns
+
+  -- what has left own routers
+  left-kept : (s : ℕ) → own (s / 32) ≡ true → after s ≡ left_of value step.between.left s
+  left-kept s ours = hears.left s ours ∙ ap (λ (x : Left A). left_of value x s) (stepped.same-left value w relation awake n routers all ran step)
 
   -- ---- what is told
   -- by own routers, and by the others
   abbrev sent : ℕ → ℕ → Option ℕ
-  sent s o = if own (s / 32) then told_in value awake step.arrived step.chosen step.settled s o else tells s o
+  sent s o = if own (s / 32) then told_in value awake step.turns.arrived step.turns.chosen step.between.states.items s o else tells s o
 
   abbrev foreign : ℕ → ℕ → Option ℕ
   foreign s o = if own (s / 32) then None else tells s o
 
-  rest : (s : ℕ) → told_lane value later s ≡ option_map (with_packets (told_packets value later s)) (told_lane value step.settled s)
-  rest = rest-then value step.settled ran.states.items step.told later hears.told
+  rest : (s : ℕ) → told_lane value later s ≡ option_map (with_packets (told_packets value later s)) (told_lane value step.between.states.items s)
+  rest = rest-then value step.between.states.items ran.states.items step.ends.told later hears.told
 
-  pub later-is : (r : ℕ) → lane_by value later r ≡ with_packets (told_packets value later r) (lane_by value step.settled r)
-  later-is = stage.later-is value w relation own awake net n all fits may step.gathered (near value w relation own awake net n routers all ran fits may step) (beyond value w relation own awake net n routers all ran fits may step) step.arrived step.came step.arrives step.chosen step.decided (decides value w relation own awake net n routers all ran fits may step) step.settled step.worked step.concludes later rest
+  pub later-is : (r : ℕ) → lane_by value later r ≡ with_packets (told_packets value later r) (lane_by value step.between.states.items r)
+  later-is = stage.later-is value w relation own awake net n all fits may step.turns.gathered (near value w relation own awake net n routers all step.between fits may step.turns) (beyond value w relation own awake net n routers all step.between fits may step.turns) step.turns.arrived step.turns.came step.turns.arrives step.turns.chosen step.turns.decided (decides value w relation own awake net n routers all step.between fits may step.turns) step.between.states.items step.between.works.items step.turns.concludes later rest
 
-  later-at : (b k : ℕ) → k < 32 → lane_in value later b k ≡ with_packets (told_packets value later (b * 32 + k)) (lane_in value step.settled b k)
-  later-at = stage.later-at value w relation own awake net n all fits may step.gathered (near value w relation own awake net n routers all ran fits may step) (beyond value w relation own awake net n routers all ran fits may step) step.arrived step.came step.arrives step.chosen step.decided (decides value w relation own awake net n routers all ran fits may step) step.settled step.worked step.concludes later rest
+  later-at : (b k : ℕ) → k < 32 → lane_in value later b k ≡ with_packets (told_packets value later (b * 32 + k)) (lane_in value step.between.states.items b k)
+  later-at = stage.later-at value w relation own awake net n all fits may step.turns.gathered (near value w relation own awake net n routers all step.between fits may step.turns) (beyond value w relation own awake net n routers all step.between fits may step.turns) step.turns.arrived step.turns.came step.turns.arrives step.turns.chosen step.turns.decided (decides value w relation own awake net n routers all step.between fits may step.turns) step.between.states.items step.between.works.items step.turns.concludes later rest
 
-  ran-at : (b k : ℕ) → k < 32 → lane_in value ran.states.items b k ≡ with_packets (told_packets value ran.states.items (b * 32 + k)) (lane_in value step.settled b k)
-  ran-at = stage.later-at value w relation own awake net n all fits may step.gathered (near value w relation own awake net n routers all ran fits may step) (beyond value w relation own awake net n routers all ran fits may step) step.arrived step.came step.arrives step.chosen step.decided (decides value w relation own awake net n routers all ran fits may step) step.settled step.worked step.concludes ran.states.items step.told
+  ran-at : (b k : ℕ) → k < 32 → lane_in value ran.states.items b k ≡ with_packets (told_packets value ran.states.items (b * 32 + k)) (lane_in value step.between.states.items b k)
+  ran-at = stage.later-at value w relation own awake net n all fits may step.turns.gathered (near value w relation own awake net n routers all step.between fits may step.turns) (beyond value w relation own awake net n routers all step.between fits may step.turns) step.turns.arrived step.turns.came step.turns.arrives step.turns.chosen step.turns.decided (decides value w relation own awake net n routers all step.between fits may step.turns) step.between.states.items step.between.works.items step.turns.concludes ran.states.items step.ends.told
 
   abbrev grants : ℕ → ℕ → Option ℕ
-  grants = grants_by awake (lane_by value step.arrived) (lane_by value step.chosen)
+  grants = grants_by awake (lane_by value step.turns.arrived) (lane_by value step.turns.chosen)
 
-  heard-all : (r i : ℕ) → IsIn net own r → i < size net → told_packets value later r i ≡ unwrap_or (heard g vcs sent r i) (told_packets value step.settled r i)
-  heard-all r i m u = hears.packets r i m u ∙ ap (unwrap_or (heard g vcs foreign r i)) (own-told value w relation own awake net n routers all ran fits may step r i m.0 u) ∙ by (neighbour g r (i / vcs))
+  heard-all : (r i : ℕ) → IsIn net own r → i < size net → told_packets value later r i ≡ unwrap_or (heard g vcs sent r i) (told_packets value step.between.states.items r i)
+  heard-all r i m u = hears.packets r i m u ∙ ap (unwrap_or (heard g vcs foreign r i)) (own-told value w relation own awake net n routers all step.between fits may step.turns ran step.ends r i m.0 u) ∙ by (neighbour g r (i / vcs))
     where
       unsaid : (s o : ℕ) → own (s / 32) ≡ false → grants s o ≡ None
-      unsaid s o e = ap (λ b. if b then grants_in (lane_by value step.arrived s) (lane_by value step.chosen s) o else None) (false_from_ne_true (has_bit awake (s / 32)) (λ f. true≢false (sym ((may.own_awake (s / 32) f).0) ∙ e)))
+      unsaid s o e = ap (λ b. if b then grants_in (lane_by value step.turns.arrived s) (lane_by value step.turns.chosen s) o else None) (false_from_ne_true (has_bit awake (s / 32)) (λ f. true≢false (sym ((may.own_awake (s / 32) f).0) ∙ e)))
 
       at : (s o : ℕ) (b : Bool) → own (s / 32) ≡ b
-          → unwrap_or (if b then None else tells s o) (told_by (told_packets value step.settled s) (told_packets value step.settled r i) (grants s o))
-          ≡ unwrap_or (if b then told_in value awake step.arrived step.chosen step.settled s o else tells s o) (told_packets value step.settled r i)
+          → unwrap_or (if b then None else tells s o) (told_by (told_packets value step.between.states.items s) (told_packets value step.between.states.items r i) (grants s o))
+          ≡ unwrap_or (if b then told_in value awake step.turns.arrived step.turns.chosen step.between.states.items s o else tells s o) (told_packets value step.between.states.items r i)
       at s o true e = refl
-      at s o false e = ap (λ x. unwrap_or (tells s o) (told_by (told_packets value step.settled s) (told_packets value step.settled r i) x)) (unsaid s o e)
+      at s o false e = ap (λ x. unwrap_or (tells s o) (told_by (told_packets value step.between.states.items s) (told_packets value step.between.states.items r i) x)) (unsaid s o e)
 
-      by : (x : Option (ℕ × ℕ)) → unwrap_or (heard_over vcs foreign (i % vcs) x) (told_over vcs grants (told_packets value step.settled) (told_packets value step.settled r i) (i % vcs) x)
-          ≡ unwrap_or (heard_over vcs sent (i % vcs) x) (told_packets value step.settled r i)
+      by : (x : Option (ℕ × ℕ)) → unwrap_or (heard_over vcs foreign (i % vcs) x) (told_over vcs grants (told_packets value step.between.states.items) (told_packets value step.between.states.items r i) (i % vcs) x)
+          ≡ unwrap_or (heard_over vcs sent (i % vcs) x) (told_packets value step.between.states.items r i)
       by None = refl
       by (Some (to, port)) = at to (port * vcs + i % vcs) (own (to / 32)) refl
 
   -- ---- the routers send as their digits tell, and the other lanes are blank
   pub next-sends : (r : ℕ) → IsIn net own r → SendsRight vcs (ports g) (lane_by value later r).vc (lane_by value later r).marks
   next-sends r m =
-      let sends = sends-right value w relation own awake net n routers all ran fits may step r m in
+      let sends = sends-right value w relation own awake net n routers all step.between fits may step.turns r m in
       subst (λ (a : Lane). SendsRight vcs (ports g) a.vc a.marks) (sym (later-is r)) (record { taken = sends.taken; below = sends.below; number = sends.number })
 
   pub next-blank : (b k : ℕ) → own b ≡ true → b < blocks → k < 32 → nodes g ≤ b * 32 + k → IsBlank (lane_in value later b k)
   next-blank b k ours m l u =
-      let blank = stays-blank value w relation own awake net n routers all ran fits may step b k ours m l u in
+      let blank = stays-blank value w relation own awake net n routers all step.between fits may step.turns b k ours m l u in
       subst IsBlank (sym (later-at b k l)) (record { waiting = blank.waiting; active = blank.active; flits = blank.flits; injecting = blank.injecting; due = blank.due })
 
   -- ---- what is known of each block
@@ -193,38 +198,38 @@ module _ {A : Type 0} (value : A → ℕ) (w : ℕ) (relation : Routes) (own : �
   next-known b o ours h = by (has_bit awake b) refl
     where
       -- what has left a lane of it
-      gone : (k : ℕ) → k < 32 → after (b * 32 + k) ≡ left_of value ran.left (b * 32 + k)
-      gone k l = hears.left (b * 32 + k) (ap own (block-of b k l) ∙ ours)
+      gone : (k : ℕ) → k < 32 → after (b * 32 + k) ≡ left_of value step.between.left (b * 32 + k)
+      gone k l = left-kept (b * 32 + k) (ap own (block-of b k l) ∙ ours)
 
       by : (x : Bool) → has_bit awake b ≡ x → IsKnown value b (slice_get later b) next.left o
       by true e =
-          let look = step.looks b o e h in
+          let look = step.ends.looks b o e h in
           record {
             holds = tells-same (λ k. held_in (lane_in value ran.states.items b k)) (λ k. held_in (lane_in value later b k)) o.holds (λ k l. ap held_in (later-at b k l) ∙ sym (ap held_in (ran-at b k l))) look.holds;
             due = least-same (λ k. (lane_in value ran.states.items b k).words.due) (λ k. (lane_in value later b k).words.due) o.due (λ k l. ap (λ (a : Lane). a.words.due) (later-at b k l) ∙ sym (ap (λ (a : Lane). a.words.due) (ran-at b k l))) look.due;
             still = λ none k l.
                 let moved = look.moves.none none k l in
-                let lane = has-concluded value w relation own awake net n routers all ran fits may step b k e l in
-                let y = working_in value step.decided b k in
-                let z = working_in value step.worked b k in
-                let x = working_in value step.came b k in
+                let lane = has-concluded value w relation own awake net n routers all step.between fits may step.turns b k e l in
+                let y = working_in value step.turns.decided b k in
+                let z = working_in value step.between.works.items b k in
+                let x = working_in value step.turns.came b k in
                 let moves_same : z.moves ≡ y.moves = ap (λ (q : Working). q.moves) lane.rest in
                 let released_same : z.decided.released ≡ y.decided.released = ap (λ (q : Working). q.decided.released) lane.rest in
                 let none_moved : y.moves.moved ≡ 0 = ap (λ (m : Moves ℕ). m.moved) (sym moves_same) ∙ moved in
-                let leaves = no-flit-leaves w vcs (ports g) (port_in all.plan.pattern.numbering) (vc_in all.plan.pattern.numbering) (sets_by net.relation all.plan.pattern.numbering (headers_of net.packets) (b * 32 + k)) (returned_or value (slice_get step.came b) k).single layout
-                (lane_in value step.arrived b k) (lane_in value step.chosen b k) (lane_in value step.settled b k) x.standing y.moves y.decided z.decided lane.decided.decides
-                (subst (λ (q : Standing ℕ). HasConcludedAll vcs (ports g) layout (port_in all.plan.pattern.numbering) (lane_in value step.chosen b k) (lane_in value step.settled b k) q y.moves z.decided) (ap (λ (q : Working). q.standing) lane.decided.rest) lane.concludes) released_same none_moved in
+                let leaves = no-flit-leaves w vcs (ports g) (port_in all.plan.pattern.numbering) (vc_in all.plan.pattern.numbering) (sets_by net.relation all.plan.pattern.numbering (headers_of net.packets) (b * 32 + k)) (returned_or value (slice_get step.turns.came b) k).single layout
+                (lane_in value step.turns.arrived b k) (lane_in value step.turns.chosen b k) (lane_in value step.between.states.items b k) x.standing y.moves y.decided z.decided lane.decided.decides
+                (subst (λ (q : Standing ℕ). HasConcludedAll vcs (ports g) layout (port_in all.plan.pattern.numbering) (lane_in value step.turns.chosen b k) (lane_in value step.between.states.items b k) q y.moves z.decided) (ap (λ (q : Working). q.standing) lane.decided.rest) lane.concludes) released_same none_moved in
                 gone k l
-                ∙ step.puts (b * 32 + k) (subst (λ c. c < blocks) (sym (block-of b k l)) (may.own_awake b e).1) (ap (has_bit awake) (block-of b k l) ∙ e)
-                ∙ ap₂ (λ c j. leaving_of (working_in value step.worked c j)) (block-of b k l) (lane-of b k l)
+                ∙ step.turns.puts (b * 32 + k) (subst (λ c. c < blocks) (sym (block-of b k l)) (may.own_awake b e).1) (ap (has_bit awake) (block-of b k l) ∙ e)
+                ∙ ap₂ (λ c j. leaving_of (working_in value step.between.works.items c j)) (block-of b k l) (lane-of b k l)
                 ∙ left-same z.moves.out z.decided.freed z.moves.moved 0 0 0 (ap (λ (m : Moves ℕ). m.out) moves_same ∙ leaves.0) leaves.1 moved;
           }
       by false e =
-          let old = shows.known b o ours (sym (step.outlooks_stay b e) ∙ h) in
+          let old = shows.known b o ours (sym (stepped.outlooks-stay value w relation awake n routers all ran step b e) ∙ h) in
           record {
-            holds = tells-same (λ k. held_in (lane_in value states b k)) (λ k. held_in (lane_in value later b k)) o.holds (λ k l. ap held_in (later-at b k l) ∙ ap (λ (q : Option (State A)). held_in (lane_or value q k)) (step.states_stay b e)) old.holds;
-            due = least-same (λ k. (lane_in value states b k).words.due) (λ k. (lane_in value later b k).words.due) o.due (λ k l. ap (λ (a : Lane). a.words.due) (later-at b k l) ∙ ap (λ (q : Option (State A)). (lane_or value q k).words.due) (step.states_stay b e)) old.due;
-            still = λ none k l. gone k l ∙ step.left_stays (b * 32 + k) (ap (has_bit awake) (block-of b k l) ∙ e) ∙ old.still none k l;
+            holds = tells-same (λ k. held_in (lane_in value states b k)) (λ k. held_in (lane_in value later b k)) o.holds (λ k l. ap held_in (later-at b k l) ∙ ap (λ (q : Option (State A)). held_in (lane_or value q k)) (step.turns.states_stay b e)) old.holds;
+            due = least-same (λ k. (lane_in value states b k).words.due) (λ k. (lane_in value later b k).words.due) o.due (λ k l. ap (λ (a : Lane). a.words.due) (later-at b k l) ∙ ap (λ (q : Option (State A)). (lane_or value q k).words.due) (step.turns.states_stay b e)) old.due;
+            still = λ none k l. gone k l ∙ step.turns.left_stays (b * 32 + k) (ap (has_bit awake) (block-of b k l) ∙ e) ∙ old.still none k l;
           }
 
   -- ---- what the routers show
@@ -234,37 +239,37 @@ module _ {A : Type 0} (value : A → ℕ) (w : ℕ) (relation : Routes) (own : �
   abbrev next_words : ℕ → List ℕ → Words
   next_words last arrivals = words_by value net later next.left (λ r. (turn r).counts) last arrivals
 
-  packet-settled : (r i : ℕ) → has_bit awake (r / 32) ≡ true → (lane_by value step.settled r).marks.packet i ≡ (lane_by value step.chosen r).marks.packet i
-  packet-settled r i e = ap (λ (m : RouterMarks). m.packet i) (concluded-at value w relation own awake net n routers all ran fits may step r e).concludes.marks
+  packet-settled : (r i : ℕ) → has_bit awake (r / 32) ≡ true → (lane_by value step.between.states.items r).marks.packet i ≡ (lane_by value step.turns.chosen r).marks.packet i
+  packet-settled r i e = ap (λ (m : RouterMarks). m.packet i) (concluded-at value w relation own awake net n routers all step.between fits may step.turns r e).concludes.marks
 
-  has-run : HasRunOwn net layout (of_blocks own) n now turn after sent (next_words ran.last ran.arrivals.items)
+  has-run : HasRunOwn net layout (of_blocks own) n now turn after sent (next_words ran.last step.between.arrivals.items)
   has-run = record {
-    turns = turns-are net layout n (of_blocks own) (λ r. has_bit awake (r / 32)) (lane_by value states) (lane_by value step.arrived) (lane_by value step.chosen) (lane_by value step.settled) (λ r. working_in value step.worked (r / 32) (r % 32)) left (left_of value ran.left) shows.counts (made value w relation own awake net n routers all ran fits may step);
-    left_are = λ s m. hears.left s m.1 ∙ left-are net layout n (of_blocks own) (λ r. has_bit awake (r / 32)) (lane_by value states) (lane_by value step.arrived) (lane_by value step.chosen) (lane_by value step.settled) (λ r. working_in value step.worked (r / 32) (r % 32)) left (left_of value ran.left) shows.counts (made value w relation own awake net n routers all ran fits may step) s m;
-    told_are = λ s o m u. ap (λ b. if b then told_in value awake step.arrived step.chosen step.settled s o else tells s o) m.1 ∙ tells-as-turn value w relation own awake net n routers all ran fits may step s m o;
+    turns = turns-are net layout n (of_blocks own) (λ r. has_bit awake (r / 32)) (lane_by value states) (lane_by value step.turns.arrived) (lane_by value step.turns.chosen) (lane_by value step.between.states.items) (λ r. working_in value step.between.works.items (r / 32) (r % 32)) left (left_of value step.between.left) shows.counts (made value w relation own awake net n routers all step.between fits may step.turns);
+    left_are = λ s m. left-kept s m.1 ∙ left-are net layout n (of_blocks own) (λ r. has_bit awake (r / 32)) (lane_by value states) (lane_by value step.turns.arrived) (lane_by value step.turns.chosen) (lane_by value step.between.states.items) (λ r. working_in value step.between.works.items (r / 32) (r % 32)) left (left_of value step.between.left) shows.counts (made value w relation own awake net n routers all step.between fits may step.turns) s m;
+    told_are = λ s o m u. ap (λ b. if b then told_in value awake step.turns.arrived step.turns.chosen step.between.states.items s o else tells s o) m.1 ∙ tells-as-turn value w relation own awake net n routers all step.between fits may step.turns s m o;
     sent = λ r q s port m e other.
         let one = hears.sent r q s port m e other in
         record {
           beat = one.beat;
-          told = λ vc u. ap (λ b. if b then told_in value awake step.arrived step.chosen step.settled s (port * vcs + vc) else tells s (port * vcs + vc)) other ∙ one.told vc u;
+          told = λ vc u. ap (λ b. if b then told_in value awake step.turns.arrived step.turns.chosen step.between.states.items s (port * vcs + vc) else tells s (port * vcs + vc)) other ∙ one.told vc u;
         };
-    gathered_are = gathered-are net layout n (of_blocks own) (λ r. has_bit awake (r / 32)) (lane_by value states) (lane_by value step.arrived) (lane_by value step.chosen) (lane_by value step.settled) (λ r. working_in value step.worked (r / 32) (r % 32)) left (left_of value ran.left) shows.counts (made value w relation own awake net n routers all ran fits may step) (lane_by value later) after (told_packets value later) later-is sent
-        (λ r i m u. heard-all r i m u ∙ ap (unwrap_or (heard g vcs sent r i)) (packets-settled value w relation own awake net n routers all ran fits may step r i));
-    are = turned-are net layout n (of_blocks own) (λ r. has_bit awake (r / 32)) (lane_by value states) (lane_by value step.arrived) (lane_by value step.chosen) (lane_by value step.settled) (λ r. working_in value step.worked (r / 32) (r % 32)) left (left_of value ran.left) shows.counts (made value w relation own awake net n routers all ran fits may step) (lane_by value later) after (told_packets value later) later-is;
-    last = last-is net layout n (of_blocks own) (λ r. has_bit awake (r / 32)) (lane_by value states) (lane_by value step.arrived) (lane_by value step.chosen) (lane_by value step.settled) (λ r. working_in value step.worked (r / 32) (r % 32)) left (left_of value ran.left) shows.counts (made value w relation own awake net n routers all ran fits may step) all.last ran.last step.happened step.last (some-happened value w relation own awake net n routers all ran fits may step) (one-happened value w relation own awake net n routers all ran fits may step);
-    arrivals = arrivals-are net layout n (of_blocks own) (λ r. has_bit awake (r / 32)) (lane_by value states) (lane_by value step.arrived) (lane_by value step.chosen) (lane_by value step.settled) (λ r. working_in value step.worked (r / 32) (r % 32)) left (left_of value ran.left) shows.counts (made value w relation own awake net n routers all ran fits may step) (slice_index all.arrivals.items) (slice_index ran.arrivals.items) (omega (arith, few))
-        (λ r i m e. let there = arrived-turn value w relation own awake net n routers all ran fits may step r i e in released-below value w relation own awake net n routers all ran fits may step r i m.0 there.0 (and_parts (has_bit (working_in value step.decided (r / 32) (r % 32)).decided.released i) _ (sym (both_members (working_in value step.decided (r / 32) (r % 32)).decided.released _ i) ∙ there.1)).0)
-        (λ r i m e. let there = arrived-turn value w relation own awake net n routers all ran fits may step r i e in ap (slice_index ran.arrivals.items) (packet-settled r i there.0) ∙ step.arrivals.some (r / 32) (r % 32) i (omega (arith, block-there value w net all.plan shows.plan r m.0, shows.states_are)) there.0 (in-lanes r) there.1)
-        (λ p none. step.arrivals.others p (λ b k i m e l x y. elim (cases_lt (b * 32 + k) (nodes g)) [
+    gathered_are = gathered-are net layout n (of_blocks own) (λ r. has_bit awake (r / 32)) (lane_by value states) (lane_by value step.turns.arrived) (lane_by value step.turns.chosen) (lane_by value step.between.states.items) (λ r. working_in value step.between.works.items (r / 32) (r % 32)) left (left_of value step.between.left) shows.counts (made value w relation own awake net n routers all step.between fits may step.turns) (lane_by value later) after (told_packets value later) later-is sent
+        (λ r i m u. heard-all r i m u ∙ ap (unwrap_or (heard g vcs sent r i)) (packets-settled value w relation own awake net n routers all step.between fits may step.turns r i));
+    are = turned-are net layout n (of_blocks own) (λ r. has_bit awake (r / 32)) (lane_by value states) (lane_by value step.turns.arrived) (lane_by value step.turns.chosen) (lane_by value step.between.states.items) (λ r. working_in value step.between.works.items (r / 32) (r % 32)) left (left_of value step.between.left) shows.counts (made value w relation own awake net n routers all step.between fits may step.turns) (lane_by value later) after (told_packets value later) later-is;
+    last = last-is net layout n (of_blocks own) (λ r. has_bit awake (r / 32)) (lane_by value states) (lane_by value step.turns.arrived) (lane_by value step.turns.chosen) (lane_by value step.between.states.items) (λ r. working_in value step.between.works.items (r / 32) (r % 32)) left (left_of value step.between.left) shows.counts (made value w relation own awake net n routers all step.between fits may step.turns) all.last ran.last step.ends.happened (stepped.next-last value w relation awake n routers all ran step) (some-happened value w relation own awake net n routers all step.between fits may step.turns ran step.ends) (one-happened value w relation own awake net n routers all step.between fits may step.turns ran step.ends);
+    arrivals = arrivals-are net layout n (of_blocks own) (λ r. has_bit awake (r / 32)) (lane_by value states) (lane_by value step.turns.arrived) (lane_by value step.turns.chosen) (lane_by value step.between.states.items) (λ r. working_in value step.between.works.items (r / 32) (r % 32)) left (left_of value step.between.left) shows.counts (made value w relation own awake net n routers all step.between fits may step.turns) (slice_index all.arrivals.items) (slice_index step.between.arrivals.items) (omega (arith, few))
+        (λ r i m e. let there = arrived-turn value w relation own awake net n routers all step.between fits may step.turns r i e in released-below value w relation own awake net n routers all step.between fits may step.turns r i m.0 there.0 (and_parts (has_bit (working_in value step.turns.decided (r / 32) (r % 32)).decided.released i) _ (sym (both_members (working_in value step.turns.decided (r / 32) (r % 32)).decided.released _ i) ∙ there.1)).0)
+        (λ r i m e. let there = arrived-turn value w relation own awake net n routers all step.between fits may step.turns r i e in ap (slice_index step.between.arrivals.items) (packet-settled r i there.0) ∙ step.turns.arrivals.some (r / 32) (r % 32) i (omega (arith, block-there value w net all.plan shows.plan r m.0, shows.states_are)) there.0 (in-lanes r) there.1)
+        (λ p none. step.turns.arrivals.others p (λ b k i m e l x y. elim (cases_lt (b * 32 + k) (nodes g)) [
           | inl u ↦
               let here : has_bit awake ((b * 32 + k) / 32) ≡ true = ap (has_bit awake) (block-of b k l) ∙ e in
-              none (b * 32 + k) i (u, (may.own_awake ((b * 32 + k) / 32) here).0) (turn-arrived value w relation own awake net n routers all ran fits may step b k i e l x) (packet-settled (b * 32 + k) i here ∙ ap₂ (λ c j. (lane_in value step.chosen c j).marks.packet i) (block-of b k l) (lane-of b k l) ∙ y)
-          | inr u ↦ nobody value w relation own awake net n routers all ran fits may step b k i e l u x
+              none (b * 32 + k) i (u, (may.own_awake ((b * 32 + k) / 32) here).0) (turn-arrived value w relation own awake net n routers all step.between fits may step.turns b k i e l x) (packet-settled (b * 32 + k) i here ∙ ap₂ (λ c j. (lane_in value step.turns.chosen c j).marks.packet i) (block-of b k l) (lane-of b k l) ∙ y)
+          | inr u ↦ nobody value w relation own awake net n routers all step.between fits may step.turns b k i e l u x
         ]));
   }
 
-  pub next-shows : ShowsOwn PLANES net (of_blocks own) (suc n) (next_words ran.last ran.arrivals.items)
-  next-shows = own-next net setup layout shows.plan.frame.layout (of_blocks own) n now turn after sent (next_words ran.last ran.arrivals.items) few shows.shows has-run
+  pub next-shows : ShowsOwn PLANES net (of_blocks own) (suc n) (next_words ran.last step.between.arrivals.items)
+  next-shows = own-next net setup layout shows.plan.frame.layout (of_blocks own) n now turn after sent (next_words ran.last step.between.arrivals.items) few shows.shows has-run
 
   -- ---- what is counted
   pub next-tallied : (r i : ℕ) → IsIn net own r → i < size net
@@ -276,51 +281,49 @@ module _ {A : Type 0} (value : A → ℕ) (w : ℕ) (relation : Routes) (own : �
       by true e =
           let b = r / 32 in
           let k = r % 32 in
-          let lane = concluded-at value w relation own awake net n routers all ran fits may step r e in
+          let lane = concluded-at value w relation own awake net n routers all step.between fits may step.turns r e in
           let takes = lane.decided.takes in
           let a = lane_by value states r in
-          let q = lane_by value step.arrived r in
-          let d = lane_by value step.chosen r in
-          let t = lane_by value step.settled r in
-          let y = working_in value step.decided b k in
-          let z = working_in value step.worked b k in
+          let q = lane_by value step.turns.arrived r in
+          let d = lane_by value step.turns.chosen r in
+          let t = lane_by value step.between.states.items r in
+          let y = working_in value step.turns.decided b k in
+          let z = working_in value step.between.works.items b k in
           let waits : q.inputs.waiting ≡ a.inputs.waiting = ap (λ (x : Inputs ℕ). x.waiting) takes.begun.inputs ∙ ap (λ (c : Column). c.waiting) (takes.flits.column a.outputs) in
           let owns : q.inputs.active ≡ a.inputs.active = ap (λ (x : Inputs ℕ). x.active) takes.begun.inputs ∙ ap (λ (c : Column). c.active) (takes.flits.column a.outputs) in
           let waits_on : d.inputs.waiting ≡ q.inputs.waiting = ap (λ (x : Inputs ℕ). x.waiting) lane.decided.decides.inputs in
           let owns_on : d.inputs.active ≡ q.inputs.active = ap (λ (x : Inputs ℕ). x.active) lane.decided.decides.inputs in
-          let granted_same : z.decided.granted ≡ y.decided.granted = ap (λ (x : Working). x.decided.granted) lane.rest in
-          let released_same : z.decided.released ≡ y.decided.released = ap (λ (x : Working). x.decided.released) lane.rest in
+          let standing_same : z.standing ≡ y.standing = ap (λ (x : Working). x.standing) lane.rest in
           let settles = lane.concludes.inputs.column layout d.outputs d.words in
-          let waiting_is : (lane_by value later r).inputs.waiting ≡ bit_or (less q.inputs.waiting y.decided.granted) y.standing.heads = ap (λ (x : Lane). x.inputs.waiting) (later-is r) ∙ ap (λ (c : Column). c.waiting) settles ∙ ap₂ (λ m v. bit_or (less m v) y.standing.heads) waits_on granted_same in
-          let active_is : (lane_by value later r).inputs.active ≡ less (bit_or q.inputs.active y.decided.granted) y.decided.released = ap (λ (x : Lane). x.inputs.active) (later-is r) ∙ ap (λ (c : Column). c.active) settles
-          ∙ ap₂ (λ m v. less (bit_or m v) z.decided.released) owns_on granted_same ∙ ap (less (bit_or q.inputs.active y.decided.granted)) released_same in
+          let waiting_is : (lane_by value later r).inputs.waiting ≡ bit_or (less q.inputs.waiting z.decided.granted) z.standing.heads = ap (λ (x : Lane). x.inputs.waiting) (later-is r) ∙ ap (λ (c : Column). c.waiting) settles
+          ∙ ap₂ (λ m (v : Standing ℕ). bit_or (less m z.decided.granted) v.heads) waits_on (sym standing_same) in
+          let active_is : (lane_by value later r).inputs.active ≡ less (bit_or q.inputs.active z.decided.granted) z.decided.released = ap (λ (x : Lane). x.inputs.active) (later-is r) ∙ ap (λ (c : Column). c.active) settles
+          ∙ ap (λ m. less (bit_or m z.decided.granted) z.decided.released) owns_on in
           let old = subst (λ m. ShowsTallyOr value (slice_get all.tallies.items b) k i n (has_bit m i) (has_bit q.inputs.active i) (shows.counts r i)) (sym waits)
           (subst (λ m. ShowsTallyOr value (slice_get all.tallies.items b) k i n (has_bit a.inputs.waiting i) (has_bit m i) (shows.counts r i)) (sym owns) (shows.tallied r i mine u)) in
-          let more = (step.counts b (omega (arith, block-there value w net all.plan shows.plan r mine.0, shows.states_are)) e).counts k i (column_in q) (shows.counts r i) (in-lanes r) (can-do value w relation own awake net n routers all ran fits may step b k e (in-lanes r)) old in
-          let sets : verdicts_in q z ≡ verdicts_of (column_in q) (doing value w relation own awake net n routers all ran fits may step b k) = ap (verdicts_in q) lane.rest in
-          subst (λ (t : Turn). ShowsTallyOr value (slice_get ran.tallies.items b) k i (n + 1) (has_bit (lane_by value later r).inputs.waiting i) (has_bit (lane_by value later r).inputs.active i) (t.counts i)) (sym (turn-awake value w relation own awake net n routers all ran fits may step r e))
-          (subst (λ (v : ByVerdict). ShowsTallyOr value (slice_get ran.tallies.items b) k i (n + 1) (has_bit (lane_by value later r).inputs.waiting i) (has_bit (lane_by value later r).inputs.active i) (with_verdicts v i (shows.counts r i))) (sym sets)
-          (subst (λ m. ShowsTallyOr value (slice_get ran.tallies.items b) k i (n + 1) (has_bit m i) (has_bit (lane_by value later r).inputs.active i) (with_verdicts (verdicts_of (column_in q) (doing value w relation own awake net n routers all ran fits may step b k)) i (shows.counts r i))) (sym waiting_is)
-          (subst (λ m. ShowsTallyOr value (slice_get ran.tallies.items b) k i (n + 1) (has_bit (bit_or (less q.inputs.waiting y.decided.granted) y.standing.heads) i) (has_bit m i) (with_verdicts (verdicts_of (column_in q) (doing value w relation own awake net n routers all ran fits may step b k)) i (shows.counts r i))) (sym active_is) more)))
+          let more = (stepped.counted value w relation awake n routers all ran step b (omega (arith, block-there value w net all.plan shows.plan r mine.0, shows.states_are)) e).counts k i (column_in q) (shows.counts r i) (in-lanes r) (can-do value w relation own awake net n routers all step.between fits may step.turns b k e (in-lanes r)) old in
+          subst (λ (t : Turn). ShowsTallyOr value (slice_get ran.tallies.items b) k i (n + 1) (has_bit (lane_by value later r).inputs.waiting i) (has_bit (lane_by value later r).inputs.active i) (t.counts i)) (sym (turn-awake value w relation own awake net n routers all step.between fits may step.turns r e))
+          (subst (λ m. ShowsTallyOr value (slice_get ran.tallies.items b) k i (n + 1) (has_bit m i) (has_bit (lane_by value later r).inputs.active i) (with_verdicts (verdicts_in q z) i (shows.counts r i))) (sym waiting_is)
+          (subst (λ m. ShowsTallyOr value (slice_get ran.tallies.items b) k i (n + 1) (has_bit (bit_or (less q.inputs.waiting z.decided.granted) z.standing.heads) i) (has_bit m i) (with_verdicts (verdicts_in q z) i (shows.counts r i))) (sym active_is) more))
       by false e =
           let b = r / 32 in
           let k = r % 32 in
           let a = lane_by value states r in
           let asleep = may.asleep r mine e in
-          let waiting_is : (lane_by value later r).inputs.waiting ≡ 0 = ap (λ (x : Lane). x.inputs.waiting) (later-is r) ∙ ap (λ (x : Lane). x.inputs.waiting) (lane-stays value w relation own awake net n routers all ran fits may step r e) ∙ asleep.waiting in
-          let active_is : (lane_by value later r).inputs.active ≡ 0 = ap (λ (x : Lane). x.inputs.active) (later-is r) ∙ ap (λ (x : Lane). x.inputs.active) (lane-stays value w relation own awake net n routers all ran fits may step r e) ∙ asleep.active in
+          let waiting_is : (lane_by value later r).inputs.waiting ≡ 0 = ap (λ (x : Lane). x.inputs.waiting) (later-is r) ∙ ap (λ (x : Lane). x.inputs.waiting) (lane-stays value w relation own awake net n routers all step.between fits may step.turns r e) ∙ asleep.waiting in
+          let active_is : (lane_by value later r).inputs.active ≡ 0 = ap (λ (x : Lane). x.inputs.active) (later-is r) ∙ ap (λ (x : Lane). x.inputs.active) (lane-stays value w relation own awake net n routers all step.between fits may step.turns r e) ∙ asleep.active in
           let old = subst (λ m. ShowsTallyOr value (slice_get all.tallies.items b) k i n (has_bit m i) false (shows.counts r i)) asleep.waiting
           (subst (λ m. ShowsTallyOr value (slice_get all.tallies.items b) k i n (has_bit a.inputs.waiting i) m (shows.counts r i)) (ap (λ m. has_bit m i) asleep.active ∙ has_bit-zero i) (shows.tallied r i mine u)) in
           let zero = subst (λ m. ShowsTallyOr value (slice_get all.tallies.items b) k i n m false (shows.counts r i)) (has_bit-zero i) old in
           let on = tally-stays value (slice_get all.tallies.items b) k i n (shows.counts r i) zero in
-          subst (λ (t : Turn). ShowsTallyOr value (slice_get ran.tallies.items b) k i (n + 1) (has_bit (lane_by value later r).inputs.waiting i) (has_bit (lane_by value later r).inputs.active i) (t.counts i)) (sym (turn-asleep value w relation own awake net n routers all ran fits may step r e))
-          (subst (λ (o : Option (Tallies A)). ShowsTallyOr value o k i (n + 1) (has_bit (lane_by value later r).inputs.waiting i) (has_bit (lane_by value later r).inputs.active i) (shows.counts r i)) (sym (step.tallies_stay b e))
+          subst (λ (t : Turn). ShowsTallyOr value (slice_get ran.tallies.items b) k i (n + 1) (has_bit (lane_by value later r).inputs.waiting i) (has_bit (lane_by value later r).inputs.active i) (t.counts i)) (sym (turn-asleep value w relation own awake net n routers all step.between fits may step.turns r e))
+          (subst (λ (o : Option (Tallies A)). ShowsTallyOr value o k i (n + 1) (has_bit (lane_by value later r).inputs.waiting i) (has_bit (lane_by value later r).inputs.active i) (shows.counts r i)) (sym (stepped.tallies-stay value w relation awake n routers all ran step b e))
           (subst (λ m. ShowsTallyOr value (slice_get all.tallies.items b) k i (n + 1) m (has_bit (lane_by value later r).inputs.active i) (shows.counts r i)) (sym (ap (λ m. has_bit m i) waiting_is ∙ has_bit-zero i))
           (subst (λ m. ShowsTallyOr value (slice_get all.tallies.items b) k i (n + 1) false m (shows.counts r i)) (sym (ap (λ m. has_bit m i) active_is ∙ has_bit-zero i)) on)))
 
   -- ---- all of it
   pub same-plan : next.plan ≡ all.plan
-  same-plan = ap (λ (x : Network A). x.plan) hears.rest ∙ step.plan
+  same-plan = ap (λ (x : Network A). x.plan) hears.rest ∙ stepped.same-plan value w relation awake n routers all ran step
 
   pub sides-same : length all.plan.sides.items ≡ length next.plan.sides.items
   sides-same = ap (λ (p : Plan A). length p.sides.items) (sym same-plan)
@@ -328,17 +331,17 @@ module _ {A : Type 0} (value : A → ℕ) (w : ℕ) (relation : Routes) (own : �
   unfoldable pub shows-next-in : ShowsIn value w net own (n + 1) next
   shows-next-in = record {
     plan = subst (λ (p : Plan A). IsPlanOf value w net p) (sym same-plan) shows.plan;
-    cycle = ap (λ (x : Network A). x.cycle) hears.rest ∙ step.cycle;
-    states_are = hears.states_are ∙ step.states_are ∙ shows.states_are ∙ sides-same;
-    works_are = ap (λ (x : Network A). length x.works.items) hears.rest ∙ step.works_are ∙ shows.works_are ∙ sides-same;
-    tallies_are = ap (λ (x : Network A). length x.tallies.items) hears.rest ∙ step.tallies_are ∙ shows.tallies_are ∙ sides-same;
-    outlooks_are = ap (λ (x : Network A). length x.outlooks.items) hears.rest ∙ step.outlooks_are ∙ shows.outlooks_are ∙ sides-same;
-    arrivals_are = ap (λ (x : Network A). length x.arrivals.items) hears.rest ∙ step.arrivals_are ∙ shows.arrivals_are;
-    found_are = ap (λ (x : Network A). length x.found.items) hears.rest ∙ step.found_are ∙ shows.found_are;
+    cycle = ap (λ (x : Network A). x.cycle) hears.rest ∙ stepped.next-cycle value w relation awake n routers all ran step;
+    states_are = hears.states_are ∙ stepped.states-are value w relation awake n routers all ran step ∙ shows.states_are ∙ sides-same;
+    works_are = ap (λ (x : Network A). length x.works.items) hears.rest ∙ stepped.works-are value w relation awake n routers all ran step ∙ shows.works_are ∙ sides-same;
+    tallies_are = ap (λ (x : Network A). length x.tallies.items) hears.rest ∙ stepped.tallies-are value w relation awake n routers all ran step ∙ shows.tallies_are ∙ sides-same;
+    outlooks_are = ap (λ (x : Network A). length x.outlooks.items) hears.rest ∙ stepped.outlooks-are value w relation awake n routers all ran step ∙ shows.outlooks_are ∙ sides-same;
+    arrivals_are = ap (λ (x : Network A). length x.arrivals.items) hears.rest ∙ stepped.arrivals-are value w relation awake n routers all ran step ∙ shows.arrivals_are;
+    found_are = ap (λ (x : Network A). length x.found.items) hears.rest ∙ stepped.found-are value w relation awake n routers all ran step ∙ shows.found_are;
     counts = λ r. (turn r).counts;
     shows = subst (λ m. ShowsOwn PLANES net (of_blocks own) m (next_words next.last next.arrivals.items)) (sym (add-one n))
         (subst (λ (x : ℕ). ShowsOwn PLANES net (of_blocks own) (suc n) (next_words x next.arrivals.items)) (sym (ap (λ (x : Network A). x.last) hears.rest))
-        (subst (λ (xs : List ℕ). ShowsOwn PLANES net (of_blocks own) (suc n) (next_words ran.last xs)) (sym (ap (λ (x : Network A). x.arrivals.items) hears.rest)) next-shows));
+        (subst (λ (xs : List ℕ). ShowsOwn PLANES net (of_blocks own) (suc n) (next_words ran.last xs)) (sym (ap (λ (x : Network A). x.arrivals.items) hears.rest ∙ stepped.same-arrivals value w relation awake n routers all ran step)) next-shows));
     sends = next-sends;
     blank = λ b k ours m l u. next-blank b k ours (subst (λ x. b < x) (sym sides-same) m) l u;
     tallied = λ r i m u. subst (λ (xs : List (Tallies A)). ShowsTallyOr value (slice_get xs (r / 32)) (r % 32) i (n + 1) (has_bit (lane_by value later r).inputs.waiting i) (has_bit (lane_by value later r).inputs.active i) ((turn r).counts i))

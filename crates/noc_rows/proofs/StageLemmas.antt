@@ -13,7 +13,9 @@ use Rattle.noc_sets.specs.Cycle.{HasWorked, Links, Still, packets_in}
 use Rattle.noc_sets.specs.Layout.{Layout}
 use Rattle.noc_sets.specs.Source.{Start}
 use Rattle.noc_lanes.specs.Lanes.{value_or_none, word}
+use Rattle.noc_lanes.specs.declared.channels.Decided.{Decided}
 use Rattle.noc_lanes.specs.declared.channels.Links.{Links as Brought}
+use Rattle.noc_lanes.specs.declared.channels.Moves.{Moves}
 use Rattle.noc_lanes.specs.declared.channels.Returned.{Returned}
 use Rattle.noc_lanes.specs.declared.channels.Standing.{Standing}
 use Rattle.noc_lanes.specs.declared.planes.TheConstants.{PLANES}
@@ -106,6 +108,27 @@ released-fits value fits (Some x) k = word-fits value fits k x.decided.released
 freed-fits : {A : Type 0} (value : A → ℕ) → ((x : A) → value x < 2 ^ 64) → (o : Option (Work A)) (k : ℕ) → (working_or value o k).decided.freed < 2 ^ 64
 freed-fits value fits None k = lit< tt
 freed-fits value fits (Some x) k = word-fits value fits k x.decided.freed
+
+-- ---- what is decided does not tell which channels are given back
+other-freed : (w vcs ports : ℕ) (port vc : ℕ → ℕ) (sets : ℕ → ℕ → ℕ) (single : ℕ) (s d : Lane) (standing : Standing ℕ) (moves : Moves ℕ) (decided : Decided ℕ) (freed : ℕ)
+    → HasDecidedAll w vcs ports port vc sets single s d standing moves decided → HasDecidedAll w vcs ports port vc sets single s d standing moves (record decided { freed = freed })
+other-freed w vcs ports port vc sets single s d standing moves decided freed has = record {
+  granted = has.granted;
+  outputs = has.outputs;
+  column = has.column;
+  asked = has.asked;
+  unasked = has.unasked;
+  inputs = has.inputs;
+  given = has.given;
+  lost = has.lost;
+  routed = has.routed;
+  outputs_are = has.outputs_are;
+  moved = has.moved;
+  marks = has.marks;
+  released = has.released;
+  words = has.words;
+  queue = has.queue;
+}
 
 -- ---- a lane with other numbers of packets
 told-by : {A : Type 0} (value : A → ℕ) (later settled : Option (State A)) (k : ℕ)
@@ -375,25 +398,29 @@ module _ {A : Type 0} (value : A → ℕ) (w : ℕ) (relation : Routes) (own : �
               ∙ ap (λ (x : Brought ℕ). packets_in layout (all_starts net) n (router_in (lane_by value states r) x (shows.counts r))) (links-at r l e))
 
           -- ---- what is counted of it
-          standing-decided : (b k : ℕ) → has_bit awake b ≡ true → (working_in value decided b k).standing ≡ (working_in value came b k).standing
-          standing-decided b k e = ap (λ (y : Working). y.standing) ((one-decides b e).rest k)
-
           abbrev pub doing : ℕ → ℕ → Doing
-          doing b k = doing_or value (slice_get chosen b) (slice_get decided b) k
+          doing b k = doing_or value (slice_get worked b) k
 
           pub can-do : (b k : ℕ) → has_bit awake b ≡ true → k < 32 → CanDo (column_in (lane_in value arrived b k)) (doing b k)
           can-do b k e l =
               let lane = has-concluded b k e l in
+              let x = working_in value came b k in
               let y = working_in value decided b k in
+              let z = working_in value worked b k in
               let s = lane_in value arrived b k in
-              let standing = standing-decided b k e in
-              let filled : y.arrived.filled ≡ (working_in value came b k).arrived.filled = ap (λ (q : Working). q.arrived.filled) ((one-decides b e).rest k) in
-              let stands = lane.decided.takes.stands in
-              can-count {w = w} {vcs = vcs} {ports = ports g} {single = (returned_or value (slice_get came b) k).single} {port = port_in all.plan.pattern.numbering} {vc = vc_in all.plan.pattern.numbering}
-              {sets = sets_by net.relation all.plan.pattern.numbering (headers_of net.packets) (b * 32 + k)} s (lane_in value chosen b k) (doing b k) y.moves
-              (subst (λ (f : ℕ). Stands vcs (ports g) f s.inputs y.standing) (sym filled) (subst (λ (q : Standing ℕ). Stands vcs (ports g) (working_in value came b k).arrived.filled s.inputs q) (sym standing) stands))
-              (subst (λ (q : Standing ℕ). HasDecidedAll w vcs (ports g) (port_in all.plan.pattern.numbering) (vc_in all.plan.pattern.numbering) (sets_by net.relation all.plan.pattern.numbering (headers_of net.packets) (b * 32 + k)) (returned_or value (slice_get came b) k).single s (lane_in value chosen b k) q y.moves y.decided) (sym standing) lane.decided.decides)
-              (ap (λ (q : Inputs ℕ). q.waiting) lane.decided.decides.inputs) (ap (λ (q : Inputs ℕ). q.active) lane.decided.decides.inputs) refl
+              let d = lane_in value chosen b k in
+              let port = port_in all.plan.pattern.numbering in
+              let vc = vc_in all.plan.pattern.numbering in
+              let sets = sets_by net.relation all.plan.pattern.numbering (headers_of net.packets) (b * 32 + k) in
+              let single = (returned_or value (slice_get came b) k).single in
+              let standing = standing-same b k e in
+              let filled : z.arrived.filled ≡ x.arrived.filled = ap (λ (q : Working). q.arrived.filled) lane.rest ∙ ap (λ (q : Working). q.arrived.filled) lane.decided.rest in
+              can-count {w = w} {vcs = vcs} {ports = ports g} {single = single} {port = port} {vc = vc} {sets = sets} s d (doing b k) z.moves
+              (subst (λ (f : ℕ). Stands vcs (ports g) f s.inputs z.standing) (sym filled) (subst (λ (q : Standing ℕ). Stands vcs (ports g) x.arrived.filled s.inputs q) (sym standing) lane.decided.takes.stands))
+              (subst (λ (q : Working). HasDecidedAll w vcs (ports g) port vc sets single s d z.standing q.moves q.decided) (sym lane.rest)
+              (subst (λ (q : Standing ℕ). HasDecidedAll w vcs (ports g) port vc sets single s d q y.moves (record y.decided { freed = z.decided.freed })) (sym standing)
+              (other-freed w vcs (ports g) port vc sets single s d x.standing y.moves y.decided z.decided.freed lane.decided.decides)))
+              ((one-concludes b e).waiting k ∙ ap (λ (q : Inputs ℕ). q.waiting) lane.decided.decides.inputs) ((one-concludes b e).active k ∙ ap (λ (q : Inputs ℕ). q.active) lane.decided.decides.inputs) refl
 
           -- a channel that a tail leaves is one of the router
           pub released-below : (r i : ℕ) → r < nodes g → has_bit awake (r / 32) ≡ true → has_bit (working_in value decided (r / 32) (r % 32)).decided.released i ≡ true → i < size net
@@ -403,19 +430,20 @@ module _ {A : Type 0} (value : A → ℕ) (w : ℕ) (relation : Routes) (own : �
               let lane = concluded-at r e in
               let x = working_in value came b k in
               let y = working_in value decided b k in
+              let z = working_in value worked b k in
               let can = can-do b k e (in-lanes r) in
               let moved = released-moved w vcs (ports g) (port_in all.plan.pattern.numbering) (vc_in all.plan.pattern.numbering) (sets_by net.relation all.plan.pattern.numbering (headers_of net.packets) r) (returned_or value (slice_get came b) k).single
               (lane_by value arrived r) (lane_by value chosen r) x.standing y.moves y.decided lane.decided.decides i h in
-              let ready = ap (λ m. has_bit m i) (sym can.ready) ∙ can.picked i (can.moved i moved) in
+              let ready = ap (λ m. has_bit m i) (sym can.ready) ∙ can.picked i (can.moved i (ap (λ (q : Working). has_bit q.moves.moved i) lane.rest ∙ moved)) in
               let both = (and_parts _ (has_bit (lane_by value arrived r).inputs.supplied i) (sym (both_members _ (lane_by value arrived r).inputs.supplied i) ∙ ready)).0 in
-              let filled = (and_parts (has_bit (lane_by value arrived r).inputs.active i) (has_bit y.arrived.filled i) (sym (both_members (lane_by value arrived r).inputs.active y.arrived.filled i) ∙ both)).1 in
+              let filled = (and_parts (has_bit (lane_by value arrived r).inputs.active i) (has_bit z.arrived.filled i) (sym (both_members (lane_by value arrived r).inputs.active z.arrived.filled i) ∙ both)).1 in
               let shown = shows-at r l e in
               let ready_lane = is-ready PLANES w net layout all.plan.pattern.numbering (all_starts net) n r x.links (shows.counts r) (lane_by value states r) setup few network-fits l shown in
               let takes = lane.decided.takes in
               let still = is-lane-still PLANES net layout (all_starts net) n r (shows.counts r) (lane_by value states r) (lane_by value arrived r) (returned_or value (slice_get came b) k) x setup few shows.plan.frame.layout l shown.shows ready_lane takes in
               let ups = lane-ups PLANES net layout (all_starts net) n r (shows.counts r) (lane_by value states r) (lane_by value arrived r) (returned_or value (slice_get came b) k) x setup few shows.plan.frame.layout l shown.shows ready_lane takes in
               (filled-known PLANES net layout (all_starts net) n r i takes.supplies.up (router_in (lane_by value states r) x.links (shows.counts r)) setup few shows.plan.frame.layout l shown.shows ups takes.supplies.fits
-              (ap (λ (q : Still). has_bit q.filled i) still ∙ ap (λ (q : Working). has_bit q.arrived.filled i) (sym lane.decided.rest) ∙ filled)).0
+              (ap (λ (q : Still). has_bit q.filled i) still ∙ ap (λ (q : Working). has_bit q.arrived.filled i) (sym lane.decided.rest) ∙ ap (λ (q : Working). has_bit q.arrived.filled i) (sym lane.rest) ∙ filled)).0
 
           -- ---- the grants can be told
           -- what a router has granted

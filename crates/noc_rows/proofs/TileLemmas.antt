@@ -14,13 +14,14 @@ use Rattle.noc_wires.specs.declared.awake.TheConstants.{BLOCKS}
 use Rattle.noc_rows.specs.Mails.{AreAround, HasHeardFrom, HaveLeft}
 use Rattle.noc_rows.specs.Own.{MayStepIn, ShowsIn}
 use Rattle.noc_rows.specs.Rounds.{Start}
-use Rattle.noc_rows.specs.Steps.{HasStepped}
+use Rattle.noc_rows.specs.Steps.{HasEnded, HasStepped, HasTurned}
 use Rattle.noc_rows.specs.Tiles.{AreReady, HasBlock, HasHeardSets, HasRun, IsTileAt, MayCycle, MayRunFrom, near_in, nears_in}
 use Rattle.noc_rows.specs.declared.network.Network.{Network}
 use Rattle.noc_rows.specs.declared.post.Post.{Post}
 use Rattle.noc_rows.specs.declared.tile.Tile.{Tile}
 use Rattle.noc_rows.proofs.ListLemmas.{others, same-item, written}
 use Rattle.noc_rows.proofs.MailLemmas.{heard-more, heard-none, left-heard, shows-heard}
+use Rattle.noc_rows.proofs.SteppedLemmas as stepped
 use Rattle.noc_rows.proofs.StepLemmas.{may-step-in}
 
 -- ---- one item after the other
@@ -115,17 +116,29 @@ module _ {A : Type 0} (value : A → ℕ) (w : ℕ) (relation : Routes) (start :
   may-step = subst (λ (r : Routes). MayStepIn value w r (has_bit tile.own) awake start.net tile.network.cycle tile.network) may.is
       (subst (λ n. MayStepIn value w start.net.relation (has_bit tile.own) awake start.net n tile.network) (sym may.at.shows.cycle) may-own)
 
-  module _ (ran : Network A) (step : HasStepped value w relation awake tile.network.cycle 0 tile.network ran) where
+  module _ (ran : Network A) (turned : HasTurned value w relation awake tile.network.cycle 0 tile.network ran) where
     pub has-run : HasRun value w start (has_bit tile.own) awake c tile.network ran
     has-run = record {
       may = may-own;
-      steps = subst (λ n. HasStepped value w start.net.relation awake n 0 tile.network ran) may.at.shows.cycle
-          (subst (λ (r : Routes). HasStepped value w r awake tile.network.cycle 0 tile.network ran) (sym may.is) step);
-      blocks = step.states_are ∙ may.at.blocks;
+      turns = subst (λ n. HasTurned value w start.net.relation awake n 0 tile.network ran) may.at.shows.cycle
+          (subst (λ (r : Routes). HasTurned value w r awake tile.network.cycle 0 tile.network ran) (sym may.is) turned);
+      blocks = turned.states_are ∙ may.at.blocks;
     }
 
-    pub run-sides : length ran.states.items ≡ length ran.plan.sides.items
-    run-sides = step.states_are ∙ may.at.shows.states_are ∙ ap (λ p. length p.sides.items) (sym step.plan)
+    same-cycle : ran.cycle ≡ tile.network.cycle
+    same-cycle = ap (λ (x : Network A). x.cycle) turned.rest
+
+    -- its cycle may end
+    pub may-end : (relation : Routes) × (net : Setup) × (own : ℕ → Bool) × (routers : ℕ) × (all : Network A) × MayStepIn value w relation own awake net ran.cycle all × HasTurned value w relation awake ran.cycle routers all ran
+    may-end = (
+      relation,
+      start.net,
+      has_bit tile.own,
+      0,
+      tile.network,
+      subst (λ n. MayStepIn value w relation (has_bit tile.own) awake start.net n tile.network) (sym same-cycle) may-step,
+      subst (λ n. HasTurned value w relation awake n 0 tile.network ran) (sym same-cycle) turned,
+    )
 
     -- a block that is no own one sleeps
     others-sleep : (b : ℕ) → has_bit tile.own b ≡ false → has_bit awake b ≡ false
@@ -135,31 +148,49 @@ module _ {A : Type 0} (value : A → ℕ) (w : ℕ) (relation : Routes) (start :
         none true y e = e
         none false y e = refl
 
-    -- .. and the tile is at the next count once it has heard from all
-    module _ (next : Tile A) (fits : (x : A) → value x < 2 ^ 64) (heard : HasHeardSets value start.net (has_bit tile.own) (nears_in tile.posts.items) (start.cycle + c) ran next.network) where
-      around : AreAround start.net (has_bit tile.own) heard.from
-      around = record { others = heard.others; all = λ r q s port k e other. heard.all (s / 32) (may.at.near r q s port k e other) }
-
-      pub tile-next : next.own ≡ tile.own → nears_in next.posts.items ≡ nears_in tile.posts.items → AreReady start (has_bit tile.own) (c + 1) next.posts.items → IsTileAt value w start (c + 1) next
-      tile-next same near ready = record {
-        shows = along (λ own. ShowsIn value w start.net (has_bit own) (start.cycle + (c + 1)) next.network)
-            (subst (λ n. ShowsIn value w start.net (has_bit tile.own) n next.network) (omega arith)
-            (shows-heard value w start.net.relation (has_bit tile.own) heard.from awake start.net (start.cycle + c) 0 tile.network ran next.network fits may-own has-run.steps heard.heard around.others around.all));
-        left = λ m e. along (λ own. HaveLeft value start.net (has_bit own) (start.cycle + m) next.network)
-            (subst (λ n. HaveLeft value start.net (has_bit tile.own) (start.cycle + n) next.network) (omega (arith, e))
-            (left-heard value w start.net.relation (has_bit tile.own) heard.from awake start.net (start.cycle + c) 0 tile.network ran next.network fits may-own has-run.steps heard.heard around.others around.all));
-        others = λ b l e.
-            let out = ap (λ own. has_bit own b) (sym same) ∙ e in
-            ap (λ (x : Network A). has_moved x.outlooks.items b) heard.heard.rest ∙ ap moves_or_not (step.outlooks_stay b (others-sleep b out)) ∙ may.at.others b l out;
-        blocks = heard.heard.states_are ∙ has-run.blocks;
-        own = along (λ own. (b : ℕ) → has_bit own b ≡ true → b < start.blocks) may.at.own;
-        posts = along (λ own. AreReady start (has_bit own) (c + 1) next.posts.items) ready;
-        near = λ r q s port k e other. subst (λ (sets : List ℕ). HasBlock sets (s / 32)) (sym near)
-            (may.at.near r q s port (k.0, ap (λ own. has_bit own (r / 32)) (sym same) ∙ k.1) e (ap (λ own. has_bit own (s / 32)) (sym same) ∙ other));
+    -- .. and once that has ended
+    module _ (done : Network A) (ended : HasEnded value w awake ran.cycle ran done) where
+      has-stepped : HasStepped value w start.net.relation awake (start.cycle + c) 0 tile.network done
+      has-stepped = record {
+        between = ran;
+        turns = has-run.turns;
+        ends = subst (λ n. HasEnded value w awake n ran done) (same-cycle ∙ may.at.shows.cycle) ended;
       }
-        where
-          along : (P : ℕ → Type 0) → P tile.own → P next.own
-          along P h = subst P (sym same) h
+
+      pub done-plan : done.plan ≡ tile.network.plan
+      done-plan = stepped.same-plan value w start.net.relation awake (start.cycle + c) 0 tile.network done has-stepped
+
+      pub done-blocks : length done.states.items ≡ start.blocks
+      done-blocks = ended.states_are ∙ has-run.blocks
+
+      pub done-sides : length done.states.items ≡ length done.plan.sides.items
+      done-sides = ended.states_are ∙ turned.states_are ∙ may.at.shows.states_are ∙ ap (λ p. length p.sides.items) (sym done-plan)
+
+      -- the tile is at the next count when it has heard from all
+      module _ (next : Tile A) (fits : (x : A) → value x < 2 ^ 64) (heard : HasHeardSets value start.net (has_bit tile.own) (nears_in tile.posts.items) (start.cycle + c) done next.network) where
+        around : AreAround start.net (has_bit tile.own) heard.from
+        around = record { others = heard.others; all = λ r q s port k e other. heard.all (s / 32) (may.at.near r q s port k e other) }
+
+        pub tile-next : next.own ≡ tile.own → nears_in next.posts.items ≡ nears_in tile.posts.items → AreReady start (has_bit tile.own) (c + 1) next.posts.items → IsTileAt value w start (c + 1) next
+        tile-next same near ready = record {
+          shows = along (λ own. ShowsIn value w start.net (has_bit own) (start.cycle + (c + 1)) next.network)
+              (subst (λ n. ShowsIn value w start.net (has_bit tile.own) n next.network) (omega arith)
+              (shows-heard value w start.net.relation (has_bit tile.own) heard.from awake start.net (start.cycle + c) 0 tile.network done next.network fits may-own has-stepped heard.heard around.others around.all));
+          left = λ m e. along (λ own. HaveLeft value start.net (has_bit own) (start.cycle + m) next.network)
+              (subst (λ n. HaveLeft value start.net (has_bit tile.own) (start.cycle + n) next.network) (omega (arith, e))
+              (left-heard value w start.net.relation (has_bit tile.own) heard.from awake start.net (start.cycle + c) 0 tile.network done next.network fits may-own has-stepped heard.heard around.others around.all));
+          others = λ b l e.
+              let out = ap (λ own. has_bit own b) (sym same) ∙ e in
+              ap (λ (x : Network A). has_moved x.outlooks.items b) heard.heard.rest ∙ ap moves_or_not (stepped.outlooks-stay value w start.net.relation awake (start.cycle + c) 0 tile.network done has-stepped b (others-sleep b out)) ∙ may.at.others b l out;
+          blocks = heard.heard.states_are ∙ done-blocks;
+          own = along (λ own. (b : ℕ) → has_bit own b ≡ true → b < start.blocks) may.at.own;
+          posts = along (λ own. AreReady start (has_bit own) (c + 1) next.posts.items) ready;
+          near = λ r q s port k e other. subst (λ (sets : List ℕ). HasBlock sets (s / 32)) (sym near)
+              (may.at.near r q s port (k.0, ap (λ own. has_bit own (r / 32)) (sym same) ∙ k.1) e (ap (λ own. has_bit own (s / 32)) (sym same) ∙ other));
+        }
+          where
+            along : (P : ℕ → Type 0) → P tile.own → P next.own
+            along P h = subst P (sym same) h
 
 -- ---- indices
 pub index-within : (k n m : ℕ) → k < n → m ≡ n → k < m

@@ -26,7 +26,7 @@ use Rattle.noc_wires.specs.Letters.{AreTellings, IsLinked, links_in, tells_in}
 use Rattle.noc_rows.specs.Mails.{IsLetter}
 use Rattle.noc_rows.specs.Own.{MayStepIn, told_in}
 use Rattle.noc_rows.specs.Shows.{lane_by}
-use Rattle.noc_rows.specs.Steps.{HasStepped}
+use Rattle.noc_rows.specs.Steps.{HasTurned}
 use Rattle.noc_wires.specs.declared.letter.Letter.{Letter}
 use Rattle.noc_rows.specs.declared.network.Network.{Network}
 use Rattle.noc_rows.proofs.GrantLemmas.{grants_by}
@@ -62,7 +62,7 @@ pub nothing-linked : {A : Type 0} (value : A → ℕ) (g : Grid) (vcs b : ℕ) (
 nothing-linked value g vcs b letter none k o p l h = absurd (none-some p (sym (none k o l) ∙ h))
 
 module _ {A : Type 0} (value : A → ℕ) (w : ℕ) (relation : Routes) (own : ℕ → Bool) (awake : ℕ) (net : Setup) (n routers : ℕ) (all ran : Network A) (fits : (x : A) → value x < 2 ^ 64) (may : MayStepIn value w relation own awake net n all)
-    (step : HasStepped value w relation awake n routers all ran) where
+    (turned : HasTurned value w relation awake n routers all ran) where
   abbrev g : Grid
   g = net.relation.grid
 
@@ -71,7 +71,7 @@ module _ {A : Type 0} (value : A → ℕ) (w : ℕ) (relation : Routes) (own : �
 
   -- what router s tells
   abbrev told : ℕ → ℕ → Option ℕ
-  told = told_in value awake step.arrived step.chosen step.settled
+  told = told_in value awake turned.arrived turned.chosen ran.states.items
 
   -- what is written of router k of block b: nothing where there is none
   abbrev pub tells-of : ℕ → ℕ → ℕ → Option ℕ
@@ -105,7 +105,7 @@ module _ {A : Type 0} (value : A → ℕ) (w : ℕ) (relation : Routes) (own : �
   tellings-there : (b k : ℕ) (state : State A) (work : Work A) → own b ≡ true → has_bit awake b ≡ true → slice_get ran.states.items b ≡ Some state → slice_get ran.works.items b ≡ Some work → k < 32 → b * 32 + k < nodes g
       → AreTellings (size net) (granted_or_none value (Some work) k) (taken_at value state.marks k) (packet_at state.marks k) (tells-of b k)
   tellings-there b k state work ours e has_state has_work l u =
-      let are = tells-read value w relation own awake net n routers all ran fits may step (b * 32 + k) (u, ap own (block-of b k l) ∙ ours) in
+      let are = tells-read value w relation own awake net n routers all ran fits may turned (b * 32 + k) (u, ap own (block-of b k l) ∙ ours) in
       let granted = granted-of b k work l e has_work in
       let taken = taken-of b k state l has_state in
       let packets = packets-of b k state l has_state in
@@ -122,9 +122,8 @@ module _ {A : Type 0} (value : A → ℕ) (w : ℕ) (relation : Routes) (own : �
       → AreTellings (size net) (granted_or_none value (Some work) k) (taken_at value state.marks k) (packet_at state.marks k) (tells-of b k)
   tellings-beyond b k state work e has_work l u = record {
     each = λ i h.
-        let worked = ap (λ (xs : List (Work A)). has_bit (granted_in value xs awake (b * 32 + k)) i) (sym step.works) in
-        let one = are-grants value w relation own awake net n routers all ran fits may step in
-        let there = (one.each (b * 32 + k) i (worked ∙ ap (λ x. has_bit x i) (granted-of b k work l e has_work) ∙ h)).router in
+        let one = are-grants value w relation own awake net n routers all ran fits may turned in
+        let there = (one.each (b * 32 + k) i (ap (λ x. has_bit x i) (granted-of b k work l e has_work) ∙ h)).router in
         absurd (omega (arith, there, u));
     all = λ o p v h. absurd (none-some p (sym (tells-beyond b k o u) ∙ h));
   }
@@ -153,29 +152,29 @@ module _ {A : Type 0} (value : A → ℕ) (w : ℕ) (relation : Routes) (own : �
     linked : IsLinked value g vcs b letter
     linked k o p l h = elim (cases_lt o (size net)) [
       | inl v ↦ elim (cases_lt (b * 32 + k) (nodes g)) [
-        | inl u ↦ (u, v, there u v (grants_by awake (lane_by value step.arrived) (lane_by value step.chosen) (b * 32 + k) o) refl (sym (tells-below k o l v ∙ tells-there b k o u) ∙ h))
+        | inl u ↦ (u, v, there u v (grants_by awake (lane_by value turned.arrived) (lane_by value turned.chosen) (b * 32 + k) o) refl (sym (tells-below k o l v ∙ tells-there b k o u) ∙ h))
         | inr u ↦ absurd (none-some p (sym (tells-below k o l v ∙ tells-beyond b k o u) ∙ h))
       ]
       | inr v ↦ absurd (none-some p (sym (tells-above k o l v) ∙ h))
     ]
       where
-        there : b * 32 + k < nodes g → o < size net → (x : Option ℕ) → grants_by awake (lane_by value step.arrived) (lane_by value step.chosen) (b * 32 + k) o ≡ x → option_map (packets_in value step.settled (b * 32 + k)) x ≡ Some p
+        there : b * 32 + k < nodes g → o < size net → (x : Option ℕ) → grants_by awake (lane_by value turned.arrived) (lane_by value turned.chosen) (b * 32 + k) o ≡ x → option_map (packets_in value ran.states.items (b * 32 + k)) x ≡ Some p
             → o / vcs < local_port g → is_some (neighbour g (b * 32 + k) (o / vcs)) ≡ true
         there u v None e f = absurd (none-some p f)
-        there u v (Some i) e f = (are-grants value w relation own awake net n routers all ran fits may step).linked (b * 32 + k) o i u v e
+        there u v (Some i) e f = (are-grants value w relation own awake net n routers all ran fits may turned).linked (b * 32 + k) o i u v e
 
     leaves : (k : ℕ) → k < 32 → b * 32 + k < nodes g → left_of value ran.left (b * 32 + k) ≡ links_in value letter k
     leaves k l u =
-        step.puts (b * 32 + k) (block-there value w net all.plan may.shows.plan (b * 32 + k) u) (ap (has_bit awake) (block-of b k l) ∙ woken)
-        ∙ ap₂ (λ c j. leaving_of (working_in value step.worked c j)) (block-of b k l) (lane-of b k l)
-        ∙ ap (λ (o : Option (Work A)). leaving_of (working_or value o k)) (ap (λ (xs : List (Work A)). slice_get xs b) (sym step.works) ∙ has_work)
+        turned.puts (b * 32 + k) (block-there value w net all.plan may.shows.plan (b * 32 + k) u) (ap (has_bit awake) (block-of b k l) ∙ woken)
+        ∙ ap₂ (λ c j. leaving_of (working_in value ran.works.items c j)) (block-of b k l) (lane-of b k l)
+        ∙ ap (λ (o : Option (Work A)). leaving_of (working_or value o k)) has_work
         ∙ sym (links k l)
 
     pub letter-written : IsLetter value net n b letter
     letter-written = record {
       linked = linked;
       sends = λ k port l u v.
-          let one = own-sends value w relation own awake net n routers all ran fits may step (b * 32 + k) port (u, ap own (block-of b k l) ∙ ours) v in
+          let one = own-sends value w relation own awake net n routers all ran fits may turned (b * 32 + k) port (u, ap own (block-of b k l) ∙ ours) v in
           record {
             beat = subst (λ (x : Links). ShowsBeat vcs port (beat_of net n (b * 32 + k) port) x) (leaves k l u) one.beat;
             told = λ vc y. tells-below k (port * vcs + vc) l (channel port vc v y) ∙ tells-there b k (port * vcs + vc) u ∙ one.told vc y;
@@ -190,15 +189,15 @@ module _ {A : Type 0} (value : A → ℕ) (w : ℕ) (relation : Routes) (own : �
         let s = b * 32 + k in
         let e : has_bit awake (s / 32) ≡ false = ap (has_bit awake) (block-of b k l) ∙ asleep in
         let known = ap own (block-of b k l) ∙ ours in
-        let one = own-sends value w relation own awake net n routers all ran fits may step s port (u, known) v in
+        let one = own-sends value w relation own awake net n routers all ran fits may turned s port (u, known) v in
         record {
-          beat = subst (λ (x : Links). ShowsBeat vcs port (beat_of net n s port) x) (step.left_stays s e ∙ may.nothing s (u, known) e ∙ sym (links k l)) one.beat;
+          beat = subst (λ (x : Links). ShowsBeat vcs port (beat_of net n s port) x) (turned.left_stays s e ∙ may.nothing s (u, known) e ∙ sym (links k l)) one.beat;
           told = λ vc y. tells k (port * vcs + vc) l ∙ sym (untold s (port * vcs + vc) e) ∙ one.told vc y;
         };
   }
     where
       untold : (s o : ℕ) → has_bit awake (s / 32) ≡ false → told s o ≡ None
-      untold s o e = ap (λ x. option_map (packets_in value step.settled s) (if x then grants_in (lane_by value step.arrived s) (lane_by value step.chosen s) o else None)) e
+      untold s o e = ap (λ x. option_map (packets_in value ran.states.items s) (if x then grants_in (lane_by value turned.arrived s) (lane_by value turned.chosen s) o else None)) e
 
   -- a channel has a place, and a bit
   pub few-channels : (size net ≤ 64) × (size net ≤ w)
@@ -209,35 +208,7 @@ module _ {A : Type 0} (value : A → ℕ) (w : ℕ) (relation : Routes) (own : �
 
   -- its blocks are few, and have all that blocks have
   pub few-blocks : length ran.states.items ≤ 8
-  few-blocks = omega (arith, step.states_are, may.shows.states_are, may.shows.plan.few)
+  few-blocks = omega (arith, turned.states_are, may.shows.states_are, may.shows.plan.few)
 
   pub all-works : length ran.works.items ≡ length ran.states.items
-  all-works = omega (arith, step.states_are, step.works_are, may.shows.states_are, may.shows.works_are)
-
--- ---- a mail, letter after letter
--- the letters of the blocks below a number, of those that a mail is from, are written
-abbrev pub AreWritten : {A : Type 0} → (A → ℕ) → ℕ → ℕ → ℕ → Network A → ℕ → List (Letter A) → Type 0
-AreWritten value w awake from ran number letters =
-    (relation : Routes) (net : Setup) (own : ℕ → Bool) (n routers : ℕ) (all : Network _) → MayStepIn value w relation own awake net n all → HasStepped value w relation awake n routers all ran
-    → ((b : ℕ) → has_bit from b ≡ true → own b ≡ true) → (b : ℕ) (letter : Letter _) → b < number → has_bit from b ≡ true → slice_get letters b ≡ Some letter → IsLetter value net n b letter
-
-module _ {A : Type 0} (value : A → ℕ) (w awake from : ℕ) (ran : Network A) where
-  pub written-none : (letters : List (Letter A)) → AreWritten value w awake from ran 0 letters
-  written-none letters relation net own n routers all may step ours b letter l e has = absurd (omega (arith, l))
-
-  pub written-out : (number : ℕ) (letters : List (Letter A)) → has_bit from number ≡ false → AreWritten value w awake from ran number letters → AreWritten value w awake from ran (number + 1) letters
-  written-out number letters out up relation net own n routers all may step ours b letter l e has = elim (cases_eq b number) [
-    | inl same ↦ absurd (true≢false (sym e ∙ ap (has_bit from) same ∙ out))
-    | inr other ↦ up relation net own n routers all may step ours b letter (omega (arith, l, other)) e has
-  ]
-
-  pub written-in : (number : ℕ) (letters : List (Letter A)) (one : Letter A) → number < length letters → has_bit from number ≡ true → AreWritten value w awake from ran number letters
-      → ((relation : Routes) (net : Setup) (own : ℕ → Bool) (n routers : ℕ) (all : Network A) → MayStepIn value w relation own awake net n all → HasStepped value w relation awake n routers all ran → own number ≡ true → IsLetter value net n number one)
-      → AreWritten value w awake from ran (number + 1) (write letters number one)
-  written-in number letters one within is up here relation net own n routers all may step ours b letter l e has = elim (cases_eq b number) [
-    | inl same ↦
-        let found : slice_get (write letters number one) number ≡ Some letter = ap (slice_get (write letters number one)) (sym same) ∙ has in
-        let alike = same-item one letter (slice_get (write letters number one) number) (written letters number (length letters) one refl within) found in
-        subst (λ (x : ℕ). IsLetter value net n x letter) (sym same) (subst (IsLetter value net n number) alike (here relation net own n routers all may step (ours number is)))
-    | inr other ↦ up relation net own n routers all may step ours b letter (omega (arith, l, other)) e (sym (others letters number b one other) ∙ has)
-  ]
+  all-works = omega (arith, turned.states_are, turned.works_are, may.shows.states_are, may.shows.works_are)

@@ -3,6 +3,7 @@
 use Rattle.std.specs.Prelude.{ℕ, Bool, false, List, [], Option, Some, None, slice_get}
 use Rattle.noc_sets.specs.Column.{RouterMarks}
 use Rattle.noc_sets.specs.Counts.{ByVerdict}
+use Rattle.noc_lanes.specs.Lanes.{word}
 use Rattle.noc_lanes.specs.declared.channels.Links.{Links}
 use Rattle.noc_lanes.specs.declared.channels.Returned.{Returned}
 use Rattle.noc_lanes.specs.declared.channels.Verdicts.{Verdicts}
@@ -90,11 +91,20 @@ abbrev pub came_or : {A : Type 0} → Option (Work A) → Bool
 came_or None = false
 came_or (Some w) = w.came
 
--- what router k of it does, before that takes effect
-abbrev pub doing_or : {A : Type 0} → (A → ℕ) → Option (State A) → Option (Work A) → ℕ → Doing
-doing_or value state work k = record {
-  waiting = (lane_or value state k).inputs.waiting;
-  active = (lane_or value state k).inputs.active;
+-- which input channels of router k of it waited before that took effect, and which were active
+abbrev pub waiting_or : {A : Type 0} → (A → ℕ) → Option (Work A) → ℕ → ℕ
+waiting_or value None k = 0
+waiting_or value (Some w) k = word value k w.waiting
+
+abbrev pub active_or : {A : Type 0} → (A → ℕ) → Option (Work A) → ℕ → ℕ
+active_or value None k = 0
+active_or value (Some w) k = word value k w.active
+
+-- what router k of it has done
+abbrev pub doing_or : {A : Type 0} → (A → ℕ) → Option (Work A) → ℕ → Doing
+doing_or value work k = record {
+  waiting = waiting_or value work k;
+  active = active_or value work k;
   filled = (working_or value work k).arrived.filled;
   standing = (working_or value work k).standing;
   moved = (working_or value work k).moves.moved;

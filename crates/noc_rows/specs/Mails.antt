@@ -1,7 +1,6 @@
 -- What tiles of a network send each other in a cycle.
-use Rattle.std.specs.Prelude.{◌≡◌, ℕ, ◌+◌, ◌*◌, ◌/◌, ◌<◌, Bool, true, false, length, Some, None, option_map, slice_get, unwrap_or, if◌then◌else◌}
+use Rattle.std.specs.Prelude.{◌≡◌, ℕ, ◌+◌, ◌*◌, ◌/◌, ◌^◌, ◌<◌, Bool, true, false, length, Option, Some, None, option_map, unwrap_or, if◌then◌else◌}
 use Rattle.noc_topo.specs.Shape.{neighbour, nodes, ports}
-use Rattle.noc_packet.specs.Set.{has_bit}
 use Rattle.noc_lanes.specs.declared.lanes.TheConstants.{LANES}
 use Rattle.noc_theory.specs.Network.{Setup, size}
 use Rattle.noc_theory_bits.specs.Owners.{granted_to, heard}
@@ -22,12 +21,14 @@ pub record IsLetter {A : Type 0} (value : A → ℕ) (net : Setup) (n b : ℕ) (
       → port < ports net.relation.grid
       → Sends net n (b * LANES + k) port (links_in value letter k) (tells_in value letter k)
 
--- a mail has what these blocks of it send in cycle n, each in a letter
-pub record IsMail {A : Type 0} (value : A → ℕ) (net : Setup) (n : ℕ) (mail : Mail A)
-    : Type 0 where
-  pub many : (b : ℕ) → has_bit mail.from b ≡ true → b < length mail.letters.items
-  pub each : (b : ℕ) (letter : Letter A) → has_bit mail.from b ≡ true
-      → slice_get mail.letters.items b ≡ Some letter → IsLetter value net n b letter
+-- a mail has what its block sends in cycle n, where it is of one
+abbrev pub IsMail : {A : Type 0} → (A → ℕ) → Setup → ℕ → Mail A → Type 0
+IsMail value net n mail = (b : ℕ) → mail.block ≡ Some b → IsLetter value net n b mail.letter
+
+-- the set of one block, or of none
+abbrev pub alone : Option ℕ → ℕ
+alone None = 0
+alone (Some b) = 2 ^ b
 
 -- to own blocks that have run cycle n, from `was` to `is`, comes what the blocks `from` have sent
 pub record HasHeardFrom {A : Type 0} (value : A → ℕ) (net : Setup) (own from : ℕ → Bool) (n : ℕ)

@@ -29,7 +29,7 @@ use Rattle.noc_tallies.specs.Tallies.{HasOnlyWaited}
 use Rattle.noc_tallies.specs.declared.tallies.Tallies.{Tallies}
 use Rattle.noc_tallies.specs.declared.tallies.TheConstants.{CYCLES}
 use Rattle.noc_wires.specs.Left.{brought}
-use Rattle.noc_rows.specs.Blocks.{NO_LINKS, ShowsTallyOr, came_or, doing_or, lane_or, last_or, pending_or, returned_or, tails_or, working_or}
+use Rattle.noc_rows.specs.Blocks.{NO_LINKS, ShowsTallyOr, active_or, came_or, doing_or, lane_or, last_or, pending_or, returned_or, tails_or, waiting_or, working_or}
 
 -- the layout of a pattern
 abbrev pub layout_by : {A : Type 0} → (A → ℕ) → Pattern A → Layout
@@ -93,20 +93,21 @@ pub record HasConcluded {A : Type 0} (value : A → ℕ) (pattern : Pattern A)
           freed = (working_or value after k).decided.freed;
         };
       }
+  pub waiting : (k : ℕ) → waiting_or value after k ≡ (lane_or value state k).inputs.waiting
+  pub active : (k : ℕ) → active_or value after k ≡ (lane_or value state k).inputs.active
   pub pending : pending_or after ≡ pending_or work
   pub came : came_or after ≡ came_or work
 
--- what it does in this cycle is counted
-pub record HasCounted {A : Type 0} (value : A → ℕ) (cycle : ℕ) (state : Option (State A))
-    (work : Option (Work A)) (old new : Option (Tallies A)) : Type 0 where
+-- what it has done in this cycle is counted
+pub record HasCounted {A : Type 0} (value : A → ℕ) (cycle : ℕ) (work : Option (Work A))
+    (old new : Option (Tallies A)) : Type 0 where
   pub counts : (k i : ℕ) (still : Column) (c : ByVerdict) → k < LANES
-      → CanDo still (doing_or value state work k)
+      → CanDo still (doing_or value work k)
       → ShowsTallyOr value old k i cycle (has_bit still.waiting i) (has_bit still.active i) c
-      → ShowsTallyOr value new k i (cycle + 1) (waits_after still (doing_or value state work k) i)
-      (owns_after still (doing_or value state work k) i)
-      (with_verdicts (verdicts_of still (doing_or value state work k)) i c)
-  pub last : (k : ℕ) → k < LANES
-      → AreVerdictsOf (doing_or value state work k) (last_or value new k)
+      → ShowsTallyOr value new k i (cycle + 1) (waits_after still (doing_or value work k) i)
+      (owns_after still (doing_or value work k) i)
+      (with_verdicts (verdicts_of still (doing_or value work k)) i c)
+  pub last : (k : ℕ) → k < LANES → AreVerdictsOf (doing_or value work k) (last_or value new k)
 
 -- that cycle, in which nothing happened in it, is counted so many times more
 pub record HasRepeated {A : Type 0} (value : A → ℕ) (times : ℕ) (old new : Option (Tallies A))

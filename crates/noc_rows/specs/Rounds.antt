@@ -24,16 +24,16 @@ start_of relation depth packets cycle blocks = record {
 abbrev pub start_by : Run → Start
 start_by run = start_of run.relation.now run.depth run.packets.now.items run.cycle run.blocks
 
--- that of which a mail is, with a letter for each block
+-- that of which a mail is
 abbrev pub start_in : {A : Type 0} → Mail A → Start
 start_in mail =
     start_of mail.start.relation.value mail.start.depth.value mail.start.packets.value.items
-    mail.start.cycle.value (length mail.letters.items)
+    mail.start.cycle.value mail.start.blocks.value
 
 -- what a ring carries: a first mail that says who sends, and of which run; then, of cycle after
--- cycle, what they send
+-- cycle, what it sends
 abbrev pub Follows : {A : Type 0} → (A → ℕ) → List (Mail A) → Mail A → Type 0
 Follows value [] mail = Unit {0}
 Follows value (first ∷ rest) mail =
-    (mail.from ≡ first.from) × (start_in mail ≡ start_in first)
+    (mail.block ≡ first.block) × (start_in mail ≡ start_in first)
     × IsMail value (start_in first).net ((start_in first).cycle + length rest) mail

@@ -1,5 +1,5 @@
 -- A tile of a network in a run: what its own blocks show, and its rings to the tiles near it.
-use Rattle.std.specs.Prelude.{◌≡◌, ℕ, ◌+◌, ◌/◌, ◌<◌, ◌≤◌, Bool, true, false, List, [], ◌∷◌, length, map, Some, slice_get}
+use Rattle.std.specs.Prelude.{◌≡◌, ℕ, ◌+◌, ◌/◌, ◌<◌, ◌≤◌, Bool, true, false, List, [], ◌∷◌, length, map, Option, Some, None, slice_get}
 use Rattle.rtrb.specs.Ring.{sent, received}
 use Rattle.noc_topo.specs.Shape.{neighbour}
 use Rattle.noc_packet.specs.Set.{has_bit}
@@ -9,32 +9,32 @@ use Rattle.noc_theory.specs.Good.{IsGoodSetup}
 use Rattle.noc_theory.specs.Network.{Setup}
 use Rattle.noc_theory.specs.declared.limits.TheConstants.{CYCLE_LIMIT}
 use Rattle.noc_wires.specs.Waking.{has_moved}
-use Rattle.noc_rows.specs.Mails.{HasHeardFrom, HaveLeft}
+use Rattle.noc_rows.specs.Mails.{HasHeardFrom, HaveLeft, alone}
 use Rattle.noc_rows.specs.Own.{IsIn, MayStepIn, ShowsIn}
 use Rattle.noc_rows.specs.Rounds.{Start, start_in}
-use Rattle.noc_rows.specs.Steps.{HasStepped}
+use Rattle.noc_rows.specs.Steps.{HasTurned}
 use Rattle.noc_rows.specs.declared.mail.Mail.{Mail}
 use Rattle.noc_rows.specs.declared.network.Network.{Network}
 use Rattle.noc_rows.specs.declared.post.Post.{Post}
 use Rattle.noc_rows.specs.declared.tile.Tile.{Tile}
 
 -- ---- rings
--- the blocks that send by a ring, as its first mail says
-abbrev pub senders : {A : Type 0} → List (Mail A) → ℕ
-senders [] = 0
-senders (first ∷ rest) = first.from
+-- the block that sends by a ring, if one does, as its first mail says
+abbrev pub sender : {A : Type 0} → List (Mail A) → Option ℕ
+sender [] = None
+sender (first ∷ rest) = first.block
 
--- the blocks of the other tile that send to this one
+-- the set of that block of the other tile that sends to this one
 abbrev pub near_in : {A : Type 0} → Post A → ℕ
-near_in post = senders (received post.back)
+near_in post = alone (sender (received post.back))
 
--- these mails have gone through a ring: a first one of these blocks, and those of so many cycles
-pub record HaveGone {A : Type 0} (start : Start) (from many : ℕ) (mails : List (Mail A))
-    : Type 0 where
+-- these mails have gone through a ring: a first one of this block, and those of so many cycles
+pub record HaveGone {A : Type 0} (start : Start) (from : Option ℕ) (many : ℕ)
+    (mails : List (Mail A)) : Type 0 where
   pub first : Mail A
   pub rest : List (Mail A)
   pub are : mails ≡ first ∷ rest
-  pub blocks : first.from ≡ from
+  pub block : first.block ≡ from
   pub is : start_in first ≡ start
   pub cycles : length rest ≡ many
 
@@ -43,13 +43,13 @@ abbrev pub AreBlocks : Start → (ℕ → Bool) → Bool → ℕ → Type 0
 AreBlocks start own ours blocks =
     (b : ℕ) → has_bit blocks b ≡ true → (own b ≡ ours) × (b < start.blocks)
 
--- the rings to another tile, after so many cycles have gone out and so many have come: own blocks
--- send by the one, and others by the other
+-- the rings to another tile, after so many cycles have gone out and so many have come: an own block
+-- sends by the one, and another by the other
 pub record IsPost {A : Type 0} (start : Start) (own : ℕ → Bool) (out back : ℕ) (post : Post A)
     : Type 0 where
-  pub gone : HaveGone start post.from out (sent post.out)
-  pub come : HaveGone start (near_in post) back (received post.back)
-  pub ours : AreBlocks start own true post.from
+  pub gone : HaveGone start post.block out (sent post.out)
+  pub come : HaveGone start (sender (received post.back)) back (received post.back)
+  pub ours : AreBlocks start own true (alone post.block)
   pub theirs : AreBlocks start own false (near_in post)
 
 -- they are ready for cycle c of the run, with a mail to write
@@ -78,11 +78,12 @@ abbrev pub HasBlock : List ℕ → ℕ → Type 0
 HasBlock sets b = (k set : ℕ) × (slice_get sets k ≡ Some set) × (has_bit set b ≡ true)
 
 -- ---- cycles
--- own blocks have run cycle c of the run, from `was` to `is`, and these of them were awake
+-- own blocks have had their turn in cycle c of the run, from `was` to `is`, and these of them were
+-- awake
 pub record HasRun {A : Type 0} (value : A → ℕ) (w : ℕ) (start : Start) (own : ℕ → Bool)
     (awake c : ℕ) (was is : Network A) : Type 0 where
   pub may : MayStepIn value w start.net.relation own awake start.net (start.cycle + c) was
-  pub steps : HasStepped value w start.net.relation awake (start.cycle + c) 0 was is
+  pub turns : HasTurned value w start.net.relation awake (start.cycle + c) 0 was is
   pub blocks : length is.states.items ≡ start.blocks
 
 -- then they have heard from all blocks of these sets, and from no own ones

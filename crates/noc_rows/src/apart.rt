@@ -95,7 +95,7 @@ fn join<W: Word>(tiles: Vec<Tile<W>>) -> Network<W>
         → ShowsAt W.value W.bits net n result }
 {
     let mut tiles = tiles;
-    let Tile { mut network, .. } = tiles.remove(0);
+    let mut network = tiles.remove(0).into_network();
     network.join(&tiles);
     network
 }

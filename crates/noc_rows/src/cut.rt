@@ -1,7 +1,8 @@
 //! A network cut into tiles.
 
-ghost use Rattle.std.specs.Prelude.{◌≡◌, ℕ, ◌+◌, ◌^◌, ◌<◌, ◌≤◌, true, false, length, slice_index, IfOk, OnOk};
-ghost use Rattle.noc_packet.specs.Set.{has_bit};
+ghost use Rattle.std.specs.Prelude.{◌≡◌, ℕ, ◌+◌, ◌++◌, ◌∷◌, [], ◌^◌, ◌<◌, ◌≤◌, true, false, length, slice_index, IfOk, OnOk};
+ghost use Rattle.noc_packet.specs.Set.{IsLeast, has_bit};
+ghost use Rattle.noc_sets.specs.Sets.{less, lowest};
 ghost use Rattle.noc_theory.specs.Good.{IsGoodSetup};
 ghost use Rattle.noc_wires.specs.declared.awake.TheConstants.{BLOCKS};
 ghost use Rattle.noc_rows.specs.Cuts.{AreBlocksOf, AreCut, AreNearIn, AreNew, HasRoused, IsNew, MeetsMore};
@@ -12,7 +13,7 @@ ghost use Rattle.noc_rows.specs.TileSizes.{TileFits};
 
 use crate::network::Network;
 use crate::origin::Run;
-use crate::post::meet;
+use crate::post::{Post, meet};
 use crate::tile::Tile;
 use noc_lanes::Word;
 use noc_packet::Memory;
@@ -60,7 +61,35 @@ fn near_ones(near: &[u32], own: u32, others: u32) -> u32
     found
 }
 
-// Makes the rings between two tiles, where there are links between them.
+// The first of some blocks, if there is one.
+fn first_of(blocks: u32) -> Option<usize>
+    ensures { IsLeast (has_bit blocks) result }
+{
+    if blocks == 0 { None } else { Some(blocks.least()) }
+}
+
+// The others.
+fn but_first(blocks: u32) -> u32
+    ensures members { result ≡ less blocks (lowest blocks) }
+    ensures fewer { result ≤ blocks }
+    ensures ends { 0 < blocks → result < blocks }
+{
+    if blocks == 0 { 0 } else { blocks.but_lowest() }
+}
+
+// Adds the rings to another tile. The list has room for more, so that what stands behind it, which
+// may be another tile's, is not in one line of a processor's cache with the last of them.
+fn add<W: Word>(posts: &mut Vec<Post<W>>, post: Post<W>) -> Result<(), Memory>
+    requires { TileFits W.row W.Word W.Clone }
+    ensures { OnOk result (posts.new.items ≡ posts.old.items ++ post ∷ []) }
+{
+    posts.reserve(2)?;
+    posts.push(post)?;
+    Ok(())
+}
+
+// Makes the rings between two tiles: as many as the one or the other has blocks from which links
+// lead to the other.
 fn meet_one<W: Word>(
     alloc: Global,
     run: &Run<'_>,
@@ -69,6 +98,7 @@ fn meet_one<W: Word>(
     there: &mut Tile<W>,
 ) -> Result<(), Memory>
     requires memory { LetterFits W.row }
+    requires tile { TileFits W.row W.Word W.Clone }
     requires few { length near.now ≤ BLOCKS }
     requires apart { (b : ℕ) → has_bit here.old.own b ≡ true → has_bit there.old.own b ≡ false }
     requires here { (b : ℕ) → has_bit here.old.own b ≡ true → b < run.now.blocks }
@@ -81,14 +111,15 @@ fn meet_one<W: Word>(
     ensures there { OnOk result (MeetsMore (start_by run.now) near.now there.old.own here.old.own
         there.old.posts.items there.new.posts.items) }
 {
-    let from = near_ones(near, here.own, there.own);
-    let back = near_ones(near, there.own, here.own);
-    if from == 0 && back == 0 {
-        return Ok(());
+    let mut from = near_ones(near, here.own, there.own);
+    let mut back = near_ones(near, there.own, here.own);
+    while from != 0 || back != 0 {
+        let (one, other) = meet(alloc, first_of(from), first_of(back), run)?;
+        add(&mut here.posts, one)?;
+        add(&mut there.posts, other)?;
+        from = but_first(from);
+        back = but_first(back);
     }
-    let (one, other) = meet(alloc, from, back, run)?;
-    here.posts.push(one)?;
-    there.posts.push(other)?;
     Ok(())
 }
 
@@ -101,6 +132,7 @@ fn meet_all<W: Word>(
     tile: &mut Tile<W>,
 ) -> Result<(), Memory>
     requires memory { LetterFits W.row }
+    requires tile { TileFits W.row W.Word W.Clone }
     requires near { AreNearIn (start_by run.now) near.now }
     requires tiles { (count m : ℕ)
         × AreNew W.value W.bits (start_by run.now) count m m tiles.old.items

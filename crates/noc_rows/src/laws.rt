@@ -16,7 +16,7 @@ ghost use Rattle.noc_wires.specs.Telling.{granted_in, packets_in, taken_in};
 ghost use Rattle.noc_rows.specs.Mails.{AreAround, HasHeardFrom, HaveLeft};
 ghost use Rattle.noc_rows.specs.Own.{AreAlike, AreFindingsIn, AreJoined, HasHeard, IsIn, MayStepIn, ShowsIn, in_tile, told_in};
 ghost use Rattle.noc_rows.specs.Shows.{MayStep, ShowsAt};
-ghost use Rattle.noc_rows.specs.Steps.{HasStepped};
+ghost use Rattle.noc_rows.specs.Steps.{HasStepped, HasTurned};
 ghost use Rattle.noc_rows.specs.declared.network.Network.{Network as Blocks};
 
 use noc_lanes::Word;
@@ -47,22 +47,22 @@ pub fn a_cycle_of_own_blocks_keeps_what_they_show<W: Word>(relation: &Relation)
 {}
 
 /// What they send themselves is what the routers of the network send, and the numbers of packets
-/// that they tell are read of them after the passes.
+/// that they tell are read of them, once they have had their turn in a cycle.
 pub fn own_blocks_send_what_the_network_does<W: Word>(relation: &Relation)
     ensures sends { (net : Setup) (own : ℕ → Bool) (awake n routers s port : ℕ)
         (all ran : Blocks W)
         → MayStepIn W.value W.bits relation.now own awake net n all
-        → (step : HasStepped W.value W.bits relation.now awake n routers all ran)
+        → (turned : HasTurned W.value W.bits relation.now awake n routers all ran)
         → IsIn net own s → port < ports net.relation.grid
         → Sends net n s port (left_of W.value ran.left s)
-        (told_in W.value awake step.arrived step.chosen step.settled s) }
+        (told_in W.value awake turned.arrived turned.chosen ran.states.items s) }
     ensures tells { (net : Setup) (own : ℕ → Bool) (awake n routers s : ℕ) (all ran : Blocks W)
         → MayStepIn W.value W.bits relation.now own awake net n all
-        → (step : HasStepped W.value W.bits relation.now awake n routers all ran)
+        → (turned : HasTurned W.value W.bits relation.now awake n routers all ran)
         → IsIn net own s
         → AreTellings (size net) (granted_in W.value ran.works.items awake s)
         (taken_in W.value ran.states.items s) (packets_in W.value ran.states.items s)
-        (told_in W.value awake step.arrived step.chosen step.settled s) }
+        (told_in W.value awake turned.arrived turned.chosen ran.states.items s) }
 {}
 
 /// Own blocks that have gone through the passes of a cycle, and to which what the other blocks near

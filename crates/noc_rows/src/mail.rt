@@ -1,15 +1,15 @@
 //! What a tile of a network sends another one in a cycle.
 
-ghost use Rattle.std.specs.Prelude.{◌≡◌, ℕ, ◌<◌, Bool, true, length, nat_eq, IfOk};
+ghost use Rattle.std.specs.Prelude.{◌≡◌, ℕ, ◌<◌, Bool, true, Some, length, nat_eq, IfOk};
 ghost use Rattle.noc_packet.specs.Set.{has_bit};
 ghost use Rattle.noc_theory.specs.Good.{IsGoodSetup};
 ghost use Rattle.noc_theory.specs.Network.{Setup};
-ghost use Rattle.noc_rows.specs.Mails.{HasHeardFrom, IsLetter, IsMail};
+ghost use Rattle.noc_rows.specs.Mails.{HasHeardFrom, IsLetter, IsMail, alone};
 ghost use Rattle.noc_rows.specs.Own.{MayStepIn};
 ghost use Rattle.noc_rows.specs.Rounds.{start_by, start_in};
 ghost use Rattle.noc_rows.specs.Shows.{IsPlanOf};
 ghost use Rattle.noc_rows.specs.Sizes.{BlocksFit, LetterFits};
-ghost use Rattle.noc_rows.specs.Steps.{HasStepped};
+ghost use Rattle.noc_rows.specs.Steps.{HasTurned};
 ghost use Rattle.noc_route.specs.Routes.{Routes};
 
 use crate::network::Network;
@@ -19,79 +19,72 @@ use noc_packet::Memory;
 use noc_wires::{Letter, hear, put_letter};
 use std::alloc::Global;
 
-/// Letters of some blocks of a tile, which are near another tile.
+/// What a block of a tile sends to another tile in a cycle. It goes by value, and is small.
 #[derive(Drop)]
 pub(crate) struct Mail<W: Word> {
-    /// The blocks.
-    pub(crate) from: u32,
-    /// By block, its letter: those of other blocks are of no account.
-    pub(crate) letters: Vec<Letter<W>>,
+    /// The block. Where there is none, the letter is of no account.
+    pub(crate) block: Option<usize>,
+    pub(crate) letter: Letter<W>,
     /// The run of which it is.
     pub(crate) start: Origin,
 }
 
 impl<W: Word> Mail<W> {
-    /// A mail of these blocks, with nothing in it, of this run.
-    pub(crate) fn new(alloc: Global, from: u32, run: &Run<'_>) -> Result<Mail<W>, Memory>
+    /// A mail of this block, with nothing in it, of this run.
+    pub(crate) fn new(
+        alloc: Global,
+        block: Option<usize>,
+        run: &Run<'_>,
+    ) -> Result<Mail<W>, Memory>
         requires { LetterFits W.row }
-        ensures from { IfOk result (λ mail. mail.from ≡ from) }
+        ensures block { IfOk result (λ mail. mail.block ≡ block) }
         ensures start { IfOk result (λ mail. start_in mail ≡ start_by run.now) }
     {
-        let mut letters = Vec::new(alloc);
-        for _ in 0..run.blocks {
-            letters.push(Letter::none())?;
-        }
         Ok(Mail {
-            from,
-            letters,
+            block,
+            letter: Letter::new(alloc)?,
             start: Origin::of(run),
         })
     }
 }
 
 impl<W: Word> Network<W> {
-    /// Writes what its blocks have sent in the cycle that it has run, in which these were awake.
+    /// Writes what a block of its own has sent in the cycle in which it has had its turn, and in which
+    /// these were awake.
     pub(crate) fn write(&self, awake: u32, mail: &mut Mail<W>)
         requires memory { BlocksFit W.row }
         requires letters { LetterFits W.row }
         requires may { (relation : Routes) × (net : Setup) × (own : ℕ → Bool) × (n : ℕ)
             × (routers : ℕ) × (all : Network W)
             × MayStepIn W.value W.bits relation own awake net n all
-            × HasStepped W.value W.bits relation awake n routers all self.now
-            × ((b : ℕ) → has_bit mail.old.from b ≡ true → own b ≡ true)
-            × ((b : ℕ) → has_bit mail.old.from b ≡ true
-            → (b < length self.now.states.items) × (b < length mail.old.letters.items)) }
-        ensures from { mail.new.from ≡ mail.old.from }
-        ensures many { length mail.new.letters.items ≡ length mail.old.letters.items }
+            × HasTurned W.value W.bits relation awake n routers all self.now
+            × ((b : ℕ) → mail.old.block ≡ Some b → own b ≡ true)
+            × ((b : ℕ) → mail.old.block ≡ Some b → b < length self.now.states.items) }
+        ensures block { mail.new.block ≡ mail.old.block }
         ensures start { mail.new.start ≡ mail.old.start }
         ensures is { (relation : Routes) (net : Setup) (own : ℕ → Bool) (n routers : ℕ)
             (all : Network W) → MayStepIn W.value W.bits relation own awake net n all
-            → HasStepped W.value W.bits relation awake n routers all self.now
-            → ((b : ℕ) → has_bit mail.old.from b ≡ true → own b ≡ true)
+            → HasTurned W.value W.bits relation awake n routers all self.now
+            → ((b : ℕ) → mail.old.block ≡ Some b → own b ≡ true)
             → IsMail W.value net n mail.new }
     {
-        let from = mail.from;
-        let letters = mail.letters.as_mut_slice();
-        for number in 0..self.states.len() {
-            if !from.has(number) {
-                continue;
-            }
-            self.write_block(awake, number, &mut letters[number]);
+        if let Some(number) = mail.block {
+            self.write_block(awake, number, &mut mail.letter);
         }
     }
 
-    // .. what one of its own blocks has sent.
+    // .. what that block has sent.
     fn write_block(&self, awake: u32, number: usize, letter: &mut Letter<W>)
         requires memory { BlocksFit W.row }
         requires letters { LetterFits W.row }
         requires may { (relation : Routes) × (net : Setup) × (own : ℕ → Bool) × (n : ℕ)
             × (routers : ℕ) × (all : Network W)
             × MayStepIn W.value W.bits relation own awake net n all
-            × HasStepped W.value W.bits relation awake n routers all self.now
+            × HasTurned W.value W.bits relation awake n routers all self.now
             × (own number ≡ true) × (number < length self.now.states.items) }
         ensures { (relation : Routes) (net : Setup) (own : ℕ → Bool) (n routers : ℕ)
             (all : Network W) → MayStepIn W.value W.bits relation own awake net n all
-            → HasStepped W.value W.bits relation awake n routers all self.now
+            → HasTurned W.value W.bits relation awake n routers all self.now
             → own number ≡ true → IsLetter W.value net n number letter.new }
     {
         if awake.has(number) {
@@ -101,28 +94,24 @@ impl<W: Word> Network<W> {
         }
     }
 
-    /// Takes what other blocks have sent in the cycle that it has run.
+    /// Takes what a block of another tile has sent in the cycle that it has run.
     pub(crate) fn hear(&mut self, mail: &Mail<W>)
         requires memory { BlocksFit W.row }
         requires letters { LetterFits W.row }
         requires mail { (net : Setup) × (n : ℕ) × IsGoodSetup net
             × IsPlanOf W.value W.bits net self.old.plan × IsMail W.value net n mail.now }
         requires states { length self.old.states.items ≡ length self.old.plan.sides.items }
-        requires blocks { (b : ℕ) → has_bit mail.now.from b ≡ true
-            → b < length self.old.states.items }
+        requires block { (b : ℕ) → mail.now.block ≡ Some b → b < length self.old.states.items }
         ensures { (net : Setup) (own : ℕ → Bool) (n : ℕ) → IsGoodSetup net
             → IsPlanOf W.value W.bits net self.old.plan → IsMail W.value net n mail.now
-            → HasHeardFrom W.value net own (has_bit mail.now.from) n self.old self.new }
+            → HasHeardFrom W.value net own (has_bit (alone mail.now.block)) n self.old self.new }
     {
-        for number in 0..self.states.len() {
-            if !mail.from.has(number) {
-                continue;
-            }
-            self.hear_block(number, &mail.letters[number]);
+        if let Some(number) = mail.block {
+            self.hear_block(number, &mail.letter);
         }
     }
 
-    // .. what one of them has sent.
+    // .. what that block has sent.
     fn hear_block(&mut self, number: usize, letter: &Letter<W>)
         requires memory { BlocksFit W.row }
         requires letters { LetterFits W.row }

@@ -2,10 +2,11 @@
 
 ghost use Rattle.std.specs.Prelude.{◌≡◌, ℕ, ◌*◌, ◌≤◌, Bool, length, true, if◌then◌else◌};
 ghost use Rattle.noc_blocks.specs.declared.marks.TheConstants.{PLACES};
+ghost use Rattle.noc_route.specs.Routes.{Routes};
 ghost use Rattle.noc_theory.specs.Network.{Setup};
 ghost use Rattle.noc_rows.specs.Own.{MayStepIn};
 ghost use Rattle.noc_rows.specs.Sizes.{BlocksFit};
-ghost use Rattle.noc_rows.specs.Steps.{HasStepped};
+ghost use Rattle.noc_rows.specs.Steps.{HasEnded, HasStepped, HasTurned};
 
 use crate::notes::{claim_routers, judge_routers};
 use crate::passes::{
@@ -55,10 +56,23 @@ impl<W: Word> Network<W> {
         ensures { HasStepped W.value W.bits relation.now awake self.old.cycle routers self.old
             self.new }
     {
+        self.turn(relation, awake, routers);
+        self.end_cycle(awake);
+    }
+
+    // The blocks have their turn in a cycle: what comes arrives, and what they decide takes effect
+    // and leaves.
+    pub(crate) fn turn(&mut self, relation: &Relation, awake: u32, routers: usize)
+        requires memory { BlocksFit W.row }
+        requires may { (net : Setup) × (own : ℕ → Bool)
+            × MayStepIn W.value W.bits relation.now own awake net self.old.cycle self.old }
+        requires routers { routers * PLACES ≤ length self.old.found.items }
+        ensures { HasTurned W.value W.bits relation.now awake self.old.cycle routers self.old
+            self.new }
+    {
         let plan = &self.plan;
         let states = self.states.as_mut_slice();
         let works = self.works.as_mut_slice();
-        let tallies = self.tallies.as_mut_slice();
         gather_all(plan, awake, &self.left, works);
         arrive_all(plan, self.cycle, awake, states, works);
         claim_routers(
@@ -71,7 +85,6 @@ impl<W: Word> Network<W> {
         );
         decide_all(plan, relation, awake, states, works);
         judge_routers(awake, routers, states, works, self.found.as_mut_slice());
-        count_all(awake, states, works, tallies);
         conclude_all(
             plan,
             self.cycle,
@@ -81,6 +94,22 @@ impl<W: Word> Network<W> {
             self.arrivals.as_mut_slice(),
         );
         put_all(awake, works, &mut self.left);
+    }
+
+    // Ends the cycle in which these blocks have had their turn: what they have done is counted, and
+    // told to the blocks near them.
+    pub(crate) fn end_cycle(&mut self, awake: u32)
+        requires memory { BlocksFit W.row }
+        requires may { (relation : Routes) × (net : Setup) × (own : ℕ → Bool) × (routers : ℕ)
+            × (all : Network W)
+            × MayStepIn W.value W.bits relation own awake net self.old.cycle all
+            × HasTurned W.value W.bits relation awake self.old.cycle routers all self.old }
+        ensures { HasEnded W.value W.bits awake self.old.cycle self.old self.new }
+    {
+        let plan = &self.plan;
+        let states = self.states.as_mut_slice();
+        let works = self.works.as_slice();
+        count_all(awake, works, self.tallies.as_mut_slice());
         tell(&plan.pattern, plan.sides.as_slice(), works, awake, states);
         let happened = look_all(awake, states, works, self.outlooks.as_mut_slice());
         self.cycle += 1;

@@ -37,6 +37,7 @@ pub(crate) struct Origin {
     pub(crate) depth: Snapshot<usize>,
     pub(crate) packets: Snapshot<Vec<Packet>>,
     pub(crate) cycle: Snapshot<u32>,
+    pub(crate) blocks: Snapshot<usize>,
 }
 
 impl Origin {
@@ -46,12 +47,14 @@ impl Origin {
         ensures depth { result.depth.value ≡ run.now.depth }
         ensures packets { result.packets.value ≡ run.now.packets.now }
         ensures cycle { result.cycle.value ≡ run.now.cycle }
+        ensures blocks { result.blocks.value ≡ run.now.blocks }
     {
         Origin {
             relation: Snapshot::of(run.relation),
             depth: Snapshot::of(&run.depth),
             packets: Snapshot::of(run.packets),
             cycle: Snapshot::of(&run.cycle),
+            blocks: Snapshot::of(&run.blocks),
         }
     }
 }

@@ -120,40 +120,6 @@ pub(crate) fn decide_all<W: Word>(
     }
 }
 
-// What has been decided is counted, before it takes effect.
-pub(crate) fn count_all<W: Word>(
-    awake: u32,
-    states: &[State<W>],
-    works: &[Work<W>],
-    tallies: &mut [Tallies<W>],
-)
-    requires few { length states.now ≤ BLOCKS }
-    requires works { length works.now ≡ length states.now }
-    requires tallies { length tallies.old ≡ length states.now }
-    ensures counted { (b n : ℕ) → b < length states.now → has_bit awake b ≡ true → n < CYCLES
-        → HasCounted W.value n (slice_get states.now b) (slice_get works.now b)
-        (slice_get tallies.old b) (slice_get tallies.new b) }
-    ensures kept { (b : ℕ) → has_bit awake b ≡ false
-        → slice_get tallies.new b ≡ slice_get tallies.old b }
-{
-    for number in 0..states.len() {
-        if !awake.has(number) {
-            continue;
-        }
-        let inputs = &states[number].inputs;
-        let work = &works[number];
-        let doings = Doings {
-            waiting: &inputs.waiting,
-            active: &inputs.active,
-            filled: &work.arrived.filled,
-            standing: &work.standing,
-            moved: &work.moves.moved,
-            decided: &work.decided,
-        };
-        tallies[number].count(&doings);
-    }
-}
-
 // What was decided takes effect, and packets arrive.
 pub(crate) fn conclude_all<W: Word>(
     plan: &Plan<W>,
@@ -207,6 +173,33 @@ pub(crate) fn put_all<W: Word>(awake: u32, works: &[Work<W>], left: &mut Left<W>
         }
         let Work { moves, decided, .. } = &works[number];
         left.put(number, &moves.out, &decided.freed, &moves.moved);
+    }
+}
+
+// What the blocks have done is counted.
+pub(crate) fn count_all<W: Word>(awake: u32, works: &[Work<W>], tallies: &mut [Tallies<W>])
+    requires few { length works.now ≤ BLOCKS }
+    requires tallies { length tallies.old ≡ length works.now }
+    ensures counted { (b n : ℕ) → b < length works.now → has_bit awake b ≡ true → n < CYCLES
+        → HasCounted W.value n (slice_get works.now b) (slice_get tallies.old b)
+        (slice_get tallies.new b) }
+    ensures kept { (b : ℕ) → has_bit awake b ≡ false
+        → slice_get tallies.new b ≡ slice_get tallies.old b }
+{
+    for number in 0..works.len() {
+        if !awake.has(number) {
+            continue;
+        }
+        let work = &works[number];
+        let doings = Doings {
+            waiting: &work.waiting,
+            active: &work.active,
+            filled: &work.arrived.filled,
+            standing: &work.standing,
+            moved: &work.moves.moved,
+            decided: &work.decided,
+        };
+        tallies[number].count(&doings);
     }
 }
 

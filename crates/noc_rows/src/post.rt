@@ -6,7 +6,7 @@ ghost use Rattle.noc_packet.specs.Set.{has_bit};
 ghost use Rattle.noc_theory.specs.Good.{IsGoodSetup};
 ghost use Rattle.noc_rows.specs.Rounds.{Follows, Start, start_by};
 ghost use Rattle.noc_rows.specs.Shows.{IsPlanOf};
-ghost use Rattle.noc_rows.specs.Mails.{HasHeardFrom};
+ghost use Rattle.noc_rows.specs.Mails.{HasHeardFrom, alone};
 ghost use Rattle.noc_rows.specs.Sizes.{BlocksFit, LetterFits};
 ghost use Rattle.noc_rows.specs.Tiles.{AreBlocks, HasRun, IsPost, IsReadyPost, near_in};
 ghost use Rattle.noc_rows.specs.declared.network.Network.{Network as Blocks};
@@ -39,8 +39,8 @@ impl<W: Word> Protocol<Mail<W>> for Rounds<W> {
 // The rings between a tile and another one, in both directions.
 #[derive(Drop)]
 pub(crate) struct Post<W: Word> {
-    // The blocks that send by it.
-    pub(crate) from: u32,
+    // The block that sends by it, if one does. A mail goes in each cycle all the same.
+    pub(crate) block: Option<usize>,
     // The mail that goes next: none while it is on its way, until the other's has come.
     pub(crate) mail: Option<Mail<W>>,
     // How often its worker has yielded or slept while it waited here.
@@ -50,7 +50,7 @@ pub(crate) struct Post<W: Word> {
 }
 
 impl<W: Word> Post<W> {
-    // Sends what these blocks have sent in the cycle that the network has run, in which these were
+    // Sends what the block has sent in the cycle that the network has run, in which these were
     // awake, and waits until it is on its way. False where the other tile is gone.
     pub(crate) fn send(&mut self, rt: &impl Wait, network: &Network<W>, awake: u32) -> bool
         requires memory { BlocksFit W.row }
@@ -67,7 +67,7 @@ impl<W: Word> Post<W> {
         let Some(mut mail) = self.mail.take() else {
             return false;
         };
-        mail.from = self.from;
+        mail.block = self.block;
         network.write(awake, &mut mail);
         self.put(rt, mail)
     }
@@ -75,7 +75,7 @@ impl<W: Word> Post<W> {
     // Waits until the mail is on its way. False where the other tile is gone.
     fn put(&mut self, rt: &impl Wait, mail: Mail<W>) -> bool
         requires { Follows W.value (sent self.old.out) mail }
-        ensures from { self.new.from ≡ self.old.from }
+        ensures block { self.new.block ≡ self.old.block }
         ensures back { self.new.back ≡ self.old.back }
         ensures sent { IsTrue result → sent self.new.out ≡ sent self.old.out ++ mail ∷ [] }
     {
@@ -95,7 +95,7 @@ impl<W: Word> Post<W> {
         unreachable!()
     }
 
-    // Waits for what the other tile's blocks have sent in the cycle that the network has run, and
+    // Waits for what the other tile's block has sent in the cycle that the network has run, and
     // has it hear that. False where the other tile is gone.
     pub(crate) fn receive(&mut self, rt: &impl Wait, network: &mut Network<W>) -> bool
         requires memory { BlocksFit W.row }
@@ -126,7 +126,7 @@ impl<W: Word> Post<W> {
 
     // Waits for a mail. `None` where the other tile is gone and has left none.
     fn take(&mut self, rt: &impl Wait) -> Option<Mail<W>>
-        ensures from { self.new.from ≡ self.old.from }
+        ensures block { self.new.block ≡ self.old.block }
         ensures out { self.new.out ≡ self.old.out }
         ensures none { IfNone result (received self.new.back ≡ received self.old.back) }
         ensures taken { IfSome result (λ mail. Follows W.value (received self.old.back) mail
@@ -148,62 +148,62 @@ impl<W: Word> Post<W> {
     }
 }
 
-// A ring through which this mail has gone.
-#[derive(Drop)]
-struct Greeted<W: Word> {
-    out: Producer<Mail<W>, Global, Rounds<W>>,
-    back: Consumer<Mail<W>, Global, Rounds<W>>,
-    mail: Mail<W>,
-}
+// The ends of a ring through which its first mail has gone, and this mail.
+type Greeted<W> = (
+    Producer<Mail<W>, Global, Rounds<W>>,
+    Consumer<Mail<W>, Global, Rounds<W>>,
+    Mail<W>,
+);
 
-// A ring through which its first mail has gone.
+// A ring through which this mail has gone.
 fn greet<W: Word>(alloc: Global, hello: Mail<W>) -> Result<Greeted<W>, Memory>
-    ensures mail { IfOk result (λ ring. ring.mail ≡ hello) }
-    ensures ends { IfOk result (λ ring. (sent ring.out ≡ hello ∷ [])
-        × (received ring.back ≡ hello ∷ [])) }
+    ensures mail { IfOk result (λ ring. ring.2 ≡ hello) }
+    ensures ends { IfOk result (λ ring. (sent ring.0 ≡ hello ∷ [])
+        × (received ring.1 ≡ hello ∷ [])) }
 {
     let (mut out, mut back) = RingBuffer::with_protocol::<Global, Rounds<W>>(alloc, 2)?;
     out.push_reserved(hello);
     back.slots_beside(&mut out);
     let mail = back.pop_known();
-    Ok(Greeted { out, back, mail })
+    Ok((out, back, mail))
 }
 
-/// The rings between two tiles of a run: the blocks `from` of the one send by them, and `back` of
-/// the other.
+/// The rings between two tiles of a run: the block `from` of the one sends by them, and `back` of
+/// the other, where there are such blocks.
 pub(crate) fn meet<W: Word>(
     alloc: Global,
-    from: u32,
-    back: u32,
+    from: Option<usize>,
+    back: Option<usize>,
     run: &Run<'_>,
 ) -> Result<(Post<W>, Post<W>), Memory>
     requires { LetterFits W.row }
-    ensures near { IfOk result (λ posts. (near_in posts.0 ≡ back) × (near_in posts.1 ≡ from)) }
+    ensures near { IfOk result (λ posts. (near_in posts.0 ≡ alone back)
+        × (near_in posts.1 ≡ alone from)) }
     ensures one { IfOk result (λ posts. (own : ℕ → Bool)
-        → AreBlocks (start_by run.now) own true from
-        → AreBlocks (start_by run.now) own false back
+        → AreBlocks (start_by run.now) own true (alone from)
+        → AreBlocks (start_by run.now) own false (alone back)
         → IsReadyPost (start_by run.now) own 0 posts.0) }
     ensures other { IfOk result (λ posts. (own : ℕ → Bool)
-        → AreBlocks (start_by run.now) own true back
-        → AreBlocks (start_by run.now) own false from
+        → AreBlocks (start_by run.now) own true (alone back)
+        → AreBlocks (start_by run.now) own false (alone from)
         → IsReadyPost (start_by run.now) own 0 posts.1) }
 {
-    let one = greet(alloc, Mail::new(alloc, from, run)?)?;
-    let other = greet(alloc, Mail::new(alloc, back, run)?)?;
+    let (out, there, mail) = greet(alloc, Mail::new(alloc, from, run)?)?;
+    let (answers, here, answer) = greet(alloc, Mail::new(alloc, back, run)?)?;
     Ok((
         Post {
-            from,
-            mail: Some(other.mail),
+            block: from,
+            mail: Some(answer),
             yields: 0,
-            out: one.out,
-            back: other.back,
+            out,
+            back: here,
         },
         Post {
-            from: back,
-            mail: Some(one.mail),
+            block: back,
+            mail: Some(mail),
             yields: 0,
-            out: other.out,
-            back: one.back,
+            out: answers,
+            back: there,
         },
     ))
 }

@@ -20,7 +20,6 @@ use noc_wires::wake;
 use std::sync::Wait;
 
 // A tile.
-#[derive(Drop)]
 pub(crate) struct Tile<W: Word> {
     // Its own blocks.
     pub(crate) own: u32,
@@ -32,7 +31,32 @@ pub(crate) struct Tile<W: Word> {
     pub(crate) is_whole: bool,
 }
 
+impl<W: Word> Drop for Tile<W> {
+    fn drop(self) {
+        let _network = self.into_network();
+    }
+}
+
 impl<W: Word> Tile<W> {
+    // Its network. It leaves its rings: where there are some, they are known to be no larger than
+    // memory, which their own drop asks.
+    pub(crate) fn into_network(self) -> Network<W>
+        ensures { result ≡ self.network }
+    {
+        let Tile {
+            own: _,
+            network,
+            posts,
+            is_whole: _,
+        } = self;
+        if posts.as_slice().is_empty() {
+            posts.destroy_empty();
+        } else {
+            drop(posts);
+        }
+        network
+    }
+
     // Its own blocks that take part in the cycle that is next.
     fn awake(&self) -> u32
         requires few { length self.now.network.outlooks.items ≤ BLOCKS }
@@ -59,9 +83,14 @@ impl<W: Word> Tile<W> {
             → IsTileAt W.value W.bits start (c + 1) self.new }
     {
         let awake = self.awake();
-        self.network.step(relation, awake, 0);
+        self.network.turn(relation, awake, 0);
         let posts = self.posts.as_mut_slice();
-        send_all(rt, &self.network, awake, posts) && receive_all(rt, &mut self.network, posts)
+        if !send_all(rt, &self.network, awake, posts) {
+            return false;
+        }
+        // (what no other tile needs is done while the mails are on their way)
+        self.network.end_cycle(awake);
+        receive_all(rt, &mut self.network, posts)
     }
 
     // How often its worker has yielded while it waited.
@@ -74,8 +103,8 @@ impl<W: Word> Tile<W> {
     }
 }
 
-// Sends by each post what own blocks have sent in the cycle that the network has run, in which
-// these of them were awake. False where a tile near this one is gone.
+// Sends by each post what own blocks have sent in the cycle in which they have had their turn, and
+// in which these of them were awake. False where a tile near this one is gone.
 fn send_all<W: Word>(
     rt: &impl Wait,
     network: &Network<W>,

@@ -44,7 +44,7 @@ meet_all-requires g c =
     let copy = c.in_ok-copy.ensures.is in
     let sides = subst (AreNearIn (start_by c.args.run.now)) (sym c.deref.ensures.value) (near-in value w start c.args.count c.args.network.now c.requires.good c.requires.shows c.requires.blocks) in
     let new = new-tile value w start c.args.count c.loop-number.number c.in_ok-copy.copy one c.requires.good (c.in_ok-copy.ensures.shows start.net c.args.run.now.cycle c.requires.shows) (c.requires.blocks ∙ ap length (sym copy.plan.sides)) c.blocks_of-own.ensures c.new.ensures.items (roused g c.in_ok-copy.copy c.blocks_of-own.result c.as_mut_slice.result.now c.rouse.new.outlooks c.as_mut_slice.ensures.value c.rouse.auto.outlooks c.rouse.ensures) refl in
-    (c.requires.tile, (c.requires.letters, (sides, (c.args.count, c.loop-number.number, c.loop-number.invariant, new))))
+    (c.requires.tile.0, (c.requires.letters, (c.requires.tile, (sides, (c.args.count, c.loop-number.number, c.loop-number.invariant, new)))))
 
 pub loop-number-preserved : goal.loop-number-preserved
 loop-number-preserved g c =

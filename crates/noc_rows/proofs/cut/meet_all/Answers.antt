@@ -35,7 +35,7 @@ meet_one-requires g c =
     let apart = apart-in value w start count m k tiles old c.loop-number.tile within there meeting in
     let ours = here-in value w start count m k tiles old c.loop-number.tile there meeting in
     let theirs = there-in value w start count m k tiles c.loop-number.tile meeting in
-    (search rules, (c.requires.memory, (c.requires.near.few, (apart, (ours, theirs)))))
+    (c.requires.tile.0, (c.requires.memory, (c.requires.tile, (c.requires.near.few, (apart, (ours, theirs))))))
 
 pub loop-number-preserved : goal.loop-number-preserved
 loop-number-preserved g c = λ count m are is.

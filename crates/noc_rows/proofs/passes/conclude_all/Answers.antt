@@ -1,5 +1,6 @@
 use Rattle.std.proofs.Common.{◌≡◌, ◌-◌, ◌∙◌, Some, ap, arith, get_or, length, subst, sym, refl, rules}
 use Rattle.std.specs.Prelude.{Option, bit_and, slice_get, slice_index}
+use Rattle.noc_lanes.specs.Lanes.{word}
 use Rattle.noc_blocks.specs.Arrivals.{HaveArrived}
 use Rattle.noc_turns.specs.Held.{IsAmong, MayConclude}
 use Rattle.noc_turns.specs.States.{lane_of, working_of}
@@ -58,6 +59,8 @@ loop-number-preserved g c =
           (record {
             lanes = e.lanes;
             rest = λ k. ap (λ (w : Work g.row.W.Denot). working_of value w k) e.rest;
+            waiting = λ k. ap (λ (w : Work g.row.W.Denot). word value k w.waiting) e.rest;
+            active = λ k. ap (λ (w : Work g.row.W.Denot). word value k w.active) e.rest;
             pending = ap (λ (w : Work g.row.W.Denot). w.pending) e.rest;
             came = ap (λ (w : Work g.row.W.Denot). w.came) e.rest;
           }))

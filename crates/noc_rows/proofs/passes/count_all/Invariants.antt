@@ -7,5 +7,5 @@ use Rattle.noc_rows.proofs.passes.count_all.Given as goal
 
 abbrev pub invariant-loop-number : goal.invariant-loop-number
 invariant-loop-number g l = IsUpTo (Option (Tallies g.row.W.Denot))
-    (λ b now. (n : ℕ) → n < CYCLES → HasCounted g.W.Word.value n (slice_get l.states b) (slice_get l.works b) (slice_get l.fn.tallies b) now)
+    (λ b now. (n : ℕ) → n < CYCLES → HasCounted g.W.Word.value n (slice_get l.works b) (slice_get l.fn.tallies b) now)
     (λ b. slice_get l.fn.tallies b) (λ b. slice_get l.tallies b) l.awake l.number

@@ -33,7 +33,7 @@ scope-spawn_with-child-requires-send-T g t c κs within =
 
 pub scope-spawn_with-child-requires-clause-runs : goal.scope-spawn_with-child-requires-clause-runs
 scope-spawn_with-child-requires-clause-runs g t c κs within =
-    (search rules, ((λ a m. m), ((λ a m. m), (c.requires.2, ((c.requires.0, c.requires.1, c.requires.2, c.requires.3, c.requires.4, c.requires.6), (c.requires.4, c.requires.3))))))
+    (search rules, ((λ a m. m), ((λ a m. m), (c.requires.2.0, ((c.requires.0, c.requires.1, c.requires.2, c.requires.3, c.requires.4, c.requires.6), (c.requires.4, c.requires.3))))))
 
 pub scope-run_all-first-requires-send-W : goal.scope-run_all-first-requires-send-W
 scope-run_all-first-requires-send-W g t c κs within = c.requires.4
@@ -52,7 +52,7 @@ scope-returns g t c =
 
 pub run_last-requires : goal.run_last-requires
 run_last-requires g t c =
-    (c.requires.tile, (c.requires.memory, (c.requires.letters, (c.requires.tile, (c.requires.may, omega (arith, c.if-count-le1.true, c.len-count.ensures))))))
+    (c.requires.tile.0, (c.requires.memory, (c.requires.letters, (c.requires.tile, (c.requires.may, omega (arith, c.if-count-le1.true, c.len-count.ensures))))))
 
 pub split_at-requires : goal.split_at-requires
 split_at-requires g t c =
@@ -72,7 +72,7 @@ scoped-requires g t c =
     (subst (AllMayRun value g.W.Word.bits start c.args.cycles (drop half c.args.owns.now)) (sym c.in-Ok.ensures.tail) (may-drop value g.W.Word.bits start c.args.cycles half c.args.owns.now c.args.tiles.items c.requires.may)) in
     let l : 0 < vec_len c.split_off.new.self = first-some c.len-count.result _ c.if-count-le1.false c.in-Ok.ensures.len in
     let m : 0 < vec_len c.in-Ok.second = second-some c.len-count.result _ _ c.if-count-le1.false c.len-count.ensures c.in-Ok.ensures.tail_len in
-    record { at = λ x. (omega (arith, c.decreases, c.in-Ok.ensures.len, c.in-Ok.ensures.tail_len, c.len-count.ensures, c.if-count-le1.false), ((λ i h. h), ((λ i h. h), (c.requires.tile, ((c.requires.memory, c.requires.letters, c.requires.tile, search rules, search rules, a, b, l, m), search rules))))) }
+    record { at = λ x. (omega (arith, c.decreases, c.in-Ok.ensures.len, c.in-Ok.ensures.tail_len, c.len-count.ensures, c.if-count-le1.false), ((λ i h. h), ((λ i h. h), (c.requires.tile.0, ((c.requires.memory, c.requires.letters, c.requires.tile, search rules, search rules, a, b, l, m), search rules))))) }
 
 pub returns : goal.returns
 returns g t c =

@@ -7,7 +7,7 @@ pub run_tile-ended-requires : goal.run_tile-ended-requires
 run_tile-ended-requires g c =
     let start = start_by c.args.run.now in
     let may = last-may g.W.Word.value g.W.Word.bits start c.args.cycles c.args.owns.now c.args.tiles.items c.pop.new.self.items c.in-Some.tile c.in-Some.ensures.items (omega (arith, c.requires.one, c.args.tiles.ok.0)) c.requires.may in
-    (c.requires.tile, (c.requires.memory, (c.requires.letters, (c.requires.tile, (start, may)))))
+    (c.requires.tile.0, (c.requires.memory, (c.requires.letters, (c.requires.tile, (start, may)))))
 
 pub push_reserved-requires : goal.push_reserved-requires
 push_reserved-requires g c = room-left _ _ _ _ c.in-Some.ensures.cases c.pop.ensures.capacity c.args.tiles.ok.1

@@ -1,4 +1,4 @@
-use Rattle.std.proofs.Common.{◌≡◌, ◌∙◌, ◌+◌, Some, arith, ap, get_or, length, refl, subst, sym}
+use Rattle.std.proofs.Common.{◌≡◌, ◌∙◌, ◌+◌, Some, arith, ap, get_or, length, refl, rules, subst, sym}
 use Rattle.std.specs.Prelude.{slice_get}
 use Rattle.std.proofs.lemmas.Option.{slice_get_within}
 use Rattle.noc_rows.specs.Shows.{IsPlanOf}
@@ -16,14 +16,17 @@ receive-requires g c =
     let r = c.requires.posts in
     let old = get_or posts k c.index-posts-k.result in
     let is : slice_get posts k ≡ Some old = there posts k _ c.index-posts-k.result refl (index-within k _ (length posts) c.loop-k-test.true c.loop-k.auto.posts) in (
-      c.requires.memory.5,
+      search rules,
       (
-        c.requires.memory,
+        c.requires.memory.5,
         (
-          c.requires.letters,
+          c.requires.memory,
           (
-            (r.0, r.1, r.2, r.3, r.4 k old (sym (v.rest k (from-here k)) ∙ is), subst (λ p. IsPlanOf value g.W.Word.bits r.0.net p) (sym v.plan) r.5, v.states ∙ r.6),
-            v.states ∙ c.requires.states ∙ ap (λ p. length p.sides.items) (sym v.plan),
+            c.requires.letters,
+            (
+              (r.0, r.1, r.2, r.3, r.4 k old (sym (v.rest k (from-here k)) ∙ is), subst (λ p. IsPlanOf value g.W.Word.bits r.0.net p) (sym v.plan) r.5, v.states ∙ r.6),
+              v.states ∙ c.requires.states ∙ ap (λ p. length p.sides.items) (sym v.plan),
+            ),
           ),
         ),
       ),

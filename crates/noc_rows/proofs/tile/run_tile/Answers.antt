@@ -6,7 +6,7 @@ use Rattle.noc_rows.proofs.tile.run_tile.Goals as goal
 pub cycle-requires : goal.cycle-requires
 cycle-requires g c =
     let r = c.requires.may in (
-      c.requires.tile,
+      c.requires.tile.0,
       (
         c.requires.memory,
         (

@@ -20,7 +20,7 @@ use Rattle.noc_rows.proofs.network.Network.hear_block.Goals as goal
 pub put_letter-requires : goal.put_letter-requires
 put_letter-requires g c =
     let few = c.requires.letter.3.few in
-    (c.requires.memory.4, (c.requires.letters, omega (arith, c.requires.block, c.requires.states, few)))
+    (c.requires.memory.4, (c.requires.letters.0, omega (arith, c.requires.block, c.requires.states, few)))
 
 pub hear-requires : goal.hear-requires
 hear-requires g c =
@@ -39,7 +39,7 @@ hear-requires g c =
       (
         c.requires.memory.0.1,
         (
-          c.requires.letters,
+          c.requires.letters.0,
           (
             c.requires.memory.2,
             (

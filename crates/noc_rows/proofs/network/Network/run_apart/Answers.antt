@@ -10,7 +10,7 @@ use Rattle.noc_rows.proofs.network.Network.run_apart.Goals as goal
 
 pub cut-requires : goal.cut-requires
 cut-requires g c =
-    (c.requires.memory.5, (c.requires.tile, (c.requires.memory, (c.requires.letters, (c.requires.tile, (c.requires.may.good, (c.requires.may.shows, (omega (arith, c.len.ensures, c.args.self.now.plan.sides.ok.0), omega (arith, c.requires.tiles.1, c.len.ensures, c.args.self.now.plan.sides.ok.0)))))))))
+    (c.requires.memory.5, (c.requires.tile.0, (c.requires.memory, (c.requires.letters, (c.requires.tile, (c.requires.may.good, (c.requires.may.shows, (omega (arith, c.len.ensures, c.args.self.now.plan.sides.ok.0), omega (arith, c.requires.tiles.1, c.len.ensures, c.args.self.now.plan.sides.ok.0)))))))))
 
 pub run_all-requires-send-W : goal.run_all-requires-send-W
 run_all-requires-send-W g c κs within = c.type_bounds.send-W
@@ -24,7 +24,7 @@ run_all-requires-after_bounds g c κs within =
     let tiles = c.in_ok-tiles.tiles.items in
     let may = each-may g.W.Word.value g.W.Word.bits start c.args.cycles tiles
     (λ i one e. record { good = c.requires.may.good; is = refl; few = c.requires.may.within; at = c.in_ok-tiles.ensures.at i one e }) in (
-      c.requires.tile,
+      c.requires.tile.0,
       (
         c.requires.memory,
         (
@@ -46,7 +46,7 @@ join-requires g c =
     (omega (arith, c.requires.some)) c.in_ok-tiles.ensures (c.deref.ensures.value ∙ c.in_ok-owns.ensures) c.in_ok-tiles-2.ensures (c.if-not-are_whole.ensures refl) in
     let blocks : 0 < start.blocks = omega (arith, c.requires.tiles.0, c.requires.tiles.1, c.len.ensures, c.args.self.now.plan.sides.ok.0) in
     let some = are.within 0 blocks in (
-      c.requires.tile,
+      c.requires.tile.0,
       (
         c.requires.memory.5,
         (

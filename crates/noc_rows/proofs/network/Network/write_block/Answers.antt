@@ -39,7 +39,7 @@ write-requires g c =
     let work : slice_get all.works.items b ≡ Some c.index-then-has.result.now = read all.works.items b c.index-then-has.result.now (subst (λ m. b < m) (sym same) r.9) c.index-then-has.ensures in
     let woken = is-woken c.args.awake b c.has.result (omega (arith, few, r.9)) c.has.ensures c.if-has.true in
     let marks = last-fits _ _ _ c.requires.memory.2 in (
-      c.requires.letters,
+      c.requires.letters.0,
       (
         marks,
         (
@@ -59,7 +59,7 @@ write-requires g c =
     )
 
 pub clear-requires : goal.clear-requires
-clear-requires g c = c.requires.letters
+clear-requires g c = c.requires.letters.0
 
 pub returns-then-has : goal.returns-then-has
 returns-then-has g c = λ relation net own n routers all may step ours.

@@ -7,6 +7,6 @@ abbrev pub invariant-loop : goal.invariant-loop
 invariant-loop g l = record {
   past : sent l.self.out ≡ sent l.initial.self.out;
   mail : l.mail ≡ l.initial.mail;
-  from : l.self.from ≡ l.initial.self.from;
+  block : l.self.block ≡ l.initial.self.block;
   back : l.self.back ≡ l.initial.self.back;
 }

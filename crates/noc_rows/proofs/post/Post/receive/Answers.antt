@@ -1,7 +1,7 @@
 use Rattle.std.proofs.Common.{ℕ, ◌+◌, ap, refl, subst}
 use Rattle.noc_packet.specs.Set.{has_bit}
-use Rattle.noc_rows.specs.Mails.{HasHeardFrom}
-use Rattle.noc_rows.specs.Tiles.{near_in}
+use Rattle.noc_rows.specs.Mails.{HasHeardFrom, alone}
+use Rattle.noc_rows.specs.Tiles.{sender}
 use Rattle.noc_rows.specs.declared.network.Network.{Network}
 use Rattle.noc_rows.proofs.PostLemmas.{comes-below, comes-from, comes-right, post-near, post-received}
 use Rattle.noc_rows.proofs.RoundLemmas.{next-of}
@@ -16,12 +16,15 @@ hear-requires g c =
     let blocks = comes-below value g.W.Word.bits r.0 r.1 r.2 c.args.self.now c.in-Some.mail r.4 follows _ r.6 in (
       c.requires.memory.5,
       (
-        c.requires.memory,
+        c.requires.letters.1,
         (
-          c.requires.letters,
+          c.requires.memory,
           (
-            (r.0.net, r.0.cycle + r.2, r.3, r.5, comes-right value g.W.Word.bits r.0 r.1 r.2 c.args.self.now c.in-Some.mail r.4 follows),
-            (c.requires.states, blocks),
+            c.requires.letters,
+            (
+              (r.0.net, r.0.cycle + r.2, r.3, r.5, comes-right value g.W.Word.bits r.0 r.1 r.2 c.args.self.now c.in-Some.mail r.4 follows),
+              (c.requires.states, blocks),
+            ),
           ),
         ),
       ),
@@ -49,15 +52,15 @@ pub returns-clause-ready : goal.returns-clause-ready
 returns-clause-ready g c = λ done start own n rings.
     let taken = c.in-Some.ensures.taken in
     record {
-      rings = post-received g.W.Word.value g.W.Word.bits start own n c.args.self.now c.in-Some.mail rings taken.0 _ c.take.ensures.from (ap sent c.take.ensures.out) taken.1;
+      rings = post-received g.W.Word.value g.W.Word.bits start own n c.args.self.now c.in-Some.mail rings taken.0 _ c.take.ensures.block (ap sent c.take.ensures.out) taken.1;
       mail = c.in-Some.mail;
       there = refl;
-      is = next-of g.W.Word.value start (near_in c.args.self.now) n (received c.args.self.now.back) c.in-Some.mail rings.come taken.0;
+      is = next-of g.W.Word.value start (sender (received c.args.self.now.back)) n (received c.args.self.now.back) c.in-Some.mail rings.come taken.0;
     }
 
 pub returns-clause-heard : goal.returns-clause-heard
 returns-clause-heard g c = λ done start own n rings good plan.
     let follows = c.in-Some.ensures.taken.0 in
     let value = g.W.Word.value in
-    subst (λ (f : ℕ). HasHeardFrom value start.net own (has_bit f) (start.cycle + n) c.args.network.now c.hear.new.self) (comes-from value g.W.Word.bits start own n c.args.self.now c.in-Some.mail rings follows)
+    subst (λ f. HasHeardFrom value start.net own (has_bit (alone f)) (start.cycle + n) c.args.network.now c.hear.new.self) (comes-from value g.W.Word.bits start own n c.args.self.now c.in-Some.mail rings follows)
     (c.hear.ensures start.net own (start.cycle + n) good plan (comes-right value g.W.Word.bits start own n c.args.self.now c.in-Some.mail rings follows))
