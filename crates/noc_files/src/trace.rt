@@ -1,6 +1,6 @@
 //! The trace: what each input channel did in each cycle of a span (docs/FORMATS.md).
 
-ghost use Rattle.std.specs.Prelude.{◌≡◌, ℕ, ◌+◌, ◌*◌, ◌/◌, ◌%◌, ◌-◌, ◌^◌, ◌<◌, ◌≤◌, ◌++◌, [], ◌∷◌, IfOk, IfSome, List, None, Option, Some, codes, decimal, false, if◌then◌else◌, is_some, length, map, option_and_then, option_map, replicate, slice_get, true};
+ghost use Rattle.std.specs.Prelude.{◌≡◌, ℕ, ◌+◌, ◌*◌, ◌/◌, ◌%◌, ◌-◌, ◌^◌, ◌<◌, ◌≤◌, ◌++◌, [], ◌∷◌, IfErr, IfOk, IfSome, List, None, Option, Some, codes, decimal, false, if◌then◌else◌, is_some, length, map, option_and_then, option_map, replicate, slice_get, true};
 ghost use Rattle.noc_topo.specs.Shape.{nodes, ports};
 ghost use Rattle.noc_packet.specs.Set.{has_bit};
 ghost use Rattle.noc_route.specs.Routes.{Routes as RoutesValue};
@@ -71,7 +71,9 @@ impl Trace {
     /// A trace of a network that begins with its next cycle. Only a trace of changes takes memory:
     /// a finding for each input channel.
     pub fn new(alloc: Global, network: &Network, traced: Traced) -> Result<Trace, Memory>
-        ensures { IfOk result (λ t. t ≡ (traced, nothing_found network.now.net traced.changes)) }
+        ensures opening { IfOk result
+            (λ t. t ≡ (traced, nothing_found network.now.net traced.changes)) }
+        ensures memory { IfErr result (λ _. traced.changes ≡ true) }
     {
         let kept = if traced.changes {
             nothing_kept(alloc, network)?
