@@ -1,8 +1,8 @@
 -- What own blocks of a network hear of the others in a cycle, by letters and mails.
-use Rattle.std.proofs.Common.{◌≡◌, ◌≢◌, ℕ, ◌+◌, ◌*◌, ◌/◌, ◌%◌, ◌<◌, ◌≤◌, ◌^◌, Bool, true, false, length, Option, Some, None, refl, ap, ap₂, sym, ◌∙◌, subst, arith, inl, inr}
-use Rattle.std.specs.Prelude.{◌&&◌, ◌||◌, nat_eq, nat_lt, slice_get, unwrap_or, if◌then◌else◌}
+use Rattle.std.proofs.Common.{◌≡◌, ◌≢◌, ℕ, ◌+◌, ◌*◌, ◌/◌, ◌%◌, ◌<◌, ◌≤◌, ◌^◌, Bool, true, false, length, Option, Some, None, refl, ap, sym, ◌∙◌, subst, arith}
+use Rattle.std.specs.Prelude.{◌&&◌, ◌||◌, nat_eq, unwrap_or, if◌then◌else◌}
 use Rattle.std.proofs.Math.Path.{fun_ext}
-use Rattle.std.proofs.lemmas.Bool.{cases_eq, cases_lt, eq-eqb, eqb-true, false≢true, le-ltb, lt-ltb, ne_eqb, true≢false}
+use Rattle.std.proofs.lemmas.Bool.{eq-eqb, eqb-true, false≢true, true≢false}
 use Rattle.std.proofs.lemmas.Nat.{mod_below}
 use Rattle.noc_topo.specs.Shape.{Grid, neighbour, nodes, ports}
 use Rattle.noc_topo.proofs.LinkLemmas.{link_back}
@@ -22,7 +22,6 @@ use Rattle.noc_wires.specs.Telling.{AreSameButPackets, packets_in, lane_in as to
 use Rattle.noc_wires.specs.Letters.{links_in, tells_in}
 use Rattle.noc_rows.specs.Mails.{HasHeardFrom, HaveLeft, IsLetter, alone}
 use Rattle.noc_rows.specs.Own.{HasHeard, IsIn, MayStepIn, ShowsIn, told_in}
-use Rattle.noc_rows.specs.Shows.{IsPlanOf}
 use Rattle.noc_rows.specs.Steps.{HasStepped}
 use Rattle.noc_wires.specs.declared.letter.Letter.{Letter}
 use Rattle.noc_rows.specs.declared.network.Network.{Network}

@@ -37,19 +37,18 @@ module _ {A : Type 0} (value : A → ℕ) (w : ℕ) (start : Start) (own : ℕ �
       × MayStepIn value w relation own awake net n all × HasTurned value w relation awake n routers all now
       × ((b : ℕ) → post.block ≡ Some b → own b ≡ true)
       × ((b : ℕ) → post.block ≡ Some b → b < length now.states.items)
-  may-write awake was now mail ready run there =
-      (
-        start.net.relation,
-        start.net,
-        own,
-        start.cycle + c,
-        0,
-        was,
-        run.may,
-        run.turns,
-        λ b h. (ready.rings.ours b (in-alone post.block b h)).0,
-        λ b h. let l = (ready.rings.ours b (in-alone post.block b h)).1 in omega (arith, l, run.blocks),
-      )
+  may-write awake was now mail ready run there = (
+    start.net.relation,
+    start.net,
+    own,
+    start.cycle + c,
+    0,
+    was,
+    run.may,
+    run.turns,
+    λ b h. (ready.rings.ours b (in-alone post.block b h)).0,
+    λ b h. let l = (ready.rings.ours b (in-alone post.block b h)).1 in omega (arith, l, run.blocks),
+  )
 
   -- .. and then sent
   pub may-send : (mail written : Mail A) → IsReadyPost start own c post → post.mail ≡ Some mail → written.block ≡ post.block → written.start ≡ mail.start

@@ -1,8 +1,7 @@
 -- What own blocks of a network write of a cycle that they have run, in the letter of each.
-use Rattle.std.proofs.Common.{◌≡◌, ℕ, ◌+◌, ◌*◌, ◌/◌, ◌<◌, ◌≤◌, ◌^◌, Bool, true, false, List, length, Option, Some, None, refl, ap, ap₂, sym, ◌∙◌, subst, arith, inl, inr, mul_comm, set as write}
+use Rattle.std.proofs.Common.{◌≡◌, ℕ, ◌+◌, ◌*◌, ◌/◌, ◌<◌, ◌≤◌, ◌^◌, Bool, true, false, length, Option, Some, None, refl, ap, ap₂, sym, ◌∙◌, subst, arith, inl, inr, mul_comm, set as write}
 use Rattle.std.specs.Prelude.{is_some, nat_lt, option_map, slice_get, if◌then◌else◌}
-use Rattle.std.proofs.Math.Nat.{mul-le-mul_right}
-use Rattle.std.proofs.lemmas.Bool.{cases_eq, cases_lt, le-ltb, lt-ltb, true≢false}
+use Rattle.std.proofs.lemmas.Bool.{cases_lt, le-ltb, lt-ltb}
 use Rattle.std.proofs.lemmas.Nat.{mul-add-lt}
 use Rattle.std.proofs.lemmas.Option.{none-some}
 use prog.Memory.{up}
@@ -30,7 +29,7 @@ use Rattle.noc_rows.specs.Steps.{HasTurned}
 use Rattle.noc_wires.specs.declared.letter.Letter.{Letter}
 use Rattle.noc_rows.specs.declared.network.Network.{Network}
 use Rattle.noc_rows.proofs.GrantLemmas.{grants_by}
-use Rattle.noc_rows.proofs.ListLemmas.{others, same-item, written}
+use Rattle.noc_rows.proofs.ListLemmas.{written}
 use Rattle.noc_rows.proofs.StageLemmas.{block-of, block-there, lane-of}
 use Rattle.noc_rows.proofs.TurnLemmas.{are-grants, own-sends, tells-read}
 
@@ -41,12 +40,6 @@ last-fits k first last l = omega (arith, l)
 
 pub one-fits : (n : ℕ) → 32 * n < 2 ^ 63 → n < 2 ^ 63
 one-fits n l = omega (arith, l)
-
--- where an item stands
-pub offset-fits : (number n size : ℕ) → number < n → n * size < 2 ^ 63 → number * size < 2 ^ 64
-offset-fits number n size l fits =
-    let low : number * size ≤ n * size = mul-le-mul_right size (omega (arith, l)) in
-    omega (arith, low, fits)
 
 -- ---- the marks of a router, of those of its block
 marks-taken : {A : Type 0} (value : A → ℕ) (o : Option (Marks A)) (to_port port_turn : ℕ → ℕ) (i : ℕ) → (marks_or_none value o to_port port_turn).taken i ≡ taken_or_none value o i

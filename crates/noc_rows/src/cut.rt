@@ -65,7 +65,11 @@ fn near_ones(near: &[u32], own: u32, others: u32) -> u32
 fn first_of(blocks: u32) -> Option<usize>
     ensures { IsLeast (has_bit blocks) result }
 {
-    if blocks == 0 { None } else { Some(blocks.least()) }
+    if blocks == 0 {
+        None
+    } else {
+        Some(blocks.least())
+    }
 }
 
 // The others.

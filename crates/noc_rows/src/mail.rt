@@ -31,11 +31,7 @@ pub(crate) struct Mail<W: Word> {
 
 impl<W: Word> Mail<W> {
     /// A mail of this block, with nothing in it, of this run.
-    pub(crate) fn new(
-        alloc: Global,
-        block: Option<usize>,
-        run: &Run<'_>,
-    ) -> Result<Mail<W>, Memory>
+    pub(crate) fn new(alloc: Global, block: Option<usize>, run: &Run<'_>) -> Result<Mail<W>, Memory>
         requires { LetterFits W.row }
         ensures block { IfOk result (λ mail. mail.block ≡ block) }
         ensures start { IfOk result (λ mail. start_in mail ≡ start_by run.now) }

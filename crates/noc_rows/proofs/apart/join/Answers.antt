@@ -1,4 +1,4 @@
-use Rattle.std.proofs.Common.{◌≡◌, ◌∷◌, ◌∙◌, ap, arith, refl, subst, sym}
+use Rattle.std.proofs.Common.{◌≡◌, ◌∷◌, ◌∙◌, ap, arith, subst, sym}
 use Rattle.noc_rows.specs.Joins.{AreTiles}
 use Rattle.noc_rows.proofs.ApartLemmas.{first-taken}
 use Rattle.noc_rows.proofs.apart.join.Goals as goal

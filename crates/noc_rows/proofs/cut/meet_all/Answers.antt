@@ -1,4 +1,4 @@
-use Rattle.std.proofs.Common.{◌≡◌, ◌<◌, Some, length, arith, rules}
+use Rattle.std.proofs.Common.{◌≡◌, ◌<◌, Some, length, arith}
 use Rattle.std.specs.Prelude.{slice_get}
 use Rattle.noc_rows.specs.Rounds.{start_by}
 use Rattle.noc_rows.proofs.CutLemmas.{apart-in, here-in, meeting-done, meeting-next, meeting-none, there-in}

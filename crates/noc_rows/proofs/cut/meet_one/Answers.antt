@@ -2,7 +2,7 @@ use Rattle.std.proofs.Common.{◌≡◌, ◌<◌, ◌+◌, arith, true, ℕ}
 use Rattle.noc_packet.specs.Set.{has_bit}
 use Rattle.noc_rows.specs.Mails.{alone}
 use Rattle.noc_rows.specs.Rounds.{start_by}
-use Rattle.noc_rows.proofs.CutLemmas.{apart-back, are-ours, are-theirs, first-in, meets-all, meets-next, meets-none}
+use Rattle.noc_rows.proofs.CutLemmas.{apart-back, are-ours, are-theirs, first-in, meets-all, meets-next}
 use Rattle.noc_rows.proofs.cut.meet_one.Goals as goal
 use Rattle.noc_rows.proofs.cut.meet_one.Goals.{then-from-ne0, else-from-ne0+then-back-ne0}
 

@@ -1,4 +1,4 @@
-use Rattle.std.proofs.Common.{ℕ, ◌+◌, ap, refl, subst}
+use Rattle.std.proofs.Common.{◌+◌, ap, refl, subst}
 use Rattle.noc_packet.specs.Set.{has_bit}
 use Rattle.noc_rows.specs.Mails.{HasHeardFrom, alone}
 use Rattle.noc_rows.specs.Tiles.{sender}

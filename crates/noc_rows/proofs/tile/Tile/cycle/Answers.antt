@@ -66,22 +66,22 @@ receive_all-requires g c =
       (
         c.requires.tile.1,
         (
-        c.requires.memory,
-        (
-          c.requires.letters,
+          c.requires.memory,
           (
+            c.requires.letters,
             (
-              r.0,
-              has_bit tile.own,
-              r.1,
-              r.2.good,
-              c.if-not-send_all.ensures.sent refl r.0 (has_bit tile.own) r.1 tile.network ready run,
-              subst (λ p. IsPlanOf value g.W.Word.bits r.0.net p) (sym (done-plan value g.W.Word.bits c.args.relation.now r.0 r.1 tile r.2 c.awake-awake.result c.awake-awake.ensures ran c.turn.ensures done c.end_cycle.ensures)) r.2.at.shows.plan,
-              done-blocks value g.W.Word.bits c.args.relation.now r.0 r.1 tile r.2 c.awake-awake.result c.awake-awake.ensures ran c.turn.ensures done c.end_cycle.ensures,
+              (
+                r.0,
+                has_bit tile.own,
+                r.1,
+                r.2.good,
+                c.if-not-send_all.ensures.sent refl r.0 (has_bit tile.own) r.1 tile.network ready run,
+                subst (λ p. IsPlanOf value g.W.Word.bits r.0.net p) (sym (done-plan value g.W.Word.bits c.args.relation.now r.0 r.1 tile r.2 c.awake-awake.result c.awake-awake.ensures ran c.turn.ensures done c.end_cycle.ensures)) r.2.at.shows.plan,
+                done-blocks value g.W.Word.bits c.args.relation.now r.0 r.1 tile r.2 c.awake-awake.result c.awake-awake.ensures ran c.turn.ensures done c.end_cycle.ensures,
+              ),
+              done-sides value g.W.Word.bits c.args.relation.now r.0 r.1 tile r.2 c.awake-awake.result c.awake-awake.ensures ran c.turn.ensures done c.end_cycle.ensures,
             ),
-            done-sides value g.W.Word.bits c.args.relation.now r.0 r.1 tile r.2 c.awake-awake.result c.awake-awake.ensures ran c.turn.ensures done c.end_cycle.ensures,
           ),
-        ),
         ),
       ),
     )

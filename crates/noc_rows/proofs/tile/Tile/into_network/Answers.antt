@@ -1,4 +1,4 @@
-use Rattle.std.proofs.Common.{◌<◌, ◌∙◌, length, ap, arith, sym}
+use Rattle.std.proofs.Common.{◌<◌, ◌∙◌, length, ap, sym}
 use Rattle.noc_blocks.proofs.LoopLemmas.{more-left, none-more}
 use Rattle.noc_rows.proofs.ListLemmas.{one-of}
 use Rattle.noc_rows.proofs.tile.Tile.into_network.Goals as goal
