@@ -1,7 +1,7 @@
 -- What the output ports take, port by port.
 use Rattle.std.proofs.Common.{◌≡◌, ◌≢◌, ℕ, ◌+◌, ◌*◌, ◌/◌, ◌%◌, ◌^◌, ◌<◌, ◌≤◌, Bool, true, false, List, [], ◌∷◌, refl, ap, ap₂, sym, ◌∙◌, arith, inl, inr, add-one, bit_and, bit_or, length, set, mod-eq_of_lt, pow-add, get_or-set_same, get_or-set_other}
 use Rattle.std.specs.Prelude.{◌⊎◌, ◌&&◌, nat_eq, nat_lt, not, if◌then◌else◌}
-use Rattle.std.proofs.lemmas.Bool.{true≢false, cases_eq, cases_lt, eq-eqb, ne_eqb, eqb-true}
+use Rattle.std.proofs.lemmas.Bool.{true≢false, and_parts, cases_eq, cases_lt, eq-eqb, ne_eqb, eqb-true}
 use Rattle.std.proofs.lemmas.Nat.{mul-mod_first, pow_below, pow_pos}
 use Rattle.std.proofs.Math.Nat.{mul_assoc, pow-le-pow_right}
 use Rattle.noc_topo.specs.Lists.{one_if}
@@ -129,6 +129,17 @@ out-is set word f (Nothing z) is = rw (eq-eqb set 0 z) refl
 out-is set word f (Alone i e l) is =
     let some : nat_eq set 0 ≡ false = ne_eqb set 0 (λ z. absurd (omega (arith, e, z, pow_pos i))) in
     rw some (is i e ∙ ap f (sym l))
+
+-- .. by channels that are the same for it
+pub out-same : (set : ℕ) (f h : ℕ → ℕ) → Selected set → ((i : ℕ) → set ≡ 2 ^ i → f i ≡ h i) → of_one set f ≡ of_one set h
+out-same set f h (Nothing z) same = rw (eq-eqb set 0 z) refl
+out-same set f h (Alone i e l) same = ap (λ x. if nat_eq set 0 then 0 else x) (ap f l ∙ same i e ∙ sym (ap h l))
+
+-- what is selected is one of the picked channels
+pub selected-among : (picked to_port requests turn i : ℕ) → requests ≡ bit_and picked to_port → first_bit requests turn ≡ 2 ^ i → has_bit picked i ≡ true
+selected-among picked to_port requests turn i is one =
+    let member : has_bit requests i ≡ true = first-among requests turn i (ap (λ s. has_bit s i) one ∙ power-members i i ∙ eq-eqb i i refl) in
+    (and_parts (has_bit picked i) (has_bit to_port i) (sym (both_members picked to_port i) ∙ ap (λ r. has_bit r i) (sym is) ∙ member)).0
 
 -- the pointer of a port that selects it
 pub advanced-is : (vcs size set before after : ℕ) → Selected set → (set ≡ 0 → after ≡ before) → ((i k : ℕ) → set ≡ 2 ^ i → k < size → has_bit after k ≡ nat_lt (i / vcs) (k / vcs)) → HasAdvanced vcs size set before after

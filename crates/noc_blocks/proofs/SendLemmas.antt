@@ -1,10 +1,10 @@
 -- A number of each channel, bit by bit, and the channels that go by each port.
-use Rattle.std.proofs.Common.{◌≡◌, ◌≢◌, ℕ, ◌+◌, ◌*◌, ◌/◌, ◌%◌, ◌<◌, Bool, true, false, List, [], ◌∷◌, length, get_or, get_or-set_other, get_or-set_same, refl, ap, sym, ◌∙◌, inl, inr, bit_or}
-use Rattle.std.specs.Prelude.{◌⊎◌, ◌&&◌, ◌||◌, not, nat_eq, slice_set, if◌then◌else◌}
-use Rattle.std.proofs.lemmas.Bool.{agree_below_at, cases_eq, eq-eqb, eqb-true, ne_eqb}
+use Rattle.std.proofs.Common.{◌≡◌, ◌≢◌, ℕ, ◌+◌, ◌*◌, ◌/◌, ◌%◌, ◌<◌, ◌≤◌, Bool, true, false, List, [], ◌∷◌, length, get_or, get_or-set_other, get_or-set_same, refl, ap, ap₂, sym, ◌∙◌, arith, inl, inr, bit_and, bit_or}
+use Rattle.std.specs.Prelude.{◌⊎◌, ◌&&◌, ◌||◌, not, nat_eq, nat_lt, slice_set, if◌then◌else◌}
+use Rattle.std.proofs.lemmas.Bool.{agree_below_at, cases_eq, cases_lt, eq-eqb, eqb-true, le-ltb, lt-ltb, ne_eqb, true≢false}
 use Rattle.noc_topo.specs.Lists.{one_if}
 use Rattle.noc_packet.specs.Set.{has_bit}
-use Rattle.noc_packet.proofs.SetLemmas.{either_members}
+use Rattle.noc_packet.proofs.SetLemmas.{both_members, either_members, has_bit-zero}
 use Rattle.noc_sets.specs.Planes.{plane_number}
 use Rattle.noc_sets.specs.Sets.{less}
 use Rattle.noc_sets.proofs.MemberLemmas.{less_members}
@@ -16,6 +16,26 @@ by_digits a b c = one_if a + 2 * (one_if b + 2 * (one_if c + 2 * 0))
 
 digits-are : (n : ℕ) → n < 8 → by_digits (nat_eq (n % 2) 1) (nat_eq (n / 2 % 2) 1) (nat_eq (n / 4) 1) ≡ n
 digits-are n l = eqb-true _ n (agree_below_at (λ k. nat_eq (by_digits (nat_eq (k % 2) 1) (nat_eq (k / 2 % 2) 1) (nat_eq (k / 4) 1)) k) (λ k. true) 8 n refl l)
+
+-- a digit that is not told is one that these channels do not have
+digit-same : (n count digit all channels i : ℕ) → digit ≡ (if nat_lt n count then all else 0) → (count < n + 1 → bit_and all channels ≡ 0) → has_bit channels i ≡ true → has_bit digit i ≡ has_bit all i
+digit-same n count digit all channels i is none e = at (cases_lt n count)
+  where
+    without : bit_and all channels ≡ 0 → (b : Bool) → has_bit all i ≡ b → has_bit all i ≡ false
+    without empty false m = m
+    without empty true m = absurd (true≢false (sym (both_members all channels i ∙ ap₂ (λ x y. x && y) m e) ∙ ap (λ d. has_bit d i) empty ∙ has_bit-zero i))
+
+    at : (n < count) ⊎ (count ≤ n) → has_bit digit i ≡ has_bit all i
+    at (inl told) = ap (λ d. has_bit d i) (is ∙ ap (λ b. if b then all else 0) (lt-ltb n count told))
+    at (inr left) =
+        ap (λ d. has_bit d i) (is ∙ ap (λ b. if b then all else 0) (le-ltb n count left)) ∙ has_bit-zero i ∙ sym (without (none (omega arith)) (has_bit all i) refl)
+
+-- the numbers of channels that so many bits tell
+pub digits-told : (count one two four ones twos fours channels i : ℕ) → one ≡ ones → two ≡ (if nat_lt 1 count then twos else 0) → four ≡ (if nat_lt 2 count then fours else 0)
+    → (count < 2 → bit_and twos channels ≡ 0) → (count < 3 → bit_and fours channels ≡ 0) → has_bit channels i ≡ true
+    → plane_number (one ∷ two ∷ four ∷ []) i ≡ plane_number (ones ∷ twos ∷ fours ∷ []) i
+digits-told count one two four ones twos fours channels i first second third no_twos no_fours e =
+    rw (ap (λ d. has_bit d i) first, digit-same 1 count two twos channels i second no_twos e, digit-same 2 count four fours channels i third no_fours e) refl
 
 -- the digits of the members of a set are written
 pub digits-written : (a b c x y z set n i : ℕ) → n < 8

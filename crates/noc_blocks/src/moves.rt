@@ -39,14 +39,14 @@ pub fn move_by_ports<W: Word>(
     // (A value of its own is none of the rows that are written. So the compiler takes several lanes
     // at a time.)
     let own = *frame;
-    match ports.sends.vc.count() {
+    match ports.sends.vc.count(picked) {
         1 => move_by_bits(&own, 1, picked, single, ports, moves),
         2 => move_by_bits(&own, 2, picked, single, ports, moves),
         _ => move_by_bits(&own, 3, picked, single, ports, moves),
     }
 }
 
-// .. whose virtual channels so many bits tell.
+// .. where so many bits tell the virtual channels that the picked channels own.
 #[inline(always)]
 fn move_by_bits<W: Word>(
     frame: &Frame<W>,
@@ -57,7 +57,8 @@ fn move_by_bits<W: Word>(
     moves: &mut Moves<Lanes<W>>,
 )
     requires frame { IsFrame W.bits (frame_by W.value frame.now) }
-    requires bits { AreEnough W.value bits ports.old.sends.vc }
+    requires bits { (k : ℕ) → k < LANES
+        → AreEnough (word W.value k) bits (word W.value k picked.now) ports.old.sends.vc }
     ensures moves { (k : ℕ) → k < LANES
         → TakesMoves W.bits frame.now.fields.width frame.now.ports
         (word W.value k picked.now) (word W.value k single.now)
@@ -75,7 +76,8 @@ fn move_by_bits<W: Word>(
     }
 }
 
-// How many ports a router has, and how many bits tell a virtual channel of the routers of a block.
+// How many ports a router has, and how many bits tell the virtual channel that a picked channel
+// owns.
 #[derive(Clone, Copy)]
 struct Extent {
     ports: usize,
@@ -105,7 +107,8 @@ fn move_all<W: Word>(
 )
     requires frame { IsFrame W.bits (frame_by W.value frame.now) }
     requires ports { extent.ports ≡ frame.now.ports }
-    requires bits { AreEnough W.value extent.bits ports.old.sends.vc }
+    requires bits { (k : ℕ) → k < LANES
+        → AreEnough (word W.value k) extent.bits (word W.value k picked.now) ports.old.sends.vc }
     ensures moves { (k : ℕ) → k < LANES
         → TakesMoves W.bits frame.now.fields.width frame.now.ports
         (word W.value k picked.now) (word W.value k single.now)
@@ -135,7 +138,7 @@ fn moves_of<W: Word>(
 ) -> Moves<W>
     requires frame { IsFrame W.bits (frame_by W.value frame.now) }
     requires ports { extent.ports ≡ frame.now.ports }
-    requires bits { AreEnough W.value extent.bits ports.old.sends.vc }
+    requires bits { AreEnough (word W.value lane) extent.bits (W.value picked) ports.old.sends.vc }
     requires lane { lane < LANES }
     ensures moves { TakesMoves W.bits frame.now.fields.width frame.now.ports
         (W.value picked) (W.value single)

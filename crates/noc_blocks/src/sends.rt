@@ -1,11 +1,13 @@
 //! By which output channels the active input channels of the routers of a block send.
 
-ghost use Rattle.std.specs.Prelude.{◌≡◌, ◌<◌, if◌then◌else◌};
+ghost use Rattle.std.specs.Prelude.{◌≡◌, ◌<◌, ℕ, true, if◌then◌else◌};
+ghost use Rattle.noc_packet.specs.Set.{has_bit};
+ghost use Rattle.noc_sets.specs.Planes.{plane_number};
 ghost use Rattle.noc_lanes.specs.Lanes.{word};
 ghost use Rattle.noc_blocks.specs.Ports.{AreEnough, digits_of};
 
 use crate::frame::PORTS;
-use crate::some::has_some;
+use crate::some::share_some;
 use noc_lanes::{LANES, Lanes, Word, at};
 
 /// A number, 0 to 7, of each channel, bit by bit.
@@ -20,26 +22,29 @@ pub struct Digits<T> {
 }
 
 impl<W: Word> Digits<Lanes<W>> {
-    /// How many bits tell the numbers of all routers.
+    /// How many bits tell the numbers of these channels.
     #[inline(always)]
-    pub fn count(&self) -> usize
-        ensures { AreEnough W.value result self.now }
+    pub fn count(&self, channels: &Lanes<W>) -> usize
+        ensures { (k : ℕ) → k < LANES
+            → AreEnough (word W.value k) result (word W.value k channels.now) self.now }
     {
-        if has_some(&self.fours) {
+        if share_some(&self.fours, channels) {
             3
-        } else if has_some(&self.twos) {
+        } else if share_some(&self.twos, channels) {
             2
         } else {
             1
         }
     }
 
-    /// The numbers of one router, where so many bits tell them.
+    /// The numbers of those channels of one router that so many bits tell.
     #[inline(always)]
     pub fn at(&self, lane: usize, count: usize) -> Digits<W>
-        requires lane { lane < LANES }
-        requires enough { AreEnough W.value count self.now }
-        ensures { digits_of W.value result ≡ digits_of (word W.value lane) self.now }
+        requires { lane < LANES }
+        ensures { (channels i : ℕ) → AreEnough (word W.value lane) count channels self.now
+            → has_bit channels i ≡ true
+            → plane_number (digits_of W.value result) i
+            ≡ plane_number (digits_of (word W.value lane) self.now) i }
     {
         Digits {
             ones: at(&self.ones, lane),

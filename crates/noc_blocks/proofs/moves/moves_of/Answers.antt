@@ -1,6 +1,7 @@
-use Rattle.std.proofs.Common.{◌≡◌, ℕ, ◌*◌, ◌<◌, ◌∙◌, List, length, rules, refl, ap, ap₂, sym, set as write, subst, arith, inl, inr, bit_and, bit_or}
+use Rattle.std.proofs.Common.{◌≡◌, ℕ, ◌*◌, ◌%◌, ◌^◌, ◌<◌, ◌∙◌, length, rules, refl, ap, ap₂, sym, set as write, subst, arith, inl, inr, bit_and, bit_or}
+use Rattle.std.specs.Prelude.{nat_eq, if◌then◌else◌}
 use Rattle.std.proofs.lemmas.Bool.{cases_eq}
-use Rattle.noc_sets.specs.Moves.{HasAdvanced, dry_by, selected_by}
+use Rattle.noc_sets.specs.Moves.{HasAdvanced, selected_by}
 use Rattle.noc_sets.specs.Sets.{of_one}
 use Rattle.noc_sets.specs.Turns.{first_bit}
 use Rattle.noc_lanes.specs.Channels.{moves_by}
@@ -8,7 +9,7 @@ use Rattle.noc_lanes.specs.Lanes.{word}
 use Rattle.noc_lanes.specs.declared.channels.Moves.{Moves}
 use Rattle.noc_blocks.specs.Ports.{by_port, digits_of}
 use Rattle.noc_blocks.specs.Steps.{channel_by, channel_from}
-use Rattle.noc_blocks.proofs.MoveLemmas.{HaveMoved, moved-more, row-here, row-other, same-port}
+use Rattle.noc_blocks.proofs.MoveLemmas.{HaveMoved, moved-more, out-same, row-here, row-other, same-port, selected-among, selected-is, wide}
 use Rattle.noc_blocks.proofs.StepLemmas.{along3}
 use Rattle.noc_blocks.proofs.moves.moves_of.Goals as goal
 
@@ -30,16 +31,23 @@ loop-port-preserved g c =
     c.and-requests.ensures ∙ ap (bit_and (v c.args.picked)) (c.at-to_port.ensures ∙ same-port v lane p inv.sends) in
     let turn : v c.at-turn.result ≡ by_port v c.args.ports.now.turn c.args.lane c.loop-port.port = c.at-turn.ensures ∙ inv.left p lane (omega arith) in
     let bit : first_bit (v c.and-requests.result) (v c.at-turn.result) ≡ selected_by (v c.args.picked) (by_port v c.args.ports.now.sends.to_port c.args.lane) (by_port v c.args.ports.now.turn c.args.lane) c.loop-port.port = ap₂ first_bit requests turn in
-    let channel : channel_from w (v c.first_of-first.result) (digits_of v c.at-vc.result) ≡ channel_by w width (digits_of (word v c.args.lane) c.args.ports.now.sends.vc) c.loop-port.port = ap₂ (λ f (d : List ℕ). channel_from w f d) c.first_of-first.ensures c.at-vc.ensures in
+    let few_bits = g.met.W.Word.few in
+    let selected = selected-is (v c.and-requests.result) (v c.at-turn.result) (wide w (v c.and-requests.result) few_bits (g.met.W.Word.fits c.and-requests.result)) in
+    let own = channel_from w (v c.first_of-first.result) (digits_of v c.at-vc.result) in
+    let channel = channel_by w width (digits_of (word v lane) old.sends.vc) p in
+    let same = λ (i : ℕ) (one : first_bit (v c.and-requests.result) (v c.at-turn.result) ≡ 2 ^ i).
+    ap₂ (λ f n. f * 2 ^ n % 2 ^ w) c.first_of-first.ensures
+    (c.at-vc.ensures (v c.args.picked) i c.requires.bits (selected-among (v c.args.picked) _ (v c.and-requests.result) (v c.at-turn.result) i requests one)) in
+    let out : of_one (first_bit (v c.and-requests.result) (v c.at-turn.result)) own ≡ of_one (selected_by (v c.args.picked) (by_port v old.sends.to_port lane) (by_port v old.turn lane) p) channel =
+    out-same _ own channel selected same ∙ ap (λ s. of_one s channel) bit in
     let after = c.with_taken-moves.ensures in
     let was = c.loop-port.moves in
     record {
       moved = moved-more w width p _ _ _ _ _ _ _ inv.moved (record {
         moved = ap (λ (m : Moves ℕ). m.moved) after ∙ ap (bit_or (v was.moved)) (c.taken_of.ensures.moved ∙ bit);
-        out = ap (λ (m : Moves ℕ). m.out) after ∙ ap (bit_or (v was.out)) (c.taken_of.ensures.out ∙ ap₂ of_one bit channel);
+        out = ap (λ (m : Moves ℕ). m.out) after ∙ ap (bit_or (v was.out)) (c.taken_of.ensures.out ∙ out);
         dry = ap (λ (m : Moves ℕ). m.dry) after ∙ ap (bit_or (v was.dry))
-            (c.taken_of.ensures.dry ∙ ap (λ (f : ℕ → ℕ). dry_by (v c.args.single) f (first_bit (v c.and-requests.result) (v c.at-turn.result))) channel
-            ∙ ap (dry_by (v c.args.single) (channel_by w width (digits_of (word v lane) old.sends.vc) p)) bit);
+            (c.taken_of.ensures.dry ∙ ap₂ (λ o s. if nat_eq (bit_and (v c.args.single) o) 0 then 0 else s) out bit);
       });
       done = λ q u. elim (cases_eq q p) [
         | inl same ↦ subst (λ n. HasAdvanced width size (selected_by (v c.args.picked) (by_port v old.sends.to_port lane) (by_port v old.turn lane) n) (by_port v old.turn lane n) (by_port v (write rows p c.put.new.lanes) lane n)) (sym same)
