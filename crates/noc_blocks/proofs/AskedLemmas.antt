@@ -1,18 +1,15 @@
 -- Waiting channels ask one by one.
-use Rattle.std.proofs.Common.{◌≡◌, ◌≢◌, ℕ, ◌^◌, ◌<◌, ◌≤◌, Bool, true, false, Option, Some, None, length, replicate, refl, ap, ap₂, sym, ◌∙◌, subst, arith, inl, inr, bit_and, bit_or}
+use Rattle.std.proofs.Common.{◌≡◌, ◌≢◌, ℕ, ◌^◌, ◌<◌, ◌≤◌, Bool, true, false, Option, Some, None, refl, ap, ap₂, sym, ◌∙◌, subst, arith, inl, inr, bit_and, bit_or}
 use Rattle.std.specs.Prelude.{◌⊎◌, ◌&&◌, ◌||◌, not, is_some, nat_eq, if◌then◌else◌}
 use Rattle.std.proofs.lemmas.Bool.{cases_Bool, cases_eq, cases_lt, eq-eqb, ne_eqb, eqb-true, false≢true, true≢false, and_parts}
-use Rattle.std.proofs.lemmas.List.{length-replicate}
 use Rattle.std.proofs.lemmas.Nat.{and_le_r}
-use Rattle.std.proofs.lemmas.Option.{slice_get_past}
 use Rattle.noc_topo.specs.Lists.{is_some_of}
 use Rattle.noc_packet.specs.Set.{has_bit, IsLeast}
 use Rattle.noc_packet.proofs.SetLemmas.{both_members, has_bit-zero, either_members, zero_from_none}
 use Rattle.noc_sets.specs.Grants.{AreAsks, asked_of}
 use Rattle.noc_sets.specs.Sets.{least, less, lowest}
 use Rattle.noc_sets.proofs.MemberLemmas.{above_64, least_is, lowest-is, or-cases, or-false, or-left, or-right, or-zero, power-members}
-use Rattle.noc_lanes.proofs.PassLemmas.{word-alike}
-use Rattle.noc_lanes.specs.Lanes.{value_or_none, word}
+use Rattle.noc_lanes.specs.Lanes.{word}
 use Rattle.noc_blocks.proofs.LoopLemmas.{all-done, least-same, left-part, none-left, not-done, not-left}
 
 -- ---- one more channel asks
@@ -191,10 +188,10 @@ pub record AreAsking (waiting idle : ℕ) (set requests : ℕ → ℕ) (outs inp
   pub part : (k : ℕ) → has_bit rest k ≡ true → has_bit waiting k ≡ true
   pub asks : AreAsks (λ k. has_bit waiting k && not (has_bit rest k)) idle set requests outs inputs wanted
 
-pub asking-opened : (waiting idle : ℕ) (set requests : ℕ → ℕ) (outs inputs wanted : ℕ) → outs ≡ 0 → inputs ≡ 0 → wanted ≡ 0 → ((o : ℕ) → requests o ≡ 0) → AreAsking waiting idle set requests outs inputs wanted waiting
+pub asking-opened : (waiting idle : ℕ) (set requests : ℕ → ℕ) (outs inputs wanted : ℕ) → outs ≡ 0 → inputs ≡ 0 → wanted ≡ 0 → ((o : ℕ) → o < 64 → requests o ≡ 0) → AreAsking waiting idle set requests outs inputs wanted waiting
 asking-opened waiting idle set requests outs inputs wanted eo ei ew empty = rw (eo, ei, ew) (record {
   part = λ k e. e;
-  asks = asks-nobody _ idle set requests (λ k. none-left waiting k) (λ o l. empty o);
+  asks = asks-nobody _ idle set requests (λ k. none-left waiting k) empty;
 })
 
 pub asking-stepped : (waiting idle rest left t : ℕ) (set requests after : ℕ → ℕ) (outs inputs wanted new_outs new_inputs new_wanted s free one asks place low : ℕ) → IsLeast (has_bit rest) (Some t)
@@ -216,17 +213,12 @@ asking-stepped waiting idle rest left t set requests after outs inputs wanted ne
 pub asking-all : (waiting idle : ℕ) (set requests : ℕ → ℕ) (outs inputs wanted rest : ℕ) → rest ≡ 0 → AreAsking waiting idle set requests outs inputs wanted rest → AreAsks (has_bit waiting) idle set requests outs inputs wanted
 asking-all waiting idle set requests outs inputs wanted rest none are = asks-same _ (has_bit waiting) idle set requests outs inputs wanted are.asks (λ k. sym (all-done waiting rest k none))
 
--- an output channel that is asked for has a request
-pub asks-some : (waits : ℕ → Bool) (idle : ℕ) (set requests : ℕ → ℕ) (outs inputs all : ℕ) → AreAsks waits idle set requests outs inputs all → outs < 2 ^ 64 → (o : ℕ) → has_bit outs o ≡ true → 0 < requests o
-asks-some waits idle set requests outs inputs all are fits o e = at (cases_lt o 64)
-  where
-    at : (o < 64) ⊎ (64 ≤ o) → 0 < requests o
-    at (inr u) = absurd (true≢false (sym e ∙ above_64 outs o fits u))
-    at (inl l) = some (cases_eq (requests o) 0)
-      where
-        some : (requests o ≡ 0) ⊎ (requests o ≢ 0) → 0 < requests o
-        some (inl z) = absurd (true≢false (sym e ∙ are.asked_for o l ∙ ap (λ x. not (nat_eq x 0)) z))
-        some (inr n) = omega arith
+-- whether a channel has requests
+pub asked-some : (n : ℕ) → not (nat_eq n 0) ≡ true → 0 < n
+asked-some n e = elim (cases_eq n 0) [ inl z ↦ absurd (false≢true (sym (ap not (eq-eqb n 0 z)) ∙ e)) | inr o ↦ omega arith ]
+
+pub asked-none : (n : ℕ) → not (nat_eq n 0) ≡ false → n ≡ 0
+asked-none n e = elim (cases_eq n 0) [ inl z ↦ z | inr o ↦ absurd (true≢false (sym (ap not (ne_eqb n 0 o)) ∙ e)) ]
 
 -- who asks for one output channel asks for no other
 pub asks-apart : (waits : ℕ → Bool) (idle : ℕ) (set requests : ℕ → ℕ) (outs inputs all : ℕ) → AreAsks waits idle set requests outs inputs all
@@ -272,11 +264,3 @@ asks-idle waits idle set requests outs inputs all are fits idle_fits o e = at (c
             let member = (and_parts (has_bit (set k) (least (bit_and (set k) idle))) (has_bit idle (least (bit_and (set k) idle))) (sym (both_members (set k) idle (least (bit_and (set k) idle))) ∙ (least_is (bit_and (set k) idle) some small).0)).1 in
             ap (λ b. is_some_of (if b then None else Some (least (bit_and (set k) idle))) o) (ne_eqb (bit_and (set k) idle) 0 n)
             ∙ ne_eqb (least (bit_and (set k) idle)) o (λ same. true≢false (sym member ∙ ap (has_bit idle) same ∙ f))
-
--- no requests
-pub requests-empty : {A : Type 0} (value : A → ℕ) (n : ℕ) (x : A) → value x ≡ 0 → (o : ℕ) → word value o (replicate n x) ≡ 0
-requests-empty value n x none o = at (cases_lt o n)
-  where
-    at : (o < n) ⊎ (n ≤ o) → word value o (replicate n x) ≡ 0
-    at (inl l) = word-alike value n x o l ∙ none
-    at (inr u) = ap (value_or_none value) (slice_get_past (replicate n x) o (let e : length (replicate n x) ≡ n = length-replicate n x in omega (arith, e, u)))

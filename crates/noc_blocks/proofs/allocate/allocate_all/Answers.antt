@@ -3,6 +3,7 @@ use Rattle.std.specs.Prelude.{slice_get}
 use Rattle.std.proofs.lemmas.List.{length-set}
 use Rattle.std.proofs.lemmas.Option.{slice_get-get_or}
 use Rattle.noc_lanes.specs.Lanes.{word}
+use Rattle.noc_lanes.proofs.PassLemmas.{word-alike}
 use Rattle.noc_lanes.proofs.SetLemmas.{low_members}
 use Rattle.noc_blocks.specs.Allotted.{HasAllotted, allotment_at}
 use Rattle.noc_blocks.specs.Numbered.{port_in, vc_in}
@@ -10,15 +11,15 @@ use Rattle.noc_blocks.proofs.AllottedLemmas.{allotted-here, allotted-lane, allot
 use Rattle.noc_blocks.proofs.LoopLemmas.{each-none, none-more}
 use Rattle.noc_blocks.proofs.allocate.allocate_all.Goals as goal
 
-pub loop-lane-init : goal.loop-lane-init
-loop-lane-init g c = record { size = c.told-marks; are = each-none _ _ _ _ }
+pub loop-requests-init : goal.loop-requests-init
+loop-requests-init g c = record { size = c.told-marks; none = λ o l. word-alike g.W.Word.value 64 _ o l ∙ c.none-requests.ensures; are = each-none _ _ _ _ }
 
-pub loop-lane-preserved : goal.loop-lane-preserved
-loop-lane-preserved g c =
+pub loop-requests-preserved : goal.loop-requests-preserved
+loop-requests-preserved g c =
     let value = g.W.Word.value in
     let t = c.least-lane.result in
-    let inv = c.loop-lane.invariant in
-    let was = c.loop-lane in
+    let inv = c.loop-requests.invariant in
+    let was = c.loop-requests in
     let got = c.allocate_lane-got in
     let m = get_or was.marks t c.index-marks-lane.result in
     let w = got.new.marks in
@@ -32,24 +33,25 @@ loop-lane-preserved g c =
     got.ensures.allocated got.ensures.numbered got.ensures.inputs in
     record {
       size = length-set was.marks t w ∙ inv.size;
+      none = got.ensures.none;
       are = allotted-next g.W.Word.bits (port_in c.args.numbering.now) (vc_in c.args.numbering.now) _ (c.args.asking % 2 ^ 32) _ _ (was.rest % 2 ^ 32) _ t c.least-lane.ensures.least inv.are
           (subst (λ (n : ℕ). HasAllotted g.W.Word.bits (port_in c.args.numbering.now) (vc_in c.args.numbering.now) (allotment_at value was.inputs was.outputs was.marks was.sends t)
-          (allotment_at value got.new.inputs got.new.outputs after got.new.sends t) n (word value t c.put-in-loop-lane.new.lanes)) (sym c.put.ensures.here)
+          (allotment_at value got.new.inputs got.new.outputs after got.new.sends t) n (word value t c.put-in-loop-requests.new.lanes)) (sym c.put.ensures.here)
           (subst (λ (n : ℕ). HasAllotted g.W.Word.bits (port_in c.args.numbering.now) (vc_in c.args.numbering.now) (allotment_at value was.inputs was.outputs was.marks was.sends t)
-          (allotment_at value got.new.inputs got.new.outputs after got.new.sends t) (value got.result.granted) n) (sym c.put-in-loop-lane.ensures.here) lane))
+          (allotment_at value got.new.inputs got.new.outputs after got.new.sends t) (value got.result.granted) n) (sym c.put-in-loop-requests.ensures.here) lane))
           (λ k other. same-allotted _ _ _ _ _ _
           (allotted-other value was.inputs got.new.inputs was.outputs got.new.outputs was.marks after was.sends got.new.sends k got.ensures.inputs got.ensures.outputs (got.ensures.supplied k other)
           (got.ensures.wanted k other) (got.ensures.idle k other) (lane-other was.marks t k m w other) (got.ensures.others k other))
-          (c.put.ensures.others k other) (c.put-in-loop-lane.ensures.others k other))
+          (c.put.ensures.others k other) (c.put-in-loop-requests.ensures.others k other))
           c.but_lowest-rest.ensures.members;
     }
 
 pub returns-clause-here : goal.returns-clause-here
 returns-clause-here g c = λ k l e.
-    allotted-here g.W.Word.bits (port_in c.args.numbering.now) (vc_in c.args.numbering.now) _ (c.args.asking % 2 ^ 32) _ (c.loop-lane.rest % 2 ^ 32) k (none-more _ _ c.is_none.ensures c.loop-lane-test.false)
-    c.loop-lane.invariant.are (low_members c.args.asking k 32 l ∙ e)
+    allotted-here g.W.Word.bits (port_in c.args.numbering.now) (vc_in c.args.numbering.now) _ (c.args.asking % 2 ^ 32) _ (c.loop-requests.rest % 2 ^ 32) k (none-more _ _ c.is_none.ensures c.loop-requests-test.false)
+    c.loop-requests.invariant.are (low_members c.args.asking k 32 l ∙ e)
 
 pub returns-clause-others : goal.returns-clause-others
 returns-clause-others g c = λ k l e.
-    allotted-none g.W.Word.bits (port_in c.args.numbering.now) (vc_in c.args.numbering.now) _ (c.args.asking % 2 ^ 32) _ (c.loop-lane.rest % 2 ^ 32) k
-    c.loop-lane.invariant.are (low_members c.args.asking k 32 l ∙ e) (c.alike-none.ensures k l ∙ c.none.ensures) (c.alike-none.ensures k l ∙ c.none.ensures)
+    allotted-none g.W.Word.bits (port_in c.args.numbering.now) (vc_in c.args.numbering.now) _ (c.args.asking % 2 ^ 32) _ (c.loop-requests.rest % 2 ^ 32) k
+    c.loop-requests.invariant.are (low_members c.args.asking k 32 l ∙ e) (c.alike-none.ensures k l ∙ c.none.ensures) (c.alike-none.ensures k l ∙ c.none.ensures)

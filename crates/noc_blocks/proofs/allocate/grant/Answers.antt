@@ -30,8 +30,8 @@ pub returns-clause-here : goal.returns-clause-here
 returns-clause-here g c = λ port_turn k e.
     let value = g.W.Word.value in
     let it : c.least-input.result ≡ k = eqb-true c.least-input.result k (sym (power-members k c.least-input.result) ∙ ap (λ n. has_bit n c.least-input.result) (sym e) ∙ c.least-input.ensures.least.0) in
-    let m = marks_by value c.args.marks.now (by_port value c.args.sends.now.to_port c.args.lane) port_turn in
-    bound-from g.W.Word.bits m (λ i. word value i c.note.new.table) _ (λ o. word value o c.note-2.new.table) (by_port value c.join.new.to_port c.args.lane) c.args.out k (port_in c.args.numbering.now c.args.out) (value c.first_in_turn-bit.result)
+    let m = marks_by value c.args.marks.now (by_port value c.args.sends.now.to_port c.args.router.now.lane) port_turn in
+    bound-from g.W.Word.bits m (λ i. word value i c.note.new.table) _ (λ o. word value o c.note-2.new.table) (by_port value c.join.new.to_port c.args.router.now.lane) c.args.out k (port_in c.args.router.now.numbering.now c.args.out) (value c.first_in_turn-bit.result)
     e
     (get_or-set_same c.args.marks.now.owner c.args.out _ 0 (omega (arith, c.requires.out, g.met.W.Word.few)) ∙ it)
     (λ p other. get_or-set_other c.args.marks.now.owner c.args.out p _ 0 other)
@@ -39,7 +39,7 @@ returns-clause-here g c = λ port_turn k e.
     (λ i other. c.note.ensures.others i (λ same. other (same ∙ it)))
     (λ i l. ap (λ n. has_bit n i) c.note-2.ensures.here ∙ c.past.ensures k i e l)
     (λ p other. c.note-2.ensures.others p other)
-    (λ q i. c.join.ensures.here q i ∙ ap (λ p. (nat_eq q p && has_bit (value c.first_in_turn-bit.result) i) || has_bit (by_port value c.args.sends.now.to_port c.args.lane q) i) c.from-port.ensures)
+    (λ q i. c.join.ensures.here q i ∙ ap (λ p. (nat_eq q p && has_bit (value c.first_in_turn-bit.result) i) || has_bit (by_port value c.args.sends.now.to_port c.args.router.now.lane q) i) c.from-port.ensures)
 
 pub returns-clause-vc : goal.returns-clause-vc
 returns-clause-vc g c = c.write_digits.ensures.here
