@@ -291,6 +291,10 @@ pub fn allocate_all<W: Word>(
         → IsUnallotted (allotment_at W.value inputs.old outputs.old marks.old sends.old k)
         (allotment_at W.value inputs.new outputs.new marks.new sends.new k)
         (word W.value k decided.new.granted) (word W.value k decided.new.lost) }
+    ensures rest { decided.new ≡ record decided.old {
+      granted = decided.new.granted;
+      lost = decided.new.lost;
+    } }
 {
     let none = alike(W::none());
     decided.granted = none;

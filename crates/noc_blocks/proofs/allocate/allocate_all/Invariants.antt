@@ -9,6 +9,7 @@ abbrev pub invariant-loop-requests : goal.invariant-loop-requests
 invariant-loop-requests g l =
     let value = g.W.Word.value in
     record {
+      rest : l.decided ≡ record l.fn.decided { granted = l.decided.granted; lost = l.decided.lost };
       size : length l.marks ≡ 32;
       none : (o : ℕ) → o < 64 → word value o l.requests ≡ 0;
       are : AreAllotted g.W.Word.bits (port_in l.numbering) (vc_in l.numbering)
