@@ -1,25 +1,25 @@
 -- The words of ports: what is picked, and the pointers after it, whatever stands above the channels.
-use Rattle.std.proofs.Common.{◌≡◌, ◌≢◌, ℕ, zero, suc, ◌+◌, ◌-◌, ◌*◌, ◌/◌, ◌%◌, ◌^◌, ◌<◌, ◌≤◌, Bool, true, false, refl, ap, ap₂, sym, ◌∙◌, subst, arith, inl, inr, bit_and, bit_or, pow-add, mod-eq_of_lt, suc-mul, mul-le-mul_right}
+use Rattle.std.proofs.Common.{◌≡◌, ◌≢◌, ℕ, suc, ◌+◌, ◌-◌, ◌*◌, ◌/◌, ◌%◌, ◌^◌, ◌<◌, ◌≤◌, Bool, true, false, Some, refl, ap, ap₂, sym, ◌∙◌, subst, arith, inl, inr, bit_and, bit_or, bit_xor, mod-eq_of_lt, suc-mul, mul-le-mul_right}
 use Rattle.std.specs.Prelude.{nat_eq, nat_lt, ◌⊎◌, ◌&&◌, ◌||◌, not}
-use Rattle.std.proofs.lemmas.Bool.{true≢false, eq-eqb, ne_eqb, cases_lt, lt-ltb, le-ltb, and_parts, or_cases}
-use Rattle.std.proofs.lemmas.Nat.{pow_pos, pow_below, and_le_l, mod_below, or_lt, le_or_r, shr_split, div-mul-add, mul-add-lt, div_below, div-add-mod', le-div}
-use Rattle.std.proofs.lemmas.Nat.Bits.{bit_at_cat_low, bit_at_mask_inside, bit_at_mask_below}
-use Rattle.std.proofs.Math.Nat.{mul_assoc, pow-le-pow_right, mod_self, zero-mod, zero-div}
+use Rattle.std.proofs.lemmas.Bool.{true≢false, eq-eqb, ne_eqb, cases_eq, cases_lt, lt-ltb, le-ltb, and_parts, or_cases}
+use Rattle.std.proofs.lemmas.Nat.{pow_pos, pow_below, and_le_l, mod_below, or_lt, le_or_r, shr_split, mul-add-lt, div_below, div-add-mod', le-div}
+use Rattle.std.proofs.lemmas.Nat.Bits.{bit_at_cat_low}
+use Rattle.std.proofs.Math.Nat.{pow-le-pow_right, mod_self}
 use Rattle.noc_topo.specs.Lists.{is_some_of, one_if}
-use Rattle.noc_packet.specs.Set.{has_bit}
-use Rattle.noc_packet.proofs.SetLemmas.{both_members, either_members, has_bit-above, has_bit-zero, has_bit-one, has_bit-none, zero_from_none, same_set}
+use Rattle.noc_packet.specs.Set.{has_bit, IsLeast}
+use Rattle.noc_packet.proofs.SetLemmas.{both_members, either_members, has_bit-above, has_bit-zero, zero_from_none, same_set}
 use Rattle.noc_alloc.specs.Arbiter.{first_in_turn}
 use Rattle.noc_alloc.proofs.ArbiterLemmas.{first_in_turn-same}
-use Rattle.noc_sets.specs.Sets.{less, down_by}
+use Rattle.noc_sets.specs.Sets.{differ, less, down_by}
 use Rattle.noc_sets.specs.Turns.{ArePast, ArePicked, ShowsPointer}
-use Rattle.noc_sets.proofs.MemberLemmas.{less_members, power-members}
-use Rattle.noc_lanes.specs.Words.{minus, plus, up_within}
-use Rattle.noc_lanes.specs.Fields.{candidates_of, ends_of, field, IsFields, later, least_of, past, pick, spread, whole_of}
+use Rattle.noc_sets.proofs.MemberLemmas.{less_members, ones-members, power-members, xor_members}
+use Rattle.noc_lanes.specs.Words.{minus, plus}
+use Rattle.noc_lanes.specs.Fields.{candidates_of, ends_from, ends_of, field, IsFields, later, least_of, past, pick, spread, whole_of}
 use Rattle.noc_lanes.specs.declared.fields.Fields.{Fields}
-use Rattle.noc_lanes.proofs.FieldLemmas.{spread-fits, field-fits, field-bit, spread-of, spread-minus}
-use Rattle.noc_lanes.proofs.PickLemmas.{holding, less-fits, some-is, ones-is, turn-fits, pick-members, past-moved, past-stays, double}
+use Rattle.noc_lanes.proofs.FieldLemmas.{spread-fits, spread-bit, spread-of, spread-minus}
+use Rattle.noc_lanes.proofs.PickLemmas.{holding, less-fits, ones-is, turn-fits, pick-members, past-moved, past-stays, double}
 use Rattle.noc_lanes.proofs.SetLemmas.{low_members}
-use Rattle.noc_lanes.proofs.WidthLemmas.{minus-is}
+use Rattle.noc_lanes.proofs.WidthLemmas.{above-least, minus-is, negative-members}
 
 -- words with the same members below n
 abbrev AgreeBelow : ℕ → ℕ → ℕ → Type 0
@@ -247,128 +247,110 @@ module _ (size n : ℕ) (fits64 : size ≤ 64) (f : Fields ℕ) (is : IsFields s
           (past-stays size n fits64 f is ahead (moved % 2 ^ all) p pointer ahead_fits low_small l (λ c w. low_members moved (p * f.width + c) all (place-below p c l w) ∙ none c w) shows)
 
   -- ---- the ports after that of a channel
-  spread-none : (m : ℕ) (g : ℕ → ℕ) → ((q : ℕ) → g q ≡ 0) → spread f.width m g ≡ 0
-  spread-none zero g none = refl
-  spread-none (suc m) g none = rw (spread-none m (λ q. g (suc q)) (λ q. none (suc q)), none 0) (omega arith)
+  high-members : (p c : ℕ) → p < n → c < f.width → has_bit f.high (p * f.width + c) ≡ nat_eq c (f.width - 1)
+  high-members p c l u =
+      ap (λ m. has_bit m (p * f.width + c)) is.high
+      ∙ spread-bit f.width n (λ q. 2 ^ (f.width - 1)) p c (λ q. pow_below (f.width - 1) f.width (omega (arith, is.some))) l u
+      ∙ power-members (f.width - 1) c
 
-  spread-one : (m p : ℕ) (g : ℕ → ℕ) → p < m → g p ≡ 1 → ((q : ℕ) → q ≢ p → g q ≡ 0) → spread f.width m g ≡ 2 ^ (p * f.width)
-  spread-one zero p g l one none = absurd (omega arith)
-  spread-one (suc m) zero g l one none = rw (spread-none m (λ q. g (suc q)) (λ q. none (suc q) (λ e. absurd (omega arith))), one) (let e : 0 * f.width ≡ 0 = omega arith in ap (λ x. x + 1) (let z : 0 * 2 ^ f.width ≡ 0 = omega arith in z) ∙ ap (λ x. 2 ^ x) (sym e))
-  spread-one (suc m) (suc p) g l one none =
-      let first : g 0 ≡ 0 = none 0 (λ e. absurd (omega arith)) in
-      let rest : spread f.width m (λ q. g (suc q)) ≡ 2 ^ (p * f.width) = spread-one m p (λ q. g (suc q)) (omega arith) one (λ q o. none (suc q) (λ e. o (omega arith))) in
-      let more : suc p * f.width ≡ p * f.width + f.width = suc-mul p f.width in
-      rw (rest, first, more) (let e : 2 ^ (p * f.width + f.width) ≡ 2 ^ (p * f.width) * 2 ^ f.width = pow-add 2 (p * f.width) f.width in omega (arith, e))
+  ends-members : (i k : ℕ) → i < size → k < size → has_bit (ends_from size f (2 ^ i)) k ≡ (has_bit f.high k && not (nat_lt k i))
+  ends-members i k l u =
+      both_members f.high (minus size 0 (2 ^ i)) k
+      ∙ ap (λ b. has_bit f.high k && b) (negative-members size (2 ^ i) k (pow_pos i) (pow_below i size l) u ∙ ap not (ones-members i k))
 
-  -- the ends of the port of one channel
+  ends-fit : (i : ℕ) → ends_from size f (2 ^ i) < 2 ^ size
+  ends-fit i = let small : f.high < 2 ^ size = all-fits f.high high-fits in omega (arith, and_le_l f.high (minus size 0 (2 ^ i)))
+
+  -- the first end from a channel on is that of its port
   module _ (p d : ℕ) (l : p < n) (u : d < f.width) where
-    abbrev bit : ℕ
-    bit = 2 ^ (p * f.width + d)
+    abbrev channel : ℕ
+    channel = p * f.width + d
 
-    bit-fits : bit < 2 ^ all
-    bit-fits = pow_below (p * f.width + d) all (place-below p d l u)
+    abbrev end : ℕ
+    end = p * f.width + (f.width - 1)
 
-    its-field : 0 < field f.width bit p
-    its-field = positive (cases_lt 0 (field f.width bit p))
+    channel-below : channel < size
+    channel-below = omega (arith, place-below p d l u, is.fits)
+
+    end-below : end < all
+    end-below = place-below p (f.width - 1) l (omega (arith, is.some))
+
+    rows : (k : ℕ) → k / f.width * f.width + k % f.width ≡ k
+    rows k = div-add-mod' k f.width
+
+    row-above : (q r : ℕ) → q < r → q * f.width + f.width ≤ r * f.width
+    row-above q r less = let m : suc q * f.width ≤ r * f.width = mul-le-mul_right f.width less in let e : suc q * f.width ≡ q * f.width + f.width = suc-mul q f.width in omega arith
+
+    first-end : IsLeast (has_bit (ends_from size f (2 ^ channel))) (Some end)
+    first-end = (
+      ends-members channel end channel-below (omega (arith, end-below, is.fits))
+          ∙ ap₂ (λ a b. a && not b) (high-members p (f.width - 1) l (omega (arith, is.some)) ∙ eq-eqb (f.width - 1) (f.width - 1) refl) (le-ltb end channel (omega (arith, u))),
+      λ k below. ends-members channel k channel-below (omega (arith, below, end-below, is.fits)) ∙ none k below (cases_eq (k % f.width) (f.width - 1)),
+    )
       where
-        positive : (0 < field f.width bit p) ⊎ (field f.width bit p ≤ 0) → 0 < field f.width bit p
-        positive (inl some) = some
-        positive (inr none) =
-            let z : field f.width bit p ≡ 0 = omega arith in
-            absurd (true≢false (sym (sym (ap (λ m. has_bit m d) z) ∙ field-bit f.width bit p d u ∙ power-members (p * f.width + d) (p * f.width + d) ∙ eq-eqb _ _ refl) ∙ has_bit-zero d))
+        high : (k : ℕ) → k < end → has_bit f.high k ≡ nat_eq (k % f.width) (f.width - 1)
+        high k below =
+            ap (has_bit f.high) (sym (rows k))
+            ∙ high-members (k / f.width) (k % f.width) (div_below k f.width n is.some (omega (arith, below, end-below))) (mod_below k f.width is.some)
 
-    other-field : (q : ℕ) → q ≢ p → field f.width bit q ≡ 0
-    other-field q other = zero_from_none (field f.width bit q) (λ c. none c (cases_lt c f.width))
-      where
-        none : (c : ℕ) → (c < f.width) ⊎ (f.width ≤ c) → has_bit (field f.width bit q) c ≡ false
-        none c (inl w) =
-            field-bit f.width bit q c w
-            ∙ power-members (p * f.width + d) (q * f.width + c)
-            ∙ ne_eqb (q * f.width + c) (p * f.width + d) (λ e. other (sym (div-mul-add q f.width c w) ∙ ap (λ m. m / f.width) e ∙ div-mul-add p f.width d u))
-        none c (inr w) = has_bit-above (field f.width bit q) f.width c (field-fits f.width bit q) w
-
-    ends-one : ends_of size f bit ≡ 2 ^ (p * f.width) * 2 ^ (f.width - 1)
-    ends-one =
-        some-is size n fits64 f is bit bit-fits
-        ∙ ap (λ m. m * 2 ^ (f.width - 1))
-        (spread-one n p (holding size n fits64 f is bit) l (ap one_if (lt-ltb 0 (field f.width bit p) its-field)) (λ q o. ap (λ m. one_if (nat_lt 0 m)) (other-field q o)))
-
-    -- where the next port begins
-    abbrev next : ℕ
-    next = p * f.width + f.width
-
-    next-below : next ≤ all
-    next-below = let m : suc p * f.width ≤ n * f.width = mul-le-mul_right f.width l in let e : suc p * f.width ≡ p * f.width + f.width = suc-mul p f.width in omega arith
-
-    up-ends : up_within size (ends_of size f bit) 1 ≡ 2 ^ next
-    up-ends =
-        let parts : 2 ^ next ≡ 2 ^ (p * f.width) * 2 ^ f.width = pow-add 2 (p * f.width) f.width in
-        let halves : 2 ^ f.width ≡ 2 ^ (f.width - 1) * 2 = double size n fits64 f is in
-        let whole : 2 ^ (p * f.width) * 2 ^ (f.width - 1) * 2 ≡ 2 ^ next = mul_assoc (2 ^ (p * f.width)) (2 ^ (f.width - 1)) 2 ∙ ap (λ m. 2 ^ (p * f.width) * m) (sym halves) ∙ sym parts in
-        ap (λ m. m * 2 % 2 ^ size) ends-one ∙ ap (λ m. m % 2 ^ size) whole ∙ mod-eq_of_lt (pow_below next size (omega (arith, next-below, is.fits)))
-
-    later-is : later size f bit ≡ 2 ^ size - 2 ^ next
-    later-is =
-        let small : 2 ^ next < 2 ^ size = pow_below next size (omega (arith, next-below, is.fits)) in
-        let less : 2 ^ size - 2 ^ next < 2 ^ size = omega (arith, pow_pos next, pow_pos size) in
-        ap (minus size 0) up-ends ∙ ap (λ m. m % 2 ^ size) (let e : 0 + (2 ^ size - 2 ^ next) ≡ 2 ^ size - 2 ^ next = omega arith in e) ∙ mod-eq_of_lt less
-
-    later-members : (k : ℕ) → k < all → has_bit (later size f bit) k ≡ nat_lt p (k / f.width)
-    later-members k w = ap (λ m. has_bit m k) later-is ∙ at (cases_lt k next)
-      where
-        rows : k / f.width * f.width + k % f.width ≡ k
-        rows = div-add-mod' k f.width
-
-        column : k % f.width < f.width
-        column = mod_below k f.width is.some
-
-        at : (k < next) ⊎ (next ≤ k) → has_bit (2 ^ size - 2 ^ next) k ≡ nat_lt p (k / f.width)
-        at (inl below) =
-            let same : nat_lt p (k / f.width) ≡ false = le-ltb p (k / f.width) (le_of (cases_lt p (k / f.width))) in
-            has_bit-none (2 ^ size - 2 ^ next) k (bit_at_mask_below next size k below) ∙ sym same
+        none : (k : ℕ) → k < end → (k % f.width ≡ f.width - 1) ⊎ (k % f.width ≢ f.width - 1) → (has_bit f.high k && not (nat_lt k channel)) ≡ false
+        none k below (inl last) = ap₂ (λ a b. a && not b) (high k below ∙ eq-eqb (k % f.width) (f.width - 1) last) (lt-ltb k channel (before (cases_lt (k / f.width) p)))
           where
-            le_of : (p < k / f.width) ⊎ (k / f.width ≤ p) → k / f.width ≤ p
-            le_of (inr le) = le
-            le_of (inl lt) =
-                let m : suc p * f.width ≤ k / f.width * f.width = mul-le-mul_right f.width lt in
-                let e : suc p * f.width ≡ p * f.width + f.width = suc-mul p f.width in
-                absurd (omega (arith, m, e, rows, below))
-        at (inr above) =
-            has_bit-one (2 ^ size - 2 ^ next) k (bit_at_mask_inside next size k above (omega (arith, w, is.fits)))
-            ∙ sym (lt-ltb p (k / f.width) (lt_of (cases_lt p (k / f.width))))
-          where
-            lt_of : (p < k / f.width) ⊎ (k / f.width ≤ p) → p < k / f.width
-            lt_of (inl lt) = lt
-            lt_of (inr le) =
-                let m : k / f.width * f.width ≤ p * f.width = mul-le-mul_right f.width le in
-                absurd (omega (arith, m, rows, column, above))
+            before : (k / f.width < p) ⊎ (p ≤ k / f.width) → k < channel
+            before (inl less) = omega (arith, row-above (k / f.width) p less, rows k, last, is.some)
+            before (inr more) = let m : p * f.width ≤ k / f.width * f.width = mul-le-mul_right f.width more in absurd (omega (arith, m, rows k, last, below))
+        none k below (inr other) = ap (λ b. b && not (nat_lt k channel)) (high k below ∙ ne_eqb (k % f.width) (f.width - 1) other)
+
+    later-members : (k : ℕ) → k < all → has_bit (later size f (2 ^ channel)) k ≡ nat_lt p (k / f.width)
+    later-members k w =
+        above-least size (ends_from size f (2 ^ channel)) k (some (cases_lt 0 (ends_from size f (2 ^ channel)))) (ends-fit channel) (omega (arith, w, is.fits)) end first-end
+        ∙ at (cases_lt p (k / f.width))
+      where
+        some : (0 < ends_from size f (2 ^ channel)) ⊎ (ends_from size f (2 ^ channel) ≤ 0) → 0 < ends_from size f (2 ^ channel)
+        some (inl more) = more
+        some (inr less) =
+            let z : ends_from size f (2 ^ channel) ≡ 0 = omega arith in
+            absurd (true≢false (sym first-end.0 ∙ ap (λ m. has_bit m end) z ∙ has_bit-zero end))
+
+        at : (p < k / f.width) ⊎ (k / f.width ≤ p) → nat_lt end k ≡ nat_lt p (k / f.width)
+        at (inl less) = lt-ltb end k (omega (arith, row-above p (k / f.width) less, rows k, is.some)) ∙ sym (lt-ltb p (k / f.width) less)
+        at (inr more) =
+            let m : k / f.width * f.width ≤ p * f.width = mul-le-mul_right f.width more in
+            le-ltb end k (omega (arith, m, rows k, mod_below k f.width is.some)) ∙ sym (le-ltb p (k / f.width) more)
 
   -- none are after a channel above all ports
-  later-none : (i k : ℕ) → all ≤ i → k < all → has_bit (later size f (2 ^ i)) k ≡ false
-  later-none i k above l =
-      ap (λ m. has_bit (minus size 0 (up_within size m 1)) k) (ends-same (2 ^ i) 0 (λ j u. power-members i j ∙ ne_eqb j i (λ e. absurd (omega arith)) ∙ sym (has_bit-zero j)) ∙ no-ends)
-      ∙ ap (λ m. has_bit (m % 2 ^ size) k) (let e : 0 + (2 ^ size - 0 * 2 ^ 1 % 2 ^ size) ≡ 2 ^ size = nothing in e)
-      ∙ ap (λ m. has_bit m k) (mod_self (2 ^ size)) ∙ has_bit-zero k
+  later-none : (i k : ℕ) → all ≤ i → i < size → has_bit (later size f (2 ^ i)) k ≡ false
+  later-none i k above l = ap (λ m. has_bit (bit_xor m (minus size 0 m)) k) no-ends ∙ xor_members 0 (minus size 0 0) k ∙ ap₂ differ (has_bit-zero k) (ap (λ m. has_bit m k) nothing ∙ has_bit-zero k)
     where
-      no-ends : ends_of size f 0 ≡ 0
-      no-ends =
-          some-is size n fits64 f is 0 (pow_pos all)
-          ∙ ap (λ m. m * 2 ^ (f.width - 1)) (spread-none n (holding size n fits64 f is 0) (λ q. ap (λ m. one_if (nat_lt 0 (m % 2 ^ f.width))) (zero-div (2 ^ (q * f.width))) ∙ ap (λ m. one_if (nat_lt 0 m)) (zero-mod (2 ^ f.width))))
-          ∙ omega arith
+      nothing : minus size 0 0 ≡ 0
+      nothing = ap (λ m. m % 2 ^ size) (let e : 0 + (2 ^ size - 0) ≡ 2 ^ size = omega arith in e) ∙ mod_self (2 ^ size)
 
-      nothing : 0 + (2 ^ size - 0 * 2 ^ 1 % 2 ^ size) ≡ 2 ^ size
-      nothing = let z : 0 * 2 ^ 1 % 2 ^ size ≡ 0 = zero-mod (2 ^ size) in omega (arith, z)
+      and-none : (b : Bool) → (b && false) ≡ false
+      and-none true = refl
+      and-none false = refl
 
-  pub later-after : (i k : ℕ) → k < n * f.width → has_bit (later size f (2 ^ i)) k ≡ nat_lt (i / f.width) (k / f.width)
-  later-after i k l = at (cases_lt i all)
+      no-ends : ends_from size f (2 ^ i) ≡ 0
+      no-ends = zero_from_none (ends_from size f (2 ^ i)) (λ j. at j (cases_lt j all))
+        where
+          at : (j : ℕ) → (j < all) ⊎ (all ≤ j) → has_bit (ends_from size f (2 ^ i)) j ≡ false
+          at j (inl below) =
+              ends-members i j l (omega (arith, below, is.fits)) ∙ ap (λ b. has_bit f.high j && not b) (lt-ltb j i (omega (arith, below, above))) ∙ and-none (has_bit f.high j)
+          at j (inr beyond) = both_members f.high (minus size 0 (2 ^ i)) j ∙ ap (λ b. b && has_bit (minus size 0 (2 ^ i)) j) (has_bit-above f.high all j high-fits beyond)
+
+  pub later-after : (i k : ℕ) → 2 ^ i < 2 ^ size → k < n * f.width → has_bit (later size f (2 ^ i)) k ≡ nat_lt (i / f.width) (k / f.width)
+  later-after i k fits l = at (cases_lt i all)
     where
+      within : (i < size) ⊎ (size ≤ i) → i < size
+      within (inl below) = below
+      within (inr above) = let m : 2 ^ size ≤ 2 ^ i = pow-le-pow_right (omega arith) above in absurd (omega (arith, m, fits))
+
       at : (i < all) ⊎ (all ≤ i) → has_bit (later size f (2 ^ i)) k ≡ nat_lt (i / f.width) (k / f.width)
       at (inl below) =
           let place : i / f.width * f.width + i % f.width ≡ i = div-add-mod' i f.width in
           ap (λ m. has_bit (later size f (2 ^ m)) k) (sym place)
           ∙ later-members (i / f.width) (i % f.width) (div_below i f.width n is.some below) (mod_below i f.width is.some) k l
       at (inr above) =
-          later-none i k above l ∙ sym (le-ltb (i / f.width) (k / f.width) (div-mono (omega arith)))
+          later-none i k above (within (cases_lt i size)) ∙ sym (le-ltb (i / f.width) (k / f.width) (div-mono (omega arith)))
         where
           div-mono : k ≤ i → k / f.width ≤ i / f.width
           div-mono le =

@@ -89,13 +89,14 @@ impl<W: Word> Fields<W> {
             .or(whole.less(moved.or(moved.minus(first))))
     }
 
-    // All bits from the end of the port of this channel on.
+    // All bits above the end of the port of this channel.
     #[inline(always)]
     fn later_ports(&self, channel: W) -> W
         ensures { W.value result
             ≡ later W.bits (fields_by W.value self.now) (W.value channel) }
     {
-        W::none().minus(self.ends_of(channel).up(1))
+        let ends = self.high.and(W::none().minus(channel));
+        ends.xor(W::none().minus(ends))
     }
 
     // The highest bit of each port with a member.

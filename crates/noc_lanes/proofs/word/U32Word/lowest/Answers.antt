@@ -1,4 +1,4 @@
-use Rattle.std.proofs.Common.{◌≡◌, ◌-◌, ◌%◌, ◌^◌, ap, sym, ◌∙◌, arith, bit_and}
+use Rattle.std.proofs.Common.{◌≡◌, ◌%◌, ◌^◌, ap, sym, ◌∙◌, arith, bit_and}
 use Rattle.std.proofs.lemmas.Nat.{and_le_l}
 use Rattle.std.specs.Int.{w32}
 use Rattle.noc_sets.specs.Sets.{lowest}
