@@ -1,5 +1,5 @@
 -- Texts and sums over the numbers below a count.
-use Rattle.std.proofs.Common.{◌≡◌, ℕ, zero, suc, ◌+◌, ◌-◌, ◌<◌, Bool, List, [], ◌∷◌, ◌++◌, flat_map, Option, Some, None, Err, refl, sym, ap, ◌∙◌, arith, append_assoc, append-nil, zero-add, add-zero, sum, length, length-append, subst}
+use Rattle.std.proofs.Common.{◌≡◌, ℕ, zero, suc, ◌+◌, ◌-◌, ◌<◌, ◌≤◌, Bool, List, [], ◌∷◌, ◌++◌, flat_map, Option, Some, None, Err, refl, sym, ap, ◌∙◌, arith, append_assoc, append-nil, zero-add, add-zero, sum, length, length-append, subst}
 use Rattle.std.proofs.lemmas.Grind.{flat_map-append}
 use Rattle.std.proofs.lemmas.List.Elements.{filter_map-append}
 use Rattle.std.proofs.lemmas.List.Sums.{sum_by-append}
@@ -92,6 +92,23 @@ module _ (f : ℕ → List ℕ) (head : List ℕ) where
 
   pub long_more : (n written more : ℕ) → written ≡ length (head ++ flat_map f (below n)) → more ≡ length (f n) → written + more ≡ length (head ++ flat_map f (below (n + 1)))
   long_more n written more so_far next = omega (arith, so_far, next, length-append (head ++ flat_map f (below n)) (f n), ap length (text_more n))
+
+  -- the text of more numbers is no shorter
+  grows : (n more : ℕ) → length (head ++ flat_map f (below n)) ≤ length (head ++ flat_map f (below (n + more)))
+  grows n zero = rw (add-zero n) (omega arith)
+  grows n (suc more) =
+      let next : n + suc more ≡ n + more + 1 = omega arith in
+      rw next (omega (arith, grows n more, length-append (head ++ flat_map f (below (n + more))) (f (n + more)), ap length (text_more (n + more))))
+
+  -- where it was cut off at one of the numbers, the text up to this one is longer than what is out,
+  -- and the text before it is not
+  pub longer_here : (n written one : ℕ) → written ≡ length (head ++ flat_map f (below n)) → one < length (f n) → written + one < length (head ++ flat_map f (below (n + 1)))
+  longer_here n written one so_far inside = omega (arith, so_far, inside, length-append (head ++ flat_map f (below n)) (f n), ap length (text_more n))
+
+  pub no_longer_before : (n written k : ℕ) → written ≡ length (head ++ flat_map f (below n)) → k < n + 1 → length (head ++ flat_map f (below k)) ≤ written
+  no_longer_before n written k so_far before =
+      let parts : k + (n - k) ≡ n = omega arith in
+      omega (arith, so_far, grows k (n - k), ap (λ m. length (head ++ flat_map f (below m))) parts)
 
   module _ {S : Type 0} (contents : S → Option (List ℕ)) (failed : S → Bool) where
     pub took_more : (n : ℕ) (a m b : S) → Appends (contents a) (contents m) (head ++ flat_map f (below n)) → Appends (contents m) (contents b) (f n) → Appends (contents a) (contents b) (head ++ flat_map f (below (n + 1)))

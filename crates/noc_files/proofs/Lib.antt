@@ -1,6 +1,7 @@
 pub mod BelowLemmas
 pub mod ConfigurationFaultLemmas
 pub mod ConfigurationLemmas
+pub mod CutOffLemmas
 pub mod FaultLemmas
 pub mod FindingLemmas
 pub mod GreatestLemmas

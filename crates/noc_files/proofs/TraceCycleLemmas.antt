@@ -18,7 +18,7 @@ use Rattle.noc_view.specs.declared.finding.Finding.{Finding}
 use Rattle.noc_theory.specs.Lockstep.{findings_before, findings_in_cycle, finding_in}
 use Rattle.noc_theory.specs.Network.{Run, Setup, arriving, frozen_at, size}
 use Rattle.noc_files.specs.Channels.{is_input, lines_of_port, over_router}
-use Rattle.noc_files.specs.Trace.{HaveChannels, cycle_text, has_below, is_same, kept_at, kept_line, line_if_new, line_if_wanted, member_text, nothing_found, over_traced, traced_finding, told_at, told_before, trace_line, traced_line}
+use Rattle.noc_files.specs.Trace.{HaveChannels, cycle_text, has_below, is_same, kept_at, kept_line, line_if_new, line_if_wanted, member_text, nothing_found, over_traced, traced_finding, told_at, told_before, traced_line}
 use Rattle.noc_files.specs.declared.trace.Traced.{Traced}
 use Rattle.noc_files.proofs.BelowLemmas.{below_more, each_more, each_same}
 use Rattle.noc_files.proofs.ListLemmas.{slice_get-set_other, slice_get-set_same}

@@ -1,5 +1,5 @@
 -- The trace: what was found of each input channel in each cycle of a span.
-use Rattle.std.specs.Prelude.{◌≡◌, ℕ, ◌+◌, ◌-◌, ◌*◌, ◌/◌, ◌%◌, ◌==◌, Bool, true, false, ◌&&◌, ◌||◌, not, List, [], ◌∷◌, ◌++◌, codes, count_by, decimal, nat_eq, Option, Some, None, option_and_then, option_map, length, replicate, slice_get, unwrap_or, nat_lt, if◌then◌else◌}
+use Rattle.std.specs.Prelude.{◌≡◌, ℕ, ◌+◌, ◌-◌, ◌*◌, ◌/◌, ◌%◌, ◌==◌, ◌<◌, ◌≤◌, Bool, true, false, ◌&&◌, ◌||◌, not, List, [], ◌∷◌, ◌++◌, codes, count_by, decimal, nat_eq, Option, Some, None, option_and_then, option_map, length, replicate, slice_get, unwrap_or, nat_lt, if◌then◌else◌}
 use Rattle.std.specs.List.{flat_map, list_any}
 use Rattle.noc_topo.specs.Shape.{Grid, nodes, ports}
 use Rattle.noc_topo.specs.Lists.{below, is_some_of, tabulate}
@@ -151,6 +151,14 @@ cycle_text net traced first n = over_traced net.relation traced.router (traced_l
 -- the trace of a run from cycle `first` to its last one: the header, and the lines of each cycle
 abbrev pub trace_text : Run → ℕ → Traced → List ℕ
 trace_text u first traced = trace_header ++ flat_map (λ k. cycle_text u.net traced first (first + k)) (below (u.count - first))
+
+-- a trace that began with a run was cut off after so many bytes in the run after it: that of the
+-- fewest cycles more whose trace has more bytes
+pub record IsCutOff (before : Run) (traced : Traced) (written : ℕ) (after : Run) : Type 0 where
+  pub cycles : ℕ
+  pub run : after ≡ record before { count = before.count + cycles }
+  pub longer : written < length (trace_text after before.count traced)
+  pub fewest : (k : ℕ) → k < cycles → length (trace_text (record before { count = before.count + k }) before.count traced) ≤ written
 
 -- ---- what is kept of the cycle before
 

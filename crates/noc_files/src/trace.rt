@@ -12,7 +12,7 @@ ghost use Rattle.noc_files.specs.Channels.{AreInputs};
 ghost use Rattle.noc_files.specs.Findings.{found_line};
 ghost use Rattle.noc_files.specs.Ports.{name_of_port};
 ghost use Rattle.noc_files.specs.Stalls.{channel_counts};
-ghost use Rattle.noc_files.specs.Trace.{HaveChannels, has_below, finds_empty, is_asking, is_same, is_wanted, kept_at, kept_line, member_text, nothing_found, over_traced, permitted_text, permitted_to, said_by_both, set_text, traced_finding, told_counts, told_text, trace_line, trace_text, traced_line, way_text, when_text, whole};
+ghost use Rattle.noc_files.specs.Trace.{HaveChannels, IsCutOff, has_below, finds_empty, is_asking, is_same, is_wanted, kept_at, kept_line, member_text, nothing_found, over_traced, permitted_text, permitted_to, said_by_both, set_text, traced_finding, told_counts, told_text, trace_line, trace_text, traced_line, way_text, when_text, whole};
 ghost use Rattle.noc_files.specs.Labels.{AreLabels, label_text};
 ghost use Rattle.noc_files.specs.Writing.{Puts, Wrote, comma, taken, text_of_pieces, line_end};
 ghost use Rattle.noc_files.specs.declared.page.TheConstants.{PAGE};
@@ -444,7 +444,9 @@ fn put_cycle<W: Sink>(
 /// one if this tells something else of the channel than was told before, and if lines with its
 /// verdict are written. What was told before is, in a trace of changes, what the cycle before told,
 /// if the trace has it; in other traces it is nothing. The router exists. The lines of a cycle are
-/// handed on before the next one. It stays a call, so that its callers need no stack for a page.
+/// handed on before the next one. Where writing fails, the network has run the cycles whose lines
+/// went out, and the one whose lines did not. It stays a call, so that its callers need no stack
+/// for a page.
 #[inline(never)]
 pub fn write_trace<W: Sink>(
     network: &mut Network,
@@ -456,6 +458,7 @@ pub fn write_trace<W: Sink>(
     requires router { IfSome trace.0.router (λ router. router < nodes network.old.net.relation.grid) }
     requires opening { trace.1 ≡ nothing_found network.old.net trace.0.changes }
     ensures run { IfOk result (λ _. network.new ≡ record network.old { count = network.old.count + cycles }) }
+    ensures cut { IfErr result (λ fault. IsCutOff network.old trace.0 fault.written network.new) }
     ensures text { Wrote W.contents W.has_failed sink.old sink.new (trace_text (record network.old { count = network.old.count + cycles }) network.old.count trace.0) result }
 {
     let header = "cycle,router,port,vc,verdict,packet,out,permitted\n";

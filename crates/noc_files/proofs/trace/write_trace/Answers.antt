@@ -8,6 +8,7 @@ use Rattle.noc_theory.specs.Network.{Run, Setup}
 use Rattle.noc_files.specs.Trace.{cycle_text, trace_header}
 use Rattle.noc_files.specs.Writing.{Wrote}
 use Rattle.noc_files.proofs.BelowLemmas.{fault_at_number, long_more, took_more}
+use Rattle.noc_files.proofs.CutOffLemmas.{cut_in_cycle, cut_in_header}
 use Rattle.noc_files.proofs.PageLemmas.{added_none}
 use Rattle.noc_files.proofs.SinkLemmas.{Appends-keeps, fault_front}
 use Rattle.noc_files.proofs.TraceCycleLemmas.{IsKept, cycle_written, next_kept, opening_kept}
@@ -22,6 +23,15 @@ returns-in_err-put_all-clause-text g c =
     let e = c.in_err-put_all.field-0.0 in
     let header : Wrote w.contents w.has_failed c.args.sink.now c.put_all.new.sink trace_header (Err e) = rw c.as_bytes.ensures.value at c.in_err-put_all.ensures in
     rw (p.1, p.2) (fault_front w.contents w.has_failed c.args.sink.now c.put_all.new.sink trace_header (flat_map (λ (k : ℕ). cycle_text u.net c.args.trace.0 u.count (u.count + k)) (below (u.count + c.args.cycles - u.count))) e header)
+
+pub returns-in_err-put_all-clause-cut : goal.returns-in_err-put_all-clause-cut
+unfolding trace_header
+returns-in_err-put_all-clause-cut g c =
+    let p = err_from_is_err_and c.from_residual.result c.from_residual.ensures.1 in
+    let w = g.W.Sink in
+    let e = c.in_err-put_all.field-0.0 in
+    let header : Wrote w.contents w.has_failed c.args.sink.now c.put_all.new.sink trace_header (Err e) = rw c.as_bytes.ensures.value at c.in_err-put_all.ensures in
+    rw (p.1, p.2) (cut_in_header c.args.network.now c.args.trace.0 e.written header.0)
 
 pub loop-step-init : goal.loop-step-init
 unfolding trace_header
@@ -66,6 +76,23 @@ returns-in-Err-clause-text g c =
     let e = c.in-Err.fault in
     let next = subst (λ (t : List ℕ). Wrote w.contents w.has_failed c.loop-step.sink c.put_cycle.new.sink t (Err e)) is c.in-Err.ensures.puts in
     fault_at_number (λ (k : ℕ). cycle_text net traced first (first + k)) trace_header w.contents w.has_failed step (first + c.args.cycles - first) c.loop-step.written c.args.sink.now c.loop-step.sink c.put_cycle.new.sink e c.after.result inside inv.took inv.counted next c.after.ensures
+
+pub returns-in-Err-clause-cut : goal.returns-in-Err-clause-cut
+returns-in-Err-clause-cut g c =
+    let w = g.W.Sink in
+    let net = c.args.network.now.net in
+    let traced = c.args.trace.0 in
+    let first = c.args.network.now.count in
+    let inv = c.loop-step.invariant in
+    let step = c.loop-step.step in
+    let same : c.cycle.new.self.net ≡ net = ap (λ (u : Run). u.net) c.cycle.ensures.value ∙ inv.net in
+    let more : c.cycle.new.self.count ≡ c.loop-step.network.count + 1 = ap (λ (u : Run). u.count) c.cycle.ensures.value in
+    let so_far : c.loop-step.network.count ≡ first + step = inv.count in
+    let at : c.count-first.result + step ≡ first + step = ap (λ k. k + step) c.count-first.ensures.value in
+    let is = cycle_written c.cycle.new.self net c.loop-step.trace.0 traced c.loop-step.trace.1 first (first + step) (c.count-first.result + step) same inv.traced at (omega (arith, more, so_far)) inv.kept c.requires.router in
+    let e = c.in-Err.fault in
+    let next = subst (λ (t : List ℕ). Wrote w.contents w.has_failed c.loop-step.sink c.put_cycle.new.sink t (Err e)) is c.in-Err.ensures.puts in
+    cut_in_cycle c.args.network.now traced c.cycle.new.self c.after.result.written c.loop-step.written e.written step same (omega (arith, more, so_far)) inv.counted next.0 c.after.ensures
 
 pub loop-step-preserved : goal.loop-step-preserved
 loop-step-preserved g c =
