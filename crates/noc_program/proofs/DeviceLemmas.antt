@@ -1,5 +1,5 @@
 -- How an answer ends that goes out through a buffer, and what the device then holds.
-use Rattle.std.proofs.Common.{◌≡◌, ◌∙◌, ℕ, ◌++◌, Bool, false, List, [], Option, Some, None, Result, Ok, Err, ap, inl, inr, refl, subst, sym}
+use Rattle.std.proofs.Common.{◌≡◌, ◌∙◌, ℕ, ◌++◌, Bool, false, List, [], Option, Some, None, Result, Ok, Err, ap, refl, subst, sym}
 use Rattle.std.specs.Prelude.{IsErr, drop, take}
 use Rattle.std.specs.Io.KnownBytes.{Appends, Keeps, append_known}
 use Rattle.std.proofs.lemmas.List.{append_assoc, append-nil, take-append-drop}
@@ -9,8 +9,8 @@ use Rattle.noc_faults.specs.declared.fault.Fault.{Fault}
 use Rattle.noc_faults.specs.declared.fault.Fault.TheVariants as fault
 use Rattle.noc_answers.specs.declared.request.Request.{Request}
 use Rattle.noc_faults.specs.declared.status.Status.{Status}
-use Rattle.noc_answers.specs.Answer.{Asks, FirstFault, ToldFault}
-use Rattle.noc_program.specs.Ending.{AreFrontOf, EndsAs, IsOnDevice, IsUntouched}
+use Rattle.noc_answers.specs.Answer.{Asks, FirstFault}
+use Rattle.noc_program.specs.Ending.{AreFrontOf, EndsAs, IsOnDevice}
 
 -- what was put behind the known bytes of a device is on it, where the buffer is empty
 whole : (old new through : Option (List ℕ)) (text buffer : List ℕ) → Appends (append_known old []) through text → Keeps through (append_known new buffer) → buffer ≡ []
@@ -54,7 +54,7 @@ unchanged IsOut taken (fault.Write f) end early same = cc
 module _ {W S : Type 0} (contents : W → Option (List ℕ)) (seen : S → Option (List ℕ)) (failed : S → Bool) (workers taken : ℕ) (r : Request)
     (before after : W) (buffer : List ℕ) (first last : S) where
   abbrev Told : Result Status Fault → Type 0
-  Told = Ends workers (IsOnDevice contents before (Some after)) (IsUntouched before (Some after)) (Asks r) (ToldFault r)
+  Told = Ends workers (IsOnDevice contents before after) (after ≡ before) (Asks r) (FirstFault r)
 
   -- the fault that is told instead
   told_as : (f g : Fault) → g ≡ f → Told (Err f) → Told (Err g)
@@ -73,7 +73,7 @@ module _ {W S : Type 0} (contents : W → Option (List ℕ)) (seen : S → Optio
       (cut_off asks (front (contents before) (contents after) (seen last) (take f.written text) (drop f.written text) text buffer (take-append-drop f.written text)
       (subst (λ known. Appends known (seen last) (take f.written text)) opens wrote.1) keeps))
   told answered (Ok end) (unstarted none many lost asks) a opens keeps still = absurd a
-  told answered (Err end) (unstarted none many lost asks) a opens keeps still = told_as _ end a (unstarted (inr (ap Some (still refl none))) many lost asks)
+  told answered (Err end) (unstarted none many lost asks) a opens keeps still = told_as _ end a (unstarted (still refl none) many lost asks)
   told answered (Ok end) (at_fault none refuses) a opens keeps still = absurd a
   told answered (Err end) (at_fault {f = f} none refuses) a opens keeps still =
-      told_as f end (unchanged (buffer ≡ []) taken f end refuses.0 a) (at_fault (inr (ap Some (still refl none))) (refuses.0, inl refuses.1))
+      told_as f end (unchanged (buffer ≡ []) taken f end refuses.0 a) (at_fault (still refl none) refuses)

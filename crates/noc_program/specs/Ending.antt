@@ -23,14 +23,9 @@ AreFrontOf (Some xs) None text = ⊥
 AreFrontOf (Some xs) (Some ys) text = (rest : List ℕ) × (ys ++ rest ≡ xs ++ text)
 
 -- a device has the whole text, or, where writing failed, a front of it
-abbrev pub IsOnDevice : {W : Type 0} → (W → Option (List ℕ)) → W → Option W → List ℕ → Result (Unit {0}) WriteFault → Type 0
-IsOnDevice contents before None text written = ⊥
-IsOnDevice contents before (Some after) text (Ok done) = Appends (contents before) (contents after) text
-IsOnDevice contents before (Some after) text (Err fault) = AreFrontOf (contents before) (contents after) text
-
--- a device is as it was, or was given up before anything was written
-abbrev pub IsUntouched : {W : Type 0} → W → Option W → Type 0
-IsUntouched before after = (after ≡ None) ⊎ (after ≡ Some before)
+abbrev pub IsOnDevice : {W : Type 0} → (W → Option (List ℕ)) → W → W → List ℕ → Result (Unit {0}) WriteFault → Type 0
+IsOnDevice contents before after text (Ok done) = Appends (contents before) (contents after) text
+IsOnDevice contents before after text (Err fault) = AreFrontOf (contents before) (contents after) text
 
 -- the program ends with a status of docs/FORMATS.md
 abbrev pub IsExitStatus : ℕ → Type 0

@@ -1,12 +1,12 @@
 //! The way of an answer onto a device.
 
-ghost use Rattle.std.specs.Prelude.{◌≡◌, [], IsErr};
+ghost use Rattle.std.specs.Prelude.{◌≡◌, [], Err, IfNone, IfSome, IsErr};
 ghost use Rattle.std.specs.Io.Buffered.{writer_buffer, writer_contents, writer_inner};
 ghost use Rattle.std.specs.Io.KnownBytes.{Keeps};
 ghost use Rattle.noc_answers.specs.Ending.{Ends};
-ghost use Rattle.noc_answers.specs.Answer.{Asks, ToldFault};
+ghost use Rattle.noc_answers.specs.Answer.{Asks, FirstFault};
 ghost use Rattle.noc_commands.specs.Workers.{HasWorkers, workers_of};
-ghost use Rattle.noc_program.specs.Ending.{EndsAs, IsOnDevice, IsUntouched};
+ghost use Rattle.noc_program.specs.Ending.{EndsAs, IsOnDevice};
 
 use crate::counted::Counted;
 use noc_answers::{Request, answer};
@@ -17,8 +17,9 @@ use std::io::{BufWriter, Write};
 use std::sync::Wait;
 use std::thread::Threads;
 
-/// Writes the answer to a device, through a buffer, and gives the device back: none where there is
-/// no memory for the buffer.
+/// Writes the answer to a device, through a buffer, and gives the device back. Only where there is no
+/// memory for the buffer it does not. Then nothing is written, and the fault is want of memory, told
+/// as that of the configuration.
 pub fn write_answer<R: Threads + Wait + Sync, W: Write + Drop>(
     rt: &R,
     alloc: Global,
@@ -26,7 +27,8 @@ pub fn write_answer<R: Threads + Wait + Sync, W: Write + Drop>(
     device: W,
 ) -> (Result<Status, Fault>, Option<W>)
     requires { HasWorkers request.now.command }
-    ensures { Ends (workers_of request.now.command) (IsOnDevice W.contents device result.1) (IsUntouched device result.1) (Asks request.now) (ToldFault request.now) result.0 }
+    ensures ends { IfSome result.1 (λ after. Ends (workers_of request.now.command) (IsOnDevice W.contents device after) (after ≡ device) (Asks request.now) (FirstFault request.now) result.0) }
+    ensures given_up { IfNone result.1 (result.0 ≡ Err (Fault.Config InputFault.Memory)) }
 {
     let counted = Counted {
         writer: device,

@@ -1,16 +1,12 @@
-use Rattle.std.proofs.Common.{◌≡◌, ◌∙◌, ap, ap₂, inl, inr, refl, subst, sym}
+use Rattle.std.proofs.Common.{◌≡◌, ◌∙◌, ap, ap₂, subst, sym}
 use Rattle.std.specs.Io.Buffered.{writer_buffer, writer_contents, writer_inner}
 use Rattle.std.specs.Io.KnownBytes.{Keeps, append_known}
 use Rattle.noc_commands.specs.Workers.{workers_of}
-use Rattle.noc_answers.specs.Ending.{at_fault}
 use Rattle.noc_program.proofs.DeviceLemmas.{told}
 use Rattle.noc_program.proofs.device.write_answer.Goals as goal
 
-pub returns-in-Err : goal.returns-in-Err
-returns-in-Err g c = at_fault (inl refl) (refl, inr refl)
-
-pub returns : goal.returns
-returns g c =
+pub returns-clause-ends : goal.returns-clause-ends
+returns-clause-ends g c =
     let contents = g.W.Write.contents in
     let start = ap (λ s. s.0) c.new-out.ensures in
     let opened = ap (λ d. d.writer) c.in-Ok.ensures.inner in
