@@ -1,5 +1,5 @@
 -- What is answered to a request: the text that is asked for and how it ended, or the first fault.
-use Rattle.std.specs.Prelude.{◌≡◌, ◌⊎◌, ℕ, ◌<◌, Bool, true, false, List, length, codes, is_some, Option, Some, None, Result, Ok, Err}
+use Rattle.std.specs.Prelude.{◌≡◌, ℕ, ◌<◌, Bool, true, false, List, length, codes, is_some, Option, Some, None, Result, Ok, Err}
 use Rattle.noc_route.specs.Routes.{Routes}
 use Rattle.noc_net.specs.Limit.{are_all_out}
 use Rattle.noc_theory.specs.Network.{Run, Setup, state_at}
@@ -95,8 +95,3 @@ abbrev pub AsksForArrivals : Request → List ℕ → Type 0
 AsksForArrivals r text =
     (a : Asked) × (report : Report) × (run : Run) × ReadsAs r a × (report_of a.command ≡ Some report) × AsksForRun a run × (text ≡ report_text report run)
     × (are_all_out run.net (state_at run.net run.count) ≡ true)
-
--- the fault that is told: the first one, or want of memory for what is to be written, told as
--- that of the configuration
-abbrev pub ToldFault : Request → Fault → Type 0
-ToldFault r f = FirstFault r f ⊎ (f ≡ fault.Config input.Memory)
