@@ -1,14 +1,13 @@
 -- How an answer ends that was written through a buffer, and the program with it.
-use Rattle.std.specs.Prelude.{◌≡◌, ◌⊎◌, ◌≤◌, ℕ, ◌++◌, List, Option, Some, None, Result, Ok, Err, ⊤}
+use Rattle.std.specs.Prelude.{◌≡◌, ◌⊎◌, ◌≤◌, ℕ, List, Option, Result, Ok, Err, take}
 use Rattle.std.specs.Io.KnownBytes.{Appends}
 use Rattle.noc_files.specs.declared.writing.WriteFault.{WriteFault}
 use Rattle.noc_faults.specs.declared.fault.Fault.{Fault}
 use Rattle.noc_faults.specs.declared.fault.Fault.TheVariants.{Write}
 use Rattle.noc_faults.specs.declared.status.Status.{Status}
 
--- An answer keeps its status only if all of it is out. A fault of writing has the number
--- `taken`, which is counted below the buffer; no clause says that the device took so many
--- bytes. Each other fault stays.
+-- An answer keeps its status only if all of it is out. A fault of writing has the number of bytes
+-- that the device took. Each other fault stays.
 abbrev pub EndsAs : Type 0 → ℕ → Result Status Fault → Result Status Fault → Type 0
 EndsAs IsOut taken (Ok status) (Ok end) = (end ≡ status) × IsOut
 EndsAs IsOut taken (Err fault) (Ok end) = ⊥
@@ -16,16 +15,10 @@ EndsAs IsOut taken (Ok status) (Err end) = end ≡ Write (record { written = tak
 EndsAs IsOut taken (Err (Write fault)) (Err end) = end ≡ Write (record { written = taken })
 EndsAs IsOut taken (Err fault) (Err end) = end ≡ fault
 
--- known bytes are now a front of what they were with a text behind
-abbrev pub AreFrontOf : Option (List ℕ) → Option (List ℕ) → List ℕ → Type 0
-AreFrontOf None new text = ⊤
-AreFrontOf (Some xs) None text = ⊥
-AreFrontOf (Some xs) (Some ys) text = (rest : List ℕ) × (ys ++ rest ≡ xs ++ text)
-
--- a device has the whole text, or, where writing failed, a front of it
+-- a device has the whole text, or, where writing failed, just the bytes that the fault counts
 abbrev pub IsOnDevice : {W : Type 0} → (W → Option (List ℕ)) → W → W → List ℕ → Result (Unit {0}) WriteFault → Type 0
 IsOnDevice contents before after text (Ok done) = Appends (contents before) (contents after) text
-IsOnDevice contents before after text (Err fault) = AreFrontOf (contents before) (contents after) text
+IsOnDevice contents before after text (Err fault) = Appends (contents before) (contents after) (take fault.written text)
 
 -- the program ends with a status of docs/FORMATS.md
 abbrev pub IsExitStatus : ℕ → Type 0

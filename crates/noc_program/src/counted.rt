@@ -1,5 +1,7 @@
 //! A writer that counts what the device below it takes.
 
+ghost use Rattle.noc_program.specs.Counted.{counted_contents};
+
 use std::io::{self, Write};
 
 // A writer, and how many bytes it has taken.
@@ -10,11 +12,16 @@ pub(crate) struct Counted<W> {
 }
 
 impl<W: Write> Write for Counted<W> {
-    ghost contents = { λ s. W.contents s.writer };
+    ghost contents = { counted_contents W.contents };
 
+    // Nothing is taken that cannot be counted.
     fn write(&mut self, bytes: &[u8]) -> io::Result<usize> {
+        let room = u64::MAX - self.taken;
+        if room < bytes.len() as u64 {
+            return Ok(0);
+        }
         let count = self.writer.write(bytes)?;
-        self.taken = self.taken.saturating_add(count as u64);
+        self.taken += count as u64;
         Ok(count)
     }
 

@@ -6,6 +6,7 @@ ghost use Rattle.std.specs.Io.KnownBytes.{Keeps};
 ghost use Rattle.noc_answers.specs.Ending.{Ends};
 ghost use Rattle.noc_answers.specs.Answer.{Asks, FirstFault};
 ghost use Rattle.noc_commands.specs.Workers.{HasWorkers, workers_of};
+ghost use Rattle.noc_program.specs.Counted.{counted_contents};
 ghost use Rattle.noc_program.specs.Ending.{EndsAs, IsOnDevice};
 
 use crate::counted::Counted;
@@ -48,13 +49,13 @@ pub fn write_answer<R: Threads + Wait + Sync, W: Write + Drop>(
 }
 
 // How an answer ends: a whole one goes out to its last byte, and a fault of writing has the number
-// that was counted below the buffer.
+// of bytes that were counted below the buffer.
 fn finished<W: Write + Drop>(
     answered: Result<Status, Fault>,
     writer: &mut BufWriter<Counted<W>>,
 ) -> Result<Status, Fault>
     ensures ends { EndsAs (writer_buffer writer.new ≡ []) (writer_inner writer.new).taken answered result }
-    ensures bytes { Keeps (writer_contents (λ device. W.contents device.writer) writer.old) (writer_contents (λ device. W.contents device.writer) writer.new) }
+    ensures bytes { Keeps (writer_contents (counted_contents W.contents) writer.old) (writer_contents (counted_contents W.contents) writer.new) }
     ensures still { IsErr answered → writer.new ≡ writer.old }
 {
     match answered {
