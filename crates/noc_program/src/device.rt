@@ -18,9 +18,9 @@ use std::io::{BufWriter, Write};
 use std::sync::Wait;
 use std::thread::Threads;
 
-/// Writes the answer to a device, through a buffer, and gives the device back. Only where there is no
-/// memory for the buffer it does not. Then nothing is written, and the fault is want of memory, told
-/// as that of the configuration.
+/// Writes the answer to a device, through a buffer, and gives the device back. It is not given back
+/// only where there is no memory for the buffer: then nothing is written, and the fault is want of
+/// memory, told as that of the configuration.
 pub fn write_answer<R: Threads + Wait + Sync, W: Write + Drop>(
     rt: &R,
     alloc: Global,
