@@ -42,11 +42,12 @@ STEP = 15
 # The seconds that each crate takes by itself on four processors. Only their shares count. bench/crate_seconds.py makes
 # them from the log of a build.
 SECONDS = {
-    "noc_topo": 33, "noc_packet": 33, "noc_ring": 37, "noc_route": 100, "noc_rank": 222, "noc_alloc": 73, "noc_vc": 29,
-    "noc_view": 18, "noc_sets": 12, "noc_router": 350, "noc_theory": 108, "noc_theory_bits": 40, "noc_lanes": 68,
-    "noc_blocks": 124, "noc_turns": 47, "noc_tallies": 42, "noc_opening": 57, "noc_findings": 74,
-    "noc_theory_blocks": 15, "noc_wires": 75, "noc_rows": 189, "noc_net": 104, "noc_commands": 46, "noc_files": 259,
-    "noc_tiles": 243, "noc_cli": 223, "noc_faults": 37, "noc_answers": 80, "noc_program": 56, "noc": 115,
+    "noc_topo": 34, "noc_packet": 35, "noc_waiting": 16, "noc_ring": 37, "noc_route": 96, "noc_rank": 216,
+    "noc_alloc": 72, "noc_vc": 25, "noc_view": 14, "noc_sets": 11, "noc_router": 317, "noc_theory": 102,
+    "noc_theory_bits": 34, "noc_lanes": 70, "noc_blocks": 102, "noc_turns": 109, "noc_tallies": 96, "noc_opening": 68,
+    "noc_findings": 104, "noc_theory_blocks": 16, "noc_wires": 88, "noc_rows": 360, "noc_net": 89, "noc_commands": 47,
+    "noc_files": 272, "noc_tiles": 234, "noc_cli": 193, "noc_faults": 27, "noc_answers": 64, "noc_program": 68,
+    "noc": 160,
 }
 
 
