@@ -11,7 +11,7 @@ mod state;
 mod work;
 
 pub use firsts::{First, Starts};
-pub use near::near_of;
+pub use near::{near_of, near_router};
 pub use pattern::pattern_of;
 pub use sides::sides_of;
 pub use starts::all_starts;

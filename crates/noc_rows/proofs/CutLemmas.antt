@@ -1,13 +1,13 @@
 -- A network cut into tiles: their blocks, and the rings between them.
 use Rattle.std.proofs.Common.{◌≡◌, ◌≢◌, ℕ, ◌+◌, ◌*◌, ◌/◌, ◌^◌, ◌<◌, ◌≤◌, Bool, true, false, List, [], ◌∷◌, ◌++◌, Option, None, Some, length, set as write, bit_and, bit_or, ap, ap₂, sym, ◌∙◌, subst, refl, arith, inl, inr}
-use Rattle.std.specs.Prelude.{◌⊎◌, ◌&&◌, ◌||◌, nat_eq, nat_lt, not, slice_get, slice_index}
+use Rattle.std.specs.Prelude.{◌⊎◌, ◌&&◌, ◌||◌, nat_eq, nat_lt, not, slice_get}
 use prog.Memory.{pad, up}
 use Rattle.std.proofs.Math.Nat.{div-lt_iff_lt-mul, mul_comm, mul-lt-mul_of_pos_right}
 use Rattle.std.proofs.lemmas.Bool.{and_parts, cases_eq, cases_lt, eq-eqb, eqb-true, false≢true, le-ltb, lt-ltb, ltb-true, ne_eqb, true≢false}
 use Rattle.std.proofs.lemmas.List.{length-set, map-append}
 use Rattle.std.proofs.lemmas.Option.{slice_get_within}
-use Rattle.noc_topo.specs.Shape.{neighbour, nodes}
-use Rattle.noc_topo.proofs.LinkLemmas.{get_or-past, link_back}
+use Rattle.noc_topo.specs.Shape.{Grid, neighbour, nodes}
+use Rattle.noc_topo.proofs.LinkLemmas.{link_back}
 use Rattle.noc_packet.specs.Set.{IsLeast, has_bit}
 use Rattle.noc_packet.proofs.SetLemmas.{both_members, either_members, has_bit-zero}
 use Rattle.noc_sets.specs.Sets.{less as without, lowest}
@@ -16,12 +16,12 @@ use Rattle.noc_blocks.proofs.LoopLemmas.{left-members}
 use Rattle.noc_theory.specs.Good.{IsGoodSetup}
 use Rattle.noc_turns.specs.declared.outlook.Outlook.{Outlook}
 use Rattle.noc_wires.specs.Waking.{has_moved, moves_or_not}
-use Rattle.noc_rows.specs.Cuts.{AreBlocksOf, AreCut, AreNearIn, AreNew, HasRoused, IsNew, MeetsMore, tile_of}
+use Rattle.noc_rows.specs.Cuts.{AreBlocksOf, AreCut, AreNew, HasBlocks, HasRoused, IsNew, MeetsMore, tile_of}
 use Rattle.noc_rows.specs.Mails.{alone}
 use Rattle.noc_rows.specs.Own.{IsIn, ShowsIn}
 use Rattle.noc_rows.specs.Rounds.{Start}
 use Rattle.noc_rows.specs.Shows.{ShowsAt}
-use Rattle.noc_rows.specs.Tiles.{AreBlocks, AreReady, HasBlock, IsReadyPost, IsTileAt, near_in, nears_in}
+use Rattle.noc_rows.specs.Tiles.{AreReady, AreShares, HasShare, IsReadyPost, IsTileAt, near_in, nears_in}
 use Rattle.noc_rows.specs.declared.network.Network.{Network}
 use Rattle.noc_rows.specs.declared.post.Post.{Post}
 use Rattle.noc_rows.specs.declared.tile.Tile.{Tile}
@@ -68,61 +68,67 @@ module _ (test : ℕ → Bool) where
 pub none-in : (a k : ℕ) → a ≡ 0 → has_bit a k ≡ true → ⊥
 none-in a k none e = false≢true (sym (has_bit-zero k) ∙ ap (λ x. has_bit x k) (sym none) ∙ e)
 
--- ---- the own ones among the blocks below n from which links lead to others
-pub record AreNearBelow (near : List ℕ) (own others n found : ℕ) : Type 0 where
-  pub within : (c : ℕ) → has_bit found c ≡ true → has_bit own c ≡ true
-  pub all : (b c : ℕ) → c < n → has_bit own c ≡ true → has_bit others b ≡ true → has_bit (slice_index near c) b ≡ true → has_bit found c ≡ true
+-- ---- the shares below n of own blocks from which links lead to others
+pub record AreNearBelow (g : Grid) (own others n found : ℕ) : Type 0 where
+  pub within : (h : ℕ) → has_bit found h ≡ true → has_bit own (h / 2) ≡ true
+  pub all : (s q r port : ℕ) → s / 16 < n → s < nodes g → neighbour g s q ≡ Some (r, port) → has_bit others (r / 32) ≡ true → has_bit own (s / 32) ≡ true → has_bit found (s / 16) ≡ true
 
-module _ (near : List ℕ) (own others : ℕ) where
-  pub near-none : AreNearBelow near own others 0 0
+module _ (g : Grid) (own others : ℕ) where
+  pub near-none : AreNearBelow g own others 0 0
   near-none = record {
-    within = λ c e. absurd (false≢true (sym (has_bit-zero c) ∙ e));
-    all = λ b c l. absurd (omega (arith, l));
+    within = λ h e. absurd (false≢true (sym (has_bit-zero h) ∙ e));
+    all = λ s q r port l. absurd (omega (arith, l));
   }
 
-  pub near-next : (n found new : ℕ) → has_bit own n ≡ true → new ≡ bit_or found (2 ^ n) → AreNearBelow near own others n found → AreNearBelow near own others (n + 1) new
+  pub near-next : (n found new : ℕ) → has_bit own (n / 2) ≡ true → new ≡ bit_or found (2 ^ n) → AreNearBelow g own others n found → AreNearBelow g own others (n + 1) new
   near-next n found new ours is are = record {
     within = λ c e. within c (or-cases (has_bit found c) (has_bit (2 ^ n) c) (sym (members c) ∙ e));
-    all = λ b c l e f h. members c ∙ all b c l e f h (cases_eq c n);
+    all = λ s q r port l u e f h. members (s / 16) ∙ all s q r port l u e f h (cases_eq (s / 16) n);
   }
     where
       members : (c : ℕ) → has_bit new c ≡ (has_bit found c || has_bit (2 ^ n) c)
       members c = ap (λ x. has_bit x c) is ∙ either_members found (2 ^ n) c
 
-      within : (c : ℕ) → (has_bit found c ≡ true) ⊎ (has_bit (2 ^ n) c ≡ true) → has_bit own c ≡ true
+      within : (c : ℕ) → (has_bit found c ≡ true) ⊎ (has_bit (2 ^ n) c ≡ true) → has_bit own (c / 2) ≡ true
       within c (inl e) = are.within c e
-      within c (inr e) = ap (has_bit own) (eqb-true c n (sym (power-members n c) ∙ e)) ∙ ours
+      within c (inr e) = ap (λ h. has_bit own (h / 2)) (eqb-true c n (sym (power-members n c) ∙ e)) ∙ ours
 
-      all : (b c : ℕ) → c < n + 1 → has_bit own c ≡ true → has_bit others b ≡ true → has_bit (slice_index near c) b ≡ true → (c ≡ n) ⊎ (c ≢ n) → (has_bit found c || has_bit (2 ^ n) c) ≡ true
-      all b c l e f h (inl same) = or-right (has_bit found c) (has_bit (2 ^ n) c) (power-members n c ∙ eq-eqb c n same)
-      all b c l e f h (inr other) = or-left (has_bit found c) (has_bit (2 ^ n) c) (are.all b c (omega (arith, l, other)) e f h)
+      all : (s q r port : ℕ) → s / 16 < n + 1 → s < nodes g → neighbour g s q ≡ Some (r, port) → has_bit others (r / 32) ≡ true → has_bit own (s / 32) ≡ true → (s / 16 ≡ n) ⊎ (s / 16 ≢ n) → (has_bit found (s / 16) || has_bit (2 ^ n) (s / 16)) ≡ true
+      all s q r port l u e f h (inl same) = or-right (has_bit found (s / 16)) (has_bit (2 ^ n) (s / 16)) (power-members n (s / 16) ∙ eq-eqb (s / 16) n same)
+      all s q r port l u e f h (inr other) = or-left (has_bit found (s / 16)) (has_bit (2 ^ n) (s / 16)) (are.all s q r port (omega (arith, l, other)) u e f h)
 
-  -- it is no own block, or no links lead from it to the others
-  pub near-past : (n found : ℕ) → ((b : ℕ) → has_bit own n ≡ true → has_bit others b ≡ true → has_bit (slice_index near n) b ≡ true → ⊥) → AreNearBelow near own others n found → AreNearBelow near own others (n + 1) found
+  -- it is of no own block, or no links lead from it to the others
+  pub near-past : (n found : ℕ) → ((s q r port : ℕ) → s / 16 ≡ n → s < nodes g → neighbour g s q ≡ Some (r, port) → has_bit others (r / 32) ≡ true → has_bit own (s / 32) ≡ true → ⊥) → AreNearBelow g own others n found → AreNearBelow g own others (n + 1) found
   near-past n found past are = record {
     within = are.within;
-    all = λ b c l e f h. all b c l e f h (cases_eq c n);
+    all = λ s q r port l u e f h. all s q r port l u e f h (cases_eq (s / 16) n);
   }
     where
-      all : (b c : ℕ) → c < n + 1 → has_bit own c ≡ true → has_bit others b ≡ true → has_bit (slice_index near c) b ≡ true → (c ≡ n) ⊎ (c ≢ n) → has_bit found c ≡ true
-      all b c l e f h (inl same) = absurd (past b (ap (has_bit own) (sym same) ∙ e) f (ap (λ x. has_bit (slice_index near x) b) (sym same) ∙ h))
-      all b c l e f h (inr other) = are.all b c (omega (arith, l, other)) e f h
+      all : (s q r port : ℕ) → s / 16 < n + 1 → s < nodes g → neighbour g s q ≡ Some (r, port) → has_bit others (r / 32) ≡ true → has_bit own (s / 32) ≡ true → (s / 16 ≡ n) ⊎ (s / 16 ≢ n) → has_bit found (s / 16) ≡ true
+      all s q r port l u e f h (inl same) = absurd (past s q r port same u e f h)
+      all s q r port l u e f h (inr other) = are.all s q r port (omega (arith, l, other)) u e f h
 
-  pub near-done : (n found : ℕ) → length near ≤ n → AreNearBelow near own others n found → (b c : ℕ) → has_bit own c ≡ true → has_bit others b ≡ true → has_bit (slice_index near c) b ≡ true → has_bit found c ≡ true
-  near-done n found all are b c e f h = by (cases_lt c n)
-    where
-      by : (c < n) ⊎ (n ≤ c) → has_bit found c ≡ true
-      by (inl l) = are.all b c l e f h
-      by (inr l) = absurd (none-in (slice_index near c) b (get_or-past near c (omega (arith, l, all))) h)
+  pub near-done : (n found : ℕ) → nodes g ≤ 256 → 16 ≤ n → AreNearBelow g own others n found → (s q r port : ℕ) → s < nodes g → neighbour g s q ≡ Some (r, port) → has_bit others (r / 32) ≡ true → has_bit own (s / 32) ≡ true → has_bit found (s / 16) ≡ true
+  near-done n found few all are s q r port u e f h = are.all s q r port (omega (arith, u, few, all)) u e f h
 
 pub none-common : (a b k : ℕ) → bit_and a b ≡ 0 → has_bit a k ≡ true → has_bit b k ≡ true → ⊥
 none-common a b k none e f = none-in (bit_and a b) k none (both_members a b k ∙ ap₂ (λ x y. x && y) e f)
 
+-- the routers of a share up to one, where links lead to these blocks from none before it nor from it
+pub none-so-far : (g : Grid) (others share lane : ℕ) → ((s q r port : ℕ) → s < nodes g → neighbour g s q ≡ Some (r, port) → has_bit others (r / 32) ≡ true → s / 16 ≡ share → s < share * 16 + lane → ⊥)
+    → ((q r port : ℕ) → share * 16 + lane < nodes g → neighbour g (share * 16 + lane) q ≡ Some (r, port) → has_bit others (r / 32) ≡ true → ⊥)
+    → (s q r port : ℕ) → s < nodes g → neighbour g s q ≡ Some (r, port) → has_bit others (r / 32) ≡ true → s / 16 ≡ share → s < share * 16 + (lane + 1) → ⊥
+none-so-far g others share lane before here s q r port l e f same low = next (cases_eq s (share * 16 + lane))
+  where
+    next : (s ≡ share * 16 + lane) ⊎ (s ≢ share * 16 + lane) → ⊥
+    next (inl is) = here q r port (subst (λ n. n < nodes g) is l) (subst (λ n. neighbour g n q ≡ Some (r, port)) is e) f
+    next (inr other) = before s q r port l e f same (omega (arith, low, other))
+
 -- ---- rings to one tile more
-has-kept : (xs : List ℕ) (x b : ℕ) → HasBlock xs b → HasBlock (xs ++ x ∷ []) b
+has-kept : (xs : List ℕ) (x b : ℕ) → HasShare xs b → HasShare (xs ++ x ∷ []) b
 has-kept xs x b (k, set, there, has) = (k, set, before-seam xs x k (slice_get_within xs k set there) ∙ there, has)
 
-has-last : (xs : List ℕ) (x b : ℕ) → has_bit x b ≡ true → HasBlock (xs ++ x ∷ []) b
+has-last : (xs : List ℕ) (x b : ℕ) → has_bit x b ≡ true → HasShare (xs ++ x ∷ []) b
 has-last xs x b has = (length xs, x, at-seam xs x, has)
 
 -- ---- one block after the other
@@ -147,8 +153,8 @@ after-in blocks after is b e = (and_parts (has_bit blocks b) (not (has_bit (lowe
 -- own blocks have met these blocks of another tile, but for some that are left
 pub record IsMeetingOnes {A : Type 0} (start : Start) (own ones left : ℕ) (old now : List (Post A)) : Type 0 where
   pub ready : AreReady start (has_bit own) 0 old → AreReady start (has_bit own) 0 now
-  pub kept : (b : ℕ) → HasBlock (nears_in old) b → HasBlock (nears_in now) b
-  pub met : (b : ℕ) → has_bit ones b ≡ true → (has_bit left b ≡ true) ⊎ HasBlock (nears_in now) b
+  pub kept : (b : ℕ) → HasShare (nears_in old) b → HasShare (nears_in now) b
+  pub met : (b : ℕ) → has_bit ones b ≡ true → (has_bit left b ≡ true) ⊎ HasShare (nears_in now) b
   pub part : (b : ℕ) → has_bit left b ≡ true → has_bit ones b ≡ true
 
 pub meets-none : {A : Type 0} (start : Start) (own ones : ℕ) (old : List (Post A)) → IsMeetingOnes start own ones ones old old
@@ -166,36 +172,36 @@ meets-next {A = A} start own ones left after first old now next post pushed is o
     sets : nears_in next ≡ nears_in now ++ near_in post ∷ []
     sets = ap (λ (xs : List (Post A)). nears_in xs) pushed ∙ map-append near_in now (post ∷ [])
 
-    more : (b : ℕ) → HasBlock (nears_in now) b → HasBlock (nears_in next) b
-    more b h = subst (λ xs. HasBlock xs b) (sym sets) (has-kept (nears_in now) (near_in post) b h)
+    more : (b : ℕ) → HasShare (nears_in now) b → HasShare (nears_in next) b
+    more b h = subst (λ xs. HasShare xs b) (sym sets) (has-kept (nears_in now) (near_in post) b h)
 
-    here : (b : ℕ) → (has_bit (alone first) b ≡ true) ⊎ (has_bit after b ≡ true) → (has_bit after b ≡ true) ⊎ HasBlock (nears_in next) b
-    here b (inl e) = inr (subst (λ xs. HasBlock xs b) (sym sets) (has-last (nears_in now) (near_in post) b (ap (λ x. has_bit x b) of ∙ e)))
+    here : (b : ℕ) → (has_bit (alone first) b ≡ true) ⊎ (has_bit after b ≡ true) → (has_bit after b ≡ true) ⊎ HasShare (nears_in next) b
+    here b (inl e) = inr (subst (λ xs. HasShare xs b) (sym sets) (has-last (nears_in now) (near_in post) b (ap (λ x. has_bit x b) of ∙ e)))
     here b (inr e) = inl e
 
-    met : (b : ℕ) → (has_bit left b ≡ true) ⊎ HasBlock (nears_in now) b → (has_bit after b ≡ true) ⊎ HasBlock (nears_in next) b
+    met : (b : ℕ) → (has_bit left b ≡ true) ⊎ HasShare (nears_in now) b → (has_bit after b ≡ true) ⊎ HasShare (nears_in next) b
     met b (inl e) = here b (first-or-after left after first least others b e)
     met b (inr h) = inr (more b h)
 
-pub meets-all : {A : Type 0} (start : Start) (near : List ℕ) (own other ones left : ℕ) (old now : List (Post A)) → left ≡ 0 → ((b c : ℕ) → has_bit own b ≡ true → has_bit other c ≡ true → has_bit (slice_index near c) b ≡ true → has_bit ones c ≡ true)
-    → IsMeetingOnes start own ones left old now → MeetsMore start near own other old now
-meets-all start near own other ones left old now none all meets = record {
+pub meets-all : {A : Type 0} (start : Start) (own other ones left : ℕ) (old now : List (Post A)) → left ≡ 0 → ((s q r port : ℕ) → s < nodes start.net.relation.grid → neighbour start.net.relation.grid s q ≡ Some (r, port) → has_bit own (r / 32) ≡ true → has_bit other (s / 32) ≡ true → has_bit ones (s / 16) ≡ true)
+    → IsMeetingOnes start own ones left old now → MeetsMore start own other old now
+meets-all start own other ones left old now none all meets = record {
   ready = meets.ready;
   kept = meets.kept;
-  more = λ b c e f h. done c (meets.met c (all b c e f h));
+  more = λ s q r port l e f h. done (s / 16) (meets.met (s / 16) (all s q r port l e f h));
 }
   where
-    done : (c : ℕ) → (has_bit left c ≡ true) ⊎ HasBlock (nears_in now) c → HasBlock (nears_in now) c
+    done : (c : ℕ) → (has_bit left c ≡ true) ⊎ HasShare (nears_in now) c → HasShare (nears_in now) c
     done c (inl e) = absurd (none-in left c none e)
     done c (inr h) = h
 
--- those of some own blocks are own ones, and no others
-pub are-ours : (start : Start) (own some : ℕ) → ((b : ℕ) → has_bit own b ≡ true → b < start.blocks) → ((b : ℕ) → has_bit some b ≡ true → has_bit own b ≡ true) → AreBlocks start (has_bit own) true some
-are-ours start own some few within b e = (within b e, few b (within b e))
+-- shares of own blocks are of these, and of no others
+pub are-ours : (start : Start) (own some : ℕ) → ((b : ℕ) → has_bit own b ≡ true → b < start.blocks) → ((h : ℕ) → has_bit some h ≡ true → has_bit own (h / 2) ≡ true) → AreShares start (has_bit own) true some
+are-ours start own some few within h e = (within h e, few (h / 2) (within h e))
 
-pub are-theirs : (start : Start) (own other some : ℕ) → ((b : ℕ) → has_bit other b ≡ true → b < start.blocks) → ((b : ℕ) → has_bit other b ≡ true → has_bit own b ≡ false) → ((b : ℕ) → has_bit some b ≡ true → has_bit other b ≡ true)
-    → AreBlocks start (has_bit own) false some
-are-theirs start own other some few apart within b e = (apart b (within b e), few b (within b e))
+pub are-theirs : (start : Start) (own other some : ℕ) → ((b : ℕ) → has_bit other b ≡ true → b < start.blocks) → ((b : ℕ) → has_bit other b ≡ true → has_bit own b ≡ false) → ((h : ℕ) → has_bit some h ≡ true → has_bit other (h / 2) ≡ true)
+    → AreShares start (has_bit own) false some
+are-theirs start own other some few apart within h e = (apart (h / 2) (within h e), few (h / 2) (within h e))
 
 pub apart-back : (own other : ℕ) → ((b : ℕ) → has_bit own b ≡ true → has_bit other b ≡ false) → (b : ℕ) → has_bit other b ≡ true → has_bit own b ≡ false
 apart-back own other apart b e = by (has_bit own b) refl
@@ -261,6 +267,10 @@ module _ (count blocks : ℕ) where
       let less : b * count < blocks * count = mul-lt-mul_of_pos_right l some in
       (div-lt_iff_lt-mul {k = blocks} {x = b * count} {y = count} (omega (arith, l))).1 (subst (λ n. b * count < n) (mul_comm blocks count) less)
 
+-- its routers are few
+pub few-nodes : (start : Start) → HasBlocks start → nodes start.net.relation.grid ≤ 256
+few-nodes start is = is.good.relation.table.grid.few_nodes
+
 -- ---- new tiles
 module _ {A : Type 0} (value : A → ℕ) (w : ℕ) (start : Start) (count : ℕ) where
   -- a tile that has no rings yet
@@ -295,13 +305,13 @@ module _ {A : Type 0} (value : A → ℕ) (w : ℕ) (start : Start) (count : ℕ
   }
 
   -- there is a block for each router
-  block-of : (near : List ℕ) (s : ℕ) → AreNearIn start near → s < nodes start.net.relation.grid → s / 32 < start.blocks
-  block-of near s is l = omega (arith, l, is.blocks)
+  block-of : (s : ℕ) → HasBlocks start → s < nodes start.net.relation.grid → s / 32 < start.blocks
+  block-of s is l = omega (arith, l, is.blocks)
 
   -- it has met tile m too
-  pub new-more : (near : List ℕ) (i m other : ℕ) (old new : Tile A) → AreNearIn start near → IsNew value w start count i m old → AreBlocksOf count start.blocks m other → (new.own ≡ old.own) × (new.network ≡ old.network)
-      → MeetsMore start near old.own other old.posts.items new.posts.items → IsNew value w start count i (m + 1) new
-  new-more near i m other old new sides is theirs same meets = record {
+  pub new-more : (i m other : ℕ) (old new : Tile A) → HasBlocks start → IsNew value w start count i m old → AreBlocksOf count start.blocks m other → (new.own ≡ old.own) × (new.network ≡ old.network)
+      → MeetsMore start old.own other old.posts.items new.posts.items → IsNew value w start count i (m + 1) new
+  new-more i m other old new sides is theirs same meets = record {
     own = λ b. ap (λ o. has_bit o b) same.0 ∙ is.own b;
     shows = subst (λ o. ShowsIn value w start.net (has_bit o) start.cycle new.network) (sym same.0) (subst (λ (x : Network A). ShowsIn value w start.net (has_bit old.own) start.cycle x) (sym same.1) is.shows);
     others = λ b l e. ap (λ (x : Network A). has_moved x.outlooks.items b) same.1 ∙ is.others b l (sym (ap (λ o. has_bit o b) same.0) ∙ e);
@@ -311,15 +321,15 @@ module _ {A : Type 0} (value : A → ℕ) (w : ℕ) (start : Start) (count : ℕ
   }
     where
       near-by : (r q s port : ℕ) → IsIn start.net (has_bit old.own) r → neighbour start.net.relation.grid r q ≡ Some (s, port) → has_bit old.own (s / 32) ≡ false → tile_of count start.blocks (s / 32) < m + 1
-          → (tile_of count start.blocks (s / 32) ≡ m) ⊎ (tile_of count start.blocks (s / 32) ≢ m) → HasBlock (nears_in new.posts.items) (s / 32)
+          → (tile_of count start.blocks (s / 32) ≡ m) ⊎ (tile_of count start.blocks (s / 32) ≢ m) → HasShare (nears_in new.posts.items) (s / 16)
       near-by r q s port inside e out l (inl here) =
           let back = link_back start.net.relation.grid r q s port sides.good.relation.table.grid inside.0 e in
-          meets.more (r / 32) (s / 32) inside.1 (is-of count start.blocks m other (s / 32) theirs (block-of near s sides back.node) here) (sides.near s port r q back.node back.back)
-      near-by r q s port inside e out l (inr past) = meets.kept (s / 32) (is.near r q s port inside e out (omega (arith, l, past)))
+          meets.more s port r q back.node back.back inside.1 (is-of count start.blocks m other (s / 32) theirs (block-of s sides back.node) here)
+      near-by r q s port inside e out l (inr past) = meets.kept (s / 16) (is.near r q s port inside e out (omega (arith, l, past)))
 
   -- and itself
-  pub new-self : (near : List ℕ) (i : ℕ) (one : Tile A) → AreNearIn start near → IsNew value w start count i i one → IsNew value w start count i (i + 1) one
-  new-self near i one sides is = record {
+  pub new-self : (i : ℕ) (one : Tile A) → HasBlocks start → IsNew value w start count i i one → IsNew value w start count i (i + 1) one
+  new-self i one sides is = record {
     own = is.own;
     shows = is.shows;
     others = is.others;
@@ -329,10 +339,10 @@ module _ {A : Type 0} (value : A → ℕ) (w : ℕ) (start : Start) (count : ℕ
   }
     where
       near-by : (r q s port : ℕ) → IsIn start.net (has_bit one.own) r → neighbour start.net.relation.grid r q ≡ Some (s, port) → has_bit one.own (s / 32) ≡ false → tile_of count start.blocks (s / 32) < i + 1
-          → (tile_of count start.blocks (s / 32) ≡ i) ⊎ (tile_of count start.blocks (s / 32) ≢ i) → HasBlock (nears_in one.posts.items) (s / 32)
+          → (tile_of count start.blocks (s / 32) ≡ i) ⊎ (tile_of count start.blocks (s / 32) ≢ i) → HasShare (nears_in one.posts.items) (s / 16)
       near-by r q s port inside e out l (inl here) =
           let back = link_back start.net.relation.grid r q s port sides.good.relation.table.grid inside.0 e in
-          absurd (false≢true (sym out ∙ is-of count start.blocks i one.own (s / 32) is.own (block-of near s sides back.node) here))
+          absurd (false≢true (sym out ∙ is-of count start.blocks i one.own (s / 32) is.own (block-of s sides back.node) here))
       near-by r q s port inside e out l (inr past) = is.near r q s port inside e out (omega (arith, l, past))
 
   -- ---- one new tile meets all
@@ -351,30 +361,30 @@ module _ {A : Type 0} (value : A → ℕ) (w : ℕ) (start : Start) (count : ℕ
     new = is;
   }
 
-  pub meeting-next : (near : List ℕ) (m k : ℕ) (tiles : List (Tile A)) (old new was is : Tile A) → AreNearIn start near → k < length tiles → slice_get tiles k ≡ Some old → AreMeeting m k tiles was
-      → (new.own ≡ old.own) × (new.network ≡ old.network) → (is.own ≡ was.own) × (is.network ≡ was.network) → MeetsMore start near old.own was.own old.posts.items new.posts.items → MeetsMore start near was.own old.own was.posts.items is.posts.items
+  pub meeting-next : (m k : ℕ) (tiles : List (Tile A)) (old new was is : Tile A) → HasBlocks start → k < length tiles → slice_get tiles k ≡ Some old → AreMeeting m k tiles was
+      → (new.own ≡ old.own) × (new.network ≡ old.network) → (is.own ≡ was.own) × (is.network ≡ was.network) → MeetsMore start old.own was.own old.posts.items new.posts.items → MeetsMore start was.own old.own was.posts.items is.posts.items
       → AreMeeting m (k + 1) (write tiles k new) is
-  meeting-next near m k tiles old new was is sides within there are here_stays there_stays here back = record {
+  meeting-next m k tiles old new was is sides within there are here_stays there_stays here back = record {
     many = length-set tiles k new ∙ are.many;
     met = λ i one l e. met i one l e (cases_eq i k);
     left = λ i one l e. are.left i one (omega (arith, l)) (sym (others tiles k i new (λ same. omega (arith, l, same))) ∙ e);
-    new = new-more near m k old.own was is sides are.new (are.left k old (omega arith) there).own there_stays back;
+    new = new-more m k old.own was is sides are.new (are.left k old (omega arith) there).own there_stays back;
   }
     where
       met : (i : ℕ) (one : Tile A) → i < k + 1 → slice_get (write tiles k new) i ≡ Some one → (i ≡ k) ⊎ (i ≢ k) → IsNew value w start count i (m + 1) one
       met i one l e (inl same) =
-          let grown : IsNew value w start count k (m + 1) new = new-more near k m was.own old new sides (are.left k old (omega arith) there) are.new.own here_stays here in
+          let grown : IsNew value w start count k (m + 1) new = new-more k m was.own old new sides (are.left k old (omega arith) there) are.new.own here_stays here in
           subst (λ n. IsNew value w start count n (m + 1) one) (sym same)
           (subst (IsNew value w start count k (m + 1)) (same-item new one (slice_get (write tiles k new) k) (written tiles k (length tiles) new refl within) (ap (slice_get (write tiles k new)) (sym same) ∙ e)) grown)
       met i one l e (inr other) = are.met i one (omega (arith, l, other)) (sym (others tiles k i new other) ∙ e)
 
-  pub meeting-done : (near : List ℕ) (m k : ℕ) (tiles : List (Tile A)) (tile : Tile A) → AreNearIn start near → k ≡ m → AreMeeting m k tiles tile → AreNew value w start count m (m + 1) tiles × IsNew value w start count m (m + 1) tile
-  meeting-done near m k tiles tile sides all are = (
+  pub meeting-done : (m k : ℕ) (tiles : List (Tile A)) (tile : Tile A) → HasBlocks start → k ≡ m → AreMeeting m k tiles tile → AreNew value w start count m (m + 1) tiles × IsNew value w start count m (m + 1) tile
+  meeting-done m k tiles tile sides all are = (
     record {
       many = are.many;
       each = λ i one e. are.met i one (let l = slice_get_within tiles i one e in let n = are.many in omega (arith, l, all, n)) e;
     },
-    new-self near m tile sides (subst (λ n. IsNew value w start count m n tile) all are.new),
+    new-self m tile sides (subst (λ n. IsNew value w start count m n tile) all are.new),
   )
 
   -- where they meet they are apart, and blocks of the network
@@ -388,16 +398,14 @@ module _ {A : Type 0} (value : A → ℕ) (w : ℕ) (start : Start) (count : ℕ
   there-in m k tiles was are b e = (of-is count start.blocks m was.own b are.new.own e).0
 
   -- ---- all tiles
-  pub near-in : (all : Network A) → IsGoodSetup start.net → ShowsAt value w start.net start.cycle all → start.blocks ≡ length all.plan.sides.items → AreNearIn start all.plan.near.items
-  near-in all good shows blocks = record {
+  pub has-blocks : (all : Network A) → IsGoodSetup start.net → ShowsAt value w start.net start.cycle all → start.blocks ≡ length all.plan.sides.items → HasBlocks start
+  has-blocks all good shows blocks = record {
     good = good;
-    few = subst (λ n. n ≤ 8) (sym shows.plan.near_are) shows.plan.few;
     blocks = subst (λ n. nodes start.net.relation.grid ≤ n * 32) (sym blocks) shows.plan.blocks;
-    near = shows.plan.near;
   }
 
-  at-start : (near : List ℕ) (i : ℕ) (one : Tile A) → AreNearIn start near → i < count → IsNew value w start count i count one → IsTileAt value w start 0 one
-  at-start near i one sides l is = record {
+  at-start : (i : ℕ) (one : Tile A) → HasBlocks start → i < count → IsNew value w start count i count one → IsTileAt value w start 0 one
+  at-start i one sides l is = record {
     shows = subst (λ n. ShowsIn value w start.net (has_bit one.own) n one.network) (omega arith) is.shows;
     left = λ m e. absurd (omega (arith, e));
     others = is.others;
@@ -406,14 +414,14 @@ module _ {A : Type 0} (value : A → ℕ) (w : ℕ) (start : Start) (count : ℕ
     posts = is.posts;
     near = λ r q s port inside e out.
         let back = link_back start.net.relation.grid r q s port sides.good.relation.table.grid inside.0 e in
-        is.near r q s port inside e out (tile-below count start.blocks (s / 32) (omega (arith, l)) (block-of near s sides back.node));
+        is.near r q s port inside e out (tile-below count start.blocks (s / 32) (omega (arith, l)) (block-of s sides back.node));
   }
 
-  pub are-cut : (near : List ℕ) (n : ℕ) (tiles : List (Tile A)) → AreNearIn start near → n ≡ count → AreNew value w start count n n tiles → AreCut value w start count tiles
-  are-cut near n tiles sides all are = record {
+  pub are-cut : (n : ℕ) (tiles : List (Tile A)) → HasBlocks start → n ≡ count → AreNew value w start count n n tiles → AreCut value w start count tiles
+  are-cut n tiles sides all are = record {
     many = are.many ∙ all;
     own = λ i one e. (are.each i one e).own;
-    at = λ i one e. at-start near i one sides (let l = slice_get_within tiles i one e in let m = are.many in omega (arith, l, all, m)) (subst (λ k. IsNew value w start count i k one) all (are.each i one e));
+    at = λ i one e. at-start i one sides (let l = slice_get_within tiles i one e in let m = are.many in omega (arith, l, all, m)) (subst (λ k. IsNew value w start count i k one) all (are.each i one e));
   }
 
 -- ---- a tile is larger than its network

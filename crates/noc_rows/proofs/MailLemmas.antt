@@ -1,6 +1,6 @@
 -- What own blocks of a network hear of the others in a cycle, by letters and mails.
-use Rattle.std.proofs.Common.{◌≡◌, ◌≢◌, ℕ, ◌+◌, ◌*◌, ◌/◌, ◌%◌, ◌<◌, ◌≤◌, ◌^◌, Bool, true, false, length, Option, Some, None, refl, ap, sym, ◌∙◌, subst, arith}
-use Rattle.std.specs.Prelude.{◌&&◌, ◌||◌, nat_eq, unwrap_or, if◌then◌else◌}
+use Rattle.std.proofs.Common.{◌≡◌, ◌≢◌, ℕ, ◌+◌, ◌*◌, ◌/◌, ◌%◌, ◌<◌, ◌^◌, Bool, true, false, length, Option, Some, None, refl, ap, sym, ◌∙◌, subst, arith}
+use Rattle.std.specs.Prelude.{◌||◌, nat_eq, unwrap_or, if◌then◌else◌}
 use Rattle.std.proofs.Math.Path.{fun_ext}
 use Rattle.std.proofs.lemmas.Bool.{eq-eqb, eqb-true, false≢true, true≢false}
 use Rattle.std.proofs.lemmas.Nat.{mod_below}
@@ -50,7 +50,11 @@ behind net setup r q s port l e =
 pub sends-so : (net : Setup) (n s port : ℕ) (left : Links) (tells : ℕ → Option ℕ) → Sends net n s port left tells → Sends net n s port left (granted_to net n s)
 sends-so net n s port left tells sent = record { beat = sent.beat; told = λ vc u. refl }
 
--- ---- what some blocks have sent comes to own ones
+-- the block of a share is that of its routers
+pub whole-block : (s : ℕ) → s / 16 / 2 ≡ s / 32
+whole-block s = omega arith
+
+-- ---- what some shares have sent comes to own blocks
 module _ {A : Type 0} (value : A → ℕ) (net : Setup) (own : ℕ → Bool) (n : ℕ) where
   abbrev g : Grid
   g = net.relation.grid
@@ -60,7 +64,7 @@ module _ {A : Type 0} (value : A → ℕ) (net : Setup) (own : ℕ → Bool) (n 
 
   -- the numbers that these blocks tell
   abbrev by : (ℕ → Bool) → ℕ → ℕ → Option ℕ
-  by from s o = if from (s / 32) then granted_to net n s o else None
+  by from s o = if from (s / 16) then granted_to net n s o else None
 
   -- nothing comes of no block
   pub heard-none : (all : Network A) → HasHeardFrom value net own (λ b. false) n all all
@@ -84,17 +88,17 @@ module _ {A : Type 0} (value : A → ℕ) (net : Setup) (own : ℕ → Bool) (n 
   -- what some have sent comes, and then what others have
   pub heard-more : (from more : ℕ → Bool) (a b c : Network A) → HasHeardFrom value net own from n a b → HasHeardFrom value net own more n b c → HasHeardFrom value net own (λ x. from x || more x) n a c
   heard-more from more a b c first second = record {
-    sent = λ r q s port k e h. sent r q s port k e h (more (s / 32)) refl;
-    left = λ s h. let none = or-none (from (s / 32)) (more (s / 32)) h in second.left s none.1 ∙ first.left s none.0;
+    sent = λ r q s port k e h. sent r q s port k e h (more (s / 16)) refl;
+    left = λ s h. let none = or-none (from (s / 16)) (more (s / 16)) h in second.left s none.1 ∙ first.left s none.0;
     packets = λ r i k u. second.packets r i k u ∙ ap (unwrap_or (heard g vcs (by more) r i)) (first.packets r i k u) ∙ over (packets_in value a.states.items r i) (i % vcs) (neighbour g r (i / vcs));
     told = rest-then value a.states.items b.states.items first.told c.states.items second.told;
     states_are = second.states_are ∙ first.states_are;
     rest = second.rest ∙ ap (λ (x : Network A). record x { states = c.states; left = c.left }) first.rest;
   }
     where
-      sent : (r q s port : ℕ) → IsIn net own r → neighbour g r q ≡ Some (s, port) → (from (s / 32) || more (s / 32)) ≡ true → (x : Bool) → more (s / 32) ≡ x → Sends net n s port (left_of value c.left s) (granted_to net n s)
+      sent : (r q s port : ℕ) → IsIn net own r → neighbour g r q ≡ Some (s, port) → (from (s / 16) || more (s / 16)) ≡ true → (x : Bool) → more (s / 16) ≡ x → Sends net n s port (left_of value c.left s) (granted_to net n s)
       sent r q s port k e h true m = second.sent r q s port k e m
-      sent r q s port k e h false m = subst (λ (x : Links). Sends net n s port x (granted_to net n s)) (sym (second.left s m)) (first.sent r q s port k e (or-first (from (s / 32)) (more (s / 32)) m h))
+      sent r q s port k e h false m = subst (λ (x : Links). Sends net n s port x (granted_to net n s)) (sym (second.left s m)) (first.sent r q s port k e (or-first (from (s / 16)) (more (s / 16)) m h))
 
       twice : (old : ℕ) (x : Option ℕ) → unwrap_or x (unwrap_or x old) ≡ unwrap_or x old
       twice old None = refl
@@ -108,65 +112,69 @@ module _ {A : Type 0} (value : A → ℕ) (net : Setup) (own : ℕ → Bool) (n 
 
       over : (old vc : ℕ) (x : Option (ℕ × ℕ)) → unwrap_or (heard_over vcs (by more) vc x) (unwrap_or (heard_over vcs (by from) vc x) old) ≡ unwrap_or (heard_over vcs (by (λ z. from z || more z)) vc x) old
       over old vc None = refl
-      over old vc (Some (to, port)) = at old (granted_to net n to (port * vcs + vc)) (from (to / 32)) (more (to / 32))
+      over old vc (Some (to, port)) = at old (granted_to net n to (port * vcs + vc)) (from (to / 16)) (more (to / 16))
 
--- ---- what one block has sent
+-- ---- what one share has sent
 module _ {A : Type 0} (value : A → ℕ) (net : Setup) (setup : IsGoodSetup net) (n b : ℕ) (letter : Letter A) (letter_is : IsLetter value net n b letter) where
-  letter-sends : (s port : ℕ) → s / 32 ≡ b → s < nodes net.relation.grid → port < ports net.relation.grid → Sends net n s port (links_in value letter (s % 32)) (tells_in value letter (s % 32))
+  letter-sends : (s port : ℕ) → s / 16 ≡ b → s < nodes net.relation.grid → port < ports net.relation.grid → Sends net n s port (links_in value letter (s % 16)) (tells_in value letter (s % 16))
   letter-sends s port here low few =
-      let whole : b * 32 + s % 32 ≡ s = omega (arith, here) in
-      subst (λ (x : ℕ). Sends net n x port (links_in value letter (s % 32)) (tells_in value letter (s % 32))) whole
-      (letter_is.sends (s % 32) port (mod_below s 32 (omega arith)) (subst (λ (x : ℕ). x < nodes net.relation.grid) (sym whole) low) few)
+      let whole : b * 16 + s % 16 ≡ s = omega (arith, here) in
+      subst (λ (x : ℕ). Sends net n x port (links_in value letter (s % 16)) (tells_in value letter (s % 16))) whole
+      (letter_is.sends (s % 16) port (mod_below s 16 (omega arith)) (subst (λ (x : ℕ). x < nodes net.relation.grid) (sym whole) low) few)
 
-  pub letter-heard : (own : ℕ → Bool) (was is : Network A) → ((s : ℕ) → s / 32 ≡ b → left_of value is.left s ≡ links_in value letter (s % 32)) → ((s : ℕ) → s / 32 ≢ b → left_of value is.left s ≡ left_of value was.left s)
+  pub letter-heard : (own : ℕ → Bool) (was is : Network A) → ((s : ℕ) → s / 16 ≡ b → left_of value is.left s ≡ links_in value letter (s % 16)) → ((s : ℕ) → s / 16 ≢ b → left_of value is.left s ≡ left_of value was.left s)
       → ((r i : ℕ) → r < nodes net.relation.grid → i < size net
-      → packets_in value is.states.items r i ≡ unwrap_or (heard net.relation.grid net.relation.vcs (λ s o. if nat_eq (s / 32) b then tells_in value letter (s % 32) o else None) r i) (packets_in value was.states.items r i))
+      → packets_in value is.states.items r i ≡ unwrap_or (heard net.relation.grid net.relation.vcs (λ s o. if nat_eq (s / 16) b then tells_in value letter (s % 16) o else None) r i) (packets_in value was.states.items r i))
       → AreSameButPackets value was.states.items is.states.items → length is.states.items ≡ length was.states.items → is ≡ record was { states = is.states; left = is.left } → HasHeardFrom value net own (λ c. nat_eq c b) n was is
   letter-heard own was is here others told same states_are rest = record {
     sent = λ r q s port k e h.
-        let there = eqb-true (s / 32) b h in
+        let there = eqb-true (s / 16) b h in
         let to = behind net setup r q s port k.0 e in
-        subst (λ (x : Links). Sends net n s port x (granted_to net n s)) (sym (here s there)) (sends-so net n s port (links_in value letter (s % 32)) (tells_in value letter (s % 32)) (letter-sends s port there to.0 to.1));
-    left = λ s h. others s (λ there. true≢false (sym (eq-eqb (s / 32) b there) ∙ h));
+        subst (λ (x : Links). Sends net n s port x (granted_to net n s)) (sym (here s there)) (sends-so net n s port (links_in value letter (s % 16)) (tells_in value letter (s % 16)) (letter-sends s port there to.0 to.1));
+    left = λ s h. others s (λ there. true≢false (sym (eq-eqb (s / 16) b there) ∙ h));
     packets = λ r i k u. told r i k.0 u ∙ ap (λ x. unwrap_or x (packets_in value was.states.items r i)) (over r i k.0 (neighbour net.relation.grid r (i / net.relation.vcs)) refl);
     told = same;
     states_are = states_are;
     rest = rest;
   }
     where
-      at : (to port vc : ℕ) → to < nodes net.relation.grid → port < ports net.relation.grid → vc < net.relation.vcs → (x : Bool) → nat_eq (to / 32) b ≡ x
-          → (if x then tells_in value letter (to % 32) (port * net.relation.vcs + vc) else None) ≡ (if x then granted_to net n to (port * net.relation.vcs + vc) else None)
+      at : (to port vc : ℕ) → to < nodes net.relation.grid → port < ports net.relation.grid → vc < net.relation.vcs → (x : Bool) → nat_eq (to / 16) b ≡ x
+          → (if x then tells_in value letter (to % 16) (port * net.relation.vcs + vc) else None) ≡ (if x then granted_to net n to (port * net.relation.vcs + vc) else None)
       at to port vc l u v false e = refl
-      at to port vc l u v true e = (letter-sends to port (eqb-true (to / 32) b e) l u).told vc v
+      at to port vc l u v true e = (letter-sends to port (eqb-true (to / 16) b e) l u).told vc v
 
       over : (r i : ℕ) → r < nodes net.relation.grid → (x : Option (ℕ × ℕ)) → neighbour net.relation.grid r (i / net.relation.vcs) ≡ x
-          → heard_over net.relation.vcs (λ s o. if nat_eq (s / 32) b then tells_in value letter (s % 32) o else None) (i % net.relation.vcs) x
-          ≡ heard_over net.relation.vcs (λ s o. if nat_eq (s / 32) b then granted_to net n s o else None) (i % net.relation.vcs) x
+          → heard_over net.relation.vcs (λ s o. if nat_eq (s / 16) b then tells_in value letter (s % 16) o else None) (i % net.relation.vcs) x
+          ≡ heard_over net.relation.vcs (λ s o. if nat_eq (s / 16) b then granted_to net n s o else None) (i % net.relation.vcs) x
       over r i l None e = refl
       over r i l (Some (to, port)) e =
           let back = behind net setup r (i / net.relation.vcs) to port l e in
-          at to port (i % net.relation.vcs) back.0 back.1 (mod_below i net.relation.vcs setup.relation.table.some_vcs) (nat_eq (to / 32) b) refl
+          at to port (i % net.relation.vcs) back.0 back.1 (mod_below i net.relation.vcs setup.relation.table.some_vcs) (nat_eq (to / 16) b) refl
 
 -- ---- own blocks have run a cycle, and what the others near them have sent has come
 module _ {A : Type 0} (value : A → ℕ) (w : ℕ) (relation : Routes) (own from : ℕ → Bool) (awake : ℕ) (net : Setup) (n routers : ℕ) (all ran next : Network A) (fits : (x : A) → value x < 2 ^ 64) (may : MayStepIn value w relation own awake net n all)
-    (step : HasStepped value w relation awake n routers all ran) (hears : HasHeardFrom value net own from n ran next) (apart : (b : ℕ) → own b ≡ true → from b ≡ false)
-    (near : (r q s port : ℕ) → IsIn net own r → neighbour net.relation.grid r q ≡ Some (s, port) → own (s / 32) ≡ false → from (s / 32) ≡ true) where
+    (step : HasStepped value w relation awake n routers all ran) (hears : HasHeardFrom value net own from n ran next) (apart : (h : ℕ) → own (h / 2) ≡ true → from h ≡ false)
+    (near : (r q s port : ℕ) → IsIn net own r → neighbour net.relation.grid r q ≡ Some (s, port) → own (s / 32) ≡ false → from (s / 16) ≡ true) where
+  -- no share of an own block has sent
+  apart-at : (s : ℕ) → own (s / 32) ≡ true → from (s / 16) ≡ false
+  apart-at s ours = apart (s / 16) (ap own (whole-block s) ∙ ours)
+
   pub heard-all : HasHeard value net own n (granted_to net n) ran next
   heard-all = record {
     sent = λ r q s port k e other. hears.sent r q s port k e (near r q s port k e other);
-    left = λ s ours. hears.left s (apart (s / 32) ours);
+    left = λ s ours. hears.left s (apart-at s ours);
     packets = λ r i k u. hears.packets r i k u ∙ ap (λ x. unwrap_or x (packets_in value ran.states.items r i)) (over r i k (neighbour net.relation.grid r (i / net.relation.vcs)) refl);
     told = hears.told;
     states_are = hears.states_are;
     rest = hears.rest;
   }
     where
-      at : (told : Option ℕ) (s : ℕ) → (own (s / 32) ≡ false → from (s / 32) ≡ true) → (x : Bool) → own (s / 32) ≡ x → (if from (s / 32) then told else None) ≡ (if x then None else told)
-      at told s other true e = ap (λ b. if b then told else None) (apart (s / 32) e)
+      at : (told : Option ℕ) (s : ℕ) → (own (s / 32) ≡ false → from (s / 16) ≡ true) → (x : Bool) → own (s / 32) ≡ x → (if from (s / 16) then told else None) ≡ (if x then None else told)
+      at told s other true e = ap (λ b. if b then told else None) (apart-at s e)
       at told s other false e = ap (λ b. if b then told else None) (other e)
 
       over : (r i : ℕ) → IsIn net own r → (x : Option (ℕ × ℕ)) → neighbour net.relation.grid r (i / net.relation.vcs) ≡ x
-          → heard_over net.relation.vcs (λ s o. if from (s / 32) then granted_to net n s o else None) (i % net.relation.vcs) x ≡ heard_over net.relation.vcs (λ s o. if own (s / 32) then None else granted_to net n s o) (i % net.relation.vcs) x
+          → heard_over net.relation.vcs (λ s o. if from (s / 16) then granted_to net n s o else None) (i % net.relation.vcs) x ≡ heard_over net.relation.vcs (λ s o. if own (s / 32) then None else granted_to net n s o) (i % net.relation.vcs) x
       over r i k None e = refl
       over r i k (Some (to, port)) e = at (granted_to net n to (port * net.relation.vcs + i % net.relation.vcs)) to (near r (i / net.relation.vcs) to port k e) (own (to / 32)) refl
 
@@ -175,7 +183,7 @@ module _ {A : Type 0} (value : A → ℕ) (w : ℕ) (relation : Routes) (own fro
   shows-heard = shows-next-in value w relation own awake net n routers all ran next fits may step (granted_to net n) heard-all
 
   own-left : (s port : ℕ) → IsIn net own s → port < ports net.relation.grid → Sends net n s port (left_of value next.left s) (granted_to net n s)
-  own-left s port k u = subst (λ (x : Links). Sends net n s port x (granted_to net n s)) (sym (hears.left s (apart (s / 32) k.1) ∙ ap (λ (x : Left A). left_of value x s) (stepped.same-left value w relation awake n routers all ran step)))
+  own-left s port k u = subst (λ (x : Links). Sends net n s port x (granted_to net n s)) (sym (hears.left s (apart-at s k.1) ∙ ap (λ (x : Left A). left_of value x s) (stepped.same-left value w relation awake n routers all ran step)))
       (sends-so net n s port (left_of value step.between.left s) (told_in value awake step.turns.arrived step.turns.chosen step.between.states.items s) (own-sends value w relation own awake net n routers all step.between fits may step.turns s port k u))
 
   -- and they have what has left all of them

@@ -10,9 +10,9 @@ use Rattle.noc_rows.specs.declared.mail.Mail.{Mail}
 
 module _ {A : Type 0} (value : A → ℕ) (start : Start) (from : Option ℕ) (many : ℕ) (mails : List (Mail A)) (mail : Mail A) (gone : HaveGone start from many mails) where
   -- what may go next
-  pub follows : mail.block ≡ from → start_in mail ≡ start → IsMail value start.net (start.cycle + many) mail → Follows value mails mail
+  pub follows : mail.share ≡ from → start_in mail ≡ start → IsMail value start.net (start.cycle + many) mail → Follows value mails mail
   follows here of right = subst (λ (xs : List (Mail A)). Follows value xs mail) (sym gone.are) (
-    here ∙ sym gone.block,
+    here ∙ sym gone.share,
     of ∙ sym gone.is,
     subst (λ (x : Start). IsMail value x.net (x.cycle + length gone.rest) mail) (sym gone.is)
         (subst (λ (k : ℕ). IsMail value start.net (start.cycle + k) mail) (sym gone.cycles) right),
@@ -22,8 +22,8 @@ module _ {A : Type 0} (value : A → ℕ) (start : Start) (from : Option ℕ) (m
   after-first : Follows value mails mail → Follows value (gone.first ∷ gone.rest) mail
   after-first next = subst (λ (xs : List (Mail A)). Follows value xs mail) gone.are next
 
-  pub next-from : Follows value mails mail → mail.block ≡ from
-  next-from next = (after-first next).0 ∙ gone.block
+  pub next-from : Follows value mails mail → mail.share ≡ from
+  next-from next = (after-first next).0 ∙ gone.share
 
   pub next-of : Follows value mails mail → start_in mail ≡ start
   next-of next = (after-first next).1 ∙ gone.is
@@ -38,7 +38,7 @@ module _ {A : Type 0} (value : A → ℕ) (start : Start) (from : Option ℕ) (m
     first = gone.first;
     rest = gone.rest ++ mail ∷ [];
     are = ap (λ (xs : List (Mail A)). xs ++ mail ∷ []) gone.are;
-    block = gone.block;
+    share = gone.share;
     is = gone.is;
     cycles = length_push gone.rest mail ∙ ap (λ k. k + 1) gone.cycles;
   }

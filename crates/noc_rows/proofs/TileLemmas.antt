@@ -15,7 +15,7 @@ use Rattle.noc_rows.specs.Mails.{AreAround, HasHeardFrom, HaveLeft}
 use Rattle.noc_rows.specs.Own.{MayStepIn, ShowsIn}
 use Rattle.noc_rows.specs.Rounds.{Start}
 use Rattle.noc_rows.specs.Steps.{HasEnded, HasStepped, HasTurned}
-use Rattle.noc_rows.specs.Tiles.{AreReady, HasBlock, HasHeardSets, HasRun, IsTileAt, MayCycle, MayRunFrom, near_in, nears_in}
+use Rattle.noc_rows.specs.Tiles.{AreReady, HasShare, HasHeardSets, HasRun, IsTileAt, MayCycle, MayRunFrom, near_in, nears_in}
 use Rattle.noc_rows.specs.declared.network.Network.{Network}
 use Rattle.noc_rows.specs.declared.post.Post.{Post}
 use Rattle.noc_rows.specs.declared.tile.Tile.{Tile}
@@ -47,7 +47,7 @@ near-set (x ∷ xs) (suc k) old new is same = ap (λ ns. near_in x ∷ ns) (near
 -- it has come from the first k of these sets
 pub record IsHeardBy {A : Type 0} (value : A → ℕ) (net : Setup) (own : ℕ → Bool) (sets : List ℕ) (n k : ℕ) (was is : Network A) : Type 0 where
   pub from : ℕ → Bool
-  pub others : (b : ℕ) → own b ≡ true → from b ≡ false
+  pub others : (h : ℕ) → own (h / 2) ≡ true → from h ≡ false
   pub all : (j blocks b : ℕ) → j < k → slice_get sets j ≡ Some blocks → has_bit blocks b ≡ true → from b ≡ true
   pub heard : HasHeardFrom value net own from n was is
 
@@ -60,7 +60,7 @@ module _ {A : Type 0} (value : A → ℕ) (net : Setup) (own : ℕ → Bool) (se
     heard = heard-none value net own n all;
   }
 
-  pub heard-by-next : (k blocks : ℕ) (was now next : Network A) → slice_get sets k ≡ Some blocks → ((b : ℕ) → has_bit blocks b ≡ true → own b ≡ false) → IsHeardBy value net own sets n k was now → HasHeardFrom value net own (has_bit blocks) n now next
+  pub heard-by-next : (k blocks : ℕ) (was now next : Network A) → slice_get sets k ≡ Some blocks → ((h : ℕ) → has_bit blocks h ≡ true → own (h / 2) ≡ false) → IsHeardBy value net own sets n k was now → HasHeardFrom value net own (has_bit blocks) n now next
       → IsHeardBy value net own sets n (k + 1) was next
   heard-by-next k blocks was now next is apart up heard = record {
     from = λ b. up.from b || has_bit blocks b;
@@ -73,7 +73,7 @@ module _ {A : Type 0} (value : A → ℕ) (net : Setup) (own : ℕ → Bool) (se
       none true b e f = absurd (true≢false e)
       none false b e f = f
 
-      not-there : (b : ℕ) → own b ≡ true → (x : Bool) → has_bit blocks b ≡ x → x ≡ false
+      not-there : (b : ℕ) → own (b / 2) ≡ true → (x : Bool) → has_bit blocks b ≡ x → x ≡ false
       not-there b ours true e = absurd (true≢false (sym ours ∙ apart b e))
       not-there b ours false e = refl
 
@@ -169,7 +169,7 @@ module _ {A : Type 0} (value : A → ℕ) (w : ℕ) (relation : Routes) (start :
       -- the tile is at the next count when it has heard from all
       module _ (next : Tile A) (fits : (x : A) → value x < 2 ^ 64) (heard : HasHeardSets value start.net (has_bit tile.own) (nears_in tile.posts.items) (start.cycle + c) done next.network) where
         around : AreAround start.net (has_bit tile.own) heard.from
-        around = record { others = heard.others; all = λ r q s port k e other. heard.all (s / 32) (may.at.near r q s port k e other) }
+        around = record { others = heard.others; all = λ r q s port k e other. heard.all (s / 16) (may.at.near r q s port k e other) }
 
         pub tile-next : next.own ≡ tile.own → nears_in next.posts.items ≡ nears_in tile.posts.items → AreReady start (has_bit tile.own) (c + 1) next.posts.items → IsTileAt value w start (c + 1) next
         tile-next same near ready = record {
@@ -185,7 +185,7 @@ module _ {A : Type 0} (value : A → ℕ) (w : ℕ) (relation : Routes) (start :
           blocks = heard.heard.states_are ∙ done-blocks;
           own = along (λ own. (b : ℕ) → has_bit own b ≡ true → b < start.blocks) may.at.own;
           posts = along (λ own. AreReady start (has_bit own) (c + 1) next.posts.items) ready;
-          near = λ r q s port k e other. subst (λ (sets : List ℕ). HasBlock sets (s / 32)) (sym near)
+          near = λ r q s port k e other. subst (λ (sets : List ℕ). HasShare sets (s / 16)) (sym near)
               (may.at.near r q s port (k.0, ap (λ own. has_bit own (r / 32)) (sym same) ∙ k.1) e (ap (λ own. has_bit own (s / 32)) (sym same) ∙ other));
         }
           where

@@ -1,5 +1,5 @@
--- What own blocks of a network write of a cycle that they have run, in the letter of each.
-use Rattle.std.proofs.Common.{◌≡◌, ℕ, ◌+◌, ◌*◌, ◌/◌, ◌<◌, ◌≤◌, ◌^◌, Bool, true, false, length, Option, Some, None, refl, ap, ap₂, sym, ◌∙◌, subst, arith, inl, inr, mul_comm, set as write}
+-- What own blocks of a network write of a cycle that they have run, in the letters of their shares.
+use Rattle.std.proofs.Common.{◌≡◌, ℕ, ◌+◌, ◌*◌, ◌/◌, ◌%◌, ◌<◌, ◌≤◌, ◌^◌, Bool, true, false, length, Option, Some, None, refl, ap, ap₂, sym, ◌∙◌, subst, arith, inl, inr, mul_comm}
 use Rattle.std.specs.Prelude.{is_some, nat_lt, option_map, slice_get, if◌then◌else◌}
 use Rattle.std.proofs.lemmas.Bool.{cases_lt, le-ltb, lt-ltb}
 use Rattle.std.proofs.lemmas.Nat.{mul-add-lt}
@@ -13,7 +13,7 @@ use Rattle.noc_blocks.specs.Marks.{marks_or_none, packet_at, packet_or_none, tak
 use Rattle.noc_blocks.specs.Turned.{grants_in}
 use Rattle.noc_blocks.specs.declared.marks.Marks.{Marks}
 use Rattle.noc_theory.specs.Network.{Setup, size}
-use Rattle.noc_theory_bits.specs.Sends.{beat_of}
+use Rattle.noc_theory_bits.specs.Sends.{Sends, beat_of}
 use Rattle.noc_theory_bits.specs.Wires.{ShowsBeat}
 use Rattle.noc_turns.specs.States.{lane_of, working_of}
 use Rattle.noc_turns.specs.declared.state.State.{State}
@@ -21,7 +21,7 @@ use Rattle.noc_turns.specs.declared.state.Work.{Work}
 use Rattle.noc_wires.specs.Left.{NOTHING, leaving_of, left_of}
 use Rattle.noc_wires.specs.Telling.{granted_in, granted_or_none, packets_in, packets_or_none, taken_in, taken_or_none as lane_taken}
 use Rattle.noc_rows.specs.Blocks.{working_in, working_or}
-use Rattle.noc_wires.specs.Letters.{AreTellings, IsLinked, links_in, tells_in}
+use Rattle.noc_wires.specs.Letters.{AreTellings, IsLinked, IsOutput, links_in, tells_in}
 use Rattle.noc_rows.specs.Mails.{IsLetter}
 use Rattle.noc_rows.specs.Own.{MayStepIn, told_in}
 use Rattle.noc_rows.specs.Shows.{lane_by}
@@ -29,7 +29,6 @@ use Rattle.noc_rows.specs.Steps.{HasTurned}
 use Rattle.noc_wires.specs.declared.letter.Letter.{Letter}
 use Rattle.noc_rows.specs.declared.network.Network.{Network}
 use Rattle.noc_rows.proofs.GrantLemmas.{grants_by}
-use Rattle.noc_rows.proofs.ListLemmas.{written}
 use Rattle.noc_rows.proofs.StageLemmas.{block-of, block-there, lane-of}
 use Rattle.noc_rows.proofs.TurnLemmas.{are-grants, own-sends, tells-read}
 
@@ -50,9 +49,22 @@ marks-packet : {A : Type 0} (value : A → ℕ) (o : Option (Marks A)) (to_port 
 marks-packet value None to_port port_turn i = refl
 marks-packet value (Some marks) to_port port_turn i = refl
 
--- a letter of a block that sends nothing tells of nothing
-pub nothing-linked : {A : Type 0} (value : A → ℕ) (g : Grid) (vcs b : ℕ) (letter : Letter A) → ((k o : ℕ) → k < 32 → tells_in value letter k o ≡ None) → IsLinked value g vcs b letter
-nothing-linked value g vcs b letter none k o p l h = absurd (none-some p (sym (none k o l) ∙ h))
+-- ---- the routers of a share, by its block
+pub low : (h k : ℕ) → k < 16 → h % 2 * 16 + k < 32
+low h k l = omega (arith, l)
+
+pub low-first : (h : ℕ) → h % 2 * 16 + 16 ≤ 32
+low-first h = omega arith
+
+router : (h k : ℕ) → h / 2 * 32 + (h % 2 * 16 + k) ≡ h * 16 + k
+router h k = omega arith
+
+block-by : (h k : ℕ) → k < 16 → (h * 16 + k) / 32 ≡ h / 2
+block-by h k l = omega (arith, l)
+
+-- a letter of a share that sends nothing tells of nothing
+pub nothing-linked : {A : Type 0} (value : A → ℕ) (g : Grid) (vcs h : ℕ) (letter : Letter A) → ((k o : ℕ) → k < 16 → tells_in value letter k o ≡ None) → IsLinked value g vcs h letter
+nothing-linked value g vcs h letter none k o p l is = absurd (none-some p (sym (none k o l) ∙ is))
 
 module _ {A : Type 0} (value : A → ℕ) (w : ℕ) (relation : Routes) (own : ℕ → Bool) (awake : ℕ) (net : Setup) (n routers : ℕ) (all ran : Network A) (fits : (x : A) → value x < 2 ^ 64) (may : MayStepIn value w relation own awake net n all)
     (turned : HasTurned value w relation awake n routers all ran) where
@@ -132,56 +144,61 @@ module _ {A : Type 0} (value : A → ℕ) (w : ℕ) (relation : Routes) (own : �
   channel : (port vc : ℕ) → port < ports g → vc < vcs → port * vcs + vc < size net
   channel port vc u v = subst (λ x. port * vcs + vc < x) (mul_comm vcs (ports g)) (mul-add-lt port vcs vc (ports g) u v)
 
-  -- ---- a block that takes part
-  module _ (b : ℕ) (work : Work A) (letter : Letter A) (ours : own b ≡ true) (woken : has_bit awake b ≡ true) (has_work : slice_get ran.works.items b ≡ Some work)
-      (links : (k : ℕ) → k < 32 → links_in value letter k ≡ leaving_of (working_of value work k))
-      (tells : (k o : ℕ) → k < 32 → tells_in value letter k o ≡ (if nat_lt o (size net) then tells-of b k o else None)) where
-    tells-below : (k o : ℕ) → k < 32 → o < size net → tells_in value letter k o ≡ tells-of b k o
-    tells-below k o l u = tells k o l ∙ ap (λ x. if x then tells-of b k o else None) (lt-ltb o (size net) u)
+  -- ---- a share of a block that takes part
+  module _ (h : ℕ) (work : Work A) (letter : Letter A) (ours : own (h / 2) ≡ true) (woken : has_bit awake (h / 2) ≡ true) (has_work : slice_get ran.works.items (h / 2) ≡ Some work)
+      (links : (k : ℕ) → k < 16 → links_in value letter k ≡ leaving_of (working_of value work (h % 2 * 16 + k)))
+      (tells : (k o : ℕ) → k < 16 → tells_in value letter k o ≡ (if nat_lt o (size net) then tells-of (h / 2) (h % 2 * 16 + k) o else None)) where
+    tells-below : (k o : ℕ) → k < 16 → o < size net → tells_in value letter k o ≡ tells-of (h / 2) (h % 2 * 16 + k) o
+    tells-below k o l u = tells k o l ∙ ap (λ x. if x then tells-of (h / 2) (h % 2 * 16 + k) o else None) (lt-ltb o (size net) u)
 
-    tells-above : (k o : ℕ) → k < 32 → size net ≤ o → tells_in value letter k o ≡ None
-    tells-above k o l u = tells k o l ∙ ap (λ x. if x then tells-of b k o else None) (le-ltb o (size net) u)
+    tells-above : (k o : ℕ) → k < 16 → size net ≤ o → tells_in value letter k o ≡ None
+    tells-above k o l u = tells k o l ∙ ap (λ x. if x then tells-of (h / 2) (h % 2 * 16 + k) o else None) (le-ltb o (size net) u)
 
-    linked : IsLinked value g vcs b letter
-    linked k o p l h = elim (cases_lt o (size net)) [
-      | inl v ↦ elim (cases_lt (b * 32 + k) (nodes g)) [
-        | inl u ↦ (u, v, there u v (grants_by awake (lane_by value turned.arrived) (lane_by value turned.chosen) (b * 32 + k) o) refl (sym (tells-below k o l v ∙ tells-there b k o u) ∙ h))
-        | inr u ↦ absurd (none-some p (sym (tells-below k o l v ∙ tells-beyond b k o u) ∙ h))
+    linked : (k o p : ℕ) → k < 16 → tells_in value letter k o ≡ Some p → IsOutput g vcs (h / 2 * 32 + (h % 2 * 16 + k)) o
+    linked k o p l is = elim (cases_lt o (size net)) [
+      | inl v ↦ elim (cases_lt (h / 2 * 32 + (h % 2 * 16 + k)) (nodes g)) [
+        | inl u ↦ (u, v, there u v (grants_by awake (lane_by value turned.arrived) (lane_by value turned.chosen) (h / 2 * 32 + (h % 2 * 16 + k)) o) refl (sym (tells-below k o l v ∙ tells-there (h / 2) (h % 2 * 16 + k) o u) ∙ is))
+        | inr u ↦ absurd (none-some p (sym (tells-below k o l v ∙ tells-beyond (h / 2) (h % 2 * 16 + k) o u) ∙ is))
       ]
-      | inr v ↦ absurd (none-some p (sym (tells-above k o l v) ∙ h))
+      | inr v ↦ absurd (none-some p (sym (tells-above k o l v) ∙ is))
     ]
       where
-        there : b * 32 + k < nodes g → o < size net → (x : Option ℕ) → grants_by awake (lane_by value turned.arrived) (lane_by value turned.chosen) (b * 32 + k) o ≡ x → option_map (packets_in value ran.states.items (b * 32 + k)) x ≡ Some p
-            → o / vcs < local_port g → is_some (neighbour g (b * 32 + k) (o / vcs)) ≡ true
+        there : h / 2 * 32 + (h % 2 * 16 + k) < nodes g → o < size net → (x : Option ℕ) → grants_by awake (lane_by value turned.arrived) (lane_by value turned.chosen) (h / 2 * 32 + (h % 2 * 16 + k)) o ≡ x → option_map (packets_in value ran.states.items (h / 2 * 32 + (h % 2 * 16 + k))) x ≡ Some p
+            → o / vcs < local_port g → is_some (neighbour g (h / 2 * 32 + (h % 2 * 16 + k)) (o / vcs)) ≡ true
         there u v None e f = absurd (none-some p f)
-        there u v (Some i) e f = (are-grants value w relation own awake net n routers all ran fits may turned).linked (b * 32 + k) o i u v e
+        there u v (Some i) e f = (are-grants value w relation own awake net n routers all ran fits may turned).linked (h / 2 * 32 + (h % 2 * 16 + k)) o i u v e
 
-    leaves : (k : ℕ) → k < 32 → b * 32 + k < nodes g → left_of value ran.left (b * 32 + k) ≡ links_in value letter k
+    leaves : (k : ℕ) → k < 16 → h / 2 * 32 + (h % 2 * 16 + k) < nodes g → left_of value ran.left (h / 2 * 32 + (h % 2 * 16 + k)) ≡ links_in value letter k
     leaves k l u =
-        turned.puts (b * 32 + k) (block-there value w net all.plan may.shows.plan (b * 32 + k) u) (ap (has_bit awake) (block-of b k l) ∙ woken)
-        ∙ ap₂ (λ c j. leaving_of (working_in value ran.works.items c j)) (block-of b k l) (lane-of b k l)
-        ∙ ap (λ (o : Option (Work A)). leaving_of (working_or value o k)) has_work
+        turned.puts (h / 2 * 32 + (h % 2 * 16 + k)) (block-there value w net all.plan may.shows.plan (h / 2 * 32 + (h % 2 * 16 + k)) u) (ap (has_bit awake) (block-of (h / 2) (h % 2 * 16 + k) (low h k l)) ∙ woken)
+        ∙ ap₂ (λ c j. leaving_of (working_in value ran.works.items c j)) (block-of (h / 2) (h % 2 * 16 + k) (low h k l)) (lane-of (h / 2) (h % 2 * 16 + k) (low h k l))
+        ∙ ap (λ (o : Option (Work A)). leaving_of (working_or value o (h % 2 * 16 + k))) has_work
         ∙ sym (links k l)
 
-    pub letter-written : IsLetter value net n b letter
+    sent : (k port : ℕ) → k < 16 → h / 2 * 32 + (h % 2 * 16 + k) < nodes g → port < ports g → Sends net n (h / 2 * 32 + (h % 2 * 16 + k)) port (links_in value letter k) (tells_in value letter k)
+    sent k port l u v =
+        let s = h / 2 * 32 + (h % 2 * 16 + k) in
+        let one = own-sends value w relation own awake net n routers all ran fits may turned s port (u, ap own (block-of (h / 2) (h % 2 * 16 + k) (low h k l)) ∙ ours) v in
+        record {
+          beat = subst (λ (x : Links). ShowsBeat vcs port (beat_of net n s port) x) (leaves k l u) one.beat;
+          told = λ vc y. tells-below k (port * vcs + vc) l (channel port vc v y) ∙ tells-there (h / 2) (h % 2 * 16 + k) (port * vcs + vc) u ∙ one.told vc y;
+        }
+
+    pub letter-written : IsLetter value net n h letter
     letter-written = record {
-      linked = linked;
+      linked = λ k o p l e. subst (λ s. IsOutput g vcs s o) (router h k) (linked k o p l e);
       sends = λ k port l u v.
-          let one = own-sends value w relation own awake net n routers all ran fits may turned (b * 32 + k) port (u, ap own (block-of b k l) ∙ ours) v in
-          record {
-            beat = subst (λ (x : Links). ShowsBeat vcs port (beat_of net n (b * 32 + k) port) x) (leaves k l u) one.beat;
-            told = λ vc y. tells-below k (port * vcs + vc) l (channel port vc v y) ∙ tells-there b k (port * vcs + vc) u ∙ one.told vc y;
-          };
+          subst (λ s. Sends net n s port (links_in value letter k) (tells_in value letter k)) (router h k) (sent k port l (subst (λ s. s < nodes g) (sym (router h k)) u) v);
     }
 
   -- ---- one that does not
-  pub letter-cleared : (b : ℕ) (letter : Letter A) → own b ≡ true → has_bit awake b ≡ false → ((k : ℕ) → k < 32 → links_in value letter k ≡ NOTHING) → ((k o : ℕ) → k < 32 → tells_in value letter k o ≡ None) → IsLetter value net n b letter
-  letter-cleared b letter ours asleep links tells = record {
-    linked = nothing-linked value g vcs b letter tells;
+  pub letter-cleared : (h : ℕ) (letter : Letter A) → own (h / 2) ≡ true → has_bit awake (h / 2) ≡ false → ((k : ℕ) → k < 16 → links_in value letter k ≡ NOTHING) → ((k o : ℕ) → k < 16 → tells_in value letter k o ≡ None) → IsLetter value net n h letter
+  letter-cleared h letter ours asleep links tells = record {
+    linked = nothing-linked value g vcs h letter tells;
     sends = λ k port l u v.
-        let s = b * 32 + k in
-        let e : has_bit awake (s / 32) ≡ false = ap (has_bit awake) (block-of b k l) ∙ asleep in
-        let known = ap own (block-of b k l) ∙ ours in
+        let s = h * 16 + k in
+        let e : has_bit awake (s / 32) ≡ false = ap (has_bit awake) (block-by h k l) ∙ asleep in
+        let known = ap own (block-by h k l) ∙ ours in
         let one = own-sends value w relation own awake net n routers all ran fits may turned s port (u, known) v in
         record {
           beat = subst (λ (x : Links). ShowsBeat vcs port (beat_of net n s port) x) (turned.left_stays s e ∙ may.nothing s (u, known) e ∙ sym (links k l)) one.beat;

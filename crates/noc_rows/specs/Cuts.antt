@@ -1,16 +1,16 @@
 -- A network cut into tiles.
-use Rattle.std.specs.Prelude.{◌≡◌, ℕ, ◌*◌, ◌/◌, ◌<◌, ◌≤◌, Bool, true, false, ◌&&◌, List, length, Some, nat_eq, nat_lt, slice_get, slice_index}
+use Rattle.std.specs.Prelude.{◌≡◌, ℕ, ◌*◌, ◌/◌, ◌<◌, ◌≤◌, Bool, true, false, ◌&&◌, List, length, Some, nat_eq, nat_lt, slice_get}
 use Rattle.noc_topo.specs.Shape.{neighbour, nodes}
 use Rattle.noc_packet.specs.Set.{has_bit}
 use Rattle.noc_lanes.specs.declared.lanes.TheConstants.{LANES}
 use Rattle.noc_theory.specs.Good.{IsGoodSetup}
 use Rattle.noc_turns.specs.declared.outlook.Outlook.{Outlook}
-use Rattle.noc_wires.specs.Waking.{AreNear, has_moved}
-use Rattle.noc_wires.specs.declared.awake.TheConstants.{BLOCKS}
+use Rattle.noc_wires.specs.Waking.{has_moved}
+use Rattle.noc_wires.specs.declared.left.TheConstants.{SHARE}
 use Rattle.noc_rows.specs.Opened.{AreAll}
 use Rattle.noc_rows.specs.Own.{IsIn, ShowsIn}
 use Rattle.noc_rows.specs.Rounds.{Start}
-use Rattle.noc_rows.specs.Tiles.{AreReady, HasBlock, IsTileAt, nears_in}
+use Rattle.noc_rows.specs.Tiles.{AreReady, HasShare, IsTileAt, nears_in}
 use Rattle.noc_rows.specs.declared.post.Post.{Post}
 use Rattle.noc_rows.specs.declared.tile.Tile.{Tile}
 
@@ -23,20 +23,20 @@ abbrev pub AreBlocksOf : ℕ → ℕ → ℕ → ℕ → Type 0
 AreBlocksOf tiles blocks i own =
     (b : ℕ) → has_bit own b ≡ (nat_lt b blocks && nat_eq (tile_of tiles blocks b) i)
 
--- by block of the network that runs, these are the blocks to which its links lead
-pub record AreNearIn (start : Start) (leads : List ℕ) : Type 0 where
+-- the run is one of a good network, and has a block for each router
+pub record HasBlocks (start : Start) : Type 0 where
   pub good : IsGoodSetup start.net
-  pub few : length leads ≤ BLOCKS
   pub blocks : nodes start.net.relation.grid ≤ start.blocks * LANES
-  pub near : AreNear start.net.relation.grid leads
 
--- own blocks have met those of another tile: by block, these are the blocks to which links lead
-pub record MeetsMore {A : Type 0} (start : Start) (near : List ℕ) (own other : ℕ)
-    (old new : List (Post A)) : Type 0 where
+-- own blocks have met those of another tile: they hear from each share of these from which links
+-- lead to them
+pub record MeetsMore {A : Type 0} (start : Start) (own other : ℕ) (old new : List (Post A))
+    : Type 0 where
   pub ready : AreReady start (has_bit own) 0 old → AreReady start (has_bit own) 0 new
-  pub kept : (b : ℕ) → HasBlock (nears_in old) b → HasBlock (nears_in new) b
-  pub more : (b c : ℕ) → has_bit own b ≡ true → has_bit other c ≡ true
-      → has_bit (slice_index near c) b ≡ true → HasBlock (nears_in new) c
+  pub kept : (h : ℕ) → HasShare (nears_in old) h → HasShare (nears_in new) h
+  pub more : (s q r port : ℕ) → s < nodes start.net.relation.grid
+      → neighbour start.net.relation.grid s q ≡ Some (r, port) → has_bit own (r / LANES) ≡ true
+      → has_bit other (s / LANES) ≡ true → HasShare (nears_in new) (s / SHARE)
 
 -- of the blocks that are no own ones it is taken that flits have moved in them
 pub record HasRoused (own : ℕ → Bool) (old new : List Outlook) : Type 0 where
@@ -57,7 +57,7 @@ pub record IsNew {A : Type 0} (value : A → ℕ) (w : ℕ) (start : Start) (cou
   pub near : (r q s port : ℕ) → IsIn start.net (has_bit one.own) r
       → neighbour start.net.relation.grid r q ≡ Some (s, port)
       → has_bit one.own (s / LANES) ≡ false → tile_of count start.blocks (s / LANES) < m
-      → HasBlock (nears_in one.posts.items) (s / LANES)
+      → HasShare (nears_in one.posts.items) (s / SHARE)
 
 -- so many tiles, each of which is
 abbrev pub AreNew : {A : Type 0} → (A → ℕ) → ℕ → Start → ℕ → ℕ → ℕ → List (Tile A) → Type 0

@@ -9,38 +9,39 @@ use Rattle.noc_wires.specs.Left.{left_of}
 use Rattle.noc_wires.specs.Telling.{packets_in, with_packets, lane_in as told_lane}
 use Rattle.noc_wires.specs.Letters.{IsLinked, links_in, tells_in}
 use Rattle.noc_rows.specs.Own.{IsIn}
+use Rattle.noc_wires.specs.declared.left.TheConstants.{PARTS, SHARE}
 use Rattle.noc_wires.specs.declared.letter.Letter.{Letter}
 use Rattle.noc_rows.specs.declared.mail.Mail.{Mail}
 use Rattle.noc_rows.specs.declared.network.Network.{Network}
 
--- a letter is what block b of a network sends in cycle n
-pub record IsLetter {A : Type 0} (value : A → ℕ) (net : Setup) (n b : ℕ) (letter : Letter A)
+-- a letter is what share h of a network sends in cycle n
+pub record IsLetter {A : Type 0} (value : A → ℕ) (net : Setup) (n h : ℕ) (letter : Letter A)
     : Type 0 where
-  pub linked : IsLinked value net.relation.grid net.relation.vcs b letter
-  pub sends : (k port : ℕ) → k < LANES → b * LANES + k < nodes net.relation.grid
+  pub linked : IsLinked value net.relation.grid net.relation.vcs h letter
+  pub sends : (k port : ℕ) → k < SHARE → h * SHARE + k < nodes net.relation.grid
       → port < ports net.relation.grid
-      → Sends net n (b * LANES + k) port (links_in value letter k) (tells_in value letter k)
+      → Sends net n (h * SHARE + k) port (links_in value letter k) (tells_in value letter k)
 
--- a mail has what its block sends in cycle n, where it is of one
+-- a mail has what its share sends in cycle n, where it is of one
 abbrev pub IsMail : {A : Type 0} → (A → ℕ) → Setup → ℕ → Mail A → Type 0
-IsMail value net n mail = (b : ℕ) → mail.block ≡ Some b → IsLetter value net n b mail.letter
+IsMail value net n mail = (h : ℕ) → mail.share ≡ Some h → IsLetter value net n h mail.letter
 
--- the set of one block, or of none
+-- the set of one share, or of none
 abbrev pub alone : Option ℕ → ℕ
 alone None = 0
-alone (Some b) = 2 ^ b
+alone (Some h) = 2 ^ h
 
--- to own blocks that have run cycle n, from `was` to `is`, comes what the blocks `from` have sent
+-- to own blocks that have run cycle n, from `was` to `is`, comes what the shares `from` have sent
 pub record HasHeardFrom {A : Type 0} (value : A → ℕ) (net : Setup) (own from : ℕ → Bool) (n : ℕ)
     (was is : Network A) : Type 0 where
   pub sent : (r q s port : ℕ) → IsIn net own r → neighbour net.relation.grid r q ≡ Some (s, port)
-      → from (s / LANES) ≡ true
+      → from (s / SHARE) ≡ true
       → Sends net n s port (left_of value is.left s) (granted_to net n s)
-  pub left : (s : ℕ) → from (s / LANES) ≡ false → left_of value is.left s ≡ left_of value was.left s
+  pub left : (s : ℕ) → from (s / SHARE) ≡ false → left_of value is.left s ≡ left_of value was.left s
   pub packets : (r i : ℕ) → IsIn net own r → i < size net
       → packets_in value is.states.items r i
       ≡ unwrap_or (heard net.relation.grid net.relation.vcs
-      (λ s o. if from (s / LANES) then granted_to net n s o else None) r i)
+      (λ s o. if from (s / SHARE) then granted_to net n s o else None) r i)
       (packets_in value was.states.items r i)
   pub told : (s : ℕ) → told_lane value is.states.items s
       ≡ option_map (with_packets (packets_in value is.states.items s))
@@ -48,11 +49,12 @@ pub record HasHeardFrom {A : Type 0} (value : A → ℕ) (net : Setup) (own from
   pub states_are : length is.states.items ≡ length was.states.items
   pub rest : is ≡ record was { states = is.states; left = is.left }
 
--- these are other blocks than own ones, and all of those to which links lead from own routers
+-- these are shares of other blocks than own ones, and all of those to which links lead from own
+-- routers
 pub record AreAround (net : Setup) (own from : ℕ → Bool) : Type 0 where
-  pub others : (b : ℕ) → own b ≡ true → from b ≡ false
+  pub others : (h : ℕ) → own (h / PARTS) ≡ true → from h ≡ false
   pub all : (r q s port : ℕ) → IsIn net own r → neighbour net.relation.grid r q ≡ Some (s, port)
-      → own (s / LANES) ≡ false → from (s / LANES) ≡ true
+      → own (s / LANES) ≡ false → from (s / SHARE) ≡ true
 
 -- after cycle n, own blocks and those of their neighbours have what left them in it
 pub record HaveLeft {A : Type 0} (value : A → ℕ) (net : Setup) (own : ℕ → Bool) (n : ℕ)

@@ -35,5 +35,5 @@ start_in mail =
 abbrev pub Follows : {A : Type 0} → (A → ℕ) → List (Mail A) → Mail A → Type 0
 Follows value [] mail = Unit {0}
 Follows value (first ∷ rest) mail =
-    (mail.block ≡ first.block) × (start_in mail ≡ start_in first)
+    (mail.share ≡ first.share) × (start_in mail ≡ start_in first)
     × IsMail value (start_in first).net ((start_in first).cycle + length rest) mail

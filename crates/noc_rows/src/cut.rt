@@ -1,11 +1,11 @@
 //! A network cut into tiles.
 
-ghost use Rattle.std.specs.Prelude.{◌≡◌, ℕ, ◌+◌, ◌++◌, ◌∷◌, [], ◌^◌, ◌<◌, ◌≤◌, true, false, length, slice_index, IfOk, OnOk};
+ghost use Rattle.std.specs.Prelude.{◌≡◌, ℕ, ◌+◌, ◌*◌, ◌/◌, ◌++◌, ◌∷◌, [], ◌^◌, ◌<◌, ◌≤◌, Some, true, false, length, IfOk, OnOk};
+ghost use Rattle.noc_topo.specs.Shape.{neighbour, nodes};
 ghost use Rattle.noc_packet.specs.Set.{IsLeast, has_bit};
 ghost use Rattle.noc_sets.specs.Sets.{less, lowest};
 ghost use Rattle.noc_theory.specs.Good.{IsGoodSetup};
-ghost use Rattle.noc_wires.specs.declared.awake.TheConstants.{BLOCKS};
-ghost use Rattle.noc_rows.specs.Cuts.{AreBlocksOf, AreCut, AreNearIn, AreNew, HasRoused, IsNew, MeetsMore};
+ghost use Rattle.noc_rows.specs.Cuts.{AreBlocksOf, AreCut, AreNew, HasBlocks, HasRoused, IsNew, MeetsMore};
 ghost use Rattle.noc_rows.specs.Rounds.{start_by};
 ghost use Rattle.noc_rows.specs.Shows.{ShowsAt};
 ghost use Rattle.noc_rows.specs.Sizes.{BlocksFit, LetterFits};
@@ -15,9 +15,12 @@ use crate::network::Network;
 use crate::origin::Run;
 use crate::post::{Post, meet};
 use crate::tile::Tile;
-use noc_lanes::Word;
+use noc_lanes::{LANES, Word};
+use noc_opening::near_router;
 use noc_packet::Memory;
+use noc_topo::Shape;
 use noc_turns::Outlook;
+use noc_wires::{BLOCKS, PARTS, SHARE};
 use std::alloc::Global;
 
 // The blocks of a tile: where so many blocks are shared out among so many tiles, block b is in tile
@@ -36,49 +39,65 @@ fn blocks_of(tile: usize, tiles: usize, blocks: usize) -> u32
     own
 }
 
-// A block alone.
+// A block alone, or a share.
 #[inline(always)]
-fn alone(block: usize) -> u32
-    requires { block < BLOCKS }
-    ensures { result ≡ 2 ^ block }
+fn alone(number: usize) -> u32
+    requires { number < LANES }
+    ensures { result ≡ 2 ^ number }
 {
-    1u32 << block as u32
+    1u32 << number as u32
 }
 
-// Those of some blocks from which links lead to others.
-fn near_ones(near: &[u32], own: u32, others: u32) -> u32
-    requires { length near.now ≤ BLOCKS }
-    ensures within { (c : ℕ) → has_bit result c ≡ true → has_bit own c ≡ true }
-    ensures all { (b c : ℕ) → has_bit own c ≡ true → has_bit others b ≡ true
-        → has_bit (slice_index near.now c) b ≡ true → has_bit result c ≡ true }
+// The shares of some blocks from which links lead to others.
+fn near_ones(shape: &Shape, own: u32, others: u32) -> u32
+    requires { nodes shape.now ≤ BLOCKS * LANES }
+    ensures within { (h : ℕ) → has_bit result h ≡ true → has_bit own (h / PARTS) ≡ true }
+    ensures all { (s q r port : ℕ) → s < nodes shape.now
+        → neighbour shape.now s q ≡ Some (r, port) → has_bit others (r / LANES) ≡ true
+        → has_bit own (s / LANES) ≡ true → has_bit result (s / SHARE) ≡ true }
 {
     let mut found = 0u32;
-    for block in 0..near.len() {
-        if own.has(block) && near[block] & others != 0 {
-            found |= alone(block);
+    for share in 0..BLOCKS * PARTS {
+        if own.has(share / PARTS) && leads(shape, share, others) {
+            found |= alone(share);
         }
     }
     found
 }
 
-// The first of some blocks, if there is one.
-fn first_of(blocks: u32) -> Option<usize>
-    ensures { IsLeast (has_bit blocks) result }
+// Whether links lead from a share to some blocks.
+fn leads(shape: &Shape, share: usize, others: u32) -> bool
+    requires { share < BLOCKS * PARTS }
+    ensures { (s q r port : ℕ) → s < nodes shape.now → neighbour shape.now s q ≡ Some (r, port)
+        → has_bit others (r / LANES) ≡ true → s / SHARE ≡ share → result ≡ true }
 {
-    if blocks == 0 {
+    for lane in 0..SHARE {
+        let router = share * SHARE + lane;
+        if router < shape.nodes() && near_router(shape, router) & others != 0 {
+            return true;
+        }
+    }
+    false
+}
+
+// The first of some shares, if there is one.
+fn first_of(shares: u32) -> Option<usize>
+    ensures { IsLeast (has_bit shares) result }
+{
+    if shares == 0 {
         None
     } else {
-        Some(blocks.least())
+        Some(shares.least())
     }
 }
 
 // The others.
-fn but_first(blocks: u32) -> u32
-    ensures members { result ≡ less blocks (lowest blocks) }
-    ensures fewer { result ≤ blocks }
-    ensures ends { 0 < blocks → result < blocks }
+fn but_first(shares: u32) -> u32
+    ensures members { result ≡ less shares (lowest shares) }
+    ensures fewer { result ≤ shares }
+    ensures ends { 0 < shares → result < shares }
 {
-    if blocks == 0 { 0 } else { blocks.but_lowest() }
+    if shares == 0 { 0 } else { shares.but_lowest() }
 }
 
 // Adds the rings to another tile. The list has room for more, so that what stands behind it, which
@@ -92,31 +111,31 @@ fn add<W: Word>(posts: &mut Vec<Post<W>>, post: Post<W>) -> Result<(), Memory>
     Ok(())
 }
 
-// Makes the rings between two tiles: as many as the one or the other has blocks from which links
+// Makes the rings between two tiles: as many as the one or the other has shares from which links
 // lead to the other.
 fn meet_one<W: Word>(
     alloc: Global,
     run: &Run<'_>,
-    near: &[u32],
     here: &mut Tile<W>,
     there: &mut Tile<W>,
 ) -> Result<(), Memory>
     requires memory { LetterFits W.row }
     requires tile { TileFits W.row W.Word W.Clone }
-    requires few { length near.now ≤ BLOCKS }
+    requires few { nodes (start_by run.now).net.relation.grid ≤ BLOCKS * LANES }
     requires apart { (b : ℕ) → has_bit here.old.own b ≡ true → has_bit there.old.own b ≡ false }
     requires here { (b : ℕ) → has_bit here.old.own b ≡ true → b < run.now.blocks }
     requires there { (b : ℕ) → has_bit there.old.own b ≡ true → b < run.now.blocks }
     ensures here_stays { (here.new.own ≡ here.old.own) × (here.new.network ≡ here.old.network) }
     ensures there_stays { (there.new.own ≡ there.old.own)
         × (there.new.network ≡ there.old.network) }
-    ensures here { OnOk result (MeetsMore (start_by run.now) near.now here.old.own there.old.own
+    ensures here { OnOk result (MeetsMore (start_by run.now) here.old.own there.old.own
         here.old.posts.items here.new.posts.items) }
-    ensures there { OnOk result (MeetsMore (start_by run.now) near.now there.old.own here.old.own
+    ensures there { OnOk result (MeetsMore (start_by run.now) there.old.own here.old.own
         there.old.posts.items there.new.posts.items) }
 {
-    let mut from = near_ones(near, here.own, there.own);
-    let mut back = near_ones(near, there.own, here.own);
+    let shape = run.relation.shape();
+    let mut from = near_ones(shape, here.own, there.own);
+    let mut back = near_ones(shape, there.own, here.own);
     while from != 0 || back != 0 {
         let (one, other) = meet(alloc, first_of(from), first_of(back), run)?;
         add(&mut here.posts, one)?;
@@ -131,13 +150,12 @@ fn meet_one<W: Word>(
 fn meet_all<W: Word>(
     alloc: Global,
     run: &Run<'_>,
-    near: &[u32],
     tiles: &mut Vec<Tile<W>>,
     tile: &mut Tile<W>,
 ) -> Result<(), Memory>
     requires memory { LetterFits W.row }
     requires tile { TileFits W.row W.Word W.Clone }
-    requires near { AreNearIn (start_by run.now) near.now }
+    requires blocks { HasBlocks (start_by run.now) }
     requires tiles { (count m : ℕ)
         × AreNew W.value W.bits (start_by run.now) count m m tiles.old.items
         × IsNew W.value W.bits (start_by run.now) count m 0 tile.old }
@@ -148,7 +166,7 @@ fn meet_all<W: Word>(
         × IsNew W.value W.bits (start_by run.now) count m (m + 1) tile.new) }
 {
     for number in 0..tiles.len() {
-        meet_one(alloc, run, near, &mut tiles[number], tile)?;
+        meet_one(alloc, run, &mut tiles[number], tile)?;
     }
     Ok(())
 }
@@ -195,7 +213,7 @@ pub(crate) fn cut<W: Word>(
             posts: Vec::new(alloc),
             is_whole: false,
         };
-        meet_all(alloc, run, &network.plan.near, &mut tiles, &mut tile)?;
+        meet_all(alloc, run, &mut tiles, &mut tile)?;
         tiles.push(tile)?;
     }
     Ok(tiles)

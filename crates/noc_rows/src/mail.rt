@@ -1,6 +1,6 @@
 //! What a tile of a network sends another one in a cycle.
 
-ghost use Rattle.std.specs.Prelude.{◌≡◌, ℕ, ◌<◌, Bool, true, Some, length, nat_eq, IfOk};
+ghost use Rattle.std.specs.Prelude.{◌≡◌, ℕ, ◌/◌, ◌<◌, Bool, true, Some, length, nat_eq, IfOk};
 ghost use Rattle.noc_packet.specs.Set.{has_bit};
 ghost use Rattle.noc_theory.specs.Good.{IsGoodSetup};
 ghost use Rattle.noc_theory.specs.Network.{Setup};
@@ -16,28 +16,28 @@ use crate::network::Network;
 use crate::origin::{Origin, Run};
 use noc_lanes::Word;
 use noc_packet::Memory;
-use noc_wires::{Letter, hear, put_letter};
+use noc_wires::{Letter, PARTS, SHARE, hear, put_letter};
 use std::alloc::Global;
 
-/// What a block of a tile sends to another tile in a cycle. It goes by value, and is small.
+/// What a share of a block of a tile sends to another tile in a cycle. It goes by value, and is small.
 #[derive(Drop)]
 pub(crate) struct Mail<W: Word> {
-    /// The block. Where there is none, the letter is of no account.
-    pub(crate) block: Option<usize>,
+    /// The share. Where there is none, the letter is of no account.
+    pub(crate) share: Option<usize>,
     pub(crate) letter: Letter<W>,
     /// The run of which it is.
     pub(crate) start: Origin,
 }
 
 impl<W: Word> Mail<W> {
-    /// A mail of this block, with nothing in it, of this run.
-    pub(crate) fn new(alloc: Global, block: Option<usize>, run: &Run<'_>) -> Result<Mail<W>, Memory>
+    /// A mail of this share, with nothing in it, of this run.
+    pub(crate) fn new(alloc: Global, share: Option<usize>, run: &Run<'_>) -> Result<Mail<W>, Memory>
         requires { LetterFits W.row }
-        ensures block { IfOk result (λ mail. mail.block ≡ block) }
+        ensures share { IfOk result (λ mail. mail.share ≡ share) }
         ensures start { IfOk result (λ mail. start_in mail ≡ start_by run.now) }
     {
         Ok(Mail {
-            block,
+            share,
             letter: Letter::new(alloc)?,
             start: Origin::of(run),
         })
@@ -45,7 +45,7 @@ impl<W: Word> Mail<W> {
 }
 
 impl<W: Word> Network<W> {
-    /// Writes what a block of its own has sent in the cycle in which it has had its turn, and in which
+    /// Writes what a share of a block of its own has sent in the cycle in which it has had its turn, and in which
     /// these were awake.
     pub(crate) fn write(&self, awake: u32, mail: &mut Mail<W>)
         requires memory { BlocksFit W.row }
@@ -54,75 +54,80 @@ impl<W: Word> Network<W> {
             × (routers : ℕ) × (all : Network W)
             × MayStepIn W.value W.bits relation own awake net n all
             × HasTurned W.value W.bits relation awake n routers all self.now
-            × ((b : ℕ) → mail.old.block ≡ Some b → own b ≡ true)
-            × ((b : ℕ) → mail.old.block ≡ Some b → b < length self.now.states.items) }
-        ensures block { mail.new.block ≡ mail.old.block }
+            × ((h : ℕ) → mail.old.share ≡ Some h → own (h / PARTS) ≡ true)
+            × ((h : ℕ) → mail.old.share ≡ Some h
+            → h / PARTS < length self.now.states.items) }
+        ensures share { mail.new.share ≡ mail.old.share }
         ensures start { mail.new.start ≡ mail.old.start }
         ensures is { (relation : Routes) (net : Setup) (own : ℕ → Bool) (n routers : ℕ)
             (all : Network W) → MayStepIn W.value W.bits relation own awake net n all
             → HasTurned W.value W.bits relation awake n routers all self.now
-            → ((b : ℕ) → mail.old.block ≡ Some b → own b ≡ true)
+            → ((h : ℕ) → mail.old.share ≡ Some h → own (h / PARTS) ≡ true)
             → IsMail W.value net n mail.new }
     {
-        if let Some(number) = mail.block {
-            self.write_block(awake, number, &mut mail.letter);
+        if let Some(share) = mail.share {
+            self.write_share(awake, share, &mut mail.letter);
         }
     }
 
-    // .. what that block has sent.
-    fn write_block(&self, awake: u32, number: usize, letter: &mut Letter<W>)
+    // .. what that share has sent.
+    fn write_share(&self, awake: u32, share: usize, letter: &mut Letter<W>)
         requires memory { BlocksFit W.row }
         requires letters { LetterFits W.row }
         requires may { (relation : Routes) × (net : Setup) × (own : ℕ → Bool) × (n : ℕ)
             × (routers : ℕ) × (all : Network W)
             × MayStepIn W.value W.bits relation own awake net n all
             × HasTurned W.value W.bits relation awake n routers all self.now
-            × (own number ≡ true) × (number < length self.now.states.items) }
+            × (own (share / PARTS) ≡ true)
+            × (share / PARTS < length self.now.states.items) }
         ensures { (relation : Routes) (net : Setup) (own : ℕ → Bool) (n routers : ℕ)
             (all : Network W) → MayStepIn W.value W.bits relation own awake net n all
             → HasTurned W.value W.bits relation awake n routers all self.now
-            → own number ≡ true → IsLetter W.value net n number letter.new }
+            → own (share / PARTS) ≡ true → IsLetter W.value net n share letter.new }
     {
+        let number = share / PARTS;
         if awake.has(number) {
-            letter.write(&self.states[number].marks, &self.works[number]);
+            let first = share % PARTS * SHARE;
+            letter.write(&self.states[number].marks, &self.works[number], first);
         } else {
             letter.clear();
         }
     }
 
-    /// Takes what a block of another tile has sent in the cycle that it has run.
+    /// Takes what a share of another tile has sent in the cycle that it has run.
     pub(crate) fn hear(&mut self, mail: &Mail<W>)
         requires memory { BlocksFit W.row }
         requires letters { LetterFits W.row }
         requires mail { (net : Setup) × (n : ℕ) × IsGoodSetup net
             × IsPlanOf W.value W.bits net self.old.plan × IsMail W.value net n mail.now }
         requires states { length self.old.states.items ≡ length self.old.plan.sides.items }
-        requires block { (b : ℕ) → mail.now.block ≡ Some b → b < length self.old.states.items }
+        requires share { (h : ℕ) → mail.now.share ≡ Some h
+            → h / PARTS < length self.old.states.items }
         ensures { (net : Setup) (own : ℕ → Bool) (n : ℕ) → IsGoodSetup net
             → IsPlanOf W.value W.bits net self.old.plan → IsMail W.value net n mail.now
-            → HasHeardFrom W.value net own (has_bit (alone mail.now.block)) n self.old self.new }
+            → HasHeardFrom W.value net own (has_bit (alone mail.now.share)) n self.old self.new }
     {
-        if let Some(number) = mail.block {
-            self.hear_block(number, &mail.letter);
+        if let Some(share) = mail.share {
+            self.hear_share(share, &mail.letter);
         }
     }
 
-    // .. what that block has sent.
-    fn hear_block(&mut self, number: usize, letter: &Letter<W>)
+    // .. what that share has sent.
+    fn hear_share(&mut self, share: usize, letter: &Letter<W>)
         requires memory { BlocksFit W.row }
         requires letters { LetterFits W.row }
         requires letter { (net : Setup) × (n : ℕ) × IsGoodSetup net
             × IsPlanOf W.value W.bits net self.old.plan
-            × IsLetter W.value net n number letter.now }
+            × IsLetter W.value net n share letter.now }
         requires states { length self.old.states.items ≡ length self.old.plan.sides.items }
-        requires block { number < length self.old.states.items }
+        requires block { share / PARTS < length self.old.states.items }
         ensures { (net : Setup) (own : ℕ → Bool) (n : ℕ) → IsGoodSetup net
-            → IsPlanOf W.value W.bits net self.old.plan → IsLetter W.value net n number letter.now
-            → HasHeardFrom W.value net own (λ b. nat_eq b number) n self.old self.new }
+            → IsPlanOf W.value W.bits net self.old.plan → IsLetter W.value net n share letter.now
+            → HasHeardFrom W.value net own (λ h. nat_eq h share) n self.old self.new }
     {
         let plan = &self.plan;
         let states = self.states.as_mut_slice();
-        put_letter(&mut self.left, number, letter);
-        hear(&plan.pattern, plan.sides.as_slice(), number, letter, states);
+        put_letter(&mut self.left, share, letter);
+        hear(&plan.pattern, plan.sides.as_slice(), share, letter, states);
     }
 }

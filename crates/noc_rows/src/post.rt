@@ -8,7 +8,7 @@ ghost use Rattle.noc_rows.specs.Rounds.{Follows, Start, start_by};
 ghost use Rattle.noc_rows.specs.Shows.{IsPlanOf};
 ghost use Rattle.noc_rows.specs.Mails.{HasHeardFrom, alone};
 ghost use Rattle.noc_rows.specs.Sizes.{BlocksFit, LetterFits};
-ghost use Rattle.noc_rows.specs.Tiles.{AreBlocks, HasRun, IsPost, IsReadyPost, near_in};
+ghost use Rattle.noc_rows.specs.Tiles.{AreShares, HasRun, IsPost, IsReadyPost, near_in};
 ghost use Rattle.noc_rows.specs.declared.network.Network.{Network as Blocks};
 
 use crate::mail::Mail;
@@ -39,8 +39,8 @@ impl<W: Word> Protocol<Mail<W>> for Rounds<W> {
 // The rings between a tile and another one, in both directions.
 #[derive(Drop)]
 pub(crate) struct Post<W: Word> {
-    // The block that sends by it, if one does. A mail goes in each cycle all the same.
-    pub(crate) block: Option<usize>,
+    // The share that sends by it, if one does. A mail goes in each cycle all the same.
+    pub(crate) share: Option<usize>,
     // The mail that goes next: none while it is on its way, until the other's has come.
     pub(crate) mail: Option<Mail<W>>,
     // How often its worker has yielded or slept while it waited here.
@@ -50,7 +50,7 @@ pub(crate) struct Post<W: Word> {
 }
 
 impl<W: Word> Post<W> {
-    // Sends what the block has sent in the cycle that the network has run, in which these were
+    // Sends what the share has sent in the cycle that the network has run, in which these were
     // awake, and waits until it is on its way. False where the other tile is gone.
     pub(crate) fn send(&mut self, rt: &impl Wait, network: &Network<W>, awake: u32) -> bool
         requires memory { BlocksFit W.row }
@@ -67,7 +67,7 @@ impl<W: Word> Post<W> {
         let Some(mut mail) = self.mail.take() else {
             return false;
         };
-        mail.block = self.block;
+        mail.share = self.share;
         network.write(awake, &mut mail);
         self.put(rt, mail)
     }
@@ -75,7 +75,7 @@ impl<W: Word> Post<W> {
     // Waits until the mail is on its way. False where the other tile is gone.
     fn put(&mut self, rt: &impl Wait, mail: Mail<W>) -> bool
         requires { Follows W.value (sent self.old.out) mail }
-        ensures block { self.new.block ≡ self.old.block }
+        ensures share { self.new.share ≡ self.old.share }
         ensures back { self.new.back ≡ self.old.back }
         ensures sent { IsTrue result → sent self.new.out ≡ sent self.old.out ++ mail ∷ [] }
     {
@@ -95,7 +95,7 @@ impl<W: Word> Post<W> {
         unreachable!()
     }
 
-    // Waits for what the other tile's block has sent in the cycle that the network has run, and
+    // Waits for what the other tile's share has sent in the cycle that the network has run, and
     // has it hear that. False where the other tile is gone.
     pub(crate) fn receive(&mut self, rt: &impl Wait, network: &mut Network<W>) -> bool
         requires memory { BlocksFit W.row }
@@ -126,7 +126,7 @@ impl<W: Word> Post<W> {
 
     // Waits for a mail. `None` where the other tile is gone and has left none.
     fn take(&mut self, rt: &impl Wait) -> Option<Mail<W>>
-        ensures block { self.new.block ≡ self.old.block }
+        ensures share { self.new.share ≡ self.old.share }
         ensures out { self.new.out ≡ self.old.out }
         ensures none { IfNone result (received self.new.back ≡ received self.old.back) }
         ensures taken { IfSome result (λ mail. Follows W.value (received self.old.back) mail
@@ -168,8 +168,8 @@ fn greet<W: Word>(alloc: Global, hello: Mail<W>) -> Result<Greeted<W>, Memory>
     Ok((out, back, mail))
 }
 
-/// The rings between two tiles of a run: the block `from` of the one sends by them, and `back` of
-/// the other, where there are such blocks.
+/// The rings between two tiles of a run: the share `from` of the one sends by them, and `back` of
+/// the other, where there are such shares.
 pub(crate) fn meet<W: Word>(
     alloc: Global,
     from: Option<usize>,
@@ -180,26 +180,26 @@ pub(crate) fn meet<W: Word>(
     ensures near { IfOk result (λ posts. (near_in posts.0 ≡ alone back)
         × (near_in posts.1 ≡ alone from)) }
     ensures one { IfOk result (λ posts. (own : ℕ → Bool)
-        → AreBlocks (start_by run.now) own true (alone from)
-        → AreBlocks (start_by run.now) own false (alone back)
+        → AreShares (start_by run.now) own true (alone from)
+        → AreShares (start_by run.now) own false (alone back)
         → IsReadyPost (start_by run.now) own 0 posts.0) }
     ensures other { IfOk result (λ posts. (own : ℕ → Bool)
-        → AreBlocks (start_by run.now) own true (alone back)
-        → AreBlocks (start_by run.now) own false (alone from)
+        → AreShares (start_by run.now) own true (alone back)
+        → AreShares (start_by run.now) own false (alone from)
         → IsReadyPost (start_by run.now) own 0 posts.1) }
 {
     let (out, there, mail) = greet(alloc, Mail::new(alloc, from, run)?)?;
     let (answers, here, answer) = greet(alloc, Mail::new(alloc, back, run)?)?;
     Ok((
         Post {
-            block: from,
+            share: from,
             mail: Some(answer),
             yields: 0,
             out,
             back: here,
         },
         Post {
-            block: back,
+            share: back,
             mail: Some(mail),
             yields: 0,
             out: answers,

@@ -130,7 +130,7 @@ fn send_all<W: Word>(
     true
 }
 
-// Receives by each post what other blocks have sent in that cycle, and has the network hear it.
+// Receives by each post what others have sent in that cycle, and has the network hear it.
 // False where a tile near this one is gone.
 fn receive_all<W: Word>(rt: &impl Wait, network: &mut Network<W>, posts: &mut [Post<W>]) -> bool
     requires memory { BlocksFit W.row }

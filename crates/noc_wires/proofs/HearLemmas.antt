@@ -129,12 +129,12 @@ all-now e b x gone = ap (λ z. if e && not z then x else None) gone ∙ at e
     at false = refl
 
 -- the numbers of one router, by its lane
-pub by-lane : (block lane s : ℕ) (tells : ℕ → Option ℕ) → lane < 32 → (if nat_eq s (block * 32 + lane) then tells lane else None) ≡ (if nat_eq s (block * 32 + lane) then tells (s % 32) else None)
-by-lane block lane s tells l = at (cases_eq s (block * 32 + lane))
+pub by-lane : (share lane s : ℕ) (tells : ℕ → Option ℕ) → lane < 16 → (if nat_eq s (share * 16 + lane) then tells lane else None) ≡ (if nat_eq s (share * 16 + lane) then tells (s % 16) else None)
+by-lane share lane s tells l = at (cases_eq s (share * 16 + lane))
   where
-    at : (s ≡ block * 32 + lane) ⊎ (s ≢ block * 32 + lane) → (if nat_eq s (block * 32 + lane) then tells lane else None) ≡ (if nat_eq s (block * 32 + lane) then tells (s % 32) else None)
-    at (inl same) = let e : lane ≡ s % 32 = omega (arith, same, l) in ap (λ k. if nat_eq s (block * 32 + lane) then tells k else None) e
-    at (inr other) = ap (λ b. if b then tells lane else None) (ne_eqb s (block * 32 + lane) other) ∙ sym (ap (λ b. if b then tells (s % 32) else None) (ne_eqb s (block * 32 + lane) other))
+    at : (s ≡ share * 16 + lane) ⊎ (s ≢ share * 16 + lane) → (if nat_eq s (share * 16 + lane) then tells lane else None) ≡ (if nat_eq s (share * 16 + lane) then tells (s % 16) else None)
+    at (inl same) = let e : lane ≡ s % 16 = omega (arith, same, l) in ap (λ k. if nat_eq s (share * 16 + lane) then tells k else None) e
+    at (inr other) = ap (λ b. if b then tells lane else None) (ne_eqb s (share * 16 + lane) other) ∙ sym (ap (λ b. if b then tells (s % 16) else None) (ne_eqb s (share * 16 + lane) other))
 
 -- ---- the numbers of a letter
 module _ {A : Type 0} (value : A → ℕ) (letter : Letter A) (k o : ℕ) where

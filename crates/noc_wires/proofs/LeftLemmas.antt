@@ -47,3 +47,16 @@ place-apart s block other = elim (cases_lt s (block * 32)) [
     | inr above ↦ omega (arith, above)
   ])
 ]
+
+-- .. a share
+pub share-place : (s share : ℕ) → s / 16 ≡ share → 256 + share * 16 + s % 16 ≡ 256 + s
+share-place s share e = let whole : s / 16 * 16 + s % 16 ≡ s = omega arith in omega (arith, whole, ap (λ b. b * 16) e)
+
+pub share-apart : (s share : ℕ) → (s / 16 ≡ share → ⊥) → (256 + s < 256 + share * 16) ⊎ (256 + share * 16 + 16 ≤ 256 + s)
+share-apart s share other = elim (cases_lt s (share * 16)) [
+  | inl l ↦ inl (omega (arith, l))
+  | inr u ↦ inr (elim (cases_lt s (share * 16 + 16)) [
+    | inl l ↦ absurd (other (omega (arith, l, u)))
+    | inr above ↦ omega (arith, above)
+  ])
+]

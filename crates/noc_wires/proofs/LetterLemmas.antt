@@ -1,16 +1,17 @@
 -- What a letter tells of packets.
-use Rattle.std.proofs.Common.{◌≡◌, ◌≢◌, ℕ, ◌^◌, ◌<◌, ◌≤◌, Bool, true, false, List, Option, Some, None, refl, ap, sym, ◌∙◌, subst, inl, inr, bit_or}
+use Rattle.std.proofs.Common.{◌≡◌, ◌≢◌, ℕ, ◌%◌, ◌^◌, ◌<◌, ◌≤◌, Bool, true, false, List, Option, Some, None, refl, ap, sym, ◌∙◌, subst, inl, inr, arith, bit_or}
 use Rattle.std.specs.Prelude.{◌⊎◌, ◌||◌, nat_eq, nat_lt, slice_get, slice_index, if◌then◌else◌}
 use Rattle.std.proofs.lemmas.Bool.{cases_eq, cases_lt, eq-eqb, eqb-true, false≢true, le-ltb, lt-ltb, true≢false}
-use Rattle.std.proofs.lemmas.Nat.{pow_pos}
+use Rattle.std.proofs.lemmas.Nat.{mod_below, pow_pos}
 use Rattle.noc_packet.specs.Set.{has_bit, IsLeast}
-use Rattle.noc_packet.proofs.SetLemmas.{either_members, has_bit-zero}
+use Rattle.noc_packet.proofs.SetLemmas.{either_members, has_bit-above, has_bit-zero}
 use Rattle.noc_sets.specs.Sets.{less, lowest}
 use Rattle.noc_sets.proofs.MemberLemmas.{or-cases, or-left, or-right, power-members}
 use Rattle.noc_lanes.specs.Lanes.{word}
+use Rattle.noc_lanes.proofs.SetLemmas.{low_members}
 use Rattle.noc_blocks.specs.Marks.{packet_at, packet_or_none, taken_at, taken_or_none}
 use Rattle.noc_blocks.specs.declared.marks.Marks.{Marks}
-use Rattle.noc_blocks.proofs.LoopLemmas.{was-left}
+use Rattle.noc_blocks.proofs.LoopLemmas.{left-part, was-left}
 use Rattle.noc_wires.specs.Letters.{AreTellings, number_of}
 
 -- the numbers that are told, of output channels that there are
@@ -87,3 +88,22 @@ module _ {A : Type 0} (value : A → ℕ) (marks : List (Marks A)) (size asking 
 
   pub none-asked : has_bit asking lane ≡ false → (o : ℕ) → below size tells o ≡ None
   none-asked e = none-told size (taken_at value marks lane) (packet_at marks lane) tells (subst (λ b. AreTellings size (if b then words else 0) (taken_at value marks lane) (packet_at marks lane) tells) e are)
+
+-- ---- the routers of a share
+pub in-share : (lanes k : ℕ) → has_bit (lanes % 2 ^ 16 % 2 ^ 32) k ≡ true → k < 16
+in-share lanes k e = at (cases_lt k 16)
+  where
+    few : lanes % 2 ^ 16 % 2 ^ 32 < 2 ^ 16
+    few = let l = mod_below lanes (2 ^ 16) (omega arith) in omega (arith, l)
+
+    at : (k < 16) ⊎ (16 ≤ k) → k < 16
+    at (inl l) = l
+    at (inr u) = absurd (true≢false (sym e ∙ has_bit-above (lanes % 2 ^ 16 % 2 ^ 32) 16 k few u))
+
+-- .. as bits of a wider number
+pub narrow : (lanes k : ℕ) → k < 16 → has_bit (lanes % 2 ^ 32) k ≡ has_bit lanes k
+narrow lanes k l = low_members lanes k 32 (omega (arith, l))
+
+-- what holds of all that are left holds of them without the least
+pub part-kept : (rest least : ℕ) → IsLeast (has_bit rest) (Some least) → (P : ℕ → Type 0) → ((k : ℕ) → has_bit rest k ≡ true → P k) → (k : ℕ) → has_bit (less rest (lowest rest)) k ≡ true → P k
+part-kept rest least is P all k e = all k (left-part rest rest least is (λ j h. h) k e)

@@ -46,6 +46,22 @@ by-block s block lane l = at (cases_eq (s / 32) block) (cases_eq (s % 32) lane)
     at (inr other) b = ne_eqb s (block * 32 + lane) (λ e. other (omega (arith, e, l))) ∙ sym (ap (λ x. x && nat_eq (s % 32) lane) (ne_eqb (s / 32) block other))
     at (inl a) (inr other) = ne_eqb s (block * 32 + lane) (λ e. other (omega (arith, e, l))) ∙ sym (ap (λ x. nat_eq (s / 32) block && x) (ne_eqb (s % 32) lane other) ∙ off (nat_eq (s / 32) block))
 
+-- router s, by its share and its place in it
+pub by-share : (s share lane : ℕ) → lane < 16 → nat_eq s (share * 16 + lane) ≡ (nat_eq (s / 16) share && nat_eq (s % 16) lane)
+by-share s share lane l = at (cases_eq (s / 16) share) (cases_eq (s % 16) lane)
+  where
+    whole : s / 16 * 16 + s % 16 ≡ s
+    whole = omega arith
+
+    off : (b : Bool) → (b && false) ≡ false
+    off true = refl
+    off false = refl
+
+    at : (s / 16 ≡ share) ⊎ (s / 16 ≢ share) → (s % 16 ≡ lane) ⊎ (s % 16 ≢ lane) → nat_eq s (share * 16 + lane) ≡ (nat_eq (s / 16) share && nat_eq (s % 16) lane)
+    at (inl a) (inl b) = eq-eqb s (share * 16 + lane) (sym whole ∙ ap₂ (λ x y. x * 16 + y) a b) ∙ sym (ap₂ (λ x y. x && y) (eq-eqb (s / 16) share a) (eq-eqb (s % 16) lane b))
+    at (inr other) b = ne_eqb s (share * 16 + lane) (λ e. other (omega (arith, e, l))) ∙ sym (ap (λ x. x && nat_eq (s % 16) lane) (ne_eqb (s / 16) share other))
+    at (inl a) (inr other) = ne_eqb s (share * 16 + lane) (λ e. other (omega (arith, e, l))) ∙ sym (ap (λ x. nat_eq (s / 16) share && x) (ne_eqb (s % 16) lane other) ∙ off (nat_eq (s / 16) share))
+
 -- ---- channels with no grant
 module _ (count vcs : ℕ) (t : Telling) (taken : ℕ → ℕ → ℕ) (are : AreGrants count vcs t taken) (s o k : ℕ) (l : s < nodes t.grid) (u : o < count) (e : t.grants s o ≡ Some k) where
   -- a channel that is not granted has none

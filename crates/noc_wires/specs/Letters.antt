@@ -1,15 +1,15 @@
--- What a block sends in a cycle to routers that run elsewhere, and what these note of it.
+-- What a share of a block sends in a cycle to routers that run elsewhere, and what these note of it.
 use Rattle.std.specs.Prelude.{◌≡◌, ℕ, ◌+◌, ◌*◌, ◌/◌, ◌%◌, ◌^◌, ◌<◌, true, List, Option, Some, None, is_some, slice_index, slice_index_or, unwrap_or, [], if◌then◌else◌}
 use Rattle.noc_topo.specs.Shape.{Grid, local_port, neighbour, nodes, ports}
 use Rattle.noc_packet.specs.Set.{has_bit}
 use Rattle.noc_sets.specs.Cycle.{Links}
 use Rattle.noc_lanes.specs.Lanes.{word}
-use Rattle.noc_lanes.specs.declared.lanes.TheConstants.{LANES}
 use Rattle.noc_theory_bits.specs.Owners.{heard}
 use Rattle.noc_theory_blocks.specs.Tells.{HasNoted}
+use Rattle.noc_wires.specs.declared.left.TheConstants.{SHARE}
 use Rattle.noc_wires.specs.declared.letter.Letter.{Letter}
 
--- ---- of router k of the block
+-- ---- of router k of the share
 -- what has left it
 abbrev pub links_in : {A : Type 0} → (A → ℕ) → Letter A → ℕ → Links
 links_in value letter k = record {
@@ -46,12 +46,12 @@ IsOutput g vcs s o =
     (s < nodes g) × (o < ports g * vcs)
     × (o / vcs < local_port g → is_some (neighbour g s (o / vcs)) ≡ true)
 
--- it tells only of routers and channels that there are, in block b, and of a link only where it
+-- it tells only of routers and channels that there are, in share h, and of a link only where it
 -- leads to a router
 abbrev pub IsLinked : {A : Type 0} → (A → ℕ) → Grid → ℕ → ℕ → Letter A → Type 0
-IsLinked value g vcs b letter =
-    (k o p : ℕ) → k < LANES → tells_in value letter k o ≡ Some p
-    → IsOutput g vcs (b * LANES + k) o
+IsLinked value g vcs h letter =
+    (k o p : ℕ) → k < SHARE → tells_in value letter k o ≡ Some p
+    → IsOutput g vcs (h * SHARE + k) o
 
 -- at the other end of output channel o, if it is one of a link, this number of a packet is noted
 abbrev pub IsNotedOver : ℕ → ℕ → ℕ → (ℕ → ℕ → ℕ) → (ℕ → ℕ → ℕ) → Option (ℕ × ℕ) → Type 0

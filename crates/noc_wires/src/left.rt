@@ -1,6 +1,6 @@
 //! What has left all routers in the last cycle.
 
-ghost use Rattle.std.specs.Prelude.{◌≡◌, ◌≢◌, ℕ, ◌+◌, ◌-◌, ◌/◌, ◌%◌, ◌<◌, ◌≤◌, map, slice_index};
+ghost use Rattle.std.specs.Prelude.{◌≡◌, ◌≢◌, ◌⊎◌, ℕ, ◌+◌, ◌-◌, ◌*◌, ◌/◌, ◌%◌, ◌<◌, ◌≤◌, map, slice_index};
 ghost use Rattle.noc_topo.specs.Shape.{Grid, IsGrid, nodes, ports};
 ghost use Rattle.noc_lanes.specs.Channels.{links_by};
 ghost use Rattle.noc_lanes.specs.Lanes.{word};
@@ -11,6 +11,13 @@ ghost use Rattle.noc_blocks.specs.Sides.{AreSides, FitsRow};
 use crate::awake::BLOCKS;
 use noc_blocks::{Frame, ROOM, ROW, Sides, entry, gather, put_row};
 use noc_lanes::{LANES, Lanes, Links, Word, alike, put};
+
+/// How many routers tell of themselves together where others run elsewhere: a share of a block.
+/// Few are less to move from one processor to another.
+pub const SHARE: usize = 16;
+
+/// How many shares a block has.
+pub const PARTS: usize = LANES / SHARE;
 
 /// By router, what has left it: the words of the routers stand one after the other, behind some
 /// room.
@@ -80,6 +87,30 @@ impl<W: Word> Left<W> {
         put_row(credits, start, &mut self.credits);
     }
 
+    /// What has left a share: by router, these channels.
+    pub fn put_share(
+        &mut self,
+        share: usize,
+        flits: &[W; SHARE],
+        tails: &[W; SHARE],
+        credits: &[W; SHARE],
+    )
+        requires { share < BLOCKS * PARTS }
+        ensures here { (s : ℕ) → s / SHARE ≡ share
+            → left_of W.value self.new s ≡ record {
+              flits = word W.value (s % SHARE) flits.now;
+              tails = word W.value (s % SHARE) tails.now;
+              credits = word W.value (s % SHARE) credits.now;
+            } }
+        ensures others { (s : ℕ) → s / SHARE ≢ share
+            → left_of W.value self.new s ≡ left_of W.value self.old s }
+    {
+        let start = ROOM + share * SHARE;
+        put_words(flits, start, &mut self.flits);
+        put_words(tails, start, &mut self.tails);
+        put_words(credits, start, &mut self.credits);
+    }
+
     /// What has left a block in another network.
     pub fn copy_block(&mut self, block: usize, other: &Left<W>)
         requires { block < BLOCKS }
@@ -106,4 +137,17 @@ fn block_of<W: Word>(row: &[W; ROW], start: usize) -> Lanes<W>
         put(&mut lanes, lane, entry(row, start + lane));
     }
     lanes
+}
+
+// Writes the words of a share into a row, in which the word of its first router is at this place.
+fn put_words<W: Word>(words: &[W; SHARE], start: usize, row: &mut [W; ROW])
+    requires { start + SHARE ≤ ROW }
+    ensures here { (k : ℕ) → k < SHARE
+        → slice_index (map W.value row.new) (start + k) ≡ word W.value k words.now }
+    ensures others { (p : ℕ) → (p < start) ⊎ (start + SHARE ≤ p)
+        → slice_index (map W.value row.new) p ≡ slice_index (map W.value row.old) p }
+{
+    for j in 0..SHARE {
+        row[start + j] = entry(words, j);
+    }
 }

@@ -1,6 +1,6 @@
-//! What a block sends in a cycle to routers that run elsewhere.
+//! What routers of a block send in a cycle to routers that run elsewhere.
 
-ghost use Rattle.std.specs.Prelude.{◌≡◌, ◌≢◌, ℕ, ◌+◌, ◌*◌, ◌/◌, ◌%◌, ◌<◌, ◌≤◌, true, None, Option, Some, length, nat_eq, nat_lt, slice_index, if◌then◌else◌, IfOk};
+ghost use Rattle.std.specs.Prelude.{◌≡◌, ◌≢◌, ℕ, ◌+◌, ◌*◌, ◌/◌, ◌%◌, ◌^◌, ◌<◌, ◌≤◌, true, None, Option, Some, length, nat_eq, nat_lt, slice_index, if◌then◌else◌, IfOk};
 ghost use Rattle.noc_packet.specs.Set.{has_bit};
 ghost use Rattle.noc_topo.specs.Shape.{Grid};
 ghost use Rattle.noc_blocks.specs.Marks.{packet_at, taken_at};
@@ -11,25 +11,30 @@ ghost use Rattle.noc_wires.specs.Letters.{AreHeard, AreTellings, IsLinked, links
 ghost use Rattle.noc_wires.specs.Telling.{AreSameButPackets, HasWires, granted_or_none, packets_in};
 
 use crate::awake::BLOCKS;
-use crate::left::Left;
+use crate::left::{Left, PARTS, SHARE};
 use crate::tells::tell_over;
-use noc_blocks::{Marks, PLACES, Sides, entry};
-use noc_lanes::{LANES, Lanes, Word, alike, at, put};
+use noc_blocks::{Marks, PLACES, Sides, entry, note};
+use noc_lanes::{LANES, Lanes, Word, at};
 use noc_packet::Memory;
 use noc_turns::{Pattern, State, Work};
 use std::alloc::Global;
 
-/// What a block sends in a cycle. It goes to the receiver by value. Of packets it tells behind a
-/// pointer, which is followed only where routers have been asked for channels.
+// How many sets of routers of a share there are.
+const SETS: u32 = 1 << SHARE;
+
+/// What a share of a block sends in a cycle. It goes to the receiver by value, and is small. Of
+/// packets it tells behind a pointer, which is followed only where routers have been asked for
+/// channels.
 #[derive(Drop)]
 pub struct Letter<W: Word> {
     // Output channels by which a flit has left.
-    flits: Lanes<W>,
+    flits: [W; SHARE],
     // Output channels by which a tail has left.
-    tails: Lanes<W>,
+    tails: [W; SHARE],
     // Input channels that a flit has left.
-    credits: Lanes<W>,
-    // The routers in which packets have asked for channels.
+    credits: [W; SHARE],
+    // The routers of the share in which packets have asked for channels. Bits beyond are of no
+    // account.
     asked: u32,
     // What it tells of these.
     told: Box<Told<W>>,
@@ -39,74 +44,87 @@ pub struct Letter<W: Word> {
 #[derive(Drop)]
 struct Told<W: Word> {
     // The output channels that packets have been granted.
-    granted: Lanes<W>,
+    granted: [W; SHARE],
     // By output channel that one has been granted, the number of the packet.
-    packets: [[u32; PLACES]; LANES],
+    packets: [[u32; PLACES]; SHARE],
 }
 
 impl<W: Word> Letter<W> {
-    /// Of a block that sends nothing.
+    /// Of a share that sends nothing.
     pub fn new(alloc: Global) -> Result<Letter<W>, Memory>
         ensures links { IfOk result (λ letter.
-            (k : ℕ) → k < LANES → links_in W.value letter k ≡ NOTHING) }
+            (k : ℕ) → k < SHARE → links_in W.value letter k ≡ NOTHING) }
         ensures tells { IfOk result (λ letter.
-            (k o : ℕ) → k < LANES → tells_in W.value letter k o ≡ None) }
+            (k o : ℕ) → k < SHARE → tells_in W.value letter k o ≡ None) }
     {
         let told = Told {
-            granted: alike(W::none()),
-            packets: [[0; PLACES]; LANES],
+            granted: no_words(),
+            packets: [[0; PLACES]; SHARE],
         };
         Ok(Letter {
-            flits: alike(W::none()),
-            tails: alike(W::none()),
-            credits: alike(W::none()),
+            flits: no_words(),
+            tails: no_words(),
+            credits: no_words(),
             asked: 0,
             told: Box::new(alloc, told)?,
         })
     }
 
-    /// The block sends nothing in this cycle.
+    /// The share sends nothing in this cycle.
     pub fn clear(&mut self)
-        ensures links { (k : ℕ) → k < LANES → links_in W.value self.new k ≡ NOTHING }
-        ensures tells { (k o : ℕ) → k < LANES → tells_in W.value self.new k o ≡ None }
+        ensures links { (k : ℕ) → k < SHARE → links_in W.value self.new k ≡ NOTHING }
+        ensures tells { (k o : ℕ) → k < SHARE → tells_in W.value self.new k o ≡ None }
     {
-        self.flits = alike(W::none());
-        self.tails = alike(W::none());
-        self.credits = alike(W::none());
+        self.flits = no_words();
+        self.tails = no_words();
+        self.credits = no_words();
         self.asked = 0;
     }
 
-    /// What the block sends in a cycle in which it takes part: what leaves its routers, and the
-    /// packets that are granted channels.
-    pub fn write(&mut self, marks: &[Marks<W>; LANES], work: &Work<W>)
-        requires { (size : ℕ) × (tells : ℕ → ℕ → Option ℕ) × (size ≤ PLACES) × (size ≤ W.bits)
-            × ((k : ℕ) → k < LANES
-            → AreTellings size (granted_or_none W.value (Some work.now) k)
-            (taken_at W.value marks.now k) (packet_at marks.now k) (tells k)) }
-        ensures links { (k : ℕ) → k < LANES
-            → links_in W.value self.new k ≡ leaving_of (working_of W.value work.now k) }
+    /// What the share sends in a cycle in which its block takes part: what leaves its routers, and
+    /// the packets that are granted channels. The first of its routers is this one of the block.
+    pub fn write(&mut self, marks: &[Marks<W>; LANES], work: &Work<W>, first: usize)
+        requires first { first + SHARE ≤ LANES }
+        requires tells { (size : ℕ) × (tells : ℕ → ℕ → Option ℕ) × (size ≤ PLACES)
+            × (size ≤ W.bits) × ((k : ℕ) → k < SHARE
+            → AreTellings size (granted_or_none W.value (Some work.now) (first + k))
+            (taken_at W.value marks.now (first + k)) (packet_at marks.now (first + k)) (tells k)) }
+        ensures links { (k : ℕ) → k < SHARE
+            → links_in W.value self.new k ≡ leaving_of (working_of W.value work.now (first + k)) }
         ensures tells { (size : ℕ) (tells : ℕ → ℕ → Option ℕ) → size ≤ PLACES → size ≤ W.bits
-            → ((k : ℕ) → k < LANES
-            → AreTellings size (granted_or_none W.value (Some work.now) k)
-            (taken_at W.value marks.now k) (packet_at marks.now k) (tells k))
-            → (k o : ℕ) → k < LANES
+            → ((k : ℕ) → k < SHARE
+            → AreTellings size (granted_or_none W.value (Some work.now) (first + k))
+            (taken_at W.value marks.now (first + k)) (packet_at marks.now (first + k)) (tells k))
+            → (k o : ℕ) → k < SHARE
             → tells_in W.value self.new k o ≡ (if nat_lt o size then tells k o else None) }
     {
-        self.flits = work.moves.out;
-        self.tails = work.decided.freed;
-        self.credits = work.moves.moved;
-        self.asked = work.pending.asking;
-        let mut rest = work.pending.asking;
+        self.write_links(work, first);
+        let mut rest = of_share(self.asked);
         while !rest.is_none() {
             let lane = rest.least();
-            self.write_router(lane, &marks[lane], at(&work.decided.granted, lane));
+            let place = first + lane;
+            self.write_router(lane, &marks[place], at(&work.decided.granted, place));
             rest = rest.but_lowest();
         }
     }
 
+    // What leaves the routers, and those in which packets have asked for channels.
+    fn write_links(&mut self, work: &Work<W>, first: usize)
+        requires { first + SHARE ≤ LANES }
+        ensures links { (k : ℕ) → k < SHARE
+            → links_in W.value self.new k ≡ leaving_of (working_of W.value work.now (first + k)) }
+        ensures asked { (k : ℕ) → k < SHARE
+            → has_bit self.new.asked k ≡ has_bit work.now.pending.asking (first + k) }
+    {
+        self.flits = share_of(&work.moves.out, first);
+        self.tails = share_of(&work.decided.freed, first);
+        self.credits = share_of(&work.moves.moved, first);
+        self.asked = work.pending.asking >> first as u32;
+    }
+
     // The packets that are granted channels in one router.
     fn write_router(&mut self, lane: usize, marks: &Marks<W>, granted: W)
-        requires lane { lane < LANES }
+        requires lane { lane < SHARE }
         requires asked { has_bit self.old.asked lane ≡ true }
         requires tells { (size : ℕ) × (tells : ℕ → Option ℕ)
             × AreTellings size (W.value granted) (λ k. word W.value k marks.now.taken)
@@ -123,8 +141,35 @@ impl<W: Word> Letter<W> {
     {
         let told = &mut *self.told;
         let given = write_packets(marks, granted, &mut told.packets[lane]);
-        put(&mut told.granted, lane, given);
+        note(&mut told.granted, lane, given);
     }
+}
+
+// No member for any router of a share.
+fn no_words<W: Word>() -> [W; SHARE]
+    ensures { (k : ℕ) → k < SHARE → word W.value k result ≡ 0 }
+{
+    [W::none(); SHARE]
+}
+
+// The words of a share, the first router of which is this one of its block.
+fn share_of<W: Word>(lanes: &Lanes<W>, first: usize) -> [W; SHARE]
+    requires { first + SHARE ≤ LANES }
+    ensures { (k : ℕ) → k < SHARE → word W.value k result ≡ word W.value (first + k) lanes.now }
+{
+    let mut share = [W::none(); SHARE];
+    for lane in 0..SHARE {
+        note(&mut share, lane, at(lanes, first + lane));
+    }
+    share
+}
+
+// The routers of a share that these name.
+fn of_share(lanes: u32) -> u32
+    ensures same { (k : ℕ) → k < SHARE → has_bit result k ≡ has_bit lanes k }
+    ensures within { (k : ℕ) → has_bit (result % 2 ^ 32) k ≡ true → k < SHARE }
+{
+    lanes % SETS
 }
 
 // .. by output channel. The answer is the output channels that they are granted.
@@ -150,41 +195,40 @@ fn write_packets<W: Word>(marks: &Marks<W>, granted: W, packets: &mut [u32; PLAC
     given
 }
 
-/// What has left a block, by its letter.
-pub fn put_letter<W: Word>(left: &mut Left<W>, block: usize, letter: &Letter<W>)
-    requires { block < BLOCKS }
-    ensures here { (s : ℕ) → s / LANES ≡ block
-        → left_of W.value left.new s ≡ links_in W.value letter.now (s % LANES) }
-    ensures others { (s : ℕ) → s / LANES ≢ block
+/// What has left a share, by its letter.
+pub fn put_letter<W: Word>(left: &mut Left<W>, share: usize, letter: &Letter<W>)
+    requires { share < BLOCKS * PARTS }
+    ensures here { (s : ℕ) → s / SHARE ≡ share
+        → left_of W.value left.new s ≡ links_in W.value letter.now (s % SHARE) }
+    ensures others { (s : ℕ) → s / SHARE ≢ share
         → left_of W.value left.new s ≡ left_of W.value left.old s }
 {
-    left.put(block, &letter.flits, &letter.tails, &letter.credits);
+    left.put_share(share, &letter.flits, &letter.tails, &letter.credits);
 }
 
-/// The packets of which a letter tells are noted at the other ends of the links of its block.
+/// The packets of which a letter tells are noted at the other ends of the links of its share.
 pub fn hear<W: Word>(
     pattern: &Pattern<W>,
     sides: &[Sides<Lanes<W>>],
-    block: usize,
+    share: usize,
     letter: &Letter<W>,
     states: &mut [State<W>],
 )
-    requires block { block < length states.old }
     requires wires { (g : Grid) × HasWires W.value W.bits g pattern.now sides.now
-        × IsLinked W.value g pattern.now.frame.fields.width block letter.now }
+        × IsLinked W.value g pattern.now.frame.fields.width share letter.now }
     requires blocks { length states.old ≡ length sides.now }
     ensures heard { (g : Grid) → HasWires W.value W.bits g pattern.now sides.now
-        → IsLinked W.value g pattern.now.frame.fields.width block letter.now
+        → IsLinked W.value g pattern.now.frame.fields.width share letter.now
         → AreHeard g pattern.now.frame.fields.width
-        (λ s o. if nat_eq (s / LANES) block then tells_in W.value letter.now (s % LANES) o
+        (λ s o. if nat_eq (s / SHARE) share then tells_in W.value letter.now (s % SHARE) o
         else None)
         (packets_in W.value states.old) (packets_in W.value states.new) }
     ensures rest { AreSameButPackets W.value states.old states.new }
 {
-    let mut rest = letter.asked;
+    let mut rest = of_share(letter.asked);
     while !rest.is_none() {
         let lane = rest.least();
-        hear_router(pattern, sides, block, lane, letter, states);
+        hear_router(pattern, sides, share, lane, letter, states);
         rest = rest.but_lowest();
     }
 }
@@ -193,30 +237,30 @@ pub fn hear<W: Word>(
 fn hear_router<W: Word>(
     pattern: &Pattern<W>,
     sides: &[Sides<Lanes<W>>],
-    block: usize,
+    share: usize,
     lane: usize,
     letter: &Letter<W>,
     states: &mut [State<W>],
 )
-    requires lane { lane < LANES }
+    requires lane { lane < SHARE }
     requires asked { has_bit letter.now.asked lane ≡ true }
     requires wires { (g : Grid) × HasWires W.value W.bits g pattern.now sides.now
-        × IsLinked W.value g pattern.now.frame.fields.width block letter.now }
+        × IsLinked W.value g pattern.now.frame.fields.width share letter.now }
     requires blocks { length states.old ≡ length sides.now }
     ensures heard { (g : Grid) → HasWires W.value W.bits g pattern.now sides.now
-        → IsLinked W.value g pattern.now.frame.fields.width block letter.now
+        → IsLinked W.value g pattern.now.frame.fields.width share letter.now
         → AreHeard g pattern.now.frame.fields.width
-        (λ s o. if nat_eq s (block * LANES + lane) then tells_in W.value letter.now lane o
+        (λ s o. if nat_eq s (share * SHARE + lane) then tells_in W.value letter.now lane o
         else None)
         (packets_in W.value states.old) (packets_in W.value states.new) }
     ensures rest { AreSameButPackets W.value states.old states.new }
 {
     let told = &*letter.told;
     let packets = &told.packets[lane];
-    let mut rest = at(&told.granted, lane);
+    let mut rest = entry(&told.granted, lane);
     while !rest.is_none() {
         let out = rest.least();
-        let router = block * LANES + lane;
+        let router = share * SHARE + lane;
         tell_over(pattern, sides, router, out, packets[out], states);
         rest = rest.but_lowest();
     }

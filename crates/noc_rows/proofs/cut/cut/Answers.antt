@@ -3,11 +3,11 @@ use Rattle.std.specs.Vec.{with_items}
 use Rattle.std.proofs.lemmas.List.{with_items_is}
 use Rattle.noc_packet.specs.Set.{has_bit}
 use Rattle.noc_turns.specs.declared.outlook.Outlook.{Outlook}
-use Rattle.noc_rows.specs.Cuts.{AreNearIn, HasRoused, IsNew}
+use Rattle.noc_rows.specs.Cuts.{HasRoused, IsNew}
 use Rattle.noc_rows.specs.declared.network.Network.{Network}
 use Rattle.noc_rows.specs.Rounds.{start_by}
 use Rattle.noc_rows.specs.declared.tile.Tile.{Tile}
-use Rattle.noc_rows.proofs.CutLemmas.{are-cut, near-in, new-tile}
+use Rattle.noc_rows.proofs.CutLemmas.{are-cut, has-blocks, new-tile}
 use Rattle.noc_rows.proofs.OpenLemmas.{all-next, all-none}
 use Rattle.noc_rows.proofs.cut.cut.Given as given
 use Rattle.noc_rows.proofs.cut.cut.Goals as goal
@@ -42,7 +42,7 @@ meet_all-requires g c =
     let start = start_by c.args.run.now in
     let one : Tile g.row.W.Denot = record { own = c.blocks_of-own.result; network = record c.in_ok-copy.copy { outlooks = with_items c.in_ok-copy.copy.outlooks c.rouse.new.outlooks }; posts = c.new.result; is_whole = false } in
     let copy = c.in_ok-copy.ensures.is in
-    let sides = subst (AreNearIn (start_by c.args.run.now)) (sym c.deref.ensures.value) (near-in value w start c.args.count c.args.network.now c.requires.good c.requires.shows c.requires.blocks) in
+    let sides = has-blocks value w start c.args.count c.args.network.now c.requires.good c.requires.shows c.requires.blocks in
     let new = new-tile value w start c.args.count c.loop-number.number c.in_ok-copy.copy one c.requires.good (c.in_ok-copy.ensures.shows start.net c.args.run.now.cycle c.requires.shows) (c.requires.blocks ∙ ap length (sym copy.plan.sides)) c.blocks_of-own.ensures c.new.ensures.items (roused g c.in_ok-copy.copy c.blocks_of-own.result c.as_mut_slice.result.now c.rouse.new.outlooks c.as_mut_slice.ensures.value c.rouse.auto.outlooks c.rouse.ensures) refl in
     (c.requires.tile.0, (c.requires.letters, (c.requires.tile, (sides, (c.args.count, c.loop-number.number, c.loop-number.invariant, new)))))
 
@@ -66,5 +66,5 @@ returns g c =
     let w = g.W.Word.bits in
     let start = start_by c.args.run.now in
     let network = c.args.network.now in
-    are-cut value w start c.args.count network.plan.near.items c.loop-number.number c.loop-number.tiles.items (near-in value w start c.args.count network c.requires.good c.requires.shows c.requires.blocks)
+    are-cut value w start c.args.count c.loop-number.number c.loop-number.tiles.items (has-blocks value w start c.args.count network c.requires.good c.requires.shows c.requires.blocks)
     (omega (arith, c.loop-number-test.false, c.loop-number.auto.number-end)) c.loop-number.invariant

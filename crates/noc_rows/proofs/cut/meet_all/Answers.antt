@@ -1,7 +1,7 @@
 use Rattle.std.proofs.Common.{◌≡◌, ◌<◌, Some, length, arith}
 use Rattle.std.specs.Prelude.{slice_get}
 use Rattle.noc_rows.specs.Rounds.{start_by}
-use Rattle.noc_rows.proofs.CutLemmas.{apart-in, here-in, meeting-done, meeting-next, meeting-none, there-in}
+use Rattle.noc_rows.proofs.CutLemmas.{apart-in, few-nodes, here-in, meeting-done, meeting-next, meeting-none, there-in}
 use Rattle.noc_rows.proofs.ListLemmas.{read}
 use Rattle.noc_rows.proofs.cut.meet_all.Goals as goal
 
@@ -35,7 +35,7 @@ meet_one-requires g c =
     let apart = apart-in value w start count m k tiles old c.loop-number.tile within there meeting in
     let ours = here-in value w start count m k tiles old c.loop-number.tile there meeting in
     let theirs = there-in value w start count m k tiles c.loop-number.tile meeting in
-    (c.requires.tile.0, (c.requires.memory, (c.requires.tile, (c.requires.near.few, (apart, (ours, theirs))))))
+    (c.requires.tile.0, (c.requires.memory, (c.requires.tile, (few-nodes (start_by c.args.run.now) c.requires.blocks, (apart, (ours, theirs))))))
 
 pub loop-number-preserved : goal.loop-number-preserved
 loop-number-preserved g c = λ count m are is.
@@ -47,11 +47,11 @@ loop-number-preserved g c = λ count m are is.
     let old = c.index_mut.result.now in
     let within : c.loop-number.number < length c.loop-number.tiles.items = omega (arith, c.loop-number-test.true, c.len-number-end.ensures, c.args.tiles.now.ok.0, was, now) in
     let there : slice_get c.loop-number.tiles.items c.loop-number.number ≡ Some c.index_mut.result.now = read tiles k old within c.index_mut.ensures.value in
-    meeting-next g.W.Word.value g.W.Word.bits (start_by c.args.run.now) count c.args.near.now m k tiles old c.meet_one.new.here c.loop-number.tile c.meet_one.new.there c.requires.near within there meeting
+    meeting-next g.W.Word.value g.W.Word.bits (start_by c.args.run.now) count m k tiles old c.meet_one.new.here c.loop-number.tile c.meet_one.new.there c.requires.blocks within there meeting
     c.in_ok-meet_one.ensures.here_stays c.in_ok-meet_one.ensures.there_stays c.in_ok-meet_one.ensures.here c.in_ok-meet_one.ensures.there
 
 pub returns : goal.returns
 returns g c = λ count m are is.
     let was = are.many in
-    meeting-done g.W.Word.value g.W.Word.bits (start_by c.args.run.now) count c.args.near.now m c.loop-number.number c.loop-number.tiles.items c.loop-number.tile c.requires.near
+    meeting-done g.W.Word.value g.W.Word.bits (start_by c.args.run.now) count m c.loop-number.number c.loop-number.tiles.items c.loop-number.tile c.requires.blocks
     (omega (arith, c.loop-number-test.false, c.loop-number.auto.number-end, c.len-number-end.ensures, c.args.tiles.now.ok.0, was)) (c.loop-number.invariant count m are is)

@@ -1,4 +1,5 @@
-use Rattle.std.proofs.Common.{◌≡◌, ◌<◌, ◌+◌, arith, true, ℕ}
+use Rattle.std.proofs.Common.{◌≡◌, ◌<◌, ◌+◌, ◌/◌, Some, arith, subst, sym, true, ℕ}
+use Rattle.noc_topo.specs.Shape.{neighbour, nodes}
 use Rattle.noc_packet.specs.Set.{has_bit}
 use Rattle.noc_rows.specs.Mails.{alone}
 use Rattle.noc_rows.specs.Rounds.{start_by}
@@ -39,8 +40,8 @@ loop-from-preserved g c =
     let there = c.args.there.now.own in
     let from = c.first_of.result in
     let back = c.first_of-in-loop-from.result in
-    let from_in : (b : ℕ) → has_bit (alone from) b ≡ true → has_bit here b ≡ true = λ b e. c.near_ones-from.ensures.within b (inv.there.part b (first-in c.loop-from.from from c.first_of.ensures b e)) in
-    let back_in : (b : ℕ) → has_bit (alone back) b ≡ true → has_bit there b ≡ true = λ b e. c.near_ones-back.ensures.within b (inv.here.part b (first-in c.loop-from.back back c.first_of-in-loop-from.ensures b e)) in
+    let from_in : (h : ℕ) → has_bit (alone from) h ≡ true → has_bit here (h / 2) ≡ true = λ b e. c.near_ones-from.ensures.within b (inv.there.part b (first-in c.loop-from.from from c.first_of.ensures b e)) in
+    let back_in : (h : ℕ) → has_bit (alone back) h ≡ true → has_bit there (h / 2) ≡ true = λ b e. c.near_ones-back.ensures.within b (inv.here.part b (first-in c.loop-from.back back c.first_of-in-loop-from.ensures b e)) in
     let one = c.in_ok-one.ensures.one (has_bit here) (are-ours start here (alone from) c.requires.here from_in) (are-theirs start here there (alone back) c.requires.there (apart-back here there c.requires.apart) back_in) in
     let other = c.in_ok-one.ensures.other (has_bit there) (are-ours start there (alone back) c.requires.there back_in) (are-theirs start there here (alone from) c.requires.here c.requires.apart from_in) in
     record {
@@ -54,10 +55,12 @@ loop-from-preserved g c =
 
 pub returns-clause-here : goal.returns-clause-here
 returns-clause-here g c =
-    meets-all (start_by c.args.run.now) c.args.near.now c.args.here.now.own c.args.there.now.own c.near_ones-back.result c.loop-from.back c.args.here.now.posts.items c.loop-from.here.posts.items c.if-back-ne0.false
-    (λ b k e f h. c.near_ones-back.ensures.all b k f e h) c.loop-from.invariant.here
+    let grid : c.shape-shape.result.now ≡ c.args.run.now.relation.now.grid = c.shape-shape.ensures.value in
+    meets-all (start_by c.args.run.now) c.args.here.now.own c.args.there.now.own c.near_ones-back.result c.loop-from.back c.args.here.now.posts.items c.loop-from.here.posts.items c.if-back-ne0.false
+    (λ s q r port l e f h. c.near_ones-back.ensures.all s q r port (subst (λ grid. s < nodes grid) (sym grid) l) (subst (λ grid. neighbour grid s q ≡ Some (r, port)) (sym grid) e) f h) c.loop-from.invariant.here
 
 pub returns-clause-there : goal.returns-clause-there
 returns-clause-there g c =
-    meets-all (start_by c.args.run.now) c.args.near.now c.args.there.now.own c.args.here.now.own c.near_ones-from.result c.loop-from.from c.args.there.now.posts.items c.loop-from.there.posts.items c.if-from-ne0.false
-    (λ b k e f h. c.near_ones-from.ensures.all b k f e h) c.loop-from.invariant.there
+    let grid : c.shape-shape.result.now ≡ c.args.run.now.relation.now.grid = c.shape-shape.ensures.value in
+    meets-all (start_by c.args.run.now) c.args.there.now.own c.args.here.now.own c.near_ones-from.result c.loop-from.from c.args.there.now.posts.items c.loop-from.there.posts.items c.if-from-ne0.false
+    (λ s q r port l e f h. c.near_ones-from.ensures.all s q r port (subst (λ grid. s < nodes grid) (sym grid) l) (subst (λ grid. neighbour grid s q ≡ Some (r, port)) (sym grid) e) f h) c.loop-from.invariant.there

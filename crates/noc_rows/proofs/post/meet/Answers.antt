@@ -13,12 +13,12 @@ pub returns-clause-one : goal.returns-clause-one
 returns-clause-one g c = λ own ours theirs.
     let here = c.in_ok-new.ensures in
     let there = c.in_ok-new-2.ensures in
-    post-met (start_by c.args.run.now) own c.args.back c.in_ok-new.field-0 c.in_ok-new-2.field-0 c.in_ok-answers.answer _ here.block here.start there.block there.start refl c.in_ok-answers.ensures.mail c.in_ok-out.ensures.ends.0
+    post-met (start_by c.args.run.now) own c.args.back c.in_ok-new.field-0 c.in_ok-new-2.field-0 c.in_ok-answers.answer _ here.share here.start there.share there.start refl c.in_ok-answers.ensures.mail c.in_ok-out.ensures.ends.0
     c.in_ok-answers.ensures.ends.1 ours theirs
 
 pub returns-clause-other : goal.returns-clause-other
 returns-clause-other g c = λ own ours theirs.
     let here = c.in_ok-new-2.ensures in
     let there = c.in_ok-new.ensures in
-    post-met (start_by c.args.run.now) own c.args.from c.in_ok-new-2.field-0 c.in_ok-new.field-0 c.in_ok-out.mail _ here.block here.start there.block there.start refl c.in_ok-out.ensures.mail c.in_ok-answers.ensures.ends.0
+    post-met (start_by c.args.run.now) own c.args.from c.in_ok-new-2.field-0 c.in_ok-new.field-0 c.in_ok-out.mail _ here.share here.start there.share there.start refl c.in_ok-out.ensures.mail c.in_ok-answers.ensures.ends.0
     c.in_ok-out.ensures.ends.1 ours theirs

@@ -17,9 +17,9 @@ loop-packets-init g c =
     let v = g.W.Word.value in
     let a = c.args in
     let width = a.pattern.now.frame.fields.width in
-    let router = a.block * 32 + a.lane in
-    let rest = v c.at-rest.result in
-    let same : (o : ℕ) → has_bit rest o ≡ has_bit (word v a.lane a.letter.now.told.value.granted) o = λ o. ap (λ n. has_bit n o) (c.at-rest.ensures ∙ ap (λ (t : Told g.row.W.Denot). word v a.lane t.granted) c.deref-told.ensures) in
+    let router = a.share * 16 + a.lane in
+    let rest = v c.entry-rest.result in
+    let same : (o : ℕ) → has_bit rest o ≡ has_bit (word v a.lane a.letter.now.told.value.granted) o = λ o. ap (λ n. has_bit n o) (c.entry-rest.ensures ∙ ap (λ (t : Told g.row.W.Denot). word v a.lane t.granted) c.deref-told.ensures) in
     record {
       heard = λ grid wires linked. heard-none grid width (some_of (λ s o. nat_eq s router && not (has_bit rest o)) (λ s o. tells_in v a.letter.now a.lane o)) (packets_in v a.states.now)
           (λ s o. none-yet (nat_eq s router) (has_bit rest o) (tells_in v a.letter.now a.lane o) (λ e. not-granted v a.letter.now a.lane o (sym (same o) ∙ e)));
@@ -34,8 +34,8 @@ pub but_lowest-rest-requires : goal.but_lowest-rest-requires
 but_lowest-rest-requires g c = more-left _ _ c.is_none.ensures c.loop-packets-test.true
 
 -- a router that tells of a packet is one of the network
-router-fits : (block lane count : ℕ) → block * 32 + lane < count → count ≤ 256 → block * 32 + lane < 256
-router-fits block lane count l few = omega (arith, l, few)
+router-fits : (share lane count : ℕ) → share * 16 + lane < count → count ≤ 256 → share * 16 + lane < 256
+router-fits share lane count l few = omega (arith, l, few)
 
 pub overflow_mul-router : goal.overflow_mul-router
 overflow_mul-router g c =
@@ -44,7 +44,7 @@ overflow_mul-router g c =
     let r = c.requires.wires in
     let out = c.least-out.result in
     let tells = granted-told v a.letter.now a.lane out c.requires.asked (c.loop-packets.invariant.part out c.least-out.ensures.least.0) in
-    let known : a.block * 32 + a.lane < 256 = router-fits a.block a.lane _ (r.2 a.lane out _ c.requires.lane tells).0 r.1.sound.few_nodes in
+    let known : a.share * 16 + a.lane < 256 = router-fits a.share a.lane _ (r.2 a.lane out _ c.requires.lane tells).0 r.1.sound.few_nodes in
     omega (arith, known)
 
 pub overflow_add-router : goal.overflow_add-router
@@ -54,7 +54,7 @@ overflow_add-router g c =
     let r = c.requires.wires in
     let out = c.least-out.result in
     let tells = granted-told v a.letter.now a.lane out c.requires.asked (c.loop-packets.invariant.part out c.least-out.ensures.least.0) in
-    let known : a.block * 32 + a.lane < 256 = router-fits a.block a.lane _ (r.2 a.lane out _ c.requires.lane tells).0 r.1.sound.few_nodes in
+    let known : a.share * 16 + a.lane < 256 = router-fits a.share a.lane _ (r.2 a.lane out _ c.requires.lane tells).0 r.1.sound.few_nodes in
     omega (arith, known)
 
 pub tell_over-requires : goal.tell_over-requires
@@ -73,7 +73,7 @@ loop-packets-preserved g c =
     let a = c.args in
     let inv = c.loop-packets.invariant in
     let width = a.pattern.now.frame.fields.width in
-    let router = a.block * 32 + a.lane in
+    let router = a.share * 16 + a.lane in
     let out = c.least-out.result in
     let is = c.least-out.ensures.least in
     let rest = v c.loop-packets.rest in
@@ -101,7 +101,7 @@ returns-clause-heard g c = λ grid wires linked.
     let v = g.W.Word.value in
     let a = c.args in
     let width = a.pattern.now.frame.fields.width in
-    let router = a.block * 32 + a.lane in
+    let router = a.share * 16 + a.lane in
     let rest = v c.loop-packets.rest in
     let none = none-more _ _ c.is_none.ensures c.loop-packets-test.false in
     heard-same grid width (some_of (λ s o. nat_eq s router && not (has_bit rest o)) (λ s o. tells_in v a.letter.now a.lane o)) (λ s o. if nat_eq s router then tells_in v a.letter.now a.lane o else None)

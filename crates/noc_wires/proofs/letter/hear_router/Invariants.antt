@@ -12,8 +12,8 @@ abbrev pub invariant-loop-packets : goal.invariant-loop-packets
 invariant-loop-packets g l =
     let value = g.W.Word.value in
     record {
-      heard : (grid : Grid) → HasWires value g.W.Word.bits grid l.pattern l.sides → IsLinked value grid l.pattern.frame.fields.width l.block l.letter
-          → AreHeard grid l.pattern.frame.fields.width (some_of (λ s o. nat_eq s (l.block * 32 + l.lane) && not (has_bit (value l.rest) o)) (λ s o. tells_in value l.letter l.lane o)) (packets_in value l.fn.states) (packets_in value l.states);
+      heard : (grid : Grid) → HasWires value g.W.Word.bits grid l.pattern l.sides → IsLinked value grid l.pattern.frame.fields.width l.share l.letter
+          → AreHeard grid l.pattern.frame.fields.width (some_of (λ s o. nat_eq s (l.share * 16 + l.lane) && not (has_bit (value l.rest) o)) (λ s o. tells_in value l.letter l.lane o)) (packets_in value l.fn.states) (packets_in value l.states);
       keeps : AreSameButPackets value l.fn.states l.states;
       part : (o : ℕ) → has_bit (value l.rest) o ≡ true → has_bit (word value l.lane l.letter.told.value.granted) o ≡ true;
     }

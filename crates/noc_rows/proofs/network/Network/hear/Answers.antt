@@ -1,10 +1,10 @@
 use Rattle.noc_rows.proofs.MailLemmas.{heard-of-none, heard-of-one}
 use Rattle.noc_rows.proofs.network.Network.hear.Goals as goal
 
-pub hear_block-requires : goal.hear_block-requires
-hear_block-requires g c =
+pub hear_share-requires : goal.hear_share-requires
+hear_share-requires g c =
     let r = c.requires.mail in
-    let number = c.in-Some.number in (
+    let number = c.in-Some.share in (
       c.requires.memory.5,
       (
         c.requires.letters.0,
@@ -14,7 +14,7 @@ hear_block-requires g c =
             c.requires.letters,
             (
               (r.0, r.1, r.2, r.3, r.4 number c.in-Some.is),
-              (c.requires.states, c.requires.block number c.in-Some.is),
+              (c.requires.states, c.requires.share number c.in-Some.is),
             ),
           ),
         ),
@@ -23,8 +23,8 @@ hear_block-requires g c =
 
 pub returns-in-Some : goal.returns-in-Some
 returns-in-Some g c = λ net own n setup plan sent.
-    let number = c.in-Some.number in
-    heard-of-one g.W.Word.value net own n c.args.mail.now.block number c.args.self.now c.hear_block.new.self c.in-Some.is (c.hear_block.ensures net own n setup plan (sent number c.in-Some.is))
+    let number = c.in-Some.share in
+    heard-of-one g.W.Word.value net own n c.args.mail.now.share number c.args.self.now c.hear_share.new.self c.in-Some.is (c.hear_share.ensures net own n setup plan (sent number c.in-Some.is))
 
 pub returns-in_default : goal.returns-in_default
-returns-in_default g c = λ net own n setup plan sent. heard-of-none g.W.Word.value net own n c.args.mail.now.block c.args.self.now c.in_default.is
+returns-in_default g c = λ net own n setup plan sent. heard-of-none g.W.Word.value net own n c.args.mail.now.share c.args.self.now c.in_default.is

@@ -3,10 +3,10 @@ use Rattle.std.proofs.lemmas.Option.{same_Some}
 use Rattle.noc_rows.specs.Mails.{IsLetter}
 use Rattle.noc_rows.proofs.network.Network.write.Goals as goal
 
-pub write_block-requires : goal.write_block-requires
-write_block-requires g c =
+pub write_share-requires : goal.write_share-requires
+write_share-requires g c =
     let r = c.requires.may in
-    let number = c.in-Some.number in (
+    let number = c.in-Some.share in (
       c.requires.memory.5,
       (
         c.requires.letters.0,
@@ -22,5 +22,5 @@ write_block-requires g c =
 
 pub returns-in-Some-clause-is : goal.returns-in-Some-clause-is
 returns-in-Some-clause-is g c = λ relation net own n routers all may step ours b e.
-    let number = c.in-Some.number in
-    subst (λ x. IsLetter g.W.Word.value net n x c.write_block.new.letter) (same_Some number b (sym c.in-Some.is ∙ e)) (c.write_block.ensures relation net own n routers all may step (ours number c.in-Some.is))
+    let number = c.in-Some.share in
+    subst (λ x. IsLetter g.W.Word.value net n x c.write_share.new.letter) (same_Some number b (sym c.in-Some.is ∙ e)) (c.write_share.ensures relation net own n routers all may step (ours number c.in-Some.is))

@@ -7,6 +7,6 @@ abbrev pub invariant-loop : goal.invariant-loop
 invariant-loop g l = record {
   past : sent l.self.out ≡ sent l.initial.self.out;
   mail : l.mail ≡ l.initial.mail;
-  block : l.self.block ≡ l.initial.self.block;
+  share : l.self.share ≡ l.initial.self.share;
   back : l.self.back ≡ l.initial.self.back;
 }

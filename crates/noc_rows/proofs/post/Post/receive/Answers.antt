@@ -52,7 +52,7 @@ pub returns-clause-ready : goal.returns-clause-ready
 returns-clause-ready g c = λ done start own n rings.
     let taken = c.in-Some.ensures.taken in
     record {
-      rings = post-received g.W.Word.value g.W.Word.bits start own n c.args.self.now c.in-Some.mail rings taken.0 _ c.take.ensures.block (ap sent c.take.ensures.out) taken.1;
+      rings = post-received g.W.Word.value g.W.Word.bits start own n c.args.self.now c.in-Some.mail rings taken.0 _ c.take.ensures.share (ap sent c.take.ensures.out) taken.1;
       mail = c.in-Some.mail;
       there = refl;
       is = next-of g.W.Word.value start (sender (received c.args.self.now.back)) n (received c.args.self.now.back) c.in-Some.mail rings.come taken.0;
