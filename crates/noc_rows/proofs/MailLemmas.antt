@@ -1,8 +1,8 @@
 -- What own blocks of a network hear of the others in a cycle, by letters and mails.
 use Rattle.std.proofs.Common.{◌≡◌, ◌≢◌, ℕ, ◌+◌, ◌*◌, ◌/◌, ◌%◌, ◌<◌, ◌^◌, Bool, true, false, length, Option, Some, None, refl, ap, sym, ◌∙◌, subst, arith}
-use Rattle.std.specs.Prelude.{◌||◌, nat_eq, unwrap_or, if◌then◌else◌}
+use Rattle.std.specs.Prelude.{◌||◌, nat_eq, not, unwrap_or, if◌then◌else◌}
 use Rattle.std.proofs.Math.Path.{fun_ext}
-use Rattle.std.proofs.lemmas.Bool.{eq-eqb, eqb-true, false≢true, true≢false}
+use Rattle.std.proofs.lemmas.Bool.{eq-eqb, eqb-true, false≢true, ne_eqb, true≢false}
 use Rattle.std.proofs.lemmas.Nat.{mod_below}
 use Rattle.noc_topo.specs.Shape.{Grid, neighbour, nodes, ports}
 use Rattle.noc_topo.proofs.LinkLemmas.{link_back}
@@ -19,7 +19,7 @@ use Rattle.noc_wires.proofs.TellingLemmas.{rest-then}
 use Rattle.noc_wires.specs.Left.{left_of}
 use Rattle.noc_wires.specs.declared.left.Left.{Left}
 use Rattle.noc_wires.specs.Telling.{AreSameButPackets, packets_in, lane_in as told_lane}
-use Rattle.noc_wires.specs.Letters.{links_in, tells_in}
+use Rattle.noc_wires.specs.Letters.{is_off, leads_off, links_in, tells_in}
 use Rattle.noc_rows.specs.Mails.{HasHeardFrom, HaveLeft, IsLetter, alone}
 use Rattle.noc_rows.specs.Own.{HasHeard, IsIn, MayStepIn, ShowsIn, told_in}
 use Rattle.noc_rows.specs.Steps.{HasStepped}
@@ -116,40 +116,48 @@ module _ {A : Type 0} (value : A → ℕ) (net : Setup) (own : ℕ → Bool) (n 
 
 -- ---- what one share has sent
 module _ {A : Type 0} (value : A → ℕ) (net : Setup) (setup : IsGoodSetup net) (n b : ℕ) (letter : Letter A) (letter_is : IsLetter value net n b letter) where
-  letter-sends : (s port : ℕ) → s / 16 ≡ b → s < nodes net.relation.grid → port < ports net.relation.grid → Sends net n s port (links_in value letter (s % 16)) (tells_in value letter (s % 16))
-  letter-sends s port here low few =
+  letter-sends : (s port : ℕ) → s / 16 ≡ b → s < nodes net.relation.grid → port < ports net.relation.grid → leads_off net.relation.grid s port ≡ true → Sends net n s port (links_in value letter (s % 16)) (tells_in value letter (s % 16))
+  letter-sends s port here low few off =
       let whole : b * 16 + s % 16 ≡ s = omega (arith, here) in
       subst (λ (x : ℕ). Sends net n x port (links_in value letter (s % 16)) (tells_in value letter (s % 16))) whole
-      (letter_is.sends (s % 16) port (mod_below s 16 (omega arith)) (subst (λ (x : ℕ). x < nodes net.relation.grid) (sym whole) low) few)
+      (letter_is.sends (s % 16) port (mod_below s 16 (omega arith)) (subst (λ (x : ℕ). x < nodes net.relation.grid) (sym whole) low) few (subst (λ (x : ℕ). leads_off net.relation.grid x port ≡ true) (sym whole) off))
 
-  pub letter-heard : (own : ℕ → Bool) (was is : Network A) → ((s : ℕ) → s / 16 ≡ b → left_of value is.left s ≡ links_in value letter (s % 16)) → ((s : ℕ) → s / 16 ≢ b → left_of value is.left s ≡ left_of value was.left s)
-      → ((r i : ℕ) → r < nodes net.relation.grid → i < size net
-      → packets_in value is.states.items r i ≡ unwrap_or (heard net.relation.grid net.relation.vcs (λ s o. if nat_eq (s / 16) b then tells_in value letter (s % 16) o else None) r i) (packets_in value was.states.items r i))
-      → AreSameButPackets value was.states.items is.states.items → length is.states.items ≡ length was.states.items → is ≡ record was { states = is.states; left = is.left } → HasHeardFrom value net own (λ c. nat_eq c b) n was is
-  letter-heard own was is here others told same states_are rest = record {
-    sent = λ r q s port k e h.
-        let there = eqb-true (s / 16) b h in
-        let to = behind net setup r q s port k.0 e in
-        subst (λ (x : Links). Sends net n s port x (granted_to net n s)) (sym (here s there)) (sends-so net n s port (links_in value letter (s % 16)) (tells_in value letter (s % 16)) (letter-sends s port there to.0 to.1));
-    left = λ s h. others s (λ there. true≢false (sym (eq-eqb (s / 16) b there) ∙ h));
-    packets = λ r i k u. told r i k.0 u ∙ ap (λ x. unwrap_or x (packets_in value was.states.items r i)) (over r i k.0 (neighbour net.relation.grid r (i / net.relation.vcs)) refl);
-    told = same;
-    states_are = states_are;
-    rest = rest;
-  }
-    where
-      at : (to port vc : ℕ) → to < nodes net.relation.grid → port < ports net.relation.grid → vc < net.relation.vcs → (x : Bool) → nat_eq (to / 16) b ≡ x
-          → (if x then tells_in value letter (to % 16) (port * net.relation.vcs + vc) else None) ≡ (if x then granted_to net n to (port * net.relation.vcs + vc) else None)
-      at to port vc l u v false e = refl
-      at to port vc l u v true e = (letter-sends to port (eqb-true (to / 16) b e) l u).told vc v
+  -- own blocks are others than that of the share
+  module _ (own : ℕ → Bool) (apart : own (b / 2) ≡ false) where
+    sent-off : (r q s port : ℕ) → IsIn net own r → neighbour net.relation.grid r q ≡ Some (s, port) → s / 16 ≡ b → leads_off net.relation.grid s port ≡ true
+    sent-off r q s port k e there = ap (is_off (s / 32)) (link_back net.relation.grid r q s port setup.relation.table.grid k.0 e).back ∙ ap not (ne_eqb (r / 32) (s / 32) other)
+      where
+        other : (r / 32 ≡ s / 32) → ⊥
+        other same = true≢false (sym k.1 ∙ ap own (same ∙ sym (whole-block s) ∙ ap (λ x. x / 2) there) ∙ apart)
 
-      over : (r i : ℕ) → r < nodes net.relation.grid → (x : Option (ℕ × ℕ)) → neighbour net.relation.grid r (i / net.relation.vcs) ≡ x
-          → heard_over net.relation.vcs (λ s o. if nat_eq (s / 16) b then tells_in value letter (s % 16) o else None) (i % net.relation.vcs) x
-          ≡ heard_over net.relation.vcs (λ s o. if nat_eq (s / 16) b then granted_to net n s o else None) (i % net.relation.vcs) x
-      over r i l None e = refl
-      over r i l (Some (to, port)) e =
-          let back = behind net setup r (i / net.relation.vcs) to port l e in
-          at to port (i % net.relation.vcs) back.0 back.1 (mod_below i net.relation.vcs setup.relation.table.some_vcs) (nat_eq (to / 16) b) refl
+    pub letter-heard : (was is : Network A) → ((s : ℕ) → s / 16 ≡ b → left_of value is.left s ≡ links_in value letter (s % 16)) → ((s : ℕ) → s / 16 ≢ b → left_of value is.left s ≡ left_of value was.left s)
+        → ((r i : ℕ) → r < nodes net.relation.grid → i < size net
+        → packets_in value is.states.items r i ≡ unwrap_or (heard net.relation.grid net.relation.vcs (λ s o. if nat_eq (s / 16) b then tells_in value letter (s % 16) o else None) r i) (packets_in value was.states.items r i))
+        → AreSameButPackets value was.states.items is.states.items → length is.states.items ≡ length was.states.items → is ≡ record was { states = is.states; left = is.left } → HasHeardFrom value net own (λ c. nat_eq c b) n was is
+    letter-heard was is here others told same states_are rest = record {
+      sent = λ r q s port k e h.
+          let there = eqb-true (s / 16) b h in
+          let to = behind net setup r q s port k.0 e in
+          subst (λ (x : Links). Sends net n s port x (granted_to net n s)) (sym (here s there)) (sends-so net n s port (links_in value letter (s % 16)) (tells_in value letter (s % 16)) (letter-sends s port there to.0 to.1 (sent-off r q s port k e there)));
+      left = λ s h. others s (λ there. true≢false (sym (eq-eqb (s / 16) b there) ∙ h));
+      packets = λ r i k u. told r i k.0 u ∙ ap (λ x. unwrap_or x (packets_in value was.states.items r i)) (over r i k (neighbour net.relation.grid r (i / net.relation.vcs)) refl);
+      told = same;
+      states_are = states_are;
+      rest = rest;
+    }
+      where
+        at : (to port vc : ℕ) → to < nodes net.relation.grid → port < ports net.relation.grid → (to / 16 ≡ b → leads_off net.relation.grid to port ≡ true) → vc < net.relation.vcs → (x : Bool) → nat_eq (to / 16) b ≡ x
+            → (if x then tells_in value letter (to % 16) (port * net.relation.vcs + vc) else None) ≡ (if x then granted_to net n to (port * net.relation.vcs + vc) else None)
+        at to port vc l u off v false e = refl
+        at to port vc l u off v true e = let there = eqb-true (to / 16) b e in (letter-sends to port there l u (off there)).told vc v
+
+        over : (r i : ℕ) → IsIn net own r → (x : Option (ℕ × ℕ)) → neighbour net.relation.grid r (i / net.relation.vcs) ≡ x
+            → heard_over net.relation.vcs (λ s o. if nat_eq (s / 16) b then tells_in value letter (s % 16) o else None) (i % net.relation.vcs) x
+            ≡ heard_over net.relation.vcs (λ s o. if nat_eq (s / 16) b then granted_to net n s o else None) (i % net.relation.vcs) x
+        over r i k None e = refl
+        over r i k (Some (to, port)) e =
+            let back = behind net setup r (i / net.relation.vcs) to port k.0 e in
+            at to port (i % net.relation.vcs) back.0 back.1 (sent-off r (i / net.relation.vcs) to port k e) (mod_below i net.relation.vcs setup.relation.table.some_vcs) (nat_eq (to / 16) b) refl
 
 -- ---- own blocks have run a cycle, and what the others near them have sent has come
 module _ {A : Type 0} (value : A → ℕ) (w : ℕ) (relation : Routes) (own from : ℕ → Bool) (awake : ℕ) (net : Setup) (n routers : ℕ) (all ran next : Network A) (fits : (x : A) → value x < 2 ^ 64) (may : MayStepIn value w relation own awake net n all)

@@ -22,6 +22,10 @@ use Rattle.noc_rows.proofs.RoundLemmas.{follows, gone-more, next-from, next-is, 
 pub start-kept : {A : Type 0} (a b : Mail A) → b.start ≡ a.start → start_in b ≡ start_in a
 start-kept a b e = ap (λ (o : Origin). start_of o.relation.value o.depth.value o.packets.value.items o.cycle.value o.blocks.value) e
 
+-- what follows some mails follows the same ones
+pub mail-follows : {A : Type 0} (value : A → ℕ) (was now : List (Mail A)) (mail : Mail A) → now ≡ was → Follows value now mail → Follows value was mail
+mail-follows value was now mail same follows = subst (λ (xs : List (Mail _)). Follows value xs mail) same follows
+
 -- the share of a set of one
 pub in-alone : (block : Option ℕ) (b : ℕ) → block ≡ Some b → has_bit (alone block) b ≡ true
 in-alone block b is = ap (λ o. has_bit (alone o) b) is ∙ power-members b b ∙ eq-eqb b b refl
@@ -75,6 +79,9 @@ module _ {A : Type 0} (value : A → ℕ) (w : ℕ) (start : Start) (own : ℕ �
 
     pub comes-below : (states : ℕ) → states ≡ start.blocks → (b : ℕ) → mail.share ≡ Some b → b / 2 < states
     comes-below states size b h = let l : b / 2 < start.blocks = (rings.theirs b (in-alone (sender (received post.back)) b (sym comes-from ∙ h))).1 in omega (arith, l, size)
+
+    pub comes-apart : (b : ℕ) → mail.share ≡ Some b → own (b / 2) ≡ false
+    comes-apart b h = (rings.theirs b (in-alone (sender (received post.back)) b (sym comes-from ∙ h))).0
 
     sender-kept : (next : Post A) → received next.back ≡ received post.back ++ mail ∷ [] → sender (received next.back) ≡ sender (received post.back)
     sender-kept next back = ap sender back ∙ sender-more value start (sender (received post.back)) c (received post.back) mail rings.come

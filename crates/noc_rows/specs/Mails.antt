@@ -7,19 +7,19 @@ use Rattle.noc_theory_bits.specs.Owners.{granted_to, heard}
 use Rattle.noc_theory_bits.specs.Sends.{Sends}
 use Rattle.noc_wires.specs.Left.{left_of}
 use Rattle.noc_wires.specs.Telling.{packets_in, with_packets, lane_in as told_lane}
-use Rattle.noc_wires.specs.Letters.{IsLinked, links_in, tells_in}
+use Rattle.noc_wires.specs.Letters.{IsLinked, leads_off, links_in, tells_in}
 use Rattle.noc_rows.specs.Own.{IsIn}
 use Rattle.noc_wires.specs.declared.left.TheConstants.{PARTS, SHARE}
 use Rattle.noc_wires.specs.declared.letter.Letter.{Letter}
 use Rattle.noc_rows.specs.declared.mail.Mail.{Mail}
 use Rattle.noc_rows.specs.declared.network.Network.{Network}
 
--- a letter is what share h of a network sends in cycle n
+-- a letter is what share h of a network sends to other blocks in cycle n
 pub record IsLetter {A : Type 0} (value : A → ℕ) (net : Setup) (n h : ℕ) (letter : Letter A)
     : Type 0 where
   pub linked : IsLinked value net.relation.grid net.relation.vcs h letter
   pub sends : (k port : ℕ) → k < SHARE → h * SHARE + k < nodes net.relation.grid
-      → port < ports net.relation.grid
+      → port < ports net.relation.grid → leads_off net.relation.grid (h * SHARE + k) port ≡ true
       → Sends net n (h * SHARE + k) port (links_in value letter k) (tells_in value letter k)
 
 -- a mail has what its share sends in cycle n, where it is of one

@@ -1,6 +1,6 @@
 //! What a tile of a network sends another one in a cycle.
 
-ghost use Rattle.std.specs.Prelude.{◌≡◌, ℕ, ◌/◌, ◌<◌, Bool, true, Some, length, nat_eq, IfOk};
+ghost use Rattle.std.specs.Prelude.{◌≡◌, ℕ, ◌/◌, ◌<◌, Bool, false, true, Some, length, nat_eq, IfOk};
 ghost use Rattle.noc_packet.specs.Set.{has_bit};
 ghost use Rattle.noc_theory.specs.Good.{IsGoodSetup};
 ghost use Rattle.noc_theory.specs.Network.{Setup};
@@ -14,9 +14,10 @@ ghost use Rattle.noc_route.specs.Routes.{Routes};
 
 use crate::network::Network;
 use crate::origin::{Origin, Run};
+use crate::plan::Plan;
 use noc_lanes::Word;
 use noc_packet::Memory;
-use noc_wires::{Letter, PARTS, SHARE, hear, put_letter};
+use noc_wires::{Letter, PARTS, hear, put_letter};
 use std::alloc::Global;
 
 /// What a share of a block of a tile sends to another tile in a cycle. It goes by value, and is small.
@@ -87,8 +88,9 @@ impl<W: Word> Network<W> {
     {
         let number = share / PARTS;
         if awake.has(number) {
-            let first = share % PARTS * SHARE;
-            letter.write(&self.states[number].marks, &self.works[number], first);
+            let Plan { pattern, sides, .. } = &self.plan;
+            let marks = &self.states[number].marks;
+            letter.write(pattern, sides.as_slice(), share, marks, &self.works[number]);
         } else {
             letter.clear();
         }
@@ -105,6 +107,7 @@ impl<W: Word> Network<W> {
             → h / PARTS < length self.old.states.items }
         ensures { (net : Setup) (own : ℕ → Bool) (n : ℕ) → IsGoodSetup net
             → IsPlanOf W.value W.bits net self.old.plan → IsMail W.value net n mail.now
+            → ((h : ℕ) → mail.now.share ≡ Some h → own (h / PARTS) ≡ false)
             → HasHeardFrom W.value net own (has_bit (alone mail.now.share)) n self.old self.new }
     {
         if let Some(share) = mail.share {
@@ -123,6 +126,7 @@ impl<W: Word> Network<W> {
         requires block { share / PARTS < length self.old.states.items }
         ensures { (net : Setup) (own : ℕ → Bool) (n : ℕ) → IsGoodSetup net
             → IsPlanOf W.value W.bits net self.old.plan → IsLetter W.value net n share letter.now
+            → own (share / PARTS) ≡ false
             → HasHeardFrom W.value net own (λ h. nat_eq h share) n self.old self.new }
     {
         let plan = &self.plan;

@@ -1,7 +1,7 @@
 //! The rings between two tiles, and waiting at them.
 
-ghost use Rattle.std.specs.Prelude.{◌≡◌, ℕ, ◌+◌, ◌++◌, ◌∷◌, [], Bool, true, false, length, IfNone, IfOk, IfSome, IsTrue};
-ghost use Rattle.rtrb.specs.Ring.{SameConsumer, SameProducer, sent, received};
+ghost use Rattle.std.specs.Prelude.{◌≡◌, ℕ, ◌+◌, ◌<◌, ◌++◌, ◌∷◌, [], Bool, true, false, length, IfNone, IfOk, IfSome, IsTrue};
+ghost use Rattle.rtrb.specs.Ring.{known_items, received, sent};
 ghost use Rattle.noc_packet.specs.Set.{has_bit};
 ghost use Rattle.noc_theory.specs.Good.{IsGoodSetup};
 ghost use Rattle.noc_rows.specs.Rounds.{Follows, Start, start_by};
@@ -17,7 +17,7 @@ use crate::origin::Run;
 use noc_lanes::Word;
 use noc_packet::Memory;
 use noc_waiting::{LOOKS, rested};
-use rtrb::{Consumer, Producer, Protocol, PushError, RingBuffer};
+use rtrb::{Consumer, Producer, Protocol, RingBuffer};
 use std::alloc::Global;
 use std::marker::PhantomData;
 use std::sync::Wait;
@@ -72,19 +72,18 @@ impl<W: Word> Post<W> {
         self.put(rt, mail)
     }
 
-    // Waits until the mail is on its way. False where the other tile is gone.
+    // Waits until there is room for the mail, and sends it. False where the other tile is gone.
     fn put(&mut self, rt: &impl Wait, mail: Mail<W>) -> bool
         requires { Follows W.value (sent self.old.out) mail }
         ensures share { self.new.share ≡ self.old.share }
         ensures back { self.new.back ≡ self.old.back }
         ensures sent { IsTrue result → sent self.new.out ≡ sent self.old.out ++ mail ∷ [] }
     {
-        let mut mail = mail;
         let mut looks = 0u32;
         for _ in rt.forever() {
-            match self.out.push(mail) {
-                Ok(()) => return true,
-                Err(PushError::Full(unsent)) => mail = unsent,
+            if !self.out.is_full() {
+                self.out.push_reserved(mail);
+                return true;
             }
             if self.out.is_abandoned() {
                 return false;
@@ -116,30 +115,30 @@ impl<W: Word> Post<W> {
             → HasHeardFrom W.value start.net own (has_bit (near_in self.old)) (start.cycle + c)
             network.old network.new }
     {
-        let Some(mail) = self.take(rt) else {
+        if !self.wait(rt) {
             return false;
-        };
+        }
+        let mail = self.back.pop_known();
         network.hear(&mail);
         self.mail = Some(mail);
         true
     }
 
-    // Waits for a mail. `None` where the other tile is gone and has left none.
-    fn take(&mut self, rt: &impl Wait) -> Option<Mail<W>>
+    // Waits until a mail is there. False where the other tile is gone and has left none.
+    fn wait(&mut self, rt: &impl Wait) -> bool
         ensures share { self.new.share ≡ self.old.share }
         ensures out { self.new.out ≡ self.old.out }
-        ensures none { IfNone result (received self.new.back ≡ received self.old.back) }
-        ensures taken { IfSome result (λ mail. Follows W.value (received self.old.back) mail
-            × (received self.new.back ≡ received self.old.back ++ mail ∷ [])) }
+        ensures back { received self.new.back ≡ received self.old.back }
+        ensures there { IsTrue result → 0 < length (known_items self.new.back) }
     {
         let mut looks = 0u32;
         for _ in rt.forever() {
-            if let Ok(mail) = self.back.pop() {
-                return Some(mail);
+            if !self.back.is_empty() {
+                return true;
             }
             if self.back.is_abandoned() {
                 // (it may have sent one since, and then ended)
-                return self.back.pop().ok();
+                return !self.back.is_empty();
             }
             looks = rested(rt, looks);
             self.yields = self.yields.saturating_add(given_up(looks));

@@ -141,15 +141,15 @@ module _ {A : Type 0} (value : A → ℕ) (letter : Letter A) (k o : ℕ) where
   abbrev Told : Bool → Bool → Option ℕ
   Told asked granted = if asked then (if granted then Some (slice_index (slice_index_or letter.told.value.packets k []) o) else None) else None
 
-  pub not-asked : has_bit letter.asked k ≡ false → tells_in value letter k o ≡ None
-  not-asked e = ap (λ b. Told b (has_bit (word value k letter.told.value.granted) o)) e
+  pub not-telling : has_bit letter.telling k ≡ false → tells_in value letter k o ≡ None
+  not-telling e = ap (λ b. Told b (has_bit (word value k letter.told.value.granted) o)) e
 
   pub not-granted : has_bit (word value k letter.told.value.granted) o ≡ false → tells_in value letter k o ≡ None
-  not-granted e = ap (Told (has_bit letter.asked k)) e ∙ at (has_bit letter.asked k)
+  not-granted e = ap (Told (has_bit letter.telling k)) e ∙ at (has_bit letter.telling k)
     where
       at : (b : Bool) → Told b false ≡ None
       at true = refl
       at false = refl
 
-  pub granted-told : has_bit letter.asked k ≡ true → has_bit (word value k letter.told.value.granted) o ≡ true → tells_in value letter k o ≡ Some (slice_index (slice_index_or letter.told.value.packets k []) o)
+  pub granted-told : has_bit letter.telling k ≡ true → has_bit (word value k letter.told.value.granted) o ≡ true → tells_in value letter k o ≡ Some (slice_index (slice_index_or letter.told.value.packets k []) o)
   granted-told e f = ap (λ b. Told b (has_bit (word value k letter.told.value.granted) o)) e ∙ ap (Told true) f

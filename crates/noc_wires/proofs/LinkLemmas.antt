@@ -1,6 +1,6 @@
 -- One output channel and its link.
 use Rattle.std.proofs.Common.{◌≡◌, ℕ, ◌+◌, ◌-◌, ◌*◌, ◌/◌, ◌%◌, ◌^◌, ◌<◌, ◌≤◌, Bool, true, false, List, get_or, length, Option, Some, None, refl, ap, ap₂, sym, ◌∙◌, subst, arith, inl, inr}
-use Rattle.std.specs.Prelude.{◌⊎◌, ◌&&◌, ◌||◌, is_some, nat_eq, slice_get, slice_index, if◌then◌else◌}
+use Rattle.std.specs.Prelude.{◌⊎◌, ◌&&◌, ◌||◌, is_some, nat_eq, not, slice_get, slice_index, if◌then◌else◌}
 use Rattle.std.proofs.Math.Nat.{mul-pos}
 use Rattle.std.proofs.Math.Pow.{pow_mono}
 use Rattle.std.proofs.lemmas.Bool.{cases_lt, eqb-true, false≢true, le-ltb, lt-ltb, ne_eqb, true≢false}
@@ -19,7 +19,7 @@ use Rattle.noc_turns.specs.declared.pattern.Pattern.{Pattern}
 use Rattle.noc_turns.specs.declared.state.State.{State}
 use Rattle.noc_theory_blocks.specs.Tells.{AreTold, HasNoted}
 use Rattle.noc_theory_blocks.proofs.TellLemmas.{other-end}
-use Rattle.noc_wires.specs.Letters.{IsNotedOver, IsOutput}
+use Rattle.noc_wires.specs.Letters.{IsNotedOver, IsOutput, is_off, leads_off}
 use Rattle.noc_wires.specs.Telling.{CanBeTold, HasGrant, HasWires, Telling, grants_if, packets_in, place_in, place_of, place_or_none, taken_in}
 use Rattle.noc_wires.proofs.TellingLemmas.{told-nobody, told-over}
 
@@ -188,6 +188,10 @@ module _ {A : Type 0} (value : A → ℕ) (w : ℕ) (pattern : Pattern A) (sides
         let none = no-link (let p = same-port in let e = wires.ports_are in omega (arith, past, p, e)) in
         subst (IsNotedOver vcs o packet now now) (sym none) (λ r i. refl)
 
+    -- it leads to no block
+    pub off-nowhere : pattern.frame.ports ≤ port + 1 → false ≡ leads_off g s (o / vcs)
+    off-nowhere past = sym (ap (is_off (s / 32)) (no-link (let p = same-port in let e = wires.ports_are in omega (arith, past, p, e))))
+
     module _ (within : port + 1 < pattern.frame.ports) where
       leads : o / vcs < local_port g
       leads = let p = same-port in let e = wires.ports_are in omega (arith, within, p, e)
@@ -200,6 +204,10 @@ module _ {A : Type 0} (value : A → ℕ) (w : ℕ) (pattern : Pattern A) (sides
 
       pub high : place_in value sides s port < 768
       high = let e = place in let l = node-few leads in omega (arith, e, l)
+
+      -- the block to which it leads
+      pub off-there : (to : ℕ) → 256 + to ≡ place_in value sides s port → not (nat_eq (to / 32) (s / 32)) ≡ leads_off g s (o / vcs)
+      off-there to to_is = let same : to ≡ node leads = (let e = place in omega (arith, to_is, e)) in ap (λ r. not (nat_eq (r / 32) (s / 32))) same ∙ sym (ap (is_off (s / 32)) (over leads))
 
       module _ (to channel : ℕ) (to_is : 256 + to ≡ place_in value sides s port) (channel_of : channel ≡ (if is_plus port then o + vcs else o - vcs)) where
         same-node : to ≡ node leads

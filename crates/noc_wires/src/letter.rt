@@ -7,12 +7,12 @@ ghost use Rattle.noc_blocks.specs.Marks.{packet_at, taken_at};
 ghost use Rattle.noc_lanes.specs.Lanes.{word};
 ghost use Rattle.noc_turns.specs.States.{working_of};
 ghost use Rattle.noc_wires.specs.Left.{NOTHING, leaving_of, left_of};
-ghost use Rattle.noc_wires.specs.Letters.{AreHeard, AreTellings, IsLinked, links_in, number_of, tells_in};
+ghost use Rattle.noc_wires.specs.Letters.{AreHeard, AreTellings, AreTellingsOf, IsLinked, IsOutput, IsWritten, leads_off as leads_off_by, links_in, number_in, number_of, tells_in, told_off};
 ghost use Rattle.noc_wires.specs.Telling.{AreSameButPackets, HasWires, granted_or_none, packets_in};
 
 use crate::awake::BLOCKS;
 use crate::left::{Left, PARTS, SHARE};
-use crate::tells::tell_over;
+use crate::tells::{neighbour, tell_over};
 use noc_blocks::{Marks, PLACES, Sides, entry, note};
 use noc_lanes::{LANES, Lanes, Word, at};
 use noc_packet::Memory;
@@ -23,8 +23,8 @@ use std::alloc::Global;
 const SETS: u32 = 1 << SHARE;
 
 /// What a share of a block sends in a cycle. It goes to the receiver by value, and is small. Of
-/// packets it tells behind a pointer, which is followed only where routers have been asked for
-/// channels.
+/// packets it tells behind a pointer, which is followed only where one is granted a channel that
+/// leads to another block.
 #[derive(Drop)]
 pub struct Letter<W: Word> {
     // Output channels by which a flit has left.
@@ -33,10 +33,9 @@ pub struct Letter<W: Word> {
     tails: [W; SHARE],
     // Input channels that a flit has left.
     credits: [W; SHARE],
-    // The routers of the share in which packets have asked for channels. Bits beyond are of no
-    // account.
-    asked: u32,
-    // What it tells of these.
+    // The routers of the share that tell of packets.
+    telling: u32,
+    // What they tell.
     told: Box<Told<W>>,
 }
 
@@ -65,7 +64,7 @@ impl<W: Word> Letter<W> {
             flits: no_words(),
             tails: no_words(),
             credits: no_words(),
-            asked: 0,
+            telling: 0,
             told: Box::new(alloc, told)?,
         })
     }
@@ -78,54 +77,62 @@ impl<W: Word> Letter<W> {
         self.flits = no_words();
         self.tails = no_words();
         self.credits = no_words();
-        self.asked = 0;
+        self.telling = 0;
     }
 
-    /// What the share sends in a cycle in which its block takes part: what leaves its routers, and
-    /// the packets that are granted channels. The first of its routers is this one of the block.
-    pub fn write(&mut self, marks: &[Marks<W>; LANES], work: &Work<W>, first: usize)
-        requires first { first + SHARE ≤ LANES }
-        requires tells { (size : ℕ) × (tells : ℕ → ℕ → Option ℕ) × (size ≤ PLACES)
-            × (size ≤ W.bits) × ((k : ℕ) → k < SHARE
-            → AreTellings size (granted_or_none W.value (Some work.now) (first + k))
-            (taken_at W.value marks.now (first + k)) (packet_at marks.now (first + k)) (tells k)) }
-        ensures links { (k : ℕ) → k < SHARE
-            → links_in W.value self.new k ≡ leaving_of (working_of W.value work.now (first + k)) }
-        ensures tells { (size : ℕ) (tells : ℕ → ℕ → Option ℕ) → size ≤ PLACES → size ≤ W.bits
-            → ((k : ℕ) → k < SHARE
-            → AreTellings size (granted_or_none W.value (Some work.now) (first + k))
-            (taken_at W.value marks.now (first + k)) (packet_at marks.now (first + k)) (tells k))
-            → (k o : ℕ) → k < SHARE
-            → tells_in W.value self.new k o ≡ (if nat_lt o size then tells k o else None) }
+    /// What this share sends in a cycle in which its block takes part: what leaves its routers, and
+    /// the packets that are granted channels which lead to other blocks.
+    pub fn write(
+        &mut self,
+        pattern: &Pattern<W>,
+        sides: &[Sides<Lanes<W>>],
+        share: usize,
+        marks: &[Marks<W>; LANES],
+        work: &Work<W>,
+    )
+        requires share { share < BLOCKS * PARTS }
+        requires tells { (g : Grid) × (size : ℕ) × (tells : ℕ → ℕ → Option ℕ)
+            × IsWritten W.value W.bits g pattern.now sides.now share size marks.now work.now tells }
+        ensures links { (k : ℕ) → k < SHARE → links_in W.value self.new k
+            ≡ leaving_of (working_of W.value work.now (share % PARTS * SHARE + k)) }
+        ensures tells { (g : Grid) (size : ℕ) (tells : ℕ → ℕ → Option ℕ)
+            → IsWritten W.value W.bits g pattern.now sides.now share size marks.now work.now tells
+            → (k o : ℕ) → k < SHARE → tells_in W.value self.new k o
+            ≡ (if nat_lt o size
+            then told_off g pattern.now.frame.fields.width (share * SHARE + k) (tells k) o
+            else None) }
     {
+        let first = share % PARTS * SHARE;
         self.write_links(work, first);
-        let mut rest = of_share(self.asked);
+        let mut rest = of_share(work.pending.asking >> first as u32);
         while !rest.is_none() {
             let lane = rest.least();
-            let place = first + lane;
-            self.write_router(lane, &marks[place], at(&work.decided.granted, place));
+            let marks = &marks[first + lane];
+            let granted = at(&work.decided.granted, first + lane);
+            let off = granted_off(pattern, sides, share * SHARE + lane, marks, granted);
+            if !off.is_none() {
+                self.write_router(lane, marks, off);
+            }
             rest = rest.but_lowest();
         }
     }
 
-    // What leaves the routers, and those in which packets have asked for channels.
+    // What leaves the routers.
     fn write_links(&mut self, work: &Work<W>, first: usize)
         requires { first + SHARE ≤ LANES }
         ensures links { (k : ℕ) → k < SHARE
             → links_in W.value self.new k ≡ leaving_of (working_of W.value work.now (first + k)) }
-        ensures asked { (k : ℕ) → k < SHARE
-            → has_bit self.new.asked k ≡ has_bit work.now.pending.asking (first + k) }
+        ensures tells { (k o : ℕ) → tells_in W.value self.new k o ≡ None }
     {
         self.flits = share_of(&work.moves.out, first);
         self.tails = share_of(&work.decided.freed, first);
         self.credits = share_of(&work.moves.moved, first);
-        self.asked = work.pending.asking >> first as u32;
+        self.telling = 0;
     }
 
-    // The packets that are granted channels in one router.
+    // The packets that are granted channels in one router, by these input channels.
     fn write_router(&mut self, lane: usize, marks: &Marks<W>, granted: W)
         requires lane { lane < SHARE }
-        requires asked { has_bit self.old.asked lane ≡ true }
         requires tells { (size : ℕ) × (tells : ℕ → Option ℕ)
             × AreTellings size (W.value granted) (λ k. word W.value k marks.now.taken)
             (slice_index marks.now.packet) tells }
@@ -137,7 +144,25 @@ impl<W: Word> Letter<W> {
         ensures others { (k o : ℕ) → k ≢ lane
             → tells_in W.value self.new k o ≡ tells_in W.value self.old k o }
         ensures links { (k : ℕ) → links_in W.value self.new k ≡ links_in W.value self.old k }
-        ensures asked { self.new.asked ≡ self.old.asked }
+    {
+        self.write_told(lane, marks, granted);
+        self.telling |= 1 << lane as u32;
+    }
+
+    // .. behind the pointer.
+    fn write_told(&mut self, lane: usize, marks: &Marks<W>, granted: W)
+        requires lane { lane < SHARE }
+        requires tells { (size : ℕ) × (tells : ℕ → Option ℕ)
+            × AreTellings size (W.value granted) (λ k. word W.value k marks.now.taken)
+            (slice_index marks.now.packet) tells }
+        ensures here { (size : ℕ) (tells : ℕ → Option ℕ)
+            → AreTellings size (W.value granted) (λ k. word W.value k marks.now.taken)
+            (slice_index marks.now.packet) tells
+            → (o : ℕ) → number_in W.value self.new.told.value lane o
+            ≡ (if nat_lt o size then tells o else None) }
+        ensures others { (k o : ℕ) → k ≢ lane → number_in W.value self.new.told.value k o
+            ≡ number_in W.value self.old.told.value k o }
+        ensures rest { self.new ≡ record self.old { told = self.new.told } }
     {
         let told = &mut *self.told;
         let given = write_packets(marks, granted, &mut told.packets[lane]);
@@ -172,7 +197,62 @@ fn of_share(lanes: u32) -> u32
     lanes % SETS
 }
 
-// .. by output channel. The answer is the output channels that they are granted.
+// Of input channels of a router that are granted output channels, those that are granted one which
+// leads to another block.
+fn granted_off<W: Word>(
+    pattern: &Pattern<W>,
+    sides: &[Sides<Lanes<W>>],
+    router: usize,
+    marks: &Marks<W>,
+    granted: W,
+) -> W
+    requires { (g : Grid) × (size : ℕ) × (tells : ℕ → Option ℕ)
+        × HasWires W.value W.bits g pattern.now sides.now
+        × AreTellingsOf g pattern.now.frame.fields.width router size (W.value granted)
+        (λ k. word W.value k marks.now.taken) (slice_index marks.now.packet) tells }
+    ensures { (g : Grid) (size : ℕ) (tells : ℕ → Option ℕ)
+        → HasWires W.value W.bits g pattern.now sides.now
+        → AreTellingsOf g pattern.now.frame.fields.width router size (W.value granted)
+        (λ k. word W.value k marks.now.taken) (slice_index marks.now.packet) tells
+        → AreTellings size (W.value result) (λ k. word W.value k marks.now.taken)
+        (slice_index marks.now.packet)
+        (told_off g pattern.now.frame.fields.width router tells) }
+{
+    let mut off = W::none();
+    let mut rest = granted;
+    while !rest.is_none() {
+        let out = entry(&marks.taken, rest.least());
+        if leads_off(pattern, sides, router, out.least()) {
+            off = off.or(rest.lowest());
+        }
+        rest = rest.but_lowest();
+    }
+    off
+}
+
+// Whether an output channel of a router leads to another block.
+fn leads_off<W: Word>(
+    pattern: &Pattern<W>,
+    sides: &[Sides<Lanes<W>>],
+    router: usize,
+    out: usize,
+) -> bool
+    requires { (g : Grid) × HasWires W.value W.bits g pattern.now sides.now
+        × IsOutput g pattern.now.frame.fields.width router out }
+    ensures { (g : Grid) → HasWires W.value W.bits g pattern.now sides.now
+        → IsOutput g pattern.now.frame.fields.width router out
+        → result ≡ leads_off_by g router (out / pattern.now.frame.fields.width) }
+{
+    let port = usize::from(pattern.numbering.port[out]);
+    if port + 1 < pattern.frame.ports {
+        neighbour(sides, router, port) / LANES != router / LANES
+    } else {
+        false
+    }
+}
+
+// The packets of these input channels are written by the output channels that they have taken. The
+// answer is these.
 fn write_packets<W: Word>(marks: &Marks<W>, granted: W, packets: &mut [u32; PLACES]) -> W
     requires { (size : ℕ) × (tells : ℕ → Option ℕ)
         × AreTellings size (W.value granted) (λ k. word W.value k marks.now.taken)
@@ -225,7 +305,7 @@ pub fn hear<W: Word>(
         (packets_in W.value states.old) (packets_in W.value states.new) }
     ensures rest { AreSameButPackets W.value states.old states.new }
 {
-    let mut rest = of_share(letter.asked);
+    let mut rest = of_share(letter.telling);
     while !rest.is_none() {
         let lane = rest.least();
         hear_router(pattern, sides, share, lane, letter, states);
@@ -243,7 +323,7 @@ fn hear_router<W: Word>(
     states: &mut [State<W>],
 )
     requires lane { lane < SHARE }
-    requires asked { has_bit letter.now.asked lane ≡ true }
+    requires telling { has_bit letter.now.telling lane ≡ true }
     requires wires { (g : Grid) × HasWires W.value W.bits g pattern.now sides.now
         × IsLinked W.value g pattern.now.frame.fields.width share letter.now }
     requires blocks { length states.old ≡ length sides.now }

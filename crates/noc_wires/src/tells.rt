@@ -215,7 +215,7 @@ fn note_in<W: Word>(marks: &mut [Marks<W>; LANES], lane: usize, channel: usize, 
 
 // The router at the other end of a link.
 #[inline(always)]
-fn neighbour<W: Word>(sides: &[Sides<Lanes<W>>], router: usize, port: usize) -> usize
+pub(crate) fn neighbour<W: Word>(sides: &[Sides<Lanes<W>>], router: usize, port: usize) -> usize
     requires router { router / LANES < length sides.now }
     requires port { port < PORTS }
     requires low { ROOM ≤ place_in W.value sides.now router port }

@@ -6,7 +6,7 @@ use Rattle.noc_packet.proofs.SetLemmas.{has_bit-zero}
 use Rattle.noc_blocks.proofs.LoopLemmas.{left-members, more-left, none-more}
 use Rattle.noc_wires.specs.Letters.{tells_in}
 use Rattle.noc_wires.specs.Telling.{packets_in}
-use Rattle.noc_wires.proofs.HearLemmas.{all-now, by-lane, heard-none, heard-same, heard-then, none-yet, not-asked, some_of}
+use Rattle.noc_wires.proofs.HearLemmas.{all-now, by-lane, heard-none, heard-same, heard-then, none-yet, not-telling, some_of}
 use Rattle.noc_wires.proofs.LetterLemmas.{narrow, part-kept}
 use Rattle.noc_wires.proofs.RestLemmas.{but-one-of, by-share, keeps-all, keeps-then}
 use Rattle.noc_wires.proofs.letter.hear.Goals as goal
@@ -21,7 +21,7 @@ loop-lane-init g c =
       heard = λ grid wires linked.
           heard-none grid width (some_of (λ s o. nat_eq (s / 16) a.share && not (has_bit (rest % 2 ^ 32) (s % 16))) (λ s o. tells_in v a.letter.now (s % 16) o)) (packets_in v a.states.now)
           (λ s o. none-yet (nat_eq (s / 16) a.share) (has_bit (rest % 2 ^ 32) (s % 16)) (tells_in v a.letter.now (s % 16) o)
-          (λ e. not-asked v a.letter.now (s % 16) o (sym (narrow rest (s % 16) (mod_below s 16 (omega arith)) ∙ c.of_share-rest.ensures.same (s % 16) (mod_below s 16 (omega arith))) ∙ e)));
+          (λ e. not-telling v a.letter.now (s % 16) o (sym (narrow rest (s % 16) (mod_below s 16 (omega arith)) ∙ c.of_share-rest.ensures.same (s % 16) (mod_below s 16 (omega arith))) ∙ e)));
       keeps = keeps-all v g.W.Word.bits a.pattern.now a.sides.now a.states.now;
       part = λ k e.
           let l = c.of_share-rest.ensures.within k e in
@@ -66,7 +66,7 @@ loop-lane-preserved g c =
           (heard-same grid width (λ s o. if nat_eq s router then tells_in v a.letter.now lane o else None) (some_of (λ s o. nat_eq s router) (λ s o. tells_in v a.letter.now (s % 16) o)) was new
           (λ s o. by-lane a.share lane s (λ k. tells_in v a.letter.now k o) few) (c.hear_router.ensures.heard grid wires linked));
       keeps = keeps-then v w a.pattern.now a.sides.now a.states.now c.loop-lane.states c.hear_router.new.states inv.keeps c.hear_router.ensures.rest;
-      part = λ k e. part-kept rest lane is (λ j. (j < 16) × (has_bit a.letter.now.asked j ≡ true)) inv.part k (ap (λ n. has_bit n k) (sym c.but_lowest-rest.ensures.members) ∙ e);
+      part = λ k e. part-kept rest lane is (λ j. (j < 16) × (has_bit a.letter.now.telling j ≡ true)) inv.part k (ap (λ n. has_bit n k) (sym c.but_lowest-rest.ensures.members) ∙ e);
     }
 
 pub returns-clause-heard : goal.returns-clause-heard

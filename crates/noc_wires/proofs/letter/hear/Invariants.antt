@@ -14,7 +14,7 @@ invariant-loop-lane g l =
       heard : (grid : Grid) → HasWires value g.W.Word.bits grid l.pattern l.sides → IsLinked value grid l.pattern.frame.fields.width l.share l.letter
           → AreHeard grid l.pattern.frame.fields.width (some_of (λ s o. nat_eq (s / 16) l.share && not (has_bit (l.rest % 2 ^ 32) (s % 16))) (λ s o. tells_in value l.letter (s % 16) o)) (packets_in value l.fn.states) (packets_in value l.states);
       keeps : AreSameButPackets value l.fn.states l.states;
-      part : (k : ℕ) → has_bit (l.rest % 2 ^ 32) k ≡ true → (k < 16) × (has_bit l.letter.asked k ≡ true);
+      part : (k : ℕ) → has_bit (l.rest % 2 ^ 32) k ≡ true → (k < 16) × (has_bit l.letter.telling k ≡ true);
     }
 
 abbrev pub decreases-loop-lane : goal.decreases-loop-lane

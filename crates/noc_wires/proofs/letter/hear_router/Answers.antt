@@ -43,7 +43,7 @@ overflow_mul-router g c =
     let a = c.args in
     let r = c.requires.wires in
     let out = c.least-out.result in
-    let tells = granted-told v a.letter.now a.lane out c.requires.asked (c.loop-packets.invariant.part out c.least-out.ensures.least.0) in
+    let tells = granted-told v a.letter.now a.lane out c.requires.telling (c.loop-packets.invariant.part out c.least-out.ensures.least.0) in
     let known : a.share * 16 + a.lane < 256 = router-fits a.share a.lane _ (r.2 a.lane out _ c.requires.lane tells).0 r.1.sound.few_nodes in
     omega (arith, known)
 
@@ -53,7 +53,7 @@ overflow_add-router g c =
     let a = c.args in
     let r = c.requires.wires in
     let out = c.least-out.result in
-    let tells = granted-told v a.letter.now a.lane out c.requires.asked (c.loop-packets.invariant.part out c.least-out.ensures.least.0) in
+    let tells = granted-told v a.letter.now a.lane out c.requires.telling (c.loop-packets.invariant.part out c.least-out.ensures.least.0) in
     let known : a.share * 16 + a.lane < 256 = router-fits a.share a.lane _ (r.2 a.lane out _ c.requires.lane tells).0 r.1.sound.few_nodes in
     omega (arith, known)
 
@@ -63,7 +63,7 @@ tell_over-requires g c =
     let a = c.args in
     let r = c.requires.wires in
     let out = c.least-out.result in
-    let tells = granted-told v a.letter.now a.lane out c.requires.asked (c.loop-packets.invariant.part out c.least-out.ensures.least.0) in
+    let tells = granted-told v a.letter.now a.lane out c.requires.telling (c.loop-packets.invariant.part out c.least-out.ensures.least.0) in
     (search rules, (search rules, (search rules, ((r.0, r.1, r.2 a.lane out _ c.requires.lane tells), c.loop-packets.auto.states ∙ c.requires.blocks))))
 
 pub loop-packets-preserved : goal.loop-packets-preserved
@@ -80,7 +80,7 @@ loop-packets-preserved g c =
     let after = v c.but_lowest-rest.result in
     let left : (o : ℕ) → has_bit after o ≡ (has_bit rest o && not (nat_eq o out)) = λ o. ap (λ n. has_bit n o) c.but_lowest-rest.ensures.members ∙ left-members rest out o is in
     let packet = slice_index (slice_index_or a.letter.now.told.value.packets a.lane []) out in
-    let tells : tells_in v a.letter.now a.lane out ≡ Some packet = granted-told v a.letter.now a.lane out c.requires.asked (inv.part out is.0) in
+    let tells : tells_in v a.letter.now a.lane out ≡ Some packet = granted-told v a.letter.now a.lane out c.requires.telling (inv.part out is.0) in
     let was = packets_in v c.loop-packets.states in
     let new = packets_in v c.tell_over.new.states in
     record {

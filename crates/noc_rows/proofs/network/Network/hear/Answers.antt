@@ -22,9 +22,9 @@ hear_share-requires g c =
     )
 
 pub returns-in-Some : goal.returns-in-Some
-returns-in-Some g c = λ net own n setup plan sent.
+returns-in-Some g c = λ net own n setup plan sent apart.
     let number = c.in-Some.share in
-    heard-of-one g.W.Word.value net own n c.args.mail.now.share number c.args.self.now c.hear_share.new.self c.in-Some.is (c.hear_share.ensures net own n setup plan (sent number c.in-Some.is))
+    heard-of-one g.W.Word.value net own n c.args.mail.now.share number c.args.self.now c.hear_share.new.self c.in-Some.is (c.hear_share.ensures net own n setup plan (sent number c.in-Some.is) (apart number c.in-Some.is))
 
 pub returns-in_default : goal.returns-in_default
-returns-in_default g c = λ net own n setup plan sent. heard-of-none g.W.Word.value net own n c.args.mail.now.share c.args.self.now c.in_default.is
+returns-in_default g c = λ net own n setup plan sent apart. heard-of-none g.W.Word.value net own n c.args.mail.now.share c.args.self.now c.in_default.is

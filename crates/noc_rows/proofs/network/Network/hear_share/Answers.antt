@@ -52,7 +52,7 @@ hear-requires g c =
     )
 
 pub returns : goal.returns
-returns g c = λ net own n setup is_plan letter.
+returns g c = λ net own n setup is_plan letter apart.
     let value = g.W.Word.value in
     let all = c.args.self.now in
     let plan = all.plan in
@@ -72,7 +72,7 @@ returns g c = λ net own n setup is_plan letter.
     ≡ unwrap_or (heard net.relation.grid v (λ s o. if nat_eq (s / 16) c.args.share then tells_in value c.args.letter.now (s % 16) o else None) r i) (packets_in value old r i))
     is_plan.frame.width_is (c.hear.ensures.heard net.relation.grid wires linked) in
     let next : Network g.row.W.Denot = record all { states = with_items all.states new; left = c.put_letter.new.left } in
-    letter-heard value net setup n c.args.share c.args.letter.now letter own all next c.put_letter.ensures.here c.put_letter.ensures.others
+    letter-heard value net setup n c.args.share c.args.letter.now letter own apart all next c.put_letter.ensures.here c.put_letter.ensures.others
     (λ r i l u.
     ap (λ (xs : List (State g.row.W.Denot)). packets_in value xs r i) items ∙ told r i l u
     ∙ ap (λ (xs : List (State g.row.W.Denot)). unwrap_or (heard net.relation.grid net.relation.vcs (λ s o. if nat_eq (s / 16) c.args.share then tells_in value c.args.letter.now (s % 16) o else None) r i) (packets_in value xs r i)) states)

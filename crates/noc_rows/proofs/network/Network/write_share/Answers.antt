@@ -1,9 +1,10 @@
-use Rattle.std.proofs.Common.{◌≡◌, ◌+◌, ◌*◌, ◌/◌, ◌%◌, ◌<◌, ◌^◌, Some, arith, subst, sym, ◌∙◌}
-use Rattle.std.specs.Prelude.{slice_get}
+use Rattle.std.proofs.Common.{◌≡◌, ℕ, ◌+◌, ◌*◌, ◌/◌, ◌%◌, ◌<◌, ◌^◌, None, Some, length, ap, arith, subst, sym, ◌∙◌}
+use Rattle.std.specs.Prelude.{nat_lt, slice_get, if◌then◌else◌}
 use Rattle.noc_blocks.proofs.LoopLemmas.{fits-most}
 use Rattle.noc_theory.specs.Network.{size}
-use Rattle.noc_rows.proofs.ListLemmas.{is-asleep, is-woken, read}
-use Rattle.noc_rows.proofs.WriteLemmas.{all-works, few-blocks, few-channels, last-fits, letter-cleared, letter-written, low, low-first, one-fits, tellings, tells-of}
+use Rattle.noc_wires.specs.Letters.{tells_in, told_off}
+use Rattle.noc_rows.proofs.ListLemmas.{is-asleep, is-woken, one-of, read}
+use Rattle.noc_rows.proofs.WriteLemmas.{all-works, few-blocks, last-fits, letter-cleared, letter-written, one-fits, sides-there, tells-of, width-there, wires-there, written}
 use Rattle.noc_rows.proofs.network.Network.write_share.Given as given
 use Rattle.noc_rows.proofs.network.Network.write_share.Goals as goal
 
@@ -35,26 +36,33 @@ write-requires g c =
     let first = c.args.share % 2 * 16 in
     let few = few-blocks value bits r.0 r.2 c.args.awake r.1 r.3 r.4 r.5 all (fits-of g) r.6 r.7 in
     let same = all-works value bits r.0 r.2 c.args.awake r.1 r.3 r.4 r.5 all (fits-of g) r.6 r.7 in
-    let channels = few-channels value bits r.0 r.2 c.args.awake r.1 r.3 r.4 r.5 all (fits-of g) r.6 r.7 in
     let state : slice_get all.states.items b ≡ Some c.index.result.now = read all.states.items b c.index.result.now r.9 c.index.ensures in
     let work : slice_get all.works.items b ≡ Some c.index-then-has.result.now = read all.works.items b c.index-then-has.result.now (subst (λ m. b < m) (sym same) r.9) c.index-then-has.ensures in
     let woken = is-woken c.args.awake b c.has.result (omega (arith, few, r.9)) c.has.ensures c.if-has.true in
-    let marks = last-fits _ _ _ c.requires.memory.2 in (
+    let marks = last-fits _ _ _ c.requires.memory.2 in
+    let sides = wires-there value bits r.0 r.2 c.args.awake r.1 r.3 r.4 r.5 all (fits-of g) r.6 r.7 c.as_slice.result.now c.as_slice.ensures.value in
+    let width = width-there value bits r.0 r.2 c.args.awake r.1 r.3 r.4 r.5 all (fits-of g) r.6 r.7 in
+    let long = sides-there value bits r.0 r.2 c.args.awake r.1 r.3 r.4 r.5 all (fits-of g) r.6 r.7 in (
       c.requires.letters.0,
       (
-        marks,
+        one-of (length c.as_slice.result.now) _ _ (omega (arith, ap length c.as_slice.ensures.value, long, r.9)) c.as_slice.type_inv.1,
         (
-          one-fits _ marks,
+          c.requires.memory.0.1,
           (
-            c.requires.memory.1,
+            marks,
             (
-              low-first c.args.share,
+              one-fits _ marks,
               (
-                size r.1,
-                λ k. tells-of value bits r.0 r.2 c.args.awake r.1 r.3 r.4 r.5 all (fits-of g) r.6 r.7 b (first + k),
-                channels.0,
-                channels.1,
-                λ k l. tellings value bits r.0 r.2 c.args.awake r.1 r.3 r.4 r.5 all (fits-of g) r.6 r.7 b (first + k) c.index.result.now c.index-then-has.result.now r.8 woken state work (low c.args.share k l),
+                c.requires.memory.1,
+                (
+                  omega (arith, few, r.9),
+                  (
+                    r.1.relation.grid,
+                    size r.1,
+                    λ k. tells-of value bits r.0 r.2 c.args.awake r.1 r.3 r.4 r.5 all (fits-of g) r.6 r.7 b (first + k),
+                    written value bits r.0 r.2 c.args.awake r.1 r.3 r.4 r.5 all (fits-of g) r.6 r.7 c.args.share all.plan.pattern c.as_slice.result.now c.index.result.now c.index-then-has.result.now r.8 woken state work sides (sym width),
+                  ),
+                ),
               ),
             ),
           ),
@@ -75,13 +83,15 @@ returns-then-has g c = λ relation net own n routers all may step ours.
     let first = c.args.share % 2 * 16 in
     let few = few-blocks value bits relation own c.args.awake net n routers all ran (fits-of g) may step in
     let same = all-works value bits relation own c.args.awake net n routers all ran (fits-of g) may step in
-    let channels = few-channels value bits relation own c.args.awake net n routers all ran (fits-of g) may step in
     let state : slice_get ran.states.items b ≡ Some c.index.result.now = read ran.states.items b c.index.result.now r.9 c.index.ensures in
     let work : slice_get ran.works.items b ≡ Some c.index-then-has.result.now = read ran.works.items b c.index-then-has.result.now (subst (λ m. b < m) (sym same) r.9) c.index-then-has.ensures in
     let woken = is-woken c.args.awake b c.has.result (omega (arith, few, r.9)) c.has.ensures c.if-has.true in
+    let sides = wires-there value bits relation own c.args.awake net n routers all ran (fits-of g) may step c.as_slice.result.now c.as_slice.ensures.value in
+    let width = width-there value bits relation own c.args.awake net n routers all ran (fits-of g) may step in
+    let tells = λ (k : ℕ). tells-of value bits relation own c.args.awake net n routers all ran (fits-of g) may step b (first + k) in
     letter-written value bits relation own c.args.awake net n routers all ran (fits-of g) may step c.args.share c.index-then-has.result.now c.write.new.self ours woken work c.write.ensures.links
-    (c.write.ensures.tells (size net) (λ k. tells-of value bits relation own c.args.awake net n routers all ran (fits-of g) may step b (first + k)) channels.0 channels.1
-    (λ k l. tellings value bits relation own c.args.awake net n routers all ran (fits-of g) may step b (first + k) c.index.result.now c.index-then-has.result.now ours woken state work (low c.args.share k l)))
+    (λ k o l. subst (λ v. tells_in value c.write.new.self k o ≡ (if nat_lt o (size net) then told_off net.relation.grid v (c.args.share * 16 + k) (tells k) o else None)) width
+    (c.write.ensures.tells net.relation.grid (size net) tells (written value bits relation own c.args.awake net n routers all ran (fits-of g) may step c.args.share ran.plan.pattern c.as_slice.result.now c.index.result.now c.index-then-has.result.now ours woken state work sides (sym width)) k o l))
 
 pub returns-else-has : goal.returns-else-has
 returns-else-has g c = λ relation net own n routers all may step ours.

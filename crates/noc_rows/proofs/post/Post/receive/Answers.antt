@@ -1,9 +1,10 @@
-use Rattle.std.proofs.Common.{◌+◌, ap, refl, subst}
+use Rattle.std.proofs.Common.{◌≡◌, ◌∙◌, ◌+◌, ◌++◌, ◌∷◌, [], List, ap, refl, subst}
 use Rattle.noc_packet.specs.Set.{has_bit}
 use Rattle.noc_rows.specs.Mails.{HasHeardFrom, alone}
 use Rattle.noc_rows.specs.Tiles.{sender}
+use Rattle.noc_rows.specs.declared.mail.Mail.{Mail}
 use Rattle.noc_rows.specs.declared.network.Network.{Network}
-use Rattle.noc_rows.proofs.PostLemmas.{comes-below, comes-from, comes-right, post-near, post-received}
+use Rattle.noc_rows.proofs.PostLemmas.{comes-apart, comes-below, comes-from, comes-right, mail-follows, post-near, post-received}
 use Rattle.noc_rows.proofs.RoundLemmas.{next-of}
 use Rattle.rtrb.specs.Ring.{received, sent}
 use Rattle.noc_rows.proofs.post.Post.receive.Goals as goal
@@ -12,8 +13,7 @@ pub hear-requires : goal.hear-requires
 hear-requires g c =
     let r = c.requires.post in
     let value = g.W.Word.value in
-    let follows = c.in-Some.ensures.taken.0 in
-    let blocks = comes-below value g.W.Word.bits r.0 r.1 r.2 c.args.self.now c.in-Some.mail r.4 follows _ r.6 in (
+    let blocks = comes-below value g.W.Word.bits r.0 r.1 r.2 c.args.self.now c.pop_known-mail.result r.4 (mail-follows g.W.Word.value _ _ c.pop_known-mail.result c.wait.ensures.back c.pop_known-mail.ensures.allowed) _ r.6 in (
       c.requires.memory.5,
       (
         c.requires.letters.1,
@@ -22,7 +22,7 @@ hear-requires g c =
           (
             c.requires.letters,
             (
-              (r.0.net, r.0.cycle + r.2, r.3, r.5, comes-right value g.W.Word.bits r.0 r.1 r.2 c.args.self.now c.in-Some.mail r.4 follows),
+              (r.0.net, r.0.cycle + r.2, r.3, r.5, comes-right value g.W.Word.bits r.0 r.1 r.2 c.args.self.now c.pop_known-mail.result r.4 (mail-follows g.W.Word.value _ _ c.pop_known-mail.result c.wait.ensures.back c.pop_known-mail.ensures.allowed)),
               (c.requires.states, blocks),
             ),
           ),
@@ -33,34 +33,35 @@ hear-requires g c =
 pub returns-clause-same : goal.returns-clause-same
 returns-clause-same g c =
     let r = c.requires.post in
-    let taken = c.in-Some.ensures.taken in
-    post-near g.W.Word.value g.W.Word.bits r.0 r.1 r.2 c.args.self.now c.in-Some.mail r.4 taken.0 c.take.new.self taken.1
+    post-near g.W.Word.value g.W.Word.bits r.0 r.1 r.2 c.args.self.now c.pop_known-mail.result r.4 (mail-follows g.W.Word.value _ _ c.pop_known-mail.result c.wait.ensures.back c.pop_known-mail.ensures.allowed) (record c.args.self.now { back = c.pop_known-mail.new.self }) (c.pop_known-mail.ensures.received.0 ∙ ap (λ (xs : List (Mail g.row.W.Denot)). xs ++ c.pop_known-mail.result ∷ []) c.wait.ensures.back)
 
 pub returns-clause-plan : goal.returns-clause-plan
 returns-clause-plan g c =
     let r = c.requires.post in
-    let heard = c.hear.ensures r.0.net r.1 (r.0.cycle + r.2) r.3 r.5 (comes-right g.W.Word.value g.W.Word.bits r.0 r.1 r.2 c.args.self.now c.in-Some.mail r.4 c.in-Some.ensures.taken.0) in
+    let heard = c.hear.ensures r.0.net r.1 (r.0.cycle + r.2) r.3 r.5 (comes-right g.W.Word.value g.W.Word.bits r.0 r.1 r.2 c.args.self.now c.pop_known-mail.result r.4 (mail-follows g.W.Word.value _ _ c.pop_known-mail.result c.wait.ensures.back c.pop_known-mail.ensures.allowed)) (comes-apart g.W.Word.value g.W.Word.bits r.0 r.1 r.2 c.args.self.now c.pop_known-mail.result r.4 (mail-follows g.W.Word.value _ _ c.pop_known-mail.result c.wait.ensures.back c.pop_known-mail.ensures.allowed)) in
     ap (λ (x : Network g.row.W.Denot). x.plan) heard.rest
 
 pub returns-clause-states : goal.returns-clause-states
 returns-clause-states g c =
     let r = c.requires.post in
-    let heard = c.hear.ensures r.0.net r.1 (r.0.cycle + r.2) r.3 r.5 (comes-right g.W.Word.value g.W.Word.bits r.0 r.1 r.2 c.args.self.now c.in-Some.mail r.4 c.in-Some.ensures.taken.0) in
+    let heard = c.hear.ensures r.0.net r.1 (r.0.cycle + r.2) r.3 r.5 (comes-right g.W.Word.value g.W.Word.bits r.0 r.1 r.2 c.args.self.now c.pop_known-mail.result r.4 (mail-follows g.W.Word.value _ _ c.pop_known-mail.result c.wait.ensures.back c.pop_known-mail.ensures.allowed)) (comes-apart g.W.Word.value g.W.Word.bits r.0 r.1 r.2 c.args.self.now c.pop_known-mail.result r.4 (mail-follows g.W.Word.value _ _ c.pop_known-mail.result c.wait.ensures.back c.pop_known-mail.ensures.allowed)) in
     heard.states_are
 
 pub returns-clause-ready : goal.returns-clause-ready
 returns-clause-ready g c = λ done start own n rings.
-    let taken = c.in-Some.ensures.taken in
     record {
-      rings = post-received g.W.Word.value g.W.Word.bits start own n c.args.self.now c.in-Some.mail rings taken.0 _ c.take.ensures.share (ap sent c.take.ensures.out) taken.1;
-      mail = c.in-Some.mail;
+      rings = post-received g.W.Word.value g.W.Word.bits start own n c.args.self.now c.pop_known-mail.result rings (mail-follows g.W.Word.value _ _ c.pop_known-mail.result c.wait.ensures.back c.pop_known-mail.ensures.allowed) _ c.wait.ensures.share (ap sent c.wait.ensures.out) (c.pop_known-mail.ensures.received.0 ∙ ap (λ (xs : List (Mail g.row.W.Denot)). xs ++ c.pop_known-mail.result ∷ []) c.wait.ensures.back);
+      mail = c.pop_known-mail.result;
       there = refl;
-      is = next-of g.W.Word.value start (sender (received c.args.self.now.back)) n (received c.args.self.now.back) c.in-Some.mail rings.come taken.0;
+      is = next-of g.W.Word.value start (sender (received c.args.self.now.back)) n (received c.args.self.now.back) c.pop_known-mail.result rings.come (mail-follows g.W.Word.value _ _ c.pop_known-mail.result c.wait.ensures.back c.pop_known-mail.ensures.allowed);
     }
 
 pub returns-clause-heard : goal.returns-clause-heard
 returns-clause-heard g c = λ done start own n rings good plan.
-    let follows = c.in-Some.ensures.taken.0 in
     let value = g.W.Word.value in
-    subst (λ f. HasHeardFrom value start.net own (has_bit (alone f)) (start.cycle + n) c.args.network.now c.hear.new.self) (comes-from value g.W.Word.bits start own n c.args.self.now c.in-Some.mail rings follows)
-    (c.hear.ensures start.net own (start.cycle + n) good plan (comes-right value g.W.Word.bits start own n c.args.self.now c.in-Some.mail rings follows))
+    subst (λ f. HasHeardFrom value start.net own (has_bit (alone f)) (start.cycle + n) c.args.network.now c.hear.new.self) (comes-from value g.W.Word.bits start own n c.args.self.now c.pop_known-mail.result rings (mail-follows g.W.Word.value _ _ c.pop_known-mail.result c.wait.ensures.back c.pop_known-mail.ensures.allowed))
+    (c.hear.ensures start.net own (start.cycle + n) good plan (comes-right value g.W.Word.bits start own n c.args.self.now c.pop_known-mail.result rings (mail-follows g.W.Word.value _ _ c.pop_known-mail.result c.wait.ensures.back c.pop_known-mail.ensures.allowed))
+    (comes-apart value g.W.Word.bits start own n c.args.self.now c.pop_known-mail.result rings (mail-follows g.W.Word.value _ _ c.pop_known-mail.result c.wait.ensures.back c.pop_known-mail.ensures.allowed)))
+
+pub pop_known-mail-requires : goal.pop_known-mail-requires
+pop_known-mail-requires g c = c.wait.ensures.there c.if-not-wait.false

@@ -1,6 +1,6 @@
 use Rattle.std.proofs.Common.{◌≡◌}
 use Rattle.rtrb.specs.Ring.{received}
-use Rattle.noc_rows.proofs.post.Post.take.Given as goal
+use Rattle.noc_rows.proofs.post.Post.wait.Given as goal
 
 -- no mail has come
 abbrev pub invariant-loop : goal.invariant-loop
