@@ -1,13 +1,14 @@
 #!/usr/bin/env python3
-"""Refuses the growths of memory of tests one by one, and counts them.
+"""Refuses the growths of memory of tests one by one, counts them, and refuses threads.
 
     run_growth.py
 
 The tests are those that the gate has built, of the crates of tests. Each test in REFUSED makes one call that takes
 memory, beside those that make what it is given. With any one of its growths refused it says that memory, or a thread,
 was refused, or all is as with ample memory. The tests in TAKES_NONE begin as the test MADE does, and go on with calls
-that are to take no memory. So they ask for as many growths as that one. Each failure is shown, and the last line is
-'N passed, M failed'. The exit status is 0 where all passed, else 1.
+that are to take no memory. So they ask for as many growths as that one. The tests in NO_THREAD run where no thread may
+start: those by several workers say that a worker was refused, and the one by one worker passes. Each failure is shown,
+and the last line is 'N passed, M failed'. The exit status is 0 where all passed, else 1.
 """
 import re
 import shutil
@@ -15,6 +16,8 @@ import subprocess
 import sys
 import tempfile
 from pathlib import Path
+
+from run_process import no_thread_more
 
 TOP = Path(__file__).resolve().parent.parent
 MOST_GROWTHS = 1000
@@ -29,17 +32,20 @@ REFUSED = {
     "noc_tile_tests": ["growth::a_line_runs_by_two_workers", "growth::a_line_runs_by_three_workers"],
 }
 MADE = ("noc_network_tests", "growth::a_line_is_made")
+BY_ONE = "growth::a_line_runs_by_one_worker"
 TAKES_NONE = {
     "noc_network_tests": ["growth::a_line_runs_twice", "growth::a_line_is_read", "growth::a_core_of_a_line_is_read",
                           "events::parts_make_the_network_again", "events::cycles_from_the_last_router_to_the_first"],
     "noc_file_tests": ["growth::a_line_is_reported"],
-    "noc_tile_tests": ["growth::a_line_runs_by_one_worker"],
+    "noc_tile_tests": [BY_ONE],
 }
+NO_THREAD = {"noc_tile_tests": [BY_ONE, *REFUSED["noc_tile_tests"]]}
+NO_WORKER = re.compile(r"error: (\w+\()*NoWorker\)*$", re.MULTILINE)
 WANT = re.compile(r"error: (\w+\()*(Memory|NoWorker|AllocError)\)*$", re.MULTILINE)
 
 
 class Tests:
-    """The tests of a crate, run one by one with one of their growths refused."""
+    """The tests of a crate, run one by one with one of their growths, or all threads, refused."""
 
     def __init__(self, room: Path, crate: str) -> None:
         self.room = room
@@ -52,9 +58,17 @@ class Tests:
         self.count.unlink(missing_ok=True)
         env = {"LD_PRELOAD": str(self.library), "GROWTH_COUNT": str(self.count), "REFUSED_GROWTH": str(number)}
         ran = subprocess.run([self.program, name], capture_output=True, text=True, env=env)
-        asked = int.from_bytes(self.count.read_bytes(), sys.byteorder)
-        passed = ran.returncode == 0 and ran.stdout.endswith("test result: ok\n")
-        return passed, ran.stdout + ran.stderr, asked
+        return *outcome(ran), int.from_bytes(self.count.read_bytes(), sys.byteorder)
+
+    def without_threads(self, name: str) -> tuple[bool, str]:
+        """Whether the test passed where no thread may start, and what was said. Another user may run it."""
+        copy = shutil.copy(self.program, self.room)
+        return outcome(subprocess.run([copy, name], capture_output=True, text=True, preexec_fn=no_thread_more))
+
+
+def outcome(ran: subprocess.CompletedProcess[str]) -> tuple[bool, str]:
+    """Whether a test passed, and what was said."""
+    return ran.returncode == 0 and ran.stdout.endswith("test result: ok\n"), ran.stdout + ran.stderr
 
 
 def refused(tests: Tests, name: str) -> str:
@@ -80,6 +94,13 @@ def takes_none(tests: Tests, name: str) -> str:
     return f"{asked} growths, and {wanted} for the line: {line[-200:]} {said[-500:]}"
 
 
+def no_thread(tests: Tests, name: str) -> str:
+    """What is wrong with a test where no thread may start."""
+    passed, said = tests.without_threads(name)
+    is_right = passed if name == BY_ONE else not passed and NO_WORKER.search(said)
+    return "" if is_right else f"without a thread: {said[-500:]}"
+
+
 def main() -> int:
     if len(sys.argv) != 1:
         print(__doc__)
@@ -87,13 +108,14 @@ def main() -> int:
     outcomes: dict[str, str] = {}
     with tempfile.TemporaryDirectory() as folder:
         room = Path(folder)
+        room.chmod(0o755)
         compiler = shutil.which("cc") or "gcc"
         source = Path(__file__).with_name("refused_growth.c")
         subprocess.run([compiler, "-shared", "-fPIC", "-O1", "-o", room / "refused_growth.so", source], check=True)
-        for looked, names in ((refused, REFUSED), (takes_none, TAKES_NONE)):
+        for looked, names in ((refused, REFUSED), (takes_none, TAKES_NONE), (no_thread, NO_THREAD)):
             for crate, chosen in names.items():
                 tests = Tests(room, crate)
-                outcomes |= {f"{crate} {name}": looked(tests, name) for name in chosen}
+                outcomes |= {f"{looked.__name__} {crate} {name}": looked(tests, name) for name in chosen}
     for name, wrong in outcomes.items():
         if wrong:
             print(f"run_growth: {name}: {wrong}")
