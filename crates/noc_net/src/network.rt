@@ -6,7 +6,7 @@
 //! beside rows. `into_parts` has them run the cycles that the rows have run, one by one, and lets
 //! the rows go. After `from_parts` the routers run. The readers ask whichever of the two has run.
 
-ghost use Rattle.std.specs.Prelude.{◌≡◌, ℕ, ◌+◌, ◌*◌, ◌<◌, ◌≤◌, ◌&&◌, All, Err, IfErr, IfOk, None, Some, false, true, is_none, length, nat_le, vec_len};
+ghost use Rattle.std.specs.Prelude.{◌≡◌, ℕ, ◌+◌, ◌*◌, ◌<◌, ◌≤◌, ◌&&◌, All, Err, IfErr, IfOk, IsOk, None, Some, false, true, is_none, length, nat_le, vec_len};
 ghost use Rattle.std.specs.List.{slice_get};
 ghost use Rattle.noc_topo.specs.Lists.{tabulate};
 ghost use Rattle.noc_topo.specs.Shape.{nodes as nodes_of, ports as ports_of};
@@ -178,7 +178,8 @@ impl Network {
         workers: usize,
     ) -> Result<Network, NotRun>
         requires { self.count + cycles ≤ CYCLE_LIMIT }
-        ensures { IfOk result (λ n. n ≡ record self { count = self.count + cycles }) }
+        ensures value { IfOk result (λ n. n ≡ record self { count = self.count + cycles }) }
+        ensures alone { workers ≤ 1 → IsOk result }
     {
         let Network {
             mut parts,

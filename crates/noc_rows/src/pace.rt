@@ -1,6 +1,6 @@
 //! How many tiles run a network, and for how long.
 
-ghost use Rattle.std.specs.Prelude.{◌<◌, ◌≤◌};
+ghost use Rattle.std.specs.Prelude.{◌≡◌, ◌<◌, ◌≤◌};
 
 // How many cycles tiles run at first. They are cut and joined for it, so a stretch that goes well
 // makes the next one twice as long,
@@ -35,11 +35,14 @@ pub(crate) struct Pace {
     rest: u32,
     ghost some: { 0 < cycles },
     ghost few: { cycles ≤ 65536 },
+    ghost within: { tiles ≤ workers },
 }
 
 impl Pace {
     /// By all workers.
-    pub(crate) fn new(workers: usize) -> Pace {
+    pub(crate) fn new(workers: usize) -> Pace
+        ensures { result.workers ≡ workers }
+    {
         Pace {
             workers,
             tiles: workers,
@@ -49,7 +52,9 @@ impl Pace {
     }
 
     /// By how many tiles so many cycles go at most.
-    pub(crate) fn tiles(&self, most: u32) -> usize {
+    pub(crate) fn tiles(&self, most: u32) -> usize
+        ensures alone { self.now.workers ≤ 1 → result ≤ 1 }
+    {
         if most < FEW { 1 } else { self.tiles }
     }
 
@@ -65,9 +70,11 @@ impl Pace {
 
     /// So many cycles have gone by so many tiles, and the worker of none of them has yielded more
     /// often than this.
-    pub(crate) fn heed(&mut self, tiles: usize, cycles: u32, yields: u32) {
+    pub(crate) fn heed(&mut self, tiles: usize, cycles: u32, yields: u32)
+        ensures { self.new.workers ≡ self.old.workers }
+    {
         if yields > cycles / CYCLES_A_YIELD {
-            self.tiles = tiles.saturating_sub(1).max(1);
+            self.tiles = tiles.saturating_sub(1).max(1).min(self.workers);
             self.cycles = FIRST;
             self.rest = REST;
             return;

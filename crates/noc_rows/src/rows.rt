@@ -1,6 +1,6 @@
 //! A network by rows, of words of the width that its routers want.
 
-ghost use Rattle.std.specs.Prelude.{◌≡◌, ℕ, ◌+◌, ◌*◌, ◌<◌, ◌≤◌, All, IfOk, length};
+ghost use Rattle.std.specs.Prelude.{◌≡◌, ℕ, ◌+◌, ◌*◌, ◌<◌, ◌≤◌, All, IfOk, IsOk, length};
 ghost use Rattle.noc_topo.specs.Shape.{nodes, ports};
 ghost use Rattle.noc_theory.specs.Good.{IsGoodSetup};
 ghost use Rattle.noc_theory.specs.Lockstep.{counts_before, findings_before};
@@ -78,7 +78,7 @@ impl Rows {
 
     /// Runs so many cycles, as `run` does, by up to so many threads, each of which has whole blocks
     /// of routers; or tells that memory or a thread was refused. The caller's thread is one of
-    /// them.
+    /// them. One worker is refused nothing.
     pub fn run_by<R: Threads + Wait + Sync>(
         self,
         rt: &R,
@@ -88,8 +88,10 @@ impl Rows {
         workers: usize,
     ) -> Result<Rows, NotRun>
         requires { (n : ℕ) × MayRunRows setup.now.relation.now (setup_by setup.now) n cycles self }
-        ensures { (n : ℕ) → MayRunRows setup.now.relation.now (setup_by setup.now) n cycles self
+        ensures shows { (n : ℕ)
+            → MayRunRows setup.now.relation.now (setup_by setup.now) n cycles self
             → IfOk result (ShowsRun (setup_by setup.now) (n + cycles)) }
+        ensures alone { workers ≤ 1 → IsOk result }
     {
         let mut rows = self;
         match &mut rows.words {

@@ -1,6 +1,6 @@
 //! A network runs.
 
-ghost use Rattle.std.specs.Prelude.{◌≡◌, ◌+◌, ◌*◌, ◌<◌, ◌≤◌, ◌^◌, length, IfOk, OnOk};
+ghost use Rattle.std.specs.Prelude.{◌≡◌, ◌+◌, ◌*◌, ◌<◌, ◌≤◌, ◌^◌, length, IfOk, IsOk, OnOk};
 ghost use Rattle.noc_theory.specs.Network.{Setup as TheSetup};
 ghost use Rattle.noc_wires.specs.declared.awake.TheConstants.{BLOCKS};
 ghost use Rattle.noc_rows.specs.Shows.{AreFindings, MayRun, ShowsAt};
@@ -45,7 +45,8 @@ impl<W: Word> Network<W> {
     fn tiles_that_pay(&self, workers: usize) -> usize
         requires few { length self.now.outlooks.items ≤ BLOCKS }
         requires near { length self.now.plan.near.items ≡ length self.now.outlooks.items }
-        ensures { 1 < result → result ≤ length self.now.plan.sides.items }
+        ensures blocks { 1 < result → result ≤ length self.now.plan.sides.items }
+        ensures alone { workers ≤ 1 → result ≤ 1 }
     {
         let blocks = self.plan.sides.len();
         let awake = wake(&self.outlooks, &self.plan.near, self.cycle).awake;
@@ -124,7 +125,8 @@ impl<W: Word> Network<W> {
 }
 
 impl<W: Word + Send> Network<W> {
-    // Runs so many cycles, by up to so many threads. The last one is one thread's.
+    // Runs so many cycles, by up to so many threads. The last one is one thread's. One worker is
+    // refused nothing.
     pub(crate) fn run_by<R: Threads + Wait + Sync>(
         &mut self,
         rt: &R,
@@ -142,6 +144,7 @@ impl<W: Word + Send> Network<W> {
             (self.old.cycle + cycles) self.new) }
         ensures found { 0 < cycles → OnOk result (AreFindings (setup_by setup.now) self.new) }
         ensures kept { cycles ≡ 0 → OnOk result (self.new ≡ self.old) }
+        ensures alone { workers ≤ 1 → IsOk result }
     {
         let mut pace = Pace::new(workers);
         let mut left = cycles;
@@ -174,6 +177,8 @@ impl<W: Word + Send> Network<W> {
         ensures some { IfOk result (λ cycles. (0 < cycles) × (cycles ≤ most)) }
         ensures shows { IfOk result (λ cycles. ShowsAt W.value W.bits (setup_by setup.now)
             (self.old.cycle + cycles) self.new) }
+        ensures workers { pace.new.workers ≡ pace.old.workers }
+        ensures alone { pace.old.workers ≤ 1 → IsOk result }
     {
         if self.last < self.cycle {
             let ran = self.advance(setup.relation, most);

@@ -9,8 +9,8 @@ loop-network-preserved g c =
     let so_far = c.loop-network.invariant in
     let after : Run = record c.loop-network.network { count = c.loop-network.network.count + c.next_piece-cycles.result } in
     record {
-      net = ap (λ (u : Run). u.net) {y = after} c.in_ok-network.ensures ∙ so_far.net;
-      on = goes-on c.args.network c.loop-network.network c.limit-limit.result so_far.net so_far.on c.in_ok-network.network c.next_piece-cycles.result c.next_piece-cycles.ensures.on c.in_ok-network.ensures;
+      net = ap (λ (u : Run). u.net) {y = after} c.in_ok-network.ensures.value ∙ so_far.net;
+      on = goes-on c.args.network c.loop-network.network c.limit-limit.result so_far.net so_far.on c.in_ok-network.network c.next_piece-cycles.result c.next_piece-cycles.ensures.on c.in_ok-network.ensures.value;
     }
 
 pub returns-clause-end : goal.returns-clause-end

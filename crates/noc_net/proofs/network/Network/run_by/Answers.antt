@@ -24,7 +24,7 @@ invariant_of-result g c =
           subst (λ (p : Parts). IsNetwork (record { parts = p; rows = c.match-rows.rows; count = count })) (sym w.parts-is)
           (subst (λ (r : Option Rows). IsNetwork (record { parts = n.parts; rows = r; count = count })) (sym w.rows-is)
           (by-rows n c.self.invariant c.args.cycles within w.in_ok-run_by-in-Some.field-0
-          (w.in_ok-run_by-in-Some.ensures n.count (may-run n c.self.invariant w.in-Some.rows w.in-Some.is c.args.cycles within))))
+          (w.in_ok-run_by-in-Some.ensures.shows n.count (may-run n c.self.invariant w.in-Some.rows w.in-Some.is c.args.cycles within))))
       | in-None w ↦
           subst (λ (p : Parts). IsNetwork (record { parts = p; rows = c.match-rows.rows; count = count })) (sym w.parts-is)
           (subst (λ (r : Option Rows). IsNetwork (record { parts = w.run.new.self; rows = r; count = count })) (w.in-None.is ∙ sym w.rows-is)

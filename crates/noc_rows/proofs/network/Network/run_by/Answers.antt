@@ -1,10 +1,11 @@
-use Rattle.std.proofs.Common.{◌+◌, ◌-◌, arith}
+use Rattle.std.proofs.Common.{◌+◌, ◌-◌, ◌∙◌, arith}
 use Rattle.noc_rows.specs.Rows.{setup_by}
 use Rattle.noc_rows.proofs.RunLemmas.{last-stretched, may-stretch, none-stretched, some-stretched}
 use Rattle.noc_rows.proofs.network.Network.run_by.Goals as goal
 
 pub loop-left-init : goal.loop-left-init
-loop-left-init g c = none-stretched g.W.Word.value g.W.Word.bits c.args.setup.now.relation.now (setup_by c.args.setup.now) c.args.cycles c.args.self.now c.requires.may
+loop-left-init g c =
+    (none-stretched g.W.Word.value g.W.Word.bits c.args.setup.now.relation.now (setup_by c.args.setup.now) c.args.cycles c.args.self.now c.requires.may, c.new-pace.ensures)
 
 pub stretch-requires-send-W : goal.stretch-requires-send-W
 stretch-requires-send-W g c κs within = c.type_bounds.send-W
@@ -25,7 +26,7 @@ stretch-requires-after_bounds g c κs within =
             c.requires.tile,
             (
               omega (arith, c.loop-left-test.true),
-              may-stretch g.W.Word.value g.W.Word.bits setup.relation.now (setup_by setup) c.args.cycles c.args.self.now c.requires.may c.loop-left.left c.loop-left.self c.loop-left.invariant part (omega (arith, c.loop-left-test.true)),
+              may-stretch g.W.Word.value g.W.Word.bits setup.relation.now (setup_by setup) c.args.cycles c.args.self.now c.requires.may c.loop-left.left c.loop-left.self c.loop-left.invariant.0 part (omega (arith, c.loop-left-test.true)),
             ),
           ),
         ),
@@ -35,9 +36,11 @@ stretch-requires-after_bounds g c κs within =
 pub loop-left-preserved : goal.loop-left-preserved
 loop-left-preserved g c =
     let setup = c.args.setup.now in
-    let some = c.in_ok-ran.ensures.some in
-    some-stretched g.W.Word.value g.W.Word.bits setup.relation.now (setup_by setup) c.args.cycles c.args.self.now c.requires.may c.loop-left.left c.loop-left.self c.loop-left.invariant c.in_ok-ran.ran c.stretch.new.self
-    (omega (arith, c.loop-left-test.true, some)) c.in_ok-ran.ensures.shows
+    let some = c.in_ok-ran.ensures.some in (
+      some-stretched g.W.Word.value g.W.Word.bits setup.relation.now (setup_by setup) c.args.cycles c.args.self.now c.requires.may c.loop-left.left c.loop-left.self c.loop-left.invariant.0 c.in_ok-ran.ran c.stretch.new.self
+          (omega (arith, c.loop-left-test.true, some)) c.in_ok-ran.ensures.shows,
+      c.in_ok-ran.ensures.workers ∙ c.loop-left.invariant.1,
+    )
 
 pub finish-requires : goal.finish-requires
 finish-requires g c =
@@ -47,7 +50,7 @@ finish-requires g c =
         c.requires.memory,
         (
           setup_by setup,
-          may-stretch g.W.Word.value g.W.Word.bits setup.relation.now (setup_by setup) c.args.cycles c.args.self.now c.requires.may c.loop-left.left c.loop-left.self c.loop-left.invariant 1 c.if-left-gt0.true,
+          may-stretch g.W.Word.value g.W.Word.bits setup.relation.now (setup_by setup) c.args.cycles c.args.self.now c.requires.may c.loop-left.left c.loop-left.self c.loop-left.invariant.0 1 c.if-left-gt0.true,
         ),
       ),
     )
@@ -55,22 +58,22 @@ finish-requires g c =
 pub returns-then-left-gt0-clause-shows : goal.returns-then-left-gt0-clause-shows
 returns-then-left-gt0-clause-shows g c =
     let setup = c.args.setup.now in
-    last-stretched g.W.Word.value g.W.Word.bits setup.relation.now (setup_by setup) c.args.cycles c.args.self.now c.requires.may c.loop-left.left c.loop-left.self c.loop-left.invariant c.finish.new.self c.loop-left-test.false c.if-left-gt0.true
-    (c.finish.ensures.shows (setup_by setup) (may-stretch g.W.Word.value g.W.Word.bits setup.relation.now (setup_by setup) c.args.cycles c.args.self.now c.requires.may c.loop-left.left c.loop-left.self c.loop-left.invariant 1 c.if-left-gt0.true))
+    last-stretched g.W.Word.value g.W.Word.bits setup.relation.now (setup_by setup) c.args.cycles c.args.self.now c.requires.may c.loop-left.left c.loop-left.self c.loop-left.invariant.0 c.finish.new.self c.loop-left-test.false c.if-left-gt0.true
+    (c.finish.ensures.shows (setup_by setup) (may-stretch g.W.Word.value g.W.Word.bits setup.relation.now (setup_by setup) c.args.cycles c.args.self.now c.requires.may c.loop-left.left c.loop-left.self c.loop-left.invariant.0 1 c.if-left-gt0.true))
 
 pub returns-then-left-gt0-clause-found : goal.returns-then-left-gt0-clause-found
 returns-then-left-gt0-clause-found g c = λ some.
     let setup = c.args.setup.now in
-    c.finish.ensures.found (setup_by setup) (may-stretch g.W.Word.value g.W.Word.bits setup.relation.now (setup_by setup) c.args.cycles c.args.self.now c.requires.may c.loop-left.left c.loop-left.self c.loop-left.invariant 1 c.if-left-gt0.true)
+    c.finish.ensures.found (setup_by setup) (may-stretch g.W.Word.value g.W.Word.bits setup.relation.now (setup_by setup) c.args.cycles c.args.self.now c.requires.may c.loop-left.left c.loop-left.self c.loop-left.invariant.0 1 c.if-left-gt0.true)
 
 pub returns-then-left-gt0-clause-kept : goal.returns-then-left-gt0-clause-kept
-returns-then-left-gt0-clause-kept g c = λ none. absurd (omega (arith, none, c.if-left-gt0.true, c.loop-left.invariant.within))
+returns-then-left-gt0-clause-kept g c = λ none. absurd (omega (arith, none, c.if-left-gt0.true, c.loop-left.invariant.0.within))
 
 pub returns-else-left-gt0-clause-shows : goal.returns-else-left-gt0-clause-shows
-returns-else-left-gt0-clause-shows g c = c.loop-left.invariant.shows (c.args.self.now.cycle + c.args.cycles) (omega (arith, c.if-left-gt0.false))
+returns-else-left-gt0-clause-shows g c = c.loop-left.invariant.0.shows (c.args.self.now.cycle + c.args.cycles) (omega (arith, c.if-left-gt0.false))
 
 pub returns-else-left-gt0-clause-found : goal.returns-else-left-gt0-clause-found
-returns-else-left-gt0-clause-found g c = λ some. absurd (let more = c.loop-left.invariant.some some in omega (arith, more, c.if-left-gt0.false))
+returns-else-left-gt0-clause-found g c = λ some. absurd (let more = c.loop-left.invariant.0.some some in omega (arith, more, c.if-left-gt0.false))
 
 pub returns-else-left-gt0-clause-kept : goal.returns-else-left-gt0-clause-kept
-returns-else-left-gt0-clause-kept g c = c.loop-left.invariant.kept
+returns-else-left-gt0-clause-kept g c = c.loop-left.invariant.0.kept

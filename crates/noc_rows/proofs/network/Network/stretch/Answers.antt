@@ -26,7 +26,7 @@ run_apart-requires-after_bounds g c κs within =
             (
               few.some,
               (
-                (omega (arith, c.if-tiles-gt1.true), c.tiles_that_pay-tiles.ensures c.if-tiles-gt1.true),
+                (omega (arith, c.if-tiles-gt1.true), c.tiles_that_pay-tiles.ensures.blocks c.if-tiles-gt1.true),
                 may-fewer g.W.Word.value g.W.Word.bits c.args.setup.now.relation.now (setup_by c.args.setup.now) c.args.most c.cycles-cycles.result c.args.self.now few.within c.requires.may,
               ),
             ),

@@ -15,5 +15,5 @@ overflow_cast-awake g c = let few : count_ones c.wake-awake.result.awake ≤ c.w
 pub overflow_mul-awake : goal.overflow_mul-awake
 overflow_mul-awake g c = let few : count_ones c.wake-awake.result.awake ≤ c.wake-awake.result.awake = ones_le_self c.wake-awake.result.awake in omega (arith, few)
 
-pub returns : goal.returns
-returns g c = λ some. omega (arith, c.min.ensures, c.len-blocks.ensures, c.args.self.now.plan.sides.ok.0)
+pub returns-clause-blocks : goal.returns-clause-blocks
+returns-clause-blocks g c = λ some. omega (arith, c.min.ensures, c.len-blocks.ensures, c.args.self.now.plan.sides.ok.0)
