@@ -56,9 +56,6 @@ marks-packet value (Some marks) to_port port_turn i = refl
 pub low : (h k : ℕ) → k < 16 → h % 2 * 16 + k < 32
 low h k l = omega (arith, l)
 
-pub low-first : (h : ℕ) → h % 2 * 16 + 16 ≤ 32
-low-first h = omega arith
-
 router : (h k : ℕ) → h / 2 * 32 + (h % 2 * 16 + k) ≡ h * 16 + k
 router h k = omega arith
 
@@ -248,13 +245,6 @@ module _ {A : Type 0} (value : A → ℕ) (w : ℕ) (relation : Routes) (own : �
     where
       untold : (s o : ℕ) → has_bit awake (s / 32) ≡ false → told s o ≡ None
       untold s o e = ap (λ x. option_map (packets_in value ran.states.items s) (if x then grants_in (lane_by value turned.arrived s) (lane_by value turned.chosen s) o else None)) e
-
-  -- a channel has a place, and a bit
-  pub few-channels : (size net ≤ 64) × (size net ≤ w)
-  few-channels =
-      let few = may.shows.plan.room.few in
-      let most = may.shows.plan.room.word in
-      (omega (arith, few, most), omega (arith, few))
 
   -- its blocks are few, and have all that blocks have
   pub few-blocks : length ran.states.items ≤ 8
