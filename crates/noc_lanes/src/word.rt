@@ -74,7 +74,8 @@ pub trait Word: Copy + Drop {
     /// The least member, or how many bits the word has where there is none.
     fn least_or_bits(self) -> usize
         ensures within { result ≤ bits }
-        ensures least { 0 < value self → IsLeast (has_bit (value self)) (Some result) };
+        ensures least { 0 < value self → IsLeast (has_bit (value self)) (Some result) }
+        ensures none { value self ≡ 0 → result ≡ bits };
 
     /// The members but the least.
     fn but_lowest(self) -> Self

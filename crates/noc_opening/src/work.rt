@@ -1,6 +1,7 @@
 //! What the routers of a block work out before the first cycle: nothing.
 
 ghost use Rattle.std.specs.Prelude.{◌≡◌, ℕ, ◌<◌, false};
+ghost use Rattle.noc_lanes.specs.Lanes.{word};
 ghost use Rattle.noc_turns.specs.States.{returned_of, working_of};
 ghost use Rattle.noc_opening.specs.Empty.{no_work, none_returned};
 
@@ -12,6 +13,8 @@ use noc_turns::Work;
 pub fn empty_work<W: Word>() -> Work<W>
     ensures working { (k : ℕ) → k < LANES → working_of W.value result k ≡ no_work }
     ensures returned { (k : ℕ) → k < LANES → returned_of W.value result k ≡ none_returned }
+    ensures waiting { (k : ℕ) → k < LANES → word W.value k result.waiting ≡ 0 }
+    ensures active { (k : ℕ) → k < LANES → word W.value k result.active ≡ 0 }
     ensures pending { result.pending ≡ record { heading = 0; asking = 0 } }
     ensures tails { result.tails ≡ 0 }
     ensures came { result.came ≡ false }

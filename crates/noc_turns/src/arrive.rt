@@ -41,7 +41,13 @@ pub fn arrive_block<W: Word>(
         (working_of W.value work.new k) }
     ensures came { TellsSome (λ k. comes_to (layout_of (frame_by W.value pattern.now.frame)) cycle
         (links_of W.value work.old k) (lane_of W.value state.old k)) work.new.came }
-    ensures links { work.new.links ≡ work.old.links }
+    ensures rest { work.new ≡ record work.old {
+      returned = work.new.returned;
+      arrived = work.new.arrived;
+      standing = work.new.standing;
+      pending = work.new.pending;
+      came = work.new.came;
+    } }
 {
     let frame = &pattern.frame;
     let rising = take_credits(

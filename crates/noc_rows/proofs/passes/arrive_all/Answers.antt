@@ -3,7 +3,6 @@ use Rattle.std.specs.Prelude.{Option, slice_get}
 use Rattle.noc_lanes.specs.Channels.{links_by}
 use Rattle.noc_lanes.proofs.SetLemmas.{low_members}
 use Rattle.noc_lanes.specs.Lanes.{word}
-use Rattle.noc_lanes.specs.declared.channels.Links.{Links}
 use Rattle.noc_blocks.specs.Begins.{starts_by}
 use Rattle.noc_blocks.specs.declared.sources.Start.{Start}
 use Rattle.noc_turns.specs.Held.{MayTake}
@@ -54,7 +53,7 @@ loop-number-preserved g c =
     (along4 (HasArrived value c.args.plan.now.pattern (starts_by c.args.plan.now.starts.items) c.args.cycle) _ _ _ _ s c.arrive_block.new.state x c.arrive_block.new.work
     state (written c.loop-number.states t _ c.arrive_block.new.state refl (omega arith)) work (written c.loop-number.works t _ c.arrive_block.new.work refl (omega arith))
     (subst (λ (xs : List Start). HasArrived value c.args.plan.now.pattern (starts_by xs) c.args.cycle (Some s) (Some c.arrive_block.new.state) (Some x) (Some c.arrive_block.new.work)) c.deref.ensures.value
-    (record { lanes = e.lanes; pending = e.pending; came = e.came; links = λ k. ap (λ (l : Links (List g.row.W.Denot)). links_by (word value k) l) e.links })))
+    (record { lanes = e.lanes; pending = e.pending; came = e.came; links = λ k. ap (λ (w : Work g.row.W.Denot). links_by (word value k) w.links) e.rest })))
     (λ b other. both _ _ _ _ (others c.loop-number.states t b c.arrive_block.new.state other) (others c.loop-number.works t b c.arrive_block.new.work other))
 
 pub loop-number-preserved-then-not-has : goal.loop-number-preserved-then-not-has
