@@ -43,10 +43,12 @@ pub fn open_block<W: Word>(frame: &Frame<W>, firsts: &[First], first: usize) -> 
     ensures due { (k : ℕ) → k < LANES → (lane_of W.value result k).words.due < 2 ^ 32 }
 {
     State {
+        before: [0; 6],
         inputs: empty_inputs(),
         outputs: free_outputs(frame),
         sources: open_sources(firsts, first),
         ports: empty_ports(),
+        between: [0; 2],
         marks: empty_marks(),
     }
 }

@@ -20,10 +20,14 @@ pub const CYCLES: u32 = 1 << 31;
 /// How often each channel of the routers of a block had each verdict.
 #[derive(Clone, Copy)]
 pub struct Tallies<T> {
+    // 48 bytes that hold nothing, so that rows begin lines of the cache (docs/DECISIONS.md#rows).
+    before: [u64; 6],
     // By bits.
     sheet: Sheet<T>,
     // Channel by channel, in waits.
     times: [RouterTimes; LANES],
+    // Nothing, so that all is a multiple of 64 bytes.
+    after: u64,
 }
 
 impl<W: Word> Tallies<W> {
@@ -33,8 +37,10 @@ impl<W: Word> Tallies<W> {
     {
         let none = RouterTimes::none();
         Tallies {
+            before: [0; 6],
             sheet: Sheet::none(),
             times: [none; LANES],
+            after: 0,
         }
     }
 

@@ -8,6 +8,8 @@ use noc_lanes::{
 /// What the routers of a block are between two cycles.
 #[derive(Clone, Copy)]
 pub struct State<W: Word> {
+    /// 48 bytes that hold nothing, so that rows begin lines of the cache (docs/DECISIONS.md#rows).
+    pub before: [u64; 6],
     /// Their input channels.
     pub inputs: Inputs<Lanes<W>>,
     /// Their output channels.
@@ -16,6 +18,8 @@ pub struct State<W: Word> {
     pub sources: Sources<Lanes<W>>,
     /// Their output ports.
     pub ports: Ports<Lanes<W>>,
+    /// Nothing, so that all is a multiple of 64 bytes.
+    pub between: [u64; 2],
     /// What they have by channel.
     pub marks: [Marks<W>; LANES],
 }

@@ -2,7 +2,7 @@ use Rattle.std.proofs.Common.{◌≡◌, ℕ, ◌+◌, ◌<◌, Bool, true, fals
 use Rattle.noc_packet.specs.Set.{has_bit}
 use Rattle.noc_view.specs.declared.finding.Finding.{Finding}
 use Rattle.noc_view.specs.Found.{finding_at}
-use Rattle.noc_blocks.proofs.LoopLemmas.{each-all, each-none, each-stepped, none-more}
+use Rattle.noc_blocks.proofs.LoopLemmas.{each-all, each-none, each-stepped, more-left, none-more}
 use Rattle.noc_lanes.specs.Lanes.{word}
 use Rattle.noc_turns.specs.States.{lane_of}
 use Rattle.noc_findings.specs.Findings.{claimed_of}
@@ -12,6 +12,12 @@ use Rattle.noc_findings.proofs.claims.claim_all.Goals as goal
 
 pub loop-rest-init : goal.loop-rest-init
 loop-rest-init g c = record { claimed = each-none Finding _ _ _; others = keeps-none _ _ }
+
+pub least-channel-requires : goal.least-channel-requires
+least-channel-requires g c = more-left _ _ c.is_none.ensures c.loop-rest-test.true
+
+pub but_lowest-rest-requires : goal.but_lowest-rest-requires
+but_lowest-rest-requires g c = more-left _ _ c.is_none.ensures c.loop-rest-test.true
 
 pub loop-rest-preserved : goal.loop-rest-preserved
 loop-rest-preserved g c =

@@ -1,4 +1,4 @@
-use Rattle.std.proofs.Common.{◌∙◌, ◌+◌, ◌<◌, ℕ, subst}
+use Rattle.std.proofs.Common.{◌∙◌, ◌+◌, ◌<◌, ℕ, replicate, subst}
 use Rattle.std.specs.Prelude.{slice_get}
 use Rattle.noc_topo.specs.Shape.{nodes}
 use Rattle.noc_blocks.specs.Ports.{by_port}
@@ -24,10 +24,12 @@ returns g c = record {
   where
     state : State g.row.W.Denot
     state = record {
+      before = replicate 6 0;
       inputs = c.empty_inputs.result;
       outputs = c.free_outputs.result;
       sources = c.open_sources.result;
       ports = c.empty_ports.result;
+      between = replicate 2 0;
       marks = c.empty_marks.result;
     }
 

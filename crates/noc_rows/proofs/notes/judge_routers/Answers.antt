@@ -1,4 +1,4 @@
-use Rattle.std.proofs.Common.{◌≡◌, ◌/◌, ◌<◌, Some, arith}
+use Rattle.std.proofs.Common.{◌≡◌, ◌/◌, ◌<◌, Some, arith, rules}
 use Rattle.std.specs.Prelude.{slice_get}
 use Rattle.noc_rows.proofs.ListLemmas.{is-asleep, is-woken, read}
 use Rattle.noc_rows.proofs.NoteLemmas.{judged-asleep, judged-awake, judged-none}
@@ -6,6 +6,9 @@ use Rattle.noc_rows.proofs.notes.judge_routers.Goals as goal
 
 pub loop-router-init : goal.loop-router-init
 loop-router-init g c = judged-none _ _ _ _ _
+
+pub judge_all-requires : goal.judge_all-requires
+judge_all-requires g c = (search rules, (search rules, (omega arith, omega (arith, c.loop-router.invariant.left, c.requires.places, c.loop-router-test.true))))
 
 pub loop-router-preserved : goal.loop-router-preserved
 loop-router-preserved g c =
