@@ -57,8 +57,6 @@ fn copy_items<T: Copy>(alloc: Global, items: &[T]) -> Result<Vec<T>, Memory>
     ensures { IfOk result (λ copy. copy.items ≡ items.now) }
 {
     let mut copy = Vec::new(alloc);
-    for item in items {
-        copy.push(*item)?;
-    }
+    copy.extend_from_slice(items)?;
     Ok(copy)
 }

@@ -13,8 +13,9 @@ const LONGEST: u32 = 8 * FIRST;
 // not a processor each.
 const CYCLES_A_YIELD: u32 = 64;
 
-// After how many cycles by fewer tiles more are tried again.
-const REST: u32 = 8 * FIRST;
+// After how many cycles by fewer tiles more are tried again: twice as many each time, until all
+// tiles go well, but no more than the longest stretch has.
+const REST: u32 = 2 * FIRST;
 
 // To cut and join tiles for fewer cycles costs more than it saves.
 const FEW: u32 = 512;
@@ -33,8 +34,11 @@ pub(crate) struct Pace {
     cycles: u32,
     // How many have to go before more tiles are tried.
     rest: u32,
+    // How many have to go after the next stretch in which a tile waits long.
+    pause: u32,
     ghost some: { 0 < cycles },
     ghost few: { cycles ≤ 65536 },
+    ghost short: { pause ≤ 65536 },
     ghost within: { tiles ≤ workers },
 }
 
@@ -48,6 +52,7 @@ impl Pace {
             tiles: workers,
             cycles: FIRST,
             rest: 0,
+            pause: REST,
         }
     }
 
@@ -76,15 +81,21 @@ impl Pace {
         if yields > cycles / CYCLES_A_YIELD {
             self.tiles = tiles.saturating_sub(1).max(1).min(self.workers);
             self.cycles = FIRST;
-            self.rest = REST;
+            self.rest = self.pause;
+            self.pause = (2 * self.pause).min(LONGEST);
             return;
         }
         self.rest = self.rest.saturating_sub(cycles);
         if self.rest == 0 && self.tiles < self.workers {
             self.tiles += 1;
             self.cycles = FIRST;
-        } else if tiles > 1 {
+            return;
+        }
+        if tiles > 1 {
             self.cycles = (2 * self.cycles).min(LONGEST);
+        }
+        if tiles == self.workers {
+            self.pause = REST;
         }
     }
 }

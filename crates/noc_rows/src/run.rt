@@ -146,7 +146,7 @@ impl<W: Word + Send> Network<W> {
         ensures kept { cycles ≡ 0 → OnOk result (self.new ≡ self.old) }
         ensures alone { workers ≤ 1 → IsOk result }
     {
-        let mut pace = Pace::new(workers);
+        let mut pace = Pace::new(workers.min(self.plan.sides.len()));
         let mut left = cycles;
         while left > 1 {
             let ran = self.stretch(rt, alloc, setup, left - 1, &mut pace)?;

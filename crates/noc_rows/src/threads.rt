@@ -11,6 +11,7 @@ use crate::origin::Run;
 use crate::tile::{Tile, run_tile};
 use noc_lanes::Word;
 use noc_packet::Memory;
+use noc_waiting::settle;
 use std::alloc::Global;
 use std::marker::PhantomData;
 use std::sync::Wait;
@@ -123,7 +124,8 @@ pub(crate) fn run_all<W: Word + Send, R: Threads + Wait + Sync>(
     )
 }
 
-// Runs the one tile of a list of at most one.
+// Runs the one tile of a list of at most one. (Its thread may be new, and the one that started it
+// makes way for it.)
 fn run_last<W: Word>(
     rt: &impl Wait,
     run: &Run<'_>,
@@ -143,6 +145,7 @@ fn run_last<W: Word>(
     let Some(tile) = tiles.pop() else {
         return tiles;
     };
+    settle(rt);
     let ended = run_tile(rt, run.relation, tile, cycles);
     tiles.push_reserved(ended);
     tiles

@@ -28,11 +28,18 @@ const LOOKS_AWAKE: u32 = 32 * LOOKS;
 // How many microseconds it sleeps.
 const NAP: u64 = 50;
 
+/// Sleeps once, as each of several new threads is to before it works with the others, and the one
+/// that started them too: the system then gives each a processor that is free. One that does not
+/// sleep may stay for milliseconds on the processor of the thread that started it.
+pub fn settle(rt: &impl Wait) {
+    AtomicU64::new(0).park_timeout(rt, 0, Duration::from_micros(NAP));
+}
+
 /// Rests after so many looks, and answers how many count then: one more, or after a sleep as many
 /// as put the next sleep `LOOKS` away.
 pub fn rested(rt: &impl Wait, looks: u32) -> u32 {
     if looks >= LOOKS_AWAKE {
-        AtomicU64::new(0).park_timeout(rt, 0, Duration::from_micros(NAP));
+        settle(rt);
         return LOOKS_AWAKE - LOOKS;
     }
     if looks % LOOKS == LOOKS - 1 {

@@ -1,11 +1,11 @@
-use Rattle.std.proofs.Common.{◌+◌, ◌-◌, ◌∙◌, arith}
+use Rattle.std.proofs.Common.{◌+◌, ◌-◌, arith}
 use Rattle.noc_rows.specs.Rows.{setup_by}
 use Rattle.noc_rows.proofs.RunLemmas.{last-stretched, may-stretch, none-stretched, some-stretched}
 use Rattle.noc_rows.proofs.network.Network.run_by.Goals as goal
 
 pub loop-left-init : goal.loop-left-init
 loop-left-init g c =
-    (none-stretched g.W.Word.value g.W.Word.bits c.args.setup.now.relation.now (setup_by c.args.setup.now) c.args.cycles c.args.self.now c.requires.may, c.new-pace.ensures)
+    (none-stretched g.W.Word.value g.W.Word.bits c.args.setup.now.relation.now (setup_by c.args.setup.now) c.args.cycles c.args.self.now c.requires.may, omega (arith, c.new-pace.ensures, c.min.ensures))
 
 pub stretch-requires-send-W : goal.stretch-requires-send-W
 stretch-requires-send-W g c κs within = c.type_bounds.send-W
@@ -39,7 +39,7 @@ loop-left-preserved g c =
     let some = c.in_ok-ran.ensures.some in (
       some-stretched g.W.Word.value g.W.Word.bits setup.relation.now (setup_by setup) c.args.cycles c.args.self.now c.requires.may c.loop-left.left c.loop-left.self c.loop-left.invariant.0 c.in_ok-ran.ran c.stretch.new.self
           (omega (arith, c.loop-left-test.true, some)) c.in_ok-ran.ensures.shows,
-      c.in_ok-ran.ensures.workers ∙ c.loop-left.invariant.1,
+      omega (arith, c.in_ok-ran.ensures.workers, c.loop-left.invariant.1),
     )
 
 pub finish-requires : goal.finish-requires
