@@ -461,8 +461,8 @@ def threads_of(calls, words):
 
 def threads_that_run(calls):
     """A run by workers has as many threads at a time as workers, the first one of the process among them, or as many
-    as there are blocks of 32 routers. So it has where a drain runs up to the last due time. And they run free: they are
-    joined after thousands of cycles, so that 20,000 cycles start no more than three times as many."""
+    as there are blocks of 32 routers. So it has where a drain runs up to the last due time. And they run free: they end
+    after a thousand cycles at first and then after ever more, so that 20,000 start no more than six times as many."""
     if not os.path.isdir("/proc/self/task"):
         print("threads are not looked for: there is no list of them (/proc/self/task)")
         return
@@ -472,13 +472,24 @@ def threads_that_run(calls):
             call = ["run", words[0], "busy", "--report", "summary", "--workers", str(workers), *words[1:]]
             most, in_all, ran = threads_of(calls, call)
             tiles = min(workers, blocks)
-            right = most == tiles and in_all <= 1 + 3 * (tiles - 1) and not ran.stderr
+            right = most == tiles and in_all <= 1 + 6 * (tiles - 1) and not ran.stderr
             calls.count(f"{most} threads, {in_all} in all {call}, {side} by {side}", right, ran)
 
 
+def same_by_workers(calls, words, what):
+    """Whether a run by two and by three workers is reported as by one, in each report."""
+    for report in ("latency", "stalls", "summary"):
+        alone = calls.run([*words, "--report", report])
+        for workers in ("2", "3"):
+            ran = calls.run([*words, "--report", report, "--workers", workers])
+            is_same = (ran.returncode, ran.stdout, ran.stderr) == (alone.returncode, alone.stdout, b"")
+            calls.count(f"{report} by {workers} workers, {what}",
+                        is_same and alone.returncode in (0, 5) and alone.stdout != b"", ran)
+
+
 def reports_by_workers(calls):
-    """Runs by several workers are reported as by one: on tori and in three dimensions, with ranks and without, over
-    more cycles than workers run in one go. Packets become due up to the last cycles."""
+    """Runs by several workers are reported as by one: on tori and in three dimensions, with ranks and without. Packets
+    become due up to the last cycles. The last network is busy for more cycles than tiles run before they are joined."""
     networks = (("torus", "4, 4", 8, "dateline"), ("mesh", "3, 3, 2", 5, "dor"), ("torus", "4, 4", 7, "dor"),
                 ("torus", "8, 8", 8, "dateline"), ("mesh", "5, 5, 4", 2, "dor"), ("torus", "9, 4", 2, "dor"))
     for (kind, radix, channels, rule), drain in product(networks, ([], ["--drain"])):
@@ -490,14 +501,9 @@ def reports_by_workers(calls):
         ranks = calls.run(["ranks", "many"])
         calls.put(made=ranks.stdout)
         ranked = ["--ranks", "made"] if ranks.returncode == 0 else []
-        for report in ("latency", "stalls", "summary"):
-            words = ["run", "many", "crowd", "--report", report, *ranked, *drain]
-            alone = calls.run(words)
-            for workers in ("2", "3"):
-                ran = calls.run([*words, "--workers", workers])
-                is_same = (ran.returncode, ran.stdout, ran.stderr) == (alone.returncode, alone.stdout, b"")
-                calls.count(f"{report} by {workers} workers, {kind} {radix} {rule} {drain}",
-                            is_same and alone.returncode in (0, 5) and alone.stdout != b"", ran)
+        same_by_workers(calls, ["run", "many", "crowd", *ranked, *drain], f"{kind} {radix} {rule} {drain}")
+    calls.put(**busy_texts(8, 70000))
+    same_by_workers(calls, ["run", "whole", "busy"], "70,000 cycles")
 
 
 def crowd(is_far, due):

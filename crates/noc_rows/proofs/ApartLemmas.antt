@@ -1,18 +1,20 @@
 -- Tiles that have come back are those of the network.
-use Rattle.std.proofs.Common.{◌≡◌, ℕ, zero, suc, ◌+◌, ◌<◌, true, List, [], ◌∷◌, length, map, Some, refl, ap, ap₂, sym, ◌∙◌, arith}
+use Rattle.std.proofs.Common.{◌≡◌, ℕ, zero, suc, ◌+◌, ◌-◌, ◌<◌, ◌≤◌, true, List, [], ◌∷◌, length, map, Some, Result, Ok, Err, IfOk, refl, ap, ap₂, sym, ◌∙◌, arith}
 use Rattle.std.specs.Prelude.{◌&&◌, nat_eq, slice_get, slice_index_or}
 use Rattle.std.specs.List.{remove}
 use Rattle.std.proofs.lemmas.Bool.{lt-ltb}
 use Rattle.std.proofs.lemmas.List.{length-map}
 use Rattle.noc_packet.specs.Set.{has_bit}
 use Rattle.noc_theory.specs.Good.{IsGoodSetup}
+use Rattle.noc_theory.specs.declared.limits.TheConstants.{CYCLE_LIMIT}
 use Rattle.noc_rows.specs.Cuts.{AreCut, tile_of}
 use Rattle.noc_rows.specs.Joins.{AreTiles, IsTileOf}
 use Rattle.noc_rows.specs.Rounds.{Start}
-use Rattle.noc_rows.specs.Tiles.{AllHaveRun, IsTileAt}
+use Rattle.noc_rows.specs.Tiles.{AllHaveRun, AllMayRun, IsTileAt}
 use Rattle.noc_rows.specs.declared.tile.Tile.{Tile}
+use Rattle.noc_rows.specs.declared.threads.NotRun.{NotRun}
 use Rattle.noc_rows.proofs.CutLemmas.{tile-below}
-use Rattle.noc_rows.proofs.ThreadLemmas.{run-many, run-one}
+use Rattle.noc_rows.proofs.ThreadLemmas.{may-part, run-many, run-one, whole-may}
 
 -- ---- an item at a place
 pub item-at : {X : Type 0} (xs : List X) (k : ℕ) (x : X) → k < length xs → x ≡ slice_index_or xs k x → slice_get xs k ≡ Some x
@@ -57,3 +59,37 @@ tiles-come {A} value w start count cycles m owns tiles came good some last cut a
       shows = done.shows;
       left = done.left m last;
     }
+
+-- ---- stretches
+-- of at most so many cycles of a run these have gone, by tiles with these own blocks
+pub record AreOn {A : Type 0} (value : A → ℕ) (w : ℕ) (start : Start) (most : ℕ) (owns : List ℕ) (cycles : ℕ) (tiles : List (Tile A)) : Type 0 where
+  pub within : cycles ≤ most
+  pub may : AllMayRun value w start cycles (most - cycles) owns tiles
+  pub run : 0 < cycles → AllHaveRun value w start cycles owns tiles
+  pub whole : 0 < cycles → (i : ℕ) (one : Tile A) → slice_get tiles i ≡ Some one → one.is_whole ≡ true
+
+module _ {A : Type 0} (value : A → ℕ) (w : ℕ) (start : Start) (most : ℕ) (owns : List ℕ) where
+  pub none-on : (tiles : List (Tile A)) → AllMayRun value w start 0 most owns tiles → AreOn value w start most owns 0 tiles
+  none-on tiles may = record {
+    within = omega arith;
+    may = may-part value w start 0 most (most - 0) (omega arith) owns tiles may;
+    run = λ some. absurd (omega (arith, some));
+    whole = λ some. absurd (omega (arith, some));
+  }
+
+  pub may-stretch : (cycles more : ℕ) (tiles : List (Tile A)) → more ≤ most - cycles → AreOn value w start most owns cycles tiles → AllMayRun value w start cycles more owns tiles
+  may-stretch cycles more tiles few on = may-part value w start cycles (most - cycles) more few owns tiles on.may
+
+  pub more-on : (cycles more : ℕ) (tiles came : List (Tile A)) → IsGoodSetup start.net → start.cycle + most ≤ CYCLE_LIMIT → more ≤ most - cycles → AreOn value w start most owns cycles tiles
+      → AllHaveRun value w start (cycles + more) owns came → ((i : ℕ) (one : Tile A) → slice_get came i ≡ Some one → one.is_whole ≡ true) → AreOn value w start most owns (cycles + more) came
+  more-on cycles more tiles came good limit few on run whole = record {
+    within = omega (arith, few, on.within);
+    may = whole-may value w start (cycles + more) (most - (cycles + more)) good (omega (arith, limit, few, on.within)) owns came run whole;
+    run = λ some. run;
+    whole = λ some. whole;
+  }
+
+-- cycles that are some of these are some of more
+pub some-of-more : (few most : ℕ) (ran : Result ℕ NotRun) → few ≤ most → IfOk ran (λ cycles. (0 < cycles) × (cycles ≤ few)) → IfOk ran (λ cycles. (0 < cycles) × (cycles ≤ most))
+some-of-more few most (Err x) l h = tt
+some-of-more few most (Ok cycles) l h = (h.0, let k = h.1 in omega (arith, k, l))

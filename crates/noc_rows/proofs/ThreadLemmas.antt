@@ -3,6 +3,8 @@ use Rattle.std.proofs.Common.{◌≡◌, ◌∙◌, ◌/◌, ◌+◌, ◌<◌, �
 use Rattle.std.specs.Prelude.{IsOkAnd, slice_get}
 use Rattle.std.proofs.lemmas.List.{length_push, map-append, take_all, take_more}
 use Rattle.std.proofs.lemmas.Option.{none-some, same_Some}
+use Rattle.noc_theory.specs.Good.{IsGoodSetup}
+use Rattle.noc_theory.specs.declared.limits.TheConstants.{CYCLE_LIMIT}
 use Rattle.noc_rows.specs.Rounds.{Start}
 use Rattle.noc_rows.specs.Tiles.{AllHaveRun, AllMayRun, HasCome, IsTileAt, MayRunFrom}
 use Rattle.noc_rows.specs.declared.tile.Tile.{Tile}
@@ -12,52 +14,53 @@ use Rattle.noc_rows.specs.declared.threads.NotRun.{NotRun}
 pub room-left : (less many cap room : ℕ) → less + 1 ≡ many → room ≡ cap → many ≤ cap → less < room
 room-left less many cap room e f l = omega (arith, e, f, l)
 
-module _ {A : Type 0} (value : A → ℕ) (w : ℕ) (start : Start) (cycles : ℕ) where
-  pub may-take : (n : ℕ) (owns : List ℕ) (tiles : List (Tile A)) → AllMayRun value w start cycles owns tiles → AllMayRun value w start cycles (take n owns) (take n tiles)
+module _ {A : Type 0} (value : A → ℕ) (w : ℕ) (start : Start) (done more : ℕ) where
+  pub may-take : (n : ℕ) (owns : List ℕ) (tiles : List (Tile A)) → AllMayRun value w start done more owns tiles → AllMayRun value w start done more (take n owns) (take n tiles)
   may-take zero owns tiles h = tt
   may-take (suc n) [] [] h = tt
   may-take (suc n) [] (t ∷ ts) h = absurd h
   may-take (suc n) (o ∷ os) [] h = absurd h
   may-take (suc n) (o ∷ os) (t ∷ ts) h = (h.0, h.1, may-take n os ts h.2)
 
-  pub may-drop : (n : ℕ) (owns : List ℕ) (tiles : List (Tile A)) → AllMayRun value w start cycles owns tiles → AllMayRun value w start cycles (drop n owns) (drop n tiles)
+  pub may-drop : (n : ℕ) (owns : List ℕ) (tiles : List (Tile A)) → AllMayRun value w start done more owns tiles → AllMayRun value w start done more (drop n owns) (drop n tiles)
   may-drop zero owns tiles h = h
   may-drop (suc n) [] [] h = tt
   may-drop (suc n) [] (t ∷ ts) h = absurd h
   may-drop (suc n) (o ∷ os) [] h = absurd h
   may-drop (suc n) (o ∷ os) (t ∷ ts) h = may-drop n os ts h.2
 
-  pub run-append : (owns more : List ℕ) (as' bs : List (Tile A)) → AllHaveRun value w start cycles owns as' → AllHaveRun value w start cycles more bs → AllHaveRun value w start cycles (owns ++ more) (as' ++ bs)
-  run-append [] more [] bs h k = k
-  run-append [] more (a ∷ as') bs h k = absurd h
-  run-append (o ∷ os) more [] bs h k = absurd h
-  run-append (o ∷ os) more (a ∷ as') bs h k = (h.0, h.1, run-append os more as' bs h.2 k)
-
   -- no tile
-  pub run-none : (owns : List ℕ) (tiles after : List (Tile A)) (n m : ℕ) → n ≡ length tiles → n ≡ 0 → m ≡ length after → m ≡ 0 → AllMayRun value w start cycles owns tiles → AllHaveRun value w start cycles owns after
+  pub run-none : (owns : List ℕ) (tiles after : List (Tile A)) (n m : ℕ) → n ≡ length tiles → n ≡ 0 → m ≡ length after → m ≡ 0 → AllMayRun value w start done more owns tiles → AllHaveRun value w start (done + more) owns after
   run-none [] [] [] n m a b c d h = tt
   run-none owns tiles (t ∷ after) n m a b c d h = absurd (omega (arith, c, d))
   run-none owns (t ∷ tiles) after n m a b c d h = absurd (omega (arith, a, b))
   run-none (o ∷ os) [] [] n m a b c d h = absurd h
 
   -- the one tile of a list
-  pub last-may : (owns : List ℕ) (tiles before : List (Tile A)) (tile : Tile A) → tiles ≡ before ++ tile ∷ [] → length tiles ≤ 1 → AllMayRun value w start cycles owns tiles → MayRunFrom value w start.net.relation cycles start tile
-  last-may owns tiles [] tile e few h = at owns (subst (λ (ts : List (Tile A)). AllMayRun value w start cycles owns ts) e h)
+  pub last-may : (owns : List ℕ) (tiles before : List (Tile A)) (tile : Tile A) → tiles ≡ before ++ tile ∷ [] → length tiles ≤ 1 → AllMayRun value w start done more owns tiles → MayRunFrom value w start.net.relation done more start tile
+  last-may owns tiles [] tile e few h = at owns (subst (λ (ts : List (Tile A)). AllMayRun value w start done more owns ts) e h)
     where
-      at : (owns : List ℕ) → AllMayRun value w start cycles owns (tile ∷ []) → MayRunFrom value w start.net.relation cycles start tile
+      at : (owns : List ℕ) → AllMayRun value w start done more owns (tile ∷ []) → MayRunFrom value w start.net.relation done more start tile
       at [] h = absurd h
       at (o ∷ os) h = h.1
   last-may owns tiles (t ∷ ts) tile e few h = absurd (omega (arith, few, ap length e, length_push ts tile))
 
-  pub last-run : (owns : List ℕ) (tiles before after : List (Tile A)) (tile ended : Tile A) → tiles ≡ before ++ tile ∷ [] → length tiles ≤ 1 → after ≡ before ++ ended ∷ [] → HasCome value w start.net.relation cycles tile ended
-      → AllMayRun value w start cycles owns tiles → AllHaveRun value w start cycles owns after
-  last-run owns tiles [] after tile ended e few f come h = subst (λ (ts : List (Tile A)). AllHaveRun value w start cycles owns ts) (sym f) (at owns (subst (λ (ts : List (Tile A)). AllMayRun value w start cycles owns ts) e h))
+  pub last-run : (owns : List ℕ) (tiles before after : List (Tile A)) (tile ended : Tile A) → tiles ≡ before ++ tile ∷ [] → length tiles ≤ 1 → after ≡ before ++ ended ∷ [] → HasCome value w start.net.relation more tile ended
+      → AllMayRun value w start done more owns tiles → AllHaveRun value w start (done + more) owns after
+  last-run owns tiles [] after tile ended e few f come h = subst (λ (ts : List (Tile A)). AllHaveRun value w start (done + more) owns ts) (sym f) (at owns (subst (λ (ts : List (Tile A)). AllMayRun value w start done more owns ts) e h))
     where
-      at : (owns : List ℕ) → AllMayRun value w start cycles owns (tile ∷ []) → AllHaveRun value w start cycles owns (ended ∷ [])
+      at : (owns : List ℕ) → AllMayRun value w start done more owns (tile ∷ []) → AllHaveRun value w start (done + more) owns (ended ∷ [])
       at [] h = absurd h
-      at (o ∷ []) h = (come.own ∙ h.0, λ whole. come.whole whole start h.1, tt)
+      at (o ∷ []) h = (come.own ∙ h.0, λ whole. come.whole whole start done h.1, tt)
       at (o ∷ (p ∷ os)) h = absurd h.2
   last-run owns tiles (t ∷ ts) after tile ended e few f come h = absurd (omega (arith, few, ap length e, length_push ts tile))
+
+module _ {A : Type 0} (value : A → ℕ) (w : ℕ) (start : Start) (cycles : ℕ) where
+  pub run-append : (owns more : List ℕ) (as' bs : List (Tile A)) → AllHaveRun value w start cycles owns as' → AllHaveRun value w start cycles more bs → AllHaveRun value w start cycles (owns ++ more) (as' ++ bs)
+  run-append [] more [] bs h k = k
+  run-append [] more (a ∷ as') bs h k = absurd h
+  run-append (o ∷ os) more [] bs h k = absurd h
+  run-append (o ∷ os) more (a ∷ as') bs h k = (h.0, h.1, run-append os more as' bs h.2 k)
 
   -- both halves
   pub both-run : (owns more : List ℕ) (ra rb r : Result (Vec (Tile A) Global) NotRun) → IfOk ra (λ v. AllHaveRun value w start cycles owns v.items) → IfOk rb (λ v. AllHaveRun value w start cycles more v.items)
@@ -69,11 +72,11 @@ module _ {A : Type 0} (value : A → ℕ) (w : ℕ) (start : Start) (cycles : �
 
 -- ---- halves
 -- half of the own sets are there, as half of the tiles
-pub may-many : {A : Type 0} (value : A → ℕ) (w : ℕ) (start : Start) (cycles : ℕ) (owns : List ℕ) (tiles : List (Tile A)) → AllMayRun value w start cycles owns tiles → length owns ≡ length tiles
-may-many value w start cycles [] [] h = refl
-may-many value w start cycles [] (t ∷ ts) h = absurd h
-may-many value w start cycles (o ∷ os) [] h = absurd h
-may-many value w start cycles (o ∷ os) (t ∷ ts) h = ap suc (may-many value w start cycles os ts h.2)
+pub may-many : {A : Type 0} (value : A → ℕ) (w : ℕ) (start : Start) (done more : ℕ) (owns : List ℕ) (tiles : List (Tile A)) → AllMayRun value w start done more owns tiles → length owns ≡ length tiles
+may-many value w start done more [] [] h = refl
+may-many value w start done more [] (t ∷ ts) h = absurd h
+may-many value w start done more (o ∷ os) [] h = absurd h
+may-many value w start done more (o ∷ os) (t ∷ ts) h = ap suc (may-many value w start done more os ts h.2)
 
 pub half-within : (count many owns : ℕ) → count ≡ many → owns ≡ many → count / 2 ≤ owns
 half-within count many owns e f = omega (arith, e, f)
@@ -93,13 +96,28 @@ own-next {A} tiles k one owns more l e f =
 pub own-all : {A : Type 0} (tiles : List (Tile A)) (k : ℕ) → length tiles ≤ k → map (λ (t : Tile A). t.own) (take k tiles) ≡ map (λ (t : Tile A). t.own) tiles
 own-all {A} tiles k l = ap (map (λ (t : Tile A). t.own)) (take_all k tiles l)
 
-module _ {A : Type 0} (value : A → ℕ) (w : ℕ) (start : Start) (cycles : ℕ) where
+module _ {A : Type 0} (value : A → ℕ) (w : ℕ) (start : Start) (done more : ℕ) where
   -- tiles each of which may run
-  pub each-may : (tiles : List (Tile A)) → ((i : ℕ) (one : Tile A) → slice_get tiles i ≡ Some one → MayRunFrom value w start.net.relation cycles start one) → AllMayRun value w start cycles (map (λ (t : Tile A). t.own) tiles) tiles
+  pub each-may : (tiles : List (Tile A)) → ((i : ℕ) (one : Tile A) → slice_get tiles i ≡ Some one → MayRunFrom value w start.net.relation done more start one) → AllMayRun value w start done more (map (λ (t : Tile A). t.own) tiles) tiles
   each-may [] each = tt
   each-may (one ∷ tiles) each = (refl, each 0 one refl, each-may tiles (λ i. each (suc i)))
 
-  -- .. and one of those that came back
+  -- .. and each of those that came back whole
+  pub whole-may : IsGoodSetup start.net → start.cycle + done + more ≤ CYCLE_LIMIT → (owns : List ℕ) (came : List (Tile A)) → AllHaveRun value w start done owns came → ((i : ℕ) (one : Tile A) → slice_get came i ≡ Some one → one.is_whole ≡ true) → AllMayRun value w start done more owns came
+  whole-may good few [] [] h whole = tt
+  whole-may good few [] (t ∷ ts) h whole = absurd h
+  whole-may good few (o ∷ os) [] h whole = absurd h
+  whole-may good few (o ∷ os) (t ∷ ts) h whole = (h.0, record { good = good; is = refl; few = few; at = h.1 (whole 0 t refl) }, whole-may good few os ts h.2 (λ i. whole (suc i)))
+
+  -- they may run fewer
+  pub may-part : (part : ℕ) → part ≤ more → (owns : List ℕ) (tiles : List (Tile A)) → AllMayRun value w start done more owns tiles → AllMayRun value w start done part owns tiles
+  may-part part l [] [] h = tt
+  may-part part l [] (t ∷ ts) h = absurd h
+  may-part part l (o ∷ os) [] h = absurd h
+  may-part part l (o ∷ os) (t ∷ ts) h = (h.0, record { good = h.1.good; is = h.1.is; few = let few = h.1.few in omega (arith, l, few); at = h.1.at }, may-part part l os ts h.2)
+
+module _ {A : Type 0} (value : A → ℕ) (w : ℕ) (start : Start) (cycles : ℕ) where
+  -- one of the tiles that came back
   pub run-many : (owns : List ℕ) (came : List (Tile A)) → AllHaveRun value w start cycles owns came → length came ≡ length owns
   run-many [] [] h = refl
   run-many [] (t ∷ ts) h = absurd h

@@ -221,14 +221,22 @@ no-routers n = omega arith
 
 -- ---- a run
 -- a cycle of it may run
-pub may-cycle : {A : Type 0} (value : A → ℕ) (w : ℕ) (relation : Routes) (cycles c : ℕ) (start : Start) (first tile : Tile A) → MayRunFrom value w relation cycles start first → c < cycles → IsTileAt value w start c tile
-    → MayCycle value w relation start c tile
-may-cycle value w relation cycles c start first tile may low at = record { good = may.good; is = may.is; few = let few = may.few in omega (arith, few, low); at = at }
+pub may-cycle : {A : Type 0} (value : A → ℕ) (w : ℕ) (relation : Routes) (cycles c done : ℕ) (start : Start) (first tile : Tile A) → MayRunFrom value w relation done cycles start first → c < cycles → IsTileAt value w start (done + c) tile
+    → MayCycle value w relation start (done + c) tile
+may-cycle value w relation cycles c done start first tile may low at = record { good = may.good; is = may.is; few = let few = may.few in omega (arith, few, low); at = at }
+
+-- none has run
+pub none-run : {A : Type 0} (value : A → ℕ) (w : ℕ) (relation : Routes) (cycles done : ℕ) (start : Start) (tile : Tile A) → MayRunFrom value w relation done cycles start tile → IsTileAt value w start (done + 0) tile
+none-run value w relation cycles done start tile may = subst (λ n. IsTileAt value w start n tile) (omega arith) may.at
+
+-- .. and one more
+pub one-more : {A : Type 0} (value : A → ℕ) (w : ℕ) (start : Start) (done c : ℕ) (tile : Tile A) → IsTileAt value w start (done + c + 1) tile → IsTileAt value w start (done + (c + 1)) tile
+one-more value w start done c tile at = subst (λ n. IsTileAt value w start n tile) (omega arith) at
 
 -- whether it is whole is not part of it
-pub whole-tile : {A : Type 0} (value : A → ℕ) (w : ℕ) (start : Start) (c n : ℕ) (tile : Tile A) (whole : Bool) → c ≤ n → n ≤ c → IsTileAt value w start c tile → IsTileAt value w start n (record tile { is_whole = whole })
-whole-tile value w start c n tile whole a b at =
-    let same : c ≡ n = omega (arith, a, b) in
+pub whole-tile : {A : Type 0} (value : A → ℕ) (w : ℕ) (start : Start) (done c n : ℕ) (tile : Tile A) (whole : Bool) → c ≤ n → n ≤ c → IsTileAt value w start (done + c) tile → IsTileAt value w start (done + n) (record tile { is_whole = whole })
+whole-tile value w start done c n tile whole a b at =
+    let same : done + c ≡ done + n = omega (arith, a, b) in
     let end = subst (λ k. IsTileAt value w start k tile) same at in
     record { shows = end.shows; left = end.left; others = end.others; blocks = end.blocks; own = end.own; posts = end.posts; near = end.near }
 

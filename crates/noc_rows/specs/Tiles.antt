@@ -119,37 +119,37 @@ pub record MayCycle {A : Type 0} (value : A → ℕ) (w : ℕ) (relation : Route
   pub few : start.cycle + c < CYCLE_LIMIT
   pub at : IsTileAt value w start c tile
 
--- it may run so many cycles by this relation, from the beginning of the run
-pub record MayRunFrom {A : Type 0} (value : A → ℕ) (w : ℕ) (relation : Routes) (cycles : ℕ)
+-- after `done` cycles of it, it may run so many more by this relation
+pub record MayRunFrom {A : Type 0} (value : A → ℕ) (w : ℕ) (relation : Routes) (done more : ℕ)
     (start : Start) (tile : Tile A) : Type 0 where
   pub good : IsGoodSetup start.net
   pub is : start.net.relation ≡ relation
-  pub few : start.cycle + cycles ≤ CYCLE_LIMIT
-  pub at : IsTileAt value w start 0 tile
+  pub few : start.cycle + done + more ≤ CYCLE_LIMIT
+  pub at : IsTileAt value w start done tile
 
 -- .. of some run
 abbrev pub MayRunTile : {A : Type 0} → (A → ℕ) → ℕ → Routes → ℕ → Tile A → Type 0
-MayRunTile value w relation cycles tile =
-    (start : Start) × MayRunFrom value w relation cycles start tile
+MayRunTile value w relation more tile =
+    (start : Start) × (done : ℕ) × MayRunFrom value w relation done more start tile
 
 -- a tile that came back: where it is whole, it has run these cycles of its run
-pub record HasCome {A : Type 0} (value : A → ℕ) (w : ℕ) (relation : Routes) (cycles : ℕ)
+pub record HasCome {A : Type 0} (value : A → ℕ) (w : ℕ) (relation : Routes) (more : ℕ)
     (was is : Tile A) : Type 0 where
   pub own : is.own ≡ was.own
-  pub whole : is.is_whole ≡ true → (start : Start)
-      → MayRunFrom value w relation cycles start was → IsTileAt value w start cycles is
+  pub whole : is.is_whole ≡ true → (start : Start) (done : ℕ)
+      → MayRunFrom value w relation done more start was → IsTileAt value w start (done + more) is
 
 -- ---- tiles with these own blocks, one by one
--- they may run so many cycles of the run
-abbrev pub AllMayRun : {A : Type 0} → (A → ℕ) → ℕ → Start → ℕ → List ℕ → List (Tile A) → Type 0
-AllMayRun value w start cycles [] [] = Unit {0}
-AllMayRun value w start cycles [] (tile ∷ tiles) = ⊥
-AllMayRun value w start cycles (own ∷ owns) [] = ⊥
-AllMayRun value w start cycles (own ∷ owns) (tile ∷ tiles) =
-    (tile.own ≡ own) × MayRunFrom value w start.net.relation cycles start tile
-    × AllMayRun value w start cycles owns tiles
+-- after `done` cycles of the run they may run so many more
+abbrev pub AllMayRun : {A : Type 0} → (A → ℕ) → ℕ → Start → ℕ → ℕ → List ℕ → List (Tile A) → Type 0
+AllMayRun value w start done more [] [] = Unit {0}
+AllMayRun value w start done more [] (tile ∷ tiles) = ⊥
+AllMayRun value w start done more (own ∷ owns) [] = ⊥
+AllMayRun value w start done more (own ∷ owns) (tile ∷ tiles) =
+    (tile.own ≡ own) × MayRunFrom value w start.net.relation done more start tile
+    × AllMayRun value w start done more owns tiles
 
--- those that came back whole have run them
+-- those that came back whole have run so many in all
 abbrev pub AllHaveRun : {A : Type 0} → (A → ℕ) → ℕ → Start → ℕ → List ℕ → List (Tile A) → Type 0
 AllHaveRun value w start cycles [] [] = Unit {0}
 AllHaveRun value w start cycles [] (tile ∷ tiles) = ⊥

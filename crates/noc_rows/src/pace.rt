@@ -2,20 +2,18 @@
 
 ghost use Rattle.std.specs.Prelude.{◌≡◌, ◌<◌, ◌≤◌};
 
-// How many cycles tiles run at first. They are cut and joined for it, so a stretch that goes well
-// makes the next one twice as long,
-const FIRST: u32 = 8192;
+use noc_lanes::Word;
 
-// .. up to this.
-const LONGEST: u32 = 8 * FIRST;
+// How many cycles tiles run before it is looked at first whether they pay. Their threads end and
+// begin anew for it, so a stretch that goes well makes the next one twice as long,
+const FIRST: u32 = 1024;
 
-// A tile whose worker yields more often than once in so many cycles waits long: its neighbours have
-// not a processor each.
-const CYCLES_A_YIELD: u32 = 64;
+// .. up to this. A network that is cut into tiles is joined again after as many.
+const LONGEST: u32 = 64 * FIRST;
 
 // After how many cycles by fewer tiles more are tried again: twice as many each time, until all
 // tiles go well, but no more than the longest stretch has.
-const REST: u32 = 2 * FIRST;
+const REST: u32 = 16 * FIRST;
 
 // To cut and join tiles for fewer cycles costs more than it saves.
 const FEW: u32 = 512;
@@ -28,31 +26,37 @@ const ALONE: u32 = 256;
 pub(crate) struct Pace {
     // How many workers there are.
     workers: usize,
+    // How many pauses of each worker in a cycle are as long as what two tiles save.
+    saved: u32,
     // By how many tiles they go at most.
     tiles: usize,
     // How many of them go by tiles.
     cycles: u32,
     // How many have to go before more tiles are tried.
     rest: u32,
-    // How many have to go after the next stretch in which a tile waits long.
-    pause: u32,
+    // How many have to go after the next stretch in which tiles wait long.
+    next_rest: u32,
     ghost some: { 0 < cycles },
     ghost few: { cycles ≤ 65536 },
-    ghost short: { pause ≤ 65536 },
+    ghost short: { next_rest ≤ 65536 },
     ghost within: { tiles ≤ workers },
 }
 
 impl Pace {
-    /// By all workers.
-    pub(crate) fn new(workers: usize) -> Pace
-        ensures { result.workers ≡ workers }
+    /// By all workers, but by no more than there are blocks. One thread takes as long for a block in
+    /// a cycle as for a quarter as many pauses as a word has bits.
+    pub(crate) fn new<W: Word>(workers: usize, blocks: usize) -> Pace
+        ensures { result.workers ≤ workers }
     {
+        let workers = workers.min(blocks);
+        let bits = W::none().least_or_bits();
         Pace {
             workers,
+            saved: u32::try_from(blocks.saturating_mul(bits) / 8).unwrap_or(u32::MAX),
             tiles: workers,
             cycles: FIRST,
             rest: 0,
-            pause: REST,
+            next_rest: REST,
         }
     }
 
@@ -63,7 +67,7 @@ impl Pace {
         if most < FEW { 1 } else { self.tiles }
     }
 
-    /// How many of at most so many cycles go by so many tiles.
+    /// How many of at most so many cycles go by so many tiles before it is looked whether they pay.
     pub(crate) fn cycles(&self, tiles: usize, most: u32) -> u32
         requires { 0 < most }
         ensures some { 0 < result }
@@ -73,29 +77,38 @@ impl Pace {
         cycles.min(most)
     }
 
-    /// So many cycles have gone by so many tiles, and the worker of none of them has yielded more
-    /// often than this.
-    pub(crate) fn heed(&mut self, tiles: usize, cycles: u32, yields: u32)
+    /// So many cycles have gone by so many tiles, and each of their workers has paused at least so
+    /// often. The answer is whether as many tiles go on.
+    pub(crate) fn heed(&mut self, tiles: usize, cycles: u32, waits: u32) -> bool
         ensures { self.new.workers ≡ self.old.workers }
     {
-        if yields > cycles / CYCLES_A_YIELD {
+        if waits > cycles.saturating_mul(self.saved) {
             self.tiles = tiles.saturating_sub(1).max(1).min(self.workers);
             self.cycles = FIRST;
-            self.rest = self.pause;
-            self.pause = (2 * self.pause).min(LONGEST);
-            return;
+            self.rest = self.next_rest;
+            self.next_rest = (2 * self.next_rest).min(LONGEST);
+            return false;
         }
         self.rest = self.rest.saturating_sub(cycles);
         if self.rest == 0 && self.tiles < self.workers {
             self.tiles += 1;
             self.cycles = FIRST;
-            return;
+            return false;
         }
         if tiles > 1 {
             self.cycles = (2 * self.cycles).min(LONGEST);
         }
         if tiles == self.workers {
-            self.pause = REST;
+            self.next_rest = REST;
         }
+        true
     }
+}
+
+/// How many of so many cycles tiles run at most before they are joined.
+pub(crate) fn together(most: u32) -> u32
+    ensures some { 0 < most → 0 < result }
+    ensures within { result ≤ most }
+{
+    most.min(LONGEST)
 }

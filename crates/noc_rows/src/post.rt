@@ -16,15 +16,15 @@ use crate::network::Network;
 use crate::origin::Run;
 use noc_lanes::Word;
 use noc_packet::Memory;
-use noc_waiting::{LOOKS, rested};
+use noc_waiting::{LOOKS_AT_ONCE, rested};
 use rtrb::{Consumer, Producer, Protocol, RingBuffer};
 use std::alloc::Global;
 use std::marker::PhantomData;
 use std::sync::Wait;
 
-// How often a worker has given its processor up at the last of so many looks: once, or not.
-fn given_up(looks: u32) -> u32 {
-    u32::from(looks % LOOKS == 0)
+// Whether the last of so many looks came after a pause, as a number.
+fn paused(looks: u32) -> u32 {
+    u32::from(looks > LOOKS_AT_ONCE)
 }
 
 // What a ring between two tiles carries.
@@ -43,8 +43,8 @@ pub(crate) struct Post<W: Word> {
     pub(crate) share: Option<usize>,
     // The mail that goes next: none while it is on its way, until the other's has come.
     pub(crate) mail: Option<Mail<W>>,
-    // How often its worker has yielded or slept while it waited here.
-    pub(crate) yields: u32,
+    // How often its worker has paused while it waited here.
+    pub(crate) waits: u32,
     pub(crate) out: Producer<Mail<W>, Global, Rounds<W>>,
     pub(crate) back: Consumer<Mail<W>, Global, Rounds<W>>,
 }
@@ -89,7 +89,7 @@ impl<W: Word> Post<W> {
                 return false;
             }
             looks = rested(rt, looks);
-            self.yields = self.yields.saturating_add(given_up(looks));
+            self.waits = self.waits.saturating_add(paused(looks));
         }
         unreachable!()
     }
@@ -141,7 +141,7 @@ impl<W: Word> Post<W> {
                 return !self.back.is_empty();
             }
             looks = rested(rt, looks);
-            self.yields = self.yields.saturating_add(given_up(looks));
+            self.waits = self.waits.saturating_add(paused(looks));
         }
         unreachable!()
     }
@@ -160,7 +160,7 @@ fn greet<W: Word>(alloc: Global, hello: Mail<W>) -> Result<Greeted<W>, Memory>
     ensures ends { IfOk result (λ ring. (sent ring.0 ≡ hello ∷ [])
         × (received ring.1 ≡ hello ∷ [])) }
 {
-    let (mut out, mut back) = RingBuffer::with_protocol::<Global, Rounds<W>>(alloc, 2)?;
+    let (mut out, mut back) = RingBuffer::with_protocol::<Global, Rounds<W>>(alloc, 8)?;
     out.push_reserved(hello);
     back.slots_beside(&mut out);
     let mail = back.pop_known();
@@ -193,14 +193,14 @@ pub(crate) fn meet<W: Word>(
         Post {
             share: from,
             mail: Some(answer),
-            yields: 0,
+            waits: 0,
             out,
             back: here,
         },
         Post {
             share: back,
             mail: Some(mail),
-            yields: 0,
+            waits: 0,
             out: answers,
             back: there,
         },

@@ -9,9 +9,10 @@ ghost use Rattle.noc_rows.specs.Sizes.{BlocksFit, LetterFits};
 ghost use Rattle.noc_rows.specs.TileSizes.{TileFits};
 ghost use Rattle.noc_rows.specs.Steps.{HasPassed};
 
+use crate::apart::Ahead;
 use crate::network::Network;
 use crate::origin::Setup;
-use crate::pace::Pace;
+use crate::pace::{Pace, together};
 use crate::threads::NotRun;
 use crate::waits::{next_due, repeat_all};
 use noc_blocks::PLACES;
@@ -146,7 +147,7 @@ impl<W: Word + Send> Network<W> {
         ensures kept { cycles ≡ 0 → OnOk result (self.new ≡ self.old) }
         ensures alone { workers ≤ 1 → IsOk result }
     {
-        let mut pace = Pace::new(workers.min(self.plan.sides.len()));
+        let mut pace = Pace::new::<W>(workers, self.plan.sides.len());
         let mut left = cycles;
         while left > 1 {
             let ran = self.stretch(rt, alloc, setup, left - 1, &mut pace)?;
@@ -186,12 +187,11 @@ impl<W: Word + Send> Network<W> {
             return Ok(ran);
         }
         let tiles = self.tiles_that_pay(pace.tiles(most));
-        let cycles = pace.cycles(tiles, most);
         if tiles > 1 {
-            let yields = self.run_apart(rt, alloc, setup, cycles, tiles)?;
-            pace.heed(tiles, cycles, yields);
-            return Ok(cycles);
+            let most = together(most);
+            return self.run_apart(rt, alloc, setup, Ahead { tiles, most }, pace);
         }
+        let cycles = pace.cycles(1, most);
         self.go(setup.relation, cycles);
         pace.heed(1, cycles, 0);
         Ok(cycles)

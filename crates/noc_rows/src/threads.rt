@@ -1,6 +1,6 @@
 //! The tiles of a network, run in threads of their own.
 
-ghost use Rattle.std.specs.Prelude.{◌≡◌, ◌<◌, ◌≤◌, ◌++◌, IfOk, IsOkAnd, map, vec_len};
+ghost use Rattle.std.specs.Prelude.{◌≡◌, ◌+◌, ◌<◌, ◌≤◌, ◌++◌, IfOk, IsOkAnd, map, vec_len};
 ghost use Rattle.std.specs.Thread.{IsSend, IsSync};
 ghost use Rattle.noc_rows.specs.Rounds.{start_by};
 ghost use Rattle.noc_rows.specs.Sizes.{BlocksFit, LetterFits};
@@ -50,35 +50,37 @@ pub(crate) fn owns_of<W: Word>(alloc: Global, tiles: &Vec<Tile<W>>) -> Result<Ve
 struct RunsOf<'a, W: Word> {
     run: &'a Run<'a>,
     owns: &'a [u32],
-    cycles: u32,
+    done: u32,
+    more: u32,
     word: PhantomData<W>,
 }
 
 impl<'a, W: Word> Promise<Result<Vec<Tile<W>>, NotRun>> for RunsOf<'a, W> {
-    ghost kept_by = { λ p r. IfOk r (λ v. AllHaveRun W.value W.bits (start_by p.run.now) p.cycles
-        p.owns.now v.items) };
+    ghost kept_by = { λ p r. IfOk r (λ v. AllHaveRun W.value W.bits (start_by p.run.now)
+        (p.done + p.more) p.owns.now v.items) };
 }
 
-// Runs so many cycles of each tile, the second half of them in a thread of its own. It fails only
-// where memory or a thread is refused: the rings of the tiles that do not run are let go then, and
-// the others come back without their cycles.
+// Runs so many more cycles of each tile, the second half of them in a thread of its own. It fails
+// only where memory or a thread is refused: the rings of the tiles that do not run are let go then,
+// and the others come back without their cycles.
 pub(crate) fn run_all<W: Word + Send, R: Threads + Wait + Sync>(
     rt: &R,
     run: &Run<'_>,
     owns: &[u32],
     tiles: Vec<Tile<W>>,
-    cycles: u32,
+    done: u32,
+    more: u32,
 ) -> Result<Vec<Tile<W>>, NotRun>
     requires memory { BlocksFit W.row }
     requires letters { LetterFits W.row }
     requires tile { TileFits W.row W.Word W.Clone }
-    requires may { AllMayRun W.value W.bits (start_by run.now) cycles owns.now tiles.items }
-    ensures { IfOk result (λ v. AllHaveRun W.value W.bits (start_by run.now) cycles owns.now
+    requires may { AllMayRun W.value W.bits (start_by run.now) done more owns.now tiles.items }
+    ensures { IfOk result (λ v. AllHaveRun W.value W.bits (start_by run.now) (done + more) owns.now
         v.items) }
 {
     let count = tiles.len();
     if count <= 1 {
-        return Ok(run_last(rt, run, owns, tiles, cycles));
+        return Ok(run_last(rt, run, owns, tiles, done, more));
     }
     let mut first = tiles;
     let Ok(second) = first.split_off(count / 2) else {
@@ -91,16 +93,17 @@ pub(crate) fn run_all<W: Word + Send, R: Threads + Wait + Sync>(
         |scope| -> Result<Vec<Tile<W>>, NotRun>
             requires { BlocksFit W.row × LetterFits W.row × TileFits W.row W.Word W.Clone
                 × IsSync R.row × IsSend W.row
-                × AllMayRun W.value W.bits (start_by run.now) cycles here.now first.items
-                × AllMayRun W.value W.bits (start_by run.now) cycles there.now second.items
+                × AllMayRun W.value W.bits (start_by run.now) done more here.now first.items
+                × AllMayRun W.value W.bits (start_by run.now) done more there.now second.items
                 × (0 < vec_len first) × (0 < vec_len second) }
-            ensures { IfOk result (λ v. AllHaveRun W.value W.bits (start_by run.entry.now) cycles
-                (here.entry.now ++ there.entry.now) v.items) }
+            ensures { IfOk result (λ v. AllHaveRun W.value W.bits (start_by run.entry.now)
+                (done + more) (here.entry.now ++ there.entry.now) v.items) }
         {
             let promise = RunsOf::<W> {
                 run,
                 owns: there,
-                cycles,
+                done,
+                more,
                 word: PhantomData,
             };
             let child = scope.spawn_with(
@@ -108,16 +111,16 @@ pub(crate) fn run_all<W: Word + Send, R: Threads + Wait + Sync>(
                 move || -> Result<Vec<Tile<W>>, NotRun>
                     requires { BlocksFit W.row × LetterFits W.row × TileFits W.row W.Word W.Clone
                         × IsSync R.row × IsSend W.row
-                        × AllMayRun W.value W.bits (start_by run.now) cycles there.now
+                        × AllMayRun W.value W.bits (start_by run.now) done more there.now
                         second.items }
                     ensures { IfOk result (λ v. AllHaveRun W.value W.bits (start_by run.entry.now)
-                        cycles there.entry.now v.items) }
-                { run_all(rt, run, there, second, cycles) },
+                        (done + more) there.entry.now v.items) }
+                { run_all(rt, run, there, second, done, more) },
             );
             let Ok(child) = child else {
                 return Err(NotRun::NoWorker);
             };
-            let first = run_all(rt, run, here, first, cycles);
+            let first = run_all(rt, run, here, first, done, more);
             let second = child.join(rt);
             joined(first, second)
         },
@@ -131,22 +134,24 @@ fn run_last<W: Word>(
     run: &Run<'_>,
     owns: &[u32],
     tiles: Vec<Tile<W>>,
-    cycles: u32,
+    done: u32,
+    more: u32,
 ) -> Vec<Tile<W>>
     requires memory { BlocksFit W.row }
     requires letters { LetterFits W.row }
     requires tile { TileFits W.row W.Word W.Clone }
-    requires may { AllMayRun W.value W.bits (start_by run.now) cycles owns.now tiles.items }
+    requires may { AllMayRun W.value W.bits (start_by run.now) done more owns.now tiles.items }
     requires one { vec_len tiles ≤ 1 }
-    ensures { AllHaveRun W.value W.bits (start_by run.now) cycles owns.now result.items }
+    ensures { AllHaveRun W.value W.bits (start_by run.now) (done + more) owns.now result.items }
 {
     let _ = owns;
+    let _ = done;
     let mut tiles = tiles;
     let Some(tile) = tiles.pop() else {
         return tiles;
     };
     settle(rt);
-    let ended = run_tile(rt, run.relation, tile, cycles);
+    let ended = run_tile(rt, run.relation, tile, more);
     tiles.push_reserved(ended);
     tiles
 }

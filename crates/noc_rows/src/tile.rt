@@ -93,13 +93,13 @@ impl<W: Word> Tile<W> {
         receive_all(rt, &mut self.network, posts)
     }
 
-    // How often its worker has yielded while it waited.
-    pub(crate) fn yields(&self) -> u32 {
-        let mut yields = 0u32;
+    // How often its worker has paused while it waited.
+    pub(crate) fn waits(&self) -> u32 {
+        let mut waits = 0u32;
         for number in 0..self.posts.len() {
-            yields = yields.saturating_add(self.posts[number].yields);
+            waits = waits.saturating_add(self.posts[number].waits);
         }
-        yields
+        waits
     }
 }
 

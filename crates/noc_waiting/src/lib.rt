@@ -14,12 +14,12 @@ use std::sync::atomic::AtomicU64;
 use std::time::Duration;
 use std::{hint, thread};
 
-/// How often a thread that waits looks again before it gives its processor to others.
-pub const LOOKS: u32 = 250;
+// How often a thread that waits looks again before it gives its processor to others.
+const LOOKS: u32 = 250;
 
-// The first of these follow each other at once: a pause costs about 140 processor cycles, and what
-// it waits for may be nearer than that.
-const LOOKS_AT_ONCE: u32 = 32;
+/// The first of these follow each other at once: a pause costs about 140 processor cycles, and what
+/// it waits for may be nearer than that.
+pub const LOOKS_AT_ONCE: u32 = 32;
 
 // After how many looks it sleeps instead, which frees its processor for a thread whose own another
 // program has.
@@ -32,6 +32,10 @@ const NAP: u64 = 50;
 /// that started them too: the system then gives each a processor that is free. One that does not
 /// sleep may stay for milliseconds on the processor of the thread that started it.
 pub fn settle(rt: &impl Wait) {
+    nap(rt);
+}
+
+fn nap(rt: &impl Wait) {
     AtomicU64::new(0).park_timeout(rt, 0, Duration::from_micros(NAP));
 }
 
@@ -39,7 +43,7 @@ pub fn settle(rt: &impl Wait) {
 /// as put the next sleep `LOOKS` away.
 pub fn rested(rt: &impl Wait, looks: u32) -> u32 {
     if looks >= LOOKS_AWAKE {
-        settle(rt);
+        nap(rt);
         return LOOKS_AWAKE - LOOKS;
     }
     if looks % LOOKS == LOOKS - 1 {

@@ -1,4 +1,4 @@
-use Rattle.std.proofs.Common.{rules, arith, ◌∙◌, ◌<◌, ◌/◌, ◌++◌, vec_len, subst, sym, ap₂, IfOk, List, ℕ, take, drop}
+use Rattle.std.proofs.Common.{rules, arith, ◌∙◌, ◌<◌, ◌/◌, ◌+◌, ◌++◌, vec_len, subst, sym, ap₂, IfOk, List, ℕ, take, drop}
 use Rattle.std.proofs.lemmas.List.{take-append-drop}
 use denote.Param.Send.{sendable}
 use Rattle.std.proofs.Crossing.{crosses}
@@ -47,8 +47,8 @@ fn::run_all::scope+FnOnce::call_once-scope-requires g t c κs within = (search r
 
 pub scope-returns : goal.scope-returns
 scope-returns g t c =
-    let there = subst (λ (p : RunsOf g.row.W.Denot). IfOk c.join-second.result (λ v. AllHaveRun g.W.Word.value g.W.Word.bits (start_by p.run.now) p.cycles p.owns.now v.items)) c.in-Ok.ensures.ok c.join-second.ensures in
-    both-run g.W.Word.value g.W.Word.bits (start_by c.captures.run.now) c.captures.cycles c.captures.here.now c.captures.there.now c.run_all-first.result c.join-second.result c.joined.result c.run_all-first.ensures there c.joined.ensures
+    let there = subst (λ (p : RunsOf g.row.W.Denot). IfOk c.join-second.result (λ v. AllHaveRun g.W.Word.value g.W.Word.bits (start_by p.run.now) (p.done + p.more) p.owns.now v.items)) c.in-Ok.ensures.ok c.join-second.ensures in
+    both-run g.W.Word.value g.W.Word.bits (start_by c.captures.run.now) (c.captures.done + c.captures.more) c.captures.here.now c.captures.there.now c.run_all-first.result c.join-second.result c.joined.result c.run_all-first.ensures there c.joined.ensures
 
 pub run_last-requires : goal.run_last-requires
 run_last-requires g t c =
@@ -56,7 +56,7 @@ run_last-requires g t c =
 
 pub split_at-requires : goal.split_at-requires
 split_at-requires g t c =
-    let many = may-many g.W.Word.value g.W.Word.bits (start_by c.args.run.now) c.args.cycles c.args.owns.now c.args.tiles.items c.requires.may in
+    let many = may-many g.W.Word.value g.W.Word.bits (start_by c.args.run.now) c.args.done c.args.more c.args.owns.now c.args.tiles.items c.requires.may in
     half-within _ _ _ (c.len-count.ensures ∙ c.args.tiles.ok.0) many
 
 pub scoped-requires : goal.scoped-requires
@@ -64,12 +64,12 @@ scoped-requires g t c =
     let value = g.W.Word.value in
     let start = start_by c.args.run.now in
     let half = c.len-count.result / 2 in
-    let a : AllMayRun value g.W.Word.bits start c.args.cycles c.split_at.result.0.now c.split_off.new.self.items =
-    subst (λ os. AllMayRun value g.W.Word.bits start c.args.cycles os c.split_off.new.self.items) (sym c.split_at.ensures.front)
-    (subst (AllMayRun value g.W.Word.bits start c.args.cycles (take half c.args.owns.now)) (sym c.in-Ok.ensures.items) (may-take value g.W.Word.bits start c.args.cycles half c.args.owns.now c.args.tiles.items c.requires.may)) in
-    let b : AllMayRun value g.W.Word.bits start c.args.cycles c.split_at.result.1.now c.in-Ok.second.items =
-    subst (λ os. AllMayRun value g.W.Word.bits start c.args.cycles os c.in-Ok.second.items) (sym c.split_at.ensures.back)
-    (subst (AllMayRun value g.W.Word.bits start c.args.cycles (drop half c.args.owns.now)) (sym c.in-Ok.ensures.tail) (may-drop value g.W.Word.bits start c.args.cycles half c.args.owns.now c.args.tiles.items c.requires.may)) in
+    let a : AllMayRun value g.W.Word.bits start c.args.done c.args.more c.split_at.result.0.now c.split_off.new.self.items =
+    subst (λ os. AllMayRun value g.W.Word.bits start c.args.done c.args.more os c.split_off.new.self.items) (sym c.split_at.ensures.front)
+    (subst (AllMayRun value g.W.Word.bits start c.args.done c.args.more (take half c.args.owns.now)) (sym c.in-Ok.ensures.items) (may-take value g.W.Word.bits start c.args.done c.args.more half c.args.owns.now c.args.tiles.items c.requires.may)) in
+    let b : AllMayRun value g.W.Word.bits start c.args.done c.args.more c.split_at.result.1.now c.in-Ok.second.items =
+    subst (λ os. AllMayRun value g.W.Word.bits start c.args.done c.args.more os c.in-Ok.second.items) (sym c.split_at.ensures.back)
+    (subst (AllMayRun value g.W.Word.bits start c.args.done c.args.more (drop half c.args.owns.now)) (sym c.in-Ok.ensures.tail) (may-drop value g.W.Word.bits start c.args.done c.args.more half c.args.owns.now c.args.tiles.items c.requires.may)) in
     let l : 0 < vec_len c.split_off.new.self = first-some c.len-count.result _ c.if-count-le1.false c.in-Ok.ensures.len in
     let m : 0 < vec_len c.in-Ok.second = second-some c.len-count.result _ _ c.if-count-le1.false c.len-count.ensures c.in-Ok.ensures.tail_len in
     record { at = λ x. (omega (arith, c.decreases, c.in-Ok.ensures.len, c.in-Ok.ensures.tail_len, c.len-count.ensures, c.if-count-le1.false), ((λ i h. h), ((λ i h. h), (c.requires.tile.0, ((c.requires.memory, c.requires.letters, c.requires.tile, search rules, search rules, a, b, l, m), search rules))))) }
@@ -77,4 +77,4 @@ scoped-requires g t c =
 pub returns : goal.returns
 returns g t c =
     let whole = ap₂ (λ (xs ys : List ℕ). xs ++ ys) c.split_at.ensures.front c.split_at.ensures.back ∙ take-append-drop (c.len-count.result / 2) c.args.owns.now in
-    subst (λ (os : List ℕ). IfOk c.scoped.result (λ v. AllHaveRun g.W.Word.value g.W.Word.bits (start_by c.args.run.now) c.args.cycles os v.items)) whole c.scoped.ensures.1
+    subst (λ (os : List ℕ). IfOk c.scoped.result (λ v. AllHaveRun g.W.Word.value g.W.Word.bits (start_by c.args.run.now) (c.args.done + c.args.more) os v.items)) whole c.scoped.ensures.1

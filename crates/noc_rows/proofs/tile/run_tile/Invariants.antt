@@ -1,4 +1,4 @@
-use Rattle.std.proofs.Common.{◌≡◌}
+use Rattle.std.proofs.Common.{◌≡◌, ℕ, ◌+◌}
 use Rattle.noc_rows.specs.Rounds.{Start}
 use Rattle.noc_rows.specs.Tiles.{IsTileAt, MayRunFrom}
 use Rattle.noc_rows.proofs.tile.run_tile.Given as goal
@@ -7,5 +7,5 @@ use Rattle.noc_rows.proofs.tile.run_tile.Given as goal
 abbrev pub invariant-loop : goal.invariant-loop
 invariant-loop g l = record {
   own : l.tile.own ≡ l.initial.tile.own;
-  at : (start : Start) → MayRunFrom g.W.Word.value g.W.Word.bits l.relation l.cycles start l.initial.tile → IsTileAt g.W.Word.value g.W.Word.bits start l.counter l.tile;
+  at : (start : Start) (done : ℕ) → MayRunFrom g.W.Word.value g.W.Word.bits l.relation done l.cycles start l.initial.tile → IsTileAt g.W.Word.value g.W.Word.bits start (done + l.counter) l.tile;
 }

@@ -12,18 +12,19 @@ pub cut-requires : goal.cut-requires
 cut-requires g c =
     (c.requires.memory.5, (c.requires.tile.0, (c.requires.memory, (c.requires.letters, (c.requires.tile, (c.requires.may.good, (c.requires.may.shows, (omega (arith, c.len.ensures, c.args.self.now.plan.sides.ok.0), omega (arith, c.requires.tiles.1, c.len.ensures, c.args.self.now.plan.sides.ok.0)))))))))
 
-pub run_all-requires-send-W : goal.run_all-requires-send-W
-run_all-requires-send-W g c κs within = c.type_bounds.send-W
+pub run_on-requires-send-W : goal.run_on-requires-send-W
+run_on-requires-send-W g c κs within = c.type_bounds.send-W
 
-pub run_all-requires-sync-R : goal.run_all-requires-sync-R
-run_all-requires-sync-R g c κs within = c.type_bounds.sync-R
+pub run_on-requires-sync-R : goal.run_on-requires-sync-R
+run_on-requires-sync-R g c κs within = c.type_bounds.sync-R
 
-pub run_all-requires-after_bounds : goal.run_all-requires-after_bounds
-run_all-requires-after_bounds g c κs within =
+pub run_on-requires-after_bounds : goal.run_on-requires-after_bounds
+run_on-requires-after_bounds g c κs within =
     let start : Start = record { net = setup_by c.args.setup.now; cycle = c.args.self.now.cycle; blocks = c.len.result } in
     let tiles = c.in_ok-tiles.tiles.items in
-    let may = each-may g.W.Word.value g.W.Word.bits start c.args.cycles tiles
-    (λ i one e. record { good = c.requires.may.good; is = refl; few = c.requires.may.within; at = c.in_ok-tiles.ensures.at i one e }) in (
+    let few = c.requires.may.within in
+    let may = each-may g.W.Word.value g.W.Word.bits start 0 c.args.ahead.most tiles
+    (λ i one e. record { good = c.requires.may.good; is = refl; few = omega (arith, few); at = c.in_ok-tiles.ensures.at i one e }) in (
       c.requires.tile.0,
       (
         c.requires.memory,
@@ -31,7 +32,16 @@ run_all-requires-after_bounds g c κs within =
           c.requires.letters,
           (
             c.requires.tile,
-            subst (λ owns. AllMayRun g.W.Word.value g.W.Word.bits start c.args.cycles owns tiles) (sym (c.deref.ensures.value ∙ c.in_ok-owns.ensures)) may,
+            (
+              c.requires.some,
+              (
+                c.requires.may.good,
+                (
+                  few,
+                  subst (λ owns. AllMayRun g.W.Word.value g.W.Word.bits start 0 c.args.ahead.most owns tiles) (sym (c.deref.ensures.value ∙ c.in_ok-owns.ensures)) may,
+                ),
+              ),
+            ),
           ),
         ),
       ),
@@ -40,10 +50,11 @@ run_all-requires-after_bounds g c κs within =
 pub join-requires : goal.join-requires
 join-requires g c =
     let start : Start = record { net = setup_by c.args.setup.now; cycle = c.args.self.now.cycle; blocks = c.len.result } in
-    let came = c.in_ok-tiles-2.tiles.items in
-    let are : AreTiles g.W.Word.value g.W.Word.bits start.net (tile_of c.args.tiles start.blocks) start.blocks (start.cycle + c.args.cycles) (start.cycle + (c.args.cycles - 1)) came =
-    tiles-come g.W.Word.value g.W.Word.bits start c.args.tiles c.args.cycles (c.args.cycles - 1) c.deref.result.now c.in_ok-tiles.tiles.items came c.requires.may.good c.requires.tiles.0
-    (omega (arith, c.requires.some)) c.in_ok-tiles.ensures (c.deref.ensures.value ∙ c.in_ok-owns.ensures) c.in_ok-tiles-2.ensures (c.if-not-are_whole.ensures refl) in
+    let ran = c.in_ok-ran.ran in
+    let done = c.in_ok-ran.ensures in
+    let are : AreTiles g.W.Word.value g.W.Word.bits start.net (tile_of c.args.ahead.tiles start.blocks) start.blocks (start.cycle + ran.cycles) (start.cycle + (ran.cycles - 1)) ran.tiles.items =
+    tiles-come g.W.Word.value g.W.Word.bits start c.args.ahead.tiles ran.cycles (ran.cycles - 1) c.deref.result.now c.in_ok-tiles.tiles.items ran.tiles.items c.requires.may.good c.requires.tiles.0
+    (let some = done.some.0 in omega (arith, some)) c.in_ok-tiles.ensures (c.deref.ensures.value ∙ c.in_ok-owns.ensures) done.run done.whole in
     let blocks : 0 < start.blocks = omega (arith, c.requires.tiles.0, c.requires.tiles.1, c.len.ensures, c.args.self.now.plan.sides.ok.0) in
     let some = are.within 0 blocks in (
       c.requires.tile.0,
@@ -55,18 +66,19 @@ join-requires g c =
             c.requires.tile,
             (
               omega (arith, some),
-              (start.net, tile_of c.args.tiles start.blocks, start.blocks, start.cycle + c.args.cycles, start.cycle + (c.args.cycles - 1), are),
+              (start.net, tile_of c.args.ahead.tiles start.blocks, start.blocks, start.cycle + ran.cycles, start.cycle + (ran.cycles - 1), are),
             ),
           ),
         ),
       ),
     )
 
-pub returns : goal.returns
-returns g c =
+pub returns-clause-shows : goal.returns-clause-shows
+returns-clause-shows g c =
     let start : Start = record { net = setup_by c.args.setup.now; cycle = c.args.self.now.cycle; blocks = c.len.result } in
-    let came = c.in_ok-tiles-2.tiles.items in
-    let are : AreTiles g.W.Word.value g.W.Word.bits start.net (tile_of c.args.tiles start.blocks) start.blocks (start.cycle + c.args.cycles) (start.cycle + (c.args.cycles - 1)) came =
-    tiles-come g.W.Word.value g.W.Word.bits start c.args.tiles c.args.cycles (c.args.cycles - 1) c.deref.result.now c.in_ok-tiles.tiles.items came c.requires.may.good c.requires.tiles.0
-    (omega (arith, c.requires.some)) c.in_ok-tiles.ensures (c.deref.ensures.value ∙ c.in_ok-owns.ensures) c.in_ok-tiles-2.ensures (c.if-not-are_whole.ensures refl) in
-    c.join.ensures start.net (tile_of c.args.tiles start.blocks) start.blocks (start.cycle + c.args.cycles) (start.cycle + (c.args.cycles - 1)) are
+    let ran = c.in_ok-ran.ran in
+    let done = c.in_ok-ran.ensures in
+    let are : AreTiles g.W.Word.value g.W.Word.bits start.net (tile_of c.args.ahead.tiles start.blocks) start.blocks (start.cycle + ran.cycles) (start.cycle + (ran.cycles - 1)) ran.tiles.items =
+    tiles-come g.W.Word.value g.W.Word.bits start c.args.ahead.tiles ran.cycles (ran.cycles - 1) c.deref.result.now c.in_ok-tiles.tiles.items ran.tiles.items c.requires.may.good c.requires.tiles.0
+    (let some = done.some.0 in omega (arith, some)) c.in_ok-tiles.ensures (c.deref.ensures.value ∙ c.in_ok-owns.ensures) done.run done.whole in
+    c.join.ensures start.net (tile_of c.args.ahead.tiles start.blocks) start.blocks (start.cycle + ran.cycles) (start.cycle + (ran.cycles - 1)) are

@@ -5,7 +5,7 @@ use Rattle.noc_rows.proofs.network.Network.run_by.Goals as goal
 
 pub loop-left-init : goal.loop-left-init
 loop-left-init g c =
-    (none-stretched g.W.Word.value g.W.Word.bits c.args.setup.now.relation.now (setup_by c.args.setup.now) c.args.cycles c.args.self.now c.requires.may, omega (arith, c.new-pace.ensures, c.min.ensures))
+    (none-stretched g.W.Word.value g.W.Word.bits c.args.setup.now.relation.now (setup_by c.args.setup.now) c.args.cycles c.args.self.now c.requires.may, omega (arith, c.new-pace.ensures))
 
 pub stretch-requires-send-W : goal.stretch-requires-send-W
 stretch-requires-send-W g c κs within = c.type_bounds.send-W

@@ -1,5 +1,6 @@
 use Rattle.std.proofs.Common.{arith}
 use Rattle.noc_rows.specs.Rows.{setup_by}
+use Rattle.noc_rows.proofs.ApartLemmas.{some-of-more}
 use Rattle.noc_rows.proofs.RunLemmas.{may-fewer, may-look}
 use Rattle.noc_rows.proofs.network.Network.stretch.Goals as goal
 
@@ -15,7 +16,7 @@ run_apart-requires-sync-R g c κs within = c.type_bounds.sync-R
 
 pub run_apart-requires-after_bounds : goal.run_apart-requires-after_bounds
 run_apart-requires-after_bounds g c κs within =
-    let few = c.cycles-cycles.ensures in (
+    let few = c.together-most.ensures in (
       c.requires.memory.5,
       (
         c.requires.memory,
@@ -24,16 +25,22 @@ run_apart-requires-after_bounds g c κs within =
           (
             c.requires.tile,
             (
-              few.some,
+              few.some c.requires.some,
               (
                 (omega (arith, c.if-tiles-gt1.true), c.tiles_that_pay-tiles.ensures.blocks c.if-tiles-gt1.true),
-                may-fewer g.W.Word.value g.W.Word.bits c.args.setup.now.relation.now (setup_by c.args.setup.now) c.args.most c.cycles-cycles.result c.args.self.now few.within c.requires.may,
+                may-fewer g.W.Word.value g.W.Word.bits c.args.setup.now.relation.now (setup_by c.args.setup.now) c.args.most c.together-most.result c.args.self.now few.within c.requires.may,
               ),
             ),
           ),
         ),
       ),
     )
+
+pub returns-then-tiles-gt1-clause-some : goal.returns-then-tiles-gt1-clause-some
+returns-then-tiles-gt1-clause-some g c = some-of-more c.together-most.result c.args.most c.run_apart.result c.together-most.ensures.within c.run_apart.ensures.some
+
+pub returns-then-tiles-gt1-clause-alone : goal.returns-then-tiles-gt1-clause-alone
+returns-then-tiles-gt1-clause-alone g c = λ few. absurd (let one = c.tiles_that_pay-tiles.ensures.alone (c.tiles.ensures.alone few) in omega (arith, one, c.if-tiles-gt1.true))
 
 pub go-requires : goal.go-requires
 go-requires g c =
