@@ -386,9 +386,9 @@ def rising_ranks(side):
 def bounded_memory(calls):
     """Under each bound on its memory the program answers, or says that memory or a thread was refused.
 
-    Below 4 MB the loader itself may not find the room for the C library, and says so before the program begins. Below
-    5 MB the system may not find it for the stack, of which the program needs more than the bound leaves, and ends the
-    program by a signal before it writes.
+    Below 4 MB the loader itself may not find the room for the C library or for what a thread has of it, and says so
+    before the program begins. Below 5 MB the system may not find it for the stack, of which the program needs more than
+    the bound leaves, and ends the program by a signal before it writes.
     """
     traffic, report = late_packets(20000)
     square = PLAIN.replace(b"[2]", b"[8, 8]")
@@ -406,7 +406,7 @@ def bounded_memory(calls):
                             preexec_fn=lambda: resource.setrlimit(resource.RLIMIT_AS, bound))
             is_refused = (ran.returncode, ran.stdout) == (6, b"") and status_of(ran.stderr) == 6 and megabytes < AMPLE
             is_answer = (ran.returncode, ran.stdout, ran.stderr) == (0, answer, b"")
-            is_said = b"while loading shared libraries" in ran.stderr
+            is_said = any(it in ran.stderr for it in (b"while loading shared libraries", b"cannot allocate TLS data"))
             is_loader = (ran.returncode, ran.stdout) == (127, b"") and is_said and megabytes < 4
             is_stack = (ran.returncode, ran.stdout, ran.stderr) == (-signal.SIGSEGV, b"", b"") and megabytes < 5
             calls.count(f"{megabytes} MB {words}", is_refused or is_answer or is_loader or is_stack, ran)

@@ -11,13 +11,13 @@ use Rattle.noc_topo.proofs.LinkLemmas.{link_back}
 use Rattle.noc_packet.specs.Set.{IsLeast, has_bit}
 use Rattle.noc_packet.proofs.SetLemmas.{both_members, either_members, has_bit-zero}
 use Rattle.noc_sets.specs.Sets.{less as without, lowest}
-use Rattle.noc_sets.proofs.MemberLemmas.{less_members, or-cases, or-false, or-left, or-right, power-members}
+use Rattle.noc_sets.proofs.MemberLemmas.{less_members, or-cases, or-false, or-left, or-right, or-zero, power-members, same-word}
 use Rattle.noc_blocks.proofs.LoopLemmas.{left-members}
 use Rattle.noc_theory.specs.Good.{IsGoodSetup}
 use Rattle.noc_turns.specs.declared.outlook.Outlook.{Outlook}
 use Rattle.noc_wires.specs.Waking.{has_moved, moves_or_not}
 use Rattle.noc_rows.specs.Cuts.{AreBlocksOf, AreCut, AreNew, HasBlocks, HasRoused, IsNew, MeetsMore, tile_of}
-use Rattle.noc_rows.specs.Mails.{alone}
+use Rattle.noc_rows.specs.Mails.{alone, set_of}
 use Rattle.noc_rows.specs.Own.{IsIn, ShowsIn}
 use Rattle.noc_rows.specs.Rounds.{Start}
 use Rattle.noc_rows.specs.Shows.{ShowsAt}
@@ -26,6 +26,7 @@ use Rattle.noc_rows.specs.declared.network.Network.{Network}
 use Rattle.noc_rows.specs.declared.post.Post.{Post}
 use Rattle.noc_rows.specs.declared.tile.Tile.{Tile}
 use Rattle.noc_rows.proofs.ListLemmas.{others, same-item, written}
+use Rattle.noc_rows.proofs.MailLemmas.{set-more}
 use Rattle.noc_rows.proofs.OpenLemmas.{all-next, at-seam, before-seam}
 use Rattle.noc_rows.proofs.OwnLemmas.{shows-in}
 
@@ -124,6 +125,49 @@ none-so-far g others share lane before here s q r port l e f same low = next (ca
     next (inl is) = here q r port (subst (λ n. n < nodes g) is l) (subst (λ n. neighbour g n q ≡ Some (r, port)) is e) f
     next (inr other) = before s q r port l e f same (omega (arith, low, other))
 
+-- ---- lists of shares
+-- where one is the first of some, these are it and those after it
+pub first-and-after : (shares after : ℕ) (first : Option ℕ) → IsLeast (has_bit shares) first → after ≡ without shares (lowest shares) → (h : ℕ) → (has_bit (alone first) h || has_bit after h) ≡ has_bit shares h
+first-and-after shares after None none is h =
+    let nothing : has_bit after h ≡ false = ap (λ x. has_bit x h) is ∙ less_members shares (lowest shares) h ∙ ap (λ x. x && not (has_bit (lowest shares) h)) (none h) in
+    ap (λ x. has_bit 0 h || x) nothing ∙ or-false (has_bit 0 h) ∙ has_bit-zero h ∙ sym (none h)
+first-and-after shares after (Some f) least is h = at (cases_eq h f)
+  where
+    others : has_bit after h ≡ (has_bit shares h && not (nat_eq h f))
+    others = ap (λ x. has_bit x h) is ∙ left-members shares f h least
+
+    and-true : (x : Bool) → (x && true) ≡ x
+    and-true true = refl
+    and-true false = refl
+
+    at : (h ≡ f) ⊎ (h ≢ f) → (has_bit (2 ^ f) h || has_bit after h) ≡ has_bit shares h
+    at (inl same) = or-left (has_bit (2 ^ f) h) (has_bit after h) (power-members f h ∙ eq-eqb h f same) ∙ sym (ap (has_bit shares) same ∙ least.0)
+    at (inr other) = ap₂ (λ x y. x || y) (power-members f h ∙ ne_eqb h f other) (others ∙ ap (λ x. has_bit shares h && not x) (ne_eqb h f other)) ∙ and-true (has_bit shares h)
+
+-- those in a list and those that are left are all of them
+pub listed-none : (shares : ℕ) (list : List (Option ℕ)) → list ≡ [] → bit_or (set_of list) shares ≡ shares
+listed-none shares list none = same-word (bit_or (set_of list) shares) shares (λ h. either_members (set_of list) shares h ∙ ap (λ x. x || has_bit shares h) (ap (λ os. has_bit (set_of os) h) none ∙ has_bit-zero h))
+
+pub listed-next : (shares left after : ℕ) (first : Option ℕ) (list next : List (Option ℕ)) → next ≡ list ++ first ∷ [] → IsLeast (has_bit left) first → after ≡ without left (lowest left) → bit_or (set_of list) left ≡ shares → bit_or (set_of next) after ≡ shares
+listed-next shares left after first list next pushed least is all = same-word (bit_or (set_of next) after) (bit_or (set_of list) left) same ∙ all
+  where
+    together : (a b c : Bool) → ((a || b) || c) ≡ (a || (b || c))
+    together true b c = refl
+    together false b c = refl
+
+    same : (h : ℕ) → has_bit (bit_or (set_of next) after) h ≡ has_bit (bit_or (set_of list) left) h
+    same h =
+        either_members (set_of next) after h ∙ ap (λ x. x || has_bit after h) (ap (λ os. has_bit (set_of os) h) pushed ∙ set-more list first h) ∙ together (has_bit (set_of list) h) (has_bit (alone first) h) (has_bit after h)
+        ∙ ap (λ x. has_bit (set_of list) h || x) (first-and-after left after first least is h) ∙ sym (either_members (set_of list) left h)
+
+pub listed-all : (shares left : ℕ) (list : List (Option ℕ)) → left ≡ 0 → bit_or (set_of list) left ≡ shares → set_of list ≡ shares
+listed-all shares left list none all = sym (or-zero (set_of list)) ∙ ap (bit_or (set_of list)) (sym none) ∙ all
+
+-- where there is a share, there is an item
+pub listed-some : (shares : ℕ) (list : List (Option ℕ)) → set_of list ≡ shares → shares ≢ 0 → 0 < length list
+listed-some shares [] is some = absurd (some (sym is))
+listed-some shares (x ∷ xs) is some = omega arith
+
 -- ---- rings to one tile more
 has-kept : (xs : List ℕ) (x b : ℕ) → HasShare xs b → HasShare (xs ++ x ∷ []) b
 has-kept xs x b (k, set, there, has) = (k, set, before-seam xs x k (slice_get_within xs k set there) ∙ there, has)
@@ -131,69 +175,27 @@ has-kept xs x b (k, set, there, has) = (k, set, before-seam xs x k (slice_get_wi
 has-last : (xs : List ℕ) (x b : ℕ) → has_bit x b ≡ true → HasShare (xs ++ x ∷ []) b
 has-last xs x b has = (length xs, x, at-seam xs x, has)
 
--- ---- one block after the other
--- where one is the first of some, it is one of them
-pub first-in : (blocks : ℕ) (first : Option ℕ) → IsLeast (has_bit blocks) first → (b : ℕ) → has_bit (alone first) b ≡ true → has_bit blocks b ≡ true
-first-in blocks None none b e = absurd (none-in 0 b refl e)
-first-in blocks (Some f) least b e = ap (has_bit blocks) (eqb-true b f (sym (power-members f b) ∙ e)) ∙ least.0
+-- links lead from all these shares of another tile to own blocks, and from no others
+module _ {A : Type 0} (start : Start) (own other ones : ℕ)
+    (all : (s q r port : ℕ) → s < nodes start.net.relation.grid → neighbour start.net.relation.grid s q ≡ Some (r, port) → has_bit own (r / 32) ≡ true → has_bit other (s / 32) ≡ true → has_bit ones (s / 16) ≡ true) where
+  -- there are none
+  pub meets-none : (posts : List (Post A)) → ones ≡ 0 → MeetsMore start own other posts posts
+  meets-none posts none = record {
+    ready = λ h. h;
+    kept = λ b h. h;
+    more = λ s q r port l e f h. absurd (none-in ones (s / 16) none (all s q r port l e f h));
+  }
 
--- each of them is the first, or one of those after it
-pub first-or-after : (blocks after : ℕ) (first : Option ℕ) → IsLeast (has_bit blocks) first → after ≡ without blocks (lowest blocks) → (b : ℕ) → has_bit blocks b ≡ true → (has_bit (alone first) b ≡ true) ⊎ (has_bit after b ≡ true)
-first-or-after blocks after None none is b e = absurd (true≢false (sym e ∙ none b))
-first-or-after blocks after (Some f) least is b e = at (cases_eq b f)
-  where
-    at : (b ≡ f) ⊎ (b ≢ f) → (has_bit (2 ^ f) b ≡ true) ⊎ (has_bit after b ≡ true)
-    at (inl same) = inl (power-members f b ∙ eq-eqb b f same)
-    at (inr other) = inr (ap (λ x. has_bit x b) is ∙ left-members blocks f b least ∙ ap₂ (λ x y. x && not y) e (ne_eqb b f other))
-
--- and those after it are of them
-pub after-in : (blocks after : ℕ) → after ≡ without blocks (lowest blocks) → (b : ℕ) → has_bit after b ≡ true → has_bit blocks b ≡ true
-after-in blocks after is b e = (and_parts (has_bit blocks b) (not (has_bit (lowest blocks) b)) (sym (ap (λ x. has_bit x b) is ∙ less_members blocks (lowest blocks) b) ∙ e)).0
-
--- own blocks have met these blocks of another tile, but for some that are left
-pub record IsMeetingOnes {A : Type 0} (start : Start) (own ones left : ℕ) (old now : List (Post A)) : Type 0 where
-  pub ready : AreReady start (has_bit own) 0 old → AreReady start (has_bit own) 0 now
-  pub kept : (b : ℕ) → HasShare (nears_in old) b → HasShare (nears_in now) b
-  pub met : (b : ℕ) → has_bit ones b ≡ true → (has_bit left b ≡ true) ⊎ HasShare (nears_in now) b
-  pub part : (b : ℕ) → has_bit left b ≡ true → has_bit ones b ≡ true
-
-pub meets-none : {A : Type 0} (start : Start) (own ones : ℕ) (old : List (Post A)) → IsMeetingOnes start own ones ones old old
-meets-none start own ones old = record { ready = λ h. h; kept = λ b h. h; met = λ b e. inl e; part = λ b e. e }
-
-pub meets-next : {A : Type 0} (start : Start) (own ones left after : ℕ) (first : Option ℕ) (old now next : List (Post A)) (post : Post A) → next ≡ now ++ post ∷ [] → IsReadyPost start (has_bit own) 0 post → near_in post ≡ alone first
-    → IsLeast (has_bit left) first → after ≡ without left (lowest left) → IsMeetingOnes start own ones left old now → IsMeetingOnes start own ones after old next
-meets-next {A = A} start own ones left after first old now next post pushed is of least others meets = record {
-  ready = λ h. (all-next (λ k one. IsReadyPost start (has_bit own) 0 one) (length now) now next post pushed (record { many = refl; each = meets.ready h }) is).each;
-  kept = λ b h. more b (meets.kept b h);
-  met = λ b e. met b (meets.met b e);
-  part = λ b e. meets.part b (after-in left after others b e);
-}
-  where
-    sets : nears_in next ≡ nears_in now ++ near_in post ∷ []
-    sets = ap (λ (xs : List (Post A)). nears_in xs) pushed ∙ map-append near_in now (post ∷ [])
-
-    more : (b : ℕ) → HasShare (nears_in now) b → HasShare (nears_in next) b
-    more b h = subst (λ xs. HasShare xs b) (sym sets) (has-kept (nears_in now) (near_in post) b h)
-
-    here : (b : ℕ) → (has_bit (alone first) b ≡ true) ⊎ (has_bit after b ≡ true) → (has_bit after b ≡ true) ⊎ HasShare (nears_in next) b
-    here b (inl e) = inr (subst (λ xs. HasShare xs b) (sym sets) (has-last (nears_in now) (near_in post) b (ap (λ x. has_bit x b) of ∙ e)))
-    here b (inr e) = inl e
-
-    met : (b : ℕ) → (has_bit left b ≡ true) ⊎ HasShare (nears_in now) b → (has_bit after b ≡ true) ⊎ HasShare (nears_in next) b
-    met b (inl e) = here b (first-or-after left after first least others b e)
-    met b (inr h) = inr (more b h)
-
-pub meets-all : {A : Type 0} (start : Start) (own other ones left : ℕ) (old now : List (Post A)) → left ≡ 0 → ((s q r port : ℕ) → s < nodes start.net.relation.grid → neighbour start.net.relation.grid s q ≡ Some (r, port) → has_bit own (r / 32) ≡ true → has_bit other (s / 32) ≡ true → has_bit ones (s / 16) ≡ true)
-    → IsMeetingOnes start own ones left old now → MeetsMore start own other old now
-meets-all start own other ones left old now none all meets = record {
-  ready = meets.ready;
-  kept = meets.kept;
-  more = λ s q r port l e f h. done (s / 16) (meets.met (s / 16) (all s q r port l e f h));
-}
-  where
-    done : (c : ℕ) → (has_bit left c ≡ true) ⊎ HasShare (nears_in now) c → HasShare (nears_in now) c
-    done c (inl e) = absurd (none-in left c none e)
-    done c (inr h) = h
+  -- own blocks hear from them by one post more
+  pub meets-by : (old new : List (Post A)) (post : Post A) → new ≡ old ++ post ∷ [] → near_in post ≡ ones → IsReadyPost start (has_bit own) 0 post → MeetsMore start own other old new
+  meets-by old new post pushed near is = record {
+    ready = λ h. (all-next (λ k one. IsReadyPost start (has_bit own) 0 one) (length old) old new post pushed (record { many = refl; each = h }) is).each;
+    kept = λ b h. subst (λ xs. HasShare xs b) (sym sets) (has-kept (nears_in old) (near_in post) b h);
+    more = λ s q r port l e f h. subst (λ xs. HasShare xs (s / 16)) (sym sets) (has-last (nears_in old) (near_in post) (s / 16) (ap (λ x. has_bit x (s / 16)) near ∙ all s q r port l e f h));
+  }
+    where
+      sets : nears_in new ≡ nears_in old ++ near_in post ∷ []
+      sets = ap (λ (xs : List (Post A)). nears_in xs) pushed ∙ map-append near_in old (post ∷ [])
 
 -- shares of own blocks are of these, and of no others
 pub are-ours : (start : Start) (own some : ℕ) → ((b : ℕ) → has_bit own b ≡ true → b < start.blocks) → ((h : ℕ) → has_bit some h ≡ true → has_bit own (h / 2) ≡ true) → AreShares start (has_bit own) true some

@@ -1,14 +1,16 @@
 -- What own blocks of a network hear of the others in a cycle, by letters and mails.
-use Rattle.std.proofs.Common.{◌≡◌, ◌≢◌, ℕ, ◌+◌, ◌*◌, ◌/◌, ◌%◌, ◌<◌, ◌^◌, Bool, true, false, length, Option, Some, None, refl, ap, sym, ◌∙◌, subst, arith}
-use Rattle.std.specs.Prelude.{◌||◌, nat_eq, not, unwrap_or, if◌then◌else◌}
+use Rattle.std.proofs.Common.{◌≡◌, ◌≢◌, ℕ, zero, suc, ◌+◌, ◌-◌, ◌*◌, ◌/◌, ◌%◌, ◌<◌, ◌≤◌, ◌^◌, Bool, true, false, List, [], ◌∷◌, ◌++◌, get_or, drop, length, set as write, take, Option, Some, None, refl, ap, sym, ◌∙◌, subst, arith, inl, inr}
+use Rattle.std.specs.Prelude.{◌⊎◌, ◌||◌, nat_eq, not, option_map, slice_get, unwrap_or, if◌then◌else◌}
 use Rattle.std.proofs.Math.Path.{fun_ext}
-use Rattle.std.proofs.lemmas.Bool.{eq-eqb, eqb-true, false≢true, ne_eqb, true≢false}
+use Rattle.std.proofs.lemmas.Bool.{cases_eq, eq-eqb, eqb-true, false≢true, ne_eqb, true≢false}
+use Rattle.std.proofs.lemmas.List.{map-append, take_all, take_more}
+use Rattle.std.proofs.lemmas.Option.{none-some, same_Some, slice_get-map}
 use Rattle.std.proofs.lemmas.Nat.{mod_below}
 use Rattle.noc_topo.specs.Shape.{Grid, neighbour, nodes, ports}
 use Rattle.noc_topo.proofs.LinkLemmas.{link_back}
 use Rattle.noc_packet.specs.Set.{has_bit}
-use Rattle.noc_packet.proofs.SetLemmas.{has_bit-zero}
-use Rattle.noc_sets.proofs.MemberLemmas.{power-members}
+use Rattle.noc_packet.proofs.SetLemmas.{either_members, has_bit-zero}
+use Rattle.noc_sets.proofs.MemberLemmas.{or-left, or-right, or-zero, power-members}
 use Rattle.noc_route.specs.Routes.{Routes}
 use Rattle.noc_sets.specs.Cycle.{Links}
 use Rattle.noc_theory.specs.Good.{IsGoodSetup}
@@ -20,11 +22,14 @@ use Rattle.noc_wires.specs.Left.{left_of}
 use Rattle.noc_wires.specs.declared.left.Left.{Left}
 use Rattle.noc_wires.specs.Telling.{AreSameButPackets, packets_in, lane_in as told_lane}
 use Rattle.noc_wires.specs.Letters.{is_off, leads_off, links_in, tells_in}
-use Rattle.noc_rows.specs.Mails.{HasHeardFrom, HaveLeft, IsLetter, alone}
+use Rattle.noc_rows.specs.Mails.{AreParts, HasHeardFrom, HaveLeft, IsLetter, IsMail, IsPart, alone, parts_in, set_of, shares_of}
 use Rattle.noc_rows.specs.Own.{HasHeard, IsIn, MayStepIn, ShowsIn, told_in}
 use Rattle.noc_rows.specs.Steps.{HasStepped}
 use Rattle.noc_wires.specs.declared.letter.Letter.{Letter}
+use Rattle.noc_rows.specs.declared.mail.Mail.{Mail}
+use Rattle.noc_rows.specs.declared.mail.Part.{Part}
 use Rattle.noc_rows.specs.declared.network.Network.{Network}
+use Rattle.noc_rows.proofs.ListLemmas.{others, same-item, written}
 use Rattle.noc_rows.proofs.SteppedLemmas as stepped
 use Rattle.noc_rows.proofs.NextLemmas.{shows-next-in}
 use Rattle.noc_rows.proofs.OwnLemmas.{same-packets}
@@ -219,12 +224,120 @@ module _ {A : Type 0} (value : A → ℕ) (net : Setup) (own from : ℕ → Bool
   pub heard-found : is.found ≡ was.found
   heard-found = ap (λ (x : Network A). x.found) hears.rest
 
--- ---- a mail
--- of no block nothing is heard
-pub heard-of-none : {A : Type 0} (value : A → ℕ) (net : Setup) (own : ℕ → Bool) (n : ℕ) (block : Option ℕ) (all : Network A) → block ≡ None → HasHeardFrom value net own (has_bit (alone block)) n all all
-heard-of-none value net own n block all none = heard-same value net own n (λ b. false) (has_bit (alone block)) all all (λ b. sym (ap (λ o. has_bit (alone o) b) none ∙ has_bit-zero b)) (heard-none value net own n all)
+-- ---- a part of a mail
+-- of no share nothing is heard
+pub heard-of-none : {A : Type 0} (value : A → ℕ) (net : Setup) (own : ℕ → Bool) (n : ℕ) (share : Option ℕ) (all : Network A) → share ≡ None → HasHeardFrom value net own (has_bit (alone share)) n all all
+heard-of-none value net own n share all none = heard-same value net own n (λ b. false) (has_bit (alone share)) all all (λ b. sym (ap (λ o. has_bit (alone o) b) none ∙ has_bit-zero b)) (heard-none value net own n all)
 
 -- .. of one
-pub heard-of-one : {A : Type 0} (value : A → ℕ) (net : Setup) (own : ℕ → Bool) (n : ℕ) (block : Option ℕ) (number : ℕ) (was is : Network A) → block ≡ Some number → HasHeardFrom value net own (λ b. nat_eq b number) n was is
-    → HasHeardFrom value net own (has_bit (alone block)) n was is
-heard-of-one value net own n block number was is one hears = heard-same value net own n (λ b. nat_eq b number) (has_bit (alone block)) was is (λ b. sym (ap (λ o. has_bit (alone o) b) one ∙ power-members number b)) hears
+pub heard-of-one : {A : Type 0} (value : A → ℕ) (net : Setup) (own : ℕ → Bool) (n : ℕ) (share : Option ℕ) (number : ℕ) (was is : Network A) → share ≡ Some number → HasHeardFrom value net own (λ b. nat_eq b number) n was is
+    → HasHeardFrom value net own (has_bit (alone share)) n was is
+heard-of-one value net own n share number was is one hears = heard-same value net own n (λ b. nat_eq b number) (has_bit (alone share)) was is (λ b. sym (ap (λ o. has_bit (alone o) b) one ∙ power-members number b)) hears
+
+-- ---- the shares of a mail
+-- the share of a set of one
+pub in-alone : (share : Option ℕ) (h : ℕ) → share ≡ Some h → has_bit (alone share) h ≡ true
+in-alone share h is = ap (λ o. has_bit (alone o) h) is ∙ power-members h h ∙ eq-eqb h h refl
+
+-- .. and of a set of several
+pub in-set : (shares : List (Option ℕ)) (k : ℕ) (share : Option ℕ) (h : ℕ) → slice_get shares k ≡ Some share → share ≡ Some h → has_bit (set_of shares) h ≡ true
+in-set [] k share h there is = absurd (none-some share there)
+in-set (x ∷ xs) zero share h there is = either_members (alone x) (set_of xs) h ∙ or-left (has_bit (alone x) h) (has_bit (set_of xs) h) (in-alone x h (same_Some x share there ∙ is))
+in-set (x ∷ xs) (suc k) share h there is = either_members (alone x) (set_of xs) h ∙ or-right (has_bit (alone x) h) (has_bit (set_of xs) h) (in-set xs k share h there is)
+
+-- one share more
+pub set-more : (shares : List (Option ℕ)) (share : Option ℕ) (h : ℕ) → has_bit (set_of (shares ++ share ∷ [])) h ≡ (has_bit (set_of shares) h || has_bit (alone share) h)
+set-more [] share h = ap (λ a. has_bit a h) (or-zero (alone share)) ∙ ap (λ b. b || has_bit (alone share) h) (sym (has_bit-zero h))
+set-more (x ∷ xs) share h =
+    either_members (alone x) (set_of (xs ++ share ∷ [])) h ∙ ap (λ b. has_bit (alone x) h || b) (set-more xs share h) ∙ together (has_bit (alone x) h) (has_bit (set_of xs) h) (has_bit (alone share) h)
+    ∙ ap (λ b. b || has_bit (alone share) h) (sym (either_members (alone x) (set_of xs) h))
+  where
+    together : (a b c : Bool) → (a || (b || c)) ≡ ((a || b) || c)
+    together true b c = refl
+    together false b c = refl
+
+-- the shares of parts, one by one
+pub same-shares : {A : Type 0} (parts : List (Part A)) (shares : List (Option ℕ)) → length parts ≡ length shares → ((j : ℕ) (part : Part A) → slice_get parts j ≡ Some part → slice_get shares j ≡ Some part.share) → shares_of parts ≡ shares
+same-shares [] [] many each = refl
+same-shares [] (y ∷ ys) many each = absurd (omega (arith, many))
+same-shares (x ∷ xs) [] many each = absurd (omega (arith, many))
+same-shares (x ∷ xs) (y ∷ ys) many each = ap (λ o. o ∷ shares_of xs) (sym (same_Some y x.share (each 0 x refl))) ∙ ap (λ os. y ∷ os) (same-shares xs ys (omega (arith, many)) (λ j. each (suc j)))
+
+-- a part of some is of one of their shares
+pub in-parts : {A : Type 0} (parts : List (Part A)) (k : ℕ) (part : Part A) (h : ℕ) → slice_get parts k ≡ Some part → part.share ≡ Some h → has_bit (set_of (shares_of parts)) h ≡ true
+in-parts parts k part h there is = in-set (shares_of parts) k part.share h (slice_get-map (λ (x : Part _). x.share) parts k ∙ ap (option_map (λ (x : Part _). x.share)) there) is
+
+-- items below k are so, and the next one
+pub each-at-next : {S : Type 0} (P : ℕ → S → Type 0) (now : List S) (k : ℕ) (new : S) → k < length now → ((j : ℕ) (x : S) → j < k → slice_get now j ≡ Some x → P j x) → P k new → (j : ℕ) (x : S) → j < k + 1 → slice_get (write now k new) j ≡ Some x → P j x
+each-at-next P now k new within done here j x below is = at (cases_eq j k)
+  where
+    at : (j ≡ k) ⊎ (j ≢ k) → P j x
+    at (inl same) = subst (P j) (same-item new x (slice_get (write now k new) k) (written now k _ new refl within) (ap (slice_get (write now k new)) (sym same) ∙ is)) (subst (λ (i : ℕ). P i new) (sym same) here)
+    at (inr other) = done j x (omega (arith, below, other)) (sym (others now k j new other) ∙ is)
+
+-- ---- what comes, by one part after the other
+module _ {A : Type 0} (value : A → ℕ) (net : Setup) (own : ℕ → Bool) (n : ℕ) (parts : List (Part A)) where
+  pub parts-none : (all : Network A) → HasHeardFrom value net own (has_bit (set_of (shares_of (take 0 parts)))) n all all
+  parts-none all = heard-same value net own n (λ h. false) (has_bit (set_of (shares_of (take 0 parts)))) all all (λ h. sym (has_bit-zero h)) (heard-none value net own n all)
+
+  pub parts-next : (k : ℕ) (part : Part A) (was now next : Network A) → k < length parts → part ≡ get_or parts k part → HasHeardFrom value net own (has_bit (set_of (shares_of (take k parts)))) n was now
+      → HasHeardFrom value net own (has_bit (alone part.share)) n now next → HasHeardFrom value net own (has_bit (set_of (shares_of (take (k + 1) parts)))) n was next
+  parts-next k part was now next within is before here =
+      heard-same value net own n (λ h. has_bit (set_of (shares_of (take k parts))) h || has_bit (alone part.share) h) (has_bit (set_of (shares_of (take (k + 1) parts)))) was next members
+      (heard-more value net own n (has_bit (set_of (shares_of (take k parts)))) (has_bit (alone part.share)) was now next before here)
+    where
+      more : shares_of (take (k + 1) parts) ≡ shares_of (take k parts) ++ part.share ∷ []
+      more = ap shares_of (take_more parts k part within) ∙ ap (λ (x : Part A). shares_of (take k parts ++ x ∷ [])) (sym is) ∙ map-append (λ (x : Part A). x.share) (take k parts) (part ∷ [])
+
+      members : (h : ℕ) → (has_bit (set_of (shares_of (take k parts))) h || has_bit (alone part.share) h) ≡ has_bit (set_of (shares_of (take (k + 1) parts))) h
+      members h = sym (ap (λ os. has_bit (set_of os) h) more ∙ set-more (shares_of (take k parts)) part.share h)
+
+  pub parts-all : (k : ℕ) (was is : Network A) → length parts ≤ k → HasHeardFrom value net own (has_bit (set_of (shares_of (take k parts)))) n was is → HasHeardFrom value net own (has_bit (set_of (shares_of parts))) n was is
+  parts-all k was is long heard = subst (λ (xs : List (Part A)). HasHeardFrom value net own (has_bit (set_of (shares_of xs))) n was is) (take_all k parts long) heard
+
+-- ---- a mail of a first part and these others
+module _ {A : Type 0} (value : A → ℕ) (net : Setup) (own : ℕ → Bool) (n : ℕ) (mail : Mail A) (rest : List (Part A)) (same : rest ≡ mail.rest.items) where
+  pub rest-are : IsMail value net n mail → AreParts value net n rest
+  rest-are are = subst (λ (xs : List (Part A)). AreParts value net n xs) (sym same) (λ k. are (suc k))
+
+  pub mail-is : IsPart value net n mail.first → AreParts value net n rest → IsMail value net n mail
+  mail-is here others zero part there = subst (λ (x : Part A). IsPart value net n x) (same_Some mail.first part there) here
+  mail-is here others (suc k) part there = others k part (ap (λ (xs : List (Part A)). slice_get xs k) same ∙ there)
+
+  pub in-first : (h : ℕ) → mail.first.share ≡ Some h → has_bit (set_of (shares_of (parts_in mail))) h ≡ true
+  in-first h is = in-parts (parts_in mail) 0 mail.first h refl is
+
+  members : (h : ℕ) → (has_bit (alone mail.first.share) h || has_bit (set_of (shares_of rest)) h) ≡ has_bit (set_of (shares_of (parts_in mail))) h
+  members h = ap (λ (xs : List (Part A)). has_bit (alone mail.first.share) h || has_bit (set_of (shares_of xs)) h) same ∙ sym (either_members (alone mail.first.share) (set_of (shares_of mail.rest.items)) h)
+
+  pub in-rest : (h : ℕ) → has_bit (set_of (shares_of rest)) h ≡ true → has_bit (set_of (shares_of (parts_in mail))) h ≡ true
+  in-rest h e = sym (members h) ∙ or-right (has_bit (alone mail.first.share) h) (has_bit (set_of (shares_of rest)) h) e
+
+  -- when the first part is heard, and then the others, so is the mail
+  pub mail-heard : (was now next : Network A) → HasHeardFrom value net own (has_bit (alone mail.first.share)) n was now → HasHeardFrom value net own (has_bit (set_of (shares_of rest))) n now next
+      → HasHeardFrom value net own (has_bit (set_of (shares_of (parts_in mail)))) n was next
+  mail-heard was now next here others =
+      heard-same value net own n (λ h. has_bit (alone mail.first.share) h || has_bit (set_of (shares_of rest)) h) (has_bit (set_of (shares_of (parts_in mail)))) was next members
+      (heard-more value net own n (has_bit (alone mail.first.share)) (has_bit (set_of (shares_of rest))) was now next here others)
+
+-- the shares but the first, as a slice has them
+abbrev but_first : List (Option ℕ) → List (Option ℕ)
+but_first shares = take (length shares - 1) (drop 1 shares)
+
+but-first : (x : Option ℕ) (xs : List (Option ℕ)) → but_first (x ∷ xs) ≡ xs
+but-first x xs = take_all (length (x ∷ xs) - 1) xs (omega arith)
+
+-- .. are some of them
+pub in-others : (shares : List (Option ℕ)) (h : ℕ) → has_bit (set_of (but_first shares)) h ≡ true → has_bit (set_of shares) h ≡ true
+in-others [] h e = e
+in-others (x ∷ xs) h e = either_members (alone x) (set_of xs) h ∙ or-right (has_bit (alone x) h) (has_bit (set_of xs) h) (ap (λ os. has_bit (set_of os) h) (sym (but-first x xs)) ∙ e)
+
+-- .. and as many as the other parts
+pub many-others : {A : Type 0} (first : Part A) (rest : List (Part A)) (shares : List (Option ℕ)) → length (first ∷ rest) ≡ length shares → length rest ≡ length (but_first shares)
+many-others first rest [] many = absurd (omega (arith, many))
+many-others first rest (x ∷ xs) many = let same : length rest ≡ length xs = omega (arith, many) in same ∙ sym (ap length (but-first x xs))
+
+-- a mail is of the share of its first part and those of the others
+pub shares-written : {A : Type 0} (mail : Mail A) (rest : List (Part A)) (shares : List (Option ℕ)) → mail.rest.items ≡ rest → slice_get shares 0 ≡ Some mail.first.share → shares_of rest ≡ but_first shares → shares_of (parts_in mail) ≡ shares
+shares-written mail rest [] same first others = absurd (none-some mail.first.share first)
+shares-written mail rest (x ∷ xs) same first others = ap (λ o. o ∷ shares_of mail.rest.items) (sym (same_Some x mail.first.share first)) ∙ ap (λ os. x ∷ os) (ap shares_of same ∙ others ∙ but-first x xs)

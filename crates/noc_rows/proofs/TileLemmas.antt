@@ -19,19 +19,15 @@ use Rattle.noc_rows.specs.Tiles.{AreReady, HasShare, HasHeardSets, HasRun, IsTil
 use Rattle.noc_rows.specs.declared.network.Network.{Network}
 use Rattle.noc_rows.specs.declared.post.Post.{Post}
 use Rattle.noc_rows.specs.declared.tile.Tile.{Tile}
-use Rattle.noc_rows.proofs.ListLemmas.{others, same-item, written}
-use Rattle.noc_rows.proofs.MailLemmas.{heard-more, heard-none, left-heard, shows-heard}
+use Rattle.noc_rows.proofs.ListLemmas.{others, same-item}
+use Rattle.noc_rows.proofs.MailLemmas.{each-at-next, heard-more, heard-none, left-heard, shows-heard}
 use Rattle.noc_rows.proofs.SteppedLemmas as stepped
 use Rattle.noc_rows.proofs.StepLemmas.{may-step-in}
 
 -- ---- one item after the other
 -- items below k are so, and the next one
 pub each-next : {S : Type 0} (P : S → Type 0) (now : List S) (k : ℕ) (new : S) → k < length now → ((j : ℕ) (x : S) → j < k → slice_get now j ≡ Some x → P x) → P new → (j : ℕ) (x : S) → j < k + 1 → slice_get (write now k new) j ≡ Some x → P x
-each-next P now k new within done here j x below is = at (cases_eq j k)
-  where
-    at : (j ≡ k) ⊎ (j ≢ k) → P x
-    at (inl same) = subst P (same-item new x (slice_get (write now k new) k) (written now k _ new refl within) (ap (slice_get (write now k new)) (sym same) ∙ is)) here
-    at (inr other) = done j x (omega (arith, below, other)) (sym (others now k j new other) ∙ is)
+each-next P now k new within done here = each-at-next (λ j. P) now k new within done here
 
 -- those from k on are as they were, and so are those after it
 pub rest-next : {S : Type 0} (old now : List S) (k : ℕ) (new : S) → ((j : ℕ) → k ≤ j → slice_get now j ≡ slice_get old j) → (j : ℕ) → k + 1 ≤ j → slice_get (write now k new) j ≡ slice_get old j

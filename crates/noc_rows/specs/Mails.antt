@@ -1,5 +1,5 @@
 -- What tiles of a network send each other in a cycle.
-use Rattle.std.specs.Prelude.{◌≡◌, ℕ, ◌+◌, ◌*◌, ◌/◌, ◌^◌, ◌<◌, Bool, true, false, length, Option, Some, None, option_map, unwrap_or, if◌then◌else◌}
+use Rattle.std.specs.Prelude.{◌≡◌, ℕ, ◌+◌, ◌*◌, ◌/◌, ◌^◌, ◌<◌, Bool, true, false, List, [], ◌∷◌, length, map, bit_or, Option, Some, None, option_map, slice_get, unwrap_or, if◌then◌else◌}
 use Rattle.noc_topo.specs.Shape.{neighbour, nodes, ports}
 use Rattle.noc_lanes.specs.declared.lanes.TheConstants.{LANES}
 use Rattle.noc_theory.specs.Network.{Setup, size}
@@ -12,6 +12,7 @@ use Rattle.noc_rows.specs.Own.{IsIn}
 use Rattle.noc_wires.specs.declared.left.TheConstants.{PARTS, SHARE}
 use Rattle.noc_wires.specs.declared.letter.Letter.{Letter}
 use Rattle.noc_rows.specs.declared.mail.Mail.{Mail}
+use Rattle.noc_rows.specs.declared.mail.Part.{Part}
 use Rattle.noc_rows.specs.declared.network.Network.{Network}
 
 -- a letter is what share h of a network sends to other blocks in cycle n
@@ -22,14 +23,36 @@ pub record IsLetter {A : Type 0} (value : A → ℕ) (net : Setup) (n h : ℕ) (
       → port < ports net.relation.grid → leads_off net.relation.grid (h * SHARE + k) port ≡ true
       → Sends net n (h * SHARE + k) port (links_in value letter k) (tells_in value letter k)
 
--- a mail has what its share sends in cycle n, where it is of one
+-- a part of a mail has what its share sends in cycle n, where it is of one
+abbrev pub IsPart : {A : Type 0} → (A → ℕ) → Setup → ℕ → Part A → Type 0
+IsPart value net n part = (h : ℕ) → part.share ≡ Some h → IsLetter value net n h part.letter
+
+-- each of these is such a part
+abbrev pub AreParts : {A : Type 0} → (A → ℕ) → Setup → ℕ → List (Part A) → Type 0
+AreParts value net n parts =
+    (k : ℕ) (part : Part _) → slice_get parts k ≡ Some part → IsPart value net n part
+
+-- the parts of a mail
+abbrev pub parts_in : {A : Type 0} → Mail A → List (Part A)
+parts_in mail = mail.first ∷ mail.rest.items
+
+-- a mail has what its shares send in cycle n
 abbrev pub IsMail : {A : Type 0} → (A → ℕ) → Setup → ℕ → Mail A → Type 0
-IsMail value net n mail = (h : ℕ) → mail.share ≡ Some h → IsLetter value net n h mail.letter
+IsMail value net n mail = AreParts value net n (parts_in mail)
+
+-- the shares of parts, where they are of some
+abbrev pub shares_of : {A : Type 0} → List (Part A) → List (Option ℕ)
+shares_of parts = map (λ part. part.share) parts
 
 -- the set of one share, or of none
 abbrev pub alone : Option ℕ → ℕ
 alone None = 0
 alone (Some h) = 2 ^ h
+
+-- the set of all shares of a list
+abbrev pub set_of : List (Option ℕ) → ℕ
+set_of [] = 0
+set_of (share ∷ shares) = bit_or (alone share) (set_of shares)
 
 -- to own blocks that have run cycle n, from `was` to `is`, comes what the shares `from` have sent
 pub record HasHeardFrom {A : Type 0} (value : A → ℕ) (net : Setup) (own from : ℕ → Bool) (n : ℕ)

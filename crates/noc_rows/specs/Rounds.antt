@@ -3,7 +3,7 @@ use Rattle.std.specs.Prelude.{◌≡◌, ℕ, ◌+◌, List, [], ◌∷◌, leng
 use Rattle.noc_packet.specs.declared.packet.Packet.{Packet}
 use Rattle.noc_route.specs.Routes.{Routes}
 use Rattle.noc_theory.specs.Network.{Setup}
-use Rattle.noc_rows.specs.Mails.{IsMail}
+use Rattle.noc_rows.specs.Mails.{IsMail, parts_in, shares_of}
 use Rattle.noc_rows.specs.declared.mail.Mail.{Mail}
 use Rattle.noc_rows.specs.declared.origin.Run.{Run}
 
@@ -35,5 +35,6 @@ start_in mail =
 abbrev pub Follows : {A : Type 0} → (A → ℕ) → List (Mail A) → Mail A → Type 0
 Follows value [] mail = Unit {0}
 Follows value (first ∷ rest) mail =
-    (mail.share ≡ first.share) × (start_in mail ≡ start_in first)
+    (shares_of (parts_in mail) ≡ shares_of (parts_in first))
+    × (start_in mail ≡ start_in first)
     × IsMail value (start_in first).net ((start_in first).cycle + length rest) mail

@@ -10,6 +10,7 @@ use Rattle.noc_tallies.specs.contracts.tallies.Tallies as tallies_type
 use Rattle.noc_wires.specs.contracts.left.Left as left_type
 use Rattle.noc_wires.specs.contracts.letter.Letter as letter_type
 use Rattle.noc_rows.specs.contracts.mail.Mail as mail_type
+use Rattle.noc_rows.specs.contracts.mail.Part as part_type
 use Rattle.noc_rows.specs.contracts.network.Network as network_type
 
 -- a row of words, and where the words stand that the links of a block bring
@@ -26,6 +27,8 @@ BlocksFit W = SidesFit W × WorkFits W × FitsInMemory (state_type.the_row W)
     × FitsInMemory (tallies_type.the_row W) × FitsInMemory (left_type.the_row W)
     × FitsInMemory (network_type.the_row W)
 
--- what a block sends in a cycle, alone and by mail
+-- what a share sends in a cycle, alone and as a part of a mail, and a mail
 abbrev pub LetterFits : RattleType → Type 0
-LetterFits W = FitsInMemory (letter_type.the_row W) × FitsInMemory (mail_type.the_row W)
+LetterFits W =
+    FitsInMemory (letter_type.the_row W) × FitsInMemory (part_type.the_row W)
+    × FitsInMemory (mail_type.the_row W)

@@ -1,5 +1,5 @@
 -- A tile of a network in a run: what its own blocks show, and its rings to the tiles near it.
-use Rattle.std.specs.Prelude.{◌≡◌, ℕ, ◌+◌, ◌/◌, ◌<◌, ◌≤◌, Bool, true, false, List, [], ◌∷◌, length, map, Option, Some, None, slice_get}
+use Rattle.std.specs.Prelude.{◌≡◌, ℕ, ◌+◌, ◌/◌, ◌<◌, ◌≤◌, Bool, true, false, List, [], ◌∷◌, length, map, Option, Some, slice_get}
 use Rattle.rtrb.specs.Ring.{sent, received}
 use Rattle.noc_topo.specs.Shape.{neighbour}
 use Rattle.noc_packet.specs.Set.{has_bit}
@@ -10,7 +10,7 @@ use Rattle.noc_theory.specs.Network.{Setup}
 use Rattle.noc_theory.specs.declared.limits.TheConstants.{CYCLE_LIMIT}
 use Rattle.noc_wires.specs.Waking.{has_moved}
 use Rattle.noc_wires.specs.declared.left.TheConstants.{PARTS, SHARE}
-use Rattle.noc_rows.specs.Mails.{HasHeardFrom, HaveLeft, alone}
+use Rattle.noc_rows.specs.Mails.{HasHeardFrom, HaveLeft, parts_in, set_of, shares_of}
 use Rattle.noc_rows.specs.Own.{IsIn, MayStepIn, ShowsIn}
 use Rattle.noc_rows.specs.Rounds.{Start, start_in}
 use Rattle.noc_rows.specs.Steps.{HasTurned}
@@ -20,22 +20,22 @@ use Rattle.noc_rows.specs.declared.post.Post.{Post}
 use Rattle.noc_rows.specs.declared.tile.Tile.{Tile}
 
 -- ---- rings
--- the share that sends by a ring, if one does, as its first mail says
-abbrev pub sender : {A : Type 0} → List (Mail A) → Option ℕ
-sender [] = None
-sender (first ∷ rest) = first.share
+-- the shares that send by a ring, as its first mail says
+abbrev pub senders : {A : Type 0} → List (Mail A) → List (Option ℕ)
+senders [] = []
+senders (first ∷ rest) = shares_of (parts_in first)
 
--- the set of that share of the other tile that sends to this one
+-- the set of those shares of the other tile that send to this one
 abbrev pub near_in : {A : Type 0} → Post A → ℕ
-near_in post = alone (sender (received post.back))
+near_in post = set_of (senders (received post.back))
 
--- these mails have gone through a ring: a first one of this share, and those of so many cycles
-pub record HaveGone {A : Type 0} (start : Start) (from : Option ℕ) (many : ℕ)
+-- these mails have gone through a ring: a first one of these shares, and those of so many cycles
+pub record HaveGone {A : Type 0} (start : Start) (from : List (Option ℕ)) (many : ℕ)
     (mails : List (Mail A)) : Type 0 where
   pub first : Mail A
   pub rest : List (Mail A)
   pub are : mails ≡ first ∷ rest
-  pub share : first.share ≡ from
+  pub shares : shares_of (parts_in first) ≡ from
   pub is : start_in first ≡ start
   pub cycles : length rest ≡ many
 
@@ -44,22 +44,24 @@ abbrev pub AreShares : Start → (ℕ → Bool) → Bool → ℕ → Type 0
 AreShares start own ours shares =
     (h : ℕ) → has_bit shares h ≡ true → (own (h / PARTS) ≡ ours) × (h / PARTS < start.blocks)
 
--- the rings to another tile, after so many cycles have gone out and so many have come: a share of
--- an own block sends by the one, and one of another by the other
+-- the rings to another tile, after so many cycles have gone out and so many have come: shares of
+-- own blocks send by the one, and as many of others by the other
 pub record IsPost {A : Type 0} (start : Start) (own : ℕ → Bool) (out back : ℕ) (post : Post A)
     : Type 0 where
-  pub gone : HaveGone start post.share out (sent post.out)
-  pub come : HaveGone start (sender (received post.back)) back (received post.back)
-  pub ours : AreShares start own true (alone post.share)
+  pub gone : HaveGone start post.shares.items out (sent post.out)
+  pub come : HaveGone start (senders (received post.back)) back (received post.back)
+  pub as_many : length (senders (received post.back)) ≡ length post.shares.items
+  pub ours : AreShares start own true (set_of post.shares.items)
   pub theirs : AreShares start own false (near_in post)
 
--- they are ready for cycle c of the run, with a mail to write
+-- they are ready for cycle c of the run, with a mail to write that has a part for each share
 pub record IsReadyPost {A : Type 0} (start : Start) (own : ℕ → Bool) (c : ℕ) (post : Post A)
     : Type 0 where
   pub rings : IsPost start own c c post
   pub mail : Mail A
   pub there : post.mail ≡ Some mail
   pub is : start_in mail ≡ start
+  pub parts : length (parts_in mail) ≡ length post.shares.items
 
 -- each of these is ready, or has its rings
 abbrev pub AreReady : {A : Type 0} → Start → (ℕ → Bool) → ℕ → List (Post A) → Type 0

@@ -6,6 +6,7 @@ ghost use Rattle.noc_packet.specs.Set.{IsLeast, has_bit};
 ghost use Rattle.noc_sets.specs.Sets.{less, lowest};
 ghost use Rattle.noc_theory.specs.Good.{IsGoodSetup};
 ghost use Rattle.noc_rows.specs.Cuts.{AreBlocksOf, AreCut, AreNew, HasBlocks, HasRoused, IsNew, MeetsMore};
+ghost use Rattle.noc_rows.specs.Mails.{set_of};
 ghost use Rattle.noc_rows.specs.Rounds.{start_by};
 ghost use Rattle.noc_rows.specs.Shows.{ShowsAt};
 ghost use Rattle.noc_rows.specs.Sizes.{BlocksFit, LetterFits};
@@ -80,6 +81,9 @@ fn leads(shape: &Shape, share: usize, others: u32) -> bool
     false
 }
 
+// Shares of one tile and of another one.
+type Both = (Vec<Option<usize>>, Vec<Option<usize>>);
+
 // The first of some shares, if there is one.
 fn first_of(shares: u32) -> Option<usize>
     ensures { IsLeast (has_bit shares) result }
@@ -111,8 +115,26 @@ fn add<W: Word>(posts: &mut Vec<Post<W>>, post: Post<W>) -> Result<(), Memory>
     Ok(())
 }
 
-// Makes the rings between two tiles: as many as the one or the other has shares from which links
-// lead to the other.
+// These shares of one tile and those of another one, in lists of the same length.
+fn side_by_side(alloc: Global, from: u32, back: u32) -> Result<Both, Memory>
+    ensures as_many { IfOk result (λ lists. length lists.0.items ≡ length lists.1.items) }
+    ensures from { IfOk result (λ lists. set_of lists.0.items ≡ from) }
+    ensures back { IfOk result (λ lists. set_of lists.1.items ≡ back) }
+{
+    let mut ones = Vec::new(alloc);
+    let mut others = Vec::new(alloc);
+    let mut from = from;
+    let mut back = back;
+    while from != 0 || back != 0 {
+        ones.push(first_of(from))?;
+        others.push(first_of(back))?;
+        from = but_first(from);
+        back = but_first(back);
+    }
+    Ok((ones, others))
+}
+
+// Makes the rings between two tiles, if links lead from the one to the other.
 fn meet_one<W: Word>(
     alloc: Global,
     run: &Run<'_>,
@@ -134,15 +156,15 @@ fn meet_one<W: Word>(
         there.old.posts.items there.new.posts.items) }
 {
     let shape = run.relation.shape();
-    let mut from = near_ones(shape, here.own, there.own);
-    let mut back = near_ones(shape, there.own, here.own);
-    while from != 0 || back != 0 {
-        let (one, other) = meet(alloc, first_of(from), first_of(back), run)?;
-        add(&mut here.posts, one)?;
-        add(&mut there.posts, other)?;
-        from = but_first(from);
-        back = but_first(back);
+    let from = near_ones(shape, here.own, there.own);
+    let back = near_ones(shape, there.own, here.own);
+    if from == 0 && back == 0 {
+        return Ok(());
     }
+    let (from, back) = side_by_side(alloc, from, back)?;
+    let (one, other) = meet(alloc, from, back, run)?;
+    add(&mut here.posts, one)?;
+    add(&mut there.posts, other)?;
     Ok(())
 }
 

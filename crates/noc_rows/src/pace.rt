@@ -21,13 +21,16 @@ const FEW: u32 = 512;
 // How many cycles one thread runs before it is looked again whether tiles pay.
 const ALONE: u32 = 256;
 
+// How many pauses take as long as what a tile does in a cycle for mails alone.
+const FOR_MAILS: usize = 8;
+
 /// How the next cycles of a run go. What a network shows after them does not depend on it.
 #[derive(Drop)]
 pub(crate) struct Pace {
     // How many workers there are.
     workers: usize,
-    // How many pauses of each worker in a cycle are as long as what two tiles save.
-    saved: u32,
+    // How many pauses take as long as a cycle by one thread.
+    pauses: usize,
     // By how many tiles they go at most.
     tiles: usize,
     // How many of them go by tiles.
@@ -44,7 +47,7 @@ pub(crate) struct Pace {
 
 impl Pace {
     /// By all workers, but by no more than there are blocks. One thread takes as long for a block in
-    /// a cycle as for a quarter as many pauses as a word has bits.
+    /// a cycle as for a third as many pauses as a word has bits.
     pub(crate) fn new<W: Word>(workers: usize, blocks: usize) -> Pace
         ensures { result.workers ≤ workers }
     {
@@ -52,7 +55,7 @@ impl Pace {
         let bits = W::none().least_or_bits();
         Pace {
             workers,
-            saved: u32::try_from(blocks.saturating_mul(bits) / 8).unwrap_or(u32::MAX),
+            pauses: blocks.saturating_mul(bits) / 3,
             tiles: workers,
             cycles: FIRST,
             rest: 0,
@@ -77,12 +80,19 @@ impl Pace {
         cycles.min(most)
     }
 
+    // How often each of so many workers may pause in a cycle before one thread is as fast.
+    fn spare(&self, tiles: usize) -> u32 {
+        let each = self.pauses / tiles.max(1);
+        let spare = self.pauses.saturating_sub(each).saturating_sub(FOR_MAILS);
+        u32::try_from(spare).unwrap_or(u32::MAX)
+    }
+
     /// So many cycles have gone by so many tiles, and each of their workers has paused at least so
     /// often. The answer is whether as many tiles go on.
     pub(crate) fn heed(&mut self, tiles: usize, cycles: u32, waits: u32) -> bool
         ensures { self.new.workers ≡ self.old.workers }
     {
-        if waits > cycles.saturating_mul(self.saved) {
+        if waits > cycles.saturating_mul(self.spare(tiles)) {
             self.tiles = tiles.saturating_sub(1).max(1).min(self.workers);
             self.cycles = FIRST;
             self.rest = self.next_rest;

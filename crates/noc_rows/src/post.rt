@@ -6,7 +6,7 @@ ghost use Rattle.noc_packet.specs.Set.{has_bit};
 ghost use Rattle.noc_theory.specs.Good.{IsGoodSetup};
 ghost use Rattle.noc_rows.specs.Rounds.{Follows, Start, start_by};
 ghost use Rattle.noc_rows.specs.Shows.{IsPlanOf};
-ghost use Rattle.noc_rows.specs.Mails.{HasHeardFrom, alone};
+ghost use Rattle.noc_rows.specs.Mails.{HasHeardFrom, set_of};
 ghost use Rattle.noc_rows.specs.Sizes.{BlocksFit, LetterFits};
 ghost use Rattle.noc_rows.specs.Tiles.{AreShares, HasRun, IsPost, IsReadyPost, near_in};
 ghost use Rattle.noc_rows.specs.declared.network.Network.{Network as Blocks};
@@ -21,6 +21,10 @@ use rtrb::{Consumer, Producer, Protocol, RingBuffer};
 use std::alloc::Global;
 use std::marker::PhantomData;
 use std::sync::Wait;
+
+// How many mails a ring has room for. At most two are on their way, but who sends looks how many
+// have been taken only where it knows of no room, and for that it waits for the other's memory.
+const ROOM: usize = 8;
 
 // Whether the last of so many looks came after a pause, as a number.
 fn paused(looks: u32) -> u32 {
@@ -39,8 +43,9 @@ impl<W: Word> Protocol<Mail<W>> for Rounds<W> {
 // The rings between a tile and another one, in both directions.
 #[derive(Drop)]
 pub(crate) struct Post<W: Word> {
-    // The share that sends by it, if one does. A mail goes in each cycle all the same.
-    pub(crate) share: Option<usize>,
+    // The shares that send by it, one for each part of a mail, so at least one. Where one is none,
+    // its part goes all the same.
+    pub(crate) shares: Vec<Option<usize>>,
     // The mail that goes next: none while it is on its way, until the other's has come.
     pub(crate) mail: Option<Mail<W>>,
     // How often its worker has paused while it waited here.
@@ -50,7 +55,7 @@ pub(crate) struct Post<W: Word> {
 }
 
 impl<W: Word> Post<W> {
-    // Sends what the share has sent in the cycle that the network has run, in which these were
+    // Sends what the shares have sent in the cycle that the network has run, in which these were
     // awake, and waits until it is on its way. False where the other tile is gone.
     pub(crate) fn send(&mut self, rt: &impl Wait, network: &Network<W>, awake: u32) -> bool
         requires memory { BlocksFit W.row }
@@ -67,15 +72,14 @@ impl<W: Word> Post<W> {
         let Some(mut mail) = self.mail.take() else {
             return false;
         };
-        mail.share = self.share;
-        network.write(awake, &mut mail);
+        network.write(awake, self.shares.as_slice(), &mut mail);
         self.put(rt, mail)
     }
 
     // Waits until there is room for the mail, and sends it. False where the other tile is gone.
     fn put(&mut self, rt: &impl Wait, mail: Mail<W>) -> bool
         requires { Follows W.value (sent self.old.out) mail }
-        ensures share { self.new.share ≡ self.old.share }
+        ensures shares { self.new.shares ≡ self.old.shares }
         ensures back { self.new.back ≡ self.old.back }
         ensures sent { IsTrue result → sent self.new.out ≡ sent self.old.out ++ mail ∷ [] }
     {
@@ -94,7 +98,7 @@ impl<W: Word> Post<W> {
         unreachable!()
     }
 
-    // Waits for what the other tile's share has sent in the cycle that the network has run, and
+    // Waits for what the other tile's shares have sent in the cycle that the network has run, and
     // has it hear that. False where the other tile is gone.
     pub(crate) fn receive(&mut self, rt: &impl Wait, network: &mut Network<W>) -> bool
         requires memory { BlocksFit W.row }
@@ -126,7 +130,7 @@ impl<W: Word> Post<W> {
 
     // Waits until a mail is there. False where the other tile is gone and has left none.
     fn wait(&mut self, rt: &impl Wait) -> bool
-        ensures share { self.new.share ≡ self.old.share }
+        ensures shares { self.new.shares ≡ self.old.shares }
         ensures out { self.new.out ≡ self.old.out }
         ensures back { received self.new.back ≡ received self.old.back }
         ensures there { IsTrue result → 0 < length (known_items self.new.back) }
@@ -160,45 +164,47 @@ fn greet<W: Word>(alloc: Global, hello: Mail<W>) -> Result<Greeted<W>, Memory>
     ensures ends { IfOk result (λ ring. (sent ring.0 ≡ hello ∷ [])
         × (received ring.1 ≡ hello ∷ [])) }
 {
-    let (mut out, mut back) = RingBuffer::with_protocol::<Global, Rounds<W>>(alloc, 8)?;
+    let (mut out, mut back) = RingBuffer::with_protocol::<Global, Rounds<W>>(alloc, ROOM)?;
     out.push_reserved(hello);
     back.slots_beside(&mut out);
     let mail = back.pop_known();
     Ok((out, back, mail))
 }
 
-/// The rings between two tiles of a run: the share `from` of the one sends by them, and `back` of
-/// the other, where there are such shares.
+/// The rings between two tiles of a run: the shares `from` of the one send by them, and `back` of
+/// the other.
 pub(crate) fn meet<W: Word>(
     alloc: Global,
-    from: Option<usize>,
-    back: Option<usize>,
+    from: Vec<Option<usize>>,
+    back: Vec<Option<usize>>,
     run: &Run<'_>,
 ) -> Result<(Post<W>, Post<W>), Memory>
-    requires { LetterFits W.row }
-    ensures near { IfOk result (λ posts. (near_in posts.0 ≡ alone back)
-        × (near_in posts.1 ≡ alone from)) }
+    requires memory { LetterFits W.row }
+    requires some { 0 < length from.items }
+    requires as_many { length from.items ≡ length back.items }
+    ensures near { IfOk result (λ posts. (near_in posts.0 ≡ set_of back.items)
+        × (near_in posts.1 ≡ set_of from.items)) }
     ensures one { IfOk result (λ posts. (own : ℕ → Bool)
-        → AreShares (start_by run.now) own true (alone from)
-        → AreShares (start_by run.now) own false (alone back)
+        → AreShares (start_by run.now) own true (set_of from.items)
+        → AreShares (start_by run.now) own false (set_of back.items)
         → IsReadyPost (start_by run.now) own 0 posts.0) }
     ensures other { IfOk result (λ posts. (own : ℕ → Bool)
-        → AreShares (start_by run.now) own true (alone back)
-        → AreShares (start_by run.now) own false (alone from)
+        → AreShares (start_by run.now) own true (set_of back.items)
+        → AreShares (start_by run.now) own false (set_of from.items)
         → IsReadyPost (start_by run.now) own 0 posts.1) }
 {
-    let (out, there, mail) = greet(alloc, Mail::new(alloc, from, run)?)?;
-    let (answers, here, answer) = greet(alloc, Mail::new(alloc, back, run)?)?;
+    let (out, there, mail) = greet(alloc, Mail::new(alloc, from.as_slice(), run)?)?;
+    let (answers, here, answer) = greet(alloc, Mail::new(alloc, back.as_slice(), run)?)?;
     Ok((
         Post {
-            share: from,
+            shares: from,
             mail: Some(answer),
             waits: 0,
             out,
             back: here,
         },
         Post {
-            share: back,
+            shares: back,
             mail: Some(mail),
             waits: 0,
             out: answers,

@@ -17,8 +17,8 @@ use std::{hint, thread};
 // How often a thread that waits looks again before it gives its processor to others.
 const LOOKS: u32 = 250;
 
-/// The first of these follow each other at once: a pause costs about 140 processor cycles, and what
-/// it waits for may be nearer than that.
+/// How many of these looks follow each other at once, before it pauses between two: a pause costs
+/// about 140 processor cycles, and what it waits for may be nearer than that.
 pub const LOOKS_AT_ONCE: u32 = 32;
 
 // After how many looks it sleeps instead, which frees its processor for a thread whose own another
@@ -35,6 +35,7 @@ pub fn settle(rt: &impl Wait) {
     nap(rt);
 }
 
+// Sleeps for a moment, on a word that nobody else has.
 fn nap(rt: &impl Wait) {
     AtomicU64::new(0).park_timeout(rt, 0, Duration::from_micros(NAP));
 }

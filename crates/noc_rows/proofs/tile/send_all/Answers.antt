@@ -1,4 +1,4 @@
-use Rattle.std.proofs.Common.{◌≡◌, ◌∙◌, ◌+◌, Some, arith, get_or, length, refl, rules, sym}
+use Rattle.std.proofs.Common.{◌≡◌, ◌∙◌, ◌+◌, Some, arith, get_or, length, refl, sym}
 use Rattle.std.specs.Prelude.{slice_get}
 use Rattle.std.proofs.lemmas.Option.{slice_get_within}
 use Rattle.noc_rows.specs.Tiles.{IsPost}
@@ -13,7 +13,7 @@ send-requires g c =
     let r = c.requires.may in
     let old = get_or posts k c.index-posts-k.result in
     let is : slice_get posts k ≡ Some old = there posts k _ c.index-posts-k.result refl (index-within k _ (length posts) c.loop-k-test.true c.loop-k.auto.posts) in
-    (search rules, (c.requires.memory.5, (c.requires.memory, (c.requires.letters, (r.0, r.1, r.2, r.3, r.4 k old (sym (c.loop-k.invariant.rest k (from-here k)) ∙ is), r.5)))))
+    (search c.requires-raw, (c.requires.memory.5, (c.requires.memory, (c.requires.letters, (r.0, r.1, r.2, r.3, r.4 k old (sym (c.loop-k.invariant.rest k (from-here k)) ∙ is), r.5)))))
 
 pub loop-k-init : goal.loop-k-init
 loop-k-init g c = record { near = refl; rest = λ j l. refl; sent = λ start own n was ready run j post l. absurd (omega (arith, l)) }

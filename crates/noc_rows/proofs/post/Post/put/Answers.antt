@@ -1,4 +1,4 @@
-use Rattle.std.proofs.Common.{◌≡◌, ◌≢◌, ◌∙◌, ◌<◌, List, arith, inl, inr, subst, sym}
+use Rattle.std.proofs.Common.{◌∙◌, ◌<◌, List, arith, inl, inr, subst, sym}
 use Rattle.std.proofs.lemmas.Bool.{cases_eq, false≢true}
 use Rattle.rtrb.specs.Ring.{known_free}
 use Rattle.noc_rows.specs.Rounds.{Follows}

@@ -7,6 +7,6 @@ abbrev pub invariant-loop : goal.invariant-loop
 invariant-loop g l = record {
   past : sent l.self.out ≡ sent l.initial.self.out;
   mail : l.mail ≡ l.initial.mail;
-  share : l.self.share ≡ l.initial.self.share;
+  shares : l.self.shares ≡ l.initial.self.shares;
   back : l.self.back ≡ l.initial.self.back;
 }
