@@ -4,9 +4,9 @@ use Rattle.std.specs.Prelude.{nat_eq, nat_le, nat_lt, ◌⊎◌, ◌&&◌, ◌||
 use Rattle.std.proofs.Math.Bool.{and_self}
 use Rattle.std.specs.Int.{bit_at, bit_not, trailing_zeros}
 use Rattle.std.proofs.lemmas.Bool.{eq-eqb, ne_eqb, cases_eq, cases_lt, false≢true, eqb-true, le-leb, lt-leb, lt-ltb, le-ltb}
-use Rattle.std.proofs.lemmas.Nat.{or_lt, or_disjoint, shr-shr, shr_le, one_shl, and_le_l, and-not, and_comm, pow_below}
+use Rattle.std.proofs.lemmas.Nat.{or_lt, or_disjoint, shr-shr, shr_le, one_shl, shl_below, shl_whole, and_le_l, and_le_r, and-not, and_comm, pow_below, pow_pos}
 use Rattle.std.proofs.Math.Nat.{pow-le-pow_right}
-use Rattle.std.proofs.lemmas.Nat.Bits.{bit_at-zero, bit_at-lt, bit_at_and, bit_at_or, bit_at_above, and_pow, same_from_bits, bit_at_set_same, bit_at_set_other, bit_at_clear_same, bit_at_clear_other, bit_at-trailing_zeros, bit_at_not, bit_at_ones, bit_at_ones_above}
+use Rattle.std.proofs.lemmas.Nat.Bits.{bit_at-zero, bit_at-lt, bit_at_and, bit_at_or, bit_at_above, and_pow, same_from_bits, bit_at_set_same, bit_at_set_other, bit_at_clear_same, bit_at_clear_other, bit_at-trailing_zeros, bit_at_not, bit_at_ones, bit_at_ones_above, bit_at_cat_low, bit_at_cat_high}
 use Rattle.noc_packet.specs.Set.{has_bit, has_from, in_both, IsLeast}
 
 pub has_bit-one : (bits k : ℕ) → bit_at bits k ≡ 1 → has_bit bits k ≡ true
@@ -254,3 +254,61 @@ from_members bits index k bound l =
     at : (k < index) ⊎ (index ≤ k) → not (has_bit (2 ^ index - 1) k) ≡ nat_le index k
     at (inl u) = ap not (has_bit-one _ k (bit_at_ones index k u)) ∙ sym (lt-leb index k u)
     at (inr u) = ap not (has_bit-none _ k (bit_at_ones_above index k u)) ∙ sym (le-leb index k u)
+
+-- ---- members that are moved up
+raised_members : (a to k : ℕ) → has_bit (a * 2 ^ to) k ≡ (nat_le to k && has_bit a (k - to))
+raised_members a to k = at (cases_lt k to)
+  where
+    whole : a * 2 ^ to + 0 ≡ a * 2 ^ to
+    whole = omega arith
+
+    at : (k < to) ⊎ (to ≤ k) → has_bit (a * 2 ^ to) k ≡ (nat_le to k && has_bit a (k - to))
+    at (inl l) = rw (lt-leb to k l) (has_bit-none _ k (ap (λ n. bit_at n k) (sym whole) ∙ bit_at_cat_low a to 0 k l ∙ bit_at-zero k))
+    at (inr u) = rw (le-leb to k u) (ap (λ n. nat_eq n 1) (ap (λ n. bit_at n k) (sym whole) ∙ bit_at_cat_high a to 0 k (pow_pos to) u))
+
+-- the count is one of indices that are moved as far
+moved_count : (to count k : ℕ) (x : Bool) → (nat_le to k && (nat_lt (k - to) count && x)) ≡ (nat_le to k && nat_lt k (to + count) && x)
+moved_count to count k x = at (cases_lt k to) (cases_lt k (to + count))
+  where
+    at : (k < to) ⊎ (to ≤ k) → (k < to + count) ⊎ (to + count ≤ k) → (nat_le to k && (nat_lt (k - to) count && x)) ≡ (nat_le to k && nat_lt k (to + count) && x)
+    at (inl l) _ = rw (lt-leb to k l) refl
+    at (inr u) (inl l) = rw (le-leb to k u, lt-ltb (k - to) count (omega (arith, u, l)), lt-ltb k (to + count) l) refl
+    at (inr u) (inr m) = rw (le-leb to k u, le-ltb (k - to) count (omega (arith, u, m)), le-ltb k (to + count) m) refl
+
+part_below : (bits from count : ℕ) → count ≤ 56 → bit_and (bits / 2 ^ from) (1 * 2 ^ count % 2 ^ 64 - 1) < 2 ^ count
+part_below bits from count l = rw (one_shl count 64 (omega arith)) (omega (arith, and_le_r (bits / 2 ^ from) (2 ^ count - 1), pow_pos count))
+
+pub moved_members : (bits from count to k : ℕ) → to + count ≤ 56
+    → has_bit (bit_and (bits / 2 ^ from) (1 * 2 ^ count % 2 ^ 64 - 1) * 2 ^ to % 2 ^ 64) k ≡ (nat_le to k && nat_lt k (to + count) && has_bit bits (from + (k - to)))
+moved_members bits from count to k l =
+    let few : count ≤ 56 = omega (arith, l) in
+    rw (shl_whole (bit_and (bits / 2 ^ from) (1 * 2 ^ count % 2 ^ 64 - 1)) count to 64 (part_below bits from count few) (omega (arith, l)))
+    (raised_members _ to k ∙ ap (λ b. nat_le to k && b) (part_members bits from count (k - to) few) ∙ moved_count to count k (has_bit bits (from + (k - to))))
+
+pub moved_fits : (bits from count to : ℕ) → to + count ≤ 56 → bit_and (bits / 2 ^ from) (1 * 2 ^ count % 2 ^ 64 - 1) * 2 ^ to % 2 ^ 64 < 2 ^ 56
+moved_fits bits from count to l =
+    let a = bit_and (bits / 2 ^ from) (1 * 2 ^ count % 2 ^ 64 - 1) in
+    let below : a < 2 ^ count = part_below bits from count (omega (arith, l)) in
+    let least : count + to ≤ 56 = omega (arith, l) in
+    let some : 2 ^ (count + to) ≤ 2 ^ 56 = pow-le-pow_right (omega arith) least in
+    let moved : a * 2 ^ to < 2 ^ (count + to) = shl_below a count to below in
+    rw (shl_whole a count to 64 below (omega (arith, l))) (omega (arith, some, moved))
+
+pub span_members : (from count k : ℕ) → from + count ≤ 56 → has_bit ((1 * 2 ^ count % 2 ^ 64 - 1) * 2 ^ from % 2 ^ 64) k ≡ (nat_le from k && nat_lt k (from + count))
+span_members from count k l =
+    let few : 2 ^ count - 1 < 2 ^ count = omega (arith, pow_pos count) in
+    rw (one_shl count 64 (omega (arith, l)))
+    (rw (shl_whole (2 ^ count - 1) count from 64 few (omega (arith, l))) (raised_members (2 ^ count - 1) from k ∙ at (cases_lt k from) (cases_lt k (from + count))))
+  where
+    at : (k < from) ⊎ (from ≤ k) → (k < from + count) ⊎ (from + count ≤ k) → (nat_le from k && has_bit (2 ^ count - 1) (k - from)) ≡ (nat_le from k && nat_lt k (from + count))
+    at (inl l) _ = rw (lt-leb from k l) refl
+    at (inr u) (inl l) = rw (lt-ltb k (from + count) l, has_bit-one _ _ (bit_at_ones count (k - from) (omega (arith, u, l)))) refl
+    at (inr u) (inr m) = rw (le-ltb k (from + count) m, has_bit-none _ _ (bit_at_ones_above count (k - from) (omega (arith, u, m)))) refl
+
+pub span_fits : (from count : ℕ) → from + count ≤ 56 → (1 * 2 ^ count % 2 ^ 64 - 1) * 2 ^ from % 2 ^ 64 < 2 ^ 56
+span_fits from count l =
+    let few : 2 ^ count - 1 < 2 ^ count = omega (arith, pow_pos count) in
+    let least : count + from ≤ 56 = omega (arith, l) in
+    let some : 2 ^ (count + from) ≤ 2 ^ 56 = pow-le-pow_right (omega arith) least in
+    let moved : (2 ^ count - 1) * 2 ^ from < 2 ^ (count + from) = shl_below (2 ^ count - 1) count from few in
+    rw (one_shl count 64 (omega (arith, l))) (rw (shl_whole (2 ^ count - 1) count from 64 few (omega (arith, l))) (omega (arith, some, moved)))

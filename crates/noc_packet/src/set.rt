@@ -1,6 +1,6 @@
 //! A set of channel indices.
 
-ghost use Rattle.std.specs.Prelude.{◌≡◌, ℕ, ◌+◌, ◌-◌, ◌<◌, ◌≤◌, ◌^◌, Bool, false, ◌&&◌, ◌||◌, ◌==◌, not, nat_lt, find, IfNone, IfSome, IsTrue, ◌↔◌, if◌then◌else◌};
+ghost use Rattle.std.specs.Prelude.{◌≡◌, ℕ, ◌+◌, ◌-◌, ◌<◌, ◌≤◌, ◌^◌, Bool, false, ◌&&◌, ◌||◌, ◌==◌, not, nat_le, nat_lt, find, IfNone, IfSome, IsTrue, ◌↔◌, if◌then◌else◌};
 ghost use Rattle.noc_packet.specs.Set.{has_bit, has_from, in_both, IsLeast};
 
 use crate::limits::INDICES;
@@ -145,6 +145,29 @@ impl ChannelSet {
     {
         ChannelSet {
             bits: self.bits & !((1 << index) - 1),
+        }
+    }
+
+    /// The `count` indices from `from` on; `from` and `count` are together at most 56.
+    pub fn span(from: usize, count: usize) -> ChannelSet
+        requires { from + count ≤ INDICES }
+        ensures { (k : ℕ) → has_bit result k ≡ (nat_le from k && nat_lt k (from + count)) }
+    {
+        ChannelSet {
+            bits: ((1 << count) - 1) << from,
+        }
+    }
+
+    /// The members among the `count` indices from `from` (0 to 55) on, moved so that the first of
+    /// these is `to`; `to` and `count` are together at most 56.
+    pub fn moved(self, from: usize, count: usize, to: usize) -> ChannelSet
+        requires from { from < INDICES }
+        requires room { to + count ≤ INDICES }
+        ensures { (k : ℕ) → has_bit result k ≡ (nat_le to k && nat_lt k (to + count)
+            && has_bit self (from + (k - to))) }
+    {
+        ChannelSet {
+            bits: (self.bits >> from & ((1 << count) - 1)) << to,
         }
     }
 

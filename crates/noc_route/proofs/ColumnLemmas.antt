@@ -1,12 +1,12 @@
 -- Tables by columns.
 use Rattle.std.proofs.Math.Seq.{take-append_seam}
-use Rattle.std.proofs.Common.{◌≡◌, ◌≢◌, ℕ, ◌*◌, ◌+◌, ◌++◌, ◌-◌, ◌<◌, ◌≤◌, ◌/◌, ◌%◌, List, length, get_or, take, drop, set, arith, inl, inr, subst, sym, ap, ◌∙◌, below_more}
+use Rattle.std.proofs.Common.{◌≡◌, ◌≢◌, ℕ, ◌*◌, ◌+◌, ◌++◌, ◌<◌, ◌≤◌, ◌/◌, ◌%◌, List, length, get_or, take, drop, set, arith, inl, inr, subst, sym, ap, ◌∙◌, below_more}
 use Rattle.std.specs.Prelude.{◌⊎◌}
-use Rattle.std.proofs.Math.Nat.{mul-le-mul_right, mul_comm, mul_assoc, add-mul, div-lt_iff_lt-mul, mod-lt}
-use Rattle.std.proofs.lemmas.List.{get_or-set_same, get_or-set_other, get_or_default, get_or-take, get_or-drop}
+use Rattle.std.proofs.Math.Nat.{mul-le-mul_right, mul_comm, mul_assoc, div-lt_iff_lt-mul, mod-lt}
+use Rattle.std.proofs.lemmas.List.{get_or-set_same, get_or-set_other, get_or_default, get_or-take}
 use Rattle.noc_topo.proofs.ListLemmas.{tabulate-from_each, get_or-tabulate}
 use Rattle.noc_topo.specs.Shape.{nodes, ports}
-use Rattle.noc_route.specs.Columns.{table_of, column_set, IsColumnAt, AreKept, AreKeptTo}
+use Rattle.noc_route.specs.Columns.{table_of, column_set, IsColumnAt, AreKeptTo}
 use Rattle.noc_route.specs.Routes.{width, pages}
 use Rattle.noc_route.specs.declared.sizes.Sizes.{Sizes}
 use Rattle.noc_route.proofs.EntryLemmas.{flat-below, flat-div, flat-mod, pages-few}
@@ -119,52 +119,45 @@ kept-more f block before sets after old_starts starts pair first input end start
 
 -- ---- the columns of one more router and class
 
--- an index of a block, and of the table
-place-index : (pair n w t i : ℕ) → pair * (n * w) + (t * w + i) ≡ (pair * n + t) * w + i
-place-index pair n w t i =
-    let whole : (pair * n + t) * w ≡ pair * n * w + t * w = add-mul (pair * n) t w in
-    omega (arith, whole, mul_assoc pair n w)
+-- the columns of the first of a table's pairs of a router and a class stand before `end`, where
+-- `starts` says
+pub record AreKept (f : Sizes) (table sets starts : List ℕ) (pairs end : ℕ) : Type 0 where
+  pub within : (q i : ℕ) → q < pairs → i < width f.shape f.vcs → get_or starts (q * width f.shape f.vcs + i) 0 + nodes f.shape ≤ end
+  pub same : (q i t : ℕ) → q < pairs → i < width f.shape f.vcs → t < nodes f.shape
+      → get_or sets (get_or starts (q * width f.shape f.vcs + i) 0 + t) 0 ≡ get_or table ((q * nodes f.shape + t) * width f.shape f.vcs + i) 0
 
-block-end : (pair end next n w : ℕ) → end ≤ pair * (n * w) → next ≤ end + w * n → next ≤ (pair + 1) * (n * w)
+pub block-end : (pair end next n w : ℕ) → end ≤ pair * (n * w) → next ≤ end + w * n → next ≤ (pair + 1) * (n * w)
 block-end pair end next n w few l = omega (arith, row-next pair (n * w), mul_comm w n)
 
-past-block : (pair end n w j size : ℕ) → size ≡ n * w → end ≤ pair * (n * w) → (pair + 1) * (n * w) ≤ j → end + size ≤ j
-past-block pair end n w j size long few l = omega (arith, row-next pair (n * w))
-
-past-pair : (pair n w j : ℕ) → (pair + 1) * (n * w) ≤ j → pair * (n * w) ≤ j
-past-pair pair n w j l = omega (arith, row-next pair (n * w))
-
--- what the loop over the routers and classes keeps
-pub record IsKeptSoFar (f : Sizes) (table sets starts : List ℕ) (pair end : ℕ) : Type 0 where
-  pub few : end ≤ pair * (nodes f.shape * width f.shape f.vcs)
-  pub kept : AreKept f table sets starts pair end
-  pub rest : (j : ℕ) → pair * (nodes f.shape * width f.shape f.vcs) ≤ j → get_or sets j 0 ≡ get_or table j 0
+-- columns that are kept still are where other sets are put behind them
+pub AreKept-behind : (f : Sizes) (table sets after starts : List ℕ) (pair end : ℕ) → ((j : ℕ) → j < end → get_or after j 0 ≡ get_or sets j 0)
+    → AreKept f table sets starts pair end → AreKept f table after starts pair end
+AreKept-behind f table sets after starts pair end same h = record {
+  within = h.within;
+  same = λ q i t l m k.
+      let start = get_or starts (q * width f.shape f.vcs + i) 0 in
+      same (start + t) (inner start t (nodes f.shape) end k (h.within q i l m)) ∙ h.same q i t l m k;
+}
 
 pub pairs-more : (f : Sizes) (table sets after block starts new : List ℕ) (pair end next : ℕ)
-    → length block ≡ nodes f.shape * width f.shape f.vcs
-    → ((k : ℕ) → k < nodes f.shape * width f.shape f.vcs → get_or block k 0 ≡ get_or sets (pair * (nodes f.shape * width f.shape f.vcs) + k) 0)
+    → ((t i : ℕ) → t < nodes f.shape → i < width f.shape f.vcs → get_or block (t * width f.shape f.vcs + i) 0 ≡ get_or table ((pair * nodes f.shape + t) * width f.shape f.vcs + i) 0)
     → AreKeptTo f block sets after starts new pair end (width f.shape f.vcs) next
-    → IsKeptSoFar f table sets starts pair end → IsKeptSoFar f table after new (pair + 1) next
-pairs-more f table sets after block starts new pair end next long copied g h =
+    → AreKept f table sets starts pair end → AreKept f table after new (pair + 1) next
+pairs-more f table sets after block starts new pair end next written g h =
     let n = nodes f.shape in
     let w = width f.shape f.vcs in
     record {
-      few = block-end pair end next n w h.few g.few;
-      kept = record {
-        within = λ q i l m.
-            below_more (λ q. get_or new (q * w + i) 0 + n ≤ next) pair
-            (λ q l. subst (λ x. x + n ≤ next) (sym (g.earlier (q * w + i) (flat-below q pair i w l m))) (at_most (get_or starts (q * w + i) 0 + n) end next (h.kept.within q i l m) g.grown))
-            (g.within i m) q l;
-        same = λ q i t l m k.
-            below_more (λ q. get_or after (get_or new (q * w + i) 0 + t) 0 ≡ get_or table ((q * n + t) * w + i) 0) pair
-            (λ q l. ap (λ s. get_or after (s + t) 0) (g.earlier (q * w + i) (flat-below q pair i w l m))
-            ∙ g.others (get_or starts (q * w + i) 0 + t) (inl (inner (get_or starts (q * w + i) 0) t n end k (h.kept.within q i l m)))
-            ∙ h.kept.same q i t l m k)
-            (g.same i m t k ∙ copied (t * w + i) (flat-below t n i w k m) ∙ h.rest (pair * (n * w) + (t * w + i)) (omega arith)
-            ∙ ap (λ j. get_or table j 0) (place-index pair n w t i))
-            q l;
-      };
-      rest = λ j l. g.others j (inr (past-block pair end n w j (length block) long h.few l)) ∙ h.rest j (past-pair pair n w j l);
+      within = λ q i l m.
+          below_more (λ q. get_or new (q * w + i) 0 + n ≤ next) pair
+          (λ q l. subst (λ x. x + n ≤ next) (sym (g.earlier (q * w + i) (flat-below q pair i w l m))) (at_most (get_or starts (q * w + i) 0 + n) end next (h.within q i l m) g.grown))
+          (g.within i m) q l;
+      same = λ q i t l m k.
+          below_more (λ q. get_or after (get_or new (q * w + i) 0 + t) 0 ≡ get_or table ((q * n + t) * w + i) 0) pair
+          (λ q l. ap (λ s. get_or after (s + t) 0) (g.earlier (q * w + i) (flat-below q pair i w l m))
+          ∙ g.others (get_or starts (q * w + i) 0 + t) (inl (inner (get_or starts (q * w + i) 0) t n end k (h.within q i l m)))
+          ∙ h.same q i t l m k)
+          (g.same i m t k ∙ written t i k m)
+          q l;
     }
 
 -- ---- the whole table
@@ -242,34 +235,24 @@ table-few f =
     (width-few (ports f.shape) f.vcs (subst (λ p. p ≤ 7) f.all_ports f.few_ports) f.few_vcs)
 
 -- a block of the table, and the blocks before it
-pub block-room : (f : Sizes) (pair size : ℕ) → pair < f.node_count * f.classes → size ≡ nodes f.shape * width f.shape f.vcs → pair * size + size ≤ pages f.shape f.classes * width f.shape f.vcs
-block-room f pair size l long = at (nodes f.shape) (width f.shape f.vcs) (subst (λ n. pair < n * f.classes) f.all_nodes l) long
+pub block-room : (f : Sizes) (pair : ℕ) → pair < f.node_count * f.classes → pair * (nodes f.shape * width f.shape f.vcs) + nodes f.shape * width f.shape f.vcs ≤ pages f.shape f.classes * width f.shape f.vcs
+block-room f pair l = at (nodes f.shape) (width f.shape f.vcs) (subst (λ n. pair < n * f.classes) f.all_nodes l)
   where
-    at : (n w : ℕ) → pair < n * f.classes → size ≡ n * w → pair * size + size ≤ n * f.classes * n * w
-    at n w l long =
-        let rows : (pair + 1) * size ≤ n * f.classes * size = mul-le-mul_right size (omega arith) in
-        let all : n * f.classes * size ≡ n * f.classes * (n * w) = ap (λ x. n * f.classes * x) long in
-        omega (arith, rows, row-next pair size, all, mul_assoc (n * f.classes) n w)
-
--- what is kept lies within the table
-pub end-within : (f : Sizes) (pair end : ℕ) → pair ≤ f.node_count * f.classes → end ≤ pair * (nodes f.shape * width f.shape f.vcs) → end ≤ pages f.shape f.classes * width f.shape f.vcs
-end-within f pair end l few = at (nodes f.shape) (width f.shape f.vcs) (subst (λ n. pair ≤ n * f.classes) f.all_nodes l) few
-  where
-    at : (n w : ℕ) → pair ≤ n * f.classes → end ≤ pair * (n * w) → end ≤ n * f.classes * n * w
-    at n w l few =
-        let rows : pair * (n * w) ≤ n * f.classes * (n * w) = mul-le-mul_right (n * w) l in
-        omega (arith, rows, few, mul_assoc (n * f.classes) n w)
-
--- a block that was copied
-pub copied : (sets block : List ℕ) (pair size row : ℕ) → size ≡ row → block ≡ take (pair * size + size - pair * size) (drop (pair * size) sets)
-    → (k : ℕ) → k < row → get_or block k 0 ≡ get_or sets (pair * row + k) 0
-copied sets block pair size row long same k l =
-    let inside : k < pair * size + size - pair * size = omega (arith, long, l) in
-    ap (λ (xs : List ℕ). get_or xs k 0) same ∙ get_or-take (pair * size + size - pair * size) (drop (pair * size) sets) k 0 inside ∙ get_or-drop (pair * size) sets k 0
-    ∙ ap (λ x. get_or sets (pair * x + k) 0) long
+    at : (n w : ℕ) → pair < n * f.classes → pair * (n * w) + n * w ≤ n * f.classes * n * w
+    at n w l =
+        let rows : (pair + 1) * (n * w) ≤ n * f.classes * (n * w) = mul-le-mul_right (n * w) (omega arith) in
+        omega (arith, rows, row-next pair (n * w), mul_assoc (n * f.classes) n w)
 
 -- ---- lists that stand in a vector
 
 -- what a vector has once its elements were written through a slice
 pub all-written : (xs items : List ℕ) (len : ℕ) → length xs ≡ len → take len (xs ++ drop (length xs) items) ≡ xs
 all-written xs items len long = subst (λ n. take n (xs ++ drop (length xs) items) ≡ xs) long (take-append_seam xs (drop (length xs) items))
+
+-- so with the columns that were kept through two slices
+pub AreKept-written : (f : Sizes) (table sets starts items start_items : List ℕ) (len start_len pair end : ℕ) → length sets ≡ len → length starts ≡ start_len → AreKept f table sets starts pair end
+    → AreKept f table (take len (sets ++ drop (length sets) items)) (take start_len (starts ++ drop (length starts) start_items)) pair end
+AreKept-written f table sets starts items start_items len start_len pair end long starts_long h =
+    let P : List ℕ → Type 0 = λ xs. AreKept f table xs starts pair end in
+    let Q : List ℕ → Type 0 = λ xs. AreKept f table (take len (sets ++ drop (length sets) items)) xs pair end in
+    subst Q (sym (all-written starts start_items start_len starts_long)) (subst P (sym (all-written sets items len long)) h)

@@ -1,89 +1,36 @@
 -- Writing a rule's sets.
-use Rattle.std.proofs.Common.{◌≡◌, ◌≢◌, ℕ, ◌+◌, ◌*◌, ◌/◌, ◌%◌, ◌<◌, ◌≤◌, Bool, true, false, List, length, get_or, set, take, Some, None, refl, sym, subst, ap, ◌∙◌, arith, inl, inr, Vec, Global}
-use Rattle.std.specs.Prelude.{◌⊎◌, ◌&&◌, ◌||◌, nat_eq, nat_lt, nat_le, slice_index, is_some, if◌then◌else◌}
-use Rattle.std.proofs.lemmas.Bool.{cases_lt, cases_eq, eq-eqb, eqb-true, and_parts, lt-ltb, le-ltb, le-leb, leb-true, ltb-true, false≢true, or_cases}
+use Rattle.std.proofs.Common.{◌≡◌, ◌≢◌, ℕ, ◌+◌, ◌*◌, ◌/◌, ◌%◌, ◌<◌, ◌≤◌, Bool, true, false, List, length, get_or, set, take, Some, None, refl, sym, ap, ◌∙◌, arith, inl, inr, Vec, Global}
+use Rattle.std.specs.Prelude.{◌⊎◌, ◌&&◌, ◌||◌, nat_eq, nat_lt, slice_index, is_some, All}
+use Rattle.std.proofs.lemmas.Bool.{cases_lt, cases_eq, eq-eqb, eqb-true, and_parts, lt-ltb, le-ltb, ltb-true, false≢true, or_cases}
 use Rattle.std.proofs.lemmas.List.{get_or-set_same, get_or-set_other}
 use Rattle.std.proofs.lemmas.Nat.{div-mul-add, mod-mul-add}
 use Rattle.std.proofs.lemmas.List.Folds.{list_any_more}
 use Rattle.std.proofs.Math.Bool.{or-false, or-true, and-false}
 use Rattle.noc_packet.specs.Set.{has_bit}
+use Rattle.noc_topo.specs.Lists.{tabulate}
+use Rattle.noc_topo.proofs.ListLemmas.{get_or-tabulate}
 use Rattle.noc_topo.specs.Shape.{Grid, nodes, ports, local_port, neighbour}
-use Rattle.noc_route.specs.Relation.{RelationParts, names_entry, is_open, is_real_row, has_route_row, rows_of, leads, is_led}
+use Rattle.noc_route.specs.Relation.{RelationParts, names_entry, is_open, is_real_row, has_route_row, rows_of, table_rows_of, leads, is_led}
 use Rattle.noc_route.specs.Routes.{Routes, width, pages, page_of, page_class, page_router, page_dst, entry_index}
-use Rattle.noc_route.specs.Trimming.{page_set}
+use Rattle.noc_route.specs.Trimming.{page_set, routes_in}
 use Rattle.noc_packet.proofs.SetLemmas.{has_bit-zero}
 use Rattle.noc_route.specs.Entered.{has_row_at, IsEntered}
 use Rattle.noc_route.specs.declared.rule.Rule.{Rule}
 use Rattle.noc_route.specs.declared.rule.Rule.TheVariants.{Dor, Dateline, WestFirst, Adaptive, Rows}
 use Rattle.noc_route.specs.declared.rule.RouteRow.{RouteRow}
-use Rattle.noc_route.proofs.EntryLemmas.{flat-below}
+use Rattle.noc_route.specs.declared.sizes.Sizes.{Sizes}
+use Rattle.noc_route.proofs.EntryLemmas.{flat-below, flat-div}
 use Rattle.noc_route.proofs.TrimLemmas.{index-parts, page-dst, page-class, page-sender, page-below}
 use Rattle.noc_route.proofs.BoolLemmas.{same_test}
 
--- ---- one set in a row of entries
+-- ---- the table of sets that pages have
 
--- the places filled so far have the set, and the others what they had
-abbrev pub filled_to : List ℕ → ℕ → ℕ → ℕ → ℕ → ℕ
-filled_to sets from count value j = if nat_le from j && nat_lt j (from + count) then value else slice_index sets j
-
-pub filled_to-more : (sets before : List ℕ) (from i value : ℕ) → from + i < length sets → ((j : ℕ) → get_or sets j 0 ≡ filled_to before from i value j)
-    → (j : ℕ) → get_or (set sets (from + i) value) j 0 ≡ filled_to before from (i + 1) value j
-filled_to-more sets before from i value l h j = at (cases_eq j (from + i))
-  where
-    at : (j ≡ from + i) ⊎ (j ≢ from + i) → get_or (set sets (from + i) value) j 0 ≡ filled_to before from (i + 1) value j
-    at (inl e) =
-        let low : nat_le from j ≡ true = le-leb from j (omega (arith, e)) in
-        let high : nat_lt j (from + (i + 1)) ≡ true = lt-ltb j (from + (i + 1)) (omega (arith, e)) in
-        ap (λ j. get_or (set sets (from + i) value) j 0) e ∙ get_or-set_same sets (from + i) value 0 l ∙ sym (rw (low, high) refl)
-    at (inr other) =
-        let test : nat_lt j (from + i) ≡ nat_lt j (from + (i + 1))
-        = same_test (nat_lt j (from + i)) (nat_lt j (from + (i + 1))) (λ a. lt-ltb j (from + (i + 1)) (omega (arith, ltb-true j (from + i) a)))
-        (λ a. lt-ltb j (from + i) (omega (arith, ltb-true j (from + (i + 1)) a, other))) in
-        get_or-set_other sets (from + i) j value 0 other ∙ h j ∙ ap (λ x. if nat_le from j && x then value else slice_index before j) test
-
-pub filled_to-inside : (sets : List ℕ) (from count value j : ℕ) → from ≤ j → j < from + count → filled_to sets from count value j ≡ value
-filled_to-inside sets from count value j a b =
-    let low : nat_le from j ≡ true = le-leb from j a in
-    let high : nat_lt j (from + count) ≡ true = lt-ltb j (from + count) b in
-    rw (low, high) refl
-
-pub filled_to-before : (sets : List ℕ) (from count value j : ℕ) → j < from → filled_to sets from count value j ≡ get_or sets j 0
-filled_to-before sets from count value j a =
-    let low : nat_le from j ≡ false = at (nat_le from j) refl in
-    rw low refl
-  where
-    at : (b : Bool) → nat_le from j ≡ b → nat_le from j ≡ false
-    at true e = absurd (omega (arith, leb-true from j e))
-    at false e = e
-
--- ---- the sets of the first pages
-
--- each set of the first pages has the bits of this test
-abbrev pub AreEntered : Routes → List ℕ → (ℕ → ℕ → Bool) → ℕ → Type 0
-AreEntered routes sets test page =
-    (b i k : ℕ) → b < page → b < pages routes.grid routes.classes → i < width routes.grid routes.vcs → has_bit (page_set (record routes { sets = sets }) b i) k ≡ test b k
-
-pub AreEntered-more : (routes : Routes) (sets new : List ℕ) (value page : ℕ) (test : ℕ → ℕ → Bool)
-    → ((j : ℕ) → get_or new j 0 ≡ filled_to sets (page * width routes.grid routes.vcs) (width routes.grid routes.vcs) value j)
-    → ((k : ℕ) → has_bit value k ≡ test page k)
-    → AreEntered routes sets test page → AreEntered routes new test (page + 1)
-AreEntered-more routes sets new value page test written is h = λ b i k l m n. at b i k l m n (cases_lt b page)
-  where
-    at : (b i k : ℕ) → b < page + 1 → b < pages routes.grid routes.classes → i < width routes.grid routes.vcs → (b < page) ⊎ (page ≤ b)
-        → has_bit (get_or new (b * width routes.grid routes.vcs + i) 0) k ≡ test b k
-    at b i k l m n (inl f) =
-        ap (λ s. has_bit s k)
-        (written (b * width routes.grid routes.vcs + i)
-        ∙ filled_to-before sets (page * width routes.grid routes.vcs) (width routes.grid routes.vcs) value (b * width routes.grid routes.vcs + i) (flat-below b page i (width routes.grid routes.vcs) f n))
-        ∙ h b i k f m n
-    at b i k l m n (inr g) =
-        let last : page ≡ b = omega arith in
-        let P : ℕ → Type 0 = λ b. has_bit (get_or new (b * width routes.grid routes.vcs + i) 0) k ≡ test b k in
-        subst P last
-        (ap (λ s. has_bit s k)
-        (written (page * width routes.grid routes.vcs + i)
-        ∙ filled_to-inside sets (page * width routes.grid routes.vcs) (width routes.grid routes.vcs) value (page * width routes.grid routes.vcs + i) (omega arith) (omega arith))
-        ∙ is k)
+pub page_set-pages : (f : Sizes) (sets : List ℕ) (b i : ℕ) → b < pages f.shape f.classes → i < width f.shape f.vcs
+    → page_set (routes_in f (tabulate (pages f.shape f.classes * width f.shape f.vcs) (λ k. slice_index sets (k / width f.shape f.vcs)))) b i ≡ slice_index sets b
+page_set-pages f sets b i l m =
+    let w = width f.shape f.vcs in
+    get_or-tabulate (pages f.shape f.classes * w) (b * w + i) (λ k. slice_index sets (k / w)) 0 (flat-below b (pages f.shape f.classes) i w l m)
+    ∙ ap (λ x. get_or sets x 0) (flat-div b w i m)
 
 -- ---- one row more
 
@@ -310,3 +257,7 @@ rows_of-none Dateline other = refl
 rows_of-none WestFirst other = refl
 rows_of-none Adaptive other = refl
 rows_of-none (Rows rows) other = absurd (other rows refl)
+
+-- what holds of each row of a rule that has none
+pub All-none : (P : RouteRow → Type 0) (rule : Rule) → rows_of rule ≡ None → All P (table_rows_of rule)
+All-none P rule none = rw none (λ k d l. absurd (omega arith))

@@ -1,15 +1,18 @@
 -- The first entry at which packets are stuck.
-use Rattle.std.proofs.Common.{◌≡◌, ◌≢◌, ℕ, ◌+◌, ◌*◌, ◌/◌, ◌%◌, ◌<◌, ◌≤◌, Bool, true, false, List, get_or, set, length, Option, Some, None, refl, sym, subst, ap, ◌∙◌, add_assoc, arith, inl, inr}
+use Rattle.std.proofs.Common.{◌≡◌, ◌≢◌, ℕ, ◌+◌, ◌*◌, ◌/◌, ◌%◌, ◌<◌, ◌≤◌, Bool, true, false, List, get_or, set, length, Option, Some, None, refl, sym, subst, ap, ◌∙◌, add_assoc, arith, inl, inr, below_more}
 use Rattle.std.specs.Prelude.{◌⊎◌, ◌&&◌, nat_eq, if◌then◌else◌}
 use Rattle.std.proofs.lemmas.Nat.{div-mul-add, mod-mul-add}
-use Rattle.std.proofs.lemmas.Bool.{cases_eq, cases_lt, false≢true}
+use Rattle.std.proofs.lemmas.Bool.{cases_lt, false≢true}
 use Rattle.std.proofs.lemmas.List.{get_or-set_same, get_or-set_other}
+use Rattle.noc_topo.specs.Shape.{nodes}
+use Rattle.noc_topo.proofs.ListLemmas.{get_or-tabulate}
 use Rattle.noc_route.specs.Order.{numbers_before, entry_numbers, earlier_entry}
-use Rattle.noc_route.specs.Routes.{Routes, width, pages}
-use Rattle.noc_route.specs.Trimming.{page_set, comes_at, left_at, is_stuck_at, entry_on_page, IsNoEarlier, IsStuckFirst, IsFirstStuck}
+use Rattle.noc_route.specs.Routes.{Routes, width, pages, page_class, page_router, page_dst}
+use Rattle.noc_route.specs.Trimming.{routes_in, page_set, comes_in, comes_at, left_at, left_in, is_stuck_at, entry_on_page, IsNoEarlier, IsStuckFirst, IsFirstStuck}
 use Rattle.noc_route.specs.declared.rule.Entry.{Entry}
+use Rattle.noc_route.specs.declared.sizes.Sizes.{Sizes}
 use Rattle.noc_route.proofs.OrderLemmas.{before-not-self, before-trans}
-use Rattle.noc_route.proofs.EntryLemmas.{flat-below}
+use Rattle.noc_route.proofs.EntryLemmas.{flat-below, flat-div, flat-mod}
 
 -- the place of the entry at n is the next one
 same_place : (w b i b' i' : ℕ) → i < w → i' < w → b' * w + i' ≡ b * w + i → (b' ≡ b) × (i' ≡ i)
@@ -118,144 +121,112 @@ IsStuckFirst-earlier routes outs b i (Some o) m l stuck h = at (numbers_before (
         let P : Bool → Type 0 = λ x. IsStuckFirst routes outs (b * width routes.grid routes.vcs + i + 1) (if x then entry_on_page routes b i else o) in
         subst P (sym f) (IsStuckFirst-kept routes outs b i o l f h)
 
--- ---- another table with the same entries stuck
+-- ---- the table that is left
 
-pub IsFirstStuck-same : (routes : Routes) (sets outs : List ℕ) (n : ℕ) (first : Option Entry)
-    → ((b i : ℕ) → b < pages routes.grid routes.classes → i < width routes.grid routes.vcs → is_stuck_at (record routes { sets = sets }) outs b i ≡ is_stuck_at routes outs b i)
-    → IsFirstStuck routes outs n first → IsFirstStuck (record routes { sets = sets }) outs n first
-IsFirstStuck-same routes sets outs n None same h = λ b i m l k. same b i m l ∙ h b i m l k
-IsFirstStuck-same routes sets outs n (Some e) same h = record {
-  page = h.page;
-  input = h.input;
-  exists = h.exists;
-  within = h.within;
-  entry = h.entry;
-  stuck = same h.page h.input h.exists h.within ∙ h.stuck;
-  first = λ b i m l k. at b i m l (h.first b i m l k);
-}
-  where
-    at : (b i : ℕ) → b < pages routes.grid routes.classes → i < width routes.grid routes.vcs → IsNoEarlier routes outs b i e → IsNoEarlier (record routes { sets = sets }) outs b i e
-    at b i m l (inl free) = inl (same b i m l ∙ free)
-    at b i m l (inr later) = inr later
+pub left_in-at : (f : Sizes) (sets outs : List ℕ) (b i : ℕ) → b < pages f.shape f.classes → i < width f.shape f.vcs
+    → page_set (routes_in f (left_in f sets outs)) b i ≡ left_at (routes_in f sets) outs b i
+left_in-at f sets outs b i m l =
+    let w = width f.shape f.vcs in
+    let F : ℕ → ℕ = λ k. left_at (routes_in f sets) outs (k / w) (k % w) in
+    get_or-tabulate (pages f.shape f.classes * w) (b * w + i) F 0 (flat-below b (pages f.shape f.classes) i w m l)
+    ∙ ap (λ x. left_at (routes_in f sets) outs x ((b * w + i) % w)) (flat-div b w i l)
+    ∙ ap (left_at (routes_in f sets) outs b) (flat-mod b w i l)
 
--- an entry to which packets do not come is emptied
-pub IsFirstStuck-emptied : (routes : Routes) (outs : List ℕ) (n b i : ℕ) (first : Option Entry) → i < width routes.grid routes.vcs → comes_at routes outs b i ≡ false
-    → IsFirstStuck routes outs n first → IsFirstStuck (record routes { sets = set routes.sets (b * width routes.grid routes.vcs + i) 0 }) outs n first
-IsFirstStuck-emptied routes outs n b i first l none h = IsFirstStuck-same routes (set routes.sets (b * width routes.grid routes.vcs + i) 0) outs n first (λ b' i' m' l'. at b' i' l' (cases_eq (b' * width routes.grid routes.vcs + i') (b * width routes.grid routes.vcs + i))) h
+-- packets are stuck in the table that is left where they are by the rule's sets
+stuck-left : (f : Sizes) (sets outs : List ℕ) (b i : ℕ) → b < pages f.shape f.classes → i < width f.shape f.vcs
+    → is_stuck_at (routes_in f (left_in f sets outs)) outs b i ≡ is_stuck_at (routes_in f sets) outs b i
+stuck-left f sets outs b i m l = ap (λ s. comes_at (routes_in f sets) outs b i && nat_eq s 0) (left_in-at f sets outs b i m l) ∙ at (comes_at (routes_in f sets) outs b i)
   where
-    at : (b' i' : ℕ) → i' < width routes.grid routes.vcs
-        → (b' * width routes.grid routes.vcs + i' ≡ b * width routes.grid routes.vcs + i) ⊎ (b' * width routes.grid routes.vcs + i' ≢ b * width routes.grid routes.vcs + i)
-        → is_stuck_at (record routes { sets = set routes.sets (b * width routes.grid routes.vcs + i) 0 }) outs b' i' ≡ is_stuck_at routes outs b' i'
-    at b' i' l' (inl e) =
-        let same = same_place (width routes.grid routes.vcs) b i b' i' l l' e in
-        let free : comes_at routes outs b' i' ≡ false = ap (λ x. comes_at routes outs x i') same.0 ∙ ap (comes_at routes outs b) same.1 ∙ none in
-        rw free refl
-    at b' i' l' (inr other) =
-        ap (λ x. comes_at routes outs b' i' && nat_eq x 0) (get_or-set_other routes.sets (b * width routes.grid routes.vcs + i) (b' * width routes.grid routes.vcs + i') 0 0 other)
+    at : (c : Bool) → (c && nat_eq (if c then page_set (routes_in f sets) b i else 0) 0) ≡ (c && nat_eq (page_set (routes_in f sets) b i) 0)
+    at true = refl
+    at false = refl
 
 -- ---- the loops
 
--- the first inputs of a page are trimmed, and no other set is changed
-pub record IsBlockTrimmed (routes : Routes) (sets outs : List ℕ) (page input : ℕ) (first : Option Entry) : Type 0 where
-  pub left : (i : ℕ) → i < input → i < width routes.grid routes.vcs → page_set (record routes { sets = sets }) page i ≡ left_at routes outs page i
-  pub later : (i : ℕ) → input ≤ i → i < width routes.grid routes.vcs → page_set (record routes { sets = sets }) page i ≡ page_set routes page i
-  pub others : (b i : ℕ) → i < width routes.grid routes.vcs → b ≢ page → page_set (record routes { sets = sets }) b i ≡ page_set routes b i
-  pub stuck : IsFirstStuck (record routes { sets = sets }) outs (page * width routes.grid routes.vcs + input) first
+-- whether packets come to an input of a page, by its class, router and destination
+pub comes_at-parts : (routes : Routes) (outs : List ℕ) (m r t b i : ℕ) → m ≡ page_class routes.grid routes.classes b → r ≡ page_router routes.grid routes.classes b → t ≡ page_dst routes.grid b
+    → comes_at routes outs b i ≡ comes_in routes outs m r t i
+comes_at-parts routes outs m r t b i class router dst =
+    ap (λ m. comes_in routes outs m (page_router routes.grid routes.classes b) (page_dst routes.grid b) i) (sym class)
+    ∙ ap (λ r. comes_in routes outs m r (page_dst routes.grid b) i) (sym router)
+    ∙ ap (λ t. comes_in routes outs m r t i) (sym dst)
 
--- the first pages are trimmed
-pub record AreTrimmed (routes : Routes) (sets outs : List ℕ) (page : ℕ) (first : Option Entry) : Type 0 where
-  pub left : (b i : ℕ) → b < page → b < pages routes.grid routes.classes → i < width routes.grid routes.vcs → page_set (record routes { sets = sets }) b i ≡ left_at routes outs b i
-  pub later : (b i : ℕ) → page ≤ b → i < width routes.grid routes.vcs → page_set (record routes { sets = sets }) b i ≡ page_set routes b i
-  pub stuck : IsFirstStuck (record routes { sets = sets }) outs (page * width routes.grid routes.vcs) first
+-- the sets of the first inputs of a page stand in a block, from `from` on, and no other set is changed
+pub record IsPageLeft (f : Sizes) (sets outs before block : List ℕ) (page from input : ℕ) (first : Option Entry) : Type 0 where
+  pub left : (i : ℕ) → i < input → get_or block (from + i) 0 ≡ left_at (routes_in f sets) outs page i
+  pub others : (j : ℕ) → (j < from) ⊎ (from + input ≤ j) → get_or block j 0 ≡ get_or before j 0
+  pub stuck : IsFirstStuck (routes_in f (left_in f sets outs)) outs (page * width f.shape f.vcs + input) first
 
--- ---- steps of a count
+-- one more set is written
+IsPageLeft-more : (f : Sizes) (sets outs before block : List ℕ) (page from input index s : ℕ) (first next : Option Entry) → index ≡ from + input → index < length block
+    → s ≡ left_at (routes_in f sets) outs page input
+    → IsFirstStuck (routes_in f (left_in f sets outs)) outs (page * width f.shape f.vcs + input + 1) next
+    → IsPageLeft f sets outs before block page from input first → IsPageLeft f sets outs before (set block index s) page from (input + 1) next
+IsPageLeft-more f sets outs before block page from input index s first next place there is stuck h = record {
+  left =
+      below_more (λ i. get_or (set block index s) (from + i) 0 ≡ left_at (routes_in f sets) outs page i) input
+      (λ i l. let other : from + i ≢ index = omega (arith, place) in get_or-set_other block index (from + i) s 0 other ∙ h.left i l)
+      (ap (λ k. get_or (set block index s) k 0) (sym place) ∙ get_or-set_same block index s 0 there ∙ is);
+  others = λ j. at j;
+  stuck =
+      let P : ℕ → Type 0 = λ n. IsFirstStuck (routes_in f (left_in f sets outs)) outs n next in
+      subst P (add_assoc (page * width f.shape f.vcs) input 1) stuck;
+}
+  where
+    at : (j : ℕ) → (j < from) ⊎ (from + (input + 1) ≤ j) → get_or (set block index s) j 0 ≡ get_or before j 0
+    at j (inl l) = let other : j ≢ index = omega (arith, place) in get_or-set_other block index j s 0 other ∙ h.others j (inl l)
+    at j (inr l) = let other : j ≢ index = omega (arith, place) in get_or-set_other block index j s 0 other ∙ h.others j (inr (omega arith))
 
-not-below : (i n : ℕ) → i ≡ n → i < n → ⊥
-not-below i n e l = omega (arith, e)
+-- where packets do not come the set is empty
+pub IsPageLeft-passed : (f : Sizes) (sets outs before block : List ℕ) (page from input index s : ℕ) (first : Option Entry)
+    → page < pages f.shape f.classes → input < width f.shape f.vcs → index ≡ from + input → index < length block
+    → comes_at (routes_in f sets) outs page input ≡ false → s ≡ 0
+    → IsPageLeft f sets outs before block page from input first → IsPageLeft f sets outs before (set block index s) page from (input + 1) first
+IsPageLeft-passed f sets outs before block page from input index s first m l place there none empty h =
+    let routes = routes_in f sets in
+    let free = stuck-left f sets outs page input m l ∙ ap (λ b. b && nat_eq (page_set routes page input) 0) none in
+    let left : s ≡ left_at routes outs page input = empty ∙ sym (ap (λ b. if b then page_set routes page input else 0) none) in
+    IsPageLeft-more f sets outs before block page from input index s first first place there left
+    (IsFirstStuck-passed (routes_in f (left_in f sets outs)) outs page input first l free h.stuck) h
 
-not-past : (i n : ℕ) → i ≡ n → n + 1 ≤ i → ⊥
-not-past i n e l = omega (arith, e)
+-- where they come it is the rule's, which may lead nowhere
+pub IsPageLeft-come : (f : Sizes) (sets outs before block : List ℕ) (page from input index s : ℕ) (first next : Option Entry)
+    → page < pages f.shape f.classes → input < width f.shape f.vcs → index ≡ from + input → index < length block
+    → comes_at (routes_in f sets) outs page input ≡ true → s ≡ page_set (routes_in f sets) page input
+    → (empty : Bool) → nat_eq s 0 ≡ empty → next ≡ (if empty then Some (earlier_entry (entry_on_page (routes_in f sets) page input) first) else first)
+    → IsPageLeft f sets outs before block page from input first → IsPageLeft f sets outs before (set block index s) page from (input + 1) next
+IsPageLeft-come f sets outs before block page from input index s first next m l place there comes is empty told found h =
+    IsPageLeft-more f sets outs before block page from input index s first next place there
+    (is ∙ sym (ap (λ b. if b then page_set (routes_in f sets) page input else 0) comes))
+    (subst (IsFirstStuck (routes_in f (left_in f sets outs)) outs (page * width f.shape f.vcs + input + 1)) (sym found) (at empty told)) h
+  where
+    stuck : (b : Bool) → nat_eq s 0 ≡ b → is_stuck_at (routes_in f (left_in f sets outs)) outs page input ≡ b
+    stuck b e = stuck-left f sets outs page input m l ∙ ap (λ b. b && nat_eq (page_set (routes_in f sets) page input) 0) comes ∙ ap (λ s. nat_eq s 0) (sym is) ∙ e
 
-none-below : (i w : ℕ) → i < 0 * w → ⊥
-none-below i w l = omega arith
+    at : (b : Bool) → nat_eq s 0 ≡ b
+        → IsFirstStuck (routes_in f (left_in f sets outs)) outs (page * width f.shape f.vcs + input + 1) (if b then Some (earlier_entry (entry_on_page (routes_in f sets) page input) first) else first)
+    at true e = IsStuckFirst-earlier (routes_in f (left_in f sets outs)) outs page input first m l (stuck true e) h.stuck
+    at false e = IsFirstStuck-passed (routes_in f (left_in f sets outs)) outs page input first l (stuck false e) h.stuck
 
-level : (n : ℕ) → n ≤ n
-level n = omega arith
+-- the sets of a router and a class stand in a block, as far as this destination
+pub record ArePagesLeft (f : Sizes) (sets outs block : List ℕ) (pair dst : ℕ) (first : Option Entry) : Type 0 where
+  pub left : (t i : ℕ) → t < dst → i < width f.shape f.vcs → get_or block (t * width f.shape f.vcs + i) 0 ≡ left_at (routes_in f sets) outs (pair * nodes f.shape + t) i
+  pub stuck : IsFirstStuck (routes_in f (left_in f sets outs)) outs ((pair * nodes f.shape + dst) * width f.shape f.vcs) first
 
-past : (n i : ℕ) → n + 1 ≤ i → n ≤ i
-past n i l = omega arith
-
-last-one : (n i : ℕ) → n ≤ i → i < n + 1 → n ≡ i
-last-one n i l u = omega arith
-
-entry_set-other : (c : Bool) (sets : List ℕ) (p j : ℕ) → j ≢ p → get_or (if c then sets else set sets p 0) j 0 ≡ get_or sets j 0
-entry_set-other true sets p j other = refl
-entry_set-other false sets p j other = get_or-set_other sets p j 0 0 other
-
-entry_set-here : (c : Bool) (sets : List ℕ) (p : ℕ) → p < length sets → get_or (if c then sets else set sets p 0) p 0 ≡ (if c then get_or sets p 0 else 0)
-entry_set-here true sets p l = refl
-entry_set-here false sets p l = get_or-set_same sets p 0 0 l
-
-pub IsBlockTrimmed-more : (routes : Routes) (sets new outs : List ℕ) (page input : ℕ) (first next : Option Entry) → page < pages routes.grid routes.classes → input < width routes.grid routes.vcs
-    → length sets ≡ pages routes.grid routes.classes * width routes.grid routes.vcs
-    → new ≡ (if comes_at routes outs page input then sets else set sets (page * width routes.grid routes.vcs + input) 0)
-    → IsFirstStuck (record routes { sets = new }) outs (page * width routes.grid routes.vcs + input + 1) next
-    → IsBlockTrimmed routes sets outs page input first → IsBlockTrimmed routes new outs page (input + 1) next
-IsBlockTrimmed-more routes sets new outs page input first next m l long is stuck h =
-    let w = width routes.grid routes.vcs in
-    let within : ℕ → Type 0 = λ n. page * w + input < n in
-    let here : within (length sets) = subst within (sym long) (flat-below page (pages routes.grid routes.classes) input w m l) in
-    let P : List ℕ → Type 0 = λ new. IsFirstStuck (record routes { sets = new }) outs (page * w + input + 1) next → IsBlockTrimmed routes new outs page (input + 1) next in
-    let at : (b i : ℕ) → b * w + i ≢ page * w + input → get_or new (b * w + i) 0 ≡ get_or sets (b * w + i) 0
-    = λ b i other. ap (λ s. get_or s (b * w + i) 0) is ∙ entry_set-other (comes_at routes outs page input) sets (page * w + input) (b * w + i) other in
+pub ArePagesLeft-more : (f : Sizes) (sets outs before block : List ℕ) (pair dst page : ℕ) (first next : Option Entry) → dst < nodes f.shape → page ≡ pair * nodes f.shape + dst
+    → ((i : ℕ) → i < width f.shape f.vcs → get_or block (page_dst f.shape page * width f.shape f.vcs + i) 0 ≡ left_at (routes_in f sets) outs page i)
+    → ((j : ℕ) → (j < page_dst f.shape page * width f.shape f.vcs) ⊎ (page_dst f.shape page * width f.shape f.vcs + width f.shape f.vcs ≤ j) → get_or block j 0 ≡ get_or before j 0)
+    → IsFirstStuck (routes_in f (left_in f sets outs)) outs ((page + 1) * width f.shape f.vcs) next
+    → ArePagesLeft f sets outs before pair dst first → ArePagesLeft f sets outs block pair (dst + 1) next
+ArePagesLeft-more f sets outs before block pair dst page first next l e here others stuck h =
+    let w = width f.shape f.vcs in
+    let at : page_dst f.shape page ≡ dst = ap (page_dst f.shape) e ∙ flat-mod pair (nodes f.shape) dst l in
     record {
-      left = λ i n k. front here at i k (cases_lt i input) n;
-      later = λ i n k. at page i (λ e. not-past i input (same_place w page input page i l k e).1 n) ∙ h.later i (past input i n) k;
-      others = λ b i k other. at b i (λ e. other (same_place w page input b i l k e).0) ∙ h.others b i k other;
-      stuck = let Q : ℕ → Type 0 = λ n. IsFirstStuck (record routes { sets = new }) outs n next in subst Q (add_assoc (page * w) input 1) stuck;
+      left = λ t i n k.
+          below_more (λ t. get_or block (t * w + i) 0 ≡ left_at (routes_in f sets) outs (pair * nodes f.shape + t) i) dst
+          (λ t n. others (t * w + i) (inl (subst (λ d. t * w + i < d * w) (sym at) (flat-below t dst i w n k))) ∙ h.left t i n k)
+          (ap (λ d. get_or block (d * w + i) 0) (sym at) ∙ here i k ∙ ap (λ b. left_at (routes_in f sets) outs b i) e) t n;
+      stuck =
+          let P : ℕ → Type 0 = λ n. IsFirstStuck (routes_in f (left_in f sets outs)) outs (n * w) next in
+          subst P (ap (λ b. b + 1) e ∙ add_assoc (pair * nodes f.shape) dst 1) stuck;
     }
-  where
-    front : page * width routes.grid routes.vcs + input < length sets
-        → ((b i : ℕ) → b * width routes.grid routes.vcs + i ≢ page * width routes.grid routes.vcs + input → get_or new (b * width routes.grid routes.vcs + i) 0 ≡ get_or sets (b * width routes.grid routes.vcs + i) 0)
-        → (i : ℕ) → i < width routes.grid routes.vcs → (i < input) ⊎ (input ≤ i) → i < input + 1 → page_set (record routes { sets = new }) page i ≡ left_at routes outs page i
-    front here at i k (inl f) n = at page i (λ e. not-below i input (same_place (width routes.grid routes.vcs) page input page i l k e).1 f) ∙ h.left i f k
-    front here at i k (inr g) n =
-        let last = last-one input i g n in
-        let P : ℕ → Type 0 = λ i. page_set (record routes { sets = new }) page i ≡ left_at routes outs page i in
-        subst P last
-        (ap (λ s. get_or s (page * width routes.grid routes.vcs + input) 0) is
-        ∙ entry_set-here (comes_at routes outs page input) sets (page * width routes.grid routes.vcs + input) here
-        ∙ ap (λ s. if comes_at routes outs page input then s else 0) (h.later input (level input) l))
-
-pub IsBlockTrimmed-none : (routes : Routes) (outs : List ℕ) (page : ℕ) (first : Option Entry) → IsFirstStuck routes outs (page * width routes.grid routes.vcs) first → IsBlockTrimmed routes routes.sets outs page 0 first
-IsBlockTrimmed-none routes outs page first h = record {
-  left = λ i n l. absurd (omega arith);
-  later = λ i n l. refl;
-  others = λ b i l other. refl;
-  stuck = let P : ℕ → Type 0 = λ n. IsFirstStuck routes outs n first in subst P (let e : page * width routes.grid routes.vcs ≡ page * width routes.grid routes.vcs + 0 = omega arith in e) h;
-}
-
-pub AreTrimmed-none : (routes : Routes) (outs : List ℕ) → AreTrimmed routes routes.sets outs 0 None
-AreTrimmed-none routes outs = record {
-  left = λ b i n m l. absurd (omega arith);
-  later = λ b i n l. refl;
-  stuck = λ b i m l n. absurd (none-below (b * width routes.grid routes.vcs + i) (width routes.grid routes.vcs) n);
-}
-
-pub AreTrimmed-more : (routes : Routes) (sets new outs : List ℕ) (page : ℕ) (first next : Option Entry) → page < pages routes.grid routes.classes
-    → ((i : ℕ) → i < width routes.grid routes.vcs → page_set (record routes { sets = new }) page i ≡ left_at (record routes { sets = sets }) outs page i)
-    → ((b i : ℕ) → i < width routes.grid routes.vcs → b ≢ page → page_set (record routes { sets = new }) b i ≡ page_set (record routes { sets = sets }) b i)
-    → IsFirstStuck (record routes { sets = new }) outs ((page + 1) * width routes.grid routes.vcs) next
-    → AreTrimmed routes sets outs page first → AreTrimmed routes new outs (page + 1) next
-AreTrimmed-more routes sets new outs page first next m here others stuck h = record {
-  left = λ b i n k l. front b i k l (cases_lt b page) n;
-  later = λ b i n l. others b i l (λ e. not-past b page e n) ∙ h.later b i (past page b n) l;
-  stuck = stuck;
-}
-  where
-    front : (b i : ℕ) → b < pages routes.grid routes.classes → i < width routes.grid routes.vcs → (b < page) ⊎ (page ≤ b) → b < page + 1 → page_set (record routes { sets = new }) b i ≡ left_at routes outs b i
-    front b i k l (inl f) n = others b i l (λ e. not-below b page e f) ∙ h.left b i f k l
-    front b i k l (inr g) n =
-        let last = last-one page b g n in
-        let P : ℕ → Type 0 = λ b. page_set (record routes { sets = new }) b i ≡ left_at routes outs b i in
-        subst P last (here i l ∙ ap (λ s. if comes_at routes outs page i then s else 0) (h.later page i (level page) l))

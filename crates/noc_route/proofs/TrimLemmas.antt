@@ -1,12 +1,12 @@
 -- What packets can come to, and the lists of channels by which they leave.
 use Rattle.std.proofs.Common.{◌≡◌, ◌≢◌, ℕ, zero, suc, ◌+◌, ◌*◌, ◌/◌, ◌%◌, ◌<◌, ◌≤◌, Bool, true, false, List, length, set, Option, Some, None, refl, sym, subst, ap, ◌∙◌, add-one, arith, inl, inr}
-use Rattle.std.specs.Prelude.{◌||◌, ◌&&◌, ◌⊎◌, not, nat_eq, slice_index}
+use Rattle.std.specs.Prelude.{◌||◌, ◌&&◌, ◌⊎◌, ◌-◌, not, nat_eq, nat_le, nat_lt, slice_index, if◌then◌else◌}
 use Rattle.std.proofs.Math.Nat.{mod-lt, div-add-mod, mul_comm, div-lt_iff_lt-mul}
 use Rattle.std.proofs.lemmas.Nat.{div-mul-add, mod-mul-add}
-use Rattle.std.proofs.lemmas.Bool.{cases_eq, cases_lt, eq-eqb, ne_eqb, false≢true, and_parts, or_cases}
+use Rattle.std.proofs.lemmas.Bool.{cases_eq, cases_lt, eq-eqb, eqb-true, ne_eqb, leb-true, ltb-true, le-leb, lt-leb, lt-ltb, le-ltb, false≢true, and_parts, and_from, and_left, and_right, or_cases}
 use Rattle.std.proofs.lemmas.Bool.Decides.{eqb_tells}
 use Rattle.std.proofs.lemmas.List.{length-set, get_or-set_same, get_or-set_other}
-use Rattle.std.proofs.Math.Bool.{or-true}
+use Rattle.std.proofs.Math.Bool.{or-true, and-true}
 use Rattle.noc_packet.specs.Set.{has_bit}
 use Rattle.noc_packet.proofs.SetLemmas.{has_bit-zero}
 use Rattle.noc_topo.specs.Shape.{Grid, IsGrid, nodes, ports, local_port, neighbour, distance}
@@ -14,6 +14,7 @@ use Rattle.noc_topo.proofs.LinkLemmas.{link_back, neighbour-range}
 use Rattle.noc_route.specs.Routes.{Routes, width, pages, page_of}
 use Rattle.noc_route.specs.Trimming.{set_in, IsPage, CanCome, injected, led, ComesNearer, CanLeave, comes_in, any_below, IsSoundOut, IsFullOut}
 use Rattle.noc_route.specs.Gathering.{AreOuts, AreOutsFrom, FartherFull, IsPairDone}
+use Rattle.noc_route.proofs.BoolLemmas.{same_test}
 use Rattle.noc_route.proofs.EntryLemmas.{flat-below}
 
 -- ---- a test of the numbers below one
@@ -44,8 +45,39 @@ pub record IsSized (routes : Routes) : Type 0 where
 pub index-parts : (vcs i : ℕ) → i / vcs * vcs + i % vcs ≡ i
 index-parts vcs i = ap (λ x. x + i % vcs) (mul_comm (i / vcs) vcs) ∙ div-add-mod i vcs
 
+-- the same, where its port is known
+pub port-parts : (vcs port i : ℕ) → i / vcs ≡ port → port * vcs + i % vcs ≡ i
+port-parts vcs port i same = ap (λ p. p * vcs + i % vcs) (sym same) ∙ index-parts vcs i
+
 pub port-below : (g : Grid) (vcs i : ℕ) → 1 ≤ vcs → i < width g vcs → i / vcs < ports g
 port-below g vcs i some l = (div-lt_iff_lt-mul {k = vcs} {x = i} {y = ports g} (omega arith)).1 l
+
+-- the indices of a port's channels, told by their port
+pub port-span : (vcs port i : ℕ) → 1 ≤ vcs → (nat_le (port * vcs) i && nat_lt i (port * vcs + vcs)) ≡ nat_eq (i / vcs) port
+port-span vcs port i some = same_test (nat_le (port * vcs) i && nat_lt i (port * vcs + vcs)) (nat_eq (i / vcs) port) within spanned
+  where
+    within : (nat_le (port * vcs) i && nat_lt i (port * vcs + vcs)) ≡ true → nat_eq (i / vcs) port ≡ true
+    within e =
+        let parts = and_parts (nat_le (port * vcs) i) (nat_lt i (port * vcs + vcs)) e in
+        let from = leb-true (port * vcs) i parts.0 in
+        let to = ltb-true i (port * vcs + vcs) parts.1 in
+        let same : port * vcs + (i - port * vcs) ≡ i = omega (arith, from) in
+        eq-eqb (i / vcs) port (sym (ap (λ x. x / vcs) same) ∙ div-mul-add port vcs (i - port * vcs) (omega (arith, from, to)))
+
+    spanned : nat_eq (i / vcs) port ≡ true → (nat_le (port * vcs) i && nat_lt i (port * vcs + vcs)) ≡ true
+    spanned e =
+        let parts = port-parts vcs port i (eqb-true (i / vcs) port e) in
+        let vc : i % vcs < vcs = mod-lt i some in
+        and_from _ _ (le-leb (port * vcs) i (omega (arith, parts))) (lt-ltb i (port * vcs + vcs) (omega (arith, parts, vc)))
+
+-- the same, or none of them
+pub port-span_unless : (vcs port i : ℕ) (none : Bool) → 1 ≤ vcs → (nat_le (port * vcs) i && nat_lt i (port * vcs + (if none then 0 else vcs))) ≡ (nat_eq (i / vcs) port && not none)
+port-span_unless vcs port i false some = port-span vcs port i some ∙ sym (and-true (nat_eq (i / vcs) port))
+port-span_unless vcs port i true some = at (cases_lt i (port * vcs)) ∙ sym (and_right (nat_eq (i / vcs) port) false refl)
+  where
+    at : (i < port * vcs) ⊎ (port * vcs ≤ i) → (nat_le (port * vcs) i && nat_lt i (port * vcs + 0)) ≡ false
+    at (inl l) = and_left _ _ (lt-leb (port * vcs) i l)
+    at (inr g) = and_right _ _ (le-ltb i (port * vcs + 0) (omega (arith, g)))
 
 pub CanCome-within : (routes : Routes) (m t r i : ℕ) → IsSized routes → CanCome routes m t r i → IsPage routes m r t × (i < width routes.grid routes.vcs)
 CanCome-within routes m t r i sized (injected {v = v} place away l e) =

@@ -24,14 +24,8 @@ pub record AreColumns (f : Sizes) (starts : List ℕ) (count : ℕ) : Type 0 whe
 abbrev pub IsColumnAt : Sizes → List ℕ → ℕ → List ℕ → ℕ → Type 0
 IsColumnAt f block input sets start = (t : ℕ) → t < nodes f.shape → slice_index sets (start + t) ≡ slice_index block (t * width f.shape f.vcs + input)
 
--- the columns of the first of a table's pairs of a router and a class stand before `end`, where
--- `starts` says
-pub record AreKept (f : Sizes) (table sets starts : List ℕ) (pairs end : ℕ) : Type 0 where
-  pub within : (q i : ℕ) → q < pairs → i < width f.shape f.vcs → slice_index starts (q * width f.shape f.vcs + i) + nodes f.shape ≤ end
-  pub same : (q i t : ℕ) → q < pairs → i < width f.shape f.vcs → t < nodes f.shape
-      → slice_index sets (slice_index starts (q * width f.shape f.vcs + i) + t) ≡ slice_index table ((q * nodes f.shape + t) * width f.shape f.vcs + i)
-
--- those of the first inputs of a block stand between `first` and `end`, and nothing else was written
+-- the columns of the first inputs of a block stand between `first` and `end`, where `starts` says,
+-- and nothing else was written
 pub record AreKeptTo (f : Sizes) (block before sets old_starts starts : List ℕ) (pair first inputs end : ℕ) : Type 0 where
   pub grown : first ≤ end
   pub few : end ≤ first + inputs * nodes f.shape

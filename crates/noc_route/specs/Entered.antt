@@ -1,11 +1,14 @@
 -- A rule's sets of output channels at all entries, those that no packet reaches included.
-use Rattle.std.specs.Prelude.{◌≡◌, ℕ, ◌/◌, ◌%◌, ◌<◌, ◌&&◌, Bool, false, List, nat_eq, nat_lt, slice_index_or}
+use Rattle.std.specs.Prelude.{◌≡◌, ℕ, ◌*◌, ◌/◌, ◌%◌, ◌<◌, ◌&&◌, Bool, false, List, nat_lt, slice_index, slice_index_or, vec_len}
+use Rattle.noc_topo.specs.Lists.{tabulate}
 use Rattle.noc_topo.specs.Shape.{Grid, coordinates, three_coordinates}
 use Rattle.noc_packet.specs.Set.{has_bit}
 use Rattle.noc_route.specs.Relation.{RelationParts, dor_port, is_nearer, leads, has_route_row}
-use Rattle.noc_route.specs.Routes.{Routes, width, page_class, page_router, page_dst}
+use Rattle.noc_route.specs.Routes.{Routes, width, pages, page_class, page_router, page_dst}
 use Rattle.noc_route.specs.Trimming.{set_in, IsPage}
 use Rattle.noc_route.specs.declared.sizes.Sizes.{Sizes}
+use Rattle.noc_route.specs.declared.entered.Entered.{Entered}
+use Rattle.noc_route.specs.declared.entered.Entered.TheVariants.{OfPages, OfEntries}
 use Rattle.noc_route.specs.declared.rule.RouteRow.{RouteRow}
 use Rattle.noc_route.specs.declared.rule.Rule.{Rule}
 use Rattle.noc_route.specs.declared.named.Way.{Way}
@@ -22,7 +25,6 @@ parts_of routing = routing_in routing.map.now.sizes routing.rule.now
 pub record IsWay (g : Grid) (way : Way) (r t : ℕ) : Type 0 where
   pub here : way.here ≡ three_coordinates (coordinates g.radix r)
   pub there : way.there ≡ three_coordinates (coordinates g.radix t)
-  pub arrived : way.arrived ≡ nat_eq r t
   pub towards : way.towards ≡ dor_port g (coordinates g.radix r) (coordinates g.radix t)
   pub nearer : (port : ℕ) → slice_index_or way.nearer port false ≡ is_nearer g (coordinates g.radix r) (coordinates g.radix t) port
 
@@ -36,3 +38,21 @@ IsEntered g routes =
 abbrev pub has_row_at : Routes → List RouteRow → ℕ → ℕ → ℕ → Bool
 has_row_at routes rows b i k =
     has_route_row rows (page_class routes.grid routes.classes b) (page_router routes.grid routes.classes b, i / routes.vcs) (i % routes.vcs) (page_dst routes.grid b) (k / routes.vcs) (k % routes.vcs)
+
+-- how many sets there are
+abbrev pub set_count : Entered → ℕ
+set_count (OfPages sets) = vec_len sets
+set_count (OfEntries sets) = vec_len sets
+
+-- how many there are over these sizes: as many as pages, or as entries
+abbrev pub set_count_over : Sizes → Entered → ℕ
+set_count_over f (OfPages sets) = pages f.shape f.classes
+set_count_over f (OfEntries sets) = pages f.shape f.classes * width f.shape f.vcs
+
+abbrev pub AreAll : Sizes → Entered → Type 0
+AreAll f entered = set_count entered ≡ set_count_over f entered
+
+-- these sets as a table, with one for each entry
+abbrev pub sets_in : Sizes → Entered → List ℕ
+sets_in f (OfPages sets) = tabulate (pages f.shape f.classes * width f.shape f.vcs) (λ k. slice_index sets.items (k / width f.shape f.vcs))
+sets_in f (OfEntries sets) = sets.items

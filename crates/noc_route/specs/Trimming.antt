@@ -1,5 +1,6 @@
 -- The entries that packets reach under a table of sets, and how they are found.
 use Rattle.std.specs.Prelude.{◌≡◌, ◌≢◌, ℕ, zero, suc, ◌+◌, ◌*◌, ◌/◌, ◌%◌, ◌<◌, Bool, true, false, ◌&&◌, ◌||◌, not, List, Option, Some, None, nat_eq, slice_index, if◌then◌else◌, ◌⊎◌}
+use Rattle.noc_topo.specs.Lists.{tabulate}
 use Rattle.noc_topo.specs.Shape.{nodes, local_port, neighbour, distance}
 use Rattle.noc_packet.specs.Set.{has_bit}
 use Rattle.noc_route.specs.Routes.{Routes, width, page_of, pages, page_class, page_router, page_dst}
@@ -82,6 +83,12 @@ comes_at routes outs b i = comes_in routes outs (page_class routes.grid routes.c
 -- the set that is left there
 abbrev pub left_at : Routes → List ℕ → ℕ → ℕ → ℕ
 left_at routes outs b i = if comes_at routes outs b i then page_set routes b i else 0
+
+-- the table that is left
+abbrev pub left_in : Sizes → List ℕ → List ℕ → List ℕ
+left_in f sets outs =
+    let w = width f.shape f.vcs in
+    tabulate (pages f.shape f.classes * w) (λ k. left_at (routes_in f sets) outs (k / w) (k % w))
 
 -- packets come to it and nothing is permitted
 abbrev pub is_stuck_at : Routes → List ℕ → ℕ → ℕ → Bool

@@ -2,11 +2,16 @@
 
 ghost use Rattle.std.specs.Prelude.{◌≡◌, ◌⊎◌, ℕ, ◌+◌, ◌*◌, ◌<◌, ◌≤◌, IfOk, IfSome, IsTrue, length, slice_index, vec_len};
 ghost use Rattle.noc_topo.specs.Shape.{nodes, ports};
-ghost use Rattle.noc_route.specs.Columns.{table_of, AreColumns, IsColumnAt, AreKept, AreKeptTo};
-ghost use Rattle.noc_route.specs.Gathering.{IsTable};
-ghost use Rattle.noc_route.specs.Routes.{width, entry_index};
+ghost use Rattle.noc_route.specs.Columns.{table_of, AreColumns, IsColumnAt, AreKeptTo};
+ghost use Rattle.noc_route.specs.Entered.{AreAll, sets_in};
+ghost use Rattle.noc_route.specs.Routes.{width, pages, entry_index};
+ghost use Rattle.noc_route.specs.Trimming.{routes_in, left_in, IsFirstStuck};
 
+use crate::entered::Entered;
+use crate::gather::Departures;
+use crate::rule::Entry;
 use crate::sizes::Sizes;
+use crate::trim::trim_pair;
 use noc_packet::ChannelSet;
 use std::alloc::{AllocError, Global};
 
@@ -21,27 +26,43 @@ pub(crate) struct Columns {
 }
 
 impl Columns {
-    // The columns of this table.
+    // The columns of a rule's sets at the entries that packets reach, and the first entry that is
+    // reached and has an empty set.
     pub(crate) fn new(
         alloc: Global,
-        sizes: Sizes,
-        sets: Vec<ChannelSet>,
-    ) -> Result<Columns, AllocError>
-        requires { IsTable sizes sets.items }
-        ensures sizes { IfOk result (λ columns. columns.sizes ≡ sizes) }
-        ensures table { IfOk result (λ c. table_of c.sizes c.sets.items c.starts.items ≡ sets.items) }
+        leaving: &Departures,
+        entered: &Entered,
+    ) -> Result<(Columns, Option<Entry>), AllocError>
+        requires { AreAll leaving.now.map.now.sizes entered.now }
+        ensures sizes { IfOk result (λ made. made.0.sizes ≡ leaving.now.map.now.sizes) }
+        ensures table { let f = leaving.now.map.now.sizes in
+            IfOk result (λ made. table_of f made.0.sets.items made.0.starts.items
+            ≡ left_in f (sets_in f entered.now) leaving.now.outs.now) }
+        ensures first { let f = leaving.now.map.now.sizes in
+            IfOk result (λ made. IsFirstStuck (routes_in f (left_in f
+            (sets_in f entered.now) leaving.now.outs.now)) leaving.now.outs.now
+            (pages f.shape f.classes * width f.shape f.vcs) made.1) }
     {
-        let mut sets = sets;
-        let mut block = vec![in alloc; ChannelSet::empty(); sizes.node_count * sizes.width()]?;
+        let sizes = leaving.map.sizes;
+        let count = sizes.node_count * sizes.width();
+        let mut block = vec![in alloc; ChannelSet::empty(); count]?;
         let mut starts = vec![in alloc; 0u32; sizes.columns()]?;
-        let end = keep(&sizes, &mut sets, &mut block, &mut starts);
+        let mut sets = Vec::new(alloc);
+        let mut end = 0;
+        let mut first = None;
+        for pair in 0..sizes.node_count * sizes.classes {
+            first = trim_pair(leaving, entered, &mut block, pair, first);
+            sets.resize(end + count, ChannelSet::empty())?;
+            end = keep_pair(&sizes, &block, &mut sets, &mut starts, pair, end);
+        }
         sets.truncate(end);
         sets.shrink_to_fit();
-        Ok(Columns {
+        let columns = Columns {
             sizes,
             sets,
             starts,
-        })
+        };
+        Ok((columns, first))
     }
 
     // The set of an entry.
@@ -58,34 +79,13 @@ impl Columns {
         requires in_port { in_port < ports self.now.sizes.shape }
         requires in_vc { in_vc < self.now.sizes.vcs }
         requires dst { dst < nodes self.now.sizes.shape }
-        ensures { let f = self.now.sizes in result ≡ slice_index (table_of f self.now.sets.items self.now.starts.items) (entry_index f.shape f.vcs f.classes class router in_port in_vc dst) }
+        ensures { let f = self.now.sizes in result
+            ≡ slice_index (table_of f self.now.sets.items self.now.starts.items)
+            (entry_index f.shape f.vcs f.classes class router in_port in_vc dst) }
     {
         let column = self.sizes.column(class, router, in_port, in_vc);
         self.sets[self.starts[column] as usize + dst]
     }
-}
-
-// Brings the columns of a table to its front, equal ones of a router and a class once, and writes
-// where each begins. Answers how many sets they have. `block` is room for a router and a class.
-fn keep(
-    sizes: &Sizes,
-    sets: &mut [ChannelSet],
-    block: &mut [ChannelSet],
-    starts: &mut [u32],
-) -> usize
-    requires sets { IsTable sizes.now sets.old }
-    requires block { length block.old ≡ nodes sizes.now.shape * width sizes.now.shape sizes.now.vcs }
-    requires starts { length starts.old ≡ nodes sizes.now.shape * sizes.now.classes * width sizes.now.shape sizes.now.vcs }
-    ensures within { result ≤ length sets.new }
-    ensures kept { AreKept sizes.now sets.old sets.new starts.new (nodes sizes.now.shape * sizes.now.classes) result }
-{
-    let mut end = 0;
-    for pair in 0..sizes.node_count * sizes.classes {
-        let from = pair * block.len();
-        block.copy_from_slice(&sets[from..from + block.len()]);
-        end = keep_pair(sizes, block, sets, starts, pair, end);
-    }
-    end
 }
 
 // Keeps the columns of a router and a class from `first` on, and answers where they end.
@@ -98,11 +98,14 @@ fn keep_pair(
     first: usize,
 ) -> usize
     requires block { length block.now ≡ nodes sizes.now.shape * width sizes.now.shape sizes.now.vcs }
-    requires sets { IsTable sizes.now sets.old }
-    requires starts { length starts.old ≡ nodes sizes.now.shape * sizes.now.classes * width sizes.now.shape sizes.now.vcs }
+    requires sets { let f = sizes.now in length sets.old ≤ pages f.shape f.classes * width f.shape
+        f.vcs }
+    requires starts { length starts.old ≡ nodes sizes.now.shape * sizes.now.classes * width
+        sizes.now.shape sizes.now.vcs }
     requires pair { pair < nodes sizes.now.shape * sizes.now.classes }
     requires room { first + length block.now ≤ length sets.old }
-    ensures { let f = sizes.now in AreKeptTo f block.now sets.old sets.new starts.old starts.new pair first (width f.shape f.vcs) result }
+    ensures { let f = sizes.now in AreKeptTo f block.now sets.old sets.new starts.old starts.new
+        pair first (width f.shape f.vcs) result }
 {
     let width = sizes.width();
     let mut end = first;
@@ -114,7 +117,7 @@ fn keep_pair(
     end
 }
 
-// Where the column of an input is kept: with an equal one of those from `first` on, or at their end.
+// Where the column of an input is kept: with an equal one of those from `first` on, or at the end.
 fn place(
     sizes: &Sizes,
     block: &[ChannelSet],
@@ -129,7 +132,8 @@ fn place(
     requires room { end + nodes sizes.now.shape ≤ length sets.old }
     ensures start { result ≤ end }
     ensures kept { IsColumnAt sizes.now block.now input sets.new result }
-    ensures others { (j : ℕ) → (j < end) ⊎ (end + nodes sizes.now.shape ≤ j) → slice_index sets.new j ≡ slice_index sets.old j }
+    ensures others { (j : ℕ) → (j < end) ⊎ (end + nodes sizes.now.shape ≤ j)
+        → slice_index sets.new j ≡ slice_index sets.old j }
 {
     match find(sizes, block, input, &sets[first..end]) {
         Some(offset) => first + offset,
@@ -184,7 +188,8 @@ fn write(sizes: &Sizes, block: &[ChannelSet], input: usize, sets: &mut [ChannelS
     requires input { input < width sizes.now.shape sizes.now.vcs }
     requires start { start + nodes sizes.now.shape ≤ length sets.old }
     ensures written { IsColumnAt sizes.now block.now input sets.new start }
-    ensures others { (j : ℕ) → (j < start) ⊎ (start + nodes sizes.now.shape ≤ j) → slice_index sets.new j ≡ slice_index sets.old j }
+    ensures others { (j : ℕ) → (j < start) ⊎ (start + nodes sizes.now.shape ≤ j)
+        → slice_index sets.new j ≡ slice_index sets.old j }
 {
     let width = sizes.width();
     for dst in 0..sizes.node_count {

@@ -1,48 +1,67 @@
-//! A rule's sets, before entries that no packet reaches are taken out.
+//! How a rule's sets are found, before entries that no packet reaches are taken out.
 
-ghost use Rattle.std.specs.Prelude.{◌≡◌, ℕ, ◌+◌, ◌*◌, ◌/◌, ◌%◌, ◌<◌, ◌≤◌, ◌&&◌, if◌then◌else◌, length, slice_index, nat_lt, nat_le, All, true};
+ghost use Rattle.std.specs.Prelude.{◌≡◌, ℕ, None, ◌/◌, ◌%◌, ◌<◌, ◌&&◌, IfOk, IfErr, length, slice_index, nat_lt, All, true};
 ghost use Rattle.noc_packet.specs.Set.{has_bit};
-ghost use Rattle.noc_route.specs.Entered.{parts_of, has_row_at};
-ghost use Rattle.noc_route.specs.Relation.{is_real_row, is_led};
+ghost use Rattle.noc_route.specs.Entered.{parts_of, has_row_at, AreAll, sets_in, IsEntered};
+ghost use Rattle.noc_route.specs.Relation.{is_real_row, is_led, row_fault, table_rows_of, IsFaultOf};
 ghost use Rattle.noc_route.specs.Routes.{width, pages, page_class, page_router, page_dst};
-ghost use Rattle.noc_route.specs.Gathering.{IsTable, IsBlank};
+ghost use Rattle.noc_route.specs.Gathering.{IsBlank};
 ghost use Rattle.noc_route.specs.Trimming.{routes_in, page_set};
 
+use crate::entered::Entered;
 use crate::map::Map;
 use crate::named::named_set;
 use crate::routing::Routing;
-use crate::rule::RouteRow;
+use crate::rows::first_fault;
+use crate::rule::{RouteFault, RouteRow, Rule};
 use noc_packet::ChannelSet;
+use std::alloc::Global;
 
-// Writes the sets of a rule by coordinates.
-pub(crate) fn enter_named(routing: &Routing, sets: &mut [ChannelSet])
-    requires { IsTable routing.now.map.now.sizes sets.old }
-    ensures { let f = routing.now.map.now.sizes in (b i k : ℕ) → b < pages f.shape f.classes → i < width f.shape f.vcs → has_bit (page_set (routes_in f sets.new) b i) k ≡ (nat_lt k (width f.shape f.vcs) && is_led (parts_of routing.now) (page_class f.shape f.classes b) (page_router f.shape f.classes b) (page_dst f.shape b) (k / f.vcs) (k % f.vcs)) }
+// A rule's sets. Answers the fault of the first bad row, or `Memory`.
+pub(crate) fn enter(alloc: Global, routing: &Routing) -> Result<Entered, RouteFault>
+    ensures err { IfErr result (IsFaultOf (parts_of routing.now)) }
+    ensures rows { IfOk result (λ _. let g = parts_of routing.now in
+        All (λ row. row_fault g.grid g.vcs g.classes row ≡ None) (table_rows_of g.rule)) }
+    ensures all { IfOk result (AreAll routing.now.map.now.sizes) }
+    ensures entered { IfOk result (λ e. let f = routing.now.map.now.sizes in
+        IsEntered (parts_of routing.now) (routes_in f (sets_in f e))) }
 {
     let sizes = &routing.map.sizes;
-    let width = sizes.width();
-    for page in 0..sizes.pages() {
-        let (class, router, dst) = sizes.page_parts(page);
-        let set = named_set(routing, class, router, dst);
-        fill(sets, page * width, width, set);
+    let Rule::Rows(rows) = routing.rule else {
+        let mut sets = vec![in alloc; ChannelSet::empty(); sizes.pages()]?;
+        enter_named(routing, &mut sets);
+        return Ok(Entered::OfPages(sets));
+    };
+    let mut sets = vec![in alloc; ChannelSet::empty(); sizes.pages() * sizes.width()]?;
+    if let Some(fault) = first_fault(routing.map, rows) {
+        return Err(fault);
     }
+    enter_rows(routing.map, rows, &mut sets);
+    Ok(Entered::OfEntries(sets))
 }
 
-// Writes one set to `count` entries from `from` on.
-fn fill(sets: &mut [ChannelSet], from: usize, count: usize, set: ChannelSet)
-    requires { from + count ≤ length sets.old }
-    ensures { (j : ℕ) → slice_index sets.new j ≡ (if nat_le from j && nat_lt j (from + count) then set else slice_index sets.old j) }
+// Writes the sets of a rule by coordinates, one for each page.
+fn enter_named(routing: &Routing, sets: &mut [ChannelSet])
+    requires { let f = routing.now.map.now.sizes in length sets.old ≡ pages f.shape f.classes }
+    ensures { let f = routing.now.map.now.sizes in (b k : ℕ) → b < pages f.shape f.classes
+        → has_bit (slice_index sets.new b) k ≡ (nat_lt k (width f.shape f.vcs)
+        && is_led (parts_of routing.now) (page_class f.shape f.classes b)
+        (page_router f.shape f.classes b) (page_dst f.shape b) (k / f.vcs) (k % f.vcs)) }
 {
-    for i in 0..count {
-        sets[from + i] = set;
+    for page in 0..sets.len() {
+        let (class, router, dst) = routing.map.sizes.page_parts(page);
+        sets[page] = named_set(routing, class, router, dst);
     }
 }
 
 // Writes the sets of a table's rows, each of which names what exists, over sets without members.
-pub(crate) fn enter_rows(map: &Map, rows: &[RouteRow], sets: &mut [ChannelSet])
+fn enter_rows(map: &Map, rows: &[RouteRow], sets: &mut [ChannelSet])
     requires blank { IsBlank map.now.sizes sets.old }
-    requires rows { All (λ row. is_real_row map.now.sizes.shape map.now.sizes.vcs map.now.sizes.classes row ≡ true) rows.now }
-    ensures { let f = map.now.sizes in (b i k : ℕ) → b < pages f.shape f.classes → i < width f.shape f.vcs → has_bit (page_set (routes_in f sets.new) b i) k ≡ (nat_lt k (width f.shape f.vcs) && has_row_at (routes_in f sets.new) rows.now b i k) }
+    requires rows { All (λ row. is_real_row map.now.sizes.shape map.now.sizes.vcs
+        map.now.sizes.classes row ≡ true) rows.now }
+    ensures { let f = map.now.sizes in (b i k : ℕ) → b < pages f.shape f.classes
+        → i < width f.shape f.vcs → has_bit (page_set (routes_in f sets.new) b i) k
+        ≡ (nat_lt k (width f.shape f.vcs) && has_row_at (routes_in f sets.new) rows.now b i k) }
 {
     for row in rows {
         let index = map

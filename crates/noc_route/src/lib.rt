@@ -3,6 +3,7 @@
 
 mod columns;
 mod enter;
+mod entered;
 mod gather;
 mod laws;
 mod map;

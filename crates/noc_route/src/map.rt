@@ -16,12 +16,17 @@ pub(crate) struct Map {
     last: [usize; 3],
     links: Vec<Option<(usize, usize)>>,
     apart: Vec<usize>,
-    ghost corner: { last ≡ three_coordinates (coordinates sizes.shape.radix (nodes sizes.shape - 1)) },
+    ghost corner: { last ≡ three_coordinates (coordinates sizes.shape.radix
+        (nodes sizes.shape - 1)) },
     ghost small: { EachIndex last (λ i. slice_index last i < MAX_RADIX) },
     ghost all_links: { vec_len links ≡ nodes sizes.shape * ports sizes.shape },
-    ghost linked: { (k : ℕ) → k < nodes sizes.shape * ports sizes.shape → slice_index_or links.items k None ≡ neighbour sizes.shape (k / ports sizes.shape) (k % ports sizes.shape) },
+    ghost linked: { (k : ℕ) → k < nodes sizes.shape * ports sizes.shape
+        → slice_index_or links.items k None ≡ neighbour sizes.shape (k / ports sizes.shape)
+        (k % ports sizes.shape) },
     ghost all_apart: { vec_len apart ≡ nodes sizes.shape * nodes sizes.shape },
-    ghost spaced: { (k : ℕ) → k < nodes sizes.shape * nodes sizes.shape → slice_index apart.items k ≡ distance sizes.shape (k / nodes sizes.shape) (k % nodes sizes.shape) },
+    ghost spaced: { (k : ℕ) → k < nodes sizes.shape * nodes sizes.shape
+        → slice_index apart.items k ≡ distance sizes.shape (k / nodes sizes.shape)
+        (k % nodes sizes.shape) },
 }
 
 impl Map {
@@ -44,7 +49,8 @@ impl Map {
         requires router { router < nodes self.now.sizes.shape }
         requires port { port < ports self.now.sizes.shape }
         ensures value { result ≡ neighbour self.now.sizes.shape router port }
-        ensures range { IfSome result (λ to. (to.0 < nodes self.now.sizes.shape) × (to.1 < local_port self.now.sizes.shape)) }
+        ensures range { IfSome result (λ to. (to.0 < nodes self.now.sizes.shape)
+            × (to.1 < local_port self.now.sizes.shape)) }
     {
         self.links[router * self.sizes.port_count + port]
     }
@@ -55,7 +61,16 @@ impl Map {
         requires to { to < nodes self.now.sizes.shape }
         ensures { result ≡ distance self.now.sizes.shape from to }
     {
-        self.apart[from * self.sizes.node_count + to]
+        self.distance_of(from * self.sizes.node_count + to)
+    }
+
+    // The same of a pair of routers, by its number among all pairs.
+    pub(crate) fn distance_of(&self, pair: usize) -> usize
+        requires { pair < nodes self.now.sizes.shape * nodes self.now.sizes.shape }
+        ensures { let n = nodes self.now.sizes.shape in
+            result ≡ distance self.now.sizes.shape (pair / n) (pair % n) }
+    {
+        self.apart[pair]
     }
 
     // Whether the way up is the shorter one from x to t in dimension i, or as long as the way down.
@@ -63,7 +78,8 @@ impl Map {
         requires i { i < 3 }
         requires x { x ≤ slice_index self.now.last i }
         requires t { t ≤ slice_index self.now.last i }
-        ensures { result ≡ goes_up self.now.sizes.shape.wraps (slice_index self.now.last i + 1) x t }
+        ensures { result ≡ goes_up self.now.sizes.shape.wraps
+            (slice_index self.now.last i + 1) x t }
     {
         if self.sizes.shape.kind() == Kind::Mesh {
             return x < t;
@@ -75,8 +91,12 @@ impl Map {
 
 // Each link, by router and port.
 fn links_of(alloc: Global, sizes: &Sizes) -> Result<Vec<Option<(usize, usize)>>, AllocError>
-    ensures len { IfOk result (λ links. vec_len links ≡ nodes sizes.now.shape * ports sizes.now.shape) }
-    ensures items { IfOk result (λ links. (k : ℕ) → k < nodes sizes.now.shape * ports sizes.now.shape → slice_index_or links.items k None ≡ neighbour sizes.now.shape (k / ports sizes.now.shape) (k % ports sizes.now.shape)) }
+    ensures len { IfOk result (λ links. vec_len links
+        ≡ nodes sizes.now.shape * ports sizes.now.shape) }
+    ensures items { IfOk result (λ links. (k : ℕ)
+        → k < nodes sizes.now.shape * ports sizes.now.shape
+        → slice_index_or links.items k None ≡ neighbour sizes.now.shape (k / ports sizes.now.shape)
+        (k % ports sizes.now.shape)) }
 {
     let ports = sizes.port_count;
     let count = sizes.node_count * ports;
@@ -89,8 +109,12 @@ fn links_of(alloc: Global, sizes: &Sizes) -> Result<Vec<Option<(usize, usize)>>,
 
 // Each distance, by router and router.
 fn distances_of(alloc: Global, sizes: &Sizes) -> Result<Vec<usize>, AllocError>
-    ensures len { IfOk result (λ apart. vec_len apart ≡ nodes sizes.now.shape * nodes sizes.now.shape) }
-    ensures items { IfOk result (λ apart. (k : ℕ) → k < nodes sizes.now.shape * nodes sizes.now.shape → slice_index apart.items k ≡ distance sizes.now.shape (k / nodes sizes.now.shape) (k % nodes sizes.now.shape)) }
+    ensures len { IfOk result (λ apart. vec_len apart
+        ≡ nodes sizes.now.shape * nodes sizes.now.shape) }
+    ensures items { IfOk result (λ apart. (k : ℕ)
+        → k < nodes sizes.now.shape * nodes sizes.now.shape
+        → slice_index apart.items k ≡ distance sizes.now.shape (k / nodes sizes.now.shape)
+        (k % nodes sizes.now.shape)) }
 {
     let nodes = sizes.node_count;
     let count = nodes * nodes;

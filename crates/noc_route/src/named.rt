@@ -1,11 +1,11 @@
 //! The rules by coordinates: dimension order, dateline, west first and adaptive (Dally and Towles,
 //! chapters 8 to 10 and 14).
 
-ghost use Rattle.std.specs.Prelude.{◌≡◌, ℕ, ◌/◌, ◌%◌, ◌<◌, ◌≤◌, ◌&&◌, slice_index, slice_index_or, EachIndex, nat_lt, false};
+ghost use Rattle.std.specs.Prelude.{◌≡◌, ℕ, ◌/◌, ◌%◌, ◌<◌, ◌≤◌, ◌&&◌, slice_index, slice_index_or, EachIndex, nat_eq, nat_lt, false};
 ghost use Rattle.noc_packet.specs.Set.{has_bit};
-ghost use Rattle.noc_topo.specs.Shape.{Grid, nodes, coordinates, three_coordinates};
+ghost use Rattle.noc_topo.specs.Shape.{Grid, nodes, ports, local_port, coordinates, three_coordinates};
 ghost use Rattle.noc_route.specs.Entered.{parts_of, IsWay};
-ghost use Rattle.noc_route.specs.Relation.{is_led, dor_port, is_nearer, takes_port, takes_of_class, index_in_class, is_escape_taken, dateline_class};
+ghost use Rattle.noc_route.specs.Relation.{is_led, is_of_class, takes_channel, dor_port, is_nearer, takes_port, takes_of_class, index_in_class, is_escape_taken, dateline_class};
 ghost use Rattle.noc_route.specs.Routes.{width};
 
 use crate::map::Map;
@@ -21,17 +21,34 @@ pub(crate) fn named_set(routing: &Routing, class: usize, router: usize, dst: usi
     requires class { class < routing.now.map.now.sizes.classes }
     requires router { router < nodes routing.now.map.now.sizes.shape }
     requires dst { dst < nodes routing.now.map.now.sizes.shape }
-    ensures { let f = routing.now.map.now.sizes in (k : ℕ) → has_bit result k ≡ (nat_lt k (width f.shape f.vcs) && is_led (parts_of routing.now) class router dst (k / f.vcs) (k % f.vcs)) }
+    ensures { let f = routing.now.map.now.sizes in (k : ℕ)
+        → has_bit result k ≡ (nat_lt k (width f.shape f.vcs)
+        && is_led (parts_of routing.now) class router dst (k / f.vcs) (k % f.vcs)) }
 {
-    let vcs = routing.map.sizes.vcs;
+    let sizes = &routing.map.sizes;
+    if router == dst {
+        return ejection(sizes, class);
+    }
     let way = Way::of(routing.map, router, dst);
     let mut set = ChannelSet::empty();
-    for channel in 0..routing.map.sizes.width() {
-        if way.leads(routing, class, channel / vcs, channel % vcs) {
-            set = set.with(channel);
+    for port in 0..sizes.port_count {
+        if port < LINKS && way.takes_port(routing.rule, port) {
+            set = set.either(way.channels(routing, class, port));
         }
     }
     set
+}
+
+// The ejection channels of a class.
+fn ejection(sizes: &Sizes, class: usize) -> ChannelSet
+    requires { class < sizes.now.classes }
+    ensures { let f = sizes.now in (k : ℕ) → has_bit result k
+        ≡ (nat_eq (k / f.vcs) (local_port f.shape)
+        && is_of_class f.vcs f.classes class (k % f.vcs)) }
+{
+    let first = sizes.first_of_class(class);
+    let count = sizes.first_of_class(class + 1) - first;
+    ChannelSet::span((sizes.port_count - 1) * sizes.vcs + first, count)
 }
 
 // The coordinates of a router and a destination, the port of dimension order between them, and
@@ -40,7 +57,6 @@ pub(crate) fn named_set(routing: &Routing, class: usize, router: usize, dst: usi
 struct Way {
     here: [usize; 3],
     there: [usize; 3],
-    arrived: bool,
     towards: Option<usize>,
     nearer: [bool; LINKS],
 }
@@ -56,34 +72,36 @@ impl Way {
         Way {
             here,
             there,
-            arrived: router == dst,
             towards: dor_port(map, &here, &there),
             nearer: nearer_ports(map, &here, &there),
         }
     }
 
-    // Whether a rule leads along this port and channel.
-    fn leads(&self, routing: &Routing, class: usize, port: usize, vc: usize) -> bool
-        requires { class < routing.now.map.now.sizes.classes }
-        ensures { (r t : ℕ) → IsWay routing.now.map.now.sizes.shape self.now r t → result ≡ is_led (parts_of routing.now) class r t port vc }
+    // The channels of a class and of a port that a rule takes, along which it leads.
+    fn channels(&self, routing: &Routing, class: usize, port: usize) -> ChannelSet
+        requires class { class < routing.now.map.now.sizes.classes }
+        requires port { port < LINKS }
+        requires exists { port < ports routing.now.map.now.sizes.shape }
+        ensures { let g = parts_of routing.now in (r t k : ℕ) → IsWay g.grid self.now r t
+            → has_bit result k ≡ (nat_eq (k / g.vcs) port
+            && takes_channel g.grid g.vcs g.classes g.rule class (coordinates g.grid.radix r)
+            (coordinates g.grid.radix t) port (k % g.vcs)) }
     {
         let sizes = &routing.map.sizes;
-        if !sizes.is_of_class(class, vc) {
-            return false;
+        let mut set = ChannelSet::empty();
+        for vc in sizes.first_of_class(class)..sizes.first_of_class(class + 1) {
+            if self.takes_of_class(routing, port, vc) {
+                set = set.with(sizes.index(port, vc));
+            }
         }
-        if self.arrived {
-            return port == sizes.port_count - 1;
-        }
-        if port >= LINKS {
-            return false;
-        }
-        self.takes_port(routing.rule, port) && self.takes_of_class(routing, port, vc)
+        set
     }
 
     // Whether a rule leads along this port, away from the destination.
     fn takes_port(&self, rule: &Rule, port: usize) -> bool
         requires { port < LINKS }
-        ensures { (g : Grid) (r t : ℕ) → IsWay g self.now r t → result ≡ takes_port g rule.now (coordinates g.radix r) (coordinates g.radix t) port }
+        ensures { (g : Grid) (r t : ℕ) → IsWay g self.now r t
+            → result ≡ takes_port g rule.now (coordinates g.radix r) (coordinates g.radix t) port }
     {
         match rule {
             Rule::Dor | Rule::Dateline => self.towards == Some(port),
@@ -96,7 +114,9 @@ impl Way {
     // Whether a rule takes a channel of a port that it takes, among those of the packet's class.
     fn takes_of_class(&self, routing: &Routing, port: usize, vc: usize) -> bool
         requires { port < LINKS }
-        ensures { let f = routing.now.map.now.sizes in (r t : ℕ) → IsWay f.shape self.now r t → result ≡ takes_of_class f.shape f.vcs f.classes routing.now.rule.now (coordinates f.shape.radix r) (coordinates f.shape.radix t) port vc }
+        ensures { let f = routing.now.map.now.sizes in (r t : ℕ) → IsWay f.shape self.now r t
+            → result ≡ takes_of_class f.shape f.vcs f.classes routing.now.rule.now
+            (coordinates f.shape.radix r) (coordinates f.shape.radix t) port vc }
     {
         let sizes = &routing.map.sizes;
         match routing.rule {
@@ -114,7 +134,10 @@ impl Way {
     // Whether an escape channel, by its index among those of its class, is taken along a port.
     fn takes_escape(&self, sizes: &Sizes, port: usize, index: usize) -> bool
         requires { port < LINKS }
-        ensures { let f = sizes.now in (r t v : ℕ) → IsWay f.shape self.now r t → index ≡ index_in_class f.vcs f.classes v → result ≡ is_escape_taken f.shape f.vcs f.classes (coordinates f.shape.radix r) (coordinates f.shape.radix t) port v }
+        ensures { let f = sizes.now in (r t v : ℕ) → IsWay f.shape self.now r t
+            → index ≡ index_in_class f.vcs f.classes v
+            → result ≡ is_escape_taken f.shape f.vcs f.classes (coordinates f.shape.radix r)
+            (coordinates f.shape.radix t) port v }
     {
         if self.towards != Some(port) {
             return false;
@@ -129,7 +152,8 @@ impl Way {
     // The half of a class's channels that the next hop along a port takes.
     fn dateline_class(&self, port: usize) -> usize
         requires { port < LINKS }
-        ensures { result ≡ dateline_class port (slice_index self.now.here (port / 2)) (slice_index self.now.there (port / 2)) }
+        ensures { result ≡ dateline_class port (slice_index self.now.here (port / 2))
+            (slice_index self.now.there (port / 2)) }
     {
         let x = self.here[port / 2];
         let t = self.there[port / 2];
@@ -142,7 +166,11 @@ impl Way {
 fn nearer_ports(map: &Map, here: &[usize; 3], there: &[usize; 3]) -> [bool; LINKS]
     requires here { EachIndex here.now (λ i. slice_index here.now i ≤ slice_index map.now.last i) }
     requires there { EachIndex there.now (λ i. slice_index there.now i ≤ slice_index map.now.last i) }
-    ensures { let g = map.now.sizes.shape in (r t : ℕ) → here.now ≡ three_coordinates (coordinates g.radix r) → there.now ≡ three_coordinates (coordinates g.radix t) → (port : ℕ) → slice_index_or result port false ≡ is_nearer g (coordinates g.radix r) (coordinates g.radix t) port }
+    ensures { let g = map.now.sizes.shape in (r t : ℕ)
+        → here.now ≡ three_coordinates (coordinates g.radix r)
+        → there.now ≡ three_coordinates (coordinates g.radix t) → (port : ℕ)
+        → slice_index_or result port false ≡ is_nearer g (coordinates g.radix r)
+        (coordinates g.radix t) port }
 {
     let mut nearer = [false; LINKS];
     for port in 0..LINKS {
@@ -157,7 +185,10 @@ fn is_nearer(map: &Map, here: &[usize; 3], there: &[usize; 3], port: usize) -> b
     requires port { port < LINKS }
     requires here { EachIndex here.now (λ i. slice_index here.now i ≤ slice_index map.now.last i) }
     requires there { EachIndex there.now (λ i. slice_index there.now i ≤ slice_index map.now.last i) }
-    ensures { let g = map.now.sizes.shape in (r t : ℕ) → here.now ≡ three_coordinates (coordinates g.radix r) → there.now ≡ three_coordinates (coordinates g.radix t) → result ≡ is_nearer g (coordinates g.radix r) (coordinates g.radix t) port }
+    ensures { let g = map.now.sizes.shape in (r t : ℕ)
+        → here.now ≡ three_coordinates (coordinates g.radix r)
+        → there.now ≡ three_coordinates (coordinates g.radix t)
+        → result ≡ is_nearer g (coordinates g.radix r) (coordinates g.radix t) port }
 {
     let i = port / 2;
     if here[i] == there[i] {
@@ -174,7 +205,10 @@ fn is_nearer(map: &Map, here: &[usize; 3], there: &[usize; 3], port: usize) -> b
 fn dor_port(map: &Map, here: &[usize; 3], there: &[usize; 3]) -> Option<usize>
     requires here { EachIndex here.now (λ i. slice_index here.now i ≤ slice_index map.now.last i) }
     requires there { EachIndex there.now (λ i. slice_index there.now i ≤ slice_index map.now.last i) }
-    ensures { let g = map.now.sizes.shape in (r t : ℕ) → here.now ≡ three_coordinates (coordinates g.radix r) → there.now ≡ three_coordinates (coordinates g.radix t) → result ≡ dor_port g (coordinates g.radix r) (coordinates g.radix t) }
+    ensures { let g = map.now.sizes.shape in (r t : ℕ)
+        → here.now ≡ three_coordinates (coordinates g.radix r)
+        → there.now ≡ three_coordinates (coordinates g.radix t)
+        → result ≡ dor_port g (coordinates g.radix r) (coordinates g.radix t) }
 {
     for i in 0..3usize {
         if here[i] != there[i] {

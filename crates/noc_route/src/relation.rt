@@ -1,23 +1,21 @@
 //! The routing relation.
 
-ghost use Rattle.std.specs.Prelude.{◌≡◌, ◌<◌, MatchResult, IfOk, IfErr, OnOk, All, None, replicate};
+ghost use Rattle.std.specs.Prelude.{◌≡◌, ◌<◌, MatchResult, IfOk};
 ghost use Rattle.noc_topo.specs.Shape.{nodes, ports};
 ghost use Rattle.noc_route.specs.Built.{routing_of, IsRelationOfRule};
-ghost use Rattle.noc_route.specs.Entered.{parts_of, IsEntered};
-ghost use Rattle.noc_route.specs.Relation.{table_rows_of, row_fault, IsFirstFault, IsFaultOf};
-ghost use Rattle.noc_route.specs.Routes.{set_at, IsRelation, pages};
-ghost use Rattle.noc_route.specs.Gathering.{IsBlank};
+ghost use Rattle.noc_route.specs.Columns.{table_of};
+ghost use Rattle.noc_route.specs.Entered.{parts_of};
+ghost use Rattle.noc_route.specs.Relation.{IsFaultOf};
+ghost use Rattle.noc_route.specs.Routes.{set_at, IsRelation};
 ghost use Rattle.noc_route.specs.Trimming.{routes_in};
 
 use crate::columns::Columns;
-use crate::enter::{enter_named, enter_rows};
+use crate::enter::enter;
 use crate::gather::{Departures, gather};
 use crate::map::Map;
 use crate::routing::Routing;
-use crate::rows::first_fault;
 use crate::rule::{RouteFault, Rule};
 use crate::sizes::Sizes;
-use crate::trim::trim;
 use noc_packet::ChannelSet;
 use noc_topo::Shape;
 use std::alloc::Global;
@@ -54,7 +52,8 @@ impl Relation {
         classes: usize,
         rule: Rule,
     ) -> Result<Relation, RouteFault>
-        ensures exact { let g = routing_of shape.now vcs classes rule in MatchResult result (IsRelationOfRule g) (IsFaultOf g) }
+        ensures exact { let g = routing_of shape.now vcs classes rule in
+            MatchResult result (IsRelationOfRule g) (IsFaultOf g) }
         ensures built { IfOk result IsRelation }
     {
         let Some(sizes) = Sizes::of(shape, vcs, classes, &rule) else {
@@ -65,9 +64,8 @@ impl Relation {
             map: &map,
             rule: &rule,
         };
-        let sets = sets_of(alloc, &routing)?;
         Ok(Relation {
-            columns: Columns::new(alloc, sizes, sets)?,
+            columns: columns_of(alloc, &routing)?,
         })
     }
 
@@ -117,56 +115,23 @@ impl Relation {
     }
 }
 
-// A rule's sets at the entries that packets reach, or the first fault.
-fn sets_of(alloc: Global, routing: &Routing) -> Result<Vec<ChannelSet>, RouteFault>
-    ensures { MatchResult result (λ sets. IsRelationOfRule (parts_of routing.now) (routes_in routing.now.map.now.sizes sets.items)) (IsFaultOf (parts_of routing.now)) }
+// The columns of a rule's sets at the entries that packets reach, or the first fault.
+fn columns_of(alloc: Global, routing: &Routing) -> Result<Columns, RouteFault>
+    ensures sizes { IfOk result (λ c. c.sizes ≡ routing.now.map.now.sizes) }
+    ensures exact { let f = routing.now.map.now.sizes in
+        MatchResult result (λ c. IsRelationOfRule (parts_of routing.now) (routes_in f
+        (table_of f c.sets.items c.starts.items))) (IsFaultOf (parts_of routing.now)) }
 {
-    let sizes = &routing.map.sizes;
-    let pages = sizes.pages();
-    let mut sets = vec![in alloc; ChannelSet::empty(); pages * sizes.width()]?;
-    let mut outs = vec![in alloc; ChannelSet::empty(); pages]?;
-    fill(routing, &mut sets, &mut outs)?;
-    Ok(sets)
-}
-
-// Writes a rule's sets at the entries that packets reach, or answers the
-// first fault; what `outs` holds is lost.
-fn fill(
-    routing: &Routing,
-    sets: &mut [ChannelSet],
-    outs: &mut [ChannelSet],
-) -> Result<(), RouteFault>
-    requires sets { IsBlank routing.now.map.now.sizes sets.old }
-    requires outs { outs.old ≡ replicate (pages routing.now.map.now.sizes.shape routing.now.map.now.sizes.classes) 0 }
-    ensures { MatchResult result (λ _. IsRelationOfRule (parts_of routing.now) (routes_in routing.now.map.now.sizes sets.new)) (IsFaultOf (parts_of routing.now)) }
-{
-    enter(routing, sets)?;
-    gather(routing.map, sets, outs);
+    let mut outs = vec![in alloc; ChannelSet::empty(); routing.map.sizes.pages()]?;
+    let entered = enter(alloc, routing)?;
+    gather(routing.map, &entered, &mut outs);
     let leaving = Departures {
         map: routing.map,
-        outs,
+        outs: &outs,
     };
-    match trim(&leaving, sets) {
+    let (columns, stuck) = Columns::new(alloc, &leaving, &entered)?;
+    match stuck {
         Some(entry) => Err(RouteFault::NoWay(entry)),
-        None => Ok(()),
+        None => Ok(columns),
     }
-}
-
-// Writes a rule's sets, or answers the fault of the first bad row.
-fn enter(routing: &Routing, sets: &mut [ChannelSet]) -> Result<(), RouteFault>
-    requires { IsBlank routing.now.map.now.sizes sets.old }
-    ensures err { let g = parts_of routing.now in IfErr result (IsFirstFault g.grid g.vcs g.classes (table_rows_of g.rule)) }
-    ensures ok { let g = parts_of routing.now in OnOk result (All (λ row. row_fault g.grid g.vcs g.classes row ≡ None) (table_rows_of g.rule)) }
-    ensures entered { OnOk result (IsEntered (parts_of routing.now) (routes_in routing.now.map.now.sizes sets.new)) }
-{
-    match routing.rule {
-        Rule::Rows(rows) => {
-            if let Some(fault) = first_fault(routing.map, rows) {
-                return Err(fault);
-            }
-            enter_rows(routing.map, rows, sets);
-        }
-        _ => enter_named(routing, sets),
-    }
-    Ok(())
 }

@@ -11,5 +11,6 @@ use crate::rule::Rule;
 pub(crate) struct Routing<'a> {
     pub(crate) map: &'a Map,
     pub(crate) rule: &'a Rule,
-    ghost right: { is_right map.now.sizes.shape map.now.sizes.vcs map.now.sizes.classes rule.now ≡ true },
+    ghost right: { is_right map.now.sizes.shape map.now.sizes.vcs map.now.sizes.classes rule.now
+        ≡ true },
 }

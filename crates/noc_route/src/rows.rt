@@ -31,7 +31,8 @@ pub(crate) fn row_fault(map: &Map, row: &RouteRow) -> Option<RouteFault>
 // Whether the class, router, ports, channels and destination of a row exist, and its ports
 // are local or have a link.
 fn is_real(map: &Map, row: &RouteRow) -> bool
-    ensures { result ≡ is_real_row map.now.sizes.shape map.now.sizes.vcs map.now.sizes.classes row.now }
+    ensures { result ≡ is_real_row map.now.sizes.shape map.now.sizes.vcs map.now.sizes.classes
+        row.now }
 {
     let sizes = &map.sizes;
     let nodes = sizes.node_count;
@@ -56,8 +57,10 @@ fn is_port(map: &Map, router: usize, port: usize) -> bool
 // The first fault among the rows, in the order of class, router, input port and channel,
 // destination, output port and channel.
 pub(crate) fn first_fault(map: &Map, rows: &[RouteRow]) -> Option<RouteFault>
-    ensures none { IfNone result (All (λ row. row_fault map.now.sizes.shape map.now.sizes.vcs map.now.sizes.classes row ≡ None) rows.now) }
-    ensures some { IfSome result (IsFirstFault map.now.sizes.shape map.now.sizes.vcs map.now.sizes.classes rows.now) }
+    ensures none { IfNone result (All (λ row. row_fault map.now.sizes.shape map.now.sizes.vcs
+        map.now.sizes.classes row ≡ None) rows.now) }
+    ensures some { IfSome result (IsFirstFault map.now.sizes.shape map.now.sizes.vcs
+        map.now.sizes.classes rows.now) }
 {
     let mut first = None;
     for row in rows {
@@ -68,7 +71,8 @@ pub(crate) fn first_fault(map: &Map, rows: &[RouteRow]) -> Option<RouteFault>
 
 // A row, if it has a fault and comes before the other, and else the other.
 fn earlier_fault(map: &Map, row: &RouteRow, other: Option<RouteRow>) -> Option<RouteRow>
-    ensures { result ≡ earlier_fault map.now.sizes.shape map.now.sizes.vcs map.now.sizes.classes row.now other }
+    ensures { result ≡ earlier_fault map.now.sizes.shape map.now.sizes.vcs map.now.sizes.classes
+        row.now other }
 {
     if row_fault(map, row).is_none() {
         return other;

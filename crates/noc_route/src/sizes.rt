@@ -3,7 +3,7 @@
 ghost use Rattle.std.specs.Prelude.{◌≡◌, ◌+◌, ◌*◌, ◌/◌, ◌<◌, ◌≤◌, IsTrue, IfNone, IfSome, true, false};
 ghost use Rattle.noc_packet.specs.declared.limits.TheConstants.{INDICES, MAX_CHANNELS, MAX_CLASSES, MAX_NODES, MAX_PORTS};
 ghost use Rattle.noc_topo.specs.Shape.{IsGrid, nodes, ports};
-ghost use Rattle.noc_route.specs.Relation.{is_of_class, resource_class, escapes, is_right};
+ghost use Rattle.noc_route.specs.Relation.{resource_class, escapes, is_right};
 ghost use Rattle.noc_route.specs.Routes.{width, pages, page_of, entry_index, page_class, page_router, page_dst};
 
 use crate::rule::Rule;
@@ -36,7 +36,8 @@ impl Sizes {
     // These sizes, where a relation can be made of them and of this rule.
     pub(crate) fn of(shape: &Shape, vcs: usize, classes: usize, rule: &Rule) -> Option<Sizes>
         ensures none { IfNone result (is_right shape.now vcs classes rule.now ≡ false) }
-        ensures some { IfSome result (λ sizes. (is_right shape.now vcs classes rule.now ≡ true) × (sizes.shape ≡ shape.now) × (sizes.vcs ≡ vcs) × (sizes.classes ≡ classes)) }
+        ensures some { IfSome result (λ sizes. (is_right shape.now vcs classes rule.now ≡ true)
+            × (sizes.shape ≡ shape.now) × (sizes.vcs ≡ vcs) × (sizes.classes ≡ classes)) }
     {
         if !is_right(shape, vcs, classes, rule) {
             return None;
@@ -83,7 +84,8 @@ impl Sizes {
         ensures class { result.0 ≡ page_class self.now.shape self.now.classes page }
         ensures router { result.1 ≡ page_router self.now.shape self.now.classes page }
         ensures dst { result.2 ≡ page_dst self.now.shape page }
-        ensures range { (result.0 < self.now.classes) × (result.1 < nodes self.now.shape) × (result.2 < nodes self.now.shape) }
+        ensures range { (result.0 < self.now.classes) × (result.1 < nodes self.now.shape)
+            × (result.2 < nodes self.now.shape) }
     {
         let pair = page / self.node_count;
         (
@@ -106,7 +108,8 @@ impl Sizes {
 
     // How many columns the table has: one for each router, class and input channel.
     pub(crate) fn columns(&self) -> usize
-        ensures value { result ≡ nodes self.now.shape * self.now.classes * width self.now.shape self.now.vcs }
+        ensures value { result ≡ nodes self.now.shape * self.now.classes * width self.now.shape
+            self.now.vcs }
         ensures few { result ≤ MAX_NODES * MAX_CLASSES * INDICES }
     {
         self.node_count * self.classes * self.width()
@@ -118,8 +121,10 @@ impl Sizes {
         requires router { router < nodes self.now.shape }
         requires in_port { in_port < ports self.now.shape }
         requires in_vc { in_vc < self.now.vcs }
-        ensures value { result ≡ (router * self.now.classes + class) * width self.now.shape self.now.vcs + (in_port * self.now.vcs + in_vc) }
-        ensures within { result < nodes self.now.shape * self.now.classes * width self.now.shape self.now.vcs }
+        ensures value { result ≡ (router * self.now.classes + class) * width self.now.shape
+            self.now.vcs + (in_port * self.now.vcs + in_vc) }
+        ensures within { result < nodes self.now.shape * self.now.classes * width self.now.shape
+            self.now.vcs }
     {
         (router * self.classes + class) * self.width() + self.index(in_port, in_vc)
     }
@@ -129,7 +134,8 @@ impl Sizes {
         requires page { page < pages self.now.shape self.now.classes }
         requires input { input < width self.now.shape self.now.vcs }
         ensures value { result ≡ page * width self.now.shape self.now.vcs + input }
-        ensures within { result < pages self.now.shape self.now.classes * width self.now.shape self.now.vcs }
+        ensures within { result < pages self.now.shape self.now.classes * width self.now.shape
+            self.now.vcs }
     {
         page * self.width() + input
     }
@@ -148,20 +154,21 @@ impl Sizes {
         requires in_port { in_port < ports self.now.shape }
         requires in_vc { in_vc < self.now.vcs }
         requires dst { dst < nodes self.now.shape }
-        ensures value { result ≡ entry_index self.now.shape self.now.vcs self.now.classes class router in_port in_vc dst }
-        ensures within { result < pages self.now.shape self.now.classes * width self.now.shape self.now.vcs }
+        ensures value { result ≡ entry_index self.now.shape self.now.vcs self.now.classes class
+            router in_port in_vc dst }
+        ensures within { result < pages self.now.shape self.now.classes * width self.now.shape
+            self.now.vcs }
     {
         self.slot(self.page(class, router, dst), self.index(in_port, in_vc))
     }
 
-    // Whether a channel is one of a class's channels.
-    pub(crate) fn is_of_class(&self, class: usize, vc: usize) -> bool
-        requires { class < self.now.classes }
-        ensures { result ≡ is_of_class self.now.vcs self.now.classes class vc }
+    // The first channel of a class, and the end of the channels of the class before.
+    pub(crate) fn first_of_class(&self, class: usize) -> usize
+        requires { class ≤ self.now.classes }
+        ensures value { result ≡ class * self.now.vcs / self.now.classes }
+        ensures within { result ≤ self.now.vcs }
     {
-        let first = class * self.vcs / self.classes;
-        let end = (class + 1) * self.vcs / self.classes;
-        first <= vc && vc < end
+        class * self.vcs / self.classes
     }
 }
 
@@ -191,7 +198,8 @@ pub fn escapes(shape: &Shape) -> usize
 /// the classes divide the channels, and the rule fits them and the shape (docs/MODEL.md).
 pub fn is_right(shape: &Shape, vcs: usize, classes: usize, rule: &Rule) -> bool
     ensures value { result ≡ is_right shape.now vcs classes rule.now }
-    ensures limits { IsTrue result → (1 ≤ vcs) × (vcs ≤ MAX_CHANNELS) × (1 ≤ classes) × (classes ≤ MAX_CLASSES) }
+    ensures limits { IsTrue result → (1 ≤ vcs) × (vcs ≤ MAX_CHANNELS) × (1 ≤ classes)
+        × (classes ≤ MAX_CLASSES) }
 {
     if vcs == 0 || vcs > MAX_CHANNELS || classes == 0 || classes > MAX_CLASSES {
         return false;

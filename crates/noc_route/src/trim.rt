@@ -1,85 +1,99 @@
 //! Taking out the entries that no packet reaches.
 
-ghost use Rattle.std.specs.Prelude.{◌≡◌, ◌≢◌, ℕ, None, ◌+◌, ◌*◌, ◌<◌, if◌then◌else◌, length, slice_set};
+ghost use Rattle.std.specs.Prelude.{◌≡◌, ℕ, ◌⊎◌, ◌+◌, ◌*◌, ◌<◌, ◌≤◌, length, slice_index};
+ghost use Rattle.noc_topo.specs.Shape.{nodes};
+ghost use Rattle.noc_route.specs.Entered.{AreAll, sets_in};
 ghost use Rattle.noc_route.specs.Order.{earlier_entry};
-ghost use Rattle.noc_route.specs.Routes.{width, pages};
-ghost use Rattle.noc_route.specs.Gathering.{IsTable};
-ghost use Rattle.noc_route.specs.Trimming.{routes_in, page_set, comes_at, left_at, entry_on_page, IsFirstStuck};
+ghost use Rattle.noc_route.specs.Routes.{width, pages, page_dst};
+ghost use Rattle.noc_route.specs.Trimming.{routes_in, left_at, left_in, IsFirstStuck};
 
+use crate::entered::Entered;
 use crate::gather::Departures;
 use crate::rule::Entry;
 use noc_packet::ChannelSet;
 
-// Empties the sets of the entries that no packet reaches. Returns the first entry that is reached
-// and has an empty set, in the order of class, router, input port and channel, and destination.
-pub(crate) fn trim(leaving: &Departures, sets: &mut [ChannelSet]) -> Option<Entry>
-    requires { IsTable leaving.now.map.now.sizes sets.old }
-    ensures left { let f = leaving.now.map.now.sizes in (b i : ℕ) → b < pages f.shape f.classes → i < width f.shape f.vcs → page_set (routes_in f sets.new) b i ≡ left_at (routes_in f sets.old) leaving.now.outs.now b i }
-    ensures first { IsFirstStuck (routes_in leaving.now.map.now.sizes sets.new) leaving.now.outs.now (length sets.old) result }
+// Writes the sets of a router and a class, by destination and input channel, empty at the entries
+// that no packet reaches. Returns the first entry that is reached and has an empty set, among these
+// and those before, of which `first` is the first; in the order of class, router, input port and
+// channel, and destination.
+pub(crate) fn trim_pair(
+    leaving: &Departures,
+    entered: &Entered,
+    block: &mut [ChannelSet],
+    pair: usize,
+    first: Option<Entry>,
+) -> Option<Entry>
+    requires all { AreAll leaving.now.map.now.sizes entered.now }
+    requires block { let f = leaving.now.map.now.sizes in
+        length block.old ≡ nodes f.shape * width f.shape f.vcs }
+    requires pair { let f = leaving.now.map.now.sizes in pair < nodes f.shape * f.classes }
+    requires first { let f = leaving.now.map.now.sizes in
+        IsFirstStuck (routes_in f (left_in f (sets_in f entered.now) leaving.now.outs.now))
+        leaving.now.outs.now (pair * nodes f.shape * width f.shape f.vcs) first }
+    ensures left { let f = leaving.now.map.now.sizes in (t i : ℕ) → t < nodes f.shape
+        → i < width f.shape f.vcs → slice_index block.new (t * width f.shape f.vcs + i)
+        ≡ left_at (routes_in f (sets_in f entered.now)) leaving.now.outs.now
+        (pair * nodes f.shape + t) i }
+    ensures first { let f = leaving.now.map.now.sizes in
+        IsFirstStuck (routes_in f (left_in f (sets_in f entered.now) leaving.now.outs.now))
+        leaving.now.outs.now ((pair + 1) * nodes f.shape * width f.shape f.vcs) result }
 {
-    let mut first = None;
-    for page in 0..leaving.map.sizes.pages() {
-        first = trim_page(leaving, sets, page, first);
+    let nodes = leaving.map.sizes.node_count;
+    let mut first = first;
+    for dst in 0..nodes {
+        first = trim_page(leaving, entered, block, pair * nodes + dst, first);
     }
     first
 }
 
-// Trims the sets of one page; `first` is the first entry with no way among the pages before.
+// Writes the sets of one page; `first` is the first entry with no way among the pages before.
 fn trim_page(
     leaving: &Departures,
-    sets: &mut [ChannelSet],
+    entered: &Entered,
+    block: &mut [ChannelSet],
     page: usize,
     first: Option<Entry>,
 ) -> Option<Entry>
-    requires sets { IsTable leaving.now.map.now.sizes sets.old }
+    requires all { AreAll leaving.now.map.now.sizes entered.now }
+    requires block { let f = leaving.now.map.now.sizes in
+        length block.old ≡ nodes f.shape * width f.shape f.vcs }
     requires page { let f = leaving.now.map.now.sizes in page < pages f.shape f.classes }
-    requires first { let f = leaving.now.map.now.sizes in IsFirstStuck (routes_in f sets.old) leaving.now.outs.now (page * width f.shape f.vcs) first }
-    ensures left { let f = leaving.now.map.now.sizes in (i : ℕ) → i < width f.shape f.vcs → page_set (routes_in f sets.new) page i ≡ left_at (routes_in f sets.old) leaving.now.outs.now page i }
-    ensures others { let f = leaving.now.map.now.sizes in (b i : ℕ) → i < width f.shape f.vcs → b ≢ page → page_set (routes_in f sets.new) b i ≡ page_set (routes_in f sets.old) b i }
-    ensures first { let f = leaving.now.map.now.sizes in IsFirstStuck (routes_in f sets.new) leaving.now.outs.now ((page + 1) * width f.shape f.vcs) result }
+    requires first { let f = leaving.now.map.now.sizes in
+        IsFirstStuck (routes_in f (left_in f (sets_in f entered.now) leaving.now.outs.now))
+        leaving.now.outs.now (page * width f.shape f.vcs) first }
+    ensures left { let f = leaving.now.map.now.sizes in (i : ℕ) → i < width f.shape f.vcs
+        → slice_index block.new (page_dst f.shape page * width f.shape f.vcs + i)
+        ≡ left_at (routes_in f (sets_in f entered.now)) leaving.now.outs.now page i }
+    ensures others { let f = leaving.now.map.now.sizes in
+        let from = page_dst f.shape page * width f.shape f.vcs in (j : ℕ)
+        → (j < from) ⊎ (from + width f.shape f.vcs ≤ j)
+        → slice_index block.new j ≡ slice_index block.old j }
+    ensures first { let f = leaving.now.map.now.sizes in
+        IsFirstStuck (routes_in f (left_in f (sets_in f entered.now) leaving.now.outs.now))
+        leaving.now.outs.now ((page + 1) * width f.shape f.vcs) result }
 {
     let sizes = &leaving.map.sizes;
     let (class, router, dst) = sizes.page_parts(page);
-    let vcs = sizes.vcs;
+    let coming = leaving.arrivals(class, router, dst);
+    let from = dst * sizes.width();
     let mut first = first;
     for input in 0..sizes.width() {
-        let entry = Entry {
-            class,
-            router,
-            in_port: input / vcs,
-            in_vc: input % vcs,
-            dst,
-        };
-        first = trim_entry(leaving, sets, page, input, entry, first);
-    }
-    first
-}
-
-// Trims the set of one entry, that of an input channel of a page; `first` is the first entry with
-// no way among those before.
-fn trim_entry(
-    leaving: &Departures,
-    sets: &mut [ChannelSet],
-    page: usize,
-    input: usize,
-    entry: Entry,
-    first: Option<Entry>,
-) -> Option<Entry>
-    requires sets { IsTable leaving.now.map.now.sizes sets.old }
-    requires page { let f = leaving.now.map.now.sizes in page < pages f.shape f.classes }
-    requires input { let f = leaving.now.map.now.sizes in input < width f.shape f.vcs }
-    requires entry { entry ≡ entry_on_page (routes_in leaving.now.map.now.sizes sets.old) page input }
-    requires first { let f = leaving.now.map.now.sizes in IsFirstStuck (routes_in f sets.old) leaving.now.outs.now (page * width f.shape f.vcs + input) first }
-    ensures sets { let f = leaving.now.map.now.sizes in sets.new ≡ (if comes_at (routes_in f sets.old) leaving.now.outs.now page input then sets.old else slice_set sets.old (page * width f.shape f.vcs + input) 0) }
-    ensures first { let f = leaving.now.map.now.sizes in IsFirstStuck (routes_in f sets.new) leaving.now.outs.now (page * width f.shape f.vcs + input + 1) result }
-{
-    let index = leaving.map.sizes.slot(page, input);
-    if !leaving.reach(entry.class, entry.router, entry.dst, input) {
-        sets[index] = ChannelSet::empty();
-        return first;
-    }
-    if sets[index].is_empty() {
-        return Some(earlier(entry, first));
+        if !coming.contains(input) {
+            block[from + input] = ChannelSet::empty();
+            continue;
+        }
+        let set = entered.set(sizes, page, input);
+        block[from + input] = set;
+        if set.is_empty() {
+            let entry = Entry {
+                class,
+                router,
+                in_port: input / sizes.vcs,
+                in_vc: input % sizes.vcs,
+                dst,
+            };
+            first = Some(earlier(entry, first));
+        }
     }
     first
 }

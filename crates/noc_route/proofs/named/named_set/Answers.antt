@@ -1,35 +1,61 @@
 use Rattle.std.proofs.Common.{◌≡◌, ℕ, ◌/◌, ◌%◌, sym, ap, ◌∙◌, arith}
 use Rattle.std.specs.Prelude.{◌||◌, ◌&&◌, nat_lt, nat_eq}
-use Rattle.std.proofs.lemmas.Bool.{eqb-true}
+use Rattle.std.proofs.lemmas.Bool.{eqb-true, eq-eqb, ne_eqb, lt-ltb, and_parts}
 use Rattle.noc_packet.specs.Set.{has_bit}
-use Rattle.noc_route.specs.Entered.{routing_in}
-use Rattle.noc_route.specs.Relation.{is_led}
+use Rattle.noc_topo.specs.Shape.{coordinates, local_port, ports}
+use Rattle.noc_route.specs.Entered.{parts_of}
+use Rattle.noc_route.specs.Relation.{is_led, is_of_class, takes_channel}
 use Rattle.noc_route.specs.Routes.{width}
-use Rattle.noc_route.proofs.BoolLemmas.{lt_next}
-use Rattle.noc_route.proofs.NamedLemmas.{and_next, and_next_not}
+use Rattle.noc_route.proofs.BoolLemmas.{lt_next, and-implied, either_next}
+use Rattle.noc_route.proofs.NamedLemmas.{and_next_not}
+use Rattle.noc_route.proofs.RuleLemmas.{is_led-past}
+use Rattle.noc_route.proofs.WayLemmas.{port_test, is_led-home, is_led-away}
 use Rattle.noc_route.proofs.named.named_set.Goals as goal
-use Rattle.noc_route.proofs.named.named_set.Goals.{then-leads, else-leads}
+use Rattle.noc_route.proofs.named.named_set.Goals.{then-port-lt-LINKS+then-takes_port, else-port-lt-LINKS, else-port-lt-LINKS-via-then-port-lt-LINKS+else-takes_port, else-port-lt-LINKS-via-else-port-lt-LINKS}
 
-pub with-set-requires : goal.with-set-requires
-with-set-requires c = omega (arith, c.loop-channel-test.true, c.width-channel-end.ensures.few)
+pub returns-then-router-dst : goal.returns-then-router-dst
+returns-then-router-dst c = λ k.
+    let g = parts_of c.args.routing.now in
+    let home = nat_eq (k / g.vcs) (local_port g.grid) in
+    let class = is_of_class g.vcs g.classes c.args.class (k % g.vcs) in
+    c.ejection.ensures k
+    ∙ sym
+    (ap (λ b. nat_lt k (width g.grid g.vcs) && b) (is_led-home g c.args.class c.args.router c.args.dst (k / g.vcs) (k % g.vcs) (eq-eqb c.args.router c.args.dst c.if-router-dst.true))
+    ∙ and-implied (nat_lt k (width g.grid g.vcs)) (home && class)
+    (λ e. sym (port_test k (ports g.grid) g.vcs c.args.routing.now.map.now.sizes.some_vcs) ∙ lt-ltb (k / g.vcs) (ports g.grid) (omega (arith, eqb-true (k / g.vcs) (local_port g.grid) (and_parts home class e).0))))
 
-pub loop-channel-preserved : goal.loop-channel-preserved
-loop-channel-preserved c = λ k.
-    let led = λ (k : ℕ). is_led (routing_in c.args.routing.now.map.now.sizes c.args.routing.now.rule.now) c.args.class c.args.router c.args.dst (k / c.args.routing.now.map.now.sizes.vcs) (k % c.args.routing.now.map.now.sizes.vcs) in
-    elim c.if-leads.branch [
-      | then-leads w ↦ ap (λ set. has_bit set k) w.set-is ∙ w.with-set.ensures.members k
-          ∙ ap (λ b. nat_eq k c.loop-channel.channel || b) (c.loop-channel.invariant k)
-          ∙ and_next (nat_eq k c.loop-channel.channel) (nat_lt k c.loop-channel.channel) (led k)
-          (λ e. ap led (eqb-true k c.loop-channel.channel e) ∙ sym (c.leads.ensures c.args.router c.args.dst c.of-way.ensures) ∙ w.if-leads.true)
-          ∙ ap (λ b. b && led k) (sym (lt_next k c.loop-channel.channel))
-      | else-leads w ↦ ap (λ set. has_bit set k) w.set-is ∙ c.loop-channel.invariant k
-          ∙ and_next_not (nat_eq k c.loop-channel.channel) (nat_lt k c.loop-channel.channel) (led k)
-          (λ e. ap led (eqb-true k c.loop-channel.channel e) ∙ sym (c.leads.ensures c.args.router c.args.dst c.of-way.ensures) ∙ w.if-leads.false)
-          ∙ ap (λ b. b && led k) (sym (lt_next k c.loop-channel.channel))
+pub loop-port-preserved : goal.loop-port-preserved
+loop-port-preserved c = λ k.
+    let f = c.args.routing.now.map.now.sizes in
+    let g = parts_of c.args.routing.now in
+    let port = c.loop-port.port in
+    let x = nat_eq (k / g.vcs) port in
+    let l = nat_lt (k / g.vcs) port in
+    let led = λ (p : ℕ). is_led g c.args.class c.args.router c.args.dst p (k % g.vcs) in
+    let takes = takes_channel g.grid g.vcs g.classes g.rule c.args.class (coordinates g.grid.radix c.args.router) (coordinates g.grid.radix c.args.dst) port (k % g.vcs) in
+    let differ = ne_eqb c.args.router c.args.dst c.if-router-dst.false in
+    let away = is_led-away g c.args.class c.args.router c.args.dst port (k % g.vcs) differ in
+    let next = ap (λ b. b && led (k / g.vcs)) (sym (lt_next (k / g.vcs) port)) in
+    elim c.if-port-lt-LINKS.branch [
+      | then-port-lt-LINKS+then-takes_port w ↦ ap (λ set. has_bit set k) w.set-is ∙ w.either-set.ensures k
+          ∙ ap (λ b. has_bit c.loop-port.set k || b) (w.channels.ensures c.args.router c.args.dst k c.of-way.ensures)
+          ∙ ap (λ b. b || (x && takes)) (c.loop-port.invariant k)
+          ∙ either_next x l (led (k / g.vcs)) takes
+          (λ e. ap led (eqb-true (k / g.vcs) port e) ∙ away ∙ ap (λ b. b && takes) (sym (w.takes_port.ensures g.grid c.args.router c.args.dst c.of-way.ensures) ∙ w.if-takes_port.true))
+          ∙ next
+      | else-port-lt-LINKS w ↦ ap (λ set. has_bit set k) w.set-is ∙ c.loop-port.invariant k
+          ∙ and_next_not x l (led (k / g.vcs))
+          (λ e. ap led (eqb-true (k / g.vcs) port e)
+          ∙ (elim w.else-port-lt-LINKS.branch [
+            | else-port-lt-LINKS-via-then-port-lt-LINKS+else-takes_port v ↦ away ∙ ap (λ b. b && takes) (sym (v.takes_port.ensures g.grid c.args.router c.args.dst c.of-way.ensures) ∙ v.if-takes_port.false)
+            | else-port-lt-LINKS-via-else-port-lt-LINKS v ↦ is_led-past g c.args.class c.args.router c.args.dst port (k % g.vcs) c.args.routing.now.right differ (omega (arith, v.if-port-lt-LINKS.false, f.few_ports, f.all_ports))
+          ]))
+          ∙ next
     ]
 
 pub returns : goal.returns
 returns c = λ k.
-    let end : c.loop-channel.channel ≡ width c.args.routing.now.map.now.sizes.shape c.args.routing.now.map.now.sizes.vcs = omega (arith, c.width-channel-end.ensures.value) in
-    c.loop-channel.invariant k
-    ∙ ap (λ n. nat_lt k n && is_led (routing_in c.args.routing.now.map.now.sizes c.args.routing.now.rule.now) c.args.class c.args.router c.args.dst (k / c.args.routing.now.map.now.sizes.vcs) (k % c.args.routing.now.map.now.sizes.vcs)) end
+    let f = c.args.routing.now.map.now.sizes in
+    let end : c.loop-port.port ≡ ports f.shape = omega (arith, c.loop-port-test.false, c.loop-port.auto.port-end, f.all_ports) in
+    c.loop-port.invariant k
+    ∙ ap (λ b. b && is_led (parts_of c.args.routing.now) c.args.class c.args.router c.args.dst (k / f.vcs) (k % f.vcs)) (ap (nat_lt (k / f.vcs)) end ∙ port_test k (ports f.shape) f.vcs f.some_vcs)

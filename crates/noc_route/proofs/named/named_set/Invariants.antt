@@ -5,6 +5,7 @@ use Rattle.noc_route.specs.Entered.{parts_of}
 use Rattle.noc_route.specs.Relation.{is_led}
 use Rattle.noc_route.proofs.named.named_set.Given as goal
 
-abbrev pub invariant-loop-channel : goal.invariant-loop-channel
-invariant-loop-channel l =
-    (k : ℕ) → has_bit l.set k ≡ (nat_lt k l.channel && is_led (parts_of l.routing) l.fn.class l.fn.router l.fn.dst (k / l.vcs) (k % l.vcs))
+abbrev pub invariant-loop-port : goal.invariant-loop-port
+invariant-loop-port l =
+    let g = parts_of l.routing in
+    (k : ℕ) → has_bit l.set k ≡ (nat_lt (k / g.vcs) l.port && is_led g l.fn.class l.fn.router l.fn.dst (k / g.vcs) (k % g.vcs))

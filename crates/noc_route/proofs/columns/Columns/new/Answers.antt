@@ -1,40 +1,101 @@
-use Rattle.std.proofs.Common.{◌≡◌, ◌+◌, ◌*◌, ◌<◌, ◌≤◌, ℕ, List, length, get_or, take, vec_len, arith, ap, subst, sym, ◌∙◌}
+use Rattle.std.proofs.Common.{◌≡◌, ◌+◌, ◌*◌, ◌<◌, ◌≤◌, ℕ, List, length, get_or, vec_len, arith, ap, subst, sym, ◌∙◌}
+use Rattle.std.proofs.Math.Nat.{mul_comm}
 use Rattle.noc_topo.specs.Shape.{nodes}
-use Rattle.noc_route.specs.Columns.{table_of, AreColumns, AreKept}
+use Rattle.noc_topo.proofs.ListLemmas.{length-tabulate}
+use Rattle.noc_route.specs.Columns.{table_of}
+use Rattle.noc_route.specs.Entered.{sets_in}
 use Rattle.noc_route.specs.Routes.{width}
-use Rattle.noc_route.proofs.ColumnLemmas.{all-written, all-within, table-kept, width-some}
+use Rattle.noc_route.specs.Trimming.{routes_in, left_in, IsFirstStuck}
+use Rattle.noc_route.proofs.EntryLemmas.{flat-below}
+use Rattle.noc_route.proofs.ColumnLemmas.{AreKept, AreKept-behind, AreKept-written, all-written, all-within, block-end, block-room, pairs-more, table-kept, width-some}
+use Rattle.noc_route.proofs.StuckLemmas.{left_in-at}
 use Rattle.noc_route.proofs.columns.Columns.new.Goals as goal
 
-pub invariant_of-result : goal.invariant_of-result
-invariant_of-result c =
-    let f = c.args.sizes in
-    let starts = c.keep-end.new.starts in
-    let count = vec_len c.shrink_to_fit.new.self in
-    let old : length c.deref_mut-3.result.now ≡ length c.in_ok-starts.starts.items = ap (λ (xs : List ℕ). length xs) c.deref_mut-3.ensures.value in
-    let long : length starts ≡ c.in_ok-starts.starts.len = omega (arith, c.keep-end.auto.starts, old, c.in_ok-starts.starts.ok.0) in
-    let before : length c.deref_mut.result.now ≡ length c.args.sets.items = ap (λ (xs : List ℕ). length xs) c.deref_mut.ensures.value in
-    let end : c.keep-end.result ≡ count = omega (arith, c.keep-end.ensures.within, c.keep-end.auto.sets, before, c.args.sets.ok.0, c.truncate.ensures.len, c.shrink_to_fit.ensures.len) in
-    let kept : AreColumns f starts count = record {
-      long = long ∙ c.in_ok-starts.ensures.len ∙ c.columns.ensures.value;
-      within = subst (λ n. (k : ℕ) → k < nodes f.shape * f.classes * width f.shape f.vcs → get_or starts k 0 + nodes f.shape ≤ n) end
-          (all-within f c.deref_mut.result.now c.keep-end.new.sets starts c.keep-end.result (width-some f) c.keep-end.ensures.kept);
-    } in
-    record { all = subst (λ xs. AreColumns f xs count) (sym (all-written starts c.in_ok-starts.starts.items c.in_ok-starts.starts.len long)) kept }
+pub keep_pair-end-requires-clause-sets : goal.keep_pair-end-requires-clause-sets
+keep_pair-end-requires-clause-sets c =
+    let f = c.args.leaving.now.map.now.sizes in
+    let n = nodes f.shape in
+    let w = width f.shape f.vcs in
+    let size : f.node_count * c.width.result ≡ n * w = ap (λ n. n * c.width.result) f.all_nodes ∙ ap (λ w. n * w) c.width.ensures.value in
+    let room = block-room f c.loop-pair.pair c.loop-pair-test.true in
+    omega (arith, room, size, c.loop-pair.invariant.few, c.in_ok-resize.ensures.len, c.deref_mut-in-loop-pair.ensures.len)
+
+pub keep_pair-end-requires-clause-room : goal.keep_pair-end-requires-clause-room
+keep_pair-end-requires-clause-room c =
+    let f = c.args.leaving.now.map.now.sizes in
+    let size : f.node_count * c.width.result ≡ nodes f.shape * width f.shape f.vcs = ap (λ n. n * c.width.result) f.all_nodes ∙ ap (λ w. nodes f.shape * w) c.width.ensures.value in
+    omega (arith, size, c.loop-pair.invariant.block, c.deref.ensures.len, c.in_ok-resize.ensures.len, c.deref_mut-in-loop-pair.ensures.len)
+
+pub loop-pair-preserved : goal.loop-pair-preserved
+loop-pair-preserved c =
+    let f = c.args.leaving.now.map.now.sizes in
+    let sets = sets_in f c.args.entered.now in
+    let outs = c.args.leaving.now.outs.now in
+    let table = left_in f sets outs in
+    let n = nodes f.shape in
+    let w = width f.shape f.vcs in
+    let pair = c.loop-pair.pair in
+    let end = c.loop-pair.end in
+    let next = c.keep_pair-end.result in
+    let old = c.deref_mut-in-loop-pair.result.now in
+    let new = c.keep_pair-end.new.sets in
+    let starts = c.keep_pair-end.new.starts in
+    let g = c.keep_pair-end.ensures in
+    let size : f.node_count * c.width.result ≡ n * w = ap (λ n. n * c.width.result) f.all_nodes ∙ ap (λ w. n * w) c.width.ensures.value in
+    let here : pair < n * f.classes = subst (λ n. pair < n * f.classes) f.all_nodes c.loop-pair-test.true in
+    let block : c.deref.result.now ≡ c.trim_pair-first.new.block
+    = c.deref.ensures.value ∙ all-written c.trim_pair-first.new.block c.loop-pair.block.items c.loop-pair.block.len (omega (arith, c.trim_pair-first.auto.block, c.deref_mut.ensures.len)) in
+    let written : (t i : ℕ) → t < n → i < w → get_or c.deref.result.now (t * w + i) 0 ≡ get_or table ((pair * n + t) * w + i) 0
+    = λ t i l m. ap (λ (xs : List ℕ). get_or xs (t * w + i) 0) block ∙ c.trim_pair-first.ensures.left t i l m ∙ sym (left_in-at f sets outs (pair * n + t) i (flat-below pair (n * f.classes) t n here l) m) in
+    let behind : AreKept f table old c.loop-pair.starts.items pair end
+    = AreKept-behind f table c.loop-pair.sets.items old c.loop-pair.starts.items pair end
+    (λ j l. ap (λ (xs : List ℕ). get_or xs j 0) c.deref_mut-in-loop-pair.ensures.value ∙ c.in_ok-resize.ensures.by_index.0 j 0 (omega (arith, l)) (omega (arith, l, c.loop-pair.invariant.within)))
+    c.loop-pair.invariant.kept in
+    let before : AreKept f table old c.deref_mut-in-loop-pair-2.result.now pair end = subst (λ (xs : List ℕ). AreKept f table old xs pair end) (sym c.deref_mut-in-loop-pair-2.ensures.value) behind in
+    let more : AreKept f table new starts (pair + 1) next = pairs-more f table old new c.deref.result.now c.deref_mut-in-loop-pair-2.result.now starts pair end next written g before in
+    let long_sets : length new ≡ c.resize.new.self.len = omega (arith, c.keep_pair-end.auto.sets, c.deref_mut-in-loop-pair.ensures.len) in
+    let long_starts : length starts ≡ c.loop-pair.starts.len = omega (arith, c.keep_pair-end.auto.starts, c.deref_mut-in-loop-pair-2.ensures.len) in
+    record {
+      block = c.loop-pair.invariant.block;
+      starts = c.loop-pair.invariant.starts;
+      few = block-end pair end next n w c.loop-pair.invariant.few g.few;
+      within = omega (arith, g.few, mul_comm w n, size, c.in_ok-resize.ensures.len);
+      kept = AreKept-written f table new starts c.resize.new.self.items c.loop-pair.starts.items c.resize.new.self.len c.loop-pair.starts.len (pair + 1) next long_sets long_starts more;
+      stuck = c.trim_pair-first.ensures.first;
+    }
+
+pub invariant_of-columns : goal.invariant_of-columns
+invariant_of-columns c =
+    let f = c.args.leaving.now.map.now.sizes in
+    let table = left_in f (sets_in f c.args.entered.now) c.args.leaving.now.outs.now in
+    let sets = c.loop-pair.sets.items in
+    let starts = c.loop-pair.starts.items in
+    let end = c.loop-pair.end in
+    let last : c.loop-pair.pair ≡ f.node_count * f.classes = omega (arith, c.loop-pair-test.false, c.loop-pair.auto.pair-end) in
+    let kept : AreKept f table sets starts (nodes f.shape * f.classes) end = subst (λ p. AreKept f table sets starts p end) (last ∙ ap (λ n. n * f.classes) f.all_nodes) c.loop-pair.invariant.kept in
+    let count : end ≡ vec_len c.shrink_to_fit.new.self = omega (arith, c.loop-pair.invariant.within, c.truncate.ensures.len, c.shrink_to_fit.ensures.len) in
+    record {
+      all = record {
+        long = omega (arith, c.loop-pair.starts.ok.0, c.loop-pair.invariant.starts);
+        within = subst (λ n. (k : ℕ) → k < nodes f.shape * f.classes * width f.shape f.vcs → get_or starts k 0 + nodes f.shape ≤ n) count (all-within f table sets starts end (width-some f) kept);
+      };
+    }
 
 pub returns-clause-table : goal.returns-clause-table
 returns-clause-table c =
-    let f = c.args.sizes in
-    let starts = c.keep-end.new.starts in
-    let sets = c.keep-end.new.sets in
-    let end = c.keep-end.result in
-    let old : length c.deref_mut-3.result.now ≡ length c.in_ok-starts.starts.items = ap (λ (xs : List ℕ). length xs) c.deref_mut-3.ensures.value in
-    let long : length starts ≡ c.in_ok-starts.starts.len = omega (arith, c.keep-end.auto.starts, old, c.in_ok-starts.starts.ok.0) in
-    let before : length c.deref_mut.result.now ≡ length c.args.sets.items = ap (λ (xs : List ℕ). length xs) c.deref_mut.ensures.value in
-    let size : length sets ≡ c.args.sets.len = omega (arith, c.keep-end.auto.sets, before, c.args.sets.ok.0) in
-    let items : c.shrink_to_fit.new.self.items ≡ take end sets
-    = c.shrink_to_fit.ensures.items ∙ c.truncate.ensures.items ∙ ap (λ (xs : List ℕ). take end xs) (all-written sets c.args.sets.items c.args.sets.len size) in
-    let kept : AreKept f c.args.sets.items sets starts (nodes f.shape * f.classes) end
-    = subst (λ table. AreKept f table sets starts (nodes f.shape * f.classes) end) c.deref_mut.ensures.value c.keep-end.ensures.kept in
-    ap (λ (xs : List ℕ). table_of f c.shrink_to_fit.new.self.items xs) (all-written starts c.in_ok-starts.starts.items c.in_ok-starts.starts.len long)
-    ∙ ap (λ (xs : List ℕ). table_of f xs starts) items
-    ∙ table-kept f c.args.sets.items sets starts end (omega (arith, f.all_nodes, f.some_nodes)) (width-some f) c.requires kept
+    let f = c.args.leaving.now.map.now.sizes in
+    let table = left_in f (sets_in f c.args.entered.now) c.args.leaving.now.outs.now in
+    let sets = c.loop-pair.sets.items in
+    let starts = c.loop-pair.starts.items in
+    let end = c.loop-pair.end in
+    let last : c.loop-pair.pair ≡ f.node_count * f.classes = omega (arith, c.loop-pair-test.false, c.loop-pair.auto.pair-end) in
+    let kept : AreKept f table sets starts (nodes f.shape * f.classes) end = subst (λ p. AreKept f table sets starts p end) (last ∙ ap (λ n. n * f.classes) f.all_nodes) c.loop-pair.invariant.kept in
+    ap (λ (xs : List ℕ). table_of f xs starts) (c.shrink_to_fit.ensures.items ∙ c.truncate.ensures.items)
+    ∙ table-kept f table sets starts end (omega (arith, f.all_nodes, f.some_nodes)) (width-some f) (length-tabulate _ _) kept
+
+pub returns-clause-first : goal.returns-clause-first
+returns-clause-first c =
+    let f = c.args.leaving.now.map.now.sizes in
+    let P : ℕ → Type 0 = λ p. IsFirstStuck (routes_in f (left_in f (sets_in f c.args.entered.now) c.args.leaving.now.outs.now)) c.args.leaving.now.outs.now (p * nodes f.shape * width f.shape f.vcs) c.loop-pair.first in
+    let last : c.loop-pair.pair ≡ f.node_count * f.classes = omega (arith, c.loop-pair-test.false, c.loop-pair.auto.pair-end) in
+    subst P (last ∙ ap (λ n. n * f.classes) f.all_nodes) c.loop-pair.invariant.stuck

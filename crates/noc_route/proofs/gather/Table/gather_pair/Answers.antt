@@ -1,4 +1,5 @@
 use Rattle.std.proofs.Common.{◌≡◌, ◌+◌, ℕ, subst, sym, set, arith}
+use Rattle.noc_route.specs.Entered.{sets_in}
 use Rattle.noc_route.specs.Trimming.{routes_in}
 use Rattle.noc_route.specs.Gathering.{IsPairDone}
 use Rattle.noc_route.proofs.TrimLemmas.{IsPairDone-more}
@@ -14,7 +15,7 @@ pub loop-class-preserved : goal.loop-class-preserved
 loop-class-preserved c =
     let table = c.args.self.now in
     let f = table.map.now.sizes in
-    let routes = routes_in f table.sets.now in
+    let routes = routes_in f (sets_in f table.entered.now) in
     let P : ℕ → Type 0 = λ page. IsPairDone routes c.args.outs.now (set c.loop-class.outs page c.leaving-out.result) c.args.router c.args.dst (c.loop-class.class + 1) in
     subst P (sym c.page.ensures.value)
     (IsPairDone-more routes c.args.outs.now c.loop-class.outs c.args.router c.args.dst c.loop-class.class c.leaving-out.result (record { grid = f.grid; some_vcs = f.some_vcs }) table.nearer c.requires.farther
@@ -24,4 +25,4 @@ pub returns : goal.returns
 returns c =
     let table = c.args.self.now in
     let last : c.loop-class.class ≡ table.map.now.sizes.classes = omega (arith, c.loop-class.auto.class-end, c.loop-class-test.false) in
-    subst (IsPairDone (routes_in table.map.now.sizes table.sets.now) c.args.outs.now c.loop-class.outs c.args.router c.args.dst) last c.loop-class.invariant
+    subst (IsPairDone (routes_in table.map.now.sizes (sets_in table.map.now.sizes table.entered.now)) c.args.outs.now c.loop-class.outs c.args.router c.args.dst) last c.loop-class.invariant

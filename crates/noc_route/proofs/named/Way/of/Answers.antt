@@ -1,4 +1,3 @@
-use Rattle.std.proofs.Common.{refl}
 use Rattle.noc_topo.proofs.LinkLemmas.{padded-below}
 use Rattle.noc_route.proofs.named.Way.of.Goals as goal
 
@@ -22,7 +21,6 @@ pub returns : goal.returns
 returns c = record {
   here = c.coordinates-here.ensures.value;
   there = c.coordinates-there.ensures.value;
-  arrived = refl;
   towards = c.dor_port.ensures c.args.router c.args.dst c.coordinates-here.ensures.value c.coordinates-there.ensures.value;
   nearer = c.nearer_ports.ensures c.args.router c.args.dst c.coordinates-here.ensures.value c.coordinates-there.ensures.value;
 }
