@@ -1,11 +1,14 @@
 -- What the links bring to the routers of a block: where the neighbours stand in a row of the words
 -- that left all routers, and which of their channels are taken.
-use Rattle.std.specs.Prelude.{◌≡◌, ℕ, ◌+◌, ◌%◌, ◌<◌, ◌≤◌, Bool, true, false, List, bit_and, nat_eq, slice_index}
+use Rattle.std.specs.Prelude.{◌≡◌, ℕ, ◌+◌, ◌%◌, ◌<◌, ◌≤◌, Bool, true, false, List, bit_and, bit_or, nat_eq, slice_index, if◌then◌else◌}
 use Rattle.noc_topo.specs.Shape.{Grid, local_port, nodes}
 use Rattle.noc_sets.specs.Gather.{goes_round, goes_straight, mask_where, place_round, place_straight}
 use Rattle.noc_sets.specs.Sets.{down_by}
+use Rattle.noc_sets.specs.Unions.{union_from}
+use Rattle.noc_lanes.specs.Channels.{links_by}
 use Rattle.noc_lanes.specs.Lanes.{word}
 use Rattle.noc_lanes.specs.Words.{up_within}
+use Rattle.noc_lanes.specs.declared.channels.Links.{Links}
 use Rattle.noc_lanes.specs.declared.lanes.TheConstants.{LANES}
 use Rattle.noc_blocks.specs.Ports.{by_port}
 use Rattle.noc_blocks.specs.declared.links.Side.{Side}
@@ -46,3 +49,24 @@ abbrev pub brought_by : {A : Type 0} → (A → ℕ) → ℕ → ℕ → Side (L
 brought_by value w vcs side row k q =
     brought_from value w vcs (nat_eq (q % 2) 0) row (slice_index side.starts q + k)
     (by_port value side.masks k q)
+
+-- what so many ports bring to router k of the block from one side, of each row
+abbrev pub brought_by_side : {A : Type 0}
+    → (A → ℕ) → ℕ → ℕ → ℕ → Side (List A) → Links (List A) → ℕ → Links ℕ
+brought_by_side value w vcs n side rows k =
+    links_by (λ row. union_from 0 n (brought_by value w vcs side row k)) rows
+
+-- .. from both sides
+abbrev pub brought_by_both : {A : Type 0}
+    → (A → ℕ) → ℕ → ℕ → ℕ → Sides (List A) → Links (List A) → ℕ → Links ℕ
+brought_by_both value w vcs n sides rows k =
+    links_by (λ row. bit_or (union_from 0 n (brought_by value w vcs sides.straight row k))
+    (if sides.closes then union_from 0 n (brought_by value w vcs sides.round row k) else 0)) rows
+
+-- the channels of either
+abbrev pub joined_links : Links ℕ → Links ℕ → Links ℕ
+joined_links a b = record {
+  flits = bit_or a.flits b.flits;
+  tails = bit_or a.tails b.tails;
+  credits = bit_or a.credits b.credits;
+}

@@ -1,15 +1,16 @@
 //! What the links bring to the routers of a block, out of rows of what has left all routers.
 
-ghost use Rattle.std.specs.Prelude.{◌≡◌, ℕ, ◌+◌, ◌<◌, ◌≤◌, bit_or, map, slice_index, if◌then◌else◌};
+ghost use Rattle.std.specs.Prelude.{◌≡◌, ℕ, ◌+◌, ◌<◌, ◌≤◌, map, slice_index};
 ghost use Rattle.noc_topo.specs.Shape.{Grid, local_port, nodes};
 ghost use Rattle.noc_sets.specs.Gather.{gathered_row};
 ghost use Rattle.noc_sets.specs.Unions.{union_from};
+ghost use Rattle.noc_lanes.specs.Channels.{links_by};
 ghost use Rattle.noc_lanes.specs.Lanes.{word};
 ghost use Rattle.noc_blocks.specs.Blank.{BringsNothing};
-ghost use Rattle.noc_blocks.specs.Sides.{AreSides, FitsRow, brought_by, moved_by};
+ghost use Rattle.noc_blocks.specs.Sides.{AreSides, FitsRow, brought_by, brought_by_side, brought_by_both, joined_links, moved_by};
 
 use crate::frame::PORTS;
-use noc_lanes::{LANES, Lanes, Word, alike, at, put};
+use noc_lanes::{LANES, Lanes, Links, Word, alike, at};
 
 /// How many words of a row stand in front of that of the first router, and behind all.
 pub const ROOM: usize = 256;
@@ -38,27 +39,28 @@ pub struct Sides<T> {
     pub closes: bool,
 }
 
-/// What so many link ports bring to each router of a block, of `width` virtual channels each: the
-/// word of each neighbour, of which the channels of the port at the other end are put where those
-/// of this port are.
+/// What so many link ports bring to each router of a block, of `width` virtual channels each, out
+/// of rows of what has left all routers: the word of each neighbour, of which the channels of the
+/// port at the other end are put where those of this port are.
 pub fn gather<W: Word>(
     width: u32,
     links: usize,
     sides: &Sides<Lanes<W>>,
-    row: &[W; ROW],
-    into: &mut Lanes<W>,
+    rows: &Links<[W; ROW]>,
+    into: &mut Links<Lanes<W>>,
 )
     requires width { width < W.bits }
     requires links { links ≤ PORTS }
     requires row { FitsRow links sides.now.straight.starts sides.now.round.starts }
     ensures gathered { (g : Grid) (first k : ℕ) → AreSides W.value g width first sides.now
         → links ≡ local_port g → k < LANES → first + k < nodes g
-        → word W.value k into.new
-        ≡ gathered_row g width ROOM (map W.value row.now) (first + k) }
+        → links_by (word W.value k) into.new
+        ≡ links_by (λ row. gathered_row g width ROOM (map W.value row) (first + k))
+        rows.now }
     ensures nothing { (k : ℕ) → k < LANES → BringsNothing W.value links k sides.now
-        → word W.value k into.new ≡ 0 }
+        → links_by (word W.value k) into.new ≡ record { flits = 0; tails = 0; credits = 0 } }
 {
-    gather_sides(width, links, sides, row, into);
+    gather_sides(width, links, sides, rows, into);
 }
 
 // What both sides bring. (The loop over ports is unrolled where their number is known.)
@@ -67,24 +69,20 @@ fn gather_sides<W: Word>(
     width: u32,
     links: usize,
     sides: &Sides<Lanes<W>>,
-    row: &[W; ROW],
-    into: &mut Lanes<W>,
+    rows: &Links<[W; ROW]>,
+    into: &mut Links<Lanes<W>>,
 )
     requires width { width < W.bits }
     requires links { links ≤ PORTS }
     requires row { FitsRow links sides.now.straight.starts sides.now.round.starts }
-    ensures { (k : ℕ) → k < LANES
-        → word W.value k into.new
-        ≡ bit_or (union_from 0 links
-        (brought_by W.value W.bits width sides.now.straight row.now k)) (if sides.now.closes
-        then union_from 0 links (brought_by W.value W.bits width sides.now.round row.now k)
-        else 0) }
+    ensures { (k : ℕ) → k < LANES → links_by (word W.value k) into.new
+        ≡ brought_by_both W.value W.bits width links sides.now rows.now k }
 {
     match links {
-        2 => gather_by(width, links, 2, sides, row, into),
-        4 => gather_by(width, links, 4, sides, row, into),
-        6 => gather_by(width, links, 6, sides, row, into),
-        _ => gather_any(width, links, sides, row, into),
+        2 => gather_by(width, links, 2, sides, rows, into),
+        4 => gather_by(width, links, 4, sides, rows, into),
+        6 => gather_by(width, links, 6, sides, rows, into),
+        _ => gather_any(width, links, sides, rows, into),
     }
 }
 
@@ -94,130 +92,141 @@ fn gather_any<W: Word>(
     width: u32,
     links: usize,
     sides: &Sides<Lanes<W>>,
-    row: &[W; ROW],
-    into: &mut Lanes<W>,
+    rows: &Links<[W; ROW]>,
+    into: &mut Links<Lanes<W>>,
 )
     requires width { width < W.bits }
     requires links { links ≤ PORTS }
     requires row { FitsRow links sides.now.straight.starts sides.now.round.starts }
-    ensures { (k : ℕ) → k < LANES
-        → word W.value k into.new
-        ≡ bit_or (union_from 0 links
-        (brought_by W.value W.bits width sides.now.straight row.now k)) (if sides.now.closes
-        then union_from 0 links (brought_by W.value W.bits width sides.now.round row.now k)
-        else 0) }
+    ensures { (k : ℕ) → k < LANES → links_by (word W.value k) into.new
+        ≡ brought_by_both W.value W.bits width links sides.now rows.now k }
 {
-    gather_by(width, links, links, sides, row, into);
+    gather_by(width, links, links, sides, rows, into);
 }
 
 // .. by so many ports. (What is brought is in a value of its own before it is written, as the
-// compiler does not know that it is written nowhere into the row.)
+// compiler does not know that it is written nowhere into the rows.)
 #[inline(always)]
 fn gather_by<W: Word>(
     width: u32,
     links: usize,
     count: usize,
     sides: &Sides<Lanes<W>>,
-    row: &[W; ROW],
-    into: &mut Lanes<W>,
+    rows: &Links<[W; ROW]>,
+    into: &mut Links<Lanes<W>>,
 )
     requires width { width < W.bits }
     requires links { links ≤ PORTS }
     requires count { count ≡ links }
     requires row { FitsRow links sides.now.straight.starts sides.now.round.starts }
-    ensures { (k : ℕ) → k < LANES
-        → word W.value k into.new
-        ≡ bit_or (union_from 0 links
-        (brought_by W.value W.bits width sides.now.straight row.now k)) (if sides.now.closes
-        then union_from 0 links (brought_by W.value W.bits width sides.now.round row.now k)
-        else 0) }
+    ensures { (k : ℕ) → k < LANES → links_by (word W.value k) into.new
+        ≡ brought_by_both W.value W.bits width links sides.now rows.now k }
 {
-    let mut all = brought_all(width, links, count, &sides.straight, row);
-    join_rings(width, links, count, sides, row, &mut all);
+    let mut all = brought_all(width, links, count, &sides.straight, rows);
+    if sides.closes {
+        join_side(width, links, count, &sides.round, rows, &mut all);
+    }
     *into = all;
 }
 
-// What the neighbours at one distance bring, lane by lane.
+// What the neighbours at one distance bring, lane by lane. (The three rows are read together, so
+// that the masks are read once.)
 #[inline(always)]
 fn brought_all<W: Word>(
     width: u32,
     links: usize,
     count: usize,
     side: &Side<Lanes<W>>,
-    row: &[W; ROW],
-) -> Lanes<W>
+    rows: &Links<[W; ROW]>,
+) -> Links<Lanes<W>>
     requires width { width < W.bits }
     requires links { links ≤ PORTS }
     requires count { count ≡ links }
     requires row { (q : ℕ) → q < links → slice_index side.now.starts q + LANES ≤ ROW }
-    ensures { (k : ℕ) → k < LANES
-        → word W.value k result
-        ≡ union_from 0 links (brought_by W.value W.bits width side.now row.now k) }
+    ensures { (k : ℕ) → k < LANES → links_by (word W.value k) result
+        ≡ brought_by_side W.value W.bits width links side.now rows.now k }
 {
     let starts = side.starts;
-    let mut all = alike(W::none());
+    let none = alike(W::none());
+    let mut all = Links {
+        flits: none,
+        tails: none,
+        credits: none,
+    };
     for j in 0..LANES {
-        let comes = brought_to(width, count, &starts, &side.masks, row, j);
-        put(&mut all, j, comes);
+        let comes = brought_links(width, count, &starts, &side.masks, rows, j);
+        all.put(j, comes);
     }
     all
 }
 
-// What the neighbours at the other end of a ring bring too, where there are rings.
-#[inline(always)]
-fn join_rings<W: Word>(
-    width: u32,
-    links: usize,
-    count: usize,
-    sides: &Sides<Lanes<W>>,
-    row: &[W; ROW],
-    into: &mut Lanes<W>,
-)
-    requires width { width < W.bits }
-    requires links { links ≤ PORTS }
-    requires count { count ≡ links }
-    requires row { FitsRow links sides.now.straight.starts sides.now.round.starts }
-    ensures { (k : ℕ) → k < LANES
-        → word W.value k into.new
-        ≡ bit_or (word W.value k into.old) (if sides.now.closes then union_from 0 links
-        (brought_by W.value W.bits width sides.now.round row.now k) else 0) }
-{
-    if sides.closes {
-        join_side(width, links, count, &sides.round, row, into);
-    }
-}
-
-// .. lane by lane.
+// What the neighbours at the other end of a ring bring too, lane by lane.
 #[inline(always)]
 fn join_side<W: Word>(
     width: u32,
     links: usize,
     count: usize,
     side: &Side<Lanes<W>>,
-    row: &[W; ROW],
-    into: &mut Lanes<W>,
+    rows: &Links<[W; ROW]>,
+    into: &mut Links<Lanes<W>>,
 )
     requires width { width < W.bits }
     requires links { links ≤ PORTS }
     requires count { count ≡ links }
     requires row { (q : ℕ) → q < links → slice_index side.now.starts q + LANES ≤ ROW }
-    ensures { (k : ℕ) → k < LANES
-        → word W.value k into.new
-        ≡ bit_or (word W.value k into.old)
-        (union_from 0 links (brought_by W.value W.bits width side.now row.now k)) }
+    ensures { (k : ℕ) → k < LANES → links_by (word W.value k) into.new
+        ≡ joined_links (links_by (word W.value k) into.old)
+        (brought_by_side W.value W.bits width links side.now rows.now k) }
 {
-    // (A value of its own is none of the words that are written. So the compiler takes several lanes
-    // at a time.)
+    // (A value of its own is none of the words that are written. So the compiler takes several
+    // lanes at a time.)
     let starts = side.starts;
     for j in 0..LANES {
-        let before = at(into, j);
-        let comes = brought_to(width, count, &starts, &side.masks, row, j);
-        let all = before.or(comes);
-        put(into, j, all);
+        let before = into.at(j);
+        let comes = brought_links(width, count, &starts, &side.masks, rows, j);
+        let all = joined(before, comes);
+        into.put(j, all);
     }
 }
 
-// .. to one router.
+// The channels of either.
+#[inline(always)]
+fn joined<W: Word>(links: Links<W>, others: Links<W>) -> Links<W>
+    ensures { links_by W.value result
+        ≡ joined_links (links_by W.value links) (links_by W.value others) }
+{
+    Links {
+        flits: links.flits.or(others.flits),
+        tails: links.tails.or(others.tails),
+        credits: links.credits.or(others.credits),
+    }
+}
+
+// What is brought to one router.
+#[inline(always)]
+fn brought_links<W: Word>(
+    width: u32,
+    links: usize,
+    starts: &[usize; PORTS],
+    masks: &[Lanes<W>; PORTS],
+    rows: &Links<[W; ROW]>,
+    lane: usize,
+) -> Links<W>
+    requires width { width < W.bits }
+    requires links { links ≤ PORTS }
+    requires row { (q : ℕ) → q < links → slice_index starts.now q + LANES ≤ ROW }
+    requires lane { lane < LANES }
+    ensures { links_by W.value result ≡ brought_by_side W.value W.bits width links
+        (record { starts = starts.now; masks = masks.now }) rows.now lane }
+{
+    Links {
+        flits: brought_to(width, links, starts, masks, &rows.flits, lane),
+        tails: brought_to(width, links, starts, masks, &rows.tails, lane),
+        credits: brought_to(width, links, starts, masks, &rows.credits, lane),
+    }
+}
+
+// .. out of one row.
 #[inline(always)]
 fn brought_to<W: Word>(
     width: u32,

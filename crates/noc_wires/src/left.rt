@@ -23,12 +23,9 @@ pub const PARTS: usize = LANES / SHARE;
 /// room.
 #[derive(Clone, Copy)]
 pub struct Left<W: Word> {
-    // Output channels by which a flit has left.
-    flits: [W; ROW],
-    // Output channels by which a tail has left.
-    tails: [W; ROW],
-    // Input channels that a flit has left.
-    credits: [W; ROW],
+    // Output channels by which a flit has left, those by which a tail has, and input channels that
+    // a flit has left.
+    words: Links<[W; ROW]>,
 }
 
 impl<W: Word> Left<W> {
@@ -39,9 +36,11 @@ impl<W: Word> Left<W> {
         ensures { (s : ℕ) → left_of W.value result s ≡ NOTHING }
     {
         Left {
-            flits: [W::none(); ROW],
-            tails: [W::none(); ROW],
-            credits: [W::none(); ROW],
+            words: Links {
+                flits: [W::none(); ROW],
+                tails: [W::none(); ROW],
+                credits: [W::none(); ROW],
+            },
         }
     }
 
@@ -63,9 +62,7 @@ impl<W: Word> Left<W> {
     {
         let width = frame.fields.width;
         let ports = frame.ports - 1;
-        gather(width, ports, sides, &self.flits, &mut links.flits);
-        gather(width, ports, sides, &self.tails, &mut links.tails);
-        gather(width, ports, sides, &self.credits, &mut links.credits);
+        gather(width, ports, sides, &self.words, links);
     }
 
     /// What has left a block: by router, these channels.
@@ -82,9 +79,9 @@ impl<W: Word> Left<W> {
             → left_of W.value self.new s ≡ left_of W.value self.old s }
     {
         let start = ROOM + block * LANES;
-        put_row(flits, start, &mut self.flits);
-        put_row(tails, start, &mut self.tails);
-        put_row(credits, start, &mut self.credits);
+        put_row(flits, start, &mut self.words.flits);
+        put_row(tails, start, &mut self.words.tails);
+        put_row(credits, start, &mut self.words.credits);
     }
 
     /// What has left a share: by router, these channels.
@@ -106,9 +103,9 @@ impl<W: Word> Left<W> {
             → left_of W.value self.new s ≡ left_of W.value self.old s }
     {
         let start = ROOM + share * SHARE;
-        put_words(flits, start, &mut self.flits);
-        put_words(tails, start, &mut self.tails);
-        put_words(credits, start, &mut self.credits);
+        put_words(flits, start, &mut self.words.flits);
+        put_words(tails, start, &mut self.words.tails);
+        put_words(credits, start, &mut self.words.credits);
     }
 
     /// What has left a block in another network.
@@ -120,9 +117,21 @@ impl<W: Word> Left<W> {
             → left_of W.value self.new s ≡ left_of W.value self.old s }
     {
         let start = ROOM + block * LANES;
-        put_row(&block_of(&other.flits, start), start, &mut self.flits);
-        put_row(&block_of(&other.tails, start), start, &mut self.tails);
-        put_row(&block_of(&other.credits, start), start, &mut self.credits);
+        put_row(
+            &block_of(&other.words.flits, start),
+            start,
+            &mut self.words.flits,
+        );
+        put_row(
+            &block_of(&other.words.tails, start),
+            start,
+            &mut self.words.tails,
+        );
+        put_row(
+            &block_of(&other.words.credits, start),
+            start,
+            &mut self.words.credits,
+        );
     }
 }
 

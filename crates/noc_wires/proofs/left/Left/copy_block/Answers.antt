@@ -11,9 +11,9 @@ returns-clause-here g c = λ s e.
     let place = place-of s c.args.block e in
     let k : s % 32 < 32 = mod_below s 32 (omega arith) in
     left-same _ _ _ _ _ _
-    (subst (λ p. slice_index (map value c.put_row.new.row) p ≡ slice_index (map value other.flits) p) place (c.put_row.ensures.here (s % 32) k ∙ c.block_of.ensures (s % 32) k))
-    (subst (λ p. slice_index (map value c.put_row-2.new.row) p ≡ slice_index (map value other.tails) p) place (c.put_row-2.ensures.here (s % 32) k ∙ c.block_of-2.ensures (s % 32) k))
-    (subst (λ p. slice_index (map value c.put_row-3.new.row) p ≡ slice_index (map value other.credits) p) place (c.put_row-3.ensures.here (s % 32) k ∙ c.block_of-3.ensures (s % 32) k))
+    (subst (λ p. slice_index (map value c.put_row.new.row) p ≡ slice_index (map value other.words.flits) p) place (c.put_row.ensures.here (s % 32) k ∙ c.block_of.ensures (s % 32) k))
+    (subst (λ p. slice_index (map value c.put_row-2.new.row) p ≡ slice_index (map value other.words.tails) p) place (c.put_row-2.ensures.here (s % 32) k ∙ c.block_of-2.ensures (s % 32) k))
+    (subst (λ p. slice_index (map value c.put_row-3.new.row) p ≡ slice_index (map value other.words.credits) p) place (c.put_row-3.ensures.here (s % 32) k ∙ c.block_of-3.ensures (s % 32) k))
 
 pub returns-clause-others : goal.returns-clause-others
 returns-clause-others g c = λ s other.

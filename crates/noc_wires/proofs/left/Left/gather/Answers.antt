@@ -6,9 +6,8 @@ pub returns-clause-brought : goal.returns-clause-brought
 returns-clause-brought g c = λ grid first k sound same sides l r.
     let value = g.W.Word.value in
     let vcs = c.args.frame.now.fields.width in
-    let links = links-are grid c.args.frame.now.ports same in
-    let left = c.args.self.now in
-    brought-same _ _ _ _ _ _
-    (c.gather.ensures.gathered grid first k sides links l r ∙ row-brings grid vcs (map value left.flits) (first + k) sound r)
-    (c.gather-2.ensures.gathered grid first k sides links l r ∙ row-brings grid vcs (map value left.tails) (first + k) sound r)
-    (c.gather-3.ensures.gathered grid first k sides links l r ∙ row-brings grid vcs (map value left.credits) (first + k) sound r)
+    let words = c.args.self.now.words in
+    c.gather.ensures.gathered grid first k sides (links-are grid c.args.frame.now.ports same) l r
+    ∙ brought-same _ _ _ _ _ _ (row-brings grid vcs (map value words.flits) (first + k) sound r)
+    (row-brings grid vcs (map value words.tails) (first + k) sound r)
+    (row-brings grid vcs (map value words.credits) (first + k) sound r)
