@@ -17,10 +17,14 @@ use crate::cut::cut;
 use crate::network::Network;
 use crate::origin::{Run, Setup};
 use crate::pace::Pace;
+use crate::plan::Plan;
 use crate::threads::{NotRun, owns_of, run_all};
 use crate::tile::Tile;
 use noc_lanes::Word;
+use noc_turns::Pattern;
+use noc_wires::Left;
 use std::alloc::Global;
+use std::mem;
 use std::sync::Wait;
 use std::thread::Threads;
 
@@ -68,11 +72,36 @@ impl<W: Word + Send> Network<W> {
             cycle: self.cycle,
             blocks: self.plan.sides.len(),
         };
-        let tiles = cut(alloc, &run, self, ahead.tiles)?;
+        let network = mem::replace(self, none(alloc, self.plan.pattern));
+        let tiles = cut(alloc, &run, network, ahead.tiles)?;
         let owns = owns_of(alloc, &tiles)?;
         let ran = run_on(rt, &run, &owns, tiles, ahead.most, pace)?;
         *self = join(ran.tiles);
         Ok(ran.cycles)
+    }
+}
+
+// A network without blocks, which stands for one while its tiles run.
+fn none<W: Word>(alloc: Global, pattern: Pattern<W>) -> Network<W>
+    requires { BlocksFit W.row }
+{
+    Network {
+        plan: Plan {
+            pattern,
+            sides: Vec::new(alloc),
+            near: Vec::new(alloc),
+            starts: Vec::new(alloc),
+            headers: Vec::new(alloc),
+        },
+        states: Vec::new(alloc),
+        works: Vec::new(alloc),
+        tallies: Vec::new(alloc),
+        outlooks: Vec::new(alloc),
+        left: Left::none(),
+        arrivals: Vec::new(alloc),
+        last: 0,
+        cycle: 0,
+        found: Vec::new(alloc),
     }
 }
 

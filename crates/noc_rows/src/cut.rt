@@ -207,36 +207,63 @@ fn rouse(own: u32, outlooks: &mut [Outlook])
     }
 }
 
-// The tiles of a network that is about to run, each with a copy of it.
+// Adds the tile of this number, of so many, which has this network.
+fn add_tile<W: Word>(
+    alloc: Global,
+    run: &Run<'_>,
+    tiles: &mut Vec<Tile<W>>,
+    number: usize,
+    count: usize,
+    network: Network<W>,
+) -> Result<(), Memory>
+    requires memory { BlocksFit W.row }
+    requires letters { LetterFits W.row }
+    requires tile { TileFits W.row W.Word W.Clone }
+    requires good { IsGoodSetup (start_by run.now).net }
+    requires shows { ShowsAt W.value W.bits (start_by run.now).net run.now.cycle network }
+    requires blocks { run.now.blocks ≡ length network.plan.sides.items }
+    requires count { count ≤ run.now.blocks }
+    requires tiles { AreNew W.value W.bits (start_by run.now) count number number tiles.old.items }
+    ensures { OnOk result (AreNew W.value W.bits (start_by run.now) count (number + 1) (number + 1)
+        tiles.new.items) }
+{
+    let own = blocks_of(number, count, run.blocks);
+    let mut network = network;
+    rouse(own, network.outlooks.as_mut_slice());
+    let mut tile = Tile {
+        own,
+        network,
+        posts: Vec::new(alloc),
+        is_whole: false,
+    };
+    meet_all(alloc, run, tiles, &mut tile)?;
+    tiles.push(tile)?;
+    Ok(())
+}
+
+// The tiles of a network that is about to run. The last has the network itself, and the others have
+// copies of it.
 pub(crate) fn cut<W: Word>(
     alloc: Global,
     run: &Run<'_>,
-    network: &Network<W>,
+    network: Network<W>,
     count: usize,
 ) -> Result<Vec<Tile<W>>, Memory>
     requires memory { BlocksFit W.row }
     requires letters { LetterFits W.row }
     requires tile { TileFits W.row W.Word W.Clone }
     requires good { IsGoodSetup (start_by run.now).net }
-    requires shows { ShowsAt W.value W.bits (start_by run.now).net run.now.cycle network.now }
-    requires blocks { run.now.blocks ≡ length network.now.plan.sides.items }
-    requires count { count ≤ run.now.blocks }
+    requires shows { ShowsAt W.value W.bits (start_by run.now).net run.now.cycle network }
+    requires blocks { run.now.blocks ≡ length network.plan.sides.items }
+    requires count { (0 < count) × (count ≤ run.now.blocks) }
     ensures { IfOk result (λ tiles.
         AreCut W.value W.bits (start_by run.now) count tiles.items) }
 {
     let mut tiles = Vec::new(alloc);
-    for number in 0..count {
-        let own = blocks_of(number, count, run.blocks);
-        let mut copy = network.copy(alloc)?;
-        rouse(own, copy.outlooks.as_mut_slice());
-        let mut tile = Tile {
-            own,
-            network: copy,
-            posts: Vec::new(alloc),
-            is_whole: false,
-        };
-        meet_all(alloc, run, &mut tiles, &mut tile)?;
-        tiles.push(tile)?;
+    for number in 0..count - 1 {
+        let copy = network.copy(alloc)?;
+        add_tile(alloc, run, &mut tiles, number, count, copy)?;
     }
+    add_tile(alloc, run, &mut tiles, count - 1, count, network)?;
     Ok(tiles)
 }

@@ -1,70 +1,33 @@
-use Rattle.std.proofs.Common.{◌≡◌, ◌+◌, ◌∙◌, ℕ, List, false, length, refl, ap, arith, subst, sym}
-use Rattle.std.specs.Vec.{with_items}
-use Rattle.std.proofs.lemmas.List.{with_items_is}
-use Rattle.noc_packet.specs.Set.{has_bit}
-use Rattle.noc_turns.specs.declared.outlook.Outlook.{Outlook}
-use Rattle.noc_rows.specs.Cuts.{HasRoused, IsNew}
-use Rattle.noc_rows.specs.declared.network.Network.{Network}
+use Rattle.std.proofs.Common.{◌≡◌, ◌+◌, ◌-◌, ◌∙◌, ℕ, length, ap, arith, subst, sym}
+use Rattle.noc_rows.specs.Cuts.{AreNew, IsNew}
 use Rattle.noc_rows.specs.Rounds.{start_by}
 use Rattle.noc_rows.specs.declared.tile.Tile.{Tile}
-use Rattle.noc_rows.proofs.CutLemmas.{are-cut, has-blocks, new-tile}
-use Rattle.noc_rows.proofs.OpenLemmas.{all-next, all-none}
-use Rattle.noc_rows.proofs.cut.cut.Given as given
+use Rattle.noc_rows.proofs.CutLemmas.{are-cut, has-blocks}
+use Rattle.noc_rows.proofs.OpenLemmas.{all-none}
 use Rattle.noc_rows.proofs.cut.cut.Goals as goal
-
-pub rouse-requires : goal.rouse-requires
-rouse-requires g c =
-    let all = c.requires.shows in
-    let outlooks = all.outlooks_are in
-    let few = all.plan.few in
-    omega (arith, outlooks, few, ap length c.as_mut_slice.ensures.value, ap length c.in_ok-copy.ensures.is.outlooks)
-
--- what is taken of the others, in the copy
-roused : (g : given.Over) (copy : Network g.row.W.Denot) (own : ℕ) (was new : List Outlook) → was ≡ copy.outlooks.items → length new ≡ length was → HasRoused (has_bit own) was new
-    → HasRoused (has_bit own) copy.outlooks.items (with_items copy.outlooks new).items
-roused g copy own was new same long are =
-    subst (HasRoused (has_bit own) copy.outlooks.items) (sym (with_items_is copy.outlooks new (long ∙ ap length same ∙ sym copy.outlooks.ok.0)))
-    (subst (λ (xs : List Outlook). HasRoused (has_bit own) xs new) same are)
 
 pub loop-number-init : goal.loop-number-init
 loop-number-init g c = all-none (λ (i : ℕ) (one : Tile g.row.W.Denot). IsNew g.W.Word.value g.W.Word.bits (start_by c.args.run.now) c.args.count i 0 one) c.new-tiles.result.items c.new-tiles.ensures.items
 
-pub blocks_of-own-requires-clause-blocks : goal.blocks_of-own-requires-clause-blocks
-blocks_of-own-requires-clause-blocks g c = let few = c.requires.shows.plan.few in let blocks = c.requires.blocks in omega (arith, few, blocks)
+pub add_tile-requires : goal.add_tile-requires
+add_tile-requires g c =
+    let r = c.requires in
+    let copy = c.in_ok-copy.ensures in
+    (r.tile.0, (r.memory.5, (r.memory, (r.letters, (r.tile, (r.good, (copy.shows (start_by c.args.run.now).net c.args.run.now.cycle r.shows, (r.blocks ∙ ap length (sym copy.is.plan.sides), (r.count.1, c.loop-number.invariant)))))))))
 
-pub blocks_of-own-requires-clause-tiles : goal.blocks_of-own-requires-clause-tiles
-blocks_of-own-requires-clause-tiles g c = let few = c.requires.shows.plan.few in let blocks = c.requires.blocks in let count = c.requires.count in omega (arith, few, blocks, count)
-
-pub meet_all-requires : goal.meet_all-requires
-meet_all-requires g c =
-    let value = g.W.Word.value in
-    let w = g.W.Word.bits in
-    let start = start_by c.args.run.now in
-    let one : Tile g.row.W.Denot = record { own = c.blocks_of-own.result; network = record c.in_ok-copy.copy { outlooks = with_items c.in_ok-copy.copy.outlooks c.rouse.new.outlooks }; posts = c.new.result; is_whole = false } in
-    let copy = c.in_ok-copy.ensures.is in
-    let sides = has-blocks value w start c.args.count c.args.network.now c.requires.good c.requires.shows c.requires.blocks in
-    let new = new-tile value w start c.args.count c.loop-number.number c.in_ok-copy.copy one c.requires.good (c.in_ok-copy.ensures.shows start.net c.args.run.now.cycle c.requires.shows) (c.requires.blocks ∙ ap length (sym copy.plan.sides)) c.blocks_of-own.ensures c.new.ensures.items (roused g c.in_ok-copy.copy c.blocks_of-own.result c.as_mut_slice.result.now c.rouse.new.outlooks c.as_mut_slice.ensures.value c.rouse.auto.outlooks c.rouse.ensures) refl in
-    (c.requires.tile.0, (c.requires.letters, (c.requires.tile, (sides, (c.args.count, c.loop-number.number, c.loop-number.invariant, new)))))
-
-pub loop-number-preserved : goal.loop-number-preserved
-loop-number-preserved g c =
-    let value = g.W.Word.value in
-    let w = g.W.Word.bits in
-    let start = start_by c.args.run.now in
-    let count = c.args.count in
-    let number = c.loop-number.number in
-    let one : Tile g.row.W.Denot = record { own = c.blocks_of-own.result; network = record c.in_ok-copy.copy { outlooks = with_items c.in_ok-copy.copy.outlooks c.rouse.new.outlooks }; posts = c.new.result; is_whole = false } in
-    let copy = c.in_ok-copy.ensures.is in
-    let both = c.in_ok-meet_all.ensures count number c.loop-number.invariant
-    (new-tile value w start count number c.in_ok-copy.copy one c.requires.good (c.in_ok-copy.ensures.shows start.net c.args.run.now.cycle c.requires.shows) (c.requires.blocks ∙ ap length (sym copy.plan.sides)) c.blocks_of-own.ensures c.new.ensures.items (roused g c.in_ok-copy.copy c.blocks_of-own.result c.as_mut_slice.result.now c.rouse.new.outlooks c.as_mut_slice.ensures.value c.rouse.auto.outlooks c.rouse.ensures) refl) in
-    all-next (λ (i : ℕ) (one : Tile g.row.W.Denot). IsNew g.W.Word.value g.W.Word.bits (start_by c.args.run.now) c.args.count i (c.loop-number.number + 1) one) number c.meet_all.new.tiles.items c.push.new.self.items c.meet_all.new.tile
-    c.in_ok-push.ensures.items both.0 both.1
+pub add_tile-requires-2 : goal.add_tile-requires-2
+add_tile-requires-2 g c =
+    let r = c.requires in
+    let last : c.loop-number.number ≡ c.args.count - 1 = omega (arith, c.loop-number-test.false, c.loop-number.auto.number-end, r.count.0) in
+    let new = subst (λ m. AreNew g.W.Word.value g.W.Word.bits (start_by c.args.run.now) c.args.count m m c.loop-number.tiles.items) last c.loop-number.invariant in
+    (r.tile.0, (r.memory.5, (r.memory, (r.letters, (r.tile, (r.good, (r.shows, (r.blocks, (r.count.1, new)))))))))
 
 pub returns : goal.returns
 returns g c =
     let value = g.W.Word.value in
     let w = g.W.Word.bits in
     let start = start_by c.args.run.now in
-    let network = c.args.network.now in
-    are-cut value w start c.args.count c.loop-number.number c.loop-number.tiles.items (has-blocks value w start c.args.count network c.requires.good c.requires.shows c.requires.blocks)
-    (omega (arith, c.loop-number-test.false, c.loop-number.auto.number-end)) c.loop-number.invariant
+    let count = c.args.count in
+    let network = c.args.network in
+    are-cut value w start count (count - 1 + 1) c.add_tile-2.new.tiles.items (has-blocks value w start count network c.requires.good c.requires.shows c.requires.blocks)
+    (omega (arith, c.requires.count.0)) c.in_ok-add_tile-2.ensures
