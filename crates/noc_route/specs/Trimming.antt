@@ -121,3 +121,7 @@ pub record IsStuckFirst (routes : Routes) (outs : List ℕ) (n : ℕ) (e : Entry
 abbrev pub IsFirstStuck : Routes → List ℕ → ℕ → Option Entry → Type 0
 IsFirstStuck routes outs n None = (b i : ℕ) → b < pages routes.grid routes.classes → i < width routes.grid routes.vcs → b * width routes.grid routes.vcs + i < n → is_stuck_at routes outs b i ≡ false
 IsFirstStuck routes outs n (Some e) = IsStuckFirst routes outs n e
+
+-- the same of the table that is left
+abbrev pub IsFirstLeft : Sizes → List ℕ → List ℕ → ℕ → Option Entry → Type 0
+IsFirstLeft f sets outs n first = IsFirstStuck (routes_in f (left_in f sets outs)) outs n first

@@ -5,7 +5,7 @@ ghost use Rattle.noc_topo.specs.Shape.{nodes, ports};
 ghost use Rattle.noc_route.specs.Columns.{table_of, AreColumns, IsColumnAt, AreKeptTo};
 ghost use Rattle.noc_route.specs.Entered.{AreAll, sets_in};
 ghost use Rattle.noc_route.specs.Routes.{width, pages, entry_index};
-ghost use Rattle.noc_route.specs.Trimming.{routes_in, left_in, IsFirstStuck};
+ghost use Rattle.noc_route.specs.Trimming.{left_in, IsFirstLeft};
 
 use crate::entered::Entered;
 use crate::gather::Departures;
@@ -39,8 +39,7 @@ impl Columns {
             IfOk result (λ made. table_of f made.0.sets.items made.0.starts.items
             ≡ left_in f (sets_in f entered.now) leaving.now.outs.now) }
         ensures first { let f = leaving.now.map.now.sizes in
-            IfOk result (λ made. IsFirstStuck (routes_in f (left_in f
-            (sets_in f entered.now) leaving.now.outs.now)) leaving.now.outs.now
+            IfOk result (λ made. IsFirstLeft f (sets_in f entered.now) leaving.now.outs.now
             (pages f.shape f.classes * width f.shape f.vcs) made.1) }
     {
         let sizes = leaving.map.sizes;

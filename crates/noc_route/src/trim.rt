@@ -5,7 +5,7 @@ ghost use Rattle.noc_topo.specs.Shape.{nodes};
 ghost use Rattle.noc_route.specs.Entered.{AreAll, sets_in};
 ghost use Rattle.noc_route.specs.Order.{earlier_entry};
 ghost use Rattle.noc_route.specs.Routes.{width, pages, page_dst};
-ghost use Rattle.noc_route.specs.Trimming.{routes_in, left_at, left_in, IsFirstStuck};
+ghost use Rattle.noc_route.specs.Trimming.{routes_in, left_at, IsFirstLeft};
 
 use crate::entered::Entered;
 use crate::gather::Departures;
@@ -28,15 +28,15 @@ pub(crate) fn trim_pair(
         length block.old ≡ nodes f.shape * width f.shape f.vcs }
     requires pair { let f = leaving.now.map.now.sizes in pair < nodes f.shape * f.classes }
     requires first { let f = leaving.now.map.now.sizes in
-        IsFirstStuck (routes_in f (left_in f (sets_in f entered.now) leaving.now.outs.now))
-        leaving.now.outs.now (pair * nodes f.shape * width f.shape f.vcs) first }
+        IsFirstLeft f (sets_in f entered.now) leaving.now.outs.now
+        (pair * nodes f.shape * width f.shape f.vcs) first }
     ensures left { let f = leaving.now.map.now.sizes in (t i : ℕ) → t < nodes f.shape
         → i < width f.shape f.vcs → slice_index block.new (t * width f.shape f.vcs + i)
         ≡ left_at (routes_in f (sets_in f entered.now)) leaving.now.outs.now
         (pair * nodes f.shape + t) i }
     ensures first { let f = leaving.now.map.now.sizes in
-        IsFirstStuck (routes_in f (left_in f (sets_in f entered.now) leaving.now.outs.now))
-        leaving.now.outs.now ((pair + 1) * nodes f.shape * width f.shape f.vcs) result }
+        IsFirstLeft f (sets_in f entered.now) leaving.now.outs.now
+        ((pair + 1) * nodes f.shape * width f.shape f.vcs) result }
 {
     let nodes = leaving.map.sizes.node_count;
     let mut first = first;
@@ -59,8 +59,8 @@ fn trim_page(
         length block.old ≡ nodes f.shape * width f.shape f.vcs }
     requires page { let f = leaving.now.map.now.sizes in page < pages f.shape f.classes }
     requires first { let f = leaving.now.map.now.sizes in
-        IsFirstStuck (routes_in f (left_in f (sets_in f entered.now) leaving.now.outs.now))
-        leaving.now.outs.now (page * width f.shape f.vcs) first }
+        IsFirstLeft f (sets_in f entered.now) leaving.now.outs.now
+        (page * width f.shape f.vcs) first }
     ensures left { let f = leaving.now.map.now.sizes in (i : ℕ) → i < width f.shape f.vcs
         → slice_index block.new (page_dst f.shape page * width f.shape f.vcs + i)
         ≡ left_at (routes_in f (sets_in f entered.now)) leaving.now.outs.now page i }
@@ -69,8 +69,8 @@ fn trim_page(
         → (j < from) ⊎ (from + width f.shape f.vcs ≤ j)
         → slice_index block.new j ≡ slice_index block.old j }
     ensures first { let f = leaving.now.map.now.sizes in
-        IsFirstStuck (routes_in f (left_in f (sets_in f entered.now) leaving.now.outs.now))
-        leaving.now.outs.now ((page + 1) * width f.shape f.vcs) result }
+        IsFirstLeft f (sets_in f entered.now) leaving.now.outs.now
+        ((page + 1) * width f.shape f.vcs) result }
 {
     let sizes = &leaving.map.sizes;
     let (class, router, dst) = sizes.page_parts(page);
