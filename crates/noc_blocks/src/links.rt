@@ -1,13 +1,12 @@
 //! What the links bring to the routers of a block, out of rows of what has left all routers.
 
-ghost use Rattle.std.specs.Prelude.{◌≡◌, ℕ, ◌+◌, ◌<◌, ◌≤◌, map, slice_index};
+ghost use Rattle.std.specs.Prelude.{◌≡◌, ℕ, ◌+◌, ◌<◌, ◌≤◌, bit_and, map};
 ghost use Rattle.noc_topo.specs.Shape.{Grid, local_port, nodes};
 ghost use Rattle.noc_sets.specs.Gather.{gathered_row};
-ghost use Rattle.noc_sets.specs.Unions.{union_from};
 ghost use Rattle.noc_lanes.specs.Channels.{links_by};
 ghost use Rattle.noc_lanes.specs.Lanes.{word};
 ghost use Rattle.noc_blocks.specs.Blank.{BringsNothing};
-ghost use Rattle.noc_blocks.specs.Sides.{AreSides, FitsRow, brought_by, brought_by_side, brought_by_both, joined_links, moved_by};
+ghost use Rattle.noc_blocks.specs.Sides.{AreSides, FitsRow, brought_links, brought_to, sent_by, ways_of};
 
 use crate::frame::PORTS;
 use noc_lanes::{LANES, Lanes, Links, Word, alike, at};
@@ -18,13 +17,14 @@ pub const ROOM: usize = 256;
 /// How many words a row has: those of 256 routers, and room at both ends.
 pub const ROW: usize = 768;
 
-/// Where the words of the neighbours at one distance stand in a row, by port, and of which channels
-/// they are.
+/// Where the words of the neighbours at one distance stand in a row, by port, and which of their
+/// channels lead here.
 #[derive(Clone, Copy)]
 pub struct Side<T> {
     /// By port, the place of the word of the first router's neighbour.
     pub starts: [usize; PORTS],
-    /// By port, its channels in the routers that have such a neighbour.
+    /// By port, the channels of the port at the other end, in the routers that have such a
+    /// neighbour.
     pub masks: [T; PORTS],
 }
 
@@ -37,6 +37,21 @@ pub struct Sides<T> {
     pub round: Side<T>,
     /// Whether there are rings.
     pub closes: bool,
+}
+
+// What is the same for all routers of a block.
+#[derive(Clone, Copy)]
+struct Ways {
+    // How many virtual channels a port has.
+    width: u32,
+    // How many link ports there are.
+    links: usize,
+    // Whether there are rings.
+    closes: bool,
+    // By port, the place of the word of the first router's neighbour that is one stride away.
+    straight: [usize; PORTS],
+    // .. and of the one that is a span away.
+    round: [usize; PORTS],
 }
 
 /// What so many link ports bring to each router of a block, of `width` virtual channels each, out
@@ -76,12 +91,12 @@ fn gather_sides<W: Word>(
     requires links { links ≤ PORTS }
     requires row { FitsRow links sides.now.straight.starts sides.now.round.starts }
     ensures { (k : ℕ) → k < LANES → links_by (word W.value k) into.new
-        ≡ brought_by_both W.value W.bits width links sides.now rows.now k }
+        ≡ brought_links W.value W.bits (ways_of width links sides.now) sides.now rows.now k }
 {
     match links {
-        2 => gather_by(width, links, 2, sides, rows, into),
-        4 => gather_by(width, links, 4, sides, rows, into),
-        6 => gather_by(width, links, 6, sides, rows, into),
+        2 => gather_by(width, 2, sides, rows, into),
+        4 => gather_by(width, 4, sides, rows, into),
+        6 => gather_by(width, 6, sides, rows, into),
         _ => gather_any(width, links, sides, rows, into),
     }
 }
@@ -99,54 +114,49 @@ fn gather_any<W: Word>(
     requires links { links ≤ PORTS }
     requires row { FitsRow links sides.now.straight.starts sides.now.round.starts }
     ensures { (k : ℕ) → k < LANES → links_by (word W.value k) into.new
-        ≡ brought_by_both W.value W.bits width links sides.now rows.now k }
+        ≡ brought_links W.value W.bits (ways_of width links sides.now) sides.now rows.now k }
 {
-    gather_by(width, links, links, sides, rows, into);
+    gather_by(width, links, sides, rows, into);
 }
 
-// .. by so many ports. (What is brought is in a value of its own before it is written, as the
-// compiler does not know that it is written nowhere into the rows.)
+// .. by so many ports. (Whether there are rings is known in each of the two calls.)
 #[inline(always)]
 fn gather_by<W: Word>(
     width: u32,
     links: usize,
-    count: usize,
     sides: &Sides<Lanes<W>>,
     rows: &Links<[W; ROW]>,
     into: &mut Links<Lanes<W>>,
 )
     requires width { width < W.bits }
     requires links { links ≤ PORTS }
-    requires count { count ≡ links }
     requires row { FitsRow links sides.now.straight.starts sides.now.round.starts }
     ensures { (k : ℕ) → k < LANES → links_by (word W.value k) into.new
-        ≡ brought_by_both W.value W.bits width links sides.now rows.now k }
+        ≡ brought_links W.value W.bits (ways_of width links sides.now) sides.now rows.now k }
 {
-    let mut all = brought_all(width, links, count, &sides.straight, rows);
     if sides.closes {
-        join_side(width, links, count, &sides.round, rows, &mut all);
+        gather_lanes(&ways_of(width, links, true, sides), sides, rows, into);
+    } else {
+        gather_lanes(&ways_of(width, links, false, sides), sides, rows, into);
     }
-    *into = all;
 }
 
-// What the neighbours at one distance bring, lane by lane. (The three rows are read together, so
-// that the masks are read once.)
+// .. lane by lane. (The three rows are read together, so that the masks are read once. What is
+// brought is in a value of its own before it is written, as the compiler does not know that it is
+// written nowhere into the rows.)
 #[inline(always)]
-fn brought_all<W: Word>(
-    width: u32,
-    links: usize,
-    count: usize,
-    side: &Side<Lanes<W>>,
+fn gather_lanes<W: Word>(
+    ways: &Ways,
+    sides: &Sides<Lanes<W>>,
     rows: &Links<[W; ROW]>,
-) -> Links<Lanes<W>>
-    requires width { width < W.bits }
-    requires links { links ≤ PORTS }
-    requires count { count ≡ links }
-    requires row { (q : ℕ) → q < links → slice_index side.now.starts q + LANES ≤ ROW }
-    ensures { (k : ℕ) → k < LANES → links_by (word W.value k) result
-        ≡ brought_by_side W.value W.bits width links side.now rows.now k }
+    into: &mut Links<Lanes<W>>,
+)
+    requires width { ways.now.width < W.bits }
+    requires links { ways.now.links ≤ PORTS }
+    requires row { FitsRow ways.now.links ways.now.straight ways.now.round }
+    ensures { (k : ℕ) → k < LANES → links_by (word W.value k) into.new
+        ≡ brought_links W.value W.bits ways.now sides.now rows.now k }
 {
-    let starts = side.starts;
     let none = alike(W::none());
     let mut all = Links {
         flits: none,
@@ -154,125 +164,109 @@ fn brought_all<W: Word>(
         credits: none,
     };
     for j in 0..LANES {
-        let comes = brought_links(width, count, &starts, &side.masks, rows, j);
+        let comes = brought_links(ways, sides, rows, j);
         all.put(j, comes);
     }
-    all
+    *into = all;
 }
 
-// What the neighbours at the other end of a ring bring too, lane by lane.
+// What is the same for all routers of a block with these sides. (The places are values of their
+// own, and so none of the words that are written. So the compiler takes several lanes at a time.)
 #[inline(always)]
-fn join_side<W: Word>(
-    width: u32,
-    links: usize,
-    count: usize,
-    side: &Side<Lanes<W>>,
-    rows: &Links<[W; ROW]>,
-    into: &mut Links<Lanes<W>>,
-)
-    requires width { width < W.bits }
-    requires links { links ≤ PORTS }
-    requires count { count ≡ links }
-    requires row { (q : ℕ) → q < links → slice_index side.now.starts q + LANES ≤ ROW }
-    ensures { (k : ℕ) → k < LANES → links_by (word W.value k) into.new
-        ≡ joined_links (links_by (word W.value k) into.old)
-        (brought_by_side W.value W.bits width links side.now rows.now k) }
+fn ways_of<W: Word>(width: u32, links: usize, closes: bool, sides: &Sides<Lanes<W>>) -> Ways
+    requires { closes ≡ sides.now.closes }
+    ensures { result ≡ ways_of width links sides.now }
 {
-    // (A value of its own is none of the words that are written. So the compiler takes several
-    // lanes at a time.)
-    let starts = side.starts;
-    for j in 0..LANES {
-        let before = into.at(j);
-        let comes = brought_links(width, count, &starts, &side.masks, rows, j);
-        let all = joined(before, comes);
-        into.put(j, all);
-    }
-}
-
-// The channels of either.
-#[inline(always)]
-fn joined<W: Word>(links: Links<W>, others: Links<W>) -> Links<W>
-    ensures { links_by W.value result
-        ≡ joined_links (links_by W.value links) (links_by W.value others) }
-{
-    Links {
-        flits: links.flits.or(others.flits),
-        tails: links.tails.or(others.tails),
-        credits: links.credits.or(others.credits),
+    Ways {
+        width,
+        links,
+        closes,
+        straight: sides.straight.starts,
+        round: sides.round.starts,
     }
 }
 
 // What is brought to one router.
 #[inline(always)]
 fn brought_links<W: Word>(
-    width: u32,
-    links: usize,
-    starts: &[usize; PORTS],
-    masks: &[Lanes<W>; PORTS],
+    ways: &Ways,
+    sides: &Sides<Lanes<W>>,
     rows: &Links<[W; ROW]>,
     lane: usize,
 ) -> Links<W>
-    requires width { width < W.bits }
-    requires links { links ≤ PORTS }
-    requires row { (q : ℕ) → q < links → slice_index starts.now q + LANES ≤ ROW }
+    requires width { ways.now.width < W.bits }
+    requires links { ways.now.links ≤ PORTS }
+    requires row { FitsRow ways.now.links ways.now.straight ways.now.round }
     requires lane { lane < LANES }
-    ensures { links_by W.value result ≡ brought_by_side W.value W.bits width links
-        (record { starts = starts.now; masks = masks.now }) rows.now lane }
+    ensures { links_by W.value result
+        ≡ brought_links W.value W.bits ways.now sides.now rows.now lane }
 {
     Links {
-        flits: brought_to(width, links, starts, masks, &rows.flits, lane),
-        tails: brought_to(width, links, starts, masks, &rows.tails, lane),
-        credits: brought_to(width, links, starts, masks, &rows.credits, lane),
+        flits: brought_to(ways, sides, &rows.flits, lane),
+        tails: brought_to(ways, sides, &rows.tails, lane),
+        credits: brought_to(ways, sides, &rows.credits, lane),
     }
 }
 
-// .. out of one row.
+// .. out of one row. (What is moved the same way is joined first, and moved once.)
 #[inline(always)]
-fn brought_to<W: Word>(
-    width: u32,
-    links: usize,
-    starts: &[usize; PORTS],
-    masks: &[Lanes<W>; PORTS],
-    row: &[W; ROW],
-    lane: usize,
-) -> W
-    requires width { width < W.bits }
-    requires links { links ≤ PORTS }
-    requires row { (q : ℕ) → q < links → slice_index starts.now q + LANES ≤ ROW }
+fn brought_to<W: Word>(ways: &Ways, sides: &Sides<Lanes<W>>, row: &[W; ROW], lane: usize) -> W
+    requires width { ways.now.width < W.bits }
+    requires links { ways.now.links ≤ PORTS }
+    requires row { FitsRow ways.now.links ways.now.straight ways.now.round }
     requires lane { lane < LANES }
     ensures { W.value result
-        ≡ union_from 0 links (brought_by W.value W.bits width
-        (record { starts = starts.now; masks = masks.now }) row.now lane) }
+        ≡ brought_to W.value W.bits ways.now sides.now row.now lane }
 {
-    let mut all = W::none();
-    for port in 0..links {
-        let over = word_at(row, starts[port] + lane);
-        let moved = moved(width, port % 2 == 0, over);
-        let here = at(&masks[port], lane);
-        let comes = moved.and(here);
-        all = all.or(comes);
+    let mut down = W::none();
+    let mut up = W::none();
+    for port in 0..ways.links {
+        let comes = sent_by(ways, sides, row, lane, port);
+        if port % 2 == 0 {
+            down = down.or(comes);
+        } else {
+            up = up.or(comes);
+        }
     }
-    all
+    down.down(ways.width).or(up.up(ways.width))
 }
 
-// The channels of the port at the other end, put where those of this port are.
+// What the neighbours at one port send, before it is moved.
 #[inline(always)]
-fn moved<W: Word>(width: u32, down: bool, word: W) -> W
-    requires { width < W.bits }
-    ensures { W.value result ≡ moved_by W.bits width down (W.value word) }
+fn sent_by<W: Word>(
+    ways: &Ways,
+    sides: &Sides<Lanes<W>>,
+    row: &[W; ROW],
+    lane: usize,
+    port: usize,
+) -> W
+    requires row { FitsRow ways.now.links ways.now.straight ways.now.round }
+    requires lane { lane < LANES }
+    requires port { port < ways.now.links }
+    requires links { ways.now.links ≤ PORTS }
+    ensures { W.value result ≡ sent_by W.value ways.now sides.now row.now lane port }
 {
-    if down {
-        word.down(width)
+    let straight = sent_from(
+        row,
+        ways.straight[port] + lane,
+        &sides.straight.masks[port],
+        lane,
+    );
+    if ways.closes {
+        let round = sent_from(row, ways.round[port] + lane, &sides.round.masks[port], lane);
+        straight.or(round)
     } else {
-        word.up(width)
+        straight
     }
 }
 
-// The word at a place of a row.
+// .. from one place of a row: the channels of a mask.
 #[inline(always)]
-fn word_at<W: Word>(row: &[W; ROW], place: usize) -> W
-    requires { place < ROW }
-    ensures { W.value result ≡ word W.value place row.now }
+fn sent_from<W: Word>(row: &[W; ROW], place: usize, mask: &Lanes<W>, lane: usize) -> W
+    requires place { place < ROW }
+    requires lane { lane < LANES }
+    ensures { W.value result
+        ≡ bit_and (word W.value place row.now) (word W.value lane mask.now) }
 {
-    row[place]
+    row[place].and(at(mask, lane))
 }

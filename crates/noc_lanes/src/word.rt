@@ -1,6 +1,6 @@
 //! A word: a set of channels of one router, as bits.
 
-ghost use Rattle.std.specs.Prelude.{◌≡◌, ◌+◌, ◌-◌, ◌<◌, ◌^◌, ◌%◌, ℕ, Some, bit_and, bit_or, bit_xor, nat_eq, nat_le, ◌≤◌};
+ghost use Rattle.std.specs.Prelude.{◌≡◌, ◌+◌, ◌-◌, ◌<◌, ◌^◌, ◌%◌, ℕ, Some, bit_and, bit_or, bit_xor, nat_eq, nat_le, ◌≤◌, refl};
 ghost use Rattle.std.proofs.Math.Nat.{le-add_right};
 ghost use Rattle.std.proofs.lemmas.Nat.{mod_below, pow_pos};
 ghost use Rattle.noc_packet.specs.Set.{IsLeast, has_bit};
@@ -113,6 +113,9 @@ pub trait Word: Copy + Drop {
 
     /// It has at most 64.
     ghost few: { bits ≤ 64 };
+
+    /// There is one with all of them.
+    ghost full: { (x : Self) × (value x ≡ 2 ^ bits - 1) };
 }
 
 impl Word for u32 {
@@ -125,6 +128,8 @@ impl Word for u32 {
     ghost many = { le-add_right 32 0 };
 
     ghost few = { le-add_right 32 32 };
+
+    ghost full = { (2 ^ 32 - 1, refl) };
 
     #[inline(always)]
     fn none() -> u32 {
@@ -237,6 +242,8 @@ impl Word for u64 {
     ghost many = { le-add_right 32 32 };
 
     ghost few = { le-add_right 64 0 };
+
+    ghost full = { (2 ^ 64 - 1, refl) };
 
     #[inline(always)]
     fn none() -> u64 {

@@ -1,11 +1,12 @@
 -- Where the neighbours of the routers of a block stand in a row.
-use Rattle.std.proofs.Common.{◌≡◌, ◌≢◌, ℕ, zero, suc, ◌+◌, ◌-◌, ◌*◌, ◌^◌, ◌<◌, ◌≤◌, Bool, true, List, [], ◌∷◌, length, take, ap, ap₂, sym, ◌∙◌, arith, inl, inr, mul-le-mul_left, mul-le-mul_right, pow-add}
+use Rattle.std.proofs.Common.{◌≡◌, ◌≢◌, ℕ, zero, suc, ◌+◌, ◌-◌, ◌*◌, ◌^◌, ◌<◌, ◌≤◌, Bool, true, List, [], ◌∷◌, length, take, ap, ap₂, sym, ◌∙◌, arith, inl, inr, mul-le-mul_left, mul-le-mul_right, pow-add, subst}
 use Rattle.std.specs.Prelude.{◌⊎◌, ◌&&◌, nat_lt, slice_index}
 use Rattle.std.proofs.Math.Pow.{pow_mono}
-use Rattle.std.proofs.lemmas.Bool.{cases_eq}
+use Rattle.std.proofs.lemmas.Bool.{cases_eq, cases_lt}
 use Rattle.std.proofs.lemmas.Nat.{pow_pos}
-use Rattle.noc_topo.specs.Shape.{Grid, IsGrid, nodes, product}
+use Rattle.noc_topo.specs.Shape.{Grid, IsGrid, local_port, nodes, opposite, product}
 use Rattle.noc_topo.proofs.LinkLemmas.{AreRadices, AreRadices-from_test, product-some}
+use Rattle.noc_route.specs.Routes.{width}
 use Rattle.noc_sets.specs.Gather.{mask_where, span, stride}
 use Rattle.noc_sets.specs.Sets.{up_by}
 use Rattle.noc_lanes.specs.Words.{up_within}
@@ -71,5 +72,23 @@ port-mask w vcs links port all l fits all_is = ap (λ n. up_within w n (port * v
         let split : 2 ^ vcs * 2 ^ (port * vcs) ≡ (2 ^ vcs - 1) * 2 ^ (port * vcs) + 2 ^ (port * vcs) = ap (λ n. n * 2 ^ (port * vcs)) one ∙ omega arith in
         omega (arith, p, more, e, split)
 
-pub mask-there : (g : Grid) (vcs : ℕ) (straight : Bool) (r port : ℕ) → nat_lt r (nodes g) ≡ true → goes g straight r port ≡ true → up_by (2 ^ vcs - 1) (port * vcs) ≡ mask_at g vcs straight r port
-mask-there g vcs straight r port inside leads = sym (ap₂ (λ a b. mask_where vcs port (a && b)) inside leads)
+pub mask-there : (g : Grid) (vcs : ℕ) (straight : Bool) (r port : ℕ) → nat_lt r (nodes g) ≡ true → goes g straight r port ≡ true → up_by (2 ^ vcs - 1) (opposite port * vcs) ≡ mask_at g vcs straight r port
+mask-there g vcs straight r port inside leads = sym (ap₂ (λ a b. mask_where vcs (opposite port) (a && b)) inside leads)
+
+-- ---- words have room for the channels of all link ports
+pub room-of : {A : Type 0} (value : A → ℕ) (bits : ℕ) → ((x : A) × (value x ≡ 2 ^ bits - 1)) → (g : Grid) (vcs : ℕ) → width g vcs < bits → (w : ℕ) → ((x : A) → value x < 2 ^ w) → local_port g * vcs ≤ w
+room-of value bits full g vcs fits w small = at (cases_lt w bits)
+  where
+    below : 2 ^ bits - 1 < 2 ^ w
+    below = subst (λ n. n < 2 ^ w) full.1 (small full.0)
+
+    part : local_port g * vcs ≤ width g vcs
+    part = mul-le-mul_right vcs (omega arith)
+
+    at : (w < bits) ⊎ (bits ≤ w) → local_port g * vcs ≤ w
+    at (inl l) =
+        let twice : 2 ^ (w + 1) ≤ 2 ^ bits = pow_mono (omega (arith, l)) in
+        let next : 2 ^ (w + 1) ≡ 2 ^ w * 2 = pow-add 2 w 1 in
+        let some : 0 < 2 ^ w = pow_pos w in
+        absurd (omega (arith, below, twice, next, some))
+    at (inr u) = let p = part in omega (arith, p, fits, u)

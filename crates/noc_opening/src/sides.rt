@@ -1,7 +1,7 @@
-//! Where the words that the links bring to a block stand, and of which channels they are.
+//! Where the words that the links bring to a block stand, and which of their channels lead to it.
 
 ghost use Rattle.std.specs.Prelude.{◌≡◌, ℕ, ◌+◌, ◌<◌, ◌≤◌, if◌then◌else◌, slice_index};
-ghost use Rattle.noc_topo.specs.Shape.{IsGrid, dimensions, local_port, nodes};
+ghost use Rattle.noc_topo.specs.Shape.{IsGrid, dimensions, local_port, nodes, opposite};
 ghost use Rattle.noc_route.specs.Routes.{width};
 ghost use Rattle.noc_sets.specs.Gather.{span, stride};
 ghost use Rattle.noc_blocks.specs.Blank.{BringsNothing};
@@ -115,7 +115,8 @@ fn stride_of(shape: &Shape, dimension: usize) -> usize
     stride
 }
 
-// By link port, its channels in the routers of a block that have a neighbour straight on, or round.
+// By link port, the channels of the port at the other end, in the routers of a block that have a
+// neighbour straight on, or round.
 fn masks_of<W: Word>(relation: &Relation, first: usize, straight: bool) -> [Lanes<W>; PORTS]
     requires fits { width relation.now.grid relation.now.vcs < W.bits }
     requires within { first + LANES ≤ MAX_NODES }
@@ -158,11 +159,20 @@ fn mask_of<W: Word>(relation: &Relation, node: usize, port: usize, straight: boo
 {
     let shape = relation.shape();
     let vcs = relation.vcs();
+    let there = other_end(port);
     if node < shape.nodes() && goes(shape, node, port, straight) {
-        low_bits::<W>(vcs).up((port * vcs) as u32)
+        low_bits::<W>(vcs).up((there * vcs) as u32)
     } else {
         W::none()
     }
+}
+
+// The port at the other end of a link.
+fn other_end(port: usize) -> usize
+    requires { port < PORTS }
+    ensures { result ≡ opposite port }
+{
+    if port % 2 == 0 { port + 1 } else { port - 1 }
 }
 
 // Whether a port of a router leads straight on, or round.

@@ -68,14 +68,14 @@ module _ {A : Type 0} (value : A → ℕ) (g : Grid) (sound : IsGrid g) (vcs fir
   pub place-is : place_of value sides k q ≡ 256 + to
   place-is = ap Place (are.straight_masks q k link lane known) ∙ at (goes_straight g (first + k) q) refl (goes_round g (first + k) q) refl
     where
-      at : (goes : Bool) → goes_straight g (first + k) q ≡ goes → (closes : Bool) → goes_round g (first + k) q ≡ closes → Place (mask_where vcs q (goes_straight g (first + k) q)) ≡ 256 + to
+      at : (goes : Bool) → goes_straight g (first + k) q ≡ goes → (closes : Bool) → goes_round g (first + k) q ≡ closes → Place (mask_where vcs (opposite q) (goes_straight g (first + k) q)) ≡ 256 + to
       at true e closes r =
           let is : (to, port) ≡ (straight g (first + k) q, opposite q) = same_Some _ _ (by-distance ∙ ap (λ b. By b (goes_round g (first + k) q)) e) in
-          ap (λ b. Place (mask_where vcs q b)) e ∙ ap (λ b. if b then slice_index sides.round.starts q + k else slice_index sides.straight.starts q + k) (some-mask vcs q some)
+          ap (λ b. Place (mask_where vcs (opposite q) b)) e ∙ ap (λ b. if b then slice_index sides.round.starts q + k else slice_index sides.straight.starts q + k) (some-mask vcs (opposite q) some)
           ∙ are.straight q k link lane ∙ on-stride (is_plus q) refl e ∙ ap (λ n. 256 + n) (sym (ap (λ (x : ℕ × ℕ). x.0) is))
       at false e true r =
           let is : (to, port) ≡ (round g (first + k) q, opposite q) = same_Some _ _ (by-distance ∙ ap₂ By e r) in
-          ap (λ b. Place (mask_where vcs q b)) e
+          ap (λ b. Place (mask_where vcs (opposite q) b)) e
           ∙ are.round q k link lane ∙ on-span (is_plus q) refl r ∙ ap (λ n. 256 + n) (sym (ap (λ (x : ℕ × ℕ). x.0) is))
       at false e false r = absurd (none-some (to, port) (sym (by-distance ∙ ap₂ By e r)))
 
