@@ -79,7 +79,7 @@ module _ (layout : Layout) (cycle up : ℕ) (l : Links ℕ) (i j : Inputs ℕ) (
 
   -- how many flits the buffers have, where the lowest plane has these
   abbrev with_ones : ℕ → List ℕ
-  with_ones ones = ones ∷ raised_by (i.len.twos ∷ i.len.fours ∷ i.len.eights ∷ i.len.sixteens ∷ []) (bit_and landed i.len.ones)
+  with_ones ones = ones ∷ raised_by (i.len.twos ∷ i.len.fours ∷ (if i.len.deep then i.len.eights ∷ i.len.sixteens ∷ [] else [])) (bit_and landed i.len.ones)
 
   abbrev still_with : ℕ → ℕ → Column
   still_with ones injecting = record (both (with_flits layout.places l.flits supplied) (with_credits layout.places l.credits was) injecting) { len = with_ones ones }

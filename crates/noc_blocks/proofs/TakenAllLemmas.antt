@@ -47,7 +47,7 @@ flits-supplied layout cycle l i j s t a x flits = record {
 }
 
 no_words : Outputs ℕ
-no_words = record { wanted = 0; idle = 0; draining = 0; credit = record { ones = 0; twos = 0; fours = 0; eights = 0; sixteens = 0 } }
+no_words = record { wanted = 0; idle = 0; draining = 0; credit = record { deep = false; ones = 0; twos = 0; fours = 0; eights = 0; sixteens = 0 } }
 
 pub flits-leave-supplied : (layout : Layout) (cycle : ℕ) (l : Links ℕ) (i j : Inputs ℕ) (s t : Words ℕ) (a : Arrived ℕ) → TakesFlits layout cycle l i j s t a → j.supplied ≡ i.supplied
 flits-leave-supplied layout cycle l i j s t a flits = ap (λ (c : Column). c.supplied) (flits.column no_words)

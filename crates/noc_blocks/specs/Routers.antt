@@ -11,7 +11,7 @@ use Rattle.noc_blocks.specs.declared.frame.Frame.{Frame}
 use Rattle.noc_blocks.specs.declared.frame.TheConstants.{PORTS}
 
 -- a frame, each word as what f makes of it
-abbrev pub frame_by : {A B : Type 0} → (A → B) → Frame A → Frame B
+abbrev pub frame_by : {A : Type 0} → (A → ℕ) → Frame A → Frame ℕ
 frame_by f frame = record {
   ports = frame.ports;
   links = f frame.links;

@@ -25,9 +25,37 @@ pub fn take_credits<W: Word>(
     ensures rising { (k : ℕ) → k < LANES
         → has_bit result k ≡ not (nat_eq (word W.value k returned.new.raised) 0) }
 {
+    // (A value of its own is none of the rows that are written. So the compiler takes several lanes
+    // at a time.)
+    let own = *frame;
+    if outputs.credit.deep {
+        take_all(&own, true, came, outputs, returned)
+    } else {
+        take_all(&own, false, came, outputs, returned)
+    }
+}
+
+// .. where it is told whether they are deep. (Where this is known, planes that are not needed cost
+// nothing.)
+#[inline(always)]
+fn take_all<W: Word>(
+    frame: &Frame<W>,
+    deep: bool,
+    came: &Lanes<W>,
+    outputs: &mut Outputs<Lanes<W>>,
+    returned: &mut Returned<Lanes<W>>,
+) -> u32
+    requires { deep ≡ outputs.old.credit.deep }
+    ensures credits { (k : ℕ) → k < LANES
+        → TakesCredits (layout_of (frame_by W.value frame.now)) (word W.value k came.now)
+        (outputs_by (word W.value k) outputs.old) (outputs_by (word W.value k) outputs.new)
+        (returned_by (word W.value k) returned.new) }
+    ensures rising { (k : ℕ) → k < LANES
+        → has_bit result k ≡ not (nat_eq (word W.value k returned.new.raised) 0) }
+{
     let mut rising = W::none();
     for j in 0..LANES {
-        let had = outputs.at(j);
+        let had = outputs.at(j, deep);
         let credits = at(came, j);
         let (words, what) = with_returned(frame, had, credits);
         outputs.put(j, words);
@@ -45,9 +73,10 @@ fn with_returned<W: Word>(
     outputs: Outputs<W>,
     came: W,
 ) -> (Outputs<W>, Returned<W>)
-    ensures { TakesCredits (layout_of (frame_by W.value frame.now)) (W.value came)
+    ensures takes { TakesCredits (layout_of (frame_by W.value frame.now)) (W.value came)
         (outputs_by W.value outputs) (outputs_by W.value result.0)
         (returned_by W.value result.1) }
+    ensures depth { result.0.credit.deep ≡ outputs.credit.deep }
 {
     let had = outputs.credit.some();
     let credit = outputs.credit.raised(came);

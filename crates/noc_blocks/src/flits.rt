@@ -52,14 +52,70 @@ pub fn take_flits<W: Word>(
         (word W.value k links.now.flits) (column_of (inputs_by (word W.value k) inputs.old) o
         (source_by (word W.value k) source.old))) 0) }
 {
+    // (A value of its own is none of the rows that are written. So the compiler takes several lanes
+    // at a time.)
+    let own = *frame;
+    if inputs.len.deep {
+        let alike = Alike {
+            frame: &own,
+            cycle,
+            deep: true,
+        };
+        take_all(&alike, links, inputs, source, arrived)
+    } else {
+        let alike = Alike {
+            frame: &own,
+            cycle,
+            deep: false,
+        };
+        take_all(&alike, links, inputs, source, arrived)
+    }
+}
+
+// What is alike in all routers: their frame, the cycle, and whether their counts are deep.
+#[derive(Clone, Copy)]
+struct Alike<'a, W> {
+    frame: &'a Frame<W>,
+    cycle: W,
+    deep: bool,
+}
+
+// .. where it is told whether their counts are deep.
+#[inline(always)]
+fn take_all<W: Word>(
+    alike: &Alike<'_, W>,
+    links: &Links<Lanes<W>>,
+    inputs: &mut Inputs<Lanes<W>>,
+    source: &mut Source<Lanes<W>>,
+    arrived: &mut Arrived<Lanes<W>>,
+) -> Coming
+    requires { alike.now.deep ≡ inputs.old.len.deep }
+    ensures flits { (k : ℕ) → k < LANES
+        → TakesFlits (layout_of (frame_by W.value alike.now.frame.now)) (W.value alike.now.cycle)
+        (links_by (word W.value k) links.now)
+        (inputs_by (word W.value k) inputs.old) (inputs_by (word W.value k) inputs.new)
+        (source_by (word W.value k) source.old) (source_by (word W.value k) source.new)
+        (arrived_by (word W.value k) arrived.new) }
+    ensures beginning { (k : ℕ) → k < LANES
+        → has_bit result.beginning k ≡ not (nat_eq (word W.value k arrived.new.begins) 0) }
+    ensures finishing { (k : ℕ) (o : Outputs ℕ) → k < LANES
+        → has_bit result.finishing k
+        ≡ not (nat_eq (ends_in (layout_of (frame_by W.value alike.now.frame.now))
+        (inputs_by (word W.value k) inputs.old) (source_by (word W.value k) source.old) o) 0) }
+    ensures landing { (k : ℕ) (o : Outputs ℕ) → k < LANES
+        → has_bit result.landing k
+        ≡ not (nat_eq (lane_landed (layout_of (frame_by W.value alike.now.frame.now)).places
+        (word W.value k links.now.flits) (column_of (inputs_by (word W.value k) inputs.old) o
+        (source_by (word W.value k) source.old))) 0) }
+{
     let mut beginning = W::none();
     let mut finishing = W::none();
     let mut landing = W::none();
     for j in 0..LANES {
         let flits = links.at(j);
-        let had = inputs.at(j);
+        let had = inputs.at(j, alike.deep);
         let from = source.at(j);
-        let taken = with_flits(frame, cycle, flits, had, from);
+        let taken = with_flits(alike.frame, alike.cycle, flits, had, from);
         inputs.put(j, taken.inputs);
         source.put(j, taken.source);
         arrived.put(j, taken.arrived);
@@ -141,6 +197,7 @@ fn with_flits<W: Word>(
         → W.value result.landed
         ≡ lane_landed (layout_of (frame_by W.value frame.now)).places (W.value came.flits)
         (column_of (inputs_by W.value inputs) o (source_by W.value source)) }
+    ensures depth { result.inputs.len.deep ≡ inputs.len.deep }
 {
     let injected = source.injecting.and(inputs.len.other_than(frame.places));
     let landed = came.flits.or(injected);

@@ -41,10 +41,11 @@ pub fn stand<W: Word>(
         ≡ not (nat_eq (lane_asks (column_of (inputs_by (word W.value k) inputs.now)
         (outputs_by (word W.value k) outputs.now) s)) 0) }
 {
+    let deep = inputs.len.deep;
     let mut heading = W::none();
     let mut asking = W::none();
     for j in 0..LANES {
-        let had = inputs.at(j);
+        let had = inputs.at(j, deep);
         let some = at(filled, j);
         let what = standing_of(frame, had, some);
         standing.put(j, what);

@@ -27,10 +27,11 @@ pub struct Inputs<T> {
 }
 
 impl<W: Word> Inputs<Lanes<W>> {
-    /// The words of one router.
+    /// The words of one router, where it is told whether its counts are deep.
     #[inline(always)]
-    pub fn at(&self, lane: usize) -> Inputs<W>
-        requires { lane < LANES }
+    pub fn at(&self, lane: usize, deep: bool) -> Inputs<W>
+        requires lane { lane < LANES }
+        requires depth { deep ≡ self.now.len.deep }
         ensures { inputs_by W.value result ≡ inputs_by (word W.value lane) self.now }
     {
         Inputs {
@@ -39,14 +40,15 @@ impl<W: Word> Inputs<Lanes<W>> {
             supplied: at(&self.supplied, lane),
             ended: at(&self.ended, lane),
             ahead: at(&self.ahead, lane),
-            len: self.len.at(lane),
+            len: self.len.at(lane, deep),
         }
     }
 
     /// Writes the words of one router.
     #[inline(always)]
     pub fn put(&mut self, lane: usize, words: Inputs<W>)
-        requires { lane < LANES }
+        requires lane { lane < LANES }
+        requires depth { words.len.deep ≡ self.old.len.deep }
         ensures here { inputs_by (word W.value lane) self.new ≡ inputs_by W.value words }
         ensures others { (k : ℕ) → k ≢ lane
             → inputs_by (word W.value k) self.new ≡ inputs_by (word W.value k) self.old }
@@ -74,24 +76,26 @@ pub struct Outputs<T> {
 }
 
 impl<W: Word> Outputs<Lanes<W>> {
-    /// The words of one router.
+    /// The words of one router, where it is told whether its counts are deep.
     #[inline(always)]
-    pub fn at(&self, lane: usize) -> Outputs<W>
-        requires { lane < LANES }
+    pub fn at(&self, lane: usize, deep: bool) -> Outputs<W>
+        requires lane { lane < LANES }
+        requires depth { deep ≡ self.now.credit.deep }
         ensures { outputs_by W.value result ≡ outputs_by (word W.value lane) self.now }
     {
         Outputs {
             wanted: at(&self.wanted, lane),
             idle: at(&self.idle, lane),
             draining: at(&self.draining, lane),
-            credit: self.credit.at(lane),
+            credit: self.credit.at(lane, deep),
         }
     }
 
     /// Writes the words of one router.
     #[inline(always)]
     pub fn put(&mut self, lane: usize, words: Outputs<W>)
-        requires { lane < LANES }
+        requires lane { lane < LANES }
+        requires depth { words.credit.deep ≡ self.old.credit.deep }
         ensures here { outputs_by (word W.value lane) self.new ≡ outputs_by W.value words }
         ensures others { (k : ℕ) → k ≢ lane
             → outputs_by (word W.value k) self.new ≡ outputs_by (word W.value k) self.old }

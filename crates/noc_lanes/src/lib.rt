@@ -18,6 +18,6 @@ pub use channels::{
 };
 pub use fields::Fields;
 pub use lanes::{LANES, Lanes, alike, at, first_in_turn, lane_if, put, where_some};
-pub use planes::{PLANES, Planes};
+pub use planes::{Planes, SHALLOW};
 pub use tally::Tally;
 pub use word::Word;

@@ -1,17 +1,18 @@
 //! A count of each channel, bit by bit: of each bit the channels whose count has it.
 
-ghost use Rattle.std.specs.Prelude.{◌≡◌, ◌≢◌, ◌<◌, ◌-◌, ◌^◌, ℕ, map, bit_and};
+ghost use Rattle.std.specs.Prelude.{◌≡◌, ◌≢◌, ◌<◌, ◌-◌, ◌^◌, ℕ, map, bit_and, if◌then◌else◌};
 ghost use Rattle.noc_lanes.specs.Lanes.{word};
-ghost use Rattle.noc_lanes.specs.Planes.{all_of, planes_by, planes_of, where_odd};
+ghost use Rattle.noc_lanes.specs.Planes.{all_of, no_planes, planes_by, planes_of, where_odd};
 ghost use Rattle.noc_sets.specs.Planes.{any_from, lowered_by, more_than_one, raised_by, wrong_from};
 
 use crate::lanes::{LANES, Lanes, alike, at, put};
 use crate::word::Word;
 
-/// How many bits a count has.
-pub const PLANES: usize = 5;
+/// The greatest count of three bits.
+pub const SHALLOW: usize = 7;
 
-/// A count, 0 to 31, of each channel: of one router by words, of a block by lanes.
+/// A count of each channel: of one router by words, of a block by lanes. It has five bits where it
+/// is deep, and else three: planes that are not needed are neither read nor written.
 #[derive(Clone, Copy)]
 pub struct Planes<T> {
     /// The channels whose count has bit 0.
@@ -20,18 +21,21 @@ pub struct Planes<T> {
     pub twos: T,
     /// The channels whose count has bit 2.
     pub fours: T,
-    /// The channels whose count has bit 3.
+    /// The channels whose count has bit 3, where it is deep.
     pub eights: T,
-    /// The channels whose count has bit 4.
+    /// The channels whose count has bit 4, where it is deep.
     pub sixteens: T,
+    /// Whether a count is deep: 0 to 31, and not 0 to 7 alone.
+    pub deep: bool,
 }
 
 impl<W: Word> Planes<W> {
     /// The count 0 of each channel.
-    pub fn none() -> Planes<W>
-        ensures { planes_of W.value result ≡ all_of 0 0 }
+    pub fn none(deep: bool) -> Planes<W>
+        ensures { planes_by W.value result ≡ no_planes deep }
     {
         Planes {
+            deep,
             ones: W::none(),
             twos: W::none(),
             fours: W::none(),
@@ -45,6 +49,7 @@ impl<W: Word> Planes<W> {
         ensures { planes_of W.value result ≡ all_of (2 ^ W.bits - 1) count }
     {
         Planes {
+            deep: count > SHALLOW,
             ones: all_if_odd(count),
             twos: all_if_odd(count / 2),
             fours: all_if_odd(count / 4),
@@ -55,10 +60,12 @@ impl<W: Word> Planes<W> {
 
     /// The counts of the channels of a set, and 0 for the others.
     pub fn among(self, set: W) -> Planes<W>
-        ensures { planes_of W.value result
+        ensures counts { planes_of W.value result
             ≡ map (λ plane. bit_and plane (W.value set)) (planes_of W.value self) }
+        ensures depth { result.deep ≡ self.deep }
     {
         Planes {
+            deep: self.deep,
             ones: self.ones.and(set),
             twos: self.twos.and(set),
             fours: self.fours.and(set),
@@ -67,16 +74,19 @@ impl<W: Word> Planes<W> {
         }
     }
 
-    /// One more for each member of a set. A count of 31 becomes 0.
+    /// One more for each member of a set. The greatest count, 31 or 7, becomes 0.
     #[inline(always)]
     pub fn raised(self, set: W) -> Planes<W>
-        ensures { planes_of W.value result ≡ raised_by (planes_of W.value self) (W.value set) }
+        ensures counts { planes_of W.value result
+            ≡ raised_by (planes_of W.value self) (W.value set) }
+        ensures depth { result.deep ≡ self.deep }
     {
         let twos = set.and(self.ones);
         let fours = twos.and(self.twos);
         let eights = fours.and(self.fours);
         let sixteens = eights.and(self.eights);
         Planes {
+            deep: self.deep,
             ones: self.ones.xor(set),
             twos: self.twos.xor(twos),
             fours: self.fours.xor(fours),
@@ -85,16 +95,19 @@ impl<W: Word> Planes<W> {
         }
     }
 
-    /// One less for each member of a set. A count of 0 becomes 31.
+    /// One less for each member of a set. A count of 0 becomes the greatest, 31 or 7.
     #[inline(always)]
     pub fn lowered(self, set: W) -> Planes<W>
-        ensures { planes_of W.value result ≡ lowered_by (planes_of W.value self) (W.value set) }
+        ensures counts { planes_of W.value result
+            ≡ lowered_by (planes_of W.value self) (W.value set) }
+        ensures depth { result.deep ≡ self.deep }
     {
         let twos = set.less(self.ones);
         let fours = twos.less(self.twos);
         let eights = fours.less(self.fours);
         let sixteens = eights.less(self.eights);
         Planes {
+            deep: self.deep,
             ones: self.ones.xor(set),
             twos: self.twos.xor(twos),
             fours: self.fours.xor(fours),
@@ -108,11 +121,12 @@ impl<W: Word> Planes<W> {
     pub fn some(self) -> W
         ensures { W.value result ≡ any_from 0 (planes_of W.value self) }
     {
-        self.ones
-            .or(self.twos)
-            .or(self.fours)
-            .or(self.eights)
-            .or(self.sixteens)
+        let low = self.ones.or(self.twos).or(self.fours);
+        if self.deep {
+            low.or(self.eights).or(self.sixteens)
+        } else {
+            low
+        }
     }
 
     /// The channels whose count is more than 1.
@@ -120,21 +134,32 @@ impl<W: Word> Planes<W> {
     pub fn more_than_one(self) -> W
         ensures { W.value result ≡ more_than_one (planes_of W.value self) }
     {
-        self.twos.or(self.fours).or(self.eights).or(self.sixteens)
+        let low = self.twos.or(self.fours);
+        if self.deep {
+            low.or(self.eights).or(self.sixteens)
+        } else {
+            low
+        }
     }
 
-    /// The channels whose count is not that of other planes.
+    /// The channels whose count is not that of other planes: only three bits are compared where
+    /// either has no more.
     #[inline(always)]
     pub fn other_than(self, others: Planes<W>) -> W
         ensures { W.value result
             ≡ wrong_from 0 (planes_of W.value self) (planes_of W.value others) }
     {
-        self.ones
-            .xor(others.ones)
-            .or(self.twos.xor(others.twos))
-            .or(self.fours.xor(others.fours))
-            .or(self.eights.xor(others.eights))
-            .or(self.sixteens.xor(others.sixteens))
+        let ones = self.ones.xor(others.ones);
+        let twos = self.twos.xor(others.twos);
+        let fours = self.fours.xor(others.fours);
+        let low = ones.or(twos).or(fours);
+        if self.deep && others.deep {
+            let eights = self.eights.xor(others.eights);
+            let sixteens = self.sixteens.xor(others.sixteens);
+            low.or(eights).or(sixteens)
+        } else {
+            low
+        }
     }
 }
 
@@ -152,6 +177,7 @@ impl<W: Word> Planes<Lanes<W>> {
             → planes_by (word W.value k) result ≡ planes_by W.value planes }
     {
         Planes {
+            deep: planes.deep,
             ones: alike(planes.ones),
             twos: alike(planes.twos),
             fours: alike(planes.fours),
@@ -160,25 +186,28 @@ impl<W: Word> Planes<Lanes<W>> {
         }
     }
 
-    /// The counts of one router.
+    /// The counts of one router, where it is told whether they are deep.
     #[inline(always)]
-    pub fn at(&self, lane: usize) -> Planes<W>
-        requires { lane < LANES }
+    pub fn at(&self, lane: usize, deep: bool) -> Planes<W>
+        requires lane { lane < LANES }
+        requires depth { deep ≡ self.now.deep }
         ensures { planes_by W.value result ≡ planes_by (word W.value lane) self.now }
     {
         Planes {
+            deep,
             ones: at(&self.ones, lane),
             twos: at(&self.twos, lane),
             fours: at(&self.fours, lane),
-            eights: at(&self.eights, lane),
-            sixteens: at(&self.sixteens, lane),
+            eights: at_if(deep, &self.eights, lane),
+            sixteens: at_if(deep, &self.sixteens, lane),
         }
     }
 
     /// Writes the counts of one router.
     #[inline(always)]
     pub fn put(&mut self, lane: usize, planes: Planes<W>)
-        requires { lane < LANES }
+        requires lane { lane < LANES }
+        requires depth { planes.deep ≡ self.old.deep }
         ensures here { planes_by (word W.value lane) self.new ≡ planes_by W.value planes }
         ensures others { (k : ℕ) → k ≢ lane
             → planes_by (word W.value k) self.new ≡ planes_by (word W.value k) self.old }
@@ -186,7 +215,22 @@ impl<W: Word> Planes<Lanes<W>> {
         put(&mut self.ones, lane, planes.ones);
         put(&mut self.twos, lane, planes.twos);
         put(&mut self.fours, lane, planes.fours);
-        put(&mut self.eights, lane, planes.eights);
-        put(&mut self.sixteens, lane, planes.sixteens);
+        if planes.deep {
+            put(&mut self.eights, lane, planes.eights);
+            put(&mut self.sixteens, lane, planes.sixteens);
+        }
+    }
+}
+
+// The word of one router where that is told to be needed, and else none.
+#[inline(always)]
+fn at_if<W: Word>(is_needed: bool, lanes: &Lanes<W>, lane: usize) -> W
+    requires { lane < LANES }
+    ensures { W.value result ≡ (if is_needed then word W.value lane lanes.now else 0) }
+{
+    if is_needed {
+        at(lanes, lane)
+    } else {
+        W::none()
     }
 }

@@ -1,6 +1,6 @@
 -- A router in which nothing is, before the first cycle.
 use Rattle.std.proofs.Common.{◌≡◌, ◌≢◌, ℕ, ◌+◌, ◌-◌, ◌*◌, ◌^◌, ◌<◌, ◌≤◌, Bool, true, false, List, [], ◌∷◌, Option, Some, None, length, map, refl, ap, ap₂, sym, ◌∙◌, subst, arith, inl, inr, bit_and, mul-le-mul_right}
-use Rattle.std.specs.Prelude.{◌⊎◌, ◌&&◌, nat_le, nat_lt, unwrap_or}
+use Rattle.std.specs.Prelude.{◌⊎◌, ◌&&◌, nat_le, nat_lt, unwrap_or, if◌then◌else◌}
 use Rattle.std.proofs.lemmas.Bool.{and_parts, cases_eq, false≢true, lt-ltb, ltb-true}
 use Rattle.std.proofs.lemmas.Option.{slice_get_past}
 use Rattle.noc_topo.specs.Lists.{one_if}
@@ -17,10 +17,11 @@ use Rattle.noc_sets.specs.Source.{NEVER, Source as SourceOf}
 use Rattle.noc_sets.proofs.MemberLemmas.{and_fits, ones-members, or-cases, or_fits}
 use Rattle.noc_theory.specs.Network.{Setup}
 use Rattle.noc_theory_bits.specs.Network.{HasOpened}
-use Rattle.noc_lanes.specs.Planes.{list_of}
+use Rattle.noc_lanes.specs.Planes.{bits_for, bits_if, list_of, no_planes, planes_by}
 use Rattle.noc_lanes.specs.declared.channels.Inputs.{Inputs}
 use Rattle.noc_lanes.specs.declared.channels.Outputs.{Outputs}
 use Rattle.noc_lanes.specs.declared.channels.Source.{Source as Words}
+use Rattle.noc_lanes.specs.declared.planes.Planes.{Planes}
 use Rattle.noc_blocks.specs.Blank.{IsBlank}
 use Rattle.noc_blocks.specs.Marks.{marks_or_none}
 use Rattle.noc_blocks.specs.Routers.{column_of, layout_of}
@@ -59,7 +60,7 @@ lanes-next f now new j below here others = lanes-hold (λ k n. n ≡ f k) now ne
 
 -- what is written in a lane, of words of w bits
 pub record IsOpen (w : ℕ) (frame : Frame ℕ) (one : First) (a : Lane) : Type 0 where
-  pub inputs : a.inputs ≡ no_inputs (2 ^ w - 1)
+  pub inputs : a.inputs ≡ no_inputs frame.places.deep (2 ^ w - 1)
   pub outputs : a.outputs ≡ free_outputs frame
   pub words : a.words ≡ first_words one
   pub queue : a.queue ≡ one.place
@@ -90,6 +91,41 @@ among-fits : (planes : List ℕ) (set : ℕ) → ArePlanes planes → ArePlanes 
 among-fits [] set fits = tt
 among-fits (plane ∷ planes) set (here, rest) = (and_fits plane set here, among-fits planes set rest)
 
+-- .. of planes, of which those that are needed are taken
+abbrev the_planes : (ones twos fours eights sixteens : ℕ) (deep : Bool) → Planes ℕ
+the_planes ones twos fours eights sixteens deep = record { ones = ones; twos = twos; fours = fours; eights = eights; sixteens = sixteens; deep = deep }
+
+among-list : (planes : Planes ℕ) (set : ℕ) → list_of (planes_by (λ plane. bit_and plane set) planes) ≡ map (λ plane. bit_and plane set) (list_of planes)
+among-list planes set = at planes.ones planes.twos planes.fours planes.eights planes.sixteens planes.deep
+  where
+    at : (o t f e s : ℕ) (deep : Bool) → list_of (planes_by (λ plane. bit_and plane set) (the_planes o t f e s deep)) ≡ map (λ plane. bit_and plane set) (list_of (the_planes o t f e s deep))
+    at o t f e s true = refl
+    at o t f e s false = refl
+
+-- planes have as many bits as others that are as deep
+bits-are : (planes : Planes ℕ) → length (list_of planes) ≡ bits_if planes.deep
+bits-are planes = at planes.ones planes.twos planes.fours planes.eights planes.sixteens planes.deep
+  where
+    at : (o t f e s : ℕ) (deep : Bool) → length (list_of (the_planes o t f e s deep)) ≡ bits_if deep
+    at o t f e s true = refl
+    at o t f e s false = refl
+
+as-many : (planes others : Planes ℕ) → planes.deep ≡ others.deep → length (list_of planes) ≡ length (list_of others)
+as-many planes others same = bits-are planes ∙ ap bits_if same ∙ sym (bits-are others)
+
+-- no count
+none-number : (deep : Bool) (x : ℕ) → plane_number (list_of (no_planes deep)) x ≡ 0
+none-number true x = ap (λ b. one_if b + 2 * (one_if b + 2 * (one_if b + 2 * (one_if b + 2 * (one_if b + 2 * 0))))) (has_bit-zero x)
+none-number false x = ap (λ b. one_if b + 2 * (one_if b + 2 * (one_if b + 2 * 0))) (has_bit-zero x)
+
+none-fit : (deep : Bool) → ArePlanes (list_of (no_planes deep))
+none-fit true = (omega arith, (omega arith, (omega arith, (omega arith, (omega arith, tt)))))
+none-fit false = (omega arith, (omega arith, (omega arith, tt)))
+
+none-any : (deep : Bool) → any_from 0 (list_of (no_planes deep)) ≡ 0
+none-any true = refl
+none-any false = refl
+
 module _ (w : ℕ) (few : w ≤ 64) (relation : Routes) (places : ℕ) (frame : Frame ℕ) (of : IsFrameOf w relation places frame) where
   abbrev size : ℕ
   size = ports relation.grid * relation.vcs
@@ -107,50 +143,47 @@ module _ (w : ℕ) (few : w ≤ 64) (relation : Routes) (places : ℕ) (frame : 
   sides = of.layout.sides
 
   abbrev empty_words : First → Column
-  empty_words one = column_of (no_inputs (2 ^ w - 1)) (free_outputs frame) (first_words one)
+  empty_words one = column_of (no_inputs frame.places.deep (2 ^ w - 1)) (free_outputs frame) (first_words one)
 
-  words-are : (one : First) → AreWords 5 (empty_words one)
+  words-are : (one : First) → AreWords (bits_for places) (empty_words one)
   words-are one = record {
-    len_bits = refl;
-    credit_bits = refl;
+    len_bits = as-many (no_planes frame.places.deep) frame.places refl ∙ of.layout.all.bits;
+    credit_bits = as-many (planes_by (λ plane. bit_and plane frame.links) frame.places) frame.places refl ∙ of.layout.all.bits;
     waiting = omega arith;
     active = omega arith;
-    len = (omega arith, (omega arith, (omega arith, (omega arith, (omega arith, tt)))));
+    len = none-fit frame.places.deep;
     supplied = omega arith;
     ahead = ones-fit w few;
     wanted = omega arith;
     idle = or_fits frame.links frame.local sides.link_fits sides.local_fits;
     draining = omega arith;
-    credit = among-fits (list_of frame.places) frame.links of.layout.all.fits;
+    credit = subst ArePlanes (sym (among-list frame.places frame.links)) (among-fits (list_of frame.places) frame.links of.layout.all.fits);
     injecting = omega arith;
   }
 
-  column-is : (one : First) → IsEmptyColumn 5 size frame.links frame.local places (empty_words one)
+  column-is : (one : First) → IsEmptyColumn (bits_for places) size frame.links frame.local places (empty_words one)
   column-is one = record {
     words = words-are one;
     waiting = refl;
     active = refl;
-    len = λ x. none x;
+    len = none-number frame.places.deep;
     supplied = refl;
     ahead = all-ones;
     wanted = refl;
     idle = refl;
     draining = refl;
-    credit = λ x e. among-number (list_of frame.places) frame.links x e ∙ of.layout.all.each x (within x (ltb-true x (local_port relation.grid * relation.vcs) (sym (sides.link_is x) ∙ e)));
+    credit = λ x e. ap (λ planes. plane_number planes x) (among-list frame.places frame.links) ∙ among-number (list_of frame.places) frame.links x e ∙ of.layout.all.each x (within x (ltb-true x (local_port relation.grid * relation.vcs) (sym (sides.link_is x) ∙ e)));
     injecting = refl;
   }
     where
-      none : (x : ℕ) → plane_number (0 ∷ 0 ∷ 0 ∷ 0 ∷ 0 ∷ []) x ≡ 0
-      none x = ap (λ b. one_if b + 2 * (one_if b + 2 * (one_if b + 2 * (one_if b + 2 * (one_if b + 2 * 0))))) (has_bit-zero x)
-
       within : (x : ℕ) → x < local_port relation.grid * relation.vcs → x < size
       within x l = let m : local_port relation.grid * relation.vcs ≤ size = mul-le-mul_right relation.vcs (omega arith) in omega (arith, l, m)
 
   module _ (one : First) (a : Lane) (is : IsOpen w frame one a) where
     column-same : column_in a ≡ empty_words one
     column-same =
-        ap (λ (i : Inputs ℕ). column_of i a.outputs a.words) is.inputs ∙ ap (λ (o : Outputs ℕ). column_of (no_inputs (2 ^ w - 1)) o a.words) is.outputs
-        ∙ ap (column_of (no_inputs (2 ^ w - 1)) (free_outputs frame)) is.words
+        ap (λ (i : Inputs ℕ). column_of i a.outputs a.words) is.inputs ∙ ap (λ (o : Outputs ℕ). column_of (no_inputs frame.places.deep (2 ^ w - 1)) o a.words) is.outputs
+        ∙ ap (column_of (no_inputs frame.places.deep (2 ^ w - 1)) (free_outputs frame)) is.words
 
     marks-are : AreEmptyMarks (ports relation.grid) size a.marks
     marks-are = record {
@@ -192,9 +225,9 @@ module _ (w : ℕ) (few : w ≤ 64) (relation : Routes) (places : ℕ) (frame : 
 
 -- .. and has opened
 pub has-opened : (w : ℕ) (few : w ≤ 64) (net : Setup) (frame : Frame ℕ) (of : IsFrameOf w net.relation net.depth frame) (r : ℕ) (a : Lane) → IsOpen w frame (first_of net.packets r) a
-    → HasOpened 5 net (layout_of frame) r (router_in a no_links (λ i. no_counts))
+    → HasOpened (bits_for net.depth) net (layout_of frame) r (router_in a no_links (λ i. no_counts))
 has-opened w few net frame of r a is = record {
-  column = subst (IsEmptyColumn 5 (ports net.relation.grid * net.relation.vcs) frame.links frame.local net.depth) (sym (column-same w few net.relation net.depth frame of (first_of net.packets r) a is))
+  column = subst (IsEmptyColumn (bits_for net.depth) (ports net.relation.grid * net.relation.vcs) frame.links frame.local net.depth) (sym (column-same w few net.relation net.depth frame of (first_of net.packets r) a is))
       (column-is w few net.relation net.depth frame of (first_of net.packets r));
   marks = marks-are w few net.relation net.depth frame of (first_of net.packets r) a is;
   ended = ap (λ (x : Inputs ℕ). x.ended) is.inputs;
@@ -211,7 +244,7 @@ pub open-blank : (w : ℕ) (frame : Frame ℕ) (a : Lane) → IsOpen w frame (re
 open-blank w frame a is = record {
   waiting = ap (λ (x : Inputs ℕ). x.waiting) is.inputs;
   active = ap (λ (x : Inputs ℕ). x.active) is.inputs;
-  flits = ap (λ (x : Inputs ℕ). any_from 0 (list_of x.len)) is.inputs;
+  flits = ap (λ (x : Inputs ℕ). any_from 0 (list_of x.len)) is.inputs ∙ none-any frame.places.deep;
   injecting = ap (λ (x : Words ℕ). x.injecting) is.words;
   due = ap (λ (x : Words ℕ). x.due) is.words;
 }

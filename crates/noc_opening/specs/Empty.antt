@@ -1,6 +1,6 @@
 -- A router in which nothing is, nothing is worked out, and to which nothing comes.
-use Rattle.std.specs.Prelude.{ℕ, bit_and, bit_or}
-use Rattle.noc_lanes.specs.Planes.{planes_by}
+use Rattle.std.specs.Prelude.{ℕ, Bool, bit_and, bit_or}
+use Rattle.noc_lanes.specs.Planes.{no_planes, planes_by}
 use Rattle.noc_lanes.specs.declared.channels.Inputs.{Inputs}
 use Rattle.noc_lanes.specs.declared.channels.Links.{Links}
 use Rattle.noc_lanes.specs.declared.channels.Outputs.{Outputs}
@@ -8,15 +8,15 @@ use Rattle.noc_lanes.specs.declared.channels.Returned.{Returned}
 use Rattle.noc_blocks.specs.Turned.{Working}
 use Rattle.noc_blocks.specs.declared.frame.Frame.{Frame}
 
--- its input channels, where those are all
-abbrev pub no_inputs : ℕ → Inputs ℕ
-no_inputs all = record {
+-- its input channels, where those are all, and whether their counts are deep
+abbrev pub no_inputs : Bool → ℕ → Inputs ℕ
+no_inputs deep all = record {
   waiting = 0;
   active = 0;
   supplied = 0;
   ended = 0;
   ahead = all;
-  len = record { ones = 0; twos = 0; fours = 0; eights = 0; sixteens = 0 };
+  len = no_planes deep;
 }
 
 -- its output channels

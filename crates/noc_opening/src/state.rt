@@ -8,6 +8,7 @@ ghost use Rattle.noc_theory.specs.Network.{Setup};
 ghost use Rattle.noc_theory_bits.specs.Network.{HasOpened};
 ghost use Rattle.noc_lanes.specs.Channels.{inputs_by, outputs_by, source_by};
 ghost use Rattle.noc_lanes.specs.Lanes.{word};
+ghost use Rattle.noc_lanes.specs.Planes.{bits_for};
 ghost use Rattle.noc_blocks.specs.Blank.{IsBlank};
 ghost use Rattle.noc_blocks.specs.Marks.{marks_at};
 ghost use Rattle.noc_blocks.specs.Ports.{by_port};
@@ -21,7 +22,7 @@ ghost use Rattle.noc_opening.specs.Frames.{IsFrameOf};
 
 use crate::firsts::First;
 use noc_blocks::{Digits, Frame, Marks, NEVER, PLACES, PORTS, Ports, Sends, Sources, of_number};
-use noc_lanes::{Inputs, LANES, Lanes, Outputs, PLANES, Planes, Source, Word, alike, put};
+use noc_lanes::{Inputs, LANES, Lanes, Outputs, Planes, Source, Word, alike, put};
 use noc_packet::MAX_NODES;
 use noc_turns::State;
 
@@ -33,7 +34,7 @@ pub fn open_block<W: Word>(frame: &Frame<W>, firsts: &[First], first: usize) -> 
         → IsFrameOf W.bits net.relation net.depth (frame_by W.value frame.now)
         → AreFirsts net.packets (nodes net.relation.grid) firsts.now
         → k < LANES → first + k < nodes net.relation.grid
-        → HasOpened PLANES net (layout_of (frame_by W.value frame.now)) (first + k)
+        → HasOpened (bits_for net.depth) net (layout_of (frame_by W.value frame.now)) (first + k)
         (router_in (lane_of W.value result k) no_links (λ i. no_counts)) }
     ensures ready { (relation : Routes) (places k : ℕ)
         → IsFrameOf W.bits relation places (frame_by W.value frame.now) → k < LANES
@@ -44,19 +45,20 @@ pub fn open_block<W: Word>(frame: &Frame<W>, firsts: &[First], first: usize) -> 
 {
     State {
         before: [0; 6],
-        inputs: empty_inputs(),
-        outputs: free_outputs(frame),
         sources: open_sources(firsts, first),
         ports: empty_ports(),
-        between: [0; 2],
+        inputs: empty_inputs(frame.places.deep),
+        between: [0; 7],
+        outputs: free_outputs(frame),
+        behind: [0; 1],
         marks: empty_marks(),
     }
 }
 
 // No flit, and each pointer at the first channel.
-fn empty_inputs<W: Word>() -> Inputs<Lanes<W>>
+fn empty_inputs<W: Word>(deep: bool) -> Inputs<Lanes<W>>
     ensures { (k : ℕ) → k < LANES
-        → inputs_by (word W.value k) result ≡ no_inputs (2 ^ W.bits - 1) }
+        → inputs_by (word W.value k) result ≡ no_inputs deep (2 ^ W.bits - 1) }
 {
     let none = alike(W::none());
     Inputs {
@@ -65,7 +67,7 @@ fn empty_inputs<W: Word>() -> Inputs<Lanes<W>>
         supplied: none,
         ended: none,
         ahead: alike(W::all()),
-        len: Planes::alike(Planes::none()),
+        len: Planes::alike(Planes::none(deep)),
     }
 }
 

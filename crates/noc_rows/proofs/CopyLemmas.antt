@@ -4,6 +4,7 @@ use Rattle.std.specs.Prelude.{slice_get}
 use Rattle.noc_topo.specs.Shape.{nodes, ports}
 use Rattle.noc_packet.specs.Set.{has_bit}
 use Rattle.noc_route.specs.Routes.{width}
+use Rattle.noc_lanes.specs.Planes.{bits_for}
 use Rattle.noc_blocks.specs.Begins.{starts_by}
 use Rattle.noc_blocks.specs.Blank.{IsBlank}
 use Rattle.noc_blocks.specs.Numbered.{IsNumbered, port_in, vc_in}
@@ -69,7 +70,7 @@ copy-shows {A = A} value w net n all copy same is =
       arrivals_are = ap length same.arrivals ∙ is.arrivals_are;
       found_are = ap length same.found ∙ is.found_are;
       counts = is.counts;
-      shows = subst (λ (x : Words). ShowsNetwork 5 net n x) words is.shows;
+      shows = subst (λ (x : Words). ShowsNetwork (bits_for net.depth) net n x) words is.shows;
       sends = λ r l. subst (λ (xs : List (State A)). SendsRight net.relation.vcs (ports g) (lane_by value xs r).vc (lane_by value xs r).marks) states (is.sends r l);
       blank = λ b k l. subst (λ (xs : List (State A)). k < 32 → nodes g ≤ b * 32 + k → IsBlank (lane_in value xs b k)) states (is.blank b k (subst (λ (m : ℕ). b < m) (sym sides) l));
       tallied = λ r i l u.

@@ -7,7 +7,7 @@ use Rattle.noc_packet.specs.Set.{has_bit}
 use Rattle.noc_route.specs.Routes.{Routes}
 use Rattle.noc_view.specs.declared.finding.Finding.{Finding}
 use Rattle.noc_lanes.specs.declared.channels.Inputs.{Inputs}
-use Rattle.noc_lanes.specs.declared.planes.TheConstants.{PLANES}
+use Rattle.noc_lanes.specs.Planes.{bits_for}
 use Rattle.noc_blocks.specs.Begins.{starts_by}
 use Rattle.noc_blocks.specs.Turned.{Working}
 use Rattle.noc_blocks.specs.Turning.{Lane}
@@ -46,7 +46,7 @@ module _ {A : Type 0} (value : A → ℕ) (w : ℕ) (relation : Routes) (own : �
         let links = (working_in value gathered (r / 32) (r % 32)).links in
         let x : Working = record (working_in value came (r / 32) (r % 32)) { links = links } in
         let in_network : r < nodes net.relation.grid = omega (arith, l, routers-there routers few) in
-        active-own PLANES all.plan.pattern.frame.fields.width all.plan.pattern.frame.ports n (layout_by value all.plan.pattern) (starts_by all.plan.starts.items) (lane_by value all.states.items r) (lane_by value arrived r)
+        active-own (bits_for net.depth) all.plan.pattern.frame.fields.width all.plan.pattern.frame.ports n (layout_by value all.plan.pattern) (starts_by all.plan.starts.items) (lane_by value all.states.items r) (lane_by value arrived r)
         (returned_or value (slice_get came (r / 32)) (r % 32)) x (view_at net n r) (may.shows.shows.routers r (in_network, (may.own_awake (r / 32) e).0)).column (one.lanes (r % 32) (mod_below r 32 (omega arith)))
 
     -- ---- once it is decided

@@ -12,6 +12,7 @@ use Rattle.noc_sets.specs.Counts.{ByVerdict}
 use Rattle.noc_sets.specs.Cycle.{Links}
 use Rattle.noc_sets.specs.Gather.{gathered, is_over}
 use Rattle.noc_sets.proofs.GatherLemmas.{gathered-is}
+use Rattle.noc_lanes.specs.Planes.{bits_for}
 use Rattle.noc_lanes.specs.declared.channels.Links.{Links as Brought}
 use Rattle.noc_blocks.specs.Blank.{IsBlank}
 use Rattle.noc_blocks.specs.Sending.{SendsRight}
@@ -120,7 +121,7 @@ module _ {A : Type 0} (value : A → ℕ) (w : ℕ) (net : Setup) (setup : IsGoo
   abbrev words : ℕ → Words
   words i = words_by value net (parts i).states.items (parts i).left (shows i).counts (parts i).last (parts i).arrivals.items
 
-  shows-network : ShowsNetwork 5 net n (words_by value net all.states.items all.left counts all.last all.arrivals.items)
+  shows-network : ShowsNetwork (bits_for net.depth) net n (words_by value net all.states.items all.left counts all.last all.arrivals.items)
   shows-network = parts-network net setup part n words (words_by value net all.states.items all.left counts all.last all.arrivals.items) (λ r l. (shows (part r)).shows) (record {
     routers = router-same;
     latest = joined.latest;

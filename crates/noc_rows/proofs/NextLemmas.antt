@@ -18,7 +18,7 @@ use Rattle.noc_lanes.specs.declared.channels.Decided.{Decided}
 use Rattle.noc_lanes.specs.declared.channels.Inputs.{Inputs}
 use Rattle.noc_lanes.specs.declared.channels.Moves.{Moves}
 use Rattle.noc_lanes.specs.declared.channels.Standing.{Standing}
-use Rattle.noc_lanes.specs.declared.planes.TheConstants.{PLANES}
+use Rattle.noc_lanes.specs.Planes.{bits_for}
 use Rattle.noc_blocks.proofs.SwitchedLemmas.{some-has}
 use Rattle.noc_blocks.specs.Blank.{IsBlank}
 use Rattle.noc_blocks.specs.Numbered.{port_in, vc_in}
@@ -268,7 +268,7 @@ module _ {A : Type 0} (value : A → ℕ) (w : ℕ) (relation : Routes) (own : �
         ]));
   }
 
-  pub next-shows : ShowsOwn PLANES net (of_blocks own) (suc n) (next_words ran.last step.between.arrivals.items)
+  pub next-shows : ShowsOwn (bits_for net.depth) net (of_blocks own) (suc n) (next_words ran.last step.between.arrivals.items)
   next-shows = own-next net setup layout shows.plan.frame.layout (of_blocks own) n now turn after sent (next_words ran.last step.between.arrivals.items) few shows.shows has-run
 
   -- ---- what is counted
@@ -339,9 +339,9 @@ module _ {A : Type 0} (value : A → ℕ) (w : ℕ) (relation : Routes) (own : �
     arrivals_are = ap (λ (x : Network A). length x.arrivals.items) hears.rest ∙ stepped.arrivals-are value w relation awake n routers all ran step ∙ shows.arrivals_are;
     found_are = ap (λ (x : Network A). length x.found.items) hears.rest ∙ stepped.found-are value w relation awake n routers all ran step ∙ shows.found_are;
     counts = λ r. (turn r).counts;
-    shows = subst (λ m. ShowsOwn PLANES net (of_blocks own) m (next_words next.last next.arrivals.items)) (sym (add-one n))
-        (subst (λ (x : ℕ). ShowsOwn PLANES net (of_blocks own) (suc n) (next_words x next.arrivals.items)) (sym (ap (λ (x : Network A). x.last) hears.rest))
-        (subst (λ (xs : List ℕ). ShowsOwn PLANES net (of_blocks own) (suc n) (next_words ran.last xs)) (sym (ap (λ (x : Network A). x.arrivals.items) hears.rest ∙ stepped.same-arrivals value w relation awake n routers all ran step)) next-shows));
+    shows = subst (λ m. ShowsOwn (bits_for net.depth) net (of_blocks own) m (next_words next.last next.arrivals.items)) (sym (add-one n))
+        (subst (λ (x : ℕ). ShowsOwn (bits_for net.depth) net (of_blocks own) (suc n) (next_words x next.arrivals.items)) (sym (ap (λ (x : Network A). x.last) hears.rest))
+        (subst (λ (xs : List ℕ). ShowsOwn (bits_for net.depth) net (of_blocks own) (suc n) (next_words ran.last xs)) (sym (ap (λ (x : Network A). x.arrivals.items) hears.rest ∙ stepped.same-arrivals value w relation awake n routers all ran step)) next-shows));
     sends = next-sends;
     blank = λ b k ours m l u. next-blank b k ours (subst (λ x. b < x) (sym sides-same) m) l u;
     tallied = λ r i m u. subst (λ (xs : List (Tallies A)). ShowsTallyOr value (slice_get xs (r / 32)) (r % 32) i (n + 1) (has_bit (lane_by value later r).inputs.waiting i) (has_bit (lane_by value later r).inputs.active i) ((turn r).counts i))

@@ -14,6 +14,7 @@ use Rattle.noc_sets.specs.Counts.{ByVerdict, no_counts}
 use Rattle.noc_sets.specs.Cycle.{Links}
 use Rattle.noc_sets.specs.Gather.{gathered, is_over}
 use Rattle.noc_sets.proofs.GatherLemmas.{gathered-is}
+use Rattle.noc_lanes.specs.Planes.{bits_for}
 use Rattle.noc_lanes.specs.declared.channels.Links.{Links as Brought}
 use Rattle.noc_blocks.specs.Begins.{starts_by}
 use Rattle.noc_blocks.specs.Blank.{IsBlank}
@@ -148,19 +149,19 @@ module _ {A : Type 0} (value : A → ℕ) (w : ℕ) (net : Setup) (firsts : List
       at (inl (s, few, e, g)) = along (λ (o : Option (State A)). P (lane_or value o (r % 32))) (slice_get all.states.items (r / 32)) s e (each s (of.states.each (r / 32) s e))
       at (inr (past, e)) = absurd (let m = of.states.many in let b = within r l in omega (arith, past, m, b))
 
-  opened : (r : ℕ) → r < nodes net.relation.grid → HasOpened 5 net (layout_of frame) r (router_in (lane_by value all.states.items r) no_links (λ i. no_counts))
-  opened r l = lanes (λ a. HasOpened 5 net (layout_of frame) r (router_in a no_links (λ i. no_counts))) r l
+  opened : (r : ℕ) → r < nodes net.relation.grid → HasOpened (bits_for net.depth) net (layout_of frame) r (router_in (lane_by value all.states.items r) no_links (λ i. no_counts))
+  opened r l = lanes (λ a. HasOpened (bits_for net.depth) net (layout_of frame) r (router_in a no_links (λ i. no_counts))) r l
       (λ s is.
       let same : r / 32 * 32 + r % 32 ≡ r = omega arith in
-      subst (λ (x : ℕ). HasOpened 5 net (layout_of frame) x (router_in (lane_of value s (r % 32)) no_links (λ i. no_counts))) same
+      subst (λ (x : ℕ). HasOpened (bits_for net.depth) net (layout_of frame) x (router_in (lane_of value s (r % 32)) no_links (λ i. no_counts))) same
       (is.routers net (r % 32) of.plan.frame of.firsts_are (omega arith) (omega (arith, same, l))))
 
   abbrev no_words : Words
   no_words = record { routers = λ r. router_by value net all.states.items (left_of value all.left) (counts r) r; last = all.last; arrivals = λ p. None }
 
-  have-opened : HaveOpened 5 net (layout_of frame) no_words
+  have-opened : HaveOpened (bits_for net.depth) net (layout_of frame) no_words
   have-opened = record {
-    routers = λ r l. subst (λ (b : Brought ℕ). HasOpened 5 net (layout_of frame) r (router_in (lane_by value all.states.items r) b (λ i. no_counts)))
+    routers = λ r l. subst (λ (b : Brought ℕ). HasOpened (bits_for net.depth) net (layout_of frame) r (router_in (lane_by value all.states.items r) b (λ i. no_counts)))
         (sym (nothing-brought net.relation.grid net.relation.vcs (left_of value all.left) r of.good.relation.table.grid of.good.relation.table.some_vcs l of.left)) (opened r l);
     last = of.last;
     arrivals = λ p. refl;
@@ -169,9 +170,9 @@ module _ {A : Type 0} (value : A → ℕ) (w : ℕ) (net : Setup) (firsts : List
   not-yet : (p : ℕ) → p < length net.packets → arrival_by (slice_index all.arrivals.items p) ≡ None
   not-yet p l = ap arrival_by (ap (λ xs. slice_index xs p) of.arrivals ∙ get_or-replicate (length net.packets) p NEVER 0 (let m = length-replicate (length net.packets) NEVER in omega (arith, l, m)))
 
-  shows : ShowsNetwork 5 net 0 (words_by value net all.states.items all.left counts all.last all.arrivals.items)
+  shows : ShowsNetwork (bits_for net.depth) net 0 (words_by value net all.states.items all.left counts all.last all.arrivals.items)
   shows =
-      let s = network-opens 5 net of.good (layout_of frame) of.plan.frame.layout no_words have-opened in
+      let s = network-opens (bits_for net.depth) net of.good (layout_of frame) of.plan.frame.layout no_words have-opened in
       record { limit = s.limit; routers = s.routers; last = s.last; arrivals = λ p l. not-yet p l ∙ s.arrivals p l }
 
   sends : (r : ℕ) → r < nodes net.relation.grid → SendsRight net.relation.vcs (ports net.relation.grid) (lane_by value all.states.items r).vc (lane_by value all.states.items r).marks

@@ -18,7 +18,7 @@ use Rattle.noc_lanes.specs.declared.channels.Links.{Links as Brought}
 use Rattle.noc_lanes.specs.declared.channels.Moves.{Moves}
 use Rattle.noc_lanes.specs.declared.channels.Returned.{Returned}
 use Rattle.noc_lanes.specs.declared.channels.Standing.{Standing}
-use Rattle.noc_lanes.specs.declared.planes.TheConstants.{PLANES}
+use Rattle.noc_lanes.specs.Planes.{bits_for}
 use Rattle.noc_blocks.specs.Begins.{source_by, starts_by}
 use Rattle.noc_blocks.specs.declared.standing.Pending.{Pending}
 use Rattle.noc_lanes.specs.declared.channels.Inputs.{Inputs}
@@ -178,32 +178,32 @@ module _ {A : Type 0} (value : A → ℕ) (w : ℕ) (relation : Routes) (own : �
   shows = may.shows
 
   -- ---- what all routers fit
-  pub network-fits : FitsNetwork PLANES w net layout all.plan.pattern.numbering
+  pub network-fits : FitsNetwork (bits_for net.depth) w net layout all.plan.pattern.numbering
   network-fits = record { layout_is = shows.plan.frame.layout; numbered = shows.plan.numbering; room = shows.plan.room }
 
   -- ---- what comes is gathered
   module _ (gathered : List (Work A)) (near : (r : ℕ) → r < nodes g → has_bit awake (r / 32) ≡ true → (working_in value gathered (r / 32) (r % 32)).links ≡ brought g vcs left r)
       (beyond : (b k : ℕ) → has_bit awake b ≡ true → k < 32 → nodes g ≤ b * 32 + k → (working_in value gathered b k).links ≡ NO_LINKS) where
     pub lane-shows : (r : ℕ) → r < nodes g → has_bit awake (r / 32) ≡ true
-        → ShowsLane PLANES net n r (all_starts net) (working_in value gathered (r / 32) (r % 32)).links (shows.counts r) (lane_by value states r)
+        → ShowsLane (bits_for net.depth) net n r (all_starts net) (working_in value gathered (r / 32) (r % 32)).links (shows.counts r) (lane_by value states r)
     lane-shows r l e = record {
-      shows = subst (λ (x : Brought ℕ). ShowsRouter PLANES net n r (all_starts net) (router_in (lane_by value states r) x (shows.counts r))) (sym (near r l e)) (shows.shows.routers r (l, (may.own_awake (r / 32) e).0));
+      shows = subst (λ (x : Brought ℕ). ShowsRouter (bits_for net.depth) net n r (all_starts net) (router_in (lane_by value states r) x (shows.counts r))) (sym (near r l e)) (shows.shows.routers r (l, (may.own_awake (r / 32) e).0));
       sends = shows.sends r (l, (may.own_awake (r / 32) e).0);
     }
 
     -- by block and lane
     there-shows : (b k : ℕ) → has_bit awake b ≡ true → k < 32 → b * 32 + k < nodes g
-        → ShowsLane PLANES net n (b * 32 + k) (all_starts net) (working_in value gathered b k).links (shows.counts (b * 32 + k)) (lane_in value states b k)
+        → ShowsLane (bits_for net.depth) net n (b * 32 + k) (all_starts net) (working_in value gathered b k).links (shows.counts (b * 32 + k)) (lane_in value states b k)
     there-shows b k e l u =
         let first = block-of b k l in
         let second = lane-of b k l in
-        subst (λ (x : ℕ). ShowsLane PLANES net n (b * 32 + k) (all_starts net) (working_in value gathered x k).links (shows.counts (b * 32 + k)) (lane_in value states x k)) first
-        (subst (λ (y : ℕ). ShowsLane PLANES net n (b * 32 + k) (all_starts net) (working_in value gathered ((b * 32 + k) / 32) y).links (shows.counts (b * 32 + k)) (lane_in value states ((b * 32 + k) / 32) y)) second
+        subst (λ (x : ℕ). ShowsLane (bits_for net.depth) net n (b * 32 + k) (all_starts net) (working_in value gathered x k).links (shows.counts (b * 32 + k)) (lane_in value states x k)) first
+        (subst (λ (y : ℕ). ShowsLane (bits_for net.depth) net n (b * 32 + k) (all_starts net) (working_in value gathered ((b * 32 + k) / 32) y).links (shows.counts (b * 32 + k)) (lane_in value states ((b * 32 + k) / 32) y)) second
         (lane-shows (b * 32 + k) u (ap (has_bit awake) first ∙ e)))
 
     pub may-take : (b k : ℕ) → has_bit awake b ≡ true → k < 32 → MayTake w (starts_by all.plan.starts.items) n (working_in value gathered b k).links (lane_in value states b k)
     may-take b k e l = subst (λ (xs : List Start). MayTake w xs n (working_in value gathered b k).links (lane_in value states b k)) (sym shows.plan.starts) (elim (cases_lt (b * 32 + k) (nodes g)) [
-      | inl u ↦ lane-may-take PLANES w net layout all.plan.pattern.numbering (all_starts net) n (b * 32 + k) (working_in value gathered b k).links (shows.counts (b * 32 + k)) (lane_in value states b k) setup few network-fits u (there-shows b k e l u)
+      | inl u ↦ lane-may-take (bits_for net.depth) w net layout all.plan.pattern.numbering (all_starts net) n (b * 32 + k) (working_in value gathered b k).links (shows.counts (b * 32 + k)) (lane_in value states b k) setup few network-fits u (there-shows b k e l u)
       | inr u ↦ blank-may-take w (all_starts net) n (working_in value gathered b k).links (lane_in value states b k) (omega (arith, few)) (shows.blank b k (may.own_awake b e).0 (may.own_awake b e).1 l u) (ap (λ (x : Brought ℕ). x.credits) (beyond b k e l u))
     ])
 
@@ -225,8 +225,8 @@ module _ {A : Type 0} (value : A → ℕ) (w : ℕ) (relation : Routes) (own : �
           (one.lanes k l))))
 
       came-shows : (b k : ℕ) → has_bit awake b ≡ true → k < 32 → b * 32 + k < nodes g
-          → ShowsLane PLANES net n (b * 32 + k) (all_starts net) (working_in value came b k).links (shows.counts (b * 32 + k)) (lane_in value states b k)
-      came-shows b k e l u = subst (λ (y : Brought ℕ). ShowsLane PLANES net n (b * 32 + k) (all_starts net) y (shows.counts (b * 32 + k)) (lane_in value states b k)) (sym ((one-arrives b e).links k)) (there-shows b k e l u)
+          → ShowsLane (bits_for net.depth) net n (b * 32 + k) (all_starts net) (working_in value came b k).links (shows.counts (b * 32 + k)) (lane_in value states b k)
+      came-shows b k e l u = subst (λ (y : Brought ℕ). ShowsLane (bits_for net.depth) net n (b * 32 + k) (all_starts net) y (shows.counts (b * 32 + k)) (lane_in value states b k)) (sym ((one-arrives b e).links k)) (there-shows b k e l u)
 
       came-beyond : (b k : ℕ) → has_bit awake b ≡ true → k < 32 → nodes g ≤ b * 32 + k → (working_in value came b k).links ≡ NO_LINKS
       came-beyond b k e l u = (one-arrives b e).links k ∙ beyond b k e l u
@@ -237,7 +237,7 @@ module _ {A : Type 0} (value : A → ℕ) (w : ℕ) (relation : Routes) (own : �
       pub may-decide : (b k : ℕ) → has_bit awake b ≡ true → k < 32
           → MayDecide net.relation all.plan.pattern.numbering all.plan.headers.items (b * 32 + k) (lane_in value arrived b k) (working_in value came b k)
       may-decide b k e l = subst (λ (ps : List Header). MayDecide net.relation all.plan.pattern.numbering ps (b * 32 + k) (lane_in value arrived b k) (working_in value came b k)) (sym shows.plan.packets) (elim (cases_lt (b * 32 + k) (nodes g)) [
-        | inl u ↦ lane-may-decide PLANES w net layout all.plan.pattern.numbering (all_starts net) n (b * 32 + k) (shows.counts (b * 32 + k)) (lane_in value states b k) (lane_in value arrived b k) (returned_or value (slice_get came b) k) (working_in value came b k)
+        | inl u ↦ lane-may-decide (bits_for net.depth) w net layout all.plan.pattern.numbering (all_starts net) n (b * 32 + k) (shows.counts (b * 32 + k)) (lane_in value states b k) (lane_in value arrived b k) (returned_or value (slice_get came b) k) (working_in value came b k)
             setup few network-fits u (came-shows b k e l u) (has-taken b k e l)
         | inr u ↦ blank-may-decide net layout all.plan.pattern.numbering (all_starts net) n (b * 32 + k) (lane_in value states b k) (lane_in value arrived b k) (returned_or value (slice_get came b) k) (working_in value came b k)
             (omega (arith, few)) (shows.blank b k (may.own_awake b e).0 (may.own_awake b e).1 l u) (ap (λ (x : Brought ℕ). x.flits) (came-beyond b k e l u)) (has-taken b k e l)
@@ -285,7 +285,7 @@ module _ {A : Type 0} (value : A → ℕ) (w : ℕ) (relation : Routes) (own : �
 
         pub may-conclude : (b k : ℕ) → has_bit awake b ≡ true → k < 32 → MayConclude (length all.arrivals.items) (lane_in value chosen b k) (working_in value decided b k)
         may-conclude b k e l = subst (λ (m : ℕ). MayConclude m (lane_in value chosen b k) (working_in value decided b k)) (sym shows.arrivals_are) (elim (cases_lt (b * 32 + k) (nodes g)) [
-          | inl u ↦ lane-may-conclude PLANES w net layout all.plan.pattern.numbering (all_starts net) n (b * 32 + k) (shows.counts (b * 32 + k)) (lane_in value states b k) (lane_in value arrived b k) (lane_in value chosen b k) (returned_or value (slice_get came b) k) (working_in value came b k) (working_in value decided b k)
+          | inl u ↦ lane-may-conclude (bits_for net.depth) w net layout all.plan.pattern.numbering (all_starts net) n (b * 32 + k) (shows.counts (b * 32 + k)) (lane_in value states b k) (lane_in value arrived b k) (lane_in value chosen b k) (returned_or value (slice_get came b) k) (working_in value came b k) (working_in value decided b k)
               setup few network-fits u (came-shows b k e l u) (has-decided b k e l) (are-worked b k)
           | inr u ↦ blank-may-conclude w net layout all.plan.pattern.numbering (all_starts net) n (b * 32 + k) (lane_in value states b k) (lane_in value arrived b k) (lane_in value chosen b k) (returned_or value (slice_get came b) k) (working_in value came b k) (working_in value decided b k)
               (omega (arith, few)) (shows.blank b k (may.own_awake b e).0 (may.own_awake b e).1 l u) (ap (λ (x : Brought ℕ). x.flits) (came-beyond b k e l u)) (has-decided b k e l) (length net.packets)
@@ -336,8 +336,8 @@ module _ {A : Type 0} (value : A → ℕ) (w : ℕ) (relation : Routes) (own : �
           concluded-at r e = subst (λ (m : ℕ). HasConcludedLane w net layout all.plan.pattern.numbering (all_starts net) n m (lane_by value states r) (lane_by value arrived r) (lane_by value chosen r) (lane_by value settled r) (returned_or value (slice_get came (r / 32)) (r % 32))
               (working_in value came (r / 32) (r % 32)) (working_in value decided (r / 32) (r % 32)) (working_in value worked (r / 32) (r % 32))) (whole r) (has-concluded (r / 32) (r % 32) e (in-lanes r))
 
-          shows-at : (r : ℕ) → r < nodes g → has_bit awake (r / 32) ≡ true → ShowsLane PLANES net n r (all_starts net) (working_in value came (r / 32) (r % 32)).links (shows.counts r) (lane_by value states r)
-          shows-at r l e = subst (λ (x : Brought ℕ). ShowsLane PLANES net n r (all_starts net) x (shows.counts r) (lane_by value states r)) (sym ((one-arrives (r / 32) e).links (r % 32))) (lane-shows r l e)
+          shows-at : (r : ℕ) → r < nodes g → has_bit awake (r / 32) ≡ true → ShowsLane (bits_for net.depth) net n r (all_starts net) (working_in value came (r / 32) (r % 32)).links (shows.counts r) (lane_by value states r)
+          shows-at r l e = subst (λ (x : Brought ℕ). ShowsLane (bits_for net.depth) net n r (all_starts net) x (shows.counts r) (lane_by value states r)) (sym ((one-arrives (r / 32) e).links (r % 32))) (lane-shows r l e)
 
           links-at : (r : ℕ) → r < nodes g → has_bit awake (r / 32) ≡ true → (working_in value came (r / 32) (r % 32)).links ≡ brought g vcs left r
           links-at r l e = (one-arrives (r / 32) e).links (r % 32) ∙ near r l e
@@ -348,11 +348,11 @@ module _ {A : Type 0} (value : A → ℕ) (w : ℕ) (relation : Routes) (own : �
               (turn_in vcs (ports g) layout n (shows.counts r) (lane_by value states r) (lane_by value arrived r) (lane_by value chosen r) (lane_by value settled r) (working_in value worked (r / 32) (r % 32)))
           has-worked r l e = subst (λ (x : Brought ℕ). HasWorked (ports g) vcs layout (all_starts net) (permitted net r) n (router_in (lane_by value states r) x (shows.counts r))
               (turn_in vcs (ports g) layout n (shows.counts r) (lane_by value states r) (lane_by value arrived r) (lane_by value chosen r) (lane_by value settled r) (working_in value worked (r / 32) (r % 32)))) (links-at r l e)
-              (lane-works PLANES w net layout all.plan.pattern.numbering (all_starts net) n r (shows.counts r) (lane_by value states r) (lane_by value arrived r) (lane_by value chosen r) (lane_by value settled r) (returned_or value (slice_get came (r / 32)) (r % 32))
+              (lane-works (bits_for net.depth) w net layout all.plan.pattern.numbering (all_starts net) n r (shows.counts r) (lane_by value states r) (lane_by value arrived r) (lane_by value chosen r) (lane_by value settled r) (returned_or value (slice_get came (r / 32)) (r % 32))
               (working_in value came (r / 32) (r % 32)) (working_in value decided (r / 32) (r % 32)) (working_in value worked (r / 32) (r % 32)) setup few network-fits l (shows-at r l e) (concluded-at r e) (all-worked (r / 32) (r % 32)))
 
           pub still-sends : (r : ℕ) → r < nodes g → has_bit awake (r / 32) ≡ true → SendsRight vcs (ports g) (lane_by value settled r).vc (lane_by value settled r).marks
-          still-sends r l e = lane-sends PLANES w net layout all.plan.pattern.numbering (all_starts net) n r (shows.counts r) (lane_by value states r) (lane_by value arrived r) (lane_by value chosen r) (lane_by value settled r) (returned_or value (slice_get came (r / 32)) (r % 32))
+          still-sends r l e = lane-sends (bits_for net.depth) w net layout all.plan.pattern.numbering (all_starts net) n r (shows.counts r) (lane_by value states r) (lane_by value arrived r) (lane_by value chosen r) (lane_by value settled r) (returned_or value (slice_get came (r / 32)) (r % 32))
               (working_in value came (r / 32) (r % 32)) (working_in value decided (r / 32) (r % 32)) (working_in value worked (r / 32) (r % 32)) setup few network-fits l (shows-at r l e) (concluded-at r e) (all-worked (r / 32) (r % 32))
 
           -- a lane without a router stays blank, and nothing happens in it
@@ -366,7 +366,7 @@ module _ {A : Type 0} (value : A → ℕ) (w : ℕ) (relation : Routes) (own : �
 
           pub due-in-time : (b k : ℕ) → has_bit awake b ≡ true → k < 32 → (lane_in value settled b k).words.due < 2 ^ 32
           due-in-time b k e l = elim (cases_lt (b * 32 + k) (nodes g)) [
-            | inl u ↦ due-after PLANES w net layout all.plan.pattern.numbering n (b * 32 + k) (shows.counts (b * 32 + k)) (lane_in value states b k) (lane_in value arrived b k) (lane_in value chosen b k) (lane_in value settled b k) (returned_or value (slice_get came b) k)
+            | inl u ↦ due-after (bits_for net.depth) w net layout all.plan.pattern.numbering n (b * 32 + k) (shows.counts (b * 32 + k)) (lane_in value states b k) (lane_in value arrived b k) (lane_in value chosen b k) (lane_in value settled b k) (returned_or value (slice_get came b) k)
                 (working_in value came b k) (working_in value decided b k) (working_in value worked b k) setup few network-fits u (came-shows b k e l u) (has-concluded b k e l) (all-worked b k)
             | inr u ↦ let never = (stays-blank b k e l u).due in omega (arith, never)
           ]
@@ -394,7 +394,7 @@ module _ {A : Type 0} (value : A → ℕ) (w : ℕ) (relation : Routes) (own : �
               (lane_by value arrived r) (lane_by value chosen r) (working_in value came (r / 32) (r % 32)).standing (working_in value decided (r / 32) (r % 32)).moves (working_in value decided (r / 32) (r % 32)).decided one.decided.decides
               ∙ packets-still vcs (ports g) layout (all_starts net) n (working_in value came (r / 32) (r % 32)).links (shows.counts r) (lane_by value states r) (lane_by value arrived r) (returned_or value (slice_get came (r / 32)) (r % 32))
               (working_in value came (r / 32) (r % 32)).arrived (working_in value came (r / 32) (r % 32)).standing one.decided.takes
-              (shown-left PLANES (all_starts net) (column_in (lane_by value states r)) (lane_by value states r).marks (source_by (λ x. x) (lane_by value states r).words (lane_by value states r).queue) (view_at net n r) router.column router.source)
+              (shown-left (bits_for net.depth) (all_starts net) (column_in (lane_by value states r)) (lane_by value states r).marks (source_by (λ x. x) (lane_by value states r).words (lane_by value states r).queue) (view_at net n r) router.column router.source)
               ∙ ap (λ (x : Brought ℕ). packets_in layout (all_starts net) n (router_in (lane_by value states r) x (shows.counts r))) (links-at r l e))
 
           -- ---- what is counted of it
@@ -438,11 +438,11 @@ module _ {A : Type 0} (value : A → ℕ) (w : ℕ) (relation : Routes) (own : �
               let both = (and_parts _ (has_bit (lane_by value arrived r).inputs.supplied i) (sym (both_members _ (lane_by value arrived r).inputs.supplied i) ∙ ready)).0 in
               let filled = (and_parts (has_bit (lane_by value arrived r).inputs.active i) (has_bit z.arrived.filled i) (sym (both_members (lane_by value arrived r).inputs.active z.arrived.filled i) ∙ both)).1 in
               let shown = shows-at r l e in
-              let ready_lane = is-ready PLANES w net layout all.plan.pattern.numbering (all_starts net) n r x.links (shows.counts r) (lane_by value states r) setup few network-fits l shown in
+              let ready_lane = is-ready (bits_for net.depth) w net layout all.plan.pattern.numbering (all_starts net) n r x.links (shows.counts r) (lane_by value states r) setup few network-fits l shown in
               let takes = lane.decided.takes in
-              let still = is-lane-still PLANES net layout (all_starts net) n r (shows.counts r) (lane_by value states r) (lane_by value arrived r) (returned_or value (slice_get came b) k) x setup few shows.plan.frame.layout l shown.shows ready_lane takes in
-              let ups = lane-ups PLANES net layout (all_starts net) n r (shows.counts r) (lane_by value states r) (lane_by value arrived r) (returned_or value (slice_get came b) k) x setup few shows.plan.frame.layout l shown.shows ready_lane takes in
-              (filled-known PLANES net layout (all_starts net) n r i takes.supplies.up (router_in (lane_by value states r) x.links (shows.counts r)) setup few shows.plan.frame.layout l shown.shows ups takes.supplies.fits
+              let still = is-lane-still (bits_for net.depth) net layout (all_starts net) n r (shows.counts r) (lane_by value states r) (lane_by value arrived r) (returned_or value (slice_get came b) k) x setup few shows.plan.frame.layout l shown.shows ready_lane takes in
+              let ups = lane-ups (bits_for net.depth) net layout (all_starts net) n r (shows.counts r) (lane_by value states r) (lane_by value arrived r) (returned_or value (slice_get came b) k) x setup few shows.plan.frame.layout l shown.shows ready_lane takes in
+              (filled-known (bits_for net.depth) net layout (all_starts net) n r i takes.supplies.up (router_in (lane_by value states r) x.links (shows.counts r)) setup few shows.plan.frame.layout l shown.shows ups takes.supplies.fits
               (ap (λ (q : Still). has_bit q.filled i) still ∙ ap (λ (q : Working). has_bit q.arrived.filled i) (sym lane.decided.rest) ∙ ap (λ (q : Working). has_bit q.arrived.filled i) (sym lane.rest) ∙ filled)).0
 
           -- ---- the grants can be told
@@ -462,10 +462,10 @@ module _ {A : Type 0} (value : A → ℕ) (w : ℕ) (relation : Routes) (own : �
                     ∙ unasked-nothing w vcs (ports g) (port_in numbering) (vc_in numbering) (sets_by net.relation numbering (headers_of net.packets) r) returned.single (lane_by value arrived r) (lane_by value chosen r) x.standing y.moves y.decided lane.decided.decides
                     (none-there _ (has_bit (pending_or (slice_get came b)).asking k) (are-pending b k e (in-lanes r)).asking (ap (λ (p : Pending). has_bit p.asking k) (sym (pending-same b e)) ∙ none)));
                 nothing = λ u. (does-nothing b k e (in-lanes r) (subst (λ (m : ℕ). nodes g ≤ m) (sym (whole r)) u)).granted;
-                each = λ l i h. lane-grants PLANES w net layout numbering (all_starts net) n r (shows.counts r) (lane_by value states r) (lane_by value arrived r) (lane_by value chosen r) returned x y
+                each = λ l i h. lane-grants (bits_for net.depth) w net layout numbering (all_starts net) n r (shows.counts r) (lane_by value states r) (lane_by value arrived r) (lane_by value chosen r) returned x y
                     setup few network-fits l (shows-at r l e) lane.decided (are-worked b k) i (ap (λ m. has_bit m i) (sym same) ∙ h);
                 all = λ l o i h.
-                    let one = lane-granted PLANES w net layout numbering (all_starts net) n r (shows.counts r) (lane_by value states r) (lane_by value arrived r) (lane_by value chosen r) returned x y setup few network-fits l (shows-at r l e) lane.decided (are-worked b k) o i h in
+                    let one = lane-granted (bits_for net.depth) w net layout numbering (all_starts net) n r (shows.counts r) (lane_by value states r) (lane_by value arrived r) (lane_by value chosen r) returned x y setup few network-fits l (shows-at r l e) lane.decided (are-worked b k) o i h in
                     (ap (λ m. has_bit m i) same ∙ one.0, one.1);
                 taken = λ i. ap (λ (m : RouterMarks). m.taken i) lane.concludes.marks;
               }

@@ -10,7 +10,7 @@ use Rattle.noc_packet.proofs.SetLemmas.{has_bit-zero}
 use Rattle.noc_sets.specs.Column.{Column}
 use Rattle.noc_sets.specs.Counts.{ByVerdict, RisesOn, RunOn, no_counts, with_verdicts}
 use Rattle.noc_sets.specs.Source.{NEVER}
-use Rattle.noc_lanes.specs.declared.planes.TheConstants.{PLANES}
+use Rattle.noc_lanes.specs.Planes.{bits_for}
 use Rattle.noc_blocks.specs.Turning.{Lane}
 use Rattle.noc_turns.specs.declared.state.State.{State}
 use Rattle.noc_tallies.specs.Doings.{CanDo, Doing, owns_after, verdicts_of, waits_after}
@@ -164,8 +164,8 @@ module _ {A : Type 0} (value : A → ℕ) (w : ℕ) (net : Setup) (setup : IsGoo
   few : n < CYCLE_LIMIT
   few = omega (arith, next, limit)
 
-  now : ShowsNetwork PLANES net (suc n) (words_by value net is.states.items is.left after.counts is.last is.arrivals.items)
-  now = subst (λ (x : ℕ). ShowsNetwork PLANES net x (words_by value net is.states.items is.left after.counts is.last is.arrivals.items)) (next ∙ add-one n) after.shows
+  now : ShowsNetwork (bits_for net.depth) net (suc n) (words_by value net is.states.items is.left after.counts is.last is.arrivals.items)
+  now = subst (λ (x : ℕ). ShowsNetwork (bits_for net.depth) net x (words_by value net is.states.items is.left after.counts is.last is.arrivals.items)) (next ∙ add-one n) after.shows
 
   -- each channel only waited
   waited : (r i : ℕ) → r < nodes net.relation.grid → i < size net → HasOnlyWaited (before.counts r i) (after.counts r i)
@@ -248,7 +248,7 @@ module _ {A : Type 0} (value : A → ℕ) (w : ℕ) (net : Setup) (setup : IsGoo
     arrivals = λ p l. refl;
   }
 
-  shows-then : ShowsNetwork PLANES net (m + times) (words_by value net is.states.items is.left counts is.last is.arrivals.items)
+  shows-then : ShowsNetwork (bits_for net.depth) net (m + times) (words_by value net is.states.items is.left counts is.last is.arrivals.items)
   shows-then = network-waits net setup n times (m + times) (omega (arith, next)) limit (words_by value net was.states.items was.left before.counts was.last was.arrivals.items)
       (words_by value net is.states.items is.left after.counts is.last is.arrivals.items) (words_by value net is.states.items is.left counts is.last is.arrivals.items) before.shows now may-wait has-waited
 

@@ -5,7 +5,7 @@ use Rattle.noc_packet.specs.declared.packet.Packet.{Packet}
 use Rattle.noc_route.specs.Routes.{Routes}
 use Rattle.noc_sets.specs.Counts.{no_counts}
 use Rattle.noc_lanes.specs.declared.lanes.TheConstants.{LANES}
-use Rattle.noc_lanes.specs.declared.planes.TheConstants.{PLANES}
+use Rattle.noc_lanes.specs.Planes.{bits_for}
 use Rattle.noc_blocks.specs.Blank.{BringsNothing, IsBlank}
 use Rattle.noc_blocks.specs.Routers.{layout_of}
 use Rattle.noc_blocks.specs.Sides.{AreSides, FitsRow}
@@ -47,7 +47,7 @@ pub record IsOpened {A : Type 0} (value : A → ℕ) (w : ℕ) (frame : Frame �
   pub routers : (net : Setup) (k : ℕ) → IsFrameOf w net.relation net.depth frame
       → AreFirsts net.packets (nodes net.relation.grid) firsts → k < LANES
       → b * LANES + k < nodes net.relation.grid
-      → HasOpened PLANES net (layout_of frame) (b * LANES + k)
+      → HasOpened (bits_for net.depth) net (layout_of frame) (b * LANES + k)
       (router_in (lane_of value state k) no_links (λ i. no_counts))
   pub ready : (relation : Routes) (places k : ℕ) → IsFrameOf w relation places frame → k < LANES
       → IsReady relation.vcs (ports relation.grid) (lane_of value state k)

@@ -8,7 +8,7 @@ use Rattle.noc_sets.specs.Counts.{ByVerdict}
 use Rattle.noc_sets.specs.Cycle.{Links, Router}
 use Rattle.noc_sets.specs.Source.{NEVER}
 use Rattle.noc_lanes.specs.declared.lanes.TheConstants.{LANES}
-use Rattle.noc_lanes.specs.declared.planes.TheConstants.{PLANES}
+use Rattle.noc_lanes.specs.Planes.{bits_for}
 use Rattle.noc_blocks.specs.Begins.{starts_by}
 use Rattle.noc_blocks.specs.Blank.{BringsNothing, IsBlank}
 use Rattle.noc_blocks.specs.Numbered.{IsNumbered, port_in, vc_in}
@@ -106,7 +106,7 @@ pub record ShowsAt {A : Type 0} (value : A → ℕ) (w : ℕ) (net : Setup) (n :
   pub arrivals_are : length all.arrivals.items ≡ length net.packets
   pub found_are : length all.found.items ≡ nodes net.relation.grid * PLACES
   pub counts : ℕ → ℕ → ByVerdict
-  pub shows : ShowsNetwork PLANES net n
+  pub shows : ShowsNetwork (bits_for net.depth) net n
       (words_by value net all.states.items all.left counts all.last all.arrivals.items)
   pub sends : (r : ℕ) → r < nodes net.relation.grid
       → SendsRight net.relation.vcs (ports net.relation.grid) (lane_by value all.states.items r).vc

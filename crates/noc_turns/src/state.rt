@@ -1,28 +1,45 @@
 //! What a block keeps from cycle to cycle, and what it works out in one.
 
+ghost use Rattle.std.specs.Prelude.{◌≡◌};
+
 use noc_blocks::{Marks, Pending, Ports, Sources};
 use noc_lanes::{
     Arrived, Decided, Inputs, LANES, Lanes, Links, Moves, Outputs, Returned, Standing, Word,
 };
+use std::alloc::AllocError;
 
 /// What the routers of a block are between two cycles.
-#[derive(Clone, Copy)]
 pub struct State<W: Word> {
     /// 48 bytes that hold nothing, so that rows begin lines of the cache (docs/DECISIONS.md#rows).
     pub before: [u64; 6],
-    /// Their input channels.
-    pub inputs: Inputs<Lanes<W>>,
-    /// Their output channels.
-    pub outputs: Outputs<Lanes<W>>,
     /// Their sources.
     pub sources: Sources<Lanes<W>>,
     /// Their output ports.
     pub ports: Ports<Lanes<W>>,
+    /// Their input channels.
+    pub inputs: Inputs<Lanes<W>>,
+    /// Nothing, so that rows begin lines again.
+    pub between: [u64; 7],
+    /// Their output channels.
+    pub outputs: Outputs<Lanes<W>>,
     /// Nothing, so that all is a multiple of 64 bytes.
-    pub between: [u64; 2],
+    pub behind: [u64; 1],
     /// What they have by channel.
     pub marks: [Marks<W>; LANES],
 }
+
+// (Derived, it would be proved field by field, which takes more steps than a check has.)
+impl<W: Word> Clone for State<W> {
+    ghost is_clone = { λ x y. y ≡ x };
+
+    ghost is_infallible = { λ _. Unit {0} };
+
+    fn clone(&self) -> Result<State<W>, AllocError> {
+        Ok(*self)
+    }
+}
+
+impl<W: Word> Copy for State<W> {}
 
 /// What the routers of a block work out in a cycle.
 #[derive(Clone, Copy)]

@@ -29,7 +29,8 @@ returns g c = record {
       outputs = c.free_outputs.result;
       sources = c.open_sources.result;
       ports = c.empty_ports.result;
-      between = replicate 2 0;
+      between = replicate 7 0;
+      behind = replicate 1 0;
       marks = c.empty_marks.result;
     }
 

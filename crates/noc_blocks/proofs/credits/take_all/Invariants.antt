@@ -5,7 +5,7 @@ use Rattle.noc_lanes.specs.Lanes.{word}
 use Rattle.noc_lanes.proofs.PassLemmas.{AreLanes}
 use Rattle.noc_blocks.specs.Routers.{frame_by, layout_of}
 use Rattle.noc_blocks.specs.Steps.{TakesCredits}
-use Rattle.noc_blocks.proofs.credits.take_credits.Given as goal
+use Rattle.noc_blocks.proofs.credits.take_all.Given as goal
 
 abbrev pub invariant-loop-j : goal.invariant-loop-j
 invariant-loop-j g l = record {

@@ -3,7 +3,7 @@ use Rattle.noc_lanes.specs.Channels.{outputs_by}
 use Rattle.noc_lanes.specs.Lanes.{word}
 use Rattle.noc_blocks.specs.Routers.{frame_by, layout_of}
 use Rattle.noc_blocks.specs.Steps.{SettlesOutputs}
-use Rattle.noc_blocks.proofs.settle.settle_outputs.Given as goal
+use Rattle.noc_blocks.proofs.settle.settle_all_outputs.Given as goal
 
 abbrev pub invariant-loop-j : goal.invariant-loop-j
 invariant-loop-j g l = record {

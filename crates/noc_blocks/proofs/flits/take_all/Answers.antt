@@ -11,15 +11,15 @@ use Rattle.noc_lanes.proofs.PassLemmas.{AreLanes, lanes-next}
 use Rattle.noc_blocks.specs.Routers.{column_of, frame_by, layout_of}
 use Rattle.noc_blocks.specs.Steps.{TakesFlits, ends_in}
 use Rattle.noc_blocks.proofs.StepLemmas.{along6, lanes-are, lanes-more, pass-more}
-use Rattle.noc_blocks.proofs.flits.take_flits.Goals as goal
+use Rattle.noc_blocks.proofs.flits.take_all.Goals as goal
 
 pub loop-j-preserved : goal.loop-j-preserved
 loop-j-preserved g c =
     let v = g.W.Word.value in
     let j = c.loop-j.j in
     let inv = c.loop-j.invariant in
-    let layout = layout_of (frame_by v c.args.frame.now) in
-    let takes = TakesFlits layout (v c.args.cycle) in
+    let layout = layout_of (frame_by v c.args.alike.now.frame.now) in
+    let takes = TakesFlits layout (v c.args.alike.now.cycle) in
     let had : inputs_by v c.at-had.result ≡ inputs_by (word v j) c.args.inputs.now = c.at-had.ensures ∙ inv.inputs j (omega arith) in
     let from : source_by v c.at-from.result ≡ source_by (word v j) c.args.source.now = c.at-from.ensures ∙ inv.source j (omega arith) in
     let begins : word v j c.put-in-loop-j-2.new.self.begins ≡ v c.with_flits-taken.result.arrived.begins = ap (λ (a : Arrived ℕ). a.begins) c.put-in-loop-j-2.ensures.here in

@@ -7,7 +7,7 @@ use Rattle.noc_lanes.proofs.PassLemmas.{AreLanes}
 use Rattle.noc_blocks.specs.Routers.{frame_by, layout_of}
 use Rattle.noc_blocks.specs.Steps.{TakesCredits}
 use Rattle.noc_blocks.proofs.StepLemmas.{along4, lanes-are, lanes-more, pass-more}
-use Rattle.noc_blocks.proofs.credits.take_credits.Goals as goal
+use Rattle.noc_blocks.proofs.credits.take_all.Goals as goal
 
 pub loop-j-preserved : goal.loop-j-preserved
 loop-j-preserved g c =
@@ -16,7 +16,7 @@ loop-j-preserved g c =
     let inv = c.loop-j.invariant in
     let layout = layout_of (frame_by v c.args.frame.now) in
     let had : outputs_by v c.at-had.result ≡ outputs_by (word v j) c.args.outputs.now = c.at-had.ensures ∙ inv.left j (omega arith) in
-    let here = along4 (TakesCredits layout) c.at-credits.ensures had (sym c.put.ensures.here) (sym c.put-in-loop-j.ensures.here) c.with_returned.ensures in
+    let here = along4 (TakesCredits layout) c.at-credits.ensures had (sym c.put.ensures.here) (sym c.put-in-loop-j.ensures.here) c.with_returned.ensures.takes in
     let raised : word v j c.put-in-loop-j.new.self.raised ≡ v c.with_returned.result.1.raised = ap (λ (r : Returned ℕ). r.raised) c.put-in-loop-j.ensures.here in
     record {
       done = pass-more _ _ j inv.done

@@ -2,7 +2,7 @@ use Rattle.std.proofs.Common.{◌≡◌, ℕ, ◌<◌, ◌≤◌}
 use Rattle.noc_lanes.specs.Channels.{decided_by, inputs_by, moves_by}
 use Rattle.noc_lanes.specs.Lanes.{word}
 use Rattle.noc_blocks.specs.Steps.{SettlesInputs}
-use Rattle.noc_blocks.proofs.settle.settle_inputs.Given as goal
+use Rattle.noc_blocks.proofs.settle.settle_all_inputs.Given as goal
 
 abbrev pub invariant-loop-j : goal.invariant-loop-j
 invariant-loop-j g l = record {
