@@ -1,6 +1,7 @@
 -- A copy of a network shows what the network shows.
-use Rattle.std.proofs.Common.{◌≡◌, ℕ, ◌+◌, ◌*◌, ◌/◌, ◌%◌, ◌<◌, ◌≤◌, ◌^◌, List, length, Some, ap, sym, ◌∙◌, subst}
-use Rattle.std.specs.Prelude.{slice_get}
+use Rattle.std.proofs.Common.{◌≡◌, ℕ, zero, suc, ◌+◌, ◌*◌, ◌/◌, ◌%◌, ◌<◌, ◌≤◌, ◌^◌, List, [], ◌∷◌, ◌++◌, length, length-append, Some, ap, ap₂, sym, refl, ◌∙◌, subst, Vec, Global, Result, Ok, Err, IfOk}
+use Rattle.std.specs.Prelude.{IsOkAnd, slice_get}
+use Rattle.std.proofs.lemmas.Option.{slice_get_within}
 use Rattle.noc_topo.specs.Shape.{nodes, ports}
 use Rattle.noc_packet.specs.Set.{has_bit}
 use Rattle.noc_route.specs.Routes.{width}
@@ -22,10 +23,12 @@ use Rattle.noc_theory_bits.specs.Network.{ShowsNetwork, Words}
 use Rattle.noc_wires.specs.Waking.{AreNear}
 use Rattle.noc_wires.specs.declared.left.Left.{Left}
 use Rattle.noc_rows.specs.Blocks.{ShowsTallyOr, lane_in}
-use Rattle.noc_rows.specs.Copies.{IsCopy, IsCopyOfPlan}
+use Rattle.noc_rows.specs.Copies.{AreCopies, IsCopy, IsCopyOfPlan}
 use Rattle.noc_rows.specs.Shows.{IsKnown, IsPlanOf, ShowsAt, lane_by, words_by}
 use Rattle.noc_rows.specs.declared.network.Network.{Network}
 use Rattle.noc_rows.specs.declared.plan.Plan.{Plan}
+use Rattle.noc_rows.specs.declared.threads.NotRun.{NotRun}
+use Rattle.noc_rows.proofs.OpenLemmas.{at-seam, before-seam}
 
 pub copy-plan : {A : Type 0} (value : A → ℕ) (w : ℕ) (net : Setup) (plan copy : Plan A) → IsCopyOfPlan plan copy → IsPlanOf value w net plan → IsPlanOf value w net copy
 copy-plan {A = A} value w net plan copy same is =
@@ -82,3 +85,29 @@ copy-shows {A = A} value w net n all copy same is =
           (subst (λ (xs : List (State A)). IsKnown value b (slice_get xs b) all.left outlook) states
           (is.known b outlook (subst (λ xs. slice_get xs b ≡ Some outlook) same.outlooks e)));
     }
+
+-- ---- several copies
+module _ {A : Type 0} (all : Network A) where
+  each-append : (as' bs : List (Network A)) → ((i : ℕ) (one : Network A) → slice_get as' i ≡ Some one → IsCopy all one) → ((i : ℕ) (one : Network A) → slice_get bs i ≡ Some one → IsCopy all one)
+      → (i : ℕ) (one : Network A) → slice_get (as' ++ bs) i ≡ Some one → IsCopy all one
+  each-append [] bs h k i one e = k i one e
+  each-append (a ∷ as') bs h k zero one e = h 0 one e
+  each-append (a ∷ as') bs h k (suc i) one e = each-append as' bs (λ j. h (suc j)) k i one e
+
+  -- both halves
+  pub both-copied : (n m : ℕ) (ra rb r : Result (Vec (Network A) Global) NotRun) → IfOk ra (λ v. AreCopies all n v.items) → IfOk rb (λ v. AreCopies all m v.items)
+      → IfOk r (λ v. IsOkAnd ra (λ a. IsOkAnd rb (λ b. v.items ≡ a.items ++ b.items))) → IfOk r (λ v. AreCopies all (n + m) v.items)
+  both-copied n m (Err x) rb (Ok v) a b k = absurd k
+  both-copied n m (Ok u) (Err x) (Ok v) a b k = absurd k
+  both-copied n m ra rb (Err x) a b k = tt
+  both-copied n m (Ok u) (Ok x) (Ok v) a b k = subst (λ (xs : List (Network A)). AreCopies all (n + m) xs) (sym k) (record {
+    many = length-append u.items x.items ∙ ap₂ (λ (i j : ℕ). i + j) a.many b.many;
+    each = each-append u.items x.items a.each b.each;
+  })
+
+  -- one is taken out of a list
+  pub one-less : (n : ℕ) (copies less : List (Network A)) (copy : Network A) → copies ≡ less ++ copy ∷ [] → AreCopies all n copies → AreCopies all (length less) less × IsCopy all copy
+  one-less n copies less copy same are = (
+    record { many = refl; each = λ i one e. are.each i one (ap (λ (xs : List (Network A)). slice_get xs i) same ∙ before-seam less copy i (slice_get_within less i one e) ∙ e) },
+    are.each (length less) copy (ap (λ (xs : List (Network A)). slice_get xs (length less)) same ∙ at-seam less copy),
+  )

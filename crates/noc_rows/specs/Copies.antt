@@ -1,5 +1,6 @@
 -- Another network that has the same contents.
-use Rattle.std.specs.Prelude.{◌≡◌}
+use Rattle.std.specs.Prelude.{◌≡◌, ℕ, List}
+use Rattle.noc_rows.specs.Opened.{AreAll}
 use Rattle.noc_rows.specs.declared.network.Network.{Network}
 use Rattle.noc_rows.specs.declared.plan.Plan.{Plan}
 
@@ -22,3 +23,7 @@ pub record IsCopy {A : Type 0} (all copy : Network A) : Type 0 where
   pub last : copy.last ≡ all.last
   pub cycle : copy.cycle ≡ all.cycle
   pub found : copy.found.items ≡ all.found.items
+
+-- so many networks, each of which is a copy
+abbrev pub AreCopies : {A : Type 0} → Network A → ℕ → List (Network A) → Type 0
+AreCopies all count copies = AreAll (λ i copy. IsCopy all copy) count copies

@@ -42,7 +42,7 @@ struct Ran<W: Word> {
     cycles: u32,
 }
 
-impl<W: Word + Send> Network<W> {
+impl<W: Word + Send + Sync> Network<W> {
     // Runs cycles by tiles, each in a thread, for as long as that pays at this pace. The answer is
     // how many.
     pub(crate) fn run_apart<R: Threads + Wait + Sync>(
@@ -73,7 +73,7 @@ impl<W: Word + Send> Network<W> {
             blocks: self.plan.sides.len(),
         };
         let network = mem::replace(self, none(alloc, self.plan.pattern));
-        let tiles = cut(alloc, &run, network, ahead.tiles)?;
+        let tiles = cut(rt, alloc, &run, network, ahead.tiles)?;
         let owns = owns_of(alloc, &tiles)?;
         let ran = run_on(rt, &run, &owns, tiles, ahead.most, pace)?;
         *self = join(ran.tiles);

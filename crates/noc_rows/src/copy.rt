@@ -1,9 +1,7 @@
 //! A copy of a network.
 
-ghost use Rattle.std.specs.Prelude.{◌≡◌, ℕ, IfOk};
-ghost use Rattle.noc_theory.specs.Network.{Setup};
+ghost use Rattle.std.specs.Prelude.{◌≡◌, IfOk};
 ghost use Rattle.noc_rows.specs.Copies.{IsCopy, IsCopyOfPlan};
-ghost use Rattle.noc_rows.specs.Shows.{ShowsAt};
 ghost use Rattle.noc_rows.specs.Sizes.{BlocksFit, SidesFit};
 
 use crate::network::Network;
@@ -32,9 +30,7 @@ impl<W: Word> Network<W> {
     /// Another network with the same contents.
     pub(crate) fn copy(&self, alloc: Global) -> Result<Network<W>, Memory>
         requires { BlocksFit W.row }
-        ensures is { IfOk result (λ copy. IsCopy self.now copy) }
-        ensures shows { IfOk result (λ copy. (net : Setup) (n : ℕ)
-            → ShowsAt W.value W.bits net n self.now → ShowsAt W.value W.bits net n copy) }
+        ensures { IfOk result (λ copy. IsCopy self.now copy) }
     {
         Ok(Network {
             plan: self.plan.copy(alloc)?,

@@ -12,9 +12,11 @@ ghost use Rattle.noc_rows.specs.Shows.{ShowsAt};
 ghost use Rattle.noc_rows.specs.Sizes.{BlocksFit, LetterFits};
 ghost use Rattle.noc_rows.specs.TileSizes.{TileFits};
 
+use crate::copies::copies_of;
 use crate::network::Network;
 use crate::origin::Run;
 use crate::post::{Post, meet};
+use crate::threads::NotRun;
 use crate::tile::Tile;
 use noc_lanes::{LANES, Word};
 use noc_opening::near_router;
@@ -23,6 +25,8 @@ use noc_topo::Shape;
 use noc_turns::Outlook;
 use noc_wires::{BLOCKS, PARTS, SHARE};
 use std::alloc::Global;
+use std::sync::Wait;
+use std::thread::Threads;
 
 // The blocks of a tile: where so many blocks are shared out among so many tiles, block b is in tile
 // b * tiles / blocks, by whole division.
@@ -243,12 +247,13 @@ fn add_tile<W: Word>(
 
 // The tiles of a network that is about to run. The last has the network itself, and the others have
 // copies of it.
-pub(crate) fn cut<W: Word>(
+pub(crate) fn cut<W: Word + Send + Sync, R: Threads + Wait + Sync>(
+    rt: &R,
     alloc: Global,
     run: &Run<'_>,
     network: Network<W>,
     count: usize,
-) -> Result<Vec<Tile<W>>, Memory>
+) -> Result<Vec<Tile<W>>, NotRun>
     requires memory { BlocksFit W.row }
     requires letters { LetterFits W.row }
     requires tile { TileFits W.row W.Word W.Clone }
@@ -259,9 +264,10 @@ pub(crate) fn cut<W: Word>(
     ensures { IfOk result (λ tiles.
         AreCut W.value W.bits (start_by run.now) count tiles.items) }
 {
+    let mut copies = copies_of(rt, alloc, &network, count - 1)?;
     let mut tiles = Vec::new(alloc);
-    for number in 0..count - 1 {
-        let copy = network.copy(alloc)?;
+    while let Some(copy) = copies.pop() {
+        let number = tiles.len();
         add_tile(alloc, run, &mut tiles, number, count, copy)?;
     }
     add_tile(alloc, run, &mut tiles, count - 1, count, network)?;

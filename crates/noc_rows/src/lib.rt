@@ -7,13 +7,15 @@
 //! time jumps (`waits`). Of a network it is read what was counted, what was found and what has
 //! arrived (`readers`). `Rows` is a network of words of either width.
 //!
-//! A network can be run apart (`apart`): it is cut (`cut`) into tiles, each a copy of it (`copy`)
-//! that runs some of its blocks (`tile`) in a thread of its own (`threads`), and then it takes over
-//! what they have run (`join`). Tiles send each other mails (`mail`) through rings (`post`). How
-//! many tiles there are, and for how many cycles, depends on how it has gone so far (`pace`).
+//! A network can be run apart (`apart`): it is cut (`cut`) into tiles, each a copy of it (`copies`,
+//! `copy`) that runs some of its blocks (`tile`) in a thread of its own (`threads`), and then it
+//! takes over what they have run (`join`). Tiles send each other mails (`mail`) through rings
+//! (`post`). How many tiles there are, and for how many cycles, depends on how it has gone so far
+//! (`pace`).
 #![tactic(auto)]
 
 mod apart;
+mod copies;
 mod copy;
 mod cut;
 mod join;

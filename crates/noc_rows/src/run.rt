@@ -125,7 +125,7 @@ impl<W: Word> Network<W> {
     }
 }
 
-impl<W: Word + Send> Network<W> {
+impl<W: Word + Send + Sync> Network<W> {
     // Runs so many cycles, by up to so many threads. The last one is one thread's. One worker is
     // refused nothing.
     pub(crate) fn run_by<R: Threads + Wait + Sync>(

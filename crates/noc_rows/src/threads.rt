@@ -157,10 +157,10 @@ fn run_last<W: Word>(
 }
 
 // Both lists in one, or a fault of one of them: that memory was refused, if either says so.
-fn joined<W: Word>(
-    first: Result<Vec<Tile<W>>, NotRun>,
-    second: Result<Vec<Tile<W>>, NotRun>,
-) -> Result<Vec<Tile<W>>, NotRun>
+pub(crate) fn joined<T: Drop>(
+    first: Result<Vec<T>, NotRun>,
+    second: Result<Vec<T>, NotRun>,
+) -> Result<Vec<T>, NotRun>
     ensures { IfOk result (λ v. IsOkAnd first (λ a. IsOkAnd second (λ b.
         v.items ≡ a.items ++ b.items))) }
 {

@@ -1,5 +1,4 @@
 use Rattle.std.proofs.Common.{◌∙◌, refl}
-use Rattle.noc_rows.proofs.CopyLemmas.{copy-shows}
 use Rattle.noc_rows.proofs.network.Network.copy.Goals as goal
 
 pub copy-requires : goal.copy-requires
@@ -14,8 +13,8 @@ copy_items-requires-2-room-T-Clone g c κs within = c.requires.1
 pub copy_items-requires-3-room-T-Clone : goal.copy_items-requires-3-room-T-Clone
 copy_items-requires-3-room-T-Clone g c κs within = c.requires.3
 
-pub returns-clause-is : goal.returns-clause-is
-returns-clause-is g c = record {
+pub returns : goal.returns
+returns g c = record {
   plan = c.in_ok-copy.ensures;
   states = c.in_ok-copy_items.ensures ∙ c.deref.ensures.value;
   works = c.in_ok-copy_items-2.ensures ∙ c.deref-2.ensures.value;
@@ -27,6 +26,3 @@ returns-clause-is g c = record {
   cycle = refl;
   found = c.in_ok-copy_items-6.ensures ∙ c.deref-6.ensures.value;
 }
-
-pub returns-clause-shows : goal.returns-clause-shows
-returns-clause-shows g c = λ net n shows. copy-shows g.W.Word.value g.W.Word.bits net n c.args.self.now _ (returns-clause-is g c) shows

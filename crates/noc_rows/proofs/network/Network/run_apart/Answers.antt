@@ -10,8 +10,17 @@ use Rattle.noc_rows.proofs.ApartLemmas.{tiles-come}
 use Rattle.noc_rows.proofs.ThreadLemmas.{each-may}
 use Rattle.noc_rows.proofs.network.Network.run_apart.Goals as goal
 
-pub cut-requires : goal.cut-requires
-cut-requires g c =
+pub cut-requires-send-W : goal.cut-requires-send-W
+cut-requires-send-W g c κs within = c.type_bounds.send-W
+
+pub cut-requires-sync-W : goal.cut-requires-sync-W
+cut-requires-sync-W g c κs within = c.type_bounds.sync-W
+
+pub cut-requires-sync-R : goal.cut-requires-sync-R
+cut-requires-sync-R g c κs within = c.type_bounds.sync-R
+
+pub cut-requires-after_bounds : goal.cut-requires-after_bounds
+cut-requires-after_bounds g c κs within =
     let was = c.args.self.now in
     let same = sym c.replace-network.ensures.value in
     let blocks : c.len.result ≡ length was.plan.sides.items = omega (arith, c.len.ensures, was.plan.sides.ok.0) in

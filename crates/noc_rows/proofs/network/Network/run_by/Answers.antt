@@ -10,6 +10,9 @@ loop-left-init g c =
 pub stretch-requires-send-W : goal.stretch-requires-send-W
 stretch-requires-send-W g c κs within = c.type_bounds.send-W
 
+pub stretch-requires-sync-W : goal.stretch-requires-sync-W
+stretch-requires-sync-W g c κs within = c.type_bounds.sync-W
+
 pub stretch-requires-sync-R : goal.stretch-requires-sync-R
 stretch-requires-sync-R g c κs within = c.type_bounds.sync-R
 

@@ -11,6 +11,9 @@ tiles_that_pay-tiles-requires g c =
 pub run_apart-requires-send-W : goal.run_apart-requires-send-W
 run_apart-requires-send-W g c κs within = c.type_bounds.send-W
 
+pub run_apart-requires-sync-W : goal.run_apart-requires-sync-W
+run_apart-requires-sync-W g c κs within = c.type_bounds.sync-W
+
 pub run_apart-requires-sync-R : goal.run_apart-requires-sync-R
 run_apart-requires-sync-R g c κs within = c.type_bounds.sync-R
 
