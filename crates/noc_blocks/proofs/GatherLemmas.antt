@@ -148,7 +148,7 @@ div-whole a n some = (let z : a * n ≡ a * n + 0 = omega arith in ap (λ m. m /
 
 -- those of a port of the links fit in a word
 module _ (w vcs links port : ℕ) (l : port < links) (room : links * vcs ≤ w) where
-  mask-fits : (b : Bool) → mask_where vcs port b < 2 ^ w
+  pub mask-fits : (b : Bool) → mask_where vcs port b < 2 ^ w
   mask-fits false = pow_pos w
   mask-fits true =
       let p : 0 < 2 ^ (port * vcs) = pow_pos (port * vcs) in

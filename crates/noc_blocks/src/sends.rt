@@ -1,6 +1,6 @@
 //! By which output channels the active input channels of the routers of a block send.
 
-ghost use Rattle.std.specs.Prelude.{◌≡◌, ◌<◌, ℕ, true, if◌then◌else◌};
+ghost use Rattle.std.specs.Prelude.{◌≡◌, ◌<◌, ℕ, true};
 ghost use Rattle.noc_packet.specs.Set.{has_bit};
 ghost use Rattle.noc_sets.specs.Planes.{plane_number};
 ghost use Rattle.noc_lanes.specs.Lanes.{word};
@@ -8,7 +8,7 @@ ghost use Rattle.noc_blocks.specs.Ports.{AreEnough, digits_of};
 
 use crate::frame::PORTS;
 use crate::some::share_some;
-use noc_lanes::{LANES, Lanes, Word, at};
+use noc_lanes::{LANES, Lanes, Word, at, at_where};
 
 /// A number, 0 to 7, of each channel, bit by bit.
 #[derive(Clone, Copy)]
@@ -51,19 +51,6 @@ impl<W: Word> Digits<Lanes<W>> {
             twos: at_where(count > 1, &self.twos, lane),
             fours: at_where(count > 2, &self.fours, lane),
         }
-    }
-}
-
-// The word of one router where that is told to be needed, and else none.
-#[inline(always)]
-fn at_where<W: Word>(is_needed: bool, lanes: &Lanes<W>, lane: usize) -> W
-    requires { lane < LANES }
-    ensures { W.value result ≡ (if is_needed then word W.value lane lanes.now else 0) }
-{
-    if is_needed {
-        at(lanes, lane)
-    } else {
-        W::none()
     }
 }
 

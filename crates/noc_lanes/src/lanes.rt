@@ -1,6 +1,6 @@
 //! Lanes: a word of each router of a block.
 
-ghost use Rattle.std.specs.Prelude.{◌≡◌, ◌≢◌, ◌<◌, ◌^◌, ◌&&◌, ℕ, not, nat_eq};
+ghost use Rattle.std.specs.Prelude.{◌≡◌, ◌≢◌, ◌<◌, ◌^◌, ◌&&◌, ℕ, not, nat_eq, if◌then◌else◌};
 ghost use Rattle.noc_packet.specs.Set.{has_bit};
 ghost use Rattle.noc_lanes.specs.Lanes.{word};
 ghost use Rattle.noc_lanes.specs.Words.{where_some};
@@ -65,6 +65,19 @@ pub fn at<W: Word>(lanes: &Lanes<W>, lane: usize) -> W
     ensures { W.value result ≡ word W.value lane lanes.now }
 {
     lanes[lane]
+}
+
+/// The word of one router where it is told to be needed, and else none.
+#[inline(always)]
+pub fn at_where<W: Word>(is_needed: bool, lanes: &Lanes<W>, lane: usize) -> W
+    requires { lane < LANES }
+    ensures { W.value result ≡ (if is_needed then word W.value lane lanes.now else 0) }
+{
+    if is_needed {
+        at(lanes, lane)
+    } else {
+        W::none()
+    }
 }
 
 /// Writes the word of one router.

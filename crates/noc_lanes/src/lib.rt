@@ -17,7 +17,7 @@ pub use channels::{
     Arrived, Decided, Inputs, Links, Moves, Outputs, Returned, Source, Standing, Verdicts,
 };
 pub use fields::Fields;
-pub use lanes::{LANES, Lanes, alike, at, first_in_turn, lane_if, put, where_some};
+pub use lanes::{LANES, Lanes, alike, at, at_where, first_in_turn, lane_if, put, where_some};
 pub use planes::{Planes, SHALLOW};
 pub use tally::Tally;
 pub use word::Word;

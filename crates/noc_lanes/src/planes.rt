@@ -1,11 +1,11 @@
 //! A count of each channel, bit by bit: of each bit the channels whose count has it.
 
-ghost use Rattle.std.specs.Prelude.{◌≡◌, ◌≢◌, ◌<◌, ◌-◌, ◌^◌, ℕ, map, bit_and, if◌then◌else◌};
+ghost use Rattle.std.specs.Prelude.{◌≡◌, ◌≢◌, ◌<◌, ◌-◌, ◌^◌, ℕ, map, bit_and};
 ghost use Rattle.noc_lanes.specs.Lanes.{word};
 ghost use Rattle.noc_lanes.specs.Planes.{all_of, no_planes, planes_by, planes_of, where_odd};
 ghost use Rattle.noc_sets.specs.Planes.{any_from, lowered_by, more_than_one, raised_by, wrong_from};
 
-use crate::lanes::{LANES, Lanes, alike, at, put};
+use crate::lanes::{LANES, Lanes, alike, at, at_where, put};
 use crate::word::Word;
 
 /// The greatest count of three bits.
@@ -198,8 +198,8 @@ impl<W: Word> Planes<Lanes<W>> {
             ones: at(&self.ones, lane),
             twos: at(&self.twos, lane),
             fours: at(&self.fours, lane),
-            eights: at_if(deep, &self.eights, lane),
-            sixteens: at_if(deep, &self.sixteens, lane),
+            eights: at_where(deep, &self.eights, lane),
+            sixteens: at_where(deep, &self.sixteens, lane),
         }
     }
 
@@ -219,18 +219,5 @@ impl<W: Word> Planes<Lanes<W>> {
             put(&mut self.eights, lane, planes.eights);
             put(&mut self.sixteens, lane, planes.sixteens);
         }
-    }
-}
-
-// The word of one router where that is told to be needed, and else none.
-#[inline(always)]
-fn at_if<W: Word>(is_needed: bool, lanes: &Lanes<W>, lane: usize) -> W
-    requires { lane < LANES }
-    ensures { W.value result ≡ (if is_needed then word W.value lane lanes.now else 0) }
-{
-    if is_needed {
-        at(lanes, lane)
-    } else {
-        W::none()
     }
 }

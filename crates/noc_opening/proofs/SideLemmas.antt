@@ -11,6 +11,7 @@ use Rattle.noc_sets.specs.Gather.{mask_where, span, stride}
 use Rattle.noc_sets.specs.Sets.{up_by}
 use Rattle.noc_lanes.specs.Words.{up_within}
 use Rattle.noc_lanes.proofs.WidthLemmas.{up-is}
+use Rattle.noc_blocks.proofs.GatherLemmas.{mask-fits}
 use Rattle.noc_opening.specs.Masks.{goes, mask_at}
 
 -- ---- the product of the lower radices
@@ -60,17 +61,11 @@ stride-apart g d sound l = apart-few (stride g d) (slice_index g.radix d) (radix
 pub port-mask : (w vcs links port all : ℕ) → port < links → (links + 1) * vcs < w → all ≡ 2 ^ vcs - 1 → up_within w all (port * vcs) ≡ up_by (2 ^ vcs - 1) (port * vcs)
 port-mask w vcs links port all l fits all_is = ap (λ n. up_within w n (port * vcs)) all_is ∙ up-is w (2 ^ vcs - 1) (port * vcs) small
   where
+    room : links * vcs ≤ w
+    room = let m : links * vcs ≤ (links + 1) * vcs = mul-le-mul_right vcs (omega arith) in omega (arith, m, fits)
+
     small : (2 ^ vcs - 1) * 2 ^ (port * vcs) < 2 ^ w
-    small =
-        let p : 0 < 2 ^ (port * vcs) = pow_pos (port * vcs) in
-        let q : 0 < 2 ^ vcs = pow_pos vcs in
-        let m : (port + 1) * vcs ≤ (links + 1) * vcs = mul-le-mul_right vcs (omega (arith, l)) in
-        let s : (port + 1) * vcs ≡ vcs + port * vcs = omega arith in
-        let more : 2 ^ (vcs + port * vcs) ≤ 2 ^ w = pow_mono (omega (arith, m, s, fits)) in
-        let e : 2 ^ (vcs + port * vcs) ≡ 2 ^ vcs * 2 ^ (port * vcs) = pow-add 2 vcs (port * vcs) in
-        let one : 2 ^ vcs ≡ (2 ^ vcs - 1) + 1 = omega (arith, q) in
-        let split : 2 ^ vcs * 2 ^ (port * vcs) ≡ (2 ^ vcs - 1) * 2 ^ (port * vcs) + 2 ^ (port * vcs) = ap (λ n. n * 2 ^ (port * vcs)) one ∙ omega arith in
-        omega (arith, p, more, e, split)
+    small = mask-fits w vcs links port l room true
 
 pub mask-there : (g : Grid) (vcs : ℕ) (straight : Bool) (r port : ℕ) → nat_lt r (nodes g) ≡ true → goes g straight r port ≡ true → up_by (2 ^ vcs - 1) (opposite port * vcs) ≡ mask_at g vcs straight r port
 mask-there g vcs straight r port inside leads = sym (ap₂ (λ a b. mask_where vcs (opposite port) (a && b)) inside leads)
