@@ -22,6 +22,7 @@ use Rattle.noc_blocks.specs.Ports.{by_port}
 use Rattle.noc_blocks.specs.Sides.{AreSides, brought_by, brought_to, moved_by, sent_by, sent_from, ways_of}
 use Rattle.noc_blocks.specs.declared.links.Sides.{Sides}
 use Rattle.noc_blocks.specs.declared.links.TheConstants.{ROOM}
+use Rattle.noc_blocks.proofs.StillLemmas.{zero-or}
 
 -- ---- words that are joined
 or-members4 : (a b c d k : ℕ) → has_bit (bit_or (bit_or a b) (bit_or c d)) k ≡ ((has_bit a k || has_bit b k) || (has_bit c k || has_bit d k))
@@ -36,9 +37,6 @@ crossed false false false d = refl
 
 or-crossed : (a b c d : ℕ) → bit_or (bit_or a b) (bit_or c d) ≡ bit_or (bit_or a c) (bit_or b d)
 or-crossed a b c d = same-word _ _ (λ k. or-members4 a b c d k ∙ crossed (has_bit a k) (has_bit b k) (has_bit c k) (has_bit d k) ∙ sym (or-members4 a c b d k))
-
-zero-or : (a : ℕ) → bit_or 0 a ≡ a
-zero-or a = same-word _ _ (λ k. either_members 0 a k ∙ ap (λ b. b || has_bit a k) (has_bit-zero k))
 
 and-zero : (a : ℕ) → bit_and a 0 ≡ 0
 and-zero a = zero_from_none (bit_and a 0) (λ k. both_members a 0 k ∙ ap (λ b. has_bit a k && b) (has_bit-zero k) ∙ off (has_bit a k))

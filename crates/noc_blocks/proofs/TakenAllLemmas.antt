@@ -14,7 +14,7 @@ use Rattle.noc_sets.specs.Planes.{more_than_one, raised_by, wrong_from}
 use Rattle.noc_sets.specs.Sets.{less, lowest}
 use Rattle.noc_sets.specs.Source.{Source, Start, begun_source, first_source, next_source, packet_begun, sent_source, start_in}
 use Rattle.noc_sets.proofs.MemberLemmas.{or-zero, zero_members}
-use Rattle.noc_lanes.specs.Planes.{list_of}
+use Rattle.noc_lanes.specs.Planes.{list_of, no_planes}
 use Rattle.noc_lanes.specs.declared.channels.Arrived.{Arrived}
 use Rattle.noc_lanes.specs.declared.channels.Inputs.{Inputs}
 use Rattle.noc_lanes.specs.declared.channels.Links.{Links}
@@ -47,7 +47,7 @@ flits-supplied layout cycle l i j s t a x flits = record {
 }
 
 no_words : Outputs ℕ
-no_words = record { wanted = 0; idle = 0; draining = 0; credit = record { deep = false; ones = 0; twos = 0; fours = 0; eights = 0; sixteens = 0 } }
+no_words = record { wanted = 0; idle = 0; draining = 0; credit = no_planes false }
 
 pub flits-leave-supplied : (layout : Layout) (cycle : ℕ) (l : Links ℕ) (i j : Inputs ℕ) (s t : Words ℕ) (a : Arrived ℕ) → TakesFlits layout cycle l i j s t a → j.supplied ≡ i.supplied
 flits-leave-supplied layout cycle l i j s t a flits = ap (λ (c : Column). c.supplied) (flits.column no_words)
