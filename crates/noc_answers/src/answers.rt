@@ -20,6 +20,7 @@ use noc_files::{InputFault, Sink, Traced, split_joined};
 use std::alloc::Global;
 use std::sync::Wait;
 use std::thread::Threads;
+use std::time::Clock;
 
 // A command asks for as many workers as run.
 const _: () = prove!(noc_commands::MAX_WORKERS == noc_tiles::MAX_WORKERS);
@@ -34,7 +35,7 @@ const _: () = prove!(noc_commands::MAX_WORKERS == noc_tiles::MAX_WORKERS);
 ///
 /// A `run` by two or more workers starts threads (`noc_net::Network::run_by`). Workers change no
 /// report.
-pub fn answer<R: Threads + Wait + Sync, W: Sink>(
+pub fn answer<R: Threads + Wait + Clock + Sync, W: Sink>(
     rt: &R,
     alloc: Global,
     request: &Request,

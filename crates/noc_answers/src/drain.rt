@@ -10,6 +10,7 @@ use noc_net::{Network, NotRun};
 use std::alloc::Global;
 use std::sync::Wait;
 use std::thread::Threads;
+use std::time::Clock;
 
 // After how many cycles a run that is to drain looks again whether every packet is out.
 const DRAIN_CHECK_INTERVAL: u64 = 64;
@@ -30,7 +31,7 @@ pub(crate) fn run_on(network: &mut Network, drain: bool)
 }
 
 // The network where it is then, run on by so many workers.
-pub(crate) fn run_on_by<R: Threads + Wait + Sync>(
+pub(crate) fn run_on_by<R: Threads + Wait + Clock + Sync>(
     rt: &R,
     alloc: Global,
     network: Network,

@@ -26,6 +26,7 @@ use noc_tiles::RunFault;
 use std::alloc::Global;
 use std::sync::Wait;
 use std::thread::Threads;
+use std::time::Clock;
 
 // Runs the network for its cycles, and writes a report; ranks are checked before, if there are any.
 pub(crate) fn run<W: Sink>(
@@ -55,7 +56,7 @@ pub(crate) struct Task {
 }
 
 // The same by two or more workers.
-pub(crate) fn run_by_workers<R: Threads + Wait + Sync, W: Sink>(
+pub(crate) fn run_by_workers<R: Threads + Wait + Clock + Sync, W: Sink>(
     rt: &R,
     alloc: Global,
     files: &Files<'_>,
@@ -78,7 +79,7 @@ pub(crate) fn run_by_workers<R: Threads + Wait + Sync, W: Sink>(
 
 // The network after so many cycles and, where it is to drain, those that this takes: all by the
 // workers.
-fn run_to_end<R: Threads + Wait + Sync>(
+fn run_to_end<R: Threads + Wait + Clock + Sync>(
     rt: &R,
     alloc: Global,
     network: Network,

@@ -40,6 +40,7 @@ use std::alloc::Global;
 use std::marker::Model;
 use std::sync::Wait;
 use std::thread::Threads;
+use std::time::Clock;
 
 /// A network of routers with one wire in each direction of each link, run in lockstep.
 ///
@@ -170,7 +171,7 @@ impl Network {
     /// Runs so many cycles by up to so many threads, of which the caller's is one, each with whole
     /// blocks of 32 routers; or tells that memory or a thread was refused. One worker runs them as
     /// `run` does, and is refused nothing.
-    pub fn run_by<R: Threads + Wait + Sync>(
+    pub fn run_by<R: Threads + Wait + Clock + Sync>(
         self,
         rt: &R,
         alloc: Global,

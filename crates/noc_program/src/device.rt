@@ -17,11 +17,12 @@ use std::alloc::Global;
 use std::io::{BufWriter, Write};
 use std::sync::Wait;
 use std::thread::Threads;
+use std::time::Clock;
 
 /// Writes the answer to a device, through a buffer, and gives the device back. It is not given back
 /// only where there is no memory for the buffer: then nothing is written, and the fault is want of
 /// memory, told as that of the configuration.
-pub fn write_answer<R: Threads + Wait + Sync, W: Write + Drop>(
+pub fn write_answer<R: Threads + Wait + Clock + Sync, W: Write + Drop>(
     rt: &R,
     alloc: Global,
     request: &Request,

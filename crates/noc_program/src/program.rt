@@ -17,13 +17,14 @@ use std::process::ExitCode;
 use std::rt::Env;
 use std::sync::Wait;
 use std::thread::Threads;
+use std::time::Clock;
 
 /// Answers what the arguments of the command line ask for on standard output, or tells to `errors`
 /// why not, and gives the exit status.
-pub fn run<R: Env + Files + Input + Print + AllocGlobal + Threads + Wait + Sync, W: Write + Drop>(
-    rt: &R,
-    errors: W,
-) -> ExitCode
+pub fn run<
+    R: Env + Files + Input + Print + AllocGlobal + Threads + Wait + Clock + Sync,
+    W: Write + Drop,
+>(rt: &R, errors: W) -> ExitCode
     ensures { IsExitStatus (exit_status result) }
 {
     match parse_args(rt) {
@@ -34,7 +35,7 @@ pub fn run<R: Env + Files + Input + Print + AllocGlobal + Threads + Wait + Sync,
 }
 
 // Answers a request on standard output, and gives the exit status.
-fn print_answer<R: Print + AllocGlobal + Threads + Wait + Sync, W: Write + Drop>(
+fn print_answer<R: Print + AllocGlobal + Threads + Wait + Clock + Sync, W: Write + Drop>(
     rt: &R,
     request: &Request,
     errors: W,

@@ -29,7 +29,7 @@ post-send W word clone s =
     let mail = mail-send W s in
     let T = post_type.the_type W word clone in
     recorded_send _ T.D T.to T.to_one
-    (struct_send (shape T) (search (sendable, crosses) depth 20, (search (sendable, crosses), (search sendable, (search (sendable, crosses, producer_sends.the_field_send) depth 20, (search (sendable, crosses, consumer_sends.the_field_send) depth 20, tt))))))
+    (struct_send (shape T) (search (sendable, crosses) depth 20, (search (sendable, crosses), (search (sendable, crosses, producer_sends.the_field_send) depth 20, (search (sendable, crosses, consumer_sends.the_field_send) depth 20, tt)))))
 
 pub tile-send : (W : RattleType) (word : Wording W.Denot) (clone : Cloning W.Denot) → IsSend W → IsSend (tile_type.the_row W word clone)
 tile-send W word clone s =

@@ -16,7 +16,7 @@ ghost use Rattle.noc_rows.specs.declared.tile.Tile.{Tile as OneTile};
 use crate::cut::cut;
 use crate::network::Network;
 use crate::origin::{Run, Setup};
-use crate::pace::Pace;
+use crate::pace::{Pace, each};
 use crate::plan::Plan;
 use crate::threads::{NotRun, owns_of, run_all};
 use crate::tile::Tile;
@@ -27,6 +27,7 @@ use std::alloc::Global;
 use std::mem;
 use std::sync::Wait;
 use std::thread::Threads;
+use std::time::Clock;
 
 /// By how many tiles a network runs, and for how many cycles at most.
 #[derive(Clone, Copy)]
@@ -45,7 +46,7 @@ struct Ran<W: Word> {
 impl<W: Word + Send + Sync> Network<W> {
     // Runs cycles by tiles, each in a thread, for as long as that pays at this pace. The answer is
     // how many.
-    pub(crate) fn run_apart<R: Threads + Wait + Sync>(
+    pub(crate) fn run_apart<R: Threads + Wait + Clock + Sync>(
         &mut self,
         rt: &R,
         alloc: Global,
@@ -107,7 +108,7 @@ fn none<W: Word>(alloc: Global, pattern: Pattern<W>) -> Network<W>
 
 // Runs at most so many cycles of these tiles, stretch by stretch, for as long as that pays at this
 // pace and something happens.
-fn run_on<W: Word + Send, R: Threads + Wait + Sync>(
+fn run_on<W: Word + Send, R: Threads + Wait + Clock + Sync>(
     rt: &R,
     run: &Run<'_>,
     owns: &[u32],
@@ -131,20 +132,19 @@ fn run_on<W: Word + Send, R: Threads + Wait + Sync>(
 {
     let mut tiles = tiles;
     let mut cycles = 0u32;
-    let mut waits = 0u32;
     while cycles < most {
         let more = pace.cycles(tiles.len(), most - cycles);
+        let begin = pace.time(rt);
         tiles = run_all(rt, run, owns, tiles, cycles, more)?;
+        let took = each(begin, pace.time(rt), more);
         if !are_whole(&tiles) {
             return Err(NotRun::NoWorker);
         }
         cycles += more;
-        let waited = least_waits(&tiles);
-        let pays = pace.heed(tiles.len(), more, waited.saturating_sub(waits));
+        let pays = pace.heed(tiles.len(), more, took);
         if !pays || !are_busy(&tiles) {
             return Ok(Ran { tiles, cycles });
         }
-        waits = waited;
     }
     Ok(Ran { tiles, cycles })
 }
@@ -160,17 +160,6 @@ fn are_whole<W: Word>(tiles: &Vec<Tile<W>>) -> bool
         }
     }
     true
-}
-
-// How often the worker of one of these tiles has paused, that which has least often.
-fn least_waits<W: Word>(tiles: &Vec<Tile<W>>) -> u32
-    requires { TileFits W.row W.Word W.Clone }
-{
-    let mut least = u32::MAX;
-    for number in 0..tiles.len() {
-        least = least.min(tiles[number].waits());
-    }
-    least
 }
 
 // Whether something has happened in one of these tiles in the last cycle.

@@ -1,10 +1,10 @@
-//! How many tiles run a network, and for how long.
+//! How many tiles run a network, and for how long: a clock says what is faster.
 
 ghost use Rattle.std.specs.Prelude.{◌≡◌, ◌<◌, ◌≤◌};
 
-use noc_lanes::Word;
+use std::time::{Clock, Instant};
 
-// How many cycles tiles run before it is looked at first whether they pay. Their threads end and
+// How many cycles tiles run before it is looked first whether they pay. Their threads end and
 // begin anew for it, so a stretch that goes well makes the next one twice as long,
 const FIRST: u32 = 1024;
 
@@ -21,24 +21,25 @@ const FEW: u32 = 512;
 // How many cycles one thread runs before it is looked again whether tiles pay.
 const ALONE: u32 = 256;
 
-// How many pauses take as long as what a tile does in a cycle for mails alone.
-const FOR_MAILS: usize = 8;
-
 /// How the next cycles of a run go. What a network shows after them does not depend on it.
 #[derive(Drop)]
 pub(crate) struct Pace {
     // How many workers there are.
     workers: usize,
-    // How many pauses take as long as a cycle by one thread.
-    pauses: usize,
     // By how many tiles they go at most.
     tiles: usize,
     // How many of them go by tiles.
     cycles: u32,
     // How many have to go before more tiles are tried.
     rest: u32,
-    // How many have to go after the next stretch in which tiles wait long.
+    // How many have to go after the next stretch in which one thread would be faster.
     next_rest: u32,
+    // How many one thread runs before tiles do, so that it is known how long it takes now.
+    first: u32,
+    // How many nanoseconds one thread took for a cycle when it ran last.
+    alone: u64,
+    // How many the tiles took for which fewer are tried, until one thread has run after them.
+    apart: u64,
     ghost some: { 0 < cycles },
     ghost few: { cycles ≤ 65536 },
     ghost short: { next_rest ≤ 65536 },
@@ -46,20 +47,21 @@ pub(crate) struct Pace {
 }
 
 impl Pace {
-    /// By all workers, but by no more than there are blocks. One thread takes as long for a block in
-    /// a cycle as for a third as many pauses as a word has bits.
-    pub(crate) fn new<W: Word>(workers: usize, blocks: usize) -> Pace
+    /// By all workers, but by no more than there are blocks. One thread begins, for twice as long as
+    /// it does later: a network is empty at first, so the second half is what counts.
+    pub(crate) fn new(workers: usize, blocks: usize) -> Pace
         ensures { result.workers ≤ workers }
     {
         let workers = workers.min(blocks);
-        let bits = W::none().least_or_bits();
         Pace {
             workers,
-            pauses: blocks.saturating_mul(bits) / 3,
             tiles: workers,
             cycles: FIRST,
             rest: 0,
             next_rest: REST,
+            first: 2 * ALONE,
+            alone: 0,
+            apart: u64::MAX,
         }
     }
 
@@ -67,7 +69,11 @@ impl Pace {
     pub(crate) fn tiles(&self, most: u32) -> usize
         ensures alone { self.now.workers ≤ 1 → result ≤ 1 }
     {
-        if most < FEW { 1 } else { self.tiles }
+        if most < FEW || self.first > 0 {
+            1
+        } else {
+            self.tiles
+        }
     }
 
     /// How many of at most so many cycles go by so many tiles before it is looked whether they pay.
@@ -80,39 +86,61 @@ impl Pace {
         cycles.min(most)
     }
 
-    // How often each of so many workers may pause in a cycle before one thread is as fast.
-    fn spare(&self, tiles: usize) -> u32 {
-        let each = self.pauses / tiles.max(1);
-        let spare = self.pauses.saturating_sub(each).saturating_sub(FOR_MAILS);
-        u32::try_from(spare).unwrap_or(u32::MAX)
+    /// The time. With one worker it is not asked for.
+    pub(crate) fn time(&self, clock: &impl Clock) -> Option<Instant> {
+        if self.workers > 1 {
+            Instant::now(clock).ok()
+        } else {
+            None
+        }
     }
 
-    /// So many cycles have gone by so many tiles, and each of their workers has paused at least so
-    /// often. The answer is whether as many tiles go on.
-    pub(crate) fn heed(&mut self, tiles: usize, cycles: u32, waits: u32) -> bool
+    /// So many cycles have gone by so many tiles, and took each so many nanoseconds. The answer is
+    /// whether as many tiles go on.
+    pub(crate) fn heed(&mut self, tiles: usize, cycles: u32, each: u64) -> bool
         ensures { self.new.workers ≡ self.old.workers }
     {
-        if waits > cycles.saturating_mul(self.spare(tiles)) {
-            self.tiles = tiles.saturating_sub(1).max(1).min(self.workers);
-            self.cycles = FIRST;
-            self.rest = self.next_rest;
-            self.next_rest = (2 * self.next_rest).min(LONGEST);
-            return false;
-        }
         self.rest = self.rest.saturating_sub(cycles);
-        if self.rest == 0 && self.tiles < self.workers {
+        if tiles > 1 {
+            self.first = ALONE;
+            if each > self.alone {
+                self.tiles = (tiles - 1).min(self.workers);
+                self.cycles = FIRST;
+                self.rest = self.next_rest;
+                self.next_rest = (2 * self.next_rest).min(LONGEST);
+                self.apart = each;
+                return false;
+            }
+            self.cycles = (2 * self.cycles).min(LONGEST);
+        } else {
+            self.first = self.first.saturating_sub(cycles);
+            self.alone = each;
+            if each > self.apart {
+                // (the network has more to do now, or the processors are slower)
+                self.rest = 0;
+            }
+            self.apart = u64::MAX;
+        }
+        if self.rest == 0 && tiles == self.tiles && tiles < self.workers {
             self.tiles += 1;
             self.cycles = FIRST;
             return false;
-        }
-        if tiles > 1 {
-            self.cycles = (2 * self.cycles).min(LONGEST);
         }
         if tiles == self.workers {
             self.next_rest = REST;
         }
         true
     }
+}
+
+/// How many nanoseconds each of so many cycles took from the one time to the other: none where a
+/// clock could not be read.
+pub(crate) fn each(begin: Option<Instant>, end: Option<Instant>, cycles: u32) -> u64 {
+    let (Some(begin), Some(end)) = (begin, end) else {
+        return 0;
+    };
+    let all = end.duration_since(begin).as_nanos();
+    u64::try_from(all).unwrap_or(u64::MAX) / u64::from(cycles.max(1))
 }
 
 /// How many of so many cycles tiles run at most before they are joined.

@@ -16,7 +16,7 @@ use crate::network::Network;
 use crate::origin::Run;
 use noc_lanes::Word;
 use noc_packet::Memory;
-use noc_waiting::{LOOKS_AT_ONCE, rested};
+use noc_waiting::rested;
 use rtrb::{Consumer, Producer, Protocol, RingBuffer};
 use std::alloc::Global;
 use std::marker::PhantomData;
@@ -25,11 +25,6 @@ use std::sync::Wait;
 // How many mails a ring has room for. At most two are on their way, but who sends looks how many
 // have been taken only where it knows of no room, and for that it waits for the other's memory.
 const ROOM: usize = 8;
-
-// Whether the last of so many looks came after a pause, as a number.
-fn paused(looks: u32) -> u32 {
-    u32::from(looks > LOOKS_AT_ONCE)
-}
 
 // What a ring between two tiles carries.
 pub(crate) struct Rounds<W: Word> {
@@ -48,8 +43,6 @@ pub(crate) struct Post<W: Word> {
     pub(crate) shares: Vec<Option<usize>>,
     // The mail that goes next: none while it is on its way, until the other's has come.
     pub(crate) mail: Option<Mail<W>>,
-    // How often its worker has paused while it waited here.
-    pub(crate) waits: u32,
     pub(crate) out: Producer<Mail<W>, Global, Rounds<W>>,
     pub(crate) back: Consumer<Mail<W>, Global, Rounds<W>>,
 }
@@ -93,7 +86,6 @@ impl<W: Word> Post<W> {
                 return false;
             }
             looks = rested(rt, looks);
-            self.waits = self.waits.saturating_add(paused(looks));
         }
         unreachable!()
     }
@@ -145,7 +137,6 @@ impl<W: Word> Post<W> {
                 return !self.back.is_empty();
             }
             looks = rested(rt, looks);
-            self.waits = self.waits.saturating_add(paused(looks));
         }
         unreachable!()
     }
@@ -199,14 +190,12 @@ pub(crate) fn meet<W: Word>(
         Post {
             shares: from,
             mail: Some(answer),
-            waits: 0,
             out,
             back: here,
         },
         Post {
             shares: back,
             mail: Some(mail),
-            waits: 0,
             out: answers,
             back: there,
         },

@@ -19,6 +19,7 @@ use noc_view::Finding;
 use std::alloc::Global;
 use std::sync::Wait;
 use std::thread::Threads;
+use std::time::Clock;
 
 // The most channels of a router whose rows are of words of 32 bits: one bit stays free, so that a
 // mask of n channels, 2^n - 1, can be worked out.
@@ -79,7 +80,7 @@ impl Rows {
     /// Runs so many cycles, as `run` does, by up to so many threads, each of which has whole blocks
     /// of routers; or tells that memory or a thread was refused. The caller's thread is one of
     /// them. One worker is refused nothing.
-    pub fn run_by<R: Threads + Wait + Sync>(
+    pub fn run_by<R: Threads + Wait + Clock + Sync>(
         self,
         rt: &R,
         alloc: Global,

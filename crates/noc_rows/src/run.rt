@@ -12,7 +12,7 @@ ghost use Rattle.noc_rows.specs.Steps.{HasPassed};
 use crate::apart::Ahead;
 use crate::network::Network;
 use crate::origin::Setup;
-use crate::pace::{Pace, together};
+use crate::pace::{Pace, each, together};
 use crate::threads::NotRun;
 use crate::waits::{next_due, repeat_all};
 use noc_blocks::PLACES;
@@ -22,6 +22,7 @@ use noc_wires::wake;
 use std::alloc::Global;
 use std::sync::Wait;
 use std::thread::Threads;
+use std::time::Clock;
 
 impl<W: Word> Network<W> {
     // Runs so many cycles, by the relation that it was made for. Those in which nothing happens are
@@ -41,20 +42,14 @@ impl<W: Word> Network<W> {
         }
     }
 
-    // How many tiles are to run the next cycles: as many as there are blocks and workers, where at
-    // least half of the blocks are awake. Else blocks sleep, and that pays more.
-    fn tiles_that_pay(&self, workers: usize) -> usize
+    // Whether at least half of the blocks are awake. Where fewer are, one thread leaves out the
+    // others, and that pays more than tiles.
+    fn is_half_awake(&self) -> bool
         requires few { length self.now.outlooks.items ≤ BLOCKS }
         requires near { length self.now.plan.near.items ≡ length self.now.outlooks.items }
-        ensures blocks { 1 < result → result ≤ length self.now.plan.sides.items }
-        ensures alone { workers ≤ 1 → result ≤ 1 }
     {
-        let blocks = self.plan.sides.len();
         let awake = wake(&self.outlooks, &self.plan.near, self.cycle).awake;
-        if awake.count_ones() as usize * 2 < blocks {
-            return 1;
-        }
-        workers.min(blocks)
+        awake.count_ones() as usize * 2 >= self.plan.sides.len()
     }
 
     // Runs so many cycles. Those in which nothing happens are run at once.
@@ -128,7 +123,7 @@ impl<W: Word> Network<W> {
 impl<W: Word + Send + Sync> Network<W> {
     // Runs so many cycles, by up to so many threads. The last one is one thread's. One worker is
     // refused nothing.
-    pub(crate) fn run_by<R: Threads + Wait + Sync>(
+    pub(crate) fn run_by<R: Threads + Wait + Clock + Sync>(
         &mut self,
         rt: &R,
         alloc: Global,
@@ -147,7 +142,7 @@ impl<W: Word + Send + Sync> Network<W> {
         ensures kept { cycles ≡ 0 → OnOk result (self.new ≡ self.old) }
         ensures alone { workers ≤ 1 → IsOk result }
     {
-        let mut pace = Pace::new::<W>(workers, self.plan.sides.len());
+        let mut pace = Pace::new(workers, self.plan.sides.len());
         let mut left = cycles;
         while left > 1 {
             let ran = self.stretch(rt, alloc, setup, left - 1, &mut pace)?;
@@ -160,8 +155,9 @@ impl<W: Word + Send + Sync> Network<W> {
     }
 
     // Runs some of so many cycles, by as many threads as pay at this pace; or one, with those after
-    // it in which nothing happens, where nothing happened in the last. The answer is how many.
-    fn stretch<R: Threads + Wait + Sync>(
+    // it in which nothing happens, where nothing happened in the last. The answer is how many. The
+    // pace does not heed how long a cycle takes in which nothing happens or most blocks sleep.
+    fn stretch<R: Threads + Wait + Clock + Sync>(
         &mut self,
         rt: &R,
         alloc: Global,
@@ -182,18 +178,22 @@ impl<W: Word + Send + Sync> Network<W> {
         ensures alone { pace.old.workers ≤ 1 → IsOk result }
     {
         if self.last < self.cycle {
-            let ran = self.advance(setup.relation, most);
-            pace.heed(1, ran, 0);
-            return Ok(ran);
+            return Ok(self.advance(setup.relation, most));
         }
-        let tiles = self.tiles_that_pay(pace.tiles(most));
+        let cycles = pace.cycles(1, most);
+        if !self.is_half_awake() {
+            self.go(setup.relation, cycles);
+            return Ok(cycles);
+        }
+        let tiles = pace.tiles(most).min(self.plan.sides.len());
         if tiles > 1 {
             let most = together(most);
             return self.run_apart(rt, alloc, setup, Ahead { tiles, most }, pace);
         }
-        let cycles = pace.cycles(1, most);
+        let begin = pace.time(rt);
         self.go(setup.relation, cycles);
-        pace.heed(1, cycles, 0);
+        let took = each(begin, pace.time(rt), cycles);
+        pace.heed(1, cycles, took);
         Ok(cycles)
     }
 }

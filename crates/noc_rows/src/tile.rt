@@ -92,15 +92,6 @@ impl<W: Word> Tile<W> {
         self.network.end_cycle(awake);
         receive_all(rt, &mut self.network, posts)
     }
-
-    // How often its worker has paused while it waited.
-    pub(crate) fn waits(&self) -> u32 {
-        let mut waits = 0u32;
-        for number in 0..self.posts.len() {
-            waits = waits.saturating_add(self.posts[number].waits);
-        }
-        waits
-    }
 }
 
 // Sends by each post what own blocks have sent in the cycle in which they have had their turn, and

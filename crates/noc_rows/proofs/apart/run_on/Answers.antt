@@ -32,3 +32,9 @@ returns-clause-run g c = c.loop-cycles.invariant.0.run (omega (arith, c.requires
 
 pub returns-clause-whole : goal.returns-clause-whole
 returns-clause-whole g c = c.loop-cycles.invariant.0.whole (omega (arith, c.requires.some, c.loop-cycles-test.false))
+
+pub returns-then-not-pays-clause-some : goal.returns-then-not-pays-clause-some
+returns-then-not-pays-clause-some g c = (omega (arith, c.cycles-more.ensures.some), omega (arith, c.cycles-more.ensures.within, c.loop-cycles-test.true))
+
+pub loop-cycles-smaller : goal.loop-cycles-smaller
+loop-cycles-smaller g c = omega (arith, c.cycles-more.ensures.some, c.loop-cycles-test.true)

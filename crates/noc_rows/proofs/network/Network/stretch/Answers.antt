@@ -4,8 +4,8 @@ use Rattle.noc_rows.proofs.ApartLemmas.{some-of-more}
 use Rattle.noc_rows.proofs.RunLemmas.{may-fewer, may-look}
 use Rattle.noc_rows.proofs.network.Network.stretch.Goals as goal
 
-pub tiles_that_pay-tiles-requires : goal.tiles_that_pay-tiles-requires
-tiles_that_pay-tiles-requires g c =
+pub is_half_awake-requires : goal.is_half_awake-requires
+is_half_awake-requires g c =
     (c.requires.memory.5, may-look g.W.Word.value g.W.Word.bits c.args.setup.now.relation.now (setup_by c.args.setup.now) c.args.most c.args.self.now c.requires.may)
 
 pub run_apart-requires-send-W : goal.run_apart-requires-send-W
@@ -30,7 +30,7 @@ run_apart-requires-after_bounds g c κs within =
             (
               few.some c.requires.some,
               (
-                (omega (arith, c.if-tiles-gt1.true), c.tiles_that_pay-tiles.ensures.blocks c.if-tiles-gt1.true),
+                (omega (arith, c.if-tiles-gt1.true), omega (arith, c.min-tiles.ensures, c.len.ensures, c.args.self.now.plan.sides.ok.0)),
                 may-fewer g.W.Word.value g.W.Word.bits c.args.setup.now.relation.now (setup_by c.args.setup.now) c.args.most c.together-most.result c.args.self.now few.within c.requires.may,
               ),
             ),
@@ -43,17 +43,27 @@ pub returns-then-tiles-gt1-clause-some : goal.returns-then-tiles-gt1-clause-some
 returns-then-tiles-gt1-clause-some g c = some-of-more c.together-most.result c.args.most c.run_apart.result c.together-most.ensures.within c.run_apart.ensures.some
 
 pub returns-then-tiles-gt1-clause-alone : goal.returns-then-tiles-gt1-clause-alone
-returns-then-tiles-gt1-clause-alone g c = λ few. absurd (let one = c.tiles_that_pay-tiles.ensures.alone (c.tiles.ensures.alone few) in omega (arith, one, c.if-tiles-gt1.true))
+returns-then-tiles-gt1-clause-alone g c = λ few. absurd (let one = c.tiles.ensures.alone few in omega (arith, one, c.min-tiles.ensures, c.if-tiles-gt1.true))
 
 pub go-requires : goal.go-requires
 go-requires g c =
     let setup = c.args.setup.now in
     (c.requires.memory.5, (c.requires.memory, (setup_by setup, may-fewer g.W.Word.value g.W.Word.bits setup.relation.now (setup_by setup) c.args.most c.cycles-cycles.result c.args.self.now c.cycles-cycles.ensures.within c.requires.may)))
 
+pub go-requires-2 : goal.go-requires-2
+go-requires-2 g c =
+    let setup = c.args.setup.now in
+    (c.requires.memory.5, (c.requires.memory, (setup_by setup, may-fewer g.W.Word.value g.W.Word.bits setup.relation.now (setup_by setup) c.args.most c.cycles-cycles.result c.args.self.now c.cycles-cycles.ensures.within c.requires.may)))
+
 pub returns-clause-shows : goal.returns-clause-shows
 returns-clause-shows g c =
+    let setup = c.args.setup.now in
+    c.go-2.ensures.shows (setup_by setup) (may-fewer g.W.Word.value g.W.Word.bits setup.relation.now (setup_by setup) c.args.most c.cycles-cycles.result c.args.self.now c.cycles-cycles.ensures.within c.requires.may)
+
+pub returns-then-not-is_half_awake-clause-shows : goal.returns-then-not-is_half_awake-clause-shows
+returns-then-not-is_half_awake-clause-shows g c =
     let setup = c.args.setup.now in
     c.go.ensures.shows (setup_by setup) (may-fewer g.W.Word.value g.W.Word.bits setup.relation.now (setup_by setup) c.args.most c.cycles-cycles.result c.args.self.now c.cycles-cycles.ensures.within c.requires.may)
 
 pub returns-then-self-clause-shows : goal.returns-then-self-clause-shows
-returns-then-self-clause-shows g c = c.advance-ran.ensures.shows (setup_by c.args.setup.now) c.requires.may
+returns-then-self-clause-shows g c = c.advance.ensures.shows (setup_by c.args.setup.now) c.requires.may
