@@ -58,16 +58,17 @@ FILES = {
     "line": config("mesh", (3,), 1, 2, "dor", 20), "two": TRAFFIC_HEADER + "0,2,0,1,0\n1,2,0,1,0\n",
     # Five ports with eight channels each: rows of words of 64 bits.
     "wide": config("mesh", (3, 2), 8, 2, "dor", 20),
-    # Two blocks of routers, so that two workers have a tile each; the second packet goes from the one to the other.
-    "blocks": config("mesh", (11, 3), 1, 2, "dor", 9000), "across": TRAFFIC_HEADER + "0,1,0,1,0\n31,32,0,1,0\n",
-    "begun": config("mesh", (11, 3), 1, 2, "dor", 1), "later": TRAFFIC_HEADER + "0,1,0,1,0\n31,32,0,1,9000\n",
+    # Two blocks of routers, so that two workers have a tile each; packets go from the one to the other, for longer than
+    # one thread runs before it is tried what two take.
+    "blocks": config("mesh", (11, 3), 1, 2, "dor", 9000), "begun": config("mesh", (11, 3), 1, 2, "dor", 1),
+    "across": TRAFFIC_HEADER + "".join(f"31,32,0,1,{due}\n" for due in range(0, 2000, 20)),
 }
 PAIR_REPORT = report(("0,1,0,1,0", 5))
 RING_REPORT = report(("0,2,0,4,0", 24), ("1,3,0,4,0", 14), ("2,0,0,4,0", 44), ("3,1,0,4,0", 34))
 LINE_REPORT = report(("0,2,0,1,0", 10), ("1,2,0,1,0", 5))
 WIDE_REPORT = report(("0,2,0,1,0", 8), ("1,2,0,1,0", 5))
-ACROSS_REPORT = report(("0,1,0,1,0", 5), ("31,32,0,1,0", 5))
-LATER_REPORT = REPORT_HEADER + "0,0,1,0,1,0,5,5\n1,31,32,0,1,9000,9005,5\n"
+ACROSS_REPORT = REPORT_HEADER + "".join(f"{number},31,32,0,1,{due},{due + 5},5\n"
+                                        for number, due in enumerate(range(0, 2000, 20)))
 # Words with the text on standard input, the answer, and the families of which want of memory is told: of all that is
 # read and made.
 ANSWERED = [
@@ -81,7 +82,7 @@ ANSWERED = [
     (["run", "line", "two", "--workers", "3"], "", LINE_REPORT, "config relation traffic network"),
     (["run", "wide", "two", "--workers", "2"], "", WIDE_REPORT, "config relation traffic network"),
     (["run", "blocks", "across", "--workers", "2"], "", ACROSS_REPORT, "config relation traffic network run"),
-    (["run", "begun", "later", "--workers", "2", "--drain"], "", LATER_REPORT, "config relation traffic network run"),
+    (["run", "begun", "across", "--workers", "2", "--drain"], "", ACROSS_REPORT, "config relation traffic network run"),
 ]
 REPORTS = [["--report", kind] for kind in ("summary", "latency", "stalls")]
 

@@ -462,7 +462,8 @@ def threads_of(calls, words):
 def threads_that_run(calls):
     """A run by workers has as many threads at a time as workers, the first one of the process among them, or as many
     as there are blocks of 32 routers. So it has where a drain runs up to the last due time. And they run free: they end
-    after a thousand cycles at first and then after ever more, so that 20,000 start no more than six times as many."""
+    after a thousand cycles at first and then after ever more, so that 20,000 start no more than twelve times as many.
+    Where one thread is faster, the others run so briefly that a look may miss them, and then it is looked again."""
     if not os.path.isdir("/proc/self/task"):
         print("threads are not looked for: there is no list of them (/proc/self/task)")
         return
@@ -470,9 +471,12 @@ def threads_that_run(calls):
         calls.put(**busy_texts(side, 20000))
         for workers, words in product((1, 2, 4), (["whole"], ["started", "--drain"])):
             call = ["run", words[0], "busy", "--report", "summary", "--workers", str(workers), *words[1:]]
-            most, in_all, ran = threads_of(calls, call)
             tiles = min(workers, blocks)
-            right = most == tiles and in_all <= 1 + 6 * (tiles - 1) and not ran.stderr
+            for _ in range(8):
+                most, in_all, ran = threads_of(calls, call)
+                if most == tiles:
+                    break
+            right = most == tiles and in_all <= 1 + 12 * (tiles - 1) and not ran.stderr
             calls.count(f"{most} threads, {in_all} in all {call}, {side} by {side}", right, ran)
 
 
@@ -502,7 +506,7 @@ def reports_by_workers(calls):
         calls.put(made=ranks.stdout)
         ranked = ["--ranks", "made"] if ranks.returncode == 0 else []
         same_by_workers(calls, ["run", "many", "crowd", *ranked, *drain], f"{kind} {radix} {rule} {drain}")
-    calls.put(**busy_texts(8, 70000))
+    calls.put(**busy_texts(16, 70000))
     same_by_workers(calls, ["run", "whole", "busy"], "70,000 cycles")
 
 
