@@ -11,9 +11,13 @@ const FIRST: u32 = 1024;
 // .. up to this. A network that is cut into tiles is joined again after as many.
 const LONGEST: u32 = 64 * FIRST;
 
-// After how many cycles by fewer tiles more are tried again: twice as many each time, until all
-// tiles go well, but no more than the longest stretch has.
-const REST: u32 = 16 * FIRST;
+// After how many nanoseconds by fewer tiles more are tried again: twice as many each time, until
+// all tiles go well,
+const REST: u64 = 64_000_000;
+
+// .. up to this. It is time and not cycles, since to try tiles takes some milliseconds, in which
+// small networks run thousands of cycles.
+const LONGEST_REST: u64 = 16 * REST;
 
 // To cut and join tiles for fewer cycles costs more than it saves.
 const FEW: u32 = 512;
@@ -30,25 +34,25 @@ pub(crate) struct Pace {
     tiles: usize,
     // How many of them go by tiles.
     cycles: u32,
-    // How many have to go before more tiles are tried.
-    rest: u32,
-    // How many have to go after the next stretch in which one thread would be faster.
-    next_rest: u32,
     // How many one thread runs before tiles do, so that it is known how long it takes now.
     first: u32,
-    // How many nanoseconds one thread took for a cycle when it ran last.
+    // How many nanoseconds have to go before more tiles are tried.
+    rest: u64,
+    // How many have to go after the next stretch in which one thread would be faster.
+    next_rest: u64,
+    // How many one thread took for a cycle when it ran last.
     alone: u64,
     // How many the tiles took for which fewer are tried, until one thread has run after them.
     apart: u64,
     ghost some: { 0 < cycles },
     ghost few: { cycles ≤ 65536 },
-    ghost short: { next_rest ≤ 65536 },
+    ghost short: { next_rest ≤ 1024000000 },
     ghost within: { tiles ≤ workers },
 }
 
 impl Pace {
-    /// By all workers, but by no more than there are blocks. One thread begins, for twice as long as
-    /// it does later: a network is empty at first, so the second half is what counts.
+    /// By all workers, but by no more than there are blocks. One thread begins, and runs twice as
+    /// long as it does later: a network is empty at first, so the second half is what counts.
     pub(crate) fn new(workers: usize, blocks: usize) -> Pace
         ensures { result.workers ≤ workers }
     {
@@ -57,9 +61,9 @@ impl Pace {
             workers,
             tiles: workers,
             cycles: FIRST,
+            first: 2 * ALONE,
             rest: 0,
             next_rest: REST,
-            first: 2 * ALONE,
             alone: 0,
             apart: u64::MAX,
         }
@@ -100,14 +104,15 @@ impl Pace {
     pub(crate) fn heed(&mut self, tiles: usize, cycles: u32, each: u64) -> bool
         ensures { self.new.workers ≡ self.old.workers }
     {
-        self.rest = self.rest.saturating_sub(cycles);
+        let took = each.saturating_mul(u64::from(cycles));
+        self.rest = self.rest.saturating_sub(took);
         if tiles > 1 {
             self.first = ALONE;
             if each > self.alone {
                 self.tiles = (tiles - 1).min(self.workers);
                 self.cycles = FIRST;
                 self.rest = self.next_rest;
-                self.next_rest = (2 * self.next_rest).min(LONGEST);
+                self.next_rest = (2 * self.next_rest).min(LONGEST_REST);
                 self.apart = each;
                 return false;
             }

@@ -17,9 +17,9 @@ use std::{hint, thread};
 // How often a thread that waits looks again before it gives its processor to others.
 const LOOKS: u32 = 250;
 
-/// How many of these looks follow each other at once, before it pauses between two: a pause costs
-/// about 140 processor cycles, and what it waits for may be nearer than that.
-pub const LOOKS_AT_ONCE: u32 = 32;
+// How many of these looks follow each other at once, before it pauses between two: a pause costs
+// about 140 processor cycles, and what it waits for may be nearer than that.
+const LOOKS_AT_ONCE: u32 = 32;
 
 // After how many looks it sleeps instead, which frees its processor for a thread whose own another
 // program has.
