@@ -60,8 +60,8 @@ fn set_for<W: Word>(relation: &Relation, header: Header, node: usize, port: usiz
     requires vc { vc < relation.now.vcs }
     ensures { W.value result ≡ set_by relation.now header node port vc }
 {
-    let class = header.class as usize;
-    let destination = header.destination as usize;
+    let class = usize::from(header.class);
+    let destination = usize::from(header.destination);
     W::of(bits_of(relation.permitted(class, node, port, vc, destination)))
 }
 

@@ -98,7 +98,7 @@ fn take_arrivals(own: u32, headers: &[Header], from: &[u32], arrivals: &mut [u32
         (slice_index arrivals.new) }
 {
     for packet in 0..arrivals.len() {
-        let block = headers[packet].destination as usize / LANES;
+        let block = usize::from(headers[packet].destination) / LANES;
         if !own.has(block) {
             continue;
         }

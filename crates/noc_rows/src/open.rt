@@ -2,6 +2,7 @@
 
 ghost use Rattle.std.specs.Prelude.{◌≡◌, ℕ, ◌+◌, ◌*◌, ◌^◌, ◌<◌, ◌≤◌, All, IfOk, length, slice_get};
 ghost use Rattle.noc_topo.specs.Shape.{nodes};
+ghost use Rattle.noc_packet.specs.Packet.{IsWithinLimits};
 ghost use Rattle.noc_route.specs.Routes.{width};
 ghost use Rattle.noc_blocks.specs.Begins.{starts_by};
 ghost use Rattle.noc_blocks.specs.Routers.{frame_by};
@@ -124,6 +125,7 @@ fn first_outlooks<W: Word>(alloc: Global, states: &[State<W>]) -> Result<Vec<Out
 
 // The headers of packets.
 fn all_headers(alloc: Global, packets: &[Packet]) -> Result<Vec<Header>, Memory>
+    requires { All IsWithinLimits packets.now }
     ensures { IfOk result (λ all. all.items ≡ headers_of packets.now) }
 {
     let mut all = Vec::new(alloc);
@@ -144,6 +146,7 @@ fn plan_of<W: Word>(
     requires memory { SidesFit W.row }
     requires fits { width relation.now.grid relation.now.vcs < W.bits }
     requires places { places ≤ MAX_BUFFER }
+    requires limits { All IsWithinLimits packets.now }
     requires starts { starts_by starts.items
         ≡ starts_list packets.now (nodes relation.now.grid) }
     requires short { length starts.items < 2 ^ 32 }
@@ -174,6 +177,7 @@ pub(crate) fn open_network<W: Word>(
     requires fits { width relation.now.grid relation.now.vcs < W.bits }
     requires places { places ≤ MAX_BUFFER }
     requires few { length packets.now ≤ MAX_PACKETS }
+    requires limits { All IsWithinLimits packets.now }
     requires flits { All (λ p. 0 < p.length) packets.now }
     ensures { IfOk result (λ made. (net : Setup)
         → IsMadeFrom relation.now places packets.now net → IsGoodSetup net

@@ -2,6 +2,7 @@
 
 ghost use Rattle.std.specs.Prelude.{◌≡◌, ℕ, ◌+◌, ◌*◌, ◌<◌, ◌≤◌, All, IfOk, IsOk, length};
 ghost use Rattle.noc_topo.specs.Shape.{nodes, ports};
+ghost use Rattle.noc_packet.specs.Packet.{IsWithinLimits};
 ghost use Rattle.noc_theory.specs.Good.{IsGoodSetup};
 ghost use Rattle.noc_theory.specs.Lockstep.{counts_before, findings_before};
 ghost use Rattle.noc_theory.specs.Network.{Setup as TheSetup, arrival_in, state_at};
@@ -50,6 +51,7 @@ impl Rows {
     ) -> Result<Rows, Memory>
         requires places { places ≤ MAX_BUFFER }
         requires few { length packets.now ≤ MAX_PACKETS }
+        requires limits { All IsWithinLimits packets.now }
         requires flits { All (λ p. 0 < p.length) packets.now }
         ensures { IfOk result (λ made. (net : TheSetup)
             → IsMadeFrom relation.now places packets.now net → IsGoodSetup net
