@@ -3,22 +3,21 @@ use Rattle.std.proofs.Common.{◌≡◌, ℕ, ◌+◌, ◌-◌, ◌*◌, ◌/◌
 use Rattle.std.specs.Prelude.{◌⊎◌, ◌&&◌, ◌||◌, is_some, nat_eq, not, slice_get, slice_index, if◌then◌else◌}
 use Rattle.std.proofs.Math.Nat.{mul-pos}
 use Rattle.std.proofs.Math.Pow.{pow_mono}
-use Rattle.std.proofs.lemmas.Bool.{cases_lt, eqb-true, false≢true, le-ltb, lt-ltb, ne_eqb, true≢false}
-use Rattle.std.proofs.lemmas.Nat.{div_below, mod_below, mul-add-lt, pow_pos}
+use Rattle.std.proofs.lemmas.Bool.{eqb-true, false≢true, le-ltb, lt-ltb, ne_eqb}
+use Rattle.std.proofs.lemmas.Nat.{mod_below, mul-add-lt, pow_pos}
 use Rattle.std.proofs.lemmas.Option.{none-some, same_Some, slice_get_cases}
 use Rattle.noc_topo.specs.Shape.{Grid, IsGrid, is_plus, local_port, neighbour, nodes, opposite, ports}
-use Rattle.noc_topo.proofs.LinkLemmas.{link_back}
+use Rattle.noc_topo.proofs.LinkLemmas.{hop_of, link_back}
 use Rattle.noc_packet.specs.Set.{has_bit, IsLeast}
 use Rattle.noc_sets.specs.Gather.{goes_round, goes_straight, mask_where, place_round, place_straight, round, span, straight, stride}
 use Rattle.noc_sets.proofs.DistanceLemmas.{neighbour-by, span-fits, stride-fits}
 use Rattle.noc_sets.proofs.MemberLemmas.{power-members}
-use Rattle.noc_blocks.specs.Numbered.{port_in}
+use Rattle.noc_blocks.specs.Numbered.{port_in, vc_in}
 use Rattle.noc_blocks.specs.Sides.{AreSides}
 use Rattle.noc_blocks.specs.declared.links.Sides.{Sides}
 use Rattle.noc_turns.specs.declared.pattern.Pattern.{Pattern}
 use Rattle.noc_turns.specs.declared.state.State.{State}
 use Rattle.noc_theory_blocks.specs.Tells.{AreTold, HasNoted}
-use Rattle.noc_theory_blocks.proofs.TellLemmas.{other-end}
 use Rattle.noc_wires.specs.Letters.{IsNotedOver, IsOutput, is_off, leads_off}
 use Rattle.noc_wires.specs.Telling.{CanBeTold, HasGrant, HasWires, Telling, grants_if, packets_in, place_in, place_of, place_or_none, taken_in}
 use Rattle.noc_wires.proofs.TellingLemmas.{told-nobody, told-over}
@@ -154,9 +153,9 @@ module _ {A : Type 0} (value : A → ℕ) (w : ℕ) (pattern : Pattern A) (sides
     node-few : 256 + node < 768
     node-few = let l = node-known in let f = wires.sound.few_nodes in omega (arith, l, f)
 
-    -- the channel there
-    channel-is : back * vcs + o % vcs ≡ (if is_plus (o / vcs) then o + vcs else o - vcs)
-    channel-is = other-end g vcs s o node back wires.sound wires.room.some over
+    -- its port there
+    back-is : back ≡ opposite (o / vcs)
+    back-is = (hop_of g s (o / vcs) node back wires.sound over).port
 
     channel-places : back * vcs + o % vcs < 64
     channel-places =
@@ -166,21 +165,10 @@ module _ {A : Type 0} (value : A → ℕ) (w : ℕ) (pattern : Pattern A) (sides
         let b = wires.room.word in
         omega (arith, m, f, b)
 
-  down-fits : is_plus (o / vcs) ≡ false → vcs ≤ o
-  down-fits e = elim (cases_lt o vcs) [
-    | inl l ↦
-        let first : o / vcs ≡ 0 = let z = div_below o vcs 1 wires.room.some (omega (arith, l)) in omega (arith, z) in
-        absurd (true≢false (sym (ap is_plus first) ∙ e))
-    | inr u ↦ u
-  ]
-
   -- ---- what the code reads of it: its port
   module _ (port : ℕ) (port_of : port ≡ port_in pattern.numbering o) where
     same-port : port ≡ o / vcs
     same-port = port_of ∙ port-is
-
-    pub down : is_plus port ≡ false → vcs ≤ o
-    down e = down-fits (ap is_plus (sym same-port) ∙ e)
 
     -- nobody is told
     pub untold : pattern.frame.ports ≤ port + 1 → (packet : ℕ) (now : ℕ → ℕ → ℕ) → IsNotedOver vcs o packet now now (neighbour g s (o / vcs))
@@ -209,12 +197,26 @@ module _ {A : Type 0} (value : A → ℕ) (w : ℕ) (pattern : Pattern A) (sides
       pub off-there : (to : ℕ) → 256 + to ≡ place_in value sides s port → not (nat_eq (to / 32) (s / 32)) ≡ leads_off g s (o / vcs)
       off-there to to_is = let same : to ≡ node leads = (let e = place in omega (arith, to_is, e)) in ap (λ r. not (nat_eq (r / 32) (s / 32))) same ∙ sym (ap (is_off (s / 32)) (over leads))
 
-      module _ (to channel : ℕ) (to_is : 256 + to ≡ place_in value sides s port) (channel_of : channel ≡ (if is_plus port then o + vcs else o - vcs)) where
+      -- .. and its virtual channel
+      module _ (vc : ℕ) (vc_of : vc ≡ vc_in pattern.numbering o) where
+        same-vc : vc ≡ o % vcs
+        same-vc = vc_of ∙ wires.room.vc_is o below
+
+        pub room-there : (port + 1) * vcs + vc < 2 ^ 64
+        room-there =
+            let low : port + 1 < ports g = let e = wires.ports_are in omega (arith, within, e) in
+            let fits : vc < vcs = subst (λ x. x < vcs) (sym same-vc) (mod_below o vcs wires.room.some) in
+            let m = mul-add-lt (port + 1) vcs vc (ports g) low fits in
+            let f = wires.room.few in
+            let b = wires.room.word in
+            omega (arith, m, f, b)
+
+      module _ (to channel vc : ℕ) (vc_of : vc ≡ vc_in pattern.numbering o) (to_is : 256 + to ≡ place_in value sides s port) (channel_of : channel ≡ opposite port * vcs + vc) where
         same-node : to ≡ node leads
         same-node = let e = place in omega (arith, to_is, e)
 
         same-channel : channel ≡ back leads * vcs + o % vcs
-        same-channel = channel_of ∙ ap (λ q. if is_plus q then o + vcs else o - vcs) same-port ∙ sym (channel-is leads)
+        same-channel = channel_of ∙ ap₂ (λ q v. opposite q * vcs + v) same-port (same-vc vc vc_of) ∙ ap (λ q. q * vcs + o % vcs) (sym (back-is leads))
 
         pub to-known : to / 32 < length sides
         to-known = let e = same-node in let l = node-known leads in let b = wires.blocks in omega (arith, e, l, b)

@@ -2,7 +2,7 @@
 //! them.
 
 ghost use Rattle.std.specs.Prelude.{◌≡◌, ◌≢◌, ◌⊎◌, ℕ, ◌+◌, ◌-◌, ◌*◌, ◌/◌, ◌<◌, ◌≤◌, ◌^◌, true, false, Some, ◌&&◌, length, nat_eq, if◌then◌else◌};
-ghost use Rattle.noc_topo.specs.Shape.{Grid, is_plus, neighbour};
+ghost use Rattle.noc_topo.specs.Shape.{Grid, neighbour, opposite};
 ghost use Rattle.noc_packet.specs.Set.{has_bit};
 ghost use Rattle.noc_blocks.specs.Marks.{marks_at, packet_at, taken_at};
 ghost use Rattle.noc_theory_blocks.specs.Tells.{AreTold, HasNoted};
@@ -134,7 +134,8 @@ pub(crate) fn tell_over<W: Word>(
     let port = usize::from(pattern.numbering.port[out]);
     if port + 1 < pattern.frame.ports {
         let node = neighbour(sides, router, port);
-        let channel = other_end(pattern.frame.fields.width as usize, port, out);
+        let vc = usize::from(pattern.numbering.vc[out]);
+        let channel = other_end(pattern.frame.fields.width as usize, port, vc);
         note(states, node, channel, packet);
     }
 }
@@ -241,16 +242,15 @@ fn place_by<W: Word>(sides: &Sides<Lanes<W>>, lane: usize, port: usize) -> usize
     start + lane
 }
 
-// The channel at the other end of a link, where ports have so many channels.
+// The channel at the other end of a link that leads by this port, where ports have so many
+// channels: the same virtual channel of the opposite port. (That port is worked out, since a branch
+// would go wrong every second time.)
 #[inline(always)]
-fn other_end(width: usize, port: usize, out: usize) -> usize
-    requires up { out + width < 2 ^ 64 }
-    requires down { is_plus port ≡ false → width ≤ out }
-    ensures { result ≡ (if is_plus port then out + width else out - width) }
+fn other_end(width: usize, port: usize, vc: usize) -> usize
+    requires port { port < PORTS }
+    requires room { (port + 1) * width + vc < 2 ^ 64 }
+    ensures { result ≡ opposite port * width + vc }
 {
-    if port % 2 == 0 {
-        out + width
-    } else {
-        out - width
-    }
+    let there = port + 1 - 2 * (port % 2);
+    there * width + vc
 }

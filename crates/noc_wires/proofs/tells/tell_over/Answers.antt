@@ -1,6 +1,6 @@
 use Rattle.std.proofs.Common.{◌<◌, ◌/◌, rules, subst, sym}
 use Rattle.noc_wires.specs.Telling.{lane_in, packets_in}
-use Rattle.noc_wires.proofs.LinkLemmas.{channel-known, down, high, in-sides, low, to-known, told, untold}
+use Rattle.noc_wires.proofs.LinkLemmas.{channel-known, high, in-sides, low, room-there, to-known, told, untold}
 use Rattle.noc_wires.proofs.StateLemmas.{same-lane}
 use Rattle.noc_wires.proofs.tells.tell_over.Goals as goal
 
@@ -29,13 +29,16 @@ neighbour-node-requires g c =
       ),
     )
 
-pub other_end-channel-requires-clause-down : goal.other_end-channel-requires-clause-down
-other_end-channel-requires-clause-down g c =
+pub other_end-channel-requires-clause-port : goal.other_end-channel-requires-clause-port
+other_end-channel-requires-clause-port g c = subst (λ n. n < 8) (sym c.from-port.ensures) (c.args.pattern.now.numbering.ports c.args.out)
+
+pub other_end-channel-requires-clause-room : goal.other_end-channel-requires-clause-room
+other_end-channel-requires-clause-room g c =
     let v = g.W.Word.value in
     let w = g.W.Word.bits in
     let a = c.args in
     let r = c.requires.wires in
-    down v w a.pattern.now a.sides.now r.0 r.1 a.router a.out r.2 c.from-port.result c.from-port.ensures
+    room-there v w a.pattern.now a.sides.now r.0 r.1 a.router a.out r.2 c.from-port.result c.from-port.ensures c.if-port-pattern.true c.from-vc.result c.from-vc.ensures
 
 pub note-requires : goal.note-requires
 note-requires g c =
@@ -50,8 +53,8 @@ note-requires g c =
       search rules,
       (
         subst (λ n. to / 32 < n) (sym c.requires.blocks)
-            (to-known v w a.pattern.now a.sides.now r.0 r.1 a.router a.out r.2 port c.from-port.ensures within to channel c.neighbour-node.ensures c.other_end-channel.ensures),
-        channel-known v w a.pattern.now a.sides.now r.0 r.1 a.router a.out r.2 port c.from-port.ensures within to channel c.neighbour-node.ensures c.other_end-channel.ensures,
+            (to-known v w a.pattern.now a.sides.now r.0 r.1 a.router a.out r.2 port c.from-port.ensures within to channel c.from-vc.result c.from-vc.ensures c.neighbour-node.ensures c.other_end-channel.ensures),
+        channel-known v w a.pattern.now a.sides.now r.0 r.1 a.router a.out r.2 port c.from-port.ensures within to channel c.from-vc.result c.from-vc.ensures c.neighbour-node.ensures c.other_end-channel.ensures,
       ),
     )
 
@@ -60,7 +63,7 @@ returns-then-port-pattern-clause-told g c = λ grid wires is.
     let v = g.W.Word.value in
     let w = g.W.Word.bits in
     let a = c.args in
-    told v w a.pattern.now a.sides.now grid wires a.router a.out is c.from-port.result c.from-port.ensures c.if-port-pattern.true c.neighbour-node.result c.other_end-channel.result c.neighbour-node.ensures c.other_end-channel.ensures
+    told v w a.pattern.now a.sides.now grid wires a.router a.out is c.from-port.result c.from-port.ensures c.if-port-pattern.true c.neighbour-node.result c.other_end-channel.result c.from-vc.result c.from-vc.ensures c.neighbour-node.ensures c.other_end-channel.ensures
     a.packet (packets_in v a.states.now) (packets_in v c.note.new.states) c.note.ensures.noted
 
 pub returns-else-port-pattern-clause-told : goal.returns-else-port-pattern-clause-told
