@@ -4,12 +4,16 @@ ghost use Rattle.std.specs.Prelude.{◌≡◌, ◌<◌, ◌≤◌};
 
 use std::time::{Clock, Instant};
 
-// How many cycles tiles run before it is looked first whether they pay. Their threads end and
-// begin anew for it, so a stretch that goes well makes the next one twice as long,
-const FIRST: u32 = 1024;
+// How many nanoseconds of one thread are in the first stretch of tiles. Their processors come from
+// elsewhere, so nothing is made of its time but where it is more than twice as long.
+const WARMING: u64 = 1_000_000;
+
+// How many times as many cycles the stretch after it has, of which the time counts. Threads end and
+// begin anew between two stretches, so each that goes well makes the next one twice as long,
+const JUDGED: u32 = 4;
 
 // .. up to this. A network that is cut into tiles is joined again after as many.
-const LONGEST: u32 = 64 * FIRST;
+const LONGEST: u32 = 65_536;
 
 // After how many nanoseconds by fewer tiles more are tried again: twice as many each time, until
 // all tiles go well,
@@ -34,16 +38,17 @@ pub(crate) struct Pace {
     tiles: usize,
     // How many of them go by tiles.
     cycles: u32,
+    // Whether tiles have run since one thread did, so that the time of their next stretch counts.
+    is_warm: bool,
     // How many one thread runs before tiles do, so that it is known how long it takes now.
     first: u32,
     // How many nanoseconds have to go before more tiles are tried.
     rest: u64,
     // How many have to go after the next stretch in which one thread would be faster.
     next_rest: u64,
-    // How many one thread took for a cycle when it ran last.
-    alone: u64,
-    // How many the tiles took for which fewer are tried, until one thread has run after them.
-    apart: u64,
+    // How many one thread took for a cycle when it ran last, and before that.
+    last: u64,
+    before: u64,
     ghost some: { 0 < cycles },
     ghost few: { cycles ≤ 65536 },
     ghost short: { next_rest ≤ 1024000000 },
@@ -52,7 +57,7 @@ pub(crate) struct Pace {
 
 impl Pace {
     /// By all workers, but by no more than there are blocks. One thread begins, and runs twice as
-    /// long as it does later: a network is empty at first, so the second half is what counts.
+    /// long as it does later, since a network is empty at first.
     pub(crate) fn new(workers: usize, blocks: usize) -> Pace
         ensures { result.workers ≤ workers }
     {
@@ -60,12 +65,13 @@ impl Pace {
         Pace {
             workers,
             tiles: workers,
-            cycles: FIRST,
-            first: 2 * ALONE,
+            cycles: ALONE,
+            is_warm: false,
+            first: 4 * ALONE,
             rest: 0,
             next_rest: REST,
-            alone: 0,
-            apart: u64::MAX,
+            last: 0,
+            before: 0,
         }
     }
 
@@ -106,34 +112,53 @@ impl Pace {
     {
         let took = each.saturating_mul(u64::from(cycles));
         self.rest = self.rest.saturating_sub(took);
-        if tiles > 1 {
-            self.first = ALONE;
-            if each > self.alone {
-                self.tiles = (tiles - 1).min(self.workers);
-                self.cycles = FIRST;
-                self.rest = self.next_rest;
-                self.next_rest = (2 * self.next_rest).min(LONGEST_REST);
-                self.apart = each;
-                return false;
-            }
-            self.cycles = (2 * self.cycles).min(LONGEST);
+        let counts = tiles <= 1 || self.is_warm;
+        let pays = if tiles > 1 {
+            self.pays(tiles, each)
         } else {
-            self.first = self.first.saturating_sub(cycles);
-            self.alone = each;
-            if each > self.apart {
-                // (the network has more to do now, or the processors are slower)
-                self.rest = 0;
-            }
-            self.apart = u64::MAX;
-        }
-        if self.rest == 0 && tiles == self.tiles && tiles < self.workers {
-            self.tiles += 1;
-            self.cycles = FIRST;
+            self.time_one(cycles, each);
+            true
+        };
+        if pays && counts && self.rest == 0 && tiles == self.tiles && tiles < self.workers {
+            self.tiles = tiles.saturating_mul(2).min(self.workers);
             return false;
         }
-        if tiles == self.workers {
+        pays
+    }
+
+    // One thread has run so many cycles, and took for each so many nanoseconds. Of two stretches
+    // the faster counts: in the other one it may have waited for its processor.
+    fn time_one(&mut self, cycles: u32, each: u64)
+        ensures { self.new.workers ≡ self.old.workers }
+    {
+        self.first = self.first.saturating_sub(cycles);
+        self.before = self.last;
+        self.last = each;
+        let stretch = WARMING / self.last.max(1);
+        self.cycles = stretch.clamp(u64::from(ALONE), u64::from(LONGEST)) as u32;
+        self.is_warm = false;
+    }
+
+    // So many tiles took for a cycle so many nanoseconds. The answer is whether they are as fast as
+    // one thread. If not, half as many run next.
+    fn pays(&mut self, tiles: usize, each: u64) -> bool
+        ensures { self.new.workers ≡ self.old.workers }
+    {
+        self.first = 2 * ALONE;
+        let alone = self.last.min(self.before);
+        let most = if self.is_warm { 1 } else { 2 };
+        if each > alone.saturating_mul(most) {
+            self.tiles = (tiles / 2).min(self.workers);
+            self.rest = self.next_rest;
+            self.next_rest = (2 * self.next_rest).min(LONGEST_REST);
+            return false;
+        }
+        let longer = if self.is_warm { 2 } else { JUDGED };
+        self.cycles = (longer * self.cycles).min(LONGEST);
+        if self.is_warm && tiles == self.workers {
             self.next_rest = REST;
         }
+        self.is_warm = true;
         true
     }
 }
