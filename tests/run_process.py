@@ -462,8 +462,9 @@ def threads_of(calls, words):
 def threads_that_run(calls):
     """A run by workers has as many threads at a time as workers, the first one of the process among them, or as many
     as there are blocks of 32 routers. So it has where a drain runs up to the last due time. And they run free: they end
-    after a thousand cycles at first and then after ever more, so that 20,000 start no more than twelve times as many.
-    Where one thread is faster, the others run so briefly that a look may miss them, and then it is looked again."""
+    after a millisecond at first and then after ever longer, so that 20,000 cycles start no more than twelve times as
+    many. Where one thread is faster, the others run so briefly that a look may miss them, and then it is looked again.
+    """
     if not os.path.isdir("/proc/self/task"):
         print("threads are not looked for: there is no list of them (/proc/self/task)")
         return
