@@ -51,7 +51,8 @@ pub fn route_router<W: Word>(
     all
 }
 
-// The channels that a packet with this header may take which came to a node by this port and virtual channel.
+// The channels that a packet with this header may take which came to a node by this port and
+// virtual channel.
 fn set_for<W: Word>(relation: &Relation, header: Header, node: usize, port: usize, vc: usize) -> W
     requires fits { width relation.now.grid relation.now.vcs ≤ W.bits }
     requires node { node < nodes relation.now.grid }
