@@ -3,6 +3,5 @@ pub mod ArbiterLemmas
 pub mod AskingLemmas
 pub mod SwitchLemmas
 pub mod OfferLemmas
-pub mod SparseLemmas
 pub mod RequestLemmas
 pub mod RoundExamples

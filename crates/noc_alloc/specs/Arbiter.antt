@@ -13,7 +13,8 @@ distance_in_turn size pointer x = (x + (size - pointer)) % size
 
 -- of the requesters below the size that ask, the one that stands least far behind the pointer
 unfoldable pub first_in_turn : ℕ → ℕ → (ℕ → Bool) → Option ℕ
-first_in_turn size pointer asks = least_by (distance_in_turn size pointer) (filter asks (below size))
+first_in_turn size pointer asks =
+    least_by (distance_in_turn size pointer) (filter asks (below size))
 
 -- of the one that came first so far, if any, and a later number, the one that comes first
 abbrev pub nearer : ℕ → Option ℕ → ℕ → ℕ

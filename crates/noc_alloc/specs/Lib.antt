@@ -1,5 +1,5 @@
 pub mod Arbiter
 pub mod Allocation
 pub mod Steps
-pub mod Sparse
+pub mod Members
 pub mod Requests

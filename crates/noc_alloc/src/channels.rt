@@ -14,7 +14,8 @@ use crate::arbiter::Arbiter;
 pub fn allocate_channels(asks: &[Option<usize>], arbiters: &[Arbiter], grants: &mut [Option<usize>])
     requires lengths { length grants.old ≡ length arbiters.now }
     requires sizes { All (λ (t : RoundRobin). t.size ≡ length asks.now) arbiters.now }
-    ensures grants { grants.new ≡ tabulate (length arbiters.now) (grant_of asks.now (length asks.now) (pointers_of arbiters.now)) }
+    ensures grants { grants.new ≡ tabulate (length arbiters.now)
+        (grant_of asks.now (length asks.now) (pointers_of arbiters.now)) }
     ensures inputs { All (λ grant. IfSome grant (λ i. i < length asks.now)) grants.new }
 {
     grants.fill(None);
@@ -44,9 +45,12 @@ pub(crate) fn offer(
 /// Moves the pointer of each output channel's arbiter past the input channel that was granted.
 pub fn advance_channels(grants: &[Option<usize>], arbiters: &mut [Arbiter])
     requires lengths { length grants.now ≡ length arbiters.old }
-    requires grants { (k : ℕ) → k < length arbiters.old → IfSome (slice_index_or grants.now k None) (λ w. w < (arbiter_at arbiters.old k).size) }
-    ensures pointers { arbiters.new ≡ arbiters_after_winners (λ o. slice_index_or grants.now o None) arbiters.old }
-    ensures sizes { (n : ℕ) → All (λ (t : RoundRobin). t.size ≡ n) arbiters.old → All (λ (t : RoundRobin). t.size ≡ n) arbiters.new }
+    requires grants { (k : ℕ) → k < length arbiters.old
+        → IfSome (slice_index_or grants.now k None) (λ w. w < (arbiter_at arbiters.old k).size) }
+    ensures pointers { arbiters.new
+        ≡ arbiters_after_winners (λ o. slice_index_or grants.now o None) arbiters.old }
+    ensures sizes { (n : ℕ) → All (λ (t : RoundRobin). t.size ≡ n) arbiters.old
+        → All (λ (t : RoundRobin). t.size ≡ n) arbiters.new }
 {
     for output in 0..grants.len() {
         arbiters[output].advance(grants[output]);

@@ -28,8 +28,10 @@ pub fn allocate_switch(
     requires wins { length wins.old ≡ length outputs.now }
     requires input_sizes { All (λ (t : RoundRobin). t.size ≡ vcs) inputs.now }
     requires output_sizes { All (λ (t : RoundRobin). t.size ≡ length inputs.now) outputs.now }
-    ensures picks { picks.new ≡ tabulate (length inputs.now) (pick_of ready.now vcs (pointers_of inputs.now)) }
-    ensures wins { wins.new ≡ tabulate (length outputs.now) (winner_of ready.now vcs (length inputs.now) picks.new (pointers_of outputs.now)) }
+    ensures picks { picks.new
+        ≡ tabulate (length inputs.now) (pick_of ready.now vcs (pointers_of inputs.now)) }
+    ensures wins { wins.new ≡ tabulate (length outputs.now)
+        (winner_of ready.now vcs (length inputs.now) picks.new (pointers_of outputs.now)) }
     ensures vcs { All (λ pick. IfSome pick (λ v. v < vcs)) picks.new }
     ensures inputs { All (λ win. IfSome win (λ q. q < length inputs.now)) wins.new }
 {
@@ -48,7 +50,8 @@ pub fn allocate_switch(
 fn first_of_those_ready(ready: &[Option<usize>], first: usize, arbiter: &Arbiter) -> Option<usize>
     requires within { first + arbiter.now.size ≤ length ready.now }
     ensures within { IfSome result (λ v. v < arbiter.now.size) }
-    ensures first { result ≡ first_in_turn arbiter.now.size arbiter.now.pointer (λ v. is_some (slice_index_or ready.now (first + v) None)) }
+    ensures first { result ≡ first_in_turn arbiter.now.size arbiter.now.pointer
+        (λ v. is_some (slice_index_or ready.now (first + v) None)) }
 {
     let mut asking = ChannelSet::empty();
     for vc in 0..arbiter.size() {
@@ -69,14 +72,23 @@ pub fn advance_switch(
 )
     requires picks { length picks.now ≡ length inputs.old }
     requires wins { length wins.now ≡ length outputs.old }
-    requires vcs { (k : ℕ) → k < length inputs.old → IfSome (slice_index_or picks.now k None) (λ v. v < (arbiter_at inputs.old k).size) }
-    requires ports { (k : ℕ) → k < length outputs.old → IfSome (slice_index_or wins.now k None) (λ q. q < (arbiter_at outputs.old k).size) }
+    requires vcs { (k : ℕ) → k < length inputs.old
+        → IfSome (slice_index_or picks.now k None) (λ v. v < (arbiter_at inputs.old k).size) }
+    requires ports { (k : ℕ) → k < length outputs.old
+        → IfSome (slice_index_or wins.now k None) (λ q. q < (arbiter_at outputs.old k).size) }
     requires winners { All (λ win. IfSome win (λ q. q < length inputs.old)) wins.now }
-    ensures inputs { inputs.new ≡ arbiters_after_winners (winning_pick picks.now wins.now) inputs.old }
-    ensures by_requests { (ready : List (Option ℕ)) (vcs ports : ℕ) (pointers : List ℕ) → AreWins ready vcs ports pointers picks.now wins.now → inputs.new ≡ arbiters_after_winners (moving_pick ready vcs picks.now wins.now) inputs.old }
-    ensures outputs { outputs.new ≡ arbiters_after_winners (λ p. slice_index_or wins.now p None) outputs.old }
-    ensures input_sizes { (n : ℕ) → All (λ (t : RoundRobin). t.size ≡ n) inputs.old → All (λ (t : RoundRobin). t.size ≡ n) inputs.new }
-    ensures output_sizes { (n : ℕ) → All (λ (t : RoundRobin). t.size ≡ n) outputs.old → All (λ (t : RoundRobin). t.size ≡ n) outputs.new }
+    ensures inputs { inputs.new
+        ≡ arbiters_after_winners (winning_pick picks.now wins.now) inputs.old }
+    ensures by_requests { (ready : List (Option ℕ)) (vcs ports : ℕ) (pointers : List ℕ)
+        → AreWins ready vcs ports pointers picks.now wins.now
+        → inputs.new
+        ≡ arbiters_after_winners (moving_pick ready vcs picks.now wins.now) inputs.old }
+    ensures outputs { outputs.new
+        ≡ arbiters_after_winners (λ p. slice_index_or wins.now p None) outputs.old }
+    ensures input_sizes { (n : ℕ) → All (λ (t : RoundRobin). t.size ≡ n) inputs.old
+        → All (λ (t : RoundRobin). t.size ≡ n) inputs.new }
+    ensures output_sizes { (n : ℕ) → All (λ (t : RoundRobin). t.size ≡ n) outputs.old
+        → All (λ (t : RoundRobin). t.size ≡ n) outputs.new }
 {
     for output in 0..wins.len() {
         advance_winner(wins[output], picks, inputs);
@@ -87,7 +99,8 @@ pub fn advance_switch(
 // Moves the pointer of the input port that won an output port, if any, past its pick.
 fn advance_winner(winner: Option<usize>, picks: &[Option<usize>], inputs: &mut [Arbiter])
     requires picks { length picks.now ≡ length inputs.old }
-    requires vcs { (k : ℕ) → k < length inputs.old → IfSome (slice_index_or picks.now k None) (λ v. v < (arbiter_at inputs.old k).size) }
+    requires vcs { (k : ℕ) → k < length inputs.old
+        → IfSome (slice_index_or picks.now k None) (λ v. v < (arbiter_at inputs.old k).size) }
     requires winner { IfSome winner (λ q. q < length inputs.old) }
     ensures { inputs.new ≡ arbiters_after_winner winner picks.now inputs.old }
 {

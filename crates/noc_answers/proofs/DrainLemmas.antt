@@ -7,6 +7,7 @@ use Rattle.noc_theory.specs.Good.{IsGoodSetup}
 use Rattle.noc_net.specs.Limit.{IsLimit}
 use Rattle.noc_theory.specs.Network.{Run, Setup, packet_at, state_at}
 use Rattle.noc_theory.specs.Progress.{NoneDue, events}
+use Rattle.noc_theory.proofs.worms.BuiltLemmas.{well-formed}
 use Rattle.noc_theory.proofs.budget.UnchangedLemmas.{state-until}
 use Rattle.noc_net.proofs.LimitLemmas.{all-out, limit-once, limit-some}
 use Rattle.noc_answers.specs.Drain.{DrainsAt, DrainsBy, RunsTo, at_limit, at_once, is_out_at, look, once_out}
@@ -169,5 +170,5 @@ unchanged-for net made n count cycles is quiet none k l =
     let there : count + k ≡ suc (n + k) = omega (arith, is) in
     let here : count ≡ suc n = omega (arith, is) in
     let undue : NoneDue net n (n + k) = λ p low late. let far = none p low (omega (arith, is, late)) in omega (arith, is, far) in
-    ap (state_at net) there ∙ state-until net made n quiet (n + k) (omega arith) undue
-    ∙ sym (ap (state_at net) here ∙ state-until net made n quiet n (omega arith) (λ p low late. late))
+    ap (state_at net) there ∙ state-until net (well-formed net made) n quiet (n + k) (omega arith) undue
+    ∙ sym (ap (state_at net) here ∙ state-until net (well-formed net made) n quiet n (omega arith) (λ p low late. late))

@@ -7,6 +7,7 @@ use Rattle.noc_route.specs.Routes.{Routes}
 use Rattle.noc_route.specs.Ranks.{IsRankedBy}
 use Rattle.noc_net.specs.Limit.{are_all_out}
 use Rattle.noc_theory.specs.Network.{Run, state_at}
+use Rattle.noc_theory.proofs.worms.BuiltLemmas.{well-formed}
 use Rattle.noc_theory.proofs.budget.ProgressTheoremLemmas.{not-stuck}
 use Rattle.noc_files.specs.declared.writing.WriteFault.{WriteFault}
 use Rattle.noc_answers.specs.Asked.{Asked, TextValue, ReadsAs, as_files, as_joined, is_joined, owned_text}
@@ -30,7 +31,7 @@ run-done : (a : Asked) (run : Run) (text : TextValue) → checked_ranks a ≡ So
 run-done a run text checked asks =
     let accepts : Accepts asks.opens.routes text = subst (λ (o : Option TextValue). IfSome o (Accepts asks.opens.routes)) checked asks.opens.before.accepted in
     let rising : IsRankedBy run.net.relation accepts.ranking = subst (λ (routes : Routes). IsRankedBy routes accepts.ranking) (sym asks.opens.network.relation) accepts.rising in
-    ap (λ b. cond b Stuck Done) (not-stuck run.net asks.opens.network.good accepts.ranking rising run.count)
+    ap (λ b. cond b Stuck Done) (not-stuck run.net (well-formed run.net asks.opens.network.good) accepts.ranking rising run.count)
 
 asked-done : (a : Asked) (out : List ℕ) (status : Status) (text : TextValue) → checked_ranks a ≡ Some text → AsksFor a out status → status ≡ Done
 asked-done a out status text checked (a_report {run = run} is asks) = run-done a run text checked asks

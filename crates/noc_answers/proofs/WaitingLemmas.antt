@@ -4,7 +4,7 @@ use Rattle.std.specs.Prelude.{is_some}
 use Rattle.noc_packet.specs.declared.packet.Packet.{Packet}
 use Rattle.noc_theory.specs.Good.{IsGoodSetup}
 use Rattle.noc_theory.specs.Network.{Setup, arrival_in, out_cycle, packet_at, place_of_flit, state_at}
-use Rattle.noc_theory.proofs.worms.BuiltLemmas.{good-built}
+use Rattle.noc_theory.proofs.worms.BuiltLemmas.{good-built, well-formed}
 use Rattle.noc_theory.proofs.worms.InjectionPhaseLemmas.{source-behind}
 use Rattle.noc_theory.proofs.worms.StateWordLemmas.{last_of}
 use Rattle.noc_theory.proofs.worms.WormOrderLemmas.{whole-at}
@@ -18,8 +18,8 @@ module _ (net : Setup) (good : IsGoodSetup net) where
   undue-waits : (n q : ℕ) → q < length net.packets → n ≤ (packet_at net q).due → arrival_in net (state_at net n) q ≡ None
   undue-waits n q l early =
       ap out_cycle
-      (source-behind net (good-built net good) (state_at net n).own (place_of_flit net (state_at net n)) (whole-at net good n).sound.worm q 0 (last_of net q)
-      (valid-last net (good-built net good) q l) (omega arith) (undue-at net good n q l early))
+      (source-behind net (good-built net (well-formed net good)) (state_at net n).own (place_of_flit net (state_at net n)) (whole-at net (well-formed net good) n).sound.worm q 0 (last_of net q)
+      (valid-last net (good-built net (well-formed net good)) q l) (omega arith) (undue-at net (well-formed net good) n q l early))
 
   -- so not every packet is out
   pub not-out-undue : (n q : ℕ) (p : Packet) → q < length net.packets → slice_get net.packets q ≡ Some p → n ≤ p.due → is_out_at net n ≡ false

@@ -37,12 +37,18 @@ use Rattle.noc_answers.specs.Run.{AsksForRun, IsNetworkOf, PacketsFault, ending,
 
 -- the text that is asked for, where nothing is wrong, and how the request then ends
 pub data AsksFor (a : Asked) : List ℕ → Status → Type 0 where
-  a_report : {report : Report} {run : Run} → report_of a.command ≡ Some report → AsksForRun a run → AsksFor a (report_text report run) (ending run)
-  findings : {cycle router : ℕ} {run : Run} → a.command ≡ command.Explain cycle router → AsksForRun a run → AsksFor a (findings_text run router) Done
-  traces : {from to : Option ℕ} {traced : Traced} {run : Run} → a.command ≡ trace_of from to traced → AsksForRun a run → packet_option_fault a.command (length run.net.packets) ≡ None
+  a_report : {report : Report} {run : Run} → report_of a.command ≡ Some report → AsksForRun a run
+      → AsksFor a (report_text report run) (ending run)
+  findings : {cycle router : ℕ} {run : Run} → a.command ≡ command.Explain cycle router
+      → AsksForRun a run → AsksFor a (findings_text run router) Done
+  traces : {from to : Option ℕ} {traced : Traced} {run : Run} → a.command ≡ trace_of from to traced
+      → AsksForRun a run → packet_option_fault a.command (length run.net.packets) ≡ None
       → AsksFor a (trace_text run (first_cycle from) traced) Done
-  accepted : {s : Settings} {routes : Routes} → a.command ≡ command.Check → AsksForChecked a s routes → AsksFor a (codes "accepted\n") Done
-  ranks : {s : Settings} {routes : Routes} {ranking : Ranking} → a.command ≡ command.Ranks → AsksForRelation a s routes → HasRanks s routes.grid ranking → AsksFor a (ranks_text ranking) Done
+  accepted : {s : Settings} {routes : Routes} → a.command ≡ command.Check
+      → AsksForChecked a s routes → AsksFor a (codes "accepted\n") Done
+  ranks : {s : Settings} {routes : Routes} {ranking : Ranking} → a.command ≡ command.Ranks
+      → AsksForRelation a s routes → HasRanks s routes.grid ranking
+      → AsksFor a (ranks_text ranking) Done
 
 -- a command that runs a network
 abbrev pub runs : Command → Bool
@@ -54,24 +60,35 @@ runs _ = true
 -- and the packet to be traced
 pub data TextsFault (a : Asked) : Fault → Type 0 where
   in_settings : {f : Fault} → SettingsFault a f → TextsFault a f
-  in_formula : {s : Settings} {routes : Routes} {f : RankFault} → a.command ≡ command.Ranks → AsksForRelation a s routes → IsFormulaFault s routes.grid f → TextsFault a (fault.Rank f routes.grid)
-  in_ranks : {s : Settings} {routes : Routes} {text : TextValue} {f : Fault} → AsksForRelation a s routes → checked_ranks a ≡ Some text → RanksFault routes text f → TextsFault a f
-  in_packets : {s : Settings} {routes : Routes} {f : Fault} → runs a.command ≡ true → AsksForChecked a s routes → PacketsFault routes a.traffic f → TextsFault a f
-  no_packet : {s : Settings} {routes : Routes} {net : Setup} {f : OptionFault} → AsksForChecked a s routes → IsNetworkOf routes s.buffer a.traffic net
+  in_formula : {s : Settings} {routes : Routes} {f : RankFault} → a.command ≡ command.Ranks
+      → AsksForRelation a s routes → IsFormulaFault s routes.grid f
+      → TextsFault a (fault.Rank f routes.grid)
+  in_ranks : {s : Settings} {routes : Routes} {text : TextValue} {f : Fault}
+      → AsksForRelation a s routes → checked_ranks a ≡ Some text → RanksFault routes text f
+      → TextsFault a f
+  in_packets : {s : Settings} {routes : Routes} {f : Fault} → runs a.command ≡ true
+      → AsksForChecked a s routes → PacketsFault routes a.traffic f → TextsFault a f
+  no_packet : {s : Settings} {routes : Routes} {net : Setup} {f : OptionFault}
+      → AsksForChecked a s routes → IsNetworkOf routes s.buffer a.traffic net
       → packet_option_fault a.command (length net.packets) ≡ Some f → TextsFault a (fault.Option f)
 
 -- what these texts ask for is written into a sink, or their first fault is
 -- answered and nothing is written
-abbrev pub IsAnswered : {S : Type 0} → (S → Option (List ℕ)) → (S → Bool) → S → S → Asked → Result Status Fault → Type 0
-IsAnswered contents failed old new a result = Ends (workers_of a.command) (Wrote contents failed old new) (new ≡ old) (AsksFor a) (TextsFault a) result
+abbrev pub IsAnswered : {S : Type 0} → (S → Option (List ℕ)) → (S → Bool) → S → S → Asked
+    → Result Status Fault → Type 0
+IsAnswered contents failed old new a result =
+    Ends (workers_of a.command) (Wrote contents failed old new) (new ≡ old) (AsksFor a)
+    (TextsFault a) result
 
 -- ---- a request
 
 -- of a joined text: that it was not read, that it has no dividing line; and then the
 -- first fault of the texts
 pub data FirstFault (r : Request) : Fault → Type 0 where
-  unread : {f : InputFault} → is_joined r.command ≡ true → owned_text r.config ≡ Err f → FirstFault r (fault.Joined f)
-  unsplit : {text : List ℕ} → is_joined r.command ≡ true → owned_text r.config ≡ Ok text → ((i : ℕ) → i < length text → line_at text i ≡ 0) → FirstFault r (fault.Joined input.NoSplit)
+  unread : {f : InputFault} → is_joined r.command ≡ true → owned_text r.config ≡ Err f
+      → FirstFault r (fault.Joined f)
+  unsplit : {text : List ℕ} → is_joined r.command ≡ true → owned_text r.config ≡ Ok text
+      → ((i : ℕ) → i < length text → line_at text i ≡ 0) → FirstFault r (fault.Joined input.NoSplit)
   in_texts : {a : Asked} {f : Fault} → ReadsAs r a → TextsFault a f → FirstFault r f
 
 -- the text that a request asks for, and how it then ends
@@ -84,14 +101,19 @@ by_workers r workers report drain = record r { command = command.Run workers rep
 
 -- a request for a run that comes with ranks
 abbrev pub IsRankedRun : Request → Type 0
-IsRankedRun r = (workers : ℕ) × (report : Report) × (drain : Bool) × (r.command ≡ command.Run workers report drain) × (is_some r.ranks ≡ true)
+IsRankedRun r =
+    (workers : ℕ) × (report : Report) × (drain : Bool)
+    × (r.command ≡ command.Run workers report drain) × (is_some r.ranks ≡ true)
 
 -- a request for a run that comes with ranks and is to drain
 abbrev pub IsRankedDrain : Request → Type 0
-IsRankedDrain r = (workers : ℕ) × (report : Report) × (r.command ≡ command.Run workers report true) × (is_some r.ranks ≡ true)
+IsRankedDrain r =
+    (workers : ℕ) × (report : Report) × (r.command ≡ command.Run workers report true)
+    × (is_some r.ranks ≡ true)
 
 -- the text that a request asks for is the report of a run in which every packet has arrived
 abbrev pub AsksForArrivals : Request → List ℕ → Type 0
 AsksForArrivals r text =
-    (a : Asked) × (report : Report) × (run : Run) × ReadsAs r a × (report_of a.command ≡ Some report) × AsksForRun a run × (text ≡ report_text report run)
+    (a : Asked) × (report : Report) × (run : Run) × ReadsAs r a
+    × (report_of a.command ≡ Some report) × AsksForRun a run × (text ≡ report_text report run)
     × (are_all_out run.net (state_at run.net run.count) ≡ true)

@@ -20,7 +20,8 @@ abbrev pub read_by : {X : Type 0} → (List ℕ → Result X InputFault) → Tex
 read_by said text = text >>= said
 
 -- why a text is not read: memory was refused, or this is its first fault
-abbrev pub IsUnread : {X : Type 0} → (List ℕ → Result X InputFault) → TextValue → InputFault → Type 0
+abbrev pub IsUnread : {X : Type 0} → (List ℕ → Result X InputFault) → TextValue → InputFault
+    → Type 0
 IsUnread said text f = f ≢ Memory → read_by said text ≡ Err f
 
 -- a command, and the texts at which it looks
@@ -40,17 +41,33 @@ lent_text text = result_map (λ b. b.now) text
 
 -- files as the code hands them on
 abbrev pub lent_files : Files → Asked
-lent_files files =
-    record { config = lent_text files.config; table = option_map lent_text files.table; ranks = option_map lent_text files.ranks; traffic = lent_text files.traffic; command = files.command }
+lent_files files = record {
+  config = lent_text files.config;
+  table = option_map lent_text files.table;
+  ranks = option_map lent_text files.ranks;
+  traffic = lent_text files.traffic;
+  command = files.command;
+}
 
 -- the files of a request as they stand
 abbrev pub files_of : Request → Asked
-files_of r =
-    record { config = owned_text r.config; table = option_map owned_text r.table; ranks = option_map owned_text r.ranks; traffic = owned_text r.traffic; command = r.command }
+files_of r = record {
+  config = owned_text r.config;
+  table = option_map owned_text r.table;
+  ranks = option_map owned_text r.ranks;
+  traffic = owned_text r.traffic;
+  command = r.command;
+}
 
 -- the two texts of a joined text
 abbrev pub parts : List ℕ → List ℕ → Asked
-parts config traffic = record { config = Ok config; table = None; ranks = None; traffic = Ok traffic; command = Joined }
+parts config traffic = record {
+  config = Ok config;
+  table = None;
+  ranks = None;
+  traffic = Ok traffic;
+  command = Joined;
+}
 
 abbrev pub is_joined : Command → Bool
 is_joined Joined = true
@@ -59,4 +76,6 @@ is_joined _ = false
 -- a request is read as these texts: those of its files, or the two of a joined text
 pub data ReadsAs (r : Request) : Asked → Type 0 where
   as_files : is_joined r.command ≡ false → ReadsAs r (files_of r)
-  as_joined : {text config traffic : List ℕ} {i : ℕ} → is_joined r.command ≡ true → owned_text r.config ≡ Ok text → SplitsAt text i config traffic → ReadsAs r (parts config traffic)
+  as_joined : {text config traffic : List ℕ} {i : ℕ} → is_joined r.command ≡ true
+      → owned_text r.config ≡ Ok text → SplitsAt text i config traffic
+      → ReadsAs r (parts config traffic)

@@ -31,9 +31,13 @@ pub record Accepts (routes : Routes) (text : TextValue) : Type 0 where
 
 -- the first fault: the rank file, its rows, the check
 pub data RanksFault (routes : Routes) (text : TextValue) : Fault → Type 0 where
-  bad_file : {f : InputFault} → IsUnread (ranks_of routes.grid) text f → RanksFault routes text (fault.RankFile f)
-  bad_rows : {rows : List RankRow} {f : RankFault} → read_by (ranks_of routes.grid) text ≡ Ok rows → IsFaultOfRows routes.grid routes.vcs rows f → RanksFault routes text (fault.Rank f routes.grid)
-  bad_ranks : {ranking : Ranking} {f : RankFault} → HasRanking routes text ranking → IsFaultOfCheck routes ranking f → RanksFault routes text (fault.Rank f routes.grid)
+  bad_file : {f : InputFault} → IsUnread (ranks_of routes.grid) text f
+      → RanksFault routes text (fault.RankFile f)
+  bad_rows : {rows : List RankRow} {f : RankFault} → read_by (ranks_of routes.grid) text ≡ Ok rows
+      → IsFaultOfRows routes.grid routes.vcs rows f
+      → RanksFault routes text (fault.Rank f routes.grid)
+  bad_ranks : {ranking : Ranking} {f : RankFault} → HasRanking routes text ranking
+      → IsFaultOfCheck routes ranking f → RanksFault routes text (fault.Rank f routes.grid)
 
 -- the ranks that a command checks: those of a run if there are any, and those of `check`, for which
 -- a file that is not given counts as empty

@@ -18,8 +18,12 @@ look cycles k = cycles + k * DRAIN_CHECK_INTERVAL
 -- limit where there is none
 pub data DrainsBy (net : Setup) (limit cycles : ℕ) : ℕ → Type 0 where
   at_once : limit ≤ cycles → DrainsBy net limit cycles cycles
-  once_out : (k : ℕ) → look cycles k < limit → is_out_at net (look cycles k) ≡ true → ((j : ℕ) → j < k → is_out_at net (look cycles j) ≡ false) → DrainsBy net limit cycles (look cycles k)
-  at_limit : cycles < limit → ((j : ℕ) → look cycles j < limit → is_out_at net (look cycles j) ≡ false) → DrainsBy net limit cycles limit
+  once_out : (k : ℕ) → look cycles k < limit → is_out_at net (look cycles k) ≡ true
+      → ((j : ℕ) → j < k → is_out_at net (look cycles j) ≡ false)
+      → DrainsBy net limit cycles (look cycles k)
+  at_limit : cycles < limit
+      → ((j : ℕ) → look cycles j < limit → is_out_at net (look cycles j) ≡ false)
+      → DrainsBy net limit cycles limit
 
 -- a run that drains ends at `end`, by the limit of its network
 pub record DrainsAt (net : Setup) (cycles end : ℕ) : Type 0 where

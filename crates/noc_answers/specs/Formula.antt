@@ -18,4 +18,6 @@ pub record HasRanks (s : Settings) (g : Grid) (k : Ranking) : Type 0 where
 
 -- why there are none: a table has none, nor has a rule that is not right here
 abbrev pub IsFormulaFault : Settings → Grid → RankFault → Type 0
-IsFormulaFault s g f = MatchOption (rule_named s.rule) (f ≡ NoGenerated) (λ r. IsFaultOfFormula g s.channels s.classes r f)
+IsFormulaFault s g f =
+    MatchOption (rule_named s.rule) (f ≡ NoGenerated)
+    (λ r. IsFaultOfFormula g s.channels s.classes r f)

@@ -16,7 +16,9 @@ is_table _ = false
 
 -- a table file beside another rule, or none beside the rule `table`
 abbrev pub table_fault : RuleName → Bool → Option OptionFault
-table_fault name has_table = if has_table && not (is_table name) then Some SpareTable else (if is_table name && not has_table then Some NoTable else None)
+table_fault name has_table =
+    if has_table && not (is_table name) then Some SpareTable
+    else (if is_table name && not has_table then Some NoTable else None)
 
 -- the command that traces this in the cycles between these
 abbrev pub trace_of : Option ℕ → Option ℕ → Traced → Command
@@ -37,7 +39,8 @@ is_bad_span first last cycles = nat_le cycles first || nat_le cycles last || nat
 -- a cycle to be explained, or a span to be traced, that the run does not have
 abbrev pub cycle_fault : Command → ℕ → Option OptionFault
 cycle_fault (Explain cycle router) cycles = if nat_le cycles cycle then Some BadCycle else None
-cycle_fault (Trace from to router packet verdicts changes) cycles = if is_bad_span (first_cycle from) (last_cycle to cycles) cycles then Some BadCycle else None
+cycle_fault (Trace from to router packet verdicts changes) cycles =
+    if is_bad_span (first_cycle from) (last_cycle to cycles) cycles then Some BadCycle else None
 cycle_fault _ cycles = None
 
 abbrev pub or_option_fault : Option OptionFault → Option OptionFault → Option OptionFault
@@ -46,7 +49,8 @@ or_option_fault (Some fault) later = Some fault
 
 -- the first fault of the options that is looked for before the shape
 abbrev pub early_fault : Command → Bool → Settings → Option OptionFault
-early_fault command has_table s = or_option_fault (table_fault s.rule has_table) (cycle_fault command s.cycles)
+early_fault command has_table s =
+    or_option_fault (table_fault s.rule has_table) (cycle_fault command s.cycles)
 
 -- a router that does not exist
 abbrev pub router_fault : Grid → Option ℕ → Option OptionFault
@@ -68,5 +72,6 @@ number_fault packets (Some packet) = if nat_le packets packet then Some BadPacke
 
 -- the fault of the options that is looked for once the packets are known
 abbrev pub packet_option_fault : Command → ℕ → Option OptionFault
-packet_option_fault (Trace from to router packet verdicts changes) packets = number_fault packets packet
+packet_option_fault (Trace from to router packet verdicts changes) packets =
+    number_fault packets packet
 packet_option_fault _ packets = None

@@ -43,7 +43,8 @@ runs_until_out (command.Run workers report drain) = drain
 runs_until_out _ = false
 
 -- the network of a relation, of buffers of this depth, and of a traffic text
-pub record IsNetworkOf (routes : Routes) (depth : ℕ) (traffic : TextValue) (net : Setup) : Type 0 where
+pub record IsNetworkOf (routes : Routes) (depth : ℕ) (traffic : TextValue) (net : Setup)
+    : Type 0 where
   pub relation : net.relation ≡ routes
   pub depth_is : net.depth ≡ depth
   pub packets : read_by traffic_of traffic ≡ Ok net.packets
@@ -53,12 +54,15 @@ pub record IsNetworkOf (routes : Routes) (depth : ℕ) (traffic : TextValue) (ne
 -- why no network is made of packets: this is their first fault, or memory was
 -- refused where they have none
 abbrev pub IsUnmade : Routes → List Packet → NetFault → Type 0
-IsUnmade routes packets f = (fault_of routes packets ≡ Some f) ⊎ ((f ≡ net.Memory) × (fault_of routes packets ≡ None))
+IsUnmade routes packets f =
+    (fault_of routes packets ≡ Some f) ⊎ ((f ≡ net.Memory) × (fault_of routes packets ≡ None))
 
 -- the first fault: the traffic, then its packets
 pub data PacketsFault (routes : Routes) (traffic : TextValue) : Fault → Type 0 where
-  bad_traffic : {f : InputFault} → IsUnread traffic_of traffic f → PacketsFault routes traffic (fault.Traffic f)
-  bad_network : {packets : List Packet} {f : NetFault} → read_by traffic_of traffic ≡ Ok packets → IsUnmade routes packets f → PacketsFault routes traffic (fault.Network f)
+  bad_traffic : {f : InputFault} → IsUnread traffic_of traffic f
+      → PacketsFault routes traffic (fault.Traffic f)
+  bad_network : {packets : List Packet} {f : NetFault} → read_by traffic_of traffic ≡ Ok packets
+      → IsUnmade routes packets f → PacketsFault routes traffic (fault.Network f)
 
 -- the network that is asked for, once the ranks are checked that are to be
 pub record Opens (a : Asked) (net : Setup) : Type 0 where
@@ -70,7 +74,8 @@ pub record Opens (a : Asked) (net : Setup) : Type 0 where
 -- that network after the cycles that are asked for, or where it has drained
 pub record AsksForRun (a : Asked) (run : Run) : Type 0 where
   pub opens : Opens a run.net
-  pub cycles : RunsTo (runs_until_out a.command) run.net (cycles_asked a.command opens.settings) run.count
+  pub cycles : RunsTo (runs_until_out a.command) run.net
+      (cycles_asked a.command opens.settings) run.count
 
 -- how a run has ended
 abbrev pub ending : Run → Status

@@ -37,11 +37,14 @@ pub record AsksForShape (a : Asked) (s : Settings) (g : Grid) : Type 0 where
 -- the rule of this name: one by formula, or that of the table file's rows
 pub data IsRuleOf (table : Option TextValue) (g : Grid) : RuleName → Rule → Type 0 where
   named : {name : RuleName} {r : Rule} → rule_named name ≡ Some r → IsRuleOf table g name r
-  tabled : {text : TextValue} {rows : Vec RouteRow Global} → table ≡ Some text → read_by (table_of g) text ≡ Ok rows.items → IsRuleOf table g rule_name.Table (rule.Rows rows)
+  tabled : {text : TextValue} {rows : Vec RouteRow Global} → table ≡ Some text
+      → read_by (table_of g) text ≡ Ok rows.items
+      → IsRuleOf table g rule_name.Table (rule.Rows rows)
 
 -- a table file is to be read, and this is why it is not
 pub data RefusesTable (table : Option TextValue) (g : Grid) : RuleName → Fault → Type 0 where
-  bad_table : {text : TextValue} {f : InputFault} → table ≡ Some text → IsUnread (table_of g) text f → RefusesTable table g rule_name.Table (fault.Table f)
+  bad_table : {text : TextValue} {f : InputFault} → table ≡ Some text → IsUnread (table_of g) text f
+      → RefusesTable table g rule_name.Table (fault.Table f)
 
 -- the routing relation of that rule on that shape, with the channels and
 -- the classes of the settings
@@ -56,8 +59,15 @@ pub record AsksForRelation (a : Asked) (s : Settings) (routes : Routes) : Type 0
 -- more, the table, the relation
 pub data SettingsFault (a : Asked) : Fault → Type 0 where
   bad_config : {f : InputFault} → IsUnread config_of a.config f → SettingsFault a (fault.Config f)
-  bad_option : {s : Settings} {f : OptionFault} → read_by config_of a.config ≡ Ok s → early_fault a.command (is_some a.table) s ≡ Some f → SettingsFault a (fault.Option f)
-  bad_shape : {s : Settings} {f : ShapeFault} → AsksForSettings a s → shape_of s.kind s.radix ≡ Err f → SettingsFault a (fault.Shape f)
-  bad_late_option : {s : Settings} {g : Grid} {f : OptionFault} → AsksForSettings a s → shape_of s.kind s.radix ≡ Ok g → late_fault a.command g ≡ Some f → SettingsFault a (fault.Option f)
-  in_table : {s : Settings} {g : Grid} {f : Fault} → AsksForShape a s g → RefusesTable a.table g s.rule f → SettingsFault a f
-  bad_relation : {s : Settings} {g : Grid} {r : Rule} {f : RouteFault} → AsksForShape a s g → IsRuleOf a.table g s.rule r → IsFaultOf (routing_of g s.channels s.classes r) f → SettingsFault a (fault.Relation f g)
+  bad_option : {s : Settings} {f : OptionFault} → read_by config_of a.config ≡ Ok s
+      → early_fault a.command (is_some a.table) s ≡ Some f → SettingsFault a (fault.Option f)
+  bad_shape : {s : Settings} {f : ShapeFault} → AsksForSettings a s
+      → shape_of s.kind s.radix ≡ Err f → SettingsFault a (fault.Shape f)
+  bad_late_option : {s : Settings} {g : Grid} {f : OptionFault} → AsksForSettings a s
+      → shape_of s.kind s.radix ≡ Ok g → late_fault a.command g ≡ Some f
+      → SettingsFault a (fault.Option f)
+  in_table : {s : Settings} {g : Grid} {f : Fault} → AsksForShape a s g
+      → RefusesTable a.table g s.rule f → SettingsFault a f
+  bad_relation : {s : Settings} {g : Grid} {r : Rule} {f : RouteFault} → AsksForShape a s g
+      → IsRuleOf a.table g s.rule r → IsFaultOf (routing_of g s.channels s.classes r) f
+      → SettingsFault a (fault.Relation f g)

@@ -71,8 +71,10 @@ fn accept_if_given(
     text: Option<Bytes<'_>>,
     relation: &Relation,
 ) -> Result<(), Fault>
-    ensures accepted { OnOk result (IfSome (option_map lent_text text.entry) (Accepts relation.now)) }
-    ensures fault { IfErr result (Refuses (λ f. IsSomeAnd (option_map lent_text text.entry) (λ t. RanksFault relation.now t f))) }
+    ensures accepted { OnOk result (IfSome (option_map lent_text text.entry)
+        (Accepts relation.now)) }
+    ensures fault { IfErr result (Refuses
+        (λ f. IsSomeAnd (option_map lent_text text.entry) (λ t. RanksFault relation.now t f))) }
 {
     let Some(text) = text else {
         return Ok(());
@@ -89,7 +91,7 @@ fn ranks_of(alloc: Global, text: Bytes<'_>, relation: &Relation) -> Result<Ranks
     ensures ranks { IfOk result (HasRanking relation.now (lent_text text.entry)) }
     ensures fault { IfErr result (Refuses (RanksFault relation.now (lent_text text.entry))) }
 {
-    let rows = match rows_in(alloc, relation.shape(), text) {
+    let rows = match rank_rows_in(alloc, relation.shape(), text) {
         Ok(rows) => rows,
         Err(fault) => return Err(Fault::RankFile(fault)),
     };
@@ -100,7 +102,7 @@ fn ranks_of(alloc: Global, text: Bytes<'_>, relation: &Relation) -> Result<Ranks
 }
 
 // The rows that a rank file says.
-fn rows_in(alloc: Global, shape: &Shape, text: Bytes<'_>) -> Result<Vec<RankRow>, InputFault>
+fn rank_rows_in(alloc: Global, shape: &Shape, text: Bytes<'_>) -> Result<Vec<RankRow>, InputFault>
     ensures { Gives (λ v. v.items) result (read_by (ranks_of shape.now) (lent_text text.entry)) }
 {
     read_ranks(alloc, shape, text?)

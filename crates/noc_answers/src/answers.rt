@@ -13,7 +13,7 @@ use crate::explain::explain;
 use crate::formula::answer_ranks;
 use crate::request::{Files, Request, files_of};
 use crate::run::{Task, run, run_by_workers};
-use crate::trace::trace;
+use crate::trace::{Span, trace};
 use noc_commands::{Command, Report};
 use noc_faults::{Fault, Status};
 use noc_files::{InputFault, Sink, Traced, split_joined};
@@ -23,7 +23,7 @@ use std::thread::Threads;
 use std::time::Clock;
 
 // A command asks for as many workers as run.
-const _: () = prove!(noc_commands::MAX_WORKERS == noc_tiles::MAX_WORKERS);
+const _: () = prove!(noc_commands::MAX_WORKERS == noc_net::MAX_WORKERS);
 
 /// Writes the report that is asked for, or answers the first fault, with nothing written before it
 /// but the bytes that a write fault counts. The order is: joined text, configuration, options,
@@ -42,9 +42,13 @@ pub fn answer<R: Threads + Wait + Clock + Sync, W: Sink>(
     sink: &mut W,
 ) -> Result<Status, Fault>
     requires { HasWorkers request.now.command }
-    ensures ends { Ends (workers_of request.now.command) (Wrote W.contents W.has_failed sink.old sink.new) (sink.new ≡ sink.old) (Asks request.now) (FirstFault request.now) result }
+    ensures ends { Ends (workers_of request.now.command)
+        (Wrote W.contents W.has_failed sink.old sink.new) (sink.new ≡ sink.old) (Asks request.now)
+        (FirstFault request.now) result }
     ensures ranked { IsRankedRun request.now → IfOk result (λ status. status ≡ done) }
-    ensures drained { IsRankedDrain request.now → IfOk result (λ _. (text : List ℕ) × AsksForArrivals request.now text × Wrote W.contents W.has_failed sink.old sink.new text (Ok tt)) }
+    ensures drained { IsRankedDrain request.now
+        → IfOk result (λ _. (text : List ℕ) × AsksForArrivals request.now text
+        × Wrote W.contents W.has_failed sink.old sink.new text (Ok tt)) }
 {
     match request.command {
         Command::Run {
@@ -70,9 +74,13 @@ pub fn answer_one<W: Sink>(
     request: &Request,
     sink: &mut W,
 ) -> Result<Status, Fault>
-    ensures ends { Ends (workers_of request.now.command) (Wrote W.contents W.has_failed sink.old sink.new) (sink.new ≡ sink.old) (Asks request.now) (FirstFault request.now) result }
+    ensures ends { Ends (workers_of request.now.command)
+        (Wrote W.contents W.has_failed sink.old sink.new) (sink.new ≡ sink.old) (Asks request.now)
+        (FirstFault request.now) result }
     ensures ranked { IsRankedRun request.now → IfOk result (λ status. status ≡ done) }
-    ensures drained { IsRankedDrain request.now → IfOk result (λ _. (text : List ℕ) × AsksForArrivals request.now text × Wrote W.contents W.has_failed sink.old sink.new text (Ok tt)) }
+    ensures drained { IsRankedDrain request.now
+        → IfOk result (λ _. (text : List ℕ) × AsksForArrivals request.now text
+        × Wrote W.contents W.has_failed sink.old sink.new text (Ok tt)) }
 {
     let files = read_request(request)?;
     answer_files(rt, alloc, &files, sink)
@@ -133,7 +141,7 @@ fn answer_files<W: Sink>(
                 verdicts,
                 changes,
             };
-            trace(rt, alloc, files, from, to, traced, sink)
+            trace(rt, alloc, files, Span { from, to }, traced, sink)
         }
         Command::Check => answer_check(rt, alloc, files, sink),
         Command::Ranks => answer_ranks(alloc, files, sink),

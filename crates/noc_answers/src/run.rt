@@ -19,10 +19,9 @@ use crate::request::{Bytes, Files};
 use noc_commands::Report;
 use noc_faults::{Fault, Status};
 use noc_files::{InputFault, MAX_CYCLES, Sink, read_traffic, write_report};
-use noc_net::{Network, NotRun};
+use noc_net::{Network, NotRun, RunFault};
 use noc_packet::{MAX_BUFFER, Packet};
 use noc_route::Relation;
-use noc_tiles::RunFault;
 use std::alloc::Global;
 use std::sync::Wait;
 use std::thread::Threads;
@@ -104,7 +103,8 @@ pub(crate) fn opening_network(
     requires { runs files.now.command ≡ true }
     ensures opening { IfOk result (λ r. r.0.count ≡ 0) }
     ensures cycles { IfOk result (λ r. r.1 ≤ MAX_CYCLES) }
-    ensures network { IfOk result (λ r. (opens : Opens (lent_files files.now) r.0.net) × (r.1 ≡ opens.settings.cycles)) }
+    ensures network { IfOk result (λ r. (opens : Opens (lent_files files.now) r.0.net)
+        × (r.1 ≡ opens.settings.cycles)) }
     ensures fault { IfErr result (Refuses (TextsFault (lent_files files.now))) }
 {
     let (config, relation) = checked_relation(rt, alloc, files)?;
@@ -123,7 +123,8 @@ fn network_of(
     requires some_depth { 0 < depth }
     requires depth { depth ≤ MAX_BUFFER }
     ensures opening { IfOk result (λ n. n.count ≡ 0) }
-    ensures network { IfOk result (λ n. IsNetworkOf relation depth (lent_text traffic.entry) n.net) }
+    ensures network { IfOk result (λ n. IsNetworkOf relation depth
+        (lent_text traffic.entry) n.net) }
     ensures fault { IfErr result (Refuses (PacketsFault relation (lent_text traffic.entry))) }
 {
     let packets = match packets_in(alloc, traffic) {

@@ -28,7 +28,8 @@ struct Layout {
 // options, shape, table, relation.
 pub(crate) fn relation_of(alloc: Global, files: &Files<'_>) -> Result<(Config, Relation), Fault>
     ensures limits { IfOk result (λ r. KeepsLimits r.0) }
-    ensures relation { IfOk result (λ r. AsksForRelation (lent_files files.now) (settings r.0) r.1) }
+    ensures relation { IfOk result (λ r. AsksForRelation (lent_files files.now)
+        (settings r.0) r.1) }
     ensures fault { IfErr result (Refuses (SettingsFault (lent_files files.now))) }
 {
     let Layout { config, shape } = layout_of(alloc, files)?;
@@ -42,7 +43,8 @@ pub(crate) fn relation_of(alloc: Global, files: &Files<'_>) -> Result<(Config, R
 // The configuration and its shape, around which the options are looked at.
 fn layout_of(alloc: Global, files: &Files<'_>) -> Result<Layout, Fault>
     ensures limits { IfOk result (λ r. KeepsLimits r.config) }
-    ensures shape { IfOk result (λ r. AsksForShape (lent_files files.now) (settings r.config) r.shape) }
+    ensures shape { IfOk result (λ r. AsksForShape (lent_files files.now)
+        (settings r.config) r.shape) }
     ensures fault { IfErr result (Refuses (SettingsFault (lent_files files.now))) }
 {
     let config = match config_in(alloc, files.config) {
@@ -152,11 +154,12 @@ fn rule_of(
 ) -> Result<Rule, Fault>
     requires { table_fault name (is_some table) ≡ None }
     ensures rule { IfOk result (IsRuleOf (option_map lent_text table.entry) shape.now name) }
-    ensures fault { IfErr result (Refuses (RefusesTable (option_map lent_text table.entry) shape.now name)) }
+    ensures fault { IfErr result (Refuses
+        (RefusesTable (option_map lent_text table.entry) shape.now name)) }
 {
     match (name.rule(), table) {
         (Some(rule), _) => Ok(rule),
-        (None, Some(text)) => match rows_in(alloc, shape, text) {
+        (None, Some(text)) => match route_rows_in(alloc, shape, text) {
             Ok(rows) => Ok(Rule::Rows(rows)),
             Err(fault) => Err(Fault::Table(fault)),
         },
@@ -165,7 +168,7 @@ fn rule_of(
 }
 
 // The rows that a table file says.
-fn rows_in(alloc: Global, shape: &Shape, text: Bytes<'_>) -> Result<Vec<RouteRow>, InputFault>
+fn route_rows_in(alloc: Global, shape: &Shape, text: Bytes<'_>) -> Result<Vec<RouteRow>, InputFault>
     ensures { Gives (λ v. v.items) result (read_by (table_of shape.now) (lent_text text.entry)) }
 {
     read_table(alloc, shape, text?)

@@ -7,7 +7,7 @@ use Rattle.noc_topo.specs.Shape.{ports}
 use Rattle.noc_packet.specs.Set.{has_bit}
 use Rattle.noc_packet.specs.declared.packet.Packet.{Packet}
 use Rattle.noc_packet.proofs.SetLemmas.{either_members}
-use Rattle.noc_alloc.specs.Sparse.{AreBelow}
+use Rattle.noc_alloc.specs.Members.{MembersAreBelow}
 use Rattle.noc_vc.specs.Input.{is_active, is_waiting}
 use Rattle.noc_vc.specs.Output.{is_free}
 use Rattle.noc_vc.specs.declared.input.InputState.{InputState}
@@ -89,7 +89,7 @@ owned-by m o size Free free draining shows below = absurd (true≢false free)
 owned-by m o size (Owned i p) free draining shows below = subst (λ n. n < size) (sym shows) (below i (eq-eqb i i refl))
 owned-by m o size Draining free draining shows below = absurd (true≢false draining)
 
-pub shown-owned : (count came o : ℕ) (c : Column) (m : RouterMarks) (v : View) → IsColumn count c m v → IsTidy v → AreBelow (size_of v.site) came → has_bit (lane_raised came c) o ≡ true → m.owner o < size_of v.site
+pub shown-owned : (count came o : ℕ) (c : Column) (m : RouterMarks) (v : View) → IsColumn count c m v → IsTidy v → MembersAreBelow (size_of v.site) came → has_bit (lane_raised came c) o ≡ true → m.owner o < size_of v.site
 shown-owned count came o c m v is tidy below e =
     let both = and_parts (has_bit came o) _ (sym (less_members came (bit_or (bit_or (any_from 0 c.credit) c.idle) c.draining) o) ∙ e) in
     let small : o < size_of v.site = below o both.0 in

@@ -1,6 +1,6 @@
 //! Output channels are granted to waiting input channels.
 
-ghost use Rattle.std.specs.Prelude.{◌≡◌, ◌≢◌, ℕ, ◌^◌, ◌<◌, true, false, not, nat_eq, nat_lt, if◌then◌else◌};
+ghost use Rattle.std.specs.Prelude.{◌≡◌, ◌≢◌, ℕ, ◌^◌, ◌<◌, true, false, not, nat_eq, nat_lt, if◌then◌else◌, ⊤};
 ghost use Rattle.noc_packet.specs.Set.{has_bit};
 ghost use Rattle.noc_sets.specs.Column.{Column};
 ghost use Rattle.noc_sets.specs.Grants.{AreAsks, HasAllocated, HasGranted};
@@ -23,16 +23,27 @@ use crate::sends::Sends;
 use noc_lanes::{
     Decided, Inputs, LANES, Lanes, Outputs, Word, alike, at, first_in_turn, put, where_some,
 };
+use std::alloc::AllocError;
 
 // A router of a block: its lane, and where its channels are.
-#[derive(Clone, Copy)]
+#[derive(Copy)]
 struct Router<'a> {
     lane: usize,
     numbering: &'a Numbering,
 }
 
+impl<'a> Clone for Router<'a> {
+    ghost is_clone = { λ x y. y ≡ x };
+
+    ghost is_infallible = { λ _. ⊤ };
+
+    fn clone(&self) -> Result<Router<'a>, AllocError> {
+        Ok(*self)
+    }
+}
+
 // What is asked for.
-#[derive(Clone, Copy)]
+#[derive(Copy)]
 struct Asked<W> {
     // The output channels that are asked for.
     outs: W,
@@ -40,6 +51,16 @@ struct Asked<W> {
     inputs: W,
     // The sets of all waiting channels.
     wanted: W,
+}
+
+impl<W: Copy> Clone for Asked<W> {
+    ghost is_clone = { λ x y. y ≡ x };
+
+    ghost is_infallible = { λ _. ⊤ };
+
+    fn clone(&self) -> Result<Asked<W>, AllocError> {
+        Ok(*self)
+    }
 }
 
 // Each waiting channel asks for the least idle channel of its set.
@@ -170,7 +191,7 @@ fn grant_all<W: Word>(
 }
 
 /// What allocation gives the waiting channels of a router.
-#[derive(Clone, Copy)]
+#[derive(Copy)]
 pub struct Allocated<T> {
     /// The output channels that are granted.
     pub outs: T,
@@ -180,6 +201,16 @@ pub struct Allocated<T> {
     pub granted: T,
     /// The input channels that ask for one and are not granted it.
     pub lost: T,
+}
+
+impl<T: Copy> Clone for Allocated<T> {
+    ghost is_clone = { λ x y. y ≡ x };
+
+    ghost is_infallible = { λ _. ⊤ };
+
+    fn clone(&self) -> Result<Allocated<T>, AllocError> {
+        Ok(*self)
+    }
 }
 
 // The waiting channels of one router ask, and each channel that is asked for is granted.
@@ -217,7 +248,7 @@ fn allocate_router<W: Word>(
     }
 }
 
-// .. of one router of a block.
+// In one router of a block the waiting channels ask, and each channel that is asked for is granted.
 fn allocate_lane<W: Word>(
     router: &Router<'_>,
     inputs: &mut Inputs<Lanes<W>>,

@@ -35,8 +35,8 @@ pub fn take_credits<W: Word>(
     }
 }
 
-// .. where it is told whether they are deep. (Where this is known, planes that are not needed cost
-// nothing.)
+// Counts the credits that have come, where it is told whether counts are deep. (Where this is
+// known, planes that are not needed cost nothing.)
 #[inline(always)]
 fn take_all<W: Word>(
     frame: &Frame<W>,

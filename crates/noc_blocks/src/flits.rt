@@ -1,6 +1,6 @@
 //! The flits that have come land, and sources inject.
 
-ghost use Rattle.std.specs.Prelude.{◌≡◌, ◌≢◌, ◌<◌, ◌-◌, ◌&&◌, ℕ, bit_or, not, nat_eq, nat_le, if◌then◌else◌};
+ghost use Rattle.std.specs.Prelude.{◌≡◌, ◌≢◌, ◌<◌, ◌-◌, ◌&&◌, ℕ, bit_or, not, nat_eq, nat_le, if◌then◌else◌, ⊤};
 ghost use Rattle.noc_packet.specs.Set.{has_bit};
 ghost use Rattle.noc_sets.specs.Passes.{injecting_after, lane_landed};
 ghost use Rattle.noc_lanes.specs.Channels.{arrived_by, inputs_by, links_by, source_by};
@@ -11,9 +11,10 @@ ghost use Rattle.noc_blocks.specs.Steps.{TakesFlits, ends_in, with_head};
 
 use crate::frame::Frame;
 use noc_lanes::{Arrived, Inputs, LANES, Lanes, Links, Source, Word, at, lane_if, put, where_some};
+use std::alloc::AllocError;
 
 /// The lanes in which a packet may begin, and those in which the last flit of one is injected.
-#[derive(Clone, Copy)]
+#[derive(Copy)]
 pub struct Coming {
     /// A packet that is due may begin.
     pub beginning: u32,
@@ -21,6 +22,16 @@ pub struct Coming {
     pub finishing: u32,
     /// A flit lands or is injected.
     pub landing: u32,
+}
+
+impl Clone for Coming {
+    ghost is_clone = { λ x y. y ≡ x };
+
+    ghost is_infallible = { λ _. ⊤ };
+
+    fn clone(&self) -> Result<Coming, AllocError> {
+        Ok(*self)
+    }
 }
 
 /// The flits that have come land, and of a packet that has begun a flit is injected where there is
@@ -80,7 +91,7 @@ struct Alike<'a, W> {
     deep: bool,
 }
 
-// .. where it is told whether their counts are deep.
+// Takes what comes to all channels, where it is told whether their counts are deep.
 #[inline(always)]
 fn take_all<W: Word>(
     alike: &Alike<'_, W>,
@@ -166,13 +177,23 @@ pub fn land_head<W: Word>(
 
 // What one router has once these flits have come, and the channels into which the last flit of a
 // packet is injected.
-#[derive(Clone, Copy)]
+#[derive(Copy)]
 struct Taken<T> {
     inputs: Inputs<T>,
     source: Source<T>,
     arrived: Arrived<T>,
     ends: T,
     landed: T,
+}
+
+impl<T: Copy> Clone for Taken<T> {
+    ghost is_clone = { λ x y. y ≡ x };
+
+    ghost is_infallible = { λ _. ⊤ };
+
+    fn clone(&self) -> Result<Taken<T>, AllocError> {
+        Ok(*self)
+    }
 }
 
 // One router with these flits.

@@ -1,6 +1,6 @@
 //! Heads are routed in the routers of a block.
 
-ghost use Rattle.std.specs.Prelude.{◌≡◌, ℕ, ◌+◌, ◌<◌, ◌≤◌, true, not, nat_eq};
+ghost use Rattle.std.specs.Prelude.{◌≡◌, ℕ, ◌+◌, ◌<◌, ◌≤◌, true, not, nat_eq, ⊤};
 ghost use Rattle.noc_packet.specs.Set.{has_bit};
 ghost use Rattle.noc_topo.specs.Shape.{nodes};
 ghost use Rattle.noc_route.specs.Routes.{width};
@@ -15,9 +15,10 @@ use crate::numbering::Numbering;
 use crate::route::route_router;
 use noc_lanes::{LANES, Lanes, Word, at, put};
 use noc_route::Relation;
+use std::alloc::AllocError;
 
 /// What heads are routed by.
-#[derive(Clone, Copy)]
+#[derive(Copy)]
 pub struct Guide<'a> {
     /// The channels that packets may take.
     pub relation: &'a Relation,
@@ -25,6 +26,16 @@ pub struct Guide<'a> {
     pub numbering: &'a Numbering,
     /// The headers of the packets, by number.
     pub headers: &'a [Header],
+}
+
+impl<'a> Clone for Guide<'a> {
+    ghost is_clone = { λ x y. y ≡ x };
+
+    ghost is_infallible = { λ _. ⊤ };
+
+    fn clone(&self) -> Result<Guide<'a>, AllocError> {
+        Ok(*self)
+    }
 }
 
 /// In each of these lanes heads are routed, and the channels that they may take are wanted. The

@@ -1,6 +1,6 @@
 //! The sources of the routers of a block: packets begin, and sources go on to their next packets.
 
-ghost use Rattle.std.specs.Prelude.{◌≡◌, ◌≢◌, ℕ, ◌+◌, ◌^◌, ◌<◌, true, length, not, nat_eq, slice_index};
+ghost use Rattle.std.specs.Prelude.{◌≡◌, ◌≢◌, ℕ, ◌+◌, ◌^◌, ◌<◌, true, length, not, nat_eq, slice_index, ⊤};
 ghost use Rattle.noc_packet.specs.Set.{has_bit};
 ghost use Rattle.noc_sets.specs.Column.{RouterMarks};
 ghost use Rattle.noc_lanes.specs.Lanes.{word};
@@ -13,14 +13,25 @@ use crate::flits::land_head;
 use crate::marks::Marks;
 use crate::sources::Start;
 use noc_lanes::{Arrived, Inputs, LANES, Lanes, Source, Word, at, put};
+use std::alloc::AllocError;
 
 /// The sources of the routers of a block.
-#[derive(Clone, Copy)]
+#[derive(Copy)]
 pub struct Sources<T> {
     /// What is being injected, and when the next packet is due.
     pub words: Source<T>,
     /// The place of the next packet in the list of all.
     pub queue: [u32; LANES],
+}
+
+impl<T: Copy> Clone for Sources<T> {
+    ghost is_clone = { λ x y. y ≡ x };
+
+    ghost is_infallible = { λ _. ⊤ };
+
+    fn clone(&self) -> Result<Sources<T>, AllocError> {
+        Ok(*self)
+    }
 }
 
 /// In each of these lanes the source goes on to its next packet.
@@ -71,7 +82,7 @@ pub fn begin_all<W: Word>(
     }
 }
 
-// .. of one router.
+// The next packet of one router begins, and its head lands.
 fn begin_lane<W: Word>(
     starts: &[Start],
     lane: usize,

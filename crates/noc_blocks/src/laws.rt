@@ -3,7 +3,7 @@
 ghost use Rattle.std.specs.Prelude.{◌≡◌, ◌≢◌, ℕ, ◌+◌, ◌<◌, ◌≤◌, true, List, length};
 ghost use Rattle.noc_topo.specs.Shape.{ports};
 ghost use Rattle.noc_packet.specs.Set.{has_bit};
-ghost use Rattle.noc_alloc.specs.Sparse.{AreBelow};
+ghost use Rattle.noc_alloc.specs.Members.{MembersAreBelow};
 ghost use Rattle.noc_view.specs.View.{View, size_of};
 ghost use Rattle.noc_sets.specs.Column.{Column, IsColumn, IsTidy, RouterMarks};
 ghost use Rattle.noc_sets.specs.Counts.{ByVerdict};
@@ -71,6 +71,6 @@ pub fn starts_go_on()
 /// An output channel that had no credit and to which one comes is owned by an input channel.
 pub fn raised_channels_are_owned()
     ensures { (count came o : ℕ) (c : Column) (m : RouterMarks) (v : View)
-        → IsColumn count c m v → IsTidy v → AreBelow (size_of v.site) came
+        → IsColumn count c m v → IsTidy v → MembersAreBelow (size_of v.site) came
         → has_bit (lane_raised came c) o ≡ true → m.owner o < size_of v.site }
 {}

@@ -1,6 +1,6 @@
 //! What the links bring to the routers of a block, out of rows of what has left all routers.
 
-ghost use Rattle.std.specs.Prelude.{◌≡◌, ℕ, ◌+◌, ◌<◌, ◌≤◌, bit_and, map};
+ghost use Rattle.std.specs.Prelude.{◌≡◌, ℕ, ◌+◌, ◌<◌, ◌≤◌, bit_and, map, ⊤};
 ghost use Rattle.noc_topo.specs.Shape.{Grid, local_port, nodes};
 ghost use Rattle.noc_sets.specs.Gather.{gathered_row};
 ghost use Rattle.noc_lanes.specs.Channels.{links_by};
@@ -10,6 +10,7 @@ ghost use Rattle.noc_blocks.specs.Sides.{AreSides, FitsRow, brought_links, broug
 
 use crate::frame::PORTS;
 use noc_lanes::{LANES, Lanes, Links, Word, alike, at};
+use std::alloc::AllocError;
 
 /// How many words of a row stand in front of that of the first router, and behind all.
 pub const ROOM: usize = 256;
@@ -19,7 +20,7 @@ pub const ROW: usize = 768;
 
 /// Where the words of the neighbours at one distance stand in a row, by port, and which of their
 /// channels lead here.
-#[derive(Clone, Copy)]
+#[derive(Copy)]
 pub struct Side<T> {
     /// By port, the place of the word of the first router's neighbour.
     pub starts: [usize; PORTS],
@@ -28,8 +29,18 @@ pub struct Side<T> {
     pub masks: [T; PORTS],
 }
 
+impl<T: Copy> Clone for Side<T> {
+    ghost is_clone = { λ x y. y ≡ x };
+
+    ghost is_infallible = { λ _. ⊤ };
+
+    fn clone(&self) -> Result<Side<T>, AllocError> {
+        Ok(*self)
+    }
+}
+
 /// Where the words that the links bring to a block stand in a row.
-#[derive(Clone, Copy)]
+#[derive(Copy)]
 pub struct Sides<T> {
     /// Of the neighbours that are one stride away.
     pub straight: Side<T>,
@@ -39,8 +50,18 @@ pub struct Sides<T> {
     pub closes: bool,
 }
 
+impl<T: Copy> Clone for Sides<T> {
+    ghost is_clone = { λ x y. y ≡ x };
+
+    ghost is_infallible = { λ _. ⊤ };
+
+    fn clone(&self) -> Result<Sides<T>, AllocError> {
+        Ok(*self)
+    }
+}
+
 // What is the same for all routers of a block.
-#[derive(Clone, Copy)]
+#[derive(Copy)]
 struct Ways {
     // How many virtual channels a port has.
     width: u32,
@@ -50,8 +71,18 @@ struct Ways {
     closes: bool,
     // By port, the place of the word of the first router's neighbour that is one stride away.
     straight: [usize; PORTS],
-    // .. and of the one that is a span away.
+    // By port, the place of the word of the neighbour that is a span away.
     round: [usize; PORTS],
+}
+
+impl Clone for Ways {
+    ghost is_clone = { λ x y. y ≡ x };
+
+    ghost is_infallible = { λ _. ⊤ };
+
+    fn clone(&self) -> Result<Ways, AllocError> {
+        Ok(*self)
+    }
 }
 
 /// What so many link ports bring to each router of a block, of `width` virtual channels each, out
@@ -101,7 +132,8 @@ fn gather_sides<W: Word>(
     }
 }
 
-// .. by any number of ports. (A call of its own, so that the others save no registers for it.)
+// What both sides bring by any number of ports. (A call of its own, so that the others save no
+// registers for it.)
 #[inline(never)]
 fn gather_any<W: Word>(
     width: u32,
@@ -119,7 +151,8 @@ fn gather_any<W: Word>(
     gather_by(width, links, sides, rows, into);
 }
 
-// .. by so many ports. (Whether there are rings is known in each of the two calls.)
+// What both sides bring by so many ports. (Whether there are rings is known in each of the two
+// calls.)
 #[inline(always)]
 fn gather_by<W: Word>(
     width: u32,
@@ -141,9 +174,9 @@ fn gather_by<W: Word>(
     }
 }
 
-// .. lane by lane. (The three rows are read together, so that the masks are read once. What is
-// brought is in a value of its own before it is written, as the compiler does not know that it is
-// written nowhere into the rows.)
+// What both sides bring, lane by lane. (The three rows are read together, so that the masks are
+// read once. What is brought is in a value of its own before it is written, as the compiler does
+// not know that it is written nowhere into the rows.)
 #[inline(always)]
 fn gather_lanes<W: Word>(
     ways: &Ways,
@@ -208,7 +241,8 @@ fn brought_links<W: Word>(
     }
 }
 
-// .. out of one row. (What is moved the same way is joined first, and moved once.)
+// What is brought to one router out of one row. (What is moved the same way is joined first, and
+// moved once.)
 #[inline(always)]
 fn brought_to<W: Word>(ways: &Ways, sides: &Sides<Lanes<W>>, row: &[W; ROW], lane: usize) -> W
     requires width { ways.now.width < W.bits }
@@ -260,7 +294,7 @@ fn sent_by<W: Word>(
     }
 }
 
-// .. from one place of a row: the channels of a mask.
+// What the neighbour at one place of a row sends: the channels of a mask.
 #[inline(always)]
 fn sent_from<W: Word>(row: &[W; ROW], place: usize, mask: &Lanes<W>, lane: usize) -> W
     requires place { place < ROW }

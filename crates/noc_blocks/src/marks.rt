@@ -1,15 +1,16 @@
 //! What the channels of a router have, which is read and written one by one.
 
-ghost use Rattle.std.specs.Prelude.{◌≡◌, ◌≢◌, ℕ, ◌<◌};
+ghost use Rattle.std.specs.Prelude.{◌≡◌, ◌≢◌, ℕ, ◌<◌, ⊤};
 ghost use Rattle.noc_lanes.specs.Lanes.{word};
 
 use noc_lanes::Word;
+use std::alloc::AllocError;
 
 /// How many channels a router has places for.
 pub const PLACES: usize = 64;
 
 /// What one router has by channel.
-#[derive(Clone, Copy)]
+#[derive(Copy)]
 pub struct Marks<T> {
     /// By waiting input channel, the output channels that it may take.
     pub set: [T; PLACES],
@@ -21,6 +22,16 @@ pub struct Marks<T> {
     pub packet: [u32; PLACES],
     /// By owned output channel, its input channel.
     pub owner: [u8; PLACES],
+}
+
+impl<T: Copy> Clone for Marks<T> {
+    ghost is_clone = { λ x y. y ≡ x };
+
+    ghost is_infallible = { λ _. ⊤ };
+
+    fn clone(&self) -> Result<Marks<T>, AllocError> {
+        Ok(*self)
+    }
 }
 
 /// The word at a place of a table.

@@ -1,6 +1,6 @@
 //! The switch: of each output port of each router one flit moves, where one is picked.
 
-ghost use Rattle.std.specs.Prelude.{◌≡◌, ◌≢◌, ◌*◌, ◌/◌, ◌^◌, ◌<◌, ℕ, bit_or, nat_eq, nat_lt, if◌then◌else◌};
+ghost use Rattle.std.specs.Prelude.{◌≡◌, ◌≢◌, ◌*◌, ◌/◌, ◌^◌, ◌<◌, ℕ, bit_or, nat_eq, nat_lt, if◌then◌else◌, ⊤};
 ghost use Rattle.noc_packet.specs.Set.{has_bit};
 ghost use Rattle.noc_sets.specs.Moves.{HasAdvanced, dry_by, selected_by};
 ghost use Rattle.noc_sets.specs.Sets.{of_one};
@@ -16,6 +16,7 @@ use crate::frame::Frame;
 use crate::ports::Ports;
 use crate::sends::Digits;
 use noc_lanes::{LANES, Lanes, Moves, Word, at, first_in_turn, put, where_some};
+use std::alloc::AllocError;
 
 /// Of each output port of each router one of the picked channels moves a flit. The pointer of the
 /// port goes on, and who takes the last credit of its output channel runs dry.
@@ -46,7 +47,7 @@ pub fn move_by_ports<W: Word>(
     }
 }
 
-// .. where so many bits tell the virtual channels that the picked channels own.
+// Picked channels move flits, where so many bits tell the virtual channels that they own.
 #[inline(always)]
 fn move_by_bits<W: Word>(
     frame: &Frame<W>,
@@ -78,10 +79,20 @@ fn move_by_bits<W: Word>(
 
 // How many ports a router has, and how many bits tell the virtual channel that a picked channel
 // owns.
-#[derive(Clone, Copy)]
+#[derive(Copy)]
 struct Extent {
     ports: usize,
     bits: usize,
+}
+
+impl Clone for Extent {
+    ghost is_clone = { λ x y. y ≡ x };
+
+    ghost is_infallible = { λ _. ⊤ };
+
+    fn clone(&self) -> Result<Extent, AllocError> {
+        Ok(*self)
+    }
 }
 
 impl Extent {
@@ -94,8 +105,9 @@ impl Extent {
     }
 }
 
-// .. of so many ports too. (Where these numbers are known, the loop over ports is unrolled, and
-// bits that are not needed cost nothing.)
+// Picked channels of so many ports move flits, where so many bits tell the virtual channels that
+// they own. (Where these numbers are known, the loop over ports is unrolled, and bits that are not
+// needed cost nothing.)
 #[inline(always)]
 fn move_all<W: Word>(
     frame: &Frame<W>,
@@ -126,7 +138,7 @@ fn move_all<W: Word>(
     }
 }
 
-// .. of one router.
+// The picked channels of one router that move a flit, and what goes with it.
 #[inline(always)]
 fn moves_of<W: Word>(
     frame: &Frame<W>,

@@ -1,6 +1,6 @@
 //! By which output channels the active input channels of the routers of a block send.
 
-ghost use Rattle.std.specs.Prelude.{◌≡◌, ◌<◌, ℕ, true};
+ghost use Rattle.std.specs.Prelude.{◌≡◌, ◌<◌, ℕ, true, ⊤};
 ghost use Rattle.noc_packet.specs.Set.{has_bit};
 ghost use Rattle.noc_sets.specs.Planes.{plane_number};
 ghost use Rattle.noc_lanes.specs.Lanes.{word};
@@ -9,9 +9,10 @@ ghost use Rattle.noc_blocks.specs.Ports.{AreEnough, digits_of};
 use crate::frame::PORTS;
 use crate::some::share_some;
 use noc_lanes::{LANES, Lanes, Word, at, at_where};
+use std::alloc::AllocError;
 
 /// A number, 0 to 7, of each channel, bit by bit.
-#[derive(Clone, Copy)]
+#[derive(Copy)]
 pub struct Digits<T> {
     /// The channels whose number has bit 0.
     pub ones: T,
@@ -19,6 +20,16 @@ pub struct Digits<T> {
     pub twos: T,
     /// The channels whose number has bit 2.
     pub fours: T,
+}
+
+impl<T: Copy> Clone for Digits<T> {
+    ghost is_clone = { λ x y. y ≡ x };
+
+    ghost is_infallible = { λ _. ⊤ };
+
+    fn clone(&self) -> Result<Digits<T>, AllocError> {
+        Ok(*self)
+    }
 }
 
 impl<W: Word> Digits<Lanes<W>> {
@@ -55,10 +66,20 @@ impl<W: Word> Digits<Lanes<W>> {
 }
 
 /// By which output channel each active input channel sends.
-#[derive(Clone, Copy)]
+#[derive(Copy)]
 pub struct Sends<T> {
     /// By output port, the active input channels that own a channel of it.
     pub to_port: [T; PORTS],
     /// Which virtual channel of its port each of them owns.
     pub vc: Digits<T>,
+}
+
+impl<T: Copy> Clone for Sends<T> {
+    ghost is_clone = { λ x y. y ≡ x };
+
+    ghost is_infallible = { λ _. ⊤ };
+
+    fn clone(&self) -> Result<Sends<T>, AllocError> {
+        Ok(*self)
+    }
 }

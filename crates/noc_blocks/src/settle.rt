@@ -30,7 +30,8 @@ pub fn settle_inputs<W: Word>(
     }
 }
 
-// .. where it is told whether their counts are deep.
+// What was decided takes effect on all input channels, where it is told whether their counts are
+// deep.
 #[inline(always)]
 fn settle_all_inputs<W: Word>(
     frame: &Frame<W>,
@@ -101,7 +102,8 @@ pub fn settle_outputs<W: Word>(
     }
 }
 
-// .. where it is told whether their counts are deep.
+// Moves and tails take effect on all output channels, where it is told whether their counts are
+// deep.
 #[inline(always)]
 fn settle_all_outputs<W: Word>(
     frame: &Frame<W>,

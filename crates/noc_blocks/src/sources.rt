@@ -1,12 +1,14 @@
 //! The packets that start at the routers.
 
-ghost use Rattle.std.specs.Prelude.{◌<◌};
+ghost use Rattle.std.specs.Prelude.{◌<◌, ◌≡◌, ⊤};
+
+use std::alloc::AllocError;
 
 /// Later than each cycle.
 pub const NEVER: u32 = 0xffff_ffff;
 
 /// A packet that starts at a router.
-#[derive(Clone, Copy)]
+#[derive(Copy)]
 pub struct Start {
     /// The number of the packet.
     pub number: u32,
@@ -15,6 +17,16 @@ pub struct Start {
     /// The cycle in which it is due.
     pub due: u32,
     ghost some: { 0 < length },
+}
+
+impl Clone for Start {
+    ghost is_clone = { λ x y. y ≡ x };
+
+    ghost is_infallible = { λ _. ⊤ };
+
+    fn clone(&self) -> Result<Start, AllocError> {
+        Ok(*self)
+    }
 }
 
 /// Behind the packets of a router.

@@ -1,7 +1,7 @@
 //! What each input channel can do: heads, ready channels, and of each input port the one that is
 //! picked.
 
-ghost use Rattle.std.specs.Prelude.{◌≡◌, ◌<◌, ℕ, not, nat_eq, bit_and, if◌then◌else◌};
+ghost use Rattle.std.specs.Prelude.{◌≡◌, ◌<◌, ℕ, not, nat_eq, bit_and, if◌then◌else◌, ⊤};
 ghost use Rattle.noc_packet.specs.Set.{has_bit};
 ghost use Rattle.noc_sets.specs.Passes.{lane_asks};
 ghost use Rattle.noc_lanes.specs.Channels.{inputs_by, outputs_by, standing_by};
@@ -12,14 +12,25 @@ ghost use Rattle.noc_blocks.specs.Steps.{Stands};
 
 use crate::frame::Frame;
 use noc_lanes::{Inputs, LANES, Lanes, Outputs, Standing, Word, at, lane_if};
+use std::alloc::AllocError;
 
 /// The lanes in which something is to be done one by one.
-#[derive(Clone, Copy)]
+#[derive(Copy)]
 pub struct Pending {
     /// A head is there.
     pub heading: u32,
     /// An idle output channel may be in the set of a waiting channel.
     pub asking: u32,
+}
+
+impl Clone for Pending {
+    ghost is_clone = { λ x y. y ≡ x };
+
+    ghost is_infallible = { λ _. ⊤ };
+
+    fn clone(&self) -> Result<Pending, AllocError> {
+        Ok(*self)
+    }
 }
 
 /// What each input channel can do, where these are filled.

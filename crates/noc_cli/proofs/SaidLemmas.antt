@@ -1,18 +1,8 @@
 -- The number that an argument of the command line says, as it is read.
-use Rattle.std.proofs.Common.{◌≡◌, ℕ, List, Option, Some, None, Result, ap, inl, inr, refl}
-use Rattle.std.specs.Prelude.{unwrap_or}
+use Rattle.std.proofs.Common.{◌≡◌, ℕ, List, Option, Some, None, Result, refl}
 use Rattle.std.specs.Str.Parse.{ParsesUnsigned}
 use Rattle.clap.specs.Words.{ReadsOne}
-use Rattle.noc_cli.specs.Args.{IsSaid, IsSaidIfAny}
-
--- an argument that is read as a number of 64 bits says what is read
-pub said : {E : Type 0} (X Y : List ℕ → Result ℕ E → Type 0) (arg : Option (List ℕ)) (read : Option ℕ) (other : ℕ)
-    → (arg ≡ None → read ≡ None)
-    → ((t : List ℕ) → arg ≡ Some t → ReadsOne (λ bs r. ParsesUnsigned 64 10 bs r × X bs r × Y bs r) t read)
-    → IsSaid arg other (unwrap_or read other)
-said X Y None read other none value = ap (λ (r : Option ℕ). unwrap_or r other) (none refl)
-said X Y (Some t) (Some n) other none value = inl (value t refl).0
-said X Y (Some t) None other none value = inr ((value t refl).1.0, refl)
+use Rattle.noc_cli.specs.Args.{IsSaidIfAny}
 
 -- an argument, if there is one, that is read as a number of 64 bits says what is read
 pub said_if_any : {E : Type 0} (X Y : List ℕ → Result ℕ E → Type 0) (arg : Option (List ℕ)) (read : Option ℕ)

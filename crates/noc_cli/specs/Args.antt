@@ -1,5 +1,5 @@
 -- What the arguments of the command line say.
-use Rattle.std.specs.Prelude.{◌≡◌, ◌≢◌, ◌⊎◌, ◌<◌, ◌≤◌, ◌^◌, ℕ, All, Bool, true, false, List, [], Option, Some, None, codes, option_map, unwrap_or}
+use Rattle.std.specs.Prelude.{◌≡◌, ◌≢◌, ◌⊎◌, ◌<◌, ◌≤◌, ◌^◌, ℕ, All, Bool, true, false, List, Option, Some, None, codes, option_map}
 use Rattle.std.specs.Str.Parse.{IsNumeral, digits_value, without_leading_plus}
 use Rattle.clap.specs.Kinds.{IsAmong}
 use Rattle.clap.specs.Words.{Row, Text, fault_of, first_value, kind_of, one_text, rows_of, subcommand_of}
@@ -21,14 +21,9 @@ use Rattle.noc_cli.specs.declared.args.Args.{Args}
 
 -- a number of 64 bits in decimal digits, with or without a plus before them
 abbrev pub IsNumber : List ℕ → Type 0
-IsNumber text = IsNumeral 10 (without_leading_plus text) × (digits_value 10 (without_leading_plus text) < 2 ^ 64)
-
--- the number that an argument says, and the other one where there is no argument. (An argument that
--- is no number stands for the other one too, so that this holds of some number whatever is found;
--- `clap`'s rules refuse such an argument before anything is asked for.)
-abbrev pub IsSaid : Option (List ℕ) → ℕ → ℕ → Type 0
-IsSaid None other n = n ≡ other
-IsSaid (Some text) other n = (IsNumber text × (n ≡ digits_value 10 (without_leading_plus text))) ⊎ ((IsNumber text → ⊥) × (n ≡ other))
+IsNumber text =
+    IsNumeral 10 (without_leading_plus text)
+    × (digits_value 10 (without_leading_plus text) < 2 ^ 64)
 
 -- the number that an argument says, if there is an argument and it is a number (no other argument
 -- comes through `clap`'s rules)
@@ -37,18 +32,21 @@ IsSaidIfAny None n = n ≡ None
 IsSaidIfAny (Some text) (Some n) = IsNumber text × (n ≡ digits_value 10 (without_leading_plus text))
 IsSaidIfAny (Some text) None = IsNumber text → ⊥
 
--- this number of workers, if it is 1 to 16
-abbrev pub IsWorkers : ℕ → Option ℕ → Type 0
-IsWorkers n (Some workers) = workers ≡ n
-IsWorkers n None = (n < 1) ⊎ (MAX_WORKERS < n)
-
--- the number of workers that the arguments say, which is 1 where they say none
+-- the arguments say this number of workers
 abbrev pub SaysWorkers : Found → ℕ → Type 0
-SaysWorkers found workers = IsSaid (one_text found (codes "workers")) 1 workers
+SaysWorkers found workers = IsSaidIfAny (one_text found (codes "workers")) (Some workers)
+
+-- they say no number of workers from 1 to MAX_WORKERS
+abbrev pub SaysNoWorkers : Found → Type 0
+SaysNoWorkers found =
+    IsSaidIfAny (one_text found (codes "workers")) None
+    ⊎ ((n : ℕ) × SaysWorkers found n × ((n < 1) ⊎ (MAX_WORKERS < n)))
 
 -- the report that an argument names, and the latency report where it names none
 abbrev pub IsReport : Option Text → Report → Type 0
-IsReport arg report = (arg ≡ Some (name_of report)) ⊎ (All (λ other. arg ≢ Some other) report_names × (report ≡ Latency))
+IsReport arg report =
+    (arg ≡ Some (name_of report))
+    ⊎ (All (λ other. arg ≢ Some other) report_names × (report ≡ Latency))
 
 -- the verdicts that an argument names, and none where there is no argument
 abbrev pub AreVerdicts : Option Text → Option VerdictSet → Type 0
@@ -70,24 +68,37 @@ pub record IsFlag (arg : Option Text) (is_up : Bool) : Type 0 where
 -- the command of a name, by what is found of its arguments
 abbrev pub IsCommand : Found → Text → Command → Type 0
 IsCommand found name Joined = ⊥
-IsCommand found name (Run workers report drain) = (name ≡ codes "run") × SaysWorkers found workers × (0 < workers) × (workers ≤ MAX_WORKERS) × IsReport (first_value found (codes "report")) report × IsFlag (one_text found (codes "drain")) drain
-IsCommand found name (Explain cycle router) = (name ≡ codes "explain") × IsSaid (one_text found (codes "cycle")) 0 cycle × IsSaid (one_text found (codes "router")) 0 router
-IsCommand found name (Trace from to router packet verdicts changes) = (name ≡ codes "trace") × IsSaidIfAny (one_text found (codes "from")) from × IsSaidIfAny (one_text found (codes "to")) to
-    × IsSaidIfAny (one_text found (codes "router")) router × IsSaidIfAny (one_text found (codes "packet")) packet
-    × AreVerdicts (first_value found (codes "verdict")) verdicts × IsFlag (one_text found (codes "changes")) changes
+IsCommand found name (Run workers report drain) =
+    (name ≡ codes "run") × SaysWorkers found workers × (0 < workers) × (workers ≤ MAX_WORKERS)
+    × IsReport (first_value found (codes "report")) report
+    × IsFlag (one_text found (codes "drain")) drain
+IsCommand found name (Explain cycle router) =
+    (name ≡ codes "explain") × IsSaidIfAny (one_text found (codes "cycle")) (Some cycle)
+    × IsSaidIfAny (one_text found (codes "router")) (Some router)
+IsCommand found name (Trace from to router packet verdicts changes) =
+    (name ≡ codes "trace") × IsSaidIfAny (one_text found (codes "from")) from
+    × IsSaidIfAny (one_text found (codes "to")) to
+    × IsSaidIfAny (one_text found (codes "router")) router
+    × IsSaidIfAny (one_text found (codes "packet")) packet
+    × AreVerdicts (first_value found (codes "verdict")) verdicts
+    × IsFlag (one_text found (codes "changes")) changes
 IsCommand found name Check = name ≡ codes "check"
 IsCommand found name Ranks = name ≡ codes "ranks"
 
--- no command has the name, or it is `run` with no worker or more than MAX_WORKERS, or `trace`
--- with what names no verdicts
+-- no command has the name, or it is `run` with no number of workers from 1 to MAX_WORKERS, or
+-- `explain` without a cycle or a router, or `trace` with what names no verdicts
 abbrev pub IsNoCommand : Found → Text → Type 0
-IsNoCommand found name = ((name ≡ codes "run") × ((n : ℕ) × SaysWorkers found n × ((n < 1) ⊎ (MAX_WORKERS < n))))
+IsNoCommand found name = ((name ≡ codes "run") × SaysNoWorkers found)
+    ⊎ (((name ≡ codes "explain")
+    × (IsSaidIfAny (one_text found (codes "cycle")) None
+    ⊎ IsSaidIfAny (one_text found (codes "router")) None))
     ⊎ (((name ≡ codes "trace") × AreNoVerdicts (first_value found (codes "verdict")))
-    ⊎ ((name ≢ codes "run") × (name ≢ codes "explain") × (name ≢ codes "trace") × (name ≢ codes "check") × (name ≢ codes "ranks")))
+    ⊎ ((name ≢ codes "run") × (name ≢ codes "explain") × (name ≢ codes "trace")
+    × (name ≢ codes "check") × (name ≢ codes "ranks"))))
 
 -- the names of a command's files
 pub record NamesFiles (found : Found) (args : Args) : Type 0 where
-  pub config : args.config.now ≡ unwrap_or (first_value found (codes "CONFIG")) []
+  pub config : first_value found (codes "CONFIG") ≡ Some args.config.now
   pub table : option_map (λ name. name.now) args.table ≡ first_value found (codes "table")
   pub ranks : option_map (λ name. name.now) args.ranks ≡ first_value found (codes "ranks")
   pub traffic : option_map (λ name. name.now) args.traffic ≡ first_value found (codes "TRAFFIC")
@@ -100,19 +111,26 @@ pub record IsRequestIn (met : Option (Text × List Row)) (args : Args) : Type 0 
   pub command : IsCommand found name args.command
   pub files : NamesFiles found args
 
--- no command was met among arguments, or it asks for no worker or for more than MAX_WORKERS, or for
--- what is no verdict: what is told of that
+-- no command was met among arguments, or what was met is none, or it names no configuration: what
+-- is told of that
 abbrev pub IsNoRequest : Option (Text × List Row) → ErrorKind → Type 0
 IsNoRequest None kind = kind ≡ MissingSubcommand
-IsNoRequest (Some met) kind = (found : Found) × (met.1 ≡ rows_of found) × IsNoCommand found met.0 × (kind ≡ ValueValidation)
+IsNoRequest (Some met) kind = (found : Found) × (met.1 ≡ rows_of found)
+    × (IsNoCommand found met.0 ⊎ (first_value found (codes "CONFIG") ≡ None))
+    × (kind ≡ ValueValidation)
 
 -- the arguments behind the program's name name a command, and this is what they say of it
 abbrev pub IsAskedBy : List Text → Args → Type 0
-IsAskedBy texts args = (names : ValueParser) × TakesReports names × IsRequestIn (subcommand_of (command_line names) texts) args
+IsAskedBy texts args =
+    (names : ValueParser) × TakesReports names
+    × IsRequestIn (subcommand_of (command_line names) texts) args
 
 -- why the arguments are refused: memory ran out; clap's rules find this fault in them, or a request
 -- for help; they make no request
 pub data IsRefusal (texts : List Text) (error : Error) : Type 0 where
   no_memory : kind_of error ≡ OutOfMemory → IsRefusal texts error
-  by_rules : (names : ValueParser) → TakesReports names → IsAmong (kind_of error) (fault_of (command_line names) texts) → IsRefusal texts error
-  no_request : (names : ValueParser) → TakesReports names → IsNoRequest (subcommand_of (command_line names) texts) (kind_of error) → IsRefusal texts error
+  by_rules : (names : ValueParser) → TakesReports names
+      → IsAmong (kind_of error) (fault_of (command_line names) texts) → IsRefusal texts error
+  no_request : (names : ValueParser) → TakesReports names
+      → IsNoRequest (subcommand_of (command_line names) texts) (kind_of error)
+      → IsRefusal texts error

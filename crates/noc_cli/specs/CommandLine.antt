@@ -40,25 +40,41 @@ TakesReports (value.Names names) = map (λ name. name.now) names.now ≡ report_
 TakesReports _ = ⊥
 
 abbrev pub report_arg : ValueParser → Rule
-report_arg names = with_default (codes "latency") (record (option_arg (codes "report")) { parser = Some names })
+report_arg names =
+    with_default (codes "latency") (record (option_arg (codes "report")) { parser = Some names })
 
 abbrev pub command_shape : Text → List Rule → Shape
 command_shape name rules = record (new_shape name) { rules = rules }
 
 abbrev pub run_shape : ValueParser → Shape
-run_shape names = command_shape (codes "run") (file_arg (codes "CONFIG") ∷ file_arg (codes "TRAFFIC") ∷ option_arg (codes "table") ∷ option_arg (codes "ranks") ∷ with_default (codes "1") (number_arg (codes "workers")) ∷ flag_arg (codes "drain") ∷ report_arg names ∷ [])
+run_shape names =
+    command_shape (codes "run")
+    (file_arg (codes "CONFIG") ∷ file_arg (codes "TRAFFIC") ∷ option_arg (codes "table")
+    ∷ option_arg (codes "ranks") ∷ with_default (codes "1") (number_arg (codes "workers"))
+    ∷ flag_arg (codes "drain") ∷ report_arg names ∷ [])
 
 abbrev pub explain_shape : Shape
-explain_shape = command_shape (codes "explain") (file_arg (codes "CONFIG") ∷ file_arg (codes "TRAFFIC") ∷ required_arg (number_arg (codes "cycle")) ∷ required_arg (number_arg (codes "router")) ∷ option_arg (codes "table") ∷ [])
+explain_shape =
+    command_shape (codes "explain")
+    (file_arg (codes "CONFIG") ∷ file_arg (codes "TRAFFIC")
+    ∷ required_arg (number_arg (codes "cycle")) ∷ required_arg (number_arg (codes "router"))
+    ∷ option_arg (codes "table") ∷ [])
 
 abbrev pub trace_shape : Shape
-trace_shape = command_shape (codes "trace") (file_arg (codes "CONFIG") ∷ file_arg (codes "TRAFFIC") ∷ number_arg (codes "from") ∷ number_arg (codes "to") ∷ number_arg (codes "router") ∷ number_arg (codes "packet") ∷ option_arg (codes "verdict") ∷ flag_arg (codes "changes") ∷ option_arg (codes "table") ∷ [])
+trace_shape =
+    command_shape (codes "trace")
+    (file_arg (codes "CONFIG") ∷ file_arg (codes "TRAFFIC") ∷ number_arg (codes "from")
+    ∷ number_arg (codes "to") ∷ number_arg (codes "router") ∷ number_arg (codes "packet")
+    ∷ option_arg (codes "verdict") ∷ flag_arg (codes "changes") ∷ option_arg (codes "table") ∷ [])
 
 abbrev pub check_shape : Shape
-check_shape = command_shape (codes "check") (file_arg (codes "CONFIG") ∷ required_arg (option_arg (codes "ranks")) ∷ option_arg (codes "table") ∷ [])
+check_shape =
+    command_shape (codes "check") (file_arg (codes "CONFIG")
+    ∷ required_arg (option_arg (codes "ranks")) ∷ option_arg (codes "table") ∷ [])
 
 abbrev pub ranks_shape : Shape
-ranks_shape = command_shape (codes "ranks") (file_arg (codes "CONFIG") ∷ option_arg (codes "table") ∷ [])
+ranks_shape =
+    command_shape (codes "ranks") (file_arg (codes "CONFIG") ∷ option_arg (codes "table") ∷ [])
 
 -- the program before its commands, which tells its version
 abbrev pub program_shape : Shape
@@ -84,7 +100,9 @@ AreArgs _ _ = ⊥
 
 -- the command has these arguments and no command below it
 abbrev pub IsLeaf : Shape → Command → Type 0
-IsLeaf shape command = (app_of command ≡ record { top = shape; subs = [] }) × ((out-Command command).has_globals ≡ false)
+IsLeaf shape command =
+    (app_of command ≡ record { top = shape; subs = [] })
+    × ((out-Command command).has_globals ≡ false)
 
 -- the command is the program with one more command, which could both be made
 abbrev pub AddsIfMade : Result Command AllocError → Result Command AllocError → Command → Type 0
@@ -93,4 +111,5 @@ AddsIfMade _ _ more = ⊥
 
 -- the command is the program's
 abbrev pub IsProgram : Command → Type 0
-IsProgram command = (names : ValueParser) × TakesReports names × (app_of command ≡ command_line names)
+IsProgram command =
+    (names : ValueParser) × TakesReports names × (app_of command ≡ command_line names)

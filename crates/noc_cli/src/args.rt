@@ -1,12 +1,12 @@
 //! The arguments of the command line.
 
-ghost use Rattle.std.specs.Prelude.{◌≡◌, ◌⊎◌, ◌<◌, ◌≤◌, ℕ, List, codes, map, string_bytes, IfErr, IfOk, IfSome, OnErr};
+ghost use Rattle.std.specs.Prelude.{◌≡◌, ◌⊎◌, ◌<◌, ◌≤◌, ℕ, List, codes, map, string_bytes, IfErr, IfNone, IfOk, IfSome, None, OnErr};
 ghost use Rattle.clap.specs.Words.{Rule, first_value, found_of, kind_of, one_text, subcommand_rows_of};
 ghost use Rattle.clap.specs.declared.builder.value_parser.ValueParser.{ValueParser};
 ghost use Rattle.noc_commands.specs.Workers.{HasWorkers};
 ghost use Rattle.noc_commands.specs.declared.command.TheConstants.{MAX_WORKERS};
 ghost use Rattle.noc_cli.specs.CommandLine.{AddsIfMade, AreArgs, IsLeaf, IsProgram, IsArg, TakesReports, check_shape, command_shape, explain_shape, file_arg, flag_arg, number_arg, option_arg, ranks_shape, report_arg, run_shape, trace_shape};
-ghost use Rattle.noc_cli.specs.Args.{AreNoVerdicts, AreVerdicts, IsAskedBy, IsCommand, IsNoCommand, IsNoRequest, IsRefusal, IsReport, IsRequestIn, IsWorkers, NamesFiles, SaysWorkers};
+ghost use Rattle.noc_cli.specs.Args.{AreNoVerdicts, AreVerdicts, IsAskedBy, IsCommand, IsNoCommand, IsNoRequest, IsRefusal, IsReport, IsRequestIn, IsSaidIfAny, NamesFiles, SaysNoWorkers, SaysWorkers};
 
 use crate::version::VERSION;
 use clap::error::ErrorKind;
@@ -85,6 +85,12 @@ Examples:
 
 const NO_COMMAND: &str = "a command is missing";
 
+const NO_CONFIG: &str = "a configuration is missing";
+
+const NO_CYCLE: &str = "--cycle is missing";
+
+const NO_ROUTER: &str = "--router is missing";
+
 const NO_WORKERS: &str = "--workers is a number from 1 to 16";
 
 const NO_VERDICTS: &str =
@@ -114,13 +120,14 @@ pub fn read_args<'a>(alloc: Global, args: &'a [String]) -> Result<Args<'a>, Erro
 fn request_in<'a>(alloc: Global, matches: &ArgMatches<'a>) -> Result<Args<'a>, Error>
     ensures workers { IfOk result (λ asked. HasWorkers asked.command) }
     ensures said { IfOk result (IsRequestIn (subcommand_rows_of matches.now)) }
-    ensures refused { IfErr result (λ error. (kind_of error ≡ ErrorKind.OutOfMemory) ⊎ IsNoRequest (subcommand_rows_of matches.now) (kind_of error)) }
+    ensures refused { IfErr result (λ error. (kind_of error ≡ ErrorKind.OutOfMemory)
+        ⊎ IsNoRequest (subcommand_rows_of matches.now) (kind_of error)) }
 {
     let Some((name, of)) = matches.subcommand() else {
         return Err(refusal(alloc, ErrorKind::MissingSubcommand, NO_COMMAND)?);
     };
-    match command_of(name, of) {
-        Ok(command) => Ok(args_of(of, command)),
+    match args_of(name, of) {
+        Ok(args) => Ok(args),
         Err(message) => Err(refusal(alloc, ErrorKind::ValueValidation, message)?),
     }
 }
@@ -144,15 +151,16 @@ fn command_of(name: &str, matches: &ArgMatches<'_>) -> Result<Command, &'static 
             report: report_of(matches),
             drain: matches.get_flag("drain"),
         }),
-        "explain" => Ok(Command::Explain {
-            cycle: matches.get_one::<u64>("cycle").unwrap_or(0),
-            router: matches.get_one::<usize>("router").unwrap_or(0),
-        }),
+        "explain" => match (number_of(matches, "cycle"), index_of(matches, "router")) {
+            (Some(cycle), Some(router)) => Ok(Command::Explain { cycle, router }),
+            (None, _) => Err(NO_CYCLE),
+            (Some(_), None) => Err(NO_ROUTER),
+        },
         "trace" => Ok(Command::Trace {
-            from: matches.get_one::<u64>("from"),
-            to: matches.get_one::<u64>("to"),
-            router: matches.get_one::<usize>("router"),
-            packet: matches.get_one::<u64>("packet"),
+            from: number_of(matches, "from"),
+            to: number_of(matches, "to"),
+            router: index_of(matches, "router"),
+            packet: number_of(matches, "packet"),
             verdicts: verdicts_of(matches)?,
             changes: matches.get_flag("changes"),
         }),
@@ -162,33 +170,55 @@ fn command_of(name: &str, matches: &ArgMatches<'_>) -> Result<Command, &'static 
     }
 }
 
-// The files of a command.
-fn args_of<'a>(matches: &ArgMatches<'a>, command: Command) -> Args<'a>
-    ensures command { result.command ≡ command }
-    ensures files { NamesFiles (found_of matches.now) result }
+// What the arguments of a command ask for, or what is wrong with them. clap lets through no
+// command without its configuration, and no `explain` without its numbers.
+fn args_of<'a>(name: &str, matches: &ArgMatches<'a>) -> Result<Args<'a>, &'static str>
+    ensures workers { IfOk result (λ args. HasWorkers args.command) }
+    ensures command { IfOk result (λ args. IsCommand (found_of matches.now) name.now args.command) }
+    ensures files { IfOk result (NamesFiles (found_of matches.now)) }
+    ensures err { OnErr result (IsNoCommand (found_of matches.now) name.now
+        ⊎ (first_value (found_of matches.now) (codes "CONFIG") ≡ None)) }
 {
-    Args {
+    let command = command_of(name, matches)?;
+    let config = matches.get_str("CONFIG").ok_or(NO_CONFIG)?;
+    Ok(Args {
         command,
-        config: matches.get_str("CONFIG").unwrap_or(""),
+        config,
         table: matches.get_str("table"),
         ranks: matches.get_str("ranks"),
         traffic: matches.get_str("TRAFFIC"),
-    }
+    })
+}
+
+// The number that an argument says, if it says one.
+fn number_of(matches: &ArgMatches<'_>, id: &str) -> Option<u64>
+    ensures { IsSaidIfAny (one_text (found_of matches.now) id.now) result }
+{
+    matches.get_one(id)
+}
+
+// The same where it is that of a router, or a number of workers.
+fn index_of(matches: &ArgMatches<'_>, id: &str) -> Option<usize>
+    ensures { IsSaidIfAny (one_text (found_of matches.now) id.now) result }
+{
+    matches.get_one(id)
 }
 
 // The workers of a run, if they are 1 to 16.
 fn workers_of(matches: &ArgMatches<'_>) -> Option<usize>
     ensures range { IfSome result (λ workers. (0 < workers) × (workers ≤ MAX_WORKERS)) }
-    ensures said { (n : ℕ) × SaysWorkers (found_of matches.now) n × IsWorkers n result }
+    ensures said { IfSome result (SaysWorkers (found_of matches.now)) }
+    ensures none { IfNone result (SaysNoWorkers (found_of matches.now)) }
 {
-    let workers = matches.get_one::<usize>("workers").unwrap_or(1);
+    let workers = index_of(matches, "workers")?;
     (1 <= workers && workers <= MAX_WORKERS).then_some(workers)
 }
 
 // The verdicts of a trace, or all where none are named; or what is wrong with their names.
 fn verdicts_of(matches: &ArgMatches<'_>) -> Result<Option<VerdictSet>, &'static str>
     ensures ok { IfOk result (AreVerdicts (first_value (found_of matches.now) (codes "verdict"))) }
-    ensures err { OnErr result (AreNoVerdicts (first_value (found_of matches.now) (codes "verdict"))) }
+    ensures err { OnErr result (AreNoVerdicts
+        (first_value (found_of matches.now) (codes "verdict"))) }
 {
     match matches.get_str("verdict") {
         Some(names) => match VerdictSet::named(names) {
@@ -237,7 +267,8 @@ fn with_command<'a>(
 }
 
 fn run_args<'a>(alloc: Global) -> Result<clap::Command<'a>, AllocError>
-    ensures { IfOk result (λ command. (names : ValueParser) × TakesReports names × IsLeaf (run_shape names) command) }
+    ensures { IfOk result (λ command. (names : ValueParser) × TakesReports names
+        × IsLeaf (run_shape names) command) }
 {
     let args = vec![in alloc;
         file_arg(alloc, "CONFIG", CONFIG_HELP),
@@ -370,7 +401,8 @@ fn command_with<'a>(
     after_help: &'a str,
     args: Vec<Arg<'a>>,
 ) -> Result<clap::Command<'a>, AllocError>
-    ensures { (rules : List Rule) → AreArgs rules args.entry.items → IfOk result (IsLeaf (command_shape name.entry.now rules)) }
+    ensures { (rules : List Rule) → AreArgs rules args.entry.items
+        → IfOk result (IsLeaf (command_shape name.entry.now rules)) }
 {
     clap::Command::new(alloc, name)
         .about(about)

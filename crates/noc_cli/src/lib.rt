@@ -1,5 +1,5 @@
-//! The arguments of the command line: the commands that they ask for, with
-//! the files that they name.
+//! The arguments of the command line: the commands that they ask for, with the files that they
+//! name. It stands on `noc_commands` and on no engine, so that it is proved beside the engines.
 #![tactic(auto)]
 
 mod args;

@@ -25,7 +25,8 @@ names_text first last = flat_map name_and_comma first ++ verdict_name last
 -- a text names the verdicts of a set, and no other
 abbrev pub Names : List ℕ → VerdictSet → Type 0
 Names text set =
-    (first : List Verdict) × (last : Verdict) × (text ≡ names_text first last) × ((verdict : Verdict) → is_member set verdict ≡ is_among (first ++ last ∷ []) verdict)
+    (first : List Verdict) × (last : Verdict) × (text ≡ names_text first last)
+    × ((verdict : Verdict) → is_member set verdict ≡ is_among (first ++ last ∷ []) verdict)
 
 -- a text is not made of names of verdicts with a comma between
 abbrev pub NamesNone : List ℕ → Type 0

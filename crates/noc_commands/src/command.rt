@@ -3,7 +3,7 @@
 use crate::report::Report;
 use crate::verdicts::VerdictSet;
 
-/// The most workers of a run, which noc_tiles has too.
+/// The most workers of a run, which noc_net has too.
 pub const MAX_WORKERS: usize = 16;
 
 /// What is asked for.

@@ -2,7 +2,11 @@
 use Rattle.std.specs.Prelude.{ℕ, List, [], ◌∷◌, ◌++◌, codes, decimal, nat_lt, if◌then◌else◌}
 use Rattle.std.specs.List.{flat_map}
 use Rattle.noc_topo.specs.Shape.{Grid, ports}
-use Rattle.noc_topo.specs.declared.shape.ShapeFault.TheVariants as shape
+use Rattle.noc_topo.specs.Titles.{shape_title}
+use Rattle.noc_route.specs.Titles.{route_title}
+use Rattle.noc_rank.specs.Titles.{rank_title}
+use Rattle.noc_net.specs.Titles.{net_title, run_title}
+use Rattle.noc_files.specs.Titles.{input_title, write_title}
 use Rattle.noc_files.specs.Keys.{key_name}
 use Rattle.noc_files.specs.Ports.{name_of_port}
 use Rattle.noc_files.specs.Writing.{line_end}
@@ -18,9 +22,6 @@ use Rattle.noc_route.specs.declared.rule.Entry.{Entry}
 use Rattle.noc_route.specs.declared.rule.RouteFault.{RouteFault}
 use Rattle.noc_route.specs.declared.rule.RouteFault.TheVariants as route
 use Rattle.noc_route.specs.declared.rule.RouteRow.{RouteRow}
-use Rattle.noc_topo.specs.declared.shape.ShapeFault.{ShapeFault}
-use Rattle.noc_tiles.specs.declared.threads.RunFault.{RunFault}
-use Rattle.noc_tiles.specs.declared.threads.RunFault.TheVariants as run
 use Rattle.noc_faults.specs.declared.fault.OptionFault.{OptionFault}
 use Rattle.noc_faults.specs.declared.fault.OptionFault.TheVariants as option
 use Rattle.noc_faults.specs.declared.fault.Fault.{Fault}
@@ -68,8 +69,9 @@ abbrev pub detail_text : Detail → List ℕ
 detail_text d = name_of d ++ value_of d
 
 -- `fault`, a family, a number with its name, and details
-unfoldable pub line_with : List ℕ → List ℕ → List Detail → List ℕ
-line_with family title details = codes "fault " ++ family ++ codes " " ++ title ++ flat_map detail_text details ++ line_end
+unfoldable pub text_with : List ℕ → List ℕ → List Detail → List ℕ
+text_with family title details =
+    codes "fault " ++ family ++ codes " " ++ title ++ flat_map detail_text details
 
 -- ---- families
 
@@ -89,21 +91,6 @@ family_of (fault.Write f) = codes "write"
 
 -- ---- numbers with their names
 
-abbrev pub input_title : InputFault → List ℕ
-input_title input.ReadFailed = codes "1 ReadFailed"
-input_title input.TooLong = codes "2 TooLong"
-input_title input.Memory = codes "3 Memory"
-input_title input.BadToml = codes "4 BadToml"
-input_title input.UnknownKey = codes "5 UnknownKey"
-input_title (input.MissingKey k) = codes "6 MissingKey"
-input_title (input.WrongType k) = codes "7 WrongType"
-input_title (input.BadValue k) = codes "8 BadValue"
-input_title input.BadHeader = codes "9 BadHeader"
-input_title (input.BadCount row) = codes "10 BadCount"
-input_title (input.BadNumber row column) = codes "11 BadNumber"
-input_title (input.BadPort row column) = codes "12 BadPort"
-input_title input.NoSplit = codes "13 NoSplit"
-
 abbrev pub option_title : OptionFault → List ℕ
 option_title option.BadCycle = codes "1 BadCycle"
 option_title option.BadRouter = codes "2 BadRouter"
@@ -111,45 +98,6 @@ option_title option.BadWorkers = codes "3 BadWorkers"
 option_title option.NoTable = codes "4 NoTable"
 option_title option.SpareTable = codes "5 SpareTable"
 option_title option.BadPacket = codes "6 BadPacket"
-
-abbrev pub shape_title : ShapeFault → List ℕ
-shape_title shape.BadDimensions = codes "1 BadDimensions"
-shape_title shape.BadRadix = codes "2 BadRadix"
-shape_title shape.TooManyNodes = codes "3 TooManyNodes"
-
-abbrev pub route_title : RouteFault → List ℕ
-route_title route.WrongShape = codes "1 WrongShape"
-route_title (route.NoLink row) = codes "2 NoLink"
-route_title (route.NotMinimal row) = codes "3 NotMinimal"
-route_title (route.EarlyEject row) = codes "4 EarlyEject"
-route_title (route.LateHop row) = codes "5 LateHop"
-route_title (route.NoWay entry) = codes "6 NoWay"
-route_title route.Memory = codes "7 Memory"
-
-abbrev pub rank_title : RankFault → List ℕ
-rank_title rank.NoGenerated = codes "1 NoGenerated"
-rank_title (rank.NotRising entry port vc before after) = codes "2 NotRising"
-rank_title (rank.NotRisingTo e o before after) = codes "2 NotRising"
-rank_title rank.Memory = codes "3 Memory"
-rank_title (rank.NoEscape entry) = codes "4 NoEscape"
-rank_title (rank.UnknownChannel row) = codes "5 UnknownChannel"
-rank_title (rank.DoubleChannel row) = codes "6 DoubleChannel"
-rank_title (rank.MissingChannel router port vc) = codes "7 MissingChannel"
-rank_title (rank.BadRank row) = codes "8 BadRank"
-
-abbrev pub net_title : NetFault → List ℕ
-net_title (net.SelfPacket row) = codes "1 SelfPacket"
-net_title (net.BadNode row) = codes "2 BadNode"
-net_title (net.BadClass row) = codes "3 BadClass"
-net_title (net.BadLength row) = codes "4 BadLength"
-net_title net.TooMany = codes "5 TooMany"
-net_title net.Memory = codes "6 Memory"
-net_title (net.BadDue row) = codes "7 BadDue"
-
-abbrev pub run_title : RunFault → List ℕ
-run_title run.Memory = codes "1 Memory"
-run_title run.NoWorker = codes "2 NoWorker"
-run_title run.LostWorker = codes "3 LostWorker"
 
 abbrev pub title_of : Fault → List ℕ
 title_of (fault.Joined f) = input_title f
@@ -163,7 +111,7 @@ title_of (fault.Relation f g) = route_title f
 title_of (fault.Rank f g) = rank_title f
 title_of (fault.Network f) = net_title f
 title_of (fault.Run f) = run_title f
-title_of (fault.Write f) = codes "1 WriteFailed"
+title_of (fault.Write f) = write_title
 
 -- ---- details
 
@@ -177,11 +125,14 @@ input_details (input.BadPort row column) = detail.Row row ∷ detail.Column colu
 input_details _ = []
 
 abbrev pub entry_details : Grid → Entry → List Detail
-entry_details g e = detail.Class e.class ∷ detail.Router e.router ∷ detail.Port g e.in_port ∷ detail.Vc e.in_vc ∷ detail.Dst e.dst ∷ []
+entry_details g e =
+    detail.Class e.class ∷ detail.Router e.router ∷ detail.Port g e.in_port ∷ detail.Vc e.in_vc
+    ∷ detail.Dst e.dst ∷ []
 
 abbrev pub hop_details : Grid → RouteRow → List Detail
 hop_details g row =
-    detail.Class row.class ∷ detail.Router row.router ∷ detail.Port g row.in_port ∷ detail.Vc row.in_vc ∷ detail.Dst row.dst ∷ detail.Out g row.out_port
+    detail.Class row.class ∷ detail.Router row.router ∷ detail.Port g row.in_port
+    ∷ detail.Vc row.in_vc ∷ detail.Dst row.dst ∷ detail.Out g row.out_port
     ∷ detail.Vc row.out_vc ∷ []
 
 abbrev pub route_details : Grid → RouteFault → List Detail
@@ -197,7 +148,8 @@ both_ranks before after = detail.Rank before ∷ detail.NextRank after ∷ []
 
 -- a step, and the ranks before and after it
 abbrev pub fall_details : Grid → Entry → ℕ → ℕ → ℕ → ℕ → List Detail
-fall_details g entry port vc before after = hop_details g (step_of entry port vc) ++ both_ranks before after
+fall_details g entry port vc before after =
+    hop_details g (step_of entry port vc) ++ both_ranks before after
 
 abbrev pub channel_details : Grid → ℕ → ℕ → ℕ → List Detail
 channel_details g router port vc = detail.Router router ∷ detail.Port g port ∷ detail.Vc vc ∷ []
@@ -205,10 +157,12 @@ channel_details g router port vc = detail.Router router ∷ detail.Port g port �
 -- two link channels and their ranks
 abbrev pub descent_details : Grid → LinkChannel → LinkChannel → ℕ → ℕ → List Detail
 descent_details g e o before after =
-    channel_details g e.router e.port e.vc ++ detail.ToRouter o.router ∷ detail.Port g o.port ∷ detail.Vc o.vc ∷ both_ranks before after
+    channel_details g e.router e.port e.vc ++ detail.ToRouter o.router ∷ detail.Port g o.port
+    ∷ detail.Vc o.vc ∷ both_ranks before after
 
 abbrev pub rank_details : Grid → RankFault → List Detail
-rank_details g (rank.NotRising entry port vc before after) = fall_details g entry port vc before after
+rank_details g (rank.NotRising entry port vc before after) =
+    fall_details g entry port vc before after
 rank_details g (rank.NotRisingTo e o before after) = descent_details g e o before after
 rank_details g (rank.NoEscape entry) = entry_details g entry
 rank_details g (rank.UnknownChannel row) = detail.Row row ∷ []
@@ -239,7 +193,10 @@ details_of (fault.Network f) = net_details f
 details_of (fault.Run f) = []
 details_of (fault.Write f) = detail.Written f.written ∷ []
 
--- ---- the line of a fault
+-- ---- the line of a fault, without its end and with it
+
+abbrev pub text_of : Fault → List ℕ
+text_of f = text_with (family_of f) (title_of f) (details_of f)
 
 abbrev pub line_of : Fault → List ℕ
-line_of f = line_with (family_of f) (title_of f) (details_of f)
+line_of f = text_of f ++ line_end

@@ -4,7 +4,7 @@ use Rattle.noc_files.specs.declared.fault.InputFault.TheVariants as input
 use Rattle.noc_net.specs.declared.fault.NetFault.TheVariants as net
 use Rattle.noc_rank.specs.declared.fault.RankFault.TheVariants as rank
 use Rattle.noc_route.specs.declared.rule.RouteFault.TheVariants as route
-use Rattle.noc_tiles.specs.declared.threads.RunFault.TheVariants as run
+use Rattle.noc_net.specs.declared.workers.RunFault.TheVariants as run
 use Rattle.noc_faults.specs.declared.status.Status.{Status}
 use Rattle.noc_faults.specs.declared.status.Status.TheVariants.{Done, Stuck}
 use Rattle.noc_faults.specs.declared.fault.Fault.{Fault}

@@ -1,14 +1,16 @@
 //! Everything that can be wrong with a request, and the exit status of each fault.
 
-ghost use Rattle.std.specs.Prelude.{◌≡◌};
+ghost use Rattle.std.specs.Prelude.{◌≡◌, ◌≤◌, Some, length};
+ghost use Rattle.noc_faults.specs.Line.{option_title};
 ghost use Rattle.noc_faults.specs.Status.{status_of_fault};
 
 use noc_files::{InputFault, WriteFault};
-use noc_net::NetFault;
+use noc_net::{NetFault, RunFault};
 use noc_rank::RankFault;
 use noc_route::RouteFault;
-use noc_tiles::RunFault;
 use noc_topo::{Shape, ShapeFault};
+use std::error::Error;
+use std::fmt;
 
 /// A fault of the options.
 #[derive(Clone, Copy, Debug, PartialEq, Eq)]
@@ -27,6 +29,35 @@ pub enum OptionFault {
     /// The packet that is to be traced does not exist.
     BadPacket,
 }
+
+impl OptionFault {
+    /// The number and the name of the fault, as its fault line has them; at most 20 bytes
+    /// (docs/FORMATS.md, "Fault lines").
+    pub fn title(&self) -> &'static str
+        ensures title { result.now ≡ option_title self.now }
+        ensures short { length result.now ≤ 20 }
+    {
+        match self {
+            OptionFault::BadCycle => "1 BadCycle",
+            OptionFault::BadRouter => "2 BadRouter",
+            OptionFault::BadWorkers => "3 BadWorkers",
+            OptionFault::NoTable => "4 NoTable",
+            OptionFault::SpareTable => "5 SpareTable",
+            OptionFault::BadPacket => "6 BadPacket",
+        }
+    }
+}
+
+/// Its title.
+impl fmt::Display for OptionFault {
+    ghost output = { λ fault. Some (option_title fault) };
+
+    fn fmt<W: fmt::Write>(&self, f: &mut fmt::Formatter<W>) -> fmt::Result {
+        f.write_str(self.title())
+    }
+}
+
+impl Error for OptionFault {}
 
 /// The first fault of a request, by family (docs/FORMATS.md, "Fault lines").
 #[derive(Clone, Copy, Debug, PartialEq, Eq)]

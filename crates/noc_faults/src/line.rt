@@ -1,18 +1,21 @@
 //! The line that tells a fault.
 
-ghost use Rattle.std.specs.Prelude.{◌≡◌, ◌≤◌, codes, length};
+ghost use Rattle.std.specs.Prelude.{◌≡◌, ◌<◌, ◌≤◌, Some, length};
 ghost use Rattle.noc_files.specs.Writing.{Wrote};
-ghost use Rattle.noc_faults.specs.Line.{channel_details, descent_details, entry_details, fall_details, hop_details, input_details, input_title, line_of, line_with, net_details, net_title, option_title, rank_details, rank_title, route_details, route_title, run_title, shape_title, value_of, name_of};
+ghost use Rattle.noc_faults.specs.Line.{channel_details, descent_details, entry_details, fall_details};
+ghost use Rattle.noc_faults.specs.Line.{hop_details, input_details, line_of, name_of, text_of, text_with, value_of};
+ghost use Rattle.noc_files.specs.Titles.{input_title};
 
-use crate::fault::{Fault, OptionFault};
+use crate::fault::Fault;
 use arrayvec::ArrayString;
 use itoa::Buffer;
 use noc_files::{InputFault, Key, Sink, WriteFault, port_name, write_pieces};
 use noc_net::NetFault;
 use noc_rank::{LinkChannel, RankFault};
 use noc_route::{Entry, RouteFault, RouteRow};
-use noc_tiles::RunFault;
-use noc_topo::{Shape, ShapeFault};
+use noc_topo::Shape;
+use std::error::Error;
+use std::fmt;
 
 // A detail of a fault: a name and its value. A port comes with the shape that names it.
 #[derive(Clone, Copy)]
@@ -80,165 +83,104 @@ impl Detail {
     }
 }
 
-// A line of 47 bytes up to its title, 40 for each of up to 9 details, and its end.
-type Line = ArrayString<512>;
+// 46 bytes up to the title, 40 for each of up to 9 details, and the end of the line.
+type FaultText = ArrayString<512>;
 
 /// Writes the line of a fault: `fault`, its family, its number, its name and its details
 /// (docs/FORMATS.md, "Fault lines").
 pub fn fault_line<W: Sink>(fault: &Fault, sink: &mut W) -> Result<(), WriteFault>
     ensures { Wrote W.contents W.has_failed sink.old sink.new (line_of fault.now) result }
 {
-    let line = line_of(fault);
+    let mut line = text_of(fault);
+    line.push_str("\n");
     write_pieces(&[line.as_str()], sink)
 }
 
-// The line of a fault.
-fn line_of(fault: &Fault) -> Line
-    ensures { result.bytes ≡ line_of fault.now }
+/// The line of the fault, without its end.
+impl fmt::Display for Fault {
+    ghost output = { λ fault. Some (text_of fault) };
+
+    fn fmt<W: fmt::Write>(&self, f: &mut fmt::Formatter<W>) -> fmt::Result {
+        f.write_str(text_of(self).as_str())
+    }
+}
+
+impl Error for Fault {}
+
+// The line of a fault, without its end.
+fn text_of(fault: &Fault) -> FaultText
+    ensures text { result.bytes ≡ text_of fault.now }
+    ensures short { length result.bytes < 512 }
 {
     match fault {
-        Fault::Joined(fault) => input_line("joined", *fault),
-        Fault::Config(fault) => input_line("config", *fault),
-        Fault::Table(fault) => input_line("table", *fault),
-        Fault::RankFile(fault) => input_line("ranks", *fault),
-        Fault::Traffic(fault) => input_line("traffic", *fault),
-        Fault::Option(fault) => line_with("option", option_title(*fault), &[]),
-        Fault::Shape(fault) => line_with("shape", shape_title(*fault), &[]),
-        Fault::Relation(fault, shape) => relation_line(fault, shape),
-        Fault::Rank(fault, shape) => rank_line(fault, shape),
-        Fault::Network(fault) => network_line(*fault),
-        Fault::Run(fault) => line_with("run", run_title(*fault), &[]),
-        Fault::Write(fault) => line_with(
-            "write",
-            "1 WriteFailed",
-            &[Detail::Written(fault.written)],
-        ),
+        Fault::Joined(fault) => input_text("joined", *fault),
+        Fault::Config(fault) => input_text("config", *fault),
+        Fault::Table(fault) => input_text("table", *fault),
+        Fault::RankFile(fault) => input_text("ranks", *fault),
+        Fault::Traffic(fault) => input_text("traffic", *fault),
+        Fault::Option(fault) => text_with("option", fault.title(), &[]),
+        Fault::Shape(fault) => text_with("shape", fault.title(), &[]),
+        Fault::Relation(fault, shape) => relation_text(fault, shape),
+        Fault::Rank(fault, shape) => rank_text(fault, shape),
+        Fault::Network(fault) => network_text(*fault),
+        Fault::Run(fault) => text_with("run", fault.title(), &[]),
+        Fault::Write(fault) => write_text(*fault),
     }
 }
 
 // `fault`, a family, a number with its name, and details.
-fn line_with(family: &str, title: &str, details: &[Detail]) -> Line
+fn text_with(family: &str, title: &str, details: &[Detail]) -> FaultText
     requires family { length family.now ≤ 20 }
     requires title { length title.now ≤ 20 }
     requires details { length details.now ≤ 9 }
-    ensures { result.bytes ≡ line_with family.now title.now details.now }
+    ensures text { result.bytes ≡ text_with family.now title.now details.now }
+    ensures short { length result.bytes < 512 }
 {
-    let mut line = Line::new();
-    line.push_str("fault ");
-    line.push_str(family);
-    line.push_str(" ");
-    line.push_str(title);
+    let mut text = FaultText::new();
+    text.push_str("fault ");
+    text.push_str(family);
+    text.push_str(" ");
+    text.push_str(title);
     for detail in details {
         let mut buffer = Buffer::new();
-        line.push_str(detail.name());
-        line.push_str(detail.value(&mut buffer));
+        text.push_str(detail.name());
+        text.push_str(detail.value(&mut buffer));
     }
-    line.push_str("\n");
-    line
+    text
 }
 
 // A fault of a text.
-fn input_line(family: &str, fault: InputFault) -> Line
+fn input_text(family: &str, fault: InputFault) -> FaultText
     requires { length family.now ≤ 20 }
-    ensures { result.bytes ≡ line_with family.now (input_title fault) (input_details fault) }
+    ensures text { result.bytes ≡ text_with family.now (input_title fault) (input_details fault) }
+    ensures short { length result.bytes < 512 }
 {
-    let title = input_title(fault);
+    let title = fault.title();
     match fault {
         InputFault::MissingKey(key) | InputFault::WrongType(key) | InputFault::BadValue(key) => {
-            line_with(family, title, &[Detail::Key(key)])
+            text_with(family, title, &[Detail::Key(key)])
         }
-        InputFault::BadCount { row } => line_with(family, title, &[Detail::Row(row)]),
+        InputFault::BadCount { row } => text_with(family, title, &[Detail::Row(row)]),
         InputFault::BadNumber { row, column } | InputFault::BadPort { row, column } => {
-            line_with(family, title, &[Detail::Row(row), Detail::Column(column)])
+            text_with(family, title, &[Detail::Row(row), Detail::Column(column)])
         }
-        _ => line_with(family, title, &[]),
-    }
-}
-
-fn input_title(fault: InputFault) -> &'static str
-    ensures title { result.now ≡ input_title fault }
-    ensures short { length result.now ≤ 20 }
-{
-    match fault {
-        InputFault::ReadFailed => "1 ReadFailed",
-        InputFault::TooLong => "2 TooLong",
-        InputFault::Memory => "3 Memory",
-        InputFault::BadToml => "4 BadToml",
-        InputFault::UnknownKey => "5 UnknownKey",
-        InputFault::MissingKey(_) => "6 MissingKey",
-        InputFault::WrongType(_) => "7 WrongType",
-        InputFault::BadValue(_) => "8 BadValue",
-        InputFault::BadHeader => "9 BadHeader",
-        InputFault::BadCount { row: _ } => "10 BadCount",
-        InputFault::BadNumber { row: _, column: _ } => "11 BadNumber",
-        InputFault::BadPort { row: _, column: _ } => "12 BadPort",
-        InputFault::NoSplit => "13 NoSplit",
-    }
-}
-
-fn option_title(fault: OptionFault) -> &'static str
-    ensures title { result.now ≡ option_title fault }
-    ensures short { length result.now ≤ 20 }
-{
-    match fault {
-        OptionFault::BadCycle => "1 BadCycle",
-        OptionFault::BadRouter => "2 BadRouter",
-        OptionFault::BadWorkers => "3 BadWorkers",
-        OptionFault::NoTable => "4 NoTable",
-        OptionFault::SpareTable => "5 SpareTable",
-        OptionFault::BadPacket => "6 BadPacket",
-    }
-}
-
-fn shape_title(fault: ShapeFault) -> &'static str
-    ensures title { result.now ≡ shape_title fault }
-    ensures short { length result.now ≤ 20 }
-{
-    match fault {
-        ShapeFault::BadDimensions => "1 BadDimensions",
-        ShapeFault::BadRadix => "2 BadRadix",
-        ShapeFault::TooManyNodes => "3 TooManyNodes",
-    }
-}
-
-fn run_title(fault: RunFault) -> &'static str
-    ensures title { result.now ≡ run_title fault }
-    ensures short { length result.now ≤ 20 }
-{
-    match fault {
-        RunFault::Memory => "1 Memory",
-        RunFault::NoWorker => "2 NoWorker",
-        RunFault::LostWorker => "3 LostWorker",
+        _ => text_with(family, title, &[]),
     }
 }
 
 // A fault of a relation.
-fn relation_line(fault: &RouteFault, shape: &Shape) -> Line
-    ensures { result.bytes ≡ line_with (codes "relation") (route_title fault.now) (route_details shape.now fault.now) }
+fn relation_text(fault: &RouteFault, shape: &Shape) -> FaultText
+    ensures text { result.bytes ≡ text_of (Fault.Relation fault.now shape.now) }
+    ensures short { length result.bytes < 512 }
 {
-    let title = route_title(fault);
+    let title = fault.title();
     match fault {
         RouteFault::NoLink(row)
         | RouteFault::NotMinimal(row)
         | RouteFault::EarlyEject(row)
-        | RouteFault::LateHop(row) => line_with("relation", title, &hop_details(shape, row)),
-        RouteFault::NoWay(entry) => line_with("relation", title, &entry_details(shape, entry)),
-        RouteFault::WrongShape | RouteFault::Memory => line_with("relation", title, &[]),
-    }
-}
-
-fn route_title(fault: &RouteFault) -> &'static str
-    ensures title { result.now ≡ route_title fault.now }
-    ensures short { length result.now ≤ 20 }
-{
-    match fault {
-        RouteFault::WrongShape => "1 WrongShape",
-        RouteFault::NoLink(_) => "2 NoLink",
-        RouteFault::NotMinimal(_) => "3 NotMinimal",
-        RouteFault::EarlyEject(_) => "4 EarlyEject",
-        RouteFault::LateHop(_) => "5 LateHop",
-        RouteFault::NoWay(_) => "6 NoWay",
-        RouteFault::Memory => "7 Memory",
+        | RouteFault::LateHop(row) => text_with("relation", title, &hop_details(shape, row)),
+        RouteFault::NoWay(entry) => text_with("relation", title, &entry_details(shape, entry)),
+        RouteFault::WrongShape | RouteFault::Memory => text_with("relation", title, &[]),
     }
 }
 
@@ -271,10 +213,11 @@ fn hop_details(shape: &Shape, row: &RouteRow) -> [Detail; 7]
 }
 
 // A fault of ranks.
-fn rank_line(fault: &RankFault, shape: &Shape) -> Line
-    ensures { result.bytes ≡ line_with (codes "rank") (rank_title fault.now) (rank_details shape.now fault.now) }
+fn rank_text(fault: &RankFault, shape: &Shape) -> FaultText
+    ensures text { result.bytes ≡ text_of (Fault.Rank fault.now shape.now) }
+    ensures short { length result.bytes < 512 }
 {
-    let title = rank_title(fault);
+    let title = fault.title();
     match fault {
         RankFault::NotRising {
             entry,
@@ -284,7 +227,7 @@ fn rank_line(fault: &RankFault, shape: &Shape) -> Line
             next,
         } => {
             let details = fall_details(shape, entry, *out_port, *out_vc, *rank, *next);
-            line_with("rank", title, &details)
+            text_with("rank", title, &details)
         }
         RankFault::NotRisingTo {
             from,
@@ -293,16 +236,16 @@ fn rank_line(fault: &RankFault, shape: &Shape) -> Line
             next,
         } => {
             let details = descent_details(shape, from, to, *rank, *next);
-            line_with("rank", title, &details)
+            text_with("rank", title, &details)
         }
-        RankFault::NoEscape(entry) => line_with("rank", title, &entry_details(shape, entry)),
+        RankFault::NoEscape(entry) => text_with("rank", title, &entry_details(shape, entry)),
         RankFault::UnknownChannel { row }
         | RankFault::DoubleChannel { row }
-        | RankFault::BadRank { row } => line_with("rank", title, &[Detail::Row(*row)]),
+        | RankFault::BadRank { row } => text_with("rank", title, &[Detail::Row(*row)]),
         RankFault::MissingChannel { router, port, vc } => {
-            line_with("rank", title, &channel_details(shape, *router, *port, *vc))
+            text_with("rank", title, &channel_details(shape, *router, *port, *vc))
         }
-        RankFault::NoGenerated | RankFault::Memory => line_with("rank", title, &[]),
+        RankFault::NoGenerated | RankFault::Memory => text_with("rank", title, &[]),
     }
 }
 
@@ -363,48 +306,26 @@ fn descent_details(
     ]
 }
 
-fn rank_title(fault: &RankFault) -> &'static str
-    ensures title { result.now ≡ rank_title fault.now }
-    ensures short { length result.now ≤ 20 }
-{
-    match fault {
-        RankFault::NoGenerated => "1 NoGenerated",
-        RankFault::NotRising { .. } | RankFault::NotRisingTo { .. } => "2 NotRising",
-        RankFault::Memory => "3 Memory",
-        RankFault::NoEscape(_) => "4 NoEscape",
-        RankFault::UnknownChannel { .. } => "5 UnknownChannel",
-        RankFault::DoubleChannel { .. } => "6 DoubleChannel",
-        RankFault::MissingChannel { .. } => "7 MissingChannel",
-        RankFault::BadRank { .. } => "8 BadRank",
-    }
-}
-
 // A fault of a network.
-fn network_line(fault: NetFault) -> Line
-    ensures { result.bytes ≡ line_with (codes "network") (net_title fault) (net_details fault) }
+fn network_text(fault: NetFault) -> FaultText
+    ensures text { result.bytes ≡ text_of (Fault.Network fault) }
+    ensures short { length result.bytes < 512 }
 {
-    let title = net_title(fault);
+    let title = fault.title();
     match fault {
         NetFault::SelfPacket { row }
         | NetFault::BadNode { row }
         | NetFault::BadClass { row }
         | NetFault::BadLength { row }
-        | NetFault::BadDue { row } => line_with("network", title, &[Detail::Row(row)]),
-        NetFault::TooMany | NetFault::Memory => line_with("network", title, &[]),
+        | NetFault::BadDue { row } => text_with("network", title, &[Detail::Row(row)]),
+        NetFault::TooMany | NetFault::Memory => text_with("network", title, &[]),
     }
 }
 
-fn net_title(fault: NetFault) -> &'static str
-    ensures title { result.now ≡ net_title fault }
-    ensures short { length result.now ≤ 20 }
+// A fault of writing.
+fn write_text(fault: WriteFault) -> FaultText
+    ensures text { result.bytes ≡ text_of (Fault.Write fault) }
+    ensures short { length result.bytes < 512 }
 {
-    match fault {
-        NetFault::SelfPacket { .. } => "1 SelfPacket",
-        NetFault::BadNode { .. } => "2 BadNode",
-        NetFault::BadClass { .. } => "3 BadClass",
-        NetFault::BadLength { .. } => "4 BadLength",
-        NetFault::TooMany => "5 TooMany",
-        NetFault::Memory => "6 Memory",
-        NetFault::BadDue { .. } => "7 BadDue",
-    }
+    text_with("write", fault.title(), &[Detail::Written(fault.written)])
 }

@@ -12,12 +12,15 @@ is_input g router port = port == local_port g || is_some (neighbour g router por
 
 -- a table says of each router and port, MAX_PORTS entries to a router, whether it is an input port
 abbrev pub AreInputs : Grid → List Bool → Type 0
-AreInputs g table = (router port : ℕ) → router < nodes g → port < ports g → slice_get table (router * MAX_PORTS + port) ≡ Some (is_input g router port)
+AreInputs g table =
+    (router port : ℕ) → router < nodes g → port < ports g
+    → slice_get table (router * MAX_PORTS + port) ≡ Some (is_input g router port)
 
 module _ {X : Type 0} (g : Grid) where
   -- what is said of the channels of an input port, one after the other
   abbrev pub lines_of_port : ℕ → ℕ → (ℕ → ℕ → List X) → ℕ → List X
-  lines_of_port vcs router said port = if is_input g router port then flat_map (said port) (below vcs) else []
+  lines_of_port vcs router said port =
+      if is_input g router port then flat_map (said port) (below vcs) else []
 
   -- what is said of the input channels of a router, port by port over so many of its ports
   abbrev pub lines_of_router : ℕ → ℕ → ℕ → (ℕ → ℕ → List X) → List X
@@ -25,7 +28,8 @@ module _ {X : Type 0} (g : Grid) where
 
   -- what is said of the input channels of all routers, router by router
   abbrev pub lines_of_routers : ℕ → ℕ → (ℕ → ℕ → ℕ → List X) → List X
-  lines_of_routers listed vcs said = flat_map (λ router. lines_of_router listed vcs router (said router)) (below (nodes g))
+  lines_of_routers listed vcs said =
+      flat_map (λ router. lines_of_router listed vcs router (said router)) (below (nodes g))
 
   -- what is said of those of one router or of all
   abbrev pub lines_listed : ℕ → ℕ → Option ℕ → (ℕ → ℕ → ℕ → List X) → List X
@@ -45,7 +49,8 @@ abbrev pub over_port : {X : Type 0} → Routes → ℕ → (ℕ → ℕ → List
 over_port relation router said port = lines_of_port relation.grid relation.vcs router said port
 
 abbrev pub over_router : {X : Type 0} → Routes → ℕ → (ℕ → ℕ → List X) → List X
-over_router relation router said = lines_of_router relation.grid (ports relation.grid) relation.vcs router said
+over_router relation router said =
+    lines_of_router relation.grid (ports relation.grid) relation.vcs router said
 
 abbrev pub over_routers : {X : Type 0} → Routes → (ℕ → ℕ → ℕ → List X) → List X
 over_routers relation said = lines_of_routers relation.grid (ports relation.grid) relation.vcs said

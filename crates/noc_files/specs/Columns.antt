@@ -28,12 +28,17 @@ module _ (columns : ℕ) (Holds : ℕ → List ℕ → Type 0) (fault_at : ℕ �
 
   -- the fault of a row: another number of fields, or a field that its column may not hold
   abbrev pub IsRowFault : ℕ → Fields → InputFault → Type 0
-  IsRowFault row fields fault = ((length fields ≢ columns) × (fault ≡ BadCount row)) ⊎ HasBadColumn row fields fault
+  IsRowFault row fields fault =
+      ((length fields ≢ columns) × (fault ≡ BadCount row)) ⊎ HasBadColumn row fields fault
 
 -- the fault of a row where some columns hold names of ports and the others numerals
 module _ (g : Grid) (columns : ℕ) (is_port : ℕ → Bool) where
   abbrev pub HasBadField : ℕ → Fields → InputFault → Type 0
-  HasBadField row fields fault = HasBadColumn columns (λ k. IsField g (is_port k)) (λ at k. field_fault (is_port k) at k) row fields fault
+  HasBadField row fields fault =
+      HasBadColumn columns (λ k. IsField g (is_port k))
+      (λ at k. field_fault (is_port k) at k) row fields fault
 
   abbrev pub IsFieldFault : ℕ → Fields → InputFault → Type 0
-  IsFieldFault row fields fault = IsRowFault columns (λ k. IsField g (is_port k)) (λ at k. field_fault (is_port k) at k) row fields fault
+  IsFieldFault row fields fault =
+      IsRowFault columns (λ k. IsField g (is_port k))
+      (λ at k. field_fault (is_port k) at k) row fields fault

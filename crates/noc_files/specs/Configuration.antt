@@ -30,12 +30,21 @@ pub record Settings : Type 0 where
   pub cycles : ℕ
 
 abbrev pub settings : Config → Settings
-settings c = record { kind = c.kind; radix = c.radix.items; channels = c.channels; buffer = c.buffer; classes = c.classes; rule = c.rule; cycles = c.cycles }
+settings c = record {
+  kind = c.kind;
+  radix = c.radix.items;
+  channels = c.channels;
+  buffer = c.buffer;
+  classes = c.classes;
+  rule = c.rule;
+  cycles = c.cycles;
+}
 
 -- whether a text is a key of a configuration
 abbrev pub is_key : List ℕ → Bool
 is_key k =
-    bytes_eq k (codes "kind") || bytes_eq k (codes "radix") || bytes_eq k (codes "channels") || bytes_eq k (codes "buffer")
+    bytes_eq k (codes "kind") || bytes_eq k (codes "radix") || bytes_eq k (codes "channels")
+    || bytes_eq k (codes "buffer")
     || bytes_eq k (codes "classes") || bytes_eq k (codes "rule") || bytes_eq k (codes "cycles")
 
 -- each key is one of a configuration
@@ -49,7 +58,8 @@ document_of text = if is_utf8 text then ok_or (parse_document text) BadToml else
 
 -- the value at a key, of the type that `as` reads
 abbrev pub typed_at : {X : Type 0} → (Data → Option X) → Key → Members → Result X InputFault
-typed_at as_type k ms = ok_or (get_member (key_name k) ms) (MissingKey k) >>= λ d. ok_or (as_type d) (WrongType k)
+typed_at as_type k ms =
+    ok_or (get_member (key_name k) ms) (MissingKey k) >>= λ d. ok_or (as_type d) (WrongType k)
 
 abbrev pub string_at : Key → Members → Result (List ℕ) InputFault
 string_at = typed_at as_str
@@ -63,7 +73,9 @@ abbrev pub integer_in : Key → ℕ → ℕ → Members → Result ℕ InputFaul
 integer_in k low high ms = typed_at as_integer k ms >>= λ z. ok_or (within low high z) (BadValue k)
 
 abbrev pub kind_of : List ℕ → Option Kind
-kind_of w = if bytes_eq w (codes "mesh") then Some Mesh else if bytes_eq w (codes "torus") then Some Torus else None
+kind_of w =
+    if bytes_eq w (codes "mesh") then Some Mesh else if bytes_eq w (codes "torus") then Some Torus
+    else None
 
 unfoldable pub kind_at : Members → Result Kind InputFault
 kind_at ms = string_at key.Kind ms >>= λ w. ok_or (kind_of w) (BadValue key.Kind)
@@ -78,10 +90,15 @@ all_integers (item d ds) = is_some (as_integer d) && all_integers ds
 -- each integer from 0 to 1000
 abbrev pub lengths_of : Items → Option (List ℕ)
 lengths_of no_items = Some []
-lengths_of (item d ds) = option_and_then (λ z. option_and_then (λ n. option_map (λ ns. n ∷ ns) (lengths_of ds)) (within 0 1000 z)) (as_integer d)
+lengths_of (item d ds) =
+    option_and_then
+    (λ z. option_and_then (λ n. option_map (λ ns. n ∷ ns) (lengths_of ds)) (within 0 1000 z))
+    (as_integer d)
 
 unfoldable pub radix_at : Members → Result (List ℕ) InputFault
-radix_at ms = typed_at as_array key.Radix ms >>= λ ds. if all_integers ds then ok_or (lengths_of ds) (BadValue key.Radix) else Err (WrongType key.Radix)
+radix_at ms =
+    typed_at as_array key.Radix ms >>= λ ds. if all_integers ds
+    then ok_or (lengths_of ds) (BadValue key.Radix) else Err (WrongType key.Radix)
 
 -- key by key
 unfoldable pub config_at : Members → Result Settings InputFault
@@ -93,7 +110,15 @@ config_at ms = do
   classes ← integer_in key.Classes 1 MAX_CLASSES ms
   rule ← rule_setting ms
   cycles ← integer_in key.Cycles 1 MAX_CYCLES ms
-  Ok (record { kind = kind; radix = radix; channels = channels; buffer = buffer; classes = classes; rule = rule; cycles = cycles })
+  Ok (record {
+    kind = kind;
+    radix = radix;
+    channels = channels;
+    buffer = buffer;
+    classes = classes;
+    rule = rule;
+    cycles = cycles;
+  })
 
 -- numbers that a network and its run may have
 pub record KeepsLimits (c : Config) : Type 0 where
@@ -156,7 +181,8 @@ pub record IsConfiguration (text : List ℕ) (s : Settings) : Type 0 where
 
 -- the keys in the order in which they are looked at
 abbrev pub keys_in_order : List Key
-keys_in_order = key.Kind ∷ key.Radix ∷ key.Channels ∷ key.Buffer ∷ key.Classes ∷ key.Rule ∷ key.Cycles ∷ []
+keys_in_order =
+    key.Kind ∷ key.Radix ∷ key.Channels ∷ key.Buffer ∷ key.Classes ∷ key.Rule ∷ key.Cycles ∷ []
 
 abbrev pub AreIntegers : Items → Type 0
 AreIntegers no_items = Unit {0}
@@ -245,4 +271,5 @@ pub record HasFaultyKey (text : List ℕ) (fault : InputFault) : Type 0 where
 -- the first fault of a configuration: no document, a key that no configuration has, or
 -- the first key with a fault
 abbrev pub IsConfigurationFault : List ℕ → InputFault → Type 0
-IsConfigurationFault text fault = IsNoDocument text fault ⊎ (HasUnknownKey text fault ⊎ HasFaultyKey text fault)
+IsConfigurationFault text fault =
+    IsNoDocument text fault ⊎ (HasUnknownKey text fault ⊎ HasFaultyKey text fault)

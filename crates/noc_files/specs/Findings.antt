@@ -16,11 +16,14 @@ finding_header = codes "port,vc,verdict,packet,out\n"
 -- an output channel as port, full stop and number, or a dash
 abbrev pub out_name : Grid → Option (ℕ × ℕ) → List ℕ
 out_name g None = codes "-"
-out_name g (Some (port, vc)) = text_of_pieces (unwrap_or (port_text g port) (codes "-") ∷ codes "." ∷ decimal vc ∷ [])
+out_name g (Some (port, vc)) =
+    text_of_pieces (unwrap_or (port_text g port) (codes "-") ∷ codes "." ∷ decimal vc ∷ [])
 
 -- an input channel by its port and its VC, its verdict, and its packet
 abbrev pub verdict_text : Grid → ℕ → ℕ → Finding → List ℕ
-verdict_text g port vc f = text_of_pieces (name_of_port g port ∷ comma ∷ decimal vc ∷ comma ∷ verdict_name f.verdict ∷ comma ∷ dash_or f.packet ∷ comma ∷ [])
+verdict_text g port vc f =
+    text_of_pieces (name_of_port g port ∷ comma ∷ decimal vc ∷ comma ∷ verdict_name f.verdict
+    ∷ comma ∷ dash_or f.packet ∷ comma ∷ [])
 
 -- the line of an input channel: its verdict, its packet, and the output channel
 -- that the verdict speaks of
@@ -33,12 +36,14 @@ line_if_found g port vc None = []
 line_if_found g port vc (Some f) = finding_line g port vc f
 
 abbrev pub found_line : Routes → List Finding → ℕ → ℕ → List ℕ
-found_line relation findings port vc = line_if_found relation.grid port vc (slice_get findings (port * relation.vcs + vc))
+found_line relation findings port vc =
+    line_if_found relation.grid port vc (slice_get findings (port * relation.vcs + vc))
 
 -- the report of a router, whose findings go by the index port*V + vc: the header, and a
 -- line for each input channel
 abbrev pub finding_report : Routes → ℕ → List Finding → List ℕ
-finding_report relation router findings = finding_header ++ over_router relation router (found_line relation findings)
+finding_report relation router findings =
+    finding_header ++ over_router relation router (found_line relation findings)
 
 -- the report of a router of a run, which has found nothing before its first cycle
 abbrev pub findings_text : Run → ℕ → List ℕ

@@ -5,7 +5,8 @@ use Rattle.noc_files.specs.declared.fault.InputFault.TheVariants.{Memory}
 
 -- one step, and then the next, up to the first fault
 infixl 10 ◌>>=◌
-abbrev pub ◌>>=◌ : {A B : Type 0} → Result A InputFault → (A → Result B InputFault) → Result B InputFault
+abbrev pub ◌>>=◌ : {A B : Type 0} → Result A InputFault → (A → Result B InputFault)
+    → Result B InputFault
 (Ok x) >>= f = f x
 (Err e) >>= f = Err e
 

@@ -17,11 +17,13 @@ label_text w = take w.length w.bytes
 -- each label of a table of 56 has this text
 pub record HasTexts (text : ℕ → List ℕ) (table : List Label) : Type 0 where
   pub long : length table ≡ 56
-  pub said : (index : ℕ) → index < 56 → option_map label_text (slice_get table index) ≡ Some (text index)
+  pub said : (index : ℕ) → index < 56
+      → option_map label_text (slice_get table index) ≡ Some (text index)
 
 -- a channel by its port and its VC, with a text between
 abbrev pub channel_name : Grid → List ℕ → ℕ → ℕ → List ℕ
-channel_name g between port vc = text_of_pieces (unwrap_or (port_text g port) (codes "-") ∷ between ∷ decimal vc ∷ [])
+channel_name g between port vc =
+    text_of_pieces (unwrap_or (port_text g port) (codes "-") ∷ between ∷ decimal vc ∷ [])
 
 -- that of an index of a table, so many indices to a port
 abbrev pub channel_text : Grid → ℕ → List ℕ → ℕ → List ℕ
@@ -32,4 +34,6 @@ pub record AreLabels (relation : Routes) (labels : Labels) : Type 0 where
   pub inputs : HasTexts (channel_text relation.grid 8 comma) labels.inputs
   pub outputs : HasTexts (channel_text relation.grid 8 (codes ".")) labels.outputs
   pub channels : HasTexts (channel_text relation.grid relation.vcs (codes ".")) labels.channels
-  pub verdicts : (verdict : Verdict) → option_map label_text (slice_get labels.verdicts (column verdict)) ≡ Some (comma ++ verdict_name verdict ++ comma)
+  pub verdicts : (verdict : Verdict)
+      → option_map label_text (slice_get labels.verdicts (column verdict))
+      ≡ Some (comma ++ verdict_name verdict ++ comma)

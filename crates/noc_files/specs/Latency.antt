@@ -17,12 +17,14 @@ packet_latency p (Some cycle) = Some (cycle - p.due)
 -- the number of a packet and what it was made of, each before a comma
 abbrev pub packet_start : ℕ → Packet → List ℕ
 packet_start number p = text_of_pieces (
-    decimal number ∷ comma ∷ decimal p.source ∷ comma ∷ decimal p.destination ∷ comma ∷ decimal p.class ∷ comma ∷ decimal p.length ∷ comma ∷ decimal p.due ∷ comma
+    decimal number ∷ comma ∷ decimal p.source ∷ comma ∷ decimal p.destination ∷ comma
+    ∷ decimal p.class ∷ comma ∷ decimal p.length ∷ comma ∷ decimal p.due ∷ comma
     ∷ [])
 
 -- the cycle in which its tail is out and its latency, or dashes
 abbrev pub packet_end : Packet → Option ℕ → List ℕ
-packet_end p out = text_of_pieces (dash_or out ∷ comma ∷ dash_or (packet_latency p out) ∷ line_end ∷ [])
+packet_end p out =
+    text_of_pieces (dash_or out ∷ comma ∷ dash_or (packet_latency p out) ∷ line_end ∷ [])
 
 -- the line of a packet with this number, whose tail is out in this cycle, if it is
 abbrev pub packet_line : ℕ → Packet → Option ℕ → List ℕ

@@ -17,6 +17,7 @@ pub mod Sheet
 pub mod Stalls
 pub mod Summary
 pub mod Table
+pub mod Titles
 pub mod Trace
 pub mod Traffic
 pub mod Writing

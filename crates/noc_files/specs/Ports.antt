@@ -15,7 +15,8 @@ sign_of port = if is_plus port then codes "+" else codes "-"
 
 -- the links of dimension i are `+i` and `-i`, and the last port is `local`
 abbrev pub name_of_port : Grid → ℕ → List ℕ
-name_of_port g port = if port == local_port g then codes "local" else sign_of port ++ decimal (port / 2)
+name_of_port g port =
+    if port == local_port g then codes "local" else sign_of port ++ decimal (port / 2)
 
 -- the name of a port, if the shape has it
 abbrev pub port_text : Grid → ℕ → Option (List ℕ)
@@ -32,4 +33,5 @@ pub record IsPortName (g : Grid) (name : List ℕ) (port : ℕ) : Type 0 where
 
 -- the port in a column of a row, counted from 0
 abbrev pub port_at : Grid → ℕ → ℕ → Fields → Result ℕ InputFault
-port_at g row column fields = ok_or (option_and_then (port_named g) (field_at fields column)) (BadPort row column)
+port_at g row column fields =
+    ok_or (option_and_then (port_named g) (field_at fields column)) (BadPort row column)

@@ -32,7 +32,8 @@ rank_of field = if bytes_eq field adaptive then Some None else option_map Some (
 
 -- the rank in a column of a row, counted from 0
 abbrev pub rank_field : ℕ → ℕ → Fields → Result (Option ℕ) InputFault
-rank_field row column fields = ok_or (option_and_then rank_of (field_at fields column)) (BadNumber row column)
+rank_field row column fields =
+    ok_or (option_and_then rank_of (field_at fields column)) (BadNumber row column)
 
 -- the channel and the rank of a row: first the number of fields, then the fields from left to right
 unfoldable pub rank_row_of : Grid → ℕ → Fields → Result RankRow InputFault
@@ -56,7 +57,9 @@ IsRankField field (Some n) = IsNumeral field n
 
 -- four fields, a router, the name of a port, a channel and a rank, which write this row
 abbrev pub WritesRank : Grid → Fields → RankRow → Type 0
-WritesRank g (router ∷ port ∷ vc ∷ rank ∷ []) r = IsNumeral router r.router × IsPortName g port r.port × IsNumeral vc r.vc × IsRankField rank r.rank
+WritesRank g (router ∷ port ∷ vc ∷ rank ∷ []) r =
+    IsNumeral router r.router × IsPortName g port r.port × IsNumeral vc r.vc
+    × IsRankField rank r.rank
 WritesRank g _ r = ⊥
 
 -- the header, and below it rows of four fields, which write these rows
@@ -73,21 +76,30 @@ MayHold g _ field = (rank : Option ℕ) × IsRankField field rank
 -- the fault of a row: another number of fields, or a field that its column may not hold, of which
 -- that of column 1 is no name of a port
 abbrev pub IsRankRowFault : Grid → ℕ → Fields → InputFault → Type 0
-IsRankRowFault g row fields fault = IsRowFault 4 (MayHold g) (λ at column. field_fault (column == 1) at column) row fields fault
+IsRankRowFault g row fields fault =
+    IsRowFault 4 (MayHold g) (λ at column. field_fault (column == 1) at column) row fields fault
 
 -- the first fault of a file of ranks
 abbrev pub IsRankFileFault : Grid → List ℕ → InputFault → Type 0
-IsRankFileFault g text fault = IsSheetFault (WritesRank g) (IsRankRowFault g) rank_header (text_rows text) fault
+IsRankFileFault g text fault =
+    IsSheetFault (WritesRank g) (IsRankRowFault g) rank_header (text_rows text) fault
 
 -- ---- the file of some ranks
 
 -- a link channel with its rank
 abbrev pub rank_row : Ranking → ℕ → ℕ → ℕ → RankRow
-rank_row k router port vc = record { router = router; port = port; vc = vc; rank = rank_at k router port vc }
+rank_row k router port vc = record {
+  router = router;
+  port = port;
+  vc = vc;
+  rank = rank_at k router port vc;
+}
 
 -- the channels of a port, if it has a link
 unfoldable pub port_rows : Ranking → ℕ → ℕ → List RankRow
-port_rows k router port = if is_some (neighbour k.grid router port) then map (rank_row k router port) (below k.vcs) else []
+port_rows k router port =
+    if is_some (neighbour k.grid router port) then map (rank_row k router port) (below k.vcs)
+    else []
 
 -- the link channels of a router, port by port
 unfoldable pub router_rows : Ranking → ℕ → List RankRow
@@ -117,7 +129,8 @@ ranks_text k = row_line rank_header ++ flat_map (rank_line k.grid) (rank_rows k)
 
 -- one row comes before another, by router, port and VC
 abbrev pub RowIsBefore : RankRow → RankRow → Type 0
-RowIsBefore a b = numbers_before (a.router ∷ a.port ∷ a.vc ∷ []) (b.router ∷ b.port ∷ b.vc ∷ []) ≡ true
+RowIsBefore a b =
+    numbers_before (a.router ∷ a.port ∷ a.vc ∷ []) (b.router ∷ b.port ∷ b.vc ∷ []) ≡ true
 
 -- a row of a link channel and its rank
 pub record IsRankOf (k : Ranking) (row : RankRow) : Type 0 where

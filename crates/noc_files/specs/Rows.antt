@@ -43,7 +43,9 @@ pub record IsBetweenRows (r : Reader (Bor (List ℕ))) : Type 0 where
 
 -- 1 to 10 decimal digits with a value below 2 ^ 32
 abbrev pub is_number : List ℕ → Bool
-is_number field = all_ascii_digits field && nat_le 1 (length field) && nat_le (length field) 10 && nat_lt (digits_value 10 field) (2 ^ 32)
+is_number field =
+    all_ascii_digits field && nat_le 1 (length field) && nat_le (length field) 10
+    && nat_lt (digits_value 10 field) (2 ^ 32)
 
 -- the number that a field writes
 abbrev pub number_of : List ℕ → Option ℕ
@@ -51,7 +53,8 @@ number_of field = if is_number field then Some (digits_value 10 field) else None
 
 -- the number in a column of a row, counted from 0
 abbrev pub number_at : ℕ → ℕ → Fields → Result ℕ InputFault
-number_at row column fields = ok_or (option_and_then number_of (field_at fields column)) (BadNumber row column)
+number_at row column fields =
+    ok_or (option_and_then number_of (field_at fields column)) (BadNumber row column)
 
 -- a field that writes this number, at most 4294967295, by 1 to 10 decimal digits
 pub record IsNumeral (field : List ℕ) (n : ℕ) : Type 0 where

@@ -45,10 +45,12 @@ column_entry u column router port vc = slice_index (channel_counts u router port
 
 -- the sum of a column over the channels of an input port, of a router, and of all
 unfoldable pub port_total : Run → ℕ → ℕ → ℕ → ℕ
-port_total u router port column = sum (over_port u.net.relation router (column_entry u column router) port)
+port_total u router port column =
+    sum (over_port u.net.relation router (column_entry u column router) port)
 
 unfoldable pub router_total : Run → ℕ → ℕ → ℕ
-router_total u router column = sum (over_router u.net.relation router (column_entry u column router))
+router_total u router column =
+    sum (over_router u.net.relation router (column_entry u column router))
 
 unfoldable pub column_total : Run → ℕ → ℕ
 column_total u column = sum (over_routers u.net.relation (column_entry u column))
@@ -100,7 +102,8 @@ summary_entries s =
 
 -- the line of a verdict, by the totals of all
 abbrev pub total_line : List ℕ → Verdict → List ℕ
-total_line totals verdict = summary_line (column_name verdict, Some (slice_index totals (column verdict)))
+total_line totals verdict =
+    summary_line (column_name verdict, Some (slice_index totals (column verdict)))
 
 -- the lines of a summary
 abbrev pub summary_lines : Summary → List ℕ

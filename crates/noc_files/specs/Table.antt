@@ -12,7 +12,9 @@ use Rattle.noc_files.specs.Rows.{Fields, IsNumeral, number_at, text_rows}
 use Rattle.noc_files.specs.Sheet.{IsSheet, IsSheetFault, sheet}
 
 abbrev pub table_header : Fields
-table_header = codes "class" ∷ codes "router" ∷ codes "in_port" ∷ codes "in_vc" ∷ codes "dst" ∷ codes "out_port" ∷ codes "out_vc" ∷ []
+table_header =
+    codes "class" ∷ codes "router" ∷ codes "in_port" ∷ codes "in_vc" ∷ codes "dst"
+    ∷ codes "out_port" ∷ codes "out_vc" ∷ []
 
 -- the row of a table: first the number of fields, then the fields from left to right
 unfoldable pub route_row_of : Grid → ℕ → Fields → Result RouteRow InputFault
@@ -27,7 +29,15 @@ route_row_of g row fields = if length fields == 7 then seven else Err (BadCount 
       dst ← number_at row 4 fields
       out_port ← port_at g row 5 fields
       out_vc ← number_at row 6 fields
-      Ok (record { class = class; router = router; in_port = in_port; in_vc = in_vc; dst = dst; out_port = out_port; out_vc = out_vc })
+      Ok (record {
+        class = class;
+        router = router;
+        in_port = in_port;
+        in_vc = in_vc;
+        dst = dst;
+        out_port = out_port;
+        out_vc = out_vc;
+      })
 
 abbrev pub table_of : Grid → List ℕ → Result (List RouteRow) InputFault
 table_of g text = sheet (route_row_of g) table_header (text_rows text)
@@ -35,7 +45,9 @@ table_of g text = sheet (route_row_of g) table_header (text_rows text)
 -- seven fields, numerals and names of ports, which write this row
 abbrev pub WritesRoute : Grid → Fields → RouteRow → Type 0
 WritesRoute g (class ∷ router ∷ in_port ∷ in_vc ∷ dst ∷ out_port ∷ out_vc ∷ []) r =
-    IsNumeral class r.class × IsNumeral router r.router × IsPortName g in_port r.in_port × IsNumeral in_vc r.in_vc × IsNumeral dst r.dst × IsPortName g out_port r.out_port × IsNumeral out_vc r.out_vc
+    IsNumeral class r.class × IsNumeral router r.router × IsPortName g in_port r.in_port
+    × IsNumeral in_vc r.in_vc × IsNumeral dst r.dst × IsPortName g out_port r.out_port
+    × IsNumeral out_vc r.out_vc
 WritesRoute g _ r = ⊥
 
 -- the header, and below it rows of seven fields, which write these rows
@@ -52,7 +64,8 @@ IsRouteFault g row fields fault = IsFieldFault g 7 is_port_column row fields fau
 
 -- the first fault of a table file
 abbrev pub IsTableFault : Grid → List ℕ → InputFault → Type 0
-IsTableFault g text fault = IsSheetFault (WritesRoute g) (IsRouteFault g) table_header (text_rows text) fault
+IsTableFault g text fault =
+    IsSheetFault (WritesRoute g) (IsRouteFault g) table_header (text_rows text) fault
 
 -- ---- the plainest table file of some rows
 
@@ -68,7 +81,8 @@ pub record IsWritableRow (g : Grid) (r : RouteRow) : Type 0 where
 
 abbrev pub route_fields : Grid → RouteRow → Fields
 route_fields g r =
-    decimal r.class ∷ decimal r.router ∷ name_of_port g r.in_port ∷ decimal r.in_vc ∷ decimal r.dst ∷ name_of_port g r.out_port ∷ decimal r.out_vc ∷ []
+    decimal r.class ∷ decimal r.router ∷ name_of_port g r.in_port ∷ decimal r.in_vc ∷ decimal r.dst
+    ∷ name_of_port g r.out_port ∷ decimal r.out_vc ∷ []
 
 -- the header, and a line of numbers and names of ports for each row
 abbrev pub table_text : Grid → List RouteRow → List ℕ

@@ -10,7 +10,8 @@ use Rattle.noc_files.specs.Rows.{Fields, HasNumeral, IsNumeral, number_at, text_
 use Rattle.noc_files.specs.Sheet.{IsSheet, IsSheetFault, sheet}
 
 abbrev pub traffic_header : Fields
-traffic_header = codes "source" ∷ codes "destination" ∷ codes "class" ∷ codes "length" ∷ codes "due" ∷ []
+traffic_header =
+    codes "source" ∷ codes "destination" ∷ codes "class" ∷ codes "length" ∷ codes "due" ∷ []
 
 -- the packet of a row: first the number of fields, then the fields from left to right
 unfoldable pub packet_of : ℕ → Fields → Result Packet InputFault
@@ -23,7 +24,13 @@ packet_of row fields = if length fields == 5 then five else Err (BadCount row)
       class ← number_at row 2 fields
       length ← number_at row 3 fields
       due ← number_at row 4 fields
-      Ok (record { source = source; destination = destination; class = class; length = length; due = due })
+      Ok (record {
+        source = source;
+        destination = destination;
+        class = class;
+        length = length;
+        due = due;
+      })
 
 abbrev pub traffic_of : List ℕ → Result (List Packet) InputFault
 traffic_of text = sheet packet_of traffic_header (text_rows text)
@@ -31,7 +38,8 @@ traffic_of text = sheet packet_of traffic_header (text_rows text)
 -- five numerals, which write this packet
 abbrev pub WritesPacket : Fields → Packet → Type 0
 WritesPacket (source ∷ destination ∷ class ∷ length ∷ due ∷ []) p =
-    IsNumeral source p.source × IsNumeral destination p.destination × IsNumeral class p.class × IsNumeral length p.length × IsNumeral due p.due
+    IsNumeral source p.source × IsNumeral destination p.destination × IsNumeral class p.class
+    × IsNumeral length p.length × IsNumeral due p.due
 WritesPacket _ p = ⊥
 
 -- the header, and below it rows of five numerals, which write these packets
@@ -44,7 +52,8 @@ IsPacketFault row fields fault = IsRowFault 5 (λ _. HasNumeral) BadNumber row f
 
 -- the first fault of a traffic file
 abbrev pub IsTrafficFault : List ℕ → InputFault → Type 0
-IsTrafficFault text fault = IsSheetFault WritesPacket IsPacketFault traffic_header (text_rows text) fault
+IsTrafficFault text fault =
+    IsSheetFault WritesPacket IsPacketFault traffic_header (text_rows text) fault
 
 -- ---- the plainest traffic file of some packets
 
@@ -57,7 +66,9 @@ pub record IsWritablePacket (p : Packet) : Type 0 where
   pub due : p.due < 2 ^ 32
 
 abbrev pub packet_fields : Packet → Fields
-packet_fields p = decimal p.source ∷ decimal p.destination ∷ decimal p.class ∷ decimal p.length ∷ decimal p.due ∷ []
+packet_fields p =
+    decimal p.source ∷ decimal p.destination ∷ decimal p.class ∷ decimal p.length ∷ decimal p.due
+    ∷ []
 
 -- the header, and a line of five numbers for each packet
 abbrev pub traffic_text : List Packet → List ℕ

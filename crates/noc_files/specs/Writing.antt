@@ -5,13 +5,18 @@ use Rattle.std.specs.List.{flat_map}
 use Rattle.noc_files.specs.declared.writing.WriteFault.{WriteFault}
 
 -- a sink took all of a text, or failed after just the bytes that the fault counts
-abbrev pub Wrote : {S : Type 0} → (S → Option (List ℕ)) → (S → Bool) → S → S → List ℕ → Result (Unit {0}) WriteFault → Type 0
+abbrev pub Wrote : {S : Type 0} → (S → Option (List ℕ)) → (S → Bool) → S → S → List ℕ
+    → Result (Unit {0}) WriteFault → Type 0
 Wrote contents failed old new text (Ok _) = Appends (contents old) (contents new) text
-Wrote contents failed old new text (Err f) = (f.written < length text) × Appends (contents old) (contents new) (take f.written text) × (failed new ≡ true)
+Wrote contents failed old new text (Err f) =
+    (f.written < length text) × Appends (contents old) (contents new) (take f.written text)
+    × (failed new ≡ true)
 
 -- the same, where the bytes of the whole text are counted too
-abbrev pub Puts : {S : Type 0} → (S → Option (List ℕ)) → (S → Bool) → S → S → List ℕ → Result ℕ WriteFault → Type 0
-Puts contents failed old new text (Ok n) = (n ≡ length text) × Wrote contents failed old new text (Ok tt)
+abbrev pub Puts : {S : Type 0} → (S → Option (List ℕ)) → (S → Bool) → S → S → List ℕ
+    → Result ℕ WriteFault → Type 0
+Puts contents failed old new text (Ok n) =
+    (n ≡ length text) × Wrote contents failed old new text (Ok tt)
 Puts contents failed old new text (Err f) = Wrote contents failed old new text (Err f)
 
 -- how many bytes a sink took

@@ -80,7 +80,8 @@ fn document(alloc: Global, text: &[u8]) -> Result<Table, InputFault>
 
 // The value at a key.
 fn value(table: &Table, key: Key) -> Result<&Value, InputFault>
-    ensures { result_map (λ v. view v.now) result ≡ ok_or (get_member (key_name key) (table_view table.now)) (MissingKey key) }
+    ensures { result_map (λ v. view v.now) result
+        ≡ ok_or (get_member (key_name key) (table_view table.now)) (MissingKey key) }
 {
     match table.get(key.name()) {
         Some(value) => Ok(value),
@@ -139,7 +140,8 @@ fn are_integers(values: &[Value]) -> bool
 
 // The integers from 0 to 1000 of an array.
 fn lengths(alloc: Global, values: &[Value]) -> Result<Vec<usize>, InputFault>
-    ensures { Gives (λ v. v.items) result (ok_or (lengths_of (items_view values.now)) (BadValue key.Radix)) }
+    ensures { Gives (λ v. v.items) result
+        (ok_or (lengths_of (items_view values.now)) (BadValue key.Radix)) }
 {
     let mut lengths = Vec::new(alloc);
     for value in values {
@@ -219,5 +221,6 @@ pub fn configuration_is_document_with_keys()
 /// document in UTF-8, or it has a key that no configuration has. Or, in the order of the keys, this
 /// is the first that is missing, has a value of another type, or has one that it may not have.
 pub fn configuration_is_refused_with_its_first_fault()
-    ensures { (text : List ℕ) (fault : Fault) → (config_of text ≡ Err fault) ↔ IsConfigurationFault text fault }
+    ensures { (text : List ℕ) (fault : Fault)
+        → (config_of text ≡ Err fault) ↔ IsConfigurationFault text fault }
 {}

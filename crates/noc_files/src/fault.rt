@@ -1,10 +1,13 @@
 //! Why an input was refused.
 
-ghost use Rattle.std.specs.Prelude.{◌≡◌};
+ghost use Rattle.std.specs.Prelude.{◌≡◌, ◌≤◌, Some, length};
 ghost use Rattle.noc_files.specs.declared.fault.InputFault.TheVariants.{Memory};
 ghost use Rattle.noc_files.specs.Keys.{key_name};
+ghost use Rattle.noc_files.specs.Titles.{input_title};
 
 use std::alloc::{AllocError, AllocFailed};
+use std::error::Error;
+use std::fmt;
 
 /// A key of a configuration, in the order in which the keys are looked at (docs/FORMATS.md).
 #[derive(Clone, Copy, Debug, PartialEq, Eq)]
@@ -67,6 +70,31 @@ pub enum InputFault {
     NoSplit,
 }
 
+impl InputFault {
+    /// The number and the name of the fault, as its fault line has them; at most 20 bytes
+    /// (docs/FORMATS.md, "Fault lines").
+    pub fn title(&self) -> &'static str
+        ensures title { result.now ≡ input_title self.now }
+        ensures short { length result.now ≤ 20 }
+    {
+        match self {
+            InputFault::ReadFailed => "1 ReadFailed",
+            InputFault::TooLong => "2 TooLong",
+            InputFault::Memory => "3 Memory",
+            InputFault::BadToml => "4 BadToml",
+            InputFault::UnknownKey => "5 UnknownKey",
+            InputFault::MissingKey(_) => "6 MissingKey",
+            InputFault::WrongType(_) => "7 WrongType",
+            InputFault::BadValue(_) => "8 BadValue",
+            InputFault::BadHeader => "9 BadHeader",
+            InputFault::BadCount { .. } => "10 BadCount",
+            InputFault::BadNumber { .. } => "11 BadNumber",
+            InputFault::BadPort { .. } => "12 BadPort",
+            InputFault::NoSplit => "13 NoSplit",
+        }
+    }
+}
+
 impl From<AllocError> for InputFault {
     ghost from_gives = { λ _ e. e ≡ Memory };
 
@@ -82,3 +110,14 @@ impl<T: Drop> From<AllocFailed<T>> for InputFault {
         InputFault::Memory
     }
 }
+
+/// Its title.
+impl fmt::Display for InputFault {
+    ghost output = { λ fault. Some (input_title fault) };
+
+    fn fmt<W: fmt::Write>(&self, f: &mut fmt::Formatter<W>) -> fmt::Result {
+        f.write_str(self.title())
+    }
+}
+
+impl Error for InputFault {}

@@ -57,7 +57,8 @@ pub fn write_findings<W: Sink>(
     sink: &mut W,
 ) -> Result<(), WriteFault>
     requires { router < nodes network.now.net.relation.grid }
-    ensures { Wrote W.contents W.has_failed sink.old sink.new (findings_text network.now router) result }
+    ensures { Wrote W.contents W.has_failed sink.old sink.new
+        (findings_text network.now router) result }
 {
     let relation = network.relation();
     let shape = relation.shape();

@@ -26,7 +26,8 @@ pub(crate) fn inputs_of(shape: &Shape) -> Inputs
 // Whether an index is that of an input port.
 fn has_input_at(shape: &Shape, index: usize) -> bool
     requires { index < nodes shape.now * MAX_PORTS }
-    ensures { index % MAX_PORTS < ports shape.now → result ≡ is_input shape.now (index / MAX_PORTS) (index % MAX_PORTS) }
+    ensures { index % MAX_PORTS < ports shape.now
+        → result ≡ is_input shape.now (index / MAX_PORTS) (index % MAX_PORTS) }
 {
     let port = index % MAX_PORTS;
     port < shape.ports() && has_inputs(shape, index / MAX_PORTS, port)

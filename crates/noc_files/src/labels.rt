@@ -128,7 +128,9 @@ fn add_channel(shape: &Shape, port: usize, between: u8, vc: usize, page: &mut Pa
 
 // The labels of all verdicts, each between two commas.
 fn verdict_labels(page: &mut Page) -> [Label; VERDICTS]
-    ensures { (verdict : VerdictValue) → option_map label_text (slice_get result (column verdict)) ≡ Some (comma ++ verdict_name verdict ++ comma) }
+    ensures { (verdict : VerdictValue)
+        → option_map label_text (slice_get result (column verdict))
+        ≡ Some (comma ++ verdict_name verdict ++ comma) }
 {
     let mut labels = [EMPTY; VERDICTS];
     for index in 0..VERDICTS {

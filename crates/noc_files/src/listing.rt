@@ -80,7 +80,9 @@ impl<'a, L: Lines> Listing<'a, L> {
         requires router { router < nodes (L.grid self.now.lines.now) }
         requires port { port < self.now.listed }
         requires room { length page.old + LONGEST_PORT ≤ PAGE }
-        ensures said { page.new ≡ page.old ++ lines_of_port (L.grid self.now.lines.now) self.now.vcs router (L.said self.now.lines.now router) port }
+        ensures said { page.new ≡ page.old
+            ++ lines_of_port (L.grid self.now.lines.now) self.now.vcs router
+            (L.said self.now.lines.now router) port }
         ensures short { length page.new ≤ length page.old + LONGEST_PORT }
     {
         // (the counts say that the index is within the table)
@@ -97,7 +99,8 @@ impl<'a, L: Lines> Listing<'a, L> {
 impl<'a, L: Lines> Pages for Listing<'a, L> {
     ghost pages = { λ s. router_pages (L.grid s.lines.now) s.router };
 
-    ghost text = { λ s number. lines_of_router (L.grid s.lines.now) s.listed s.vcs (page_router s.router number) (L.said s.lines.now (page_router s.router number)) };
+    ghost text = { λ s number. lines_of_router (L.grid s.lines.now) s.listed s.vcs
+        (page_router s.router number) (L.said s.lines.now (page_router s.router number)) };
 
     fn pages(&self) -> usize {
         match self.router {
@@ -124,7 +127,10 @@ pub(crate) fn write_lines<L: Lines, W: Sink>(
     listing: &Listing<L>,
     sink: &mut W,
 ) -> Result<(), WriteFault>
-    ensures { Wrote W.contents W.has_failed sink.old sink.new (header.now ++ lines_listed (L.grid listing.now.lines.now) listing.now.listed listing.now.vcs listing.now.router (L.said listing.now.lines.now)) result }
+    ensures { Wrote W.contents W.has_failed sink.old sink.new
+        (header.now ++ lines_listed
+        (L.grid listing.now.lines.now) listing.now.listed listing.now.vcs listing.now.router
+        (L.said listing.now.lines.now)) result }
 {
     write_pages(header, listing, sink)
 }

@@ -37,7 +37,8 @@ pub(crate) fn put_pages<P: Pages, W: Sink>(
     page: &mut Page,
     sink: &mut W,
 ) -> Result<u64, WriteFault>
-    ensures puts { Puts W.contents W.has_failed sink.old sink.new (flat_map (P.text pages.now) (below (P.pages pages.now))) result }
+    ensures puts { Puts W.contents W.has_failed sink.old sink.new
+        (flat_map (P.text pages.now) (below (P.pages pages.now))) result }
     ensures few { taken result ≤ LONGEST_TEXT }
 {
     let mut written = 0;
@@ -60,7 +61,8 @@ pub(crate) fn write_pages<P: Pages, W: Sink>(
     pages: &P,
     sink: &mut W,
 ) -> Result<(), WriteFault>
-    ensures { Wrote W.contents W.has_failed sink.old sink.new (header.now ++ flat_map (P.text pages.now) (below (P.pages pages.now))) result }
+    ensures { Wrote W.contents W.has_failed sink.old sink.new
+        (header.now ++ flat_map (P.text pages.now) (below (P.pages pages.now))) result }
 {
     put_all(sink, header.as_bytes())?;
     match put_pages(pages, &mut Page::new(), sink) {

@@ -86,7 +86,8 @@ pub fn read_ranks(alloc: Global, shape: &Shape, text: &[u8]) -> Result<Vec<RankR
 /// below it write them. Each of these has four fields: numerals, the name of a port of the shape,
 /// and a numeral or the text `adaptive`.
 pub fn rank_file_is_header_and_rows()
-    ensures { (g : Grid) → IsGrid g → (text : List ℕ) (rows : List RowValue) → (ranks_of g text ≡ Ok rows) ↔ IsRankFile g text rows }
+    ensures { (g : Grid) → IsGrid g → (text : List ℕ) (rows : List RowValue)
+        → (ranks_of g text ≡ Ok rows) ↔ IsRankFile g text rows }
 {}
 
 /// A text is refused with this fault exactly where it is the first one. Either there is no header,
@@ -94,13 +95,15 @@ pub fn rank_file_is_header_and_rows()
 /// or has four, of which this is the first that may not stand there. A router and a channel are
 /// numerals, a port is one of the shape, and a rank is a numeral or the text `adaptive`.
 pub fn rank_file_is_refused_with_its_first_fault()
-    ensures { (g : Grid) → IsGrid g → (text : List ℕ) (fault : Fault) → (ranks_of g text ≡ Err fault) ↔ IsRankFileFault g text fault }
+    ensures { (g : Grid) → IsGrid g → (text : List ℕ) (fault : Fault)
+        → (ranks_of g text ≡ Err fault) ↔ IsRankFileFault g text fault }
 {}
 
 /// The rank file of some ranks is read back as rows that name each link channel once with its rank,
 /// in rising order of router, port and virtual channel.
 pub fn written_ranks_are_read_back()
-    ensures { (k : Ranking) → IsRanking k → k.vcs ≤ MAX_CHANNELS → (ranks_of k.grid (ranks_text k) ≡ Ok (rank_rows k)) × ListsRanks k (rank_rows k) }
+    ensures { (k : Ranking) → IsRanking k → k.vcs ≤ MAX_CHANNELS
+        → (ranks_of k.grid (ranks_text k) ≡ Ok (rank_rows k)) × ListsRanks k (rank_rows k) }
 {}
 
 // Some ranks with their shape.
@@ -118,7 +121,8 @@ impl<'a> Lines for Listed<'a> {
 
     ghost vcs = { λ s. s.ranks.now.vcs };
 
-    ghost said = { λ s router port vc. rank_line s.ranks.now.grid (rank_row s.ranks.now router port vc) };
+    ghost said = { λ s router port vc. rank_line s.ranks.now.grid
+        (rank_row s.ranks.now router port vc) };
 
     fn add_line(&self, router: usize, port: usize, vc: usize, page: &mut Page) {
         page.add_column(router as u64);

@@ -15,7 +15,8 @@ use std::io::Read;
 pub fn read_all<R: Read>(alloc: Global, reader: &mut R, limit: usize) -> Result<Vec<u8>, InputFault>
     ensures short { IfOk result (λ v. vec_len v ≤ limit) }
     ensures end { OnOk result (IsAtEnd (R.remaining reader.new)) }
-    ensures known { IfSome (R.remaining reader.old) (λ xs. Reads result (if nat_le (length xs) limit then Ok xs else Err TooLong)) }
+    ensures known { IfSome (R.remaining reader.old)
+        (λ xs. Reads result (if nat_le (length xs) limit then Ok xs else Err TooLong)) }
 {
     let mut bytes = Vec::new(alloc);
     let mut chunk = [0u8; 4096];

@@ -17,7 +17,8 @@ pub fn write_report<W: Sink>(
     report: Report,
     sink: &mut W,
 ) -> Result<(), WriteFault>
-    ensures { Wrote W.contents W.has_failed sink.old sink.new (report_text report network.now) result }
+    ensures { Wrote W.contents W.has_failed sink.old sink.new
+        (report_text report network.now) result }
 {
     match report {
         Report::Summary => write_summary(network, sink),

@@ -34,7 +34,8 @@ pub(crate) fn rows(alloc: Global, text: &[u8]) -> Reader<&[u8]>
 pub(crate) fn next_row(reader: &mut Reader<&[u8]>, row: &mut ByteRecord) -> Result<bool, InputFault>
     requires { IsBetweenRows reader.old }
     ensures ready { IfOk result (λ found. found ≡ true → IsBetweenRows reader.new) }
-    ensures row { IfOk result (λ found. found ≡ true → rows_left reader.old ≡ fields_of row.new ∷ rows_left reader.new) }
+    ensures row { IfOk result (λ found. found ≡ true
+        → rows_left reader.old ≡ fields_of row.new ∷ rows_left reader.new) }
     ensures end { IfOk result (λ found. found ≡ false → rows_left reader.old ≡ []) }
     ensures err { IfErr result (λ e. e ≡ Memory) }
 {
@@ -107,7 +108,8 @@ pub(crate) fn port_in(
 
 /// The rows of a text are its records, all of them and in order.
 pub fn rows_are_records()
-    ensures { (text : List ℕ) → AreRecords default_config st.StartRecord (strip_bom text) (text_rows text) }
+    ensures { (text : List ℕ) → AreRecords default_config st.StartRecord (strip_bom text)
+        (text_rows text) }
 {}
 
 /// The lines of rows are read back as these rows, where the fields are ASCII without commas, quotes

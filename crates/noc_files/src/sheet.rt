@@ -19,7 +19,9 @@ pub(crate) fn read_sheet<V: Drop, F: Fn(&ByteRecord, usize) -> Result<V, InputFa
     read: F,
 ) -> Result<Vec<V>, InputFault>
     requires { F.IsAlwaysCallable read }
-    ensures { (said : ℕ → Fields → Result V Fault) → ReadsRows (F.post read) said → Gives (λ v. v.items) result (sheet said (map (λ n. n.now) header.now) (text_rows text.now)) }
+    ensures { (said : ℕ → Fields → Result V Fault) → ReadsRows (F.post read) said
+        → Gives (λ v. v.items) result
+        (sheet said (map (λ n. n.now) header.now) (text_rows text.now)) }
 {
     let mut reader = rows(alloc, text);
     let mut row = ByteRecord::new(alloc);
@@ -36,7 +38,9 @@ fn read_left<V: Drop, F: Fn(&ByteRecord, usize) -> Result<V, InputFault> + Drop>
 ) -> Result<Vec<V>, InputFault>
     requires ready { IsBetweenRows reader.old }
     requires callable { F.IsAlwaysCallable read }
-    ensures { (said : ℕ → Fields → Result V Fault) → ReadsRows (F.post read) said → Gives (λ v. v.items) result (sheet said (map (λ n. n.now) header.now) (rows_left reader.old)) }
+    ensures { (said : ℕ → Fields → Result V Fault) → ReadsRows (F.post read) said
+        → Gives (λ v. v.items) result
+        (sheet said (map (λ n. n.now) header.now) (rows_left reader.old)) }
 {
     if !next_row(reader, row)? {
         return Err(InputFault::BadHeader);

@@ -20,7 +20,8 @@ pub trait Sink {
         ensures takes { Appends (contents self.old) (contents self.new) (take result bytes.now) }
 
         // Taking none of some bytes, and nothing else, makes it fail.
-        ensures fails { has_failed self.new ≡ (has_failed self.old || (result == 0 && not (length bytes.now == 0))) }
+        ensures fails { has_failed self.new
+            ≡ (has_failed self.old || (result == 0 && not (length bytes.now == 0))) }
         ensures closed { has_failed self.old ≡ true → result ≡ 0 };
 
     /// Whether it has failed.

@@ -101,5 +101,6 @@ pub fn write_stalls<W: Sink>(network: &Network, sink: &mut W) -> Result<(), Writ
 
 /// The ten counts of a line of the stall report add up to the cycles of the run.
 pub fn the_counts_of_a_line_add_up()
-    ensures { (u : RunValue) (router port vc : ℕ) → sum (channel_counts u router port vc) ≡ u.count }
+    ensures { (u : RunValue) (router port vc : ℕ)
+        → sum (channel_counts u router port vc) ≡ u.count }
 {}

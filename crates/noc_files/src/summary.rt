@@ -79,9 +79,11 @@ fn add_line(name: &str, number: Option<u128>, page: &mut Page)
 
 // Adds lines of names and numbers.
 fn add_lines(entries: &[(&str, Option<u128>)], page: &mut Page)
-    requires names { list_all (λ entry. nat_le (length entry.0.now) LONGEST_NAME) entries.now ≡ true }
+    requires names { list_all (λ entry. nat_le (length entry.0.now) LONGEST_NAME) entries.now
+        ≡ true }
     requires room { length page.old + LINE * length entries.now ≤ PAGE }
-    ensures added { page.new ≡ page.old ++ flat_map (λ entry. summary_line (entry_value entry)) entries.now }
+    ensures added { page.new ≡ page.old
+        ++ flat_map (λ entry. summary_line (entry_value entry)) entries.now }
     ensures short { length page.new ≤ length page.old + LINE * length entries.now }
 {
     for entry in entries {

@@ -60,7 +60,8 @@ pub fn read_table(alloc: Global, shape: &Shape, text: &[u8]) -> Result<Vec<Route
 /// A text is read as these rows of a table exactly where its first row is the header and the rows
 /// below it write them. Each of these has seven fields, numerals and names of ports of the shape.
 pub fn table_is_header_and_rows()
-    ensures { (g : Grid) → IsGrid g → (text : List ℕ) (rows : List Route) → (table_of g text ≡ Ok rows) ↔ IsTable g text rows }
+    ensures { (g : Grid) → IsGrid g → (text : List ℕ) (rows : List Route)
+        → (table_of g text ≡ Ok rows) ↔ IsTable g text rows }
 {}
 
 /// A text is refused with this fault exactly where it is the first one. Either there is
@@ -68,11 +69,13 @@ pub fn table_is_header_and_rows()
 /// has not seven fields, or has seven, of which this is the first that is no numeral or
 /// names no port of the shape.
 pub fn table_is_refused_with_its_first_fault()
-    ensures { (g : Grid) → IsGrid g → (text : List ℕ) (fault : Fault) → (table_of g text ≡ Err fault) ↔ IsTableFault g text fault }
+    ensures { (g : Grid) → IsGrid g → (text : List ℕ) (fault : Fault)
+        → (table_of g text ≡ Err fault) ↔ IsTableFault g text fault }
 {}
 
 /// The plainest table file of some rows is read back as these rows, where their numbers are at most
 /// 4294967295 and the shape has their ports.
 pub fn written_table_is_read_back()
-    ensures { (g : Grid) → IsGrid g → (rows : List Route) → Each (IsWritableRow g) rows → table_of g (table_text g rows) ≡ Ok rows }
+    ensures { (g : Grid) → IsGrid g → (rows : List Route) → Each (IsWritableRow g) rows
+        → table_of g (table_text g rows) ≡ Ok rows }
 {}

@@ -100,7 +100,8 @@ impl Trace {
         requires long { HaveChannels (size network.now.net) self.old.1 }
         ensures traced { self.new.0 ≡ self.old.0 }
         ensures many { length self.new.1 ≡ length self.old.1 }
-        ensures found { (r : ℕ) → r < length self.old.1 → slice_get self.new.1 r ≡ Some (findings_before network.now.net network.now.count r) }
+        ensures found { (r : ℕ) → r < length self.old.1
+            → slice_get self.new.1 r ≡ Some (findings_before network.now.net network.now.count r) }
     {
         keep_all(network, &mut self.kept);
     }
@@ -112,7 +113,9 @@ fn keep_all(network: &Network, kept: &mut [Vec<Finding>])
     requires few { length kept.old ≤ nodes network.now.net.relation.grid }
     requires long { HaveChannels (size network.now.net) (map (λ one. one.items) kept.old) }
     ensures many { length kept.new ≡ length kept.old }
-    ensures found { (r : ℕ) → r < length kept.old → slice_get (map (λ one. one.items) kept.new) r ≡ Some (findings_before network.now.net network.now.count r) }
+    ensures found { (r : ℕ) → r < length kept.old
+        → slice_get (map (λ one. one.items) kept.new) r
+        ≡ Some (findings_before network.now.net network.now.count r) }
 {
     for router in 0..kept.len() {
         keep_one(network.findings(router), &mut kept[router]);
@@ -129,7 +132,9 @@ fn keep_one(findings: &[Finding], kept: &mut Vec<Finding>)
 
 // That nothing was found, for each router.
 fn nothing_kept(alloc: Global, network: &Network) -> Result<Vec<Vec<Finding>>, Memory>
-    ensures { IfOk result (λ kept. map (λ one. one.items) kept.items ≡ replicate (nodes network.now.net.relation.grid) (replicate (size network.now.net) empty_finding)) }
+    ensures { IfOk result (λ kept. map (λ one. one.items) kept.items
+        ≡ replicate (nodes network.now.net.relation.grid)
+        (replicate (size network.now.net) empty_finding)) }
 {
     let relation = network.relation();
     let channels = relation.shape().ports() * relation.vcs();
@@ -143,7 +148,8 @@ fn nothing_kept(alloc: Global, network: &Network) -> Result<Vec<Vec<Finding>>, M
 // What a trace tells of one of these channels: nothing where it is Empty or not one
 // of those that are traced.
 fn told_at(packet: Option<u64>, findings: &[Finding], index: usize) -> Option<&Finding>
-    ensures { option_map (λ finding. finding.now) result ≡ option_and_then (traced_finding packet) (slice_get findings.now index) }
+    ensures { option_map (λ finding. finding.now) result
+        ≡ option_and_then (traced_finding packet) (slice_get findings.now index) }
 {
     let finding = findings.get(index)?;
     if is_told(packet, finding) {
@@ -169,7 +175,8 @@ fn is_told(packet: Option<u64>, finding: &Finding) -> bool
 
 // Whether nothing is told of any of these channels.
 fn tells_nothing(packet: Option<u64>, findings: &[Finding]) -> bool
-    ensures { result ≡ true → (index : ℕ) → option_and_then (traced_finding packet) (slice_get findings.now index) ≡ None }
+    ensures { result ≡ true → (index : ℕ)
+        → option_and_then (traced_finding packet) (slice_get findings.now index) ≡ None }
 {
     for finding in findings {
         if is_told(packet, finding) {
@@ -181,7 +188,8 @@ fn tells_nothing(packet: Option<u64>, findings: &[Finding]) -> bool
 
 // Whether the same is told.
 fn is_same(before: Option<&Finding>, now: Option<&Finding>) -> bool
-    ensures { result ≡ is_same (option_map (λ finding. finding.now) before.entry) (option_map (λ finding. finding.now) now.entry) }
+    ensures { result ≡ is_same (option_map (λ finding. finding.now) before.entry)
+        (option_map (λ finding. finding.now) now.entry) }
 {
     match (before, now) {
         (None, None) => true,
@@ -288,7 +296,10 @@ fn add_member(relation: &Relation, labels: &Labels, index: usize, has_some: bool
     requires index { index < ports relation.now.grid * relation.now.vcs }
     requires few { index < INDICES }
     requires room { length page.old + MEMBER ≤ PAGE }
-    ensures added { page.new ≡ page.old ++ text_of_pieces ((if has_some then codes " " else []) ∷ name_of_port relation.now.grid (index / relation.now.vcs) ∷ codes "." ∷ decimal (index % relation.now.vcs) ∷ []) }
+    ensures added { page.new ≡ page.old
+        ++ text_of_pieces ((if has_some then codes " " else [])
+        ∷ name_of_port relation.now.grid (index / relation.now.vcs) ∷ codes "."
+        ∷ decimal (index % relation.now.vcs) ∷ []) }
     ensures short { length page.new ≤ length page.old + MEMBER }
 {
     add_gap(has_some, page);
@@ -370,7 +381,8 @@ impl<'a> Lines for CycleLines<'a> {
 
     ghost vcs = { λ s. s.network.now.net.relation.vcs };
 
-    ghost said = { λ s router port vc. kept_line s.network.now s.trace.now.0 s.trace.now.1 s.cycle router port vc };
+    ghost said = { λ s router port vc.
+        kept_line s.network.now s.trace.now.0 s.trace.now.1 s.cycle router port vc };
 
     fn is_silent(&self, router: usize) -> bool {
         let trace = self.trace;
@@ -413,8 +425,11 @@ fn put_cycle<W: Sink>(
     requires inputs { AreInputs network.now.net.relation.grid inputs.now }
     requires labels { AreLabels network.now.net.relation labels.now }
     requires last { network.now.count ≡ cycle + 1 }
-    requires router { IfSome trace.now.0.router (λ router. router < nodes network.now.net.relation.grid) }
-    ensures puts { Puts W.contents W.has_failed sink.old sink.new (over_traced network.now.net.relation trace.now.0.router (kept_line network.now trace.now.0 trace.now.1 cycle)) result }
+    requires router { IfSome trace.now.0.router
+        (λ router. router < nodes network.now.net.relation.grid) }
+    ensures puts { Puts W.contents W.has_failed sink.old sink.new
+        (over_traced network.now.net.relation trace.now.0.router
+        (kept_line network.now trace.now.0 trace.now.1 cycle)) result }
     ensures few { taken result ≤ LONGEST_TEXT }
 {
     page.clear();
@@ -455,11 +470,15 @@ pub fn write_trace<W: Sink>(
     sink: &mut W,
 ) -> Result<(), WriteFault>
     requires cycles { network.old.count + cycles ≤ CYCLE_LIMIT }
-    requires router { IfSome trace.0.router (λ router. router < nodes network.old.net.relation.grid) }
+    requires router { IfSome trace.0.router
+        (λ router. router < nodes network.old.net.relation.grid) }
     requires opening { trace.1 ≡ nothing_found network.old.net trace.0.changes }
-    ensures run { IfOk result (λ _. network.new ≡ record network.old { count = network.old.count + cycles }) }
+    ensures run { IfOk result (λ _. network.new
+        ≡ record network.old { count = network.old.count + cycles }) }
     ensures cut { IfErr result (λ fault. IsCutOff network.old trace.0 fault.written network.new) }
-    ensures text { Wrote W.contents W.has_failed sink.old sink.new (trace_text (record network.old { count = network.old.count + cycles }) network.old.count trace.0) result }
+    ensures text { Wrote W.contents W.has_failed sink.old sink.new
+        (trace_text (record network.old { count = network.old.count + cycles }) network.old.count
+        trace.0) result }
 {
     let header = "cycle,router,port,vc,verdict,packet,out,permitted\n";
     put_all(sink, header.as_bytes())?;
@@ -492,17 +511,23 @@ pub fn write_trace<W: Sink>(
 /// router before it and what was permitted behind it. Where all channels are traced, with a line in
 /// each cycle, each has it but the empty ones.
 pub fn a_trace_tells_what_explain_tells()
-    ensures explained { (relation : RoutesValue) (findings : List FindingValue) (port vc : ℕ) (f : FindingValue) → slice_get findings (port * relation.vcs + vc) ≡ Some f
+    ensures explained { (relation : RoutesValue) (findings : List FindingValue) (port vc : ℕ)
+        (f : FindingValue) → slice_get findings (port * relation.vcs + vc) ≡ Some f
         → found_line relation findings port vc ≡ said_by_both relation.grid port vc f ++ line_end }
-    ensures traced { (net : SetupValue) (first n r port vc : ℕ) (f : FindingValue) → slice_get (findings_in_cycle net n r) (port * net.relation.vcs + vc) ≡ Some f
+    ensures traced { (net : SetupValue) (first n r port vc : ℕ) (f : FindingValue)
+        → slice_get (findings_in_cycle net n r) (port * net.relation.vcs + vc) ≡ Some f
         → traced_line net whole first n r port vc
-        ≡ (if finds_empty f.verdict then [] else when_text n r ++ said_by_both net.relation.grid port vc f ++ comma ++ permitted_text net.relation (permitted_to net r port vc f)) }
+        ≡ (if finds_empty f.verdict then [] else when_text n r
+        ++ said_by_both net.relation.grid port vc f ++ comma
+        ++ permitted_text net.relation (permitted_to net r port vc f)) }
 {}
 
 /// The verdicts that the whole trace of a run tells of an input channel, counted, are its
 /// line of the stall report.
 pub fn a_trace_adds_up_to_the_stall_report()
-    ensures { (u : RunValue) (r port vc : ℕ) → port < ports u.net.relation.grid → vc < u.net.relation.vcs → told_counts u r (port * u.net.relation.vcs + vc) ≡ channel_counts u r port vc }
+    ensures { (u : RunValue) (r port vc : ℕ) → port < ports u.net.relation.grid
+        → vc < u.net.relation.vcs → told_counts u r (port * u.net.relation.vcs + vc)
+        ≡ channel_counts u r port vc }
 {}
 
 /// In a trace of changes a line is left out exactly where the same was told before.

@@ -48,18 +48,21 @@ pub fn read_traffic(alloc: Global, text: &[u8]) -> Result<Vec<Packet>, InputFaul
 /// A text is read as these packets exactly where its first row is the header and the rows below it
 /// are five numerals each, which write them.
 pub fn traffic_is_header_and_numerals()
-    ensures { (text : List ℕ) (packets : List PacketValue) → (traffic_of text ≡ Ok packets) ↔ IsTraffic text packets }
+    ensures { (text : List ℕ) (packets : List PacketValue)
+        → (traffic_of text ≡ Ok packets) ↔ IsTraffic text packets }
 {}
 
 /// A text is refused with this fault exactly where it is the first one. Either there is no header,
 /// or the fault is that of the first row that is no packet. Such a row has not five fields, or has
 /// five, of which this is the first that is no numeral.
 pub fn traffic_is_refused_with_its_first_fault()
-    ensures { (text : List ℕ) (fault : Fault) → (traffic_of text ≡ Err fault) ↔ IsTrafficFault text fault }
+    ensures { (text : List ℕ) (fault : Fault)
+        → (traffic_of text ≡ Err fault) ↔ IsTrafficFault text fault }
 {}
 
 /// The plainest traffic file of some packets, a header and a line of five numbers each, is read
 /// back as these packets, where the numbers are at most 4294967295.
 pub fn written_traffic_is_read_back()
-    ensures { (packets : List PacketValue) → Each IsWritablePacket packets → traffic_of (traffic_text packets) ≡ Ok packets }
+    ensures { (packets : List PacketValue) → Each IsWritablePacket packets
+        → traffic_of (traffic_text packets) ≡ Ok packets }
 {}

@@ -1,10 +1,13 @@
 //! Putting texts into a sink.
 
-ghost use Rattle.std.specs.Prelude.{◌≡◌, ◌+◌, ◌^◌, ◌<◌, length};
+ghost use Rattle.std.specs.Prelude.{◌≡◌, ◌+◌, ◌^◌, ◌<◌, ◌≤◌, Some, length};
 ghost use Rattle.std.specs.List.{flat_map};
+ghost use Rattle.noc_files.specs.Titles.{write_title};
 ghost use Rattle.noc_files.specs.Writing.{Wrote};
 
 use crate::sink::Sink;
+use std::error::Error;
+use std::fmt;
 
 /// A sink failed after exactly the first `written` bytes of a text.
 #[derive(Clone, Copy, Debug, PartialEq, Eq)]
@@ -14,6 +17,15 @@ pub struct WriteFault {
 }
 
 impl WriteFault {
+    /// The number and the name of the fault, as its fault line has them; at most 20 bytes
+    /// (docs/FORMATS.md, "Fault lines").
+    pub fn title(&self) -> &'static str
+        ensures title { result.now ≡ write_title }
+        ensures short { length result.now ≤ 20 }
+    {
+        "1 WriteFailed"
+    }
+
     // The fault of a text that has so many bytes before the one of this fault.
     pub(crate) fn after(self, before: u64) -> WriteFault
         requires { before + self.written < 2 ^ 64 }
@@ -24,6 +36,17 @@ impl WriteFault {
         }
     }
 }
+
+/// Its title.
+impl fmt::Display for WriteFault {
+    ghost output = { λ _. Some write_title };
+
+    fn fmt<W: fmt::Write>(&self, f: &mut fmt::Formatter<W>) -> fmt::Result {
+        f.write_str(self.title())
+    }
+}
+
+impl Error for WriteFault {}
 
 // Puts a text.
 pub(crate) fn put_all<W: Sink>(sink: &mut W, bytes: &[u8]) -> Result<(), WriteFault>
@@ -44,7 +67,8 @@ pub(crate) fn put_all<W: Sink>(sink: &mut W, bytes: &[u8]) -> Result<(), WriteFa
 /// which the sink took no more.
 pub fn write_pieces<W: Sink>(pieces: &[&str], sink: &mut W) -> Result<(), WriteFault>
     requires { length (flat_map (λ p. p.now) pieces.now) < 2 ^ 64 }
-    ensures { Wrote W.contents W.has_failed sink.old sink.new (flat_map (λ p. p.now) pieces.now) result }
+    ensures { Wrote W.contents W.has_failed sink.old sink.new
+        (flat_map (λ p. p.now) pieces.now) result }
 {
     let mut written = 0u64;
     for piece in pieces {

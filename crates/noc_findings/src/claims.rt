@@ -41,7 +41,7 @@ pub fn claim_all<W: Word>(
     }
 }
 
-// .. of one channel that holds something.
+// What is noted of one channel that holds something, before its router decides.
 fn claim<W: Word>(vcs: usize, state: &State<W>, lane: usize, channel: usize) -> Finding
     requires vcs { 0 < vcs }
     requires lane { lane < LANES }

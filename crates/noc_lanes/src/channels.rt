@@ -1,16 +1,17 @@
 //! The records of the channels of a router: of one router where the fields are words, of a block
 //! where they are lanes.
 
-ghost use Rattle.std.specs.Prelude.{◌≡◌, ◌≢◌, ◌<◌, ℕ};
+ghost use Rattle.std.specs.Prelude.{◌≡◌, ◌≢◌, ◌<◌, ℕ, ⊤};
 ghost use Rattle.noc_lanes.specs.Lanes.{word};
 ghost use Rattle.noc_lanes.specs.Channels.{arrived_by, decided_by, inputs_by, links_by, moves_by, outputs_by, returned_by, source_by, standing_by, verdicts_by};
 
 use crate::lanes::{LANES, Lanes, at, put};
 use crate::planes::Planes;
 use crate::word::Word;
+use std::alloc::AllocError;
 
 /// What the input channels are.
-#[derive(Clone, Copy)]
+#[derive(Copy)]
 pub struct Inputs<T> {
     /// Those that wait for an output channel.
     pub waiting: T,
@@ -24,6 +25,16 @@ pub struct Inputs<T> {
     pub ahead: T,
     /// How many flits the buffer of each has.
     pub len: Planes<T>,
+}
+
+impl<T: Copy> Clone for Inputs<T> {
+    ghost is_clone = { λ x y. y ≡ x };
+
+    ghost is_infallible = { λ _. ⊤ };
+
+    fn clone(&self) -> Result<Inputs<T>, AllocError> {
+        Ok(*self)
+    }
 }
 
 impl<W: Word> Inputs<Lanes<W>> {
@@ -63,7 +74,7 @@ impl<W: Word> Inputs<Lanes<W>> {
 }
 
 /// What the output channels are.
-#[derive(Clone, Copy)]
+#[derive(Copy)]
 pub struct Outputs<T> {
     /// Those that the sets of waiting channels have, and perhaps more.
     pub wanted: T,
@@ -73,6 +84,16 @@ pub struct Outputs<T> {
     pub draining: T,
     /// How many credits each of those that lead to a link has.
     pub credit: Planes<T>,
+}
+
+impl<T: Copy> Clone for Outputs<T> {
+    ghost is_clone = { λ x y. y ≡ x };
+
+    ghost is_infallible = { λ _. ⊤ };
+
+    fn clone(&self) -> Result<Outputs<T>, AllocError> {
+        Ok(*self)
+    }
 }
 
 impl<W: Word> Outputs<Lanes<W>> {
@@ -108,7 +129,7 @@ impl<W: Word> Outputs<Lanes<W>> {
 }
 
 /// What the source has to inject.
-#[derive(Clone, Copy)]
+#[derive(Copy)]
 pub struct Source<T> {
     /// The local channel of the packet that is being injected.
     pub injecting: T,
@@ -116,6 +137,16 @@ pub struct Source<T> {
     pub left: T,
     /// When the next packet is due, as a number.
     pub due: T,
+}
+
+impl<T: Copy> Clone for Source<T> {
+    ghost is_clone = { λ x y. y ≡ x };
+
+    ghost is_infallible = { λ _. ⊤ };
+
+    fn clone(&self) -> Result<Source<T>, AllocError> {
+        Ok(*self)
+    }
 }
 
 impl<W: Word> Source<Lanes<W>> {
@@ -147,7 +178,7 @@ impl<W: Word> Source<Lanes<W>> {
 }
 
 /// Three bits of each channel of the links: what they bring, or what leaves by them.
-#[derive(Clone, Copy)]
+#[derive(Copy)]
 pub struct Links<T> {
     /// Channels of which a flit is on the link.
     pub flits: T,
@@ -155,6 +186,16 @@ pub struct Links<T> {
     pub tails: T,
     /// Channels of which a credit is on the link.
     pub credits: T,
+}
+
+impl<T: Copy> Clone for Links<T> {
+    ghost is_clone = { λ x y. y ≡ x };
+
+    ghost is_infallible = { λ _. ⊤ };
+
+    fn clone(&self) -> Result<Links<T>, AllocError> {
+        Ok(*self)
+    }
 }
 
 impl<W: Word> Links<Lanes<W>> {
@@ -186,12 +227,22 @@ impl<W: Word> Links<Lanes<W>> {
 }
 
 /// What the credits that come are to the output channels.
-#[derive(Clone, Copy)]
+#[derive(Copy)]
 pub struct Returned<T> {
     /// Owned ones that had no credit and have one now.
     pub raised: T,
     /// Those of links with no credit but perhaps one.
     pub single: T,
+}
+
+impl<T: Copy> Clone for Returned<T> {
+    ghost is_clone = { λ x y. y ≡ x };
+
+    ghost is_infallible = { λ _. ⊤ };
+
+    fn clone(&self) -> Result<Returned<T>, AllocError> {
+        Ok(*self)
+    }
 }
 
 impl<W: Word> Returned<Lanes<W>> {
@@ -221,7 +272,7 @@ impl<W: Word> Returned<Lanes<W>> {
 }
 
 /// What the input channels have once beats are taken and a flit is injected.
-#[derive(Clone, Copy)]
+#[derive(Copy)]
 pub struct Arrived<T> {
     /// Those whose buffer has a flit.
     pub filled: T,
@@ -229,6 +280,16 @@ pub struct Arrived<T> {
     pub more: T,
     /// Local ones in which a packet that is due may begin.
     pub begins: T,
+}
+
+impl<T: Copy> Clone for Arrived<T> {
+    ghost is_clone = { λ x y. y ≡ x };
+
+    ghost is_infallible = { λ _. ⊤ };
+
+    fn clone(&self) -> Result<Arrived<T>, AllocError> {
+        Ok(*self)
+    }
 }
 
 impl<W: Word> Arrived<Lanes<W>> {
@@ -260,7 +321,7 @@ impl<W: Word> Arrived<Lanes<W>> {
 }
 
 /// What the input channels can do in the cycle.
-#[derive(Clone, Copy)]
+#[derive(Copy)]
 pub struct Standing<T> {
     /// Idle ones with a flit, which is a head.
     pub heads: T,
@@ -268,6 +329,16 @@ pub struct Standing<T> {
     pub ready: T,
     /// Of each input port the ready one that is first in turn.
     pub picked: T,
+}
+
+impl<T: Copy> Clone for Standing<T> {
+    ghost is_clone = { λ x y. y ≡ x };
+
+    ghost is_infallible = { λ _. ⊤ };
+
+    fn clone(&self) -> Result<Standing<T>, AllocError> {
+        Ok(*self)
+    }
 }
 
 impl<W: Word> Standing<Lanes<W>> {
@@ -299,7 +370,7 @@ impl<W: Word> Standing<Lanes<W>> {
 }
 
 /// What the output ports take.
-#[derive(Clone, Copy)]
+#[derive(Copy)]
 pub struct Moves<T> {
     /// Input channels of which a flit moves.
     pub moved: T,
@@ -307,6 +378,16 @@ pub struct Moves<T> {
     pub out: T,
     /// Input channels of which a flit moves, and whose output channel has no credit after it.
     pub dry: T,
+}
+
+impl<T: Copy> Clone for Moves<T> {
+    ghost is_clone = { λ x y. y ≡ x };
+
+    ghost is_infallible = { λ _. ⊤ };
+
+    fn clone(&self) -> Result<Moves<T>, AllocError> {
+        Ok(*self)
+    }
 }
 
 impl<W: Word> Moves<Lanes<W>> {
@@ -338,7 +419,7 @@ impl<W: Word> Moves<Lanes<W>> {
 }
 
 /// What is decided of the channels.
-#[derive(Clone, Copy)]
+#[derive(Copy)]
 pub struct Decided<T> {
     /// Input channels that are granted an output channel.
     pub granted: T,
@@ -348,6 +429,16 @@ pub struct Decided<T> {
     pub released: T,
     /// Output channels by which a tail moves.
     pub freed: T,
+}
+
+impl<T: Copy> Clone for Decided<T> {
+    ghost is_clone = { λ x y. y ≡ x };
+
+    ghost is_infallible = { λ _. ⊤ };
+
+    fn clone(&self) -> Result<Decided<T>, AllocError> {
+        Ok(*self)
+    }
 }
 
 impl<W: Word> Decided<Lanes<W>> {
@@ -381,7 +472,7 @@ impl<W: Word> Decided<Lanes<W>> {
 }
 
 /// The verdicts of input channels that are counted by words, some of them together.
-#[derive(Clone, Copy)]
+#[derive(Copy)]
 pub struct Verdicts<T> {
     /// Routed.
     pub routed: T,
@@ -399,6 +490,16 @@ pub struct Verdicts<T> {
     pub moved: T,
     /// LostChannel.
     pub lost_channel: T,
+}
+
+impl<T: Copy> Clone for Verdicts<T> {
+    ghost is_clone = { λ x y. y ≡ x };
+
+    ghost is_infallible = { λ _. ⊤ };
+
+    fn clone(&self) -> Result<Verdicts<T>, AllocError> {
+        Ok(*self)
+    }
 }
 
 impl<W: Word> Verdicts<Lanes<W>> {

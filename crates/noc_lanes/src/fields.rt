@@ -1,14 +1,15 @@
 //! The words of the ports of a router: bit port * V + vc of a word is virtual channel vc of the
 //! port.
 
-ghost use Rattle.std.specs.Prelude.{◌≡◌, ◌*◌, ◌/◌, ◌^◌, ◌<◌, ◌≤◌, ℕ, nat_lt};
+ghost use Rattle.std.specs.Prelude.{◌≡◌, ◌*◌, ◌/◌, ◌^◌, ◌<◌, ◌≤◌, ℕ, nat_lt, ⊤};
 ghost use Rattle.noc_packet.specs.Set.{has_bit};
 
 use crate::word::Word;
+use std::alloc::AllocError;
 
 /// How many virtual channels each port has, and its first channel, its last and all but the last,
 /// for all ports at once.
-#[derive(Clone, Copy)]
+#[derive(Copy)]
 pub struct Fields<T> {
     /// How many virtual channels each port has.
     pub width: u32,
@@ -18,6 +19,16 @@ pub struct Fields<T> {
     pub high: T,
     /// All channels of each port but the last.
     pub rest: T,
+}
+
+impl<T: Copy> Clone for Fields<T> {
+    ghost is_clone = { λ x y. y ≡ x };
+
+    ghost is_infallible = { λ _. ⊤ };
+
+    fn clone(&self) -> Result<Fields<T>, AllocError> {
+        Ok(*self)
+    }
 }
 
 impl<W: Word> Fields<W> {

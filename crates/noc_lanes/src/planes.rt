@@ -1,19 +1,20 @@
 //! A count of each channel, bit by bit: of each bit the channels whose count has it.
 
-ghost use Rattle.std.specs.Prelude.{◌≡◌, ◌≢◌, ◌<◌, ◌-◌, ◌^◌, ℕ, map, bit_and};
+ghost use Rattle.std.specs.Prelude.{◌≡◌, ◌≢◌, ◌<◌, ◌-◌, ◌^◌, ℕ, map, bit_and, ⊤};
 ghost use Rattle.noc_lanes.specs.Lanes.{word};
 ghost use Rattle.noc_lanes.specs.Planes.{all_of, no_planes, planes_by, planes_of, where_odd};
 ghost use Rattle.noc_sets.specs.Planes.{any_from, lowered_by, more_than_one, raised_by, wrong_from};
 
 use crate::lanes::{LANES, Lanes, alike, at, at_where, put};
 use crate::word::Word;
+use std::alloc::AllocError;
 
 /// The greatest count of three bits.
 pub const SHALLOW: usize = 7;
 
 /// A count of each channel: of one router by words, of a block by lanes. It has five bits where it
 /// is deep, and else three: planes that are not needed are neither read nor written.
-#[derive(Clone, Copy)]
+#[derive(Copy)]
 pub struct Planes<T> {
     /// The channels whose count has bit 0.
     pub ones: T,
@@ -27,6 +28,16 @@ pub struct Planes<T> {
     pub sixteens: T,
     /// Whether a count is deep: 0 to 31, and not 0 to 7 alone.
     pub deep: bool,
+}
+
+impl<T: Copy> Clone for Planes<T> {
+    ghost is_clone = { λ x y. y ≡ x };
+
+    ghost is_infallible = { λ _. ⊤ };
+
+    fn clone(&self) -> Result<Planes<T>, AllocError> {
+        Ok(*self)
+    }
 }
 
 impl<W: Word> Planes<W> {

@@ -1,6 +1,6 @@
 //! How often each channel of a block had one verdict, bit by bit.
 
-ghost use Rattle.std.specs.Prelude.{◌≡◌, ◌+◌, ◌^◌, ◌<◌, ℕ};
+ghost use Rattle.std.specs.Prelude.{◌≡◌, ◌+◌, ◌^◌, ◌<◌, ℕ, ⊤};
 ghost use Rattle.noc_packet.specs.Set.{has_bit};
 ghost use Rattle.noc_topo.specs.Lists.{one_if};
 ghost use Rattle.noc_lanes.specs.Lanes.{word};
@@ -8,6 +8,7 @@ ghost use Rattle.noc_lanes.specs.Tallies.{at_level, carry_over, counted_at, numb
 
 use crate::lanes::{LANES, Lanes, alike, at, put};
 use crate::word::Word;
+use std::alloc::AllocError;
 
 /// How many bits a count has above the lowest two: with them it has 32.
 pub const LEVELS: usize = 30;
@@ -17,13 +18,23 @@ pub const LEVELS: usize = 30;
 /// The sets of four cycles are added to the two lowest bits at once. What they carry is pending at
 /// the next bit until the next four cycles, and so on up, so that each bit is added to half as
 /// often as the one below it.
-#[derive(Clone, Copy)]
+#[derive(Copy)]
 pub struct Tally<T> {
     ones: Lanes<T>,
     twos: Lanes<T>,
     // From the bit that counts four on.
     bits: [Lanes<T>; LEVELS],
     pending: [Lanes<T>; LEVELS],
+}
+
+impl<T: Copy> Clone for Tally<T> {
+    ghost is_clone = { λ x y. y ≡ x };
+
+    ghost is_infallible = { λ _. ⊤ };
+
+    fn clone(&self) -> Result<Tally<T>, AllocError> {
+        Ok(*self)
+    }
 }
 
 impl<W: Word> Tally<W> {

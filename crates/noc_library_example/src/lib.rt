@@ -2,13 +2,9 @@
 #![tactic(auto)]
 
 ghost use Rattle.std.specs.Prelude.{◌≡◌, ◌∷◌, [], IfSome, true};
-ghost use Rattle.noc_route.specs.Ranks.{IsRankedBy, Ranking};
+ghost use Rattle.noc_library.specs.Ranks.{IsRankedBy, Ranking};
 
-use noc_net::Network;
-use noc_rank::{Ranks, check};
-use noc_route::{Relation, Rule};
-use noc_topo::{Kind, Shape};
-use noc_view::Verdict;
+use noc_library::{Kind, Network, Ranks, Relation, Rule, Shape, Verdict, check};
 use std::alloc::Global;
 use std::thread::Threads;
 

@@ -14,6 +14,7 @@ use Rattle.noc_route.specs.Ranks.{IsRankedBy, Ranking}
 use Rattle.noc_theory.specs.Good.{IsGoodPacket, IsGoodSetup}
 use Rattle.noc_theory.specs.Network.{Setup, arrival_in, packet_at, state_at}
 use Rattle.noc_theory.specs.Progress.{budget, is_pending}
+use Rattle.noc_theory.proofs.worms.BuiltLemmas.{well-formed}
 use Rattle.noc_theory.proofs.budget.ProgressTheoremLemmas.{each-arrives, each-idle}
 use Rattle.noc_net.specs.Limit.{are_all_out, IsLastDue, IsLimit}
 
@@ -116,11 +117,11 @@ module _ (net : Setup) (made : IsGoodSetup net) (ranks : Ranking) (ranked : IsRa
 
   pub arrives : (p : ℕ) → p < length net.packets → (m : ℕ) × (arrival_in net (state_at net n) p ≡ Some m) × (m < limit)
   arrives p l =
-      let one = each-arrives net made ranks ranked is.last due-last n reached p l in
+      let one = each-arrives net (well-formed net made) ranks ranked is.last due-last n reached p l in
       (one.0, one.1, omega (arith, one.2, is.sum))
 
   pub idle : is_pending net n (state_at net n) ≡ false
-  idle = each-idle net made ranks ranked is.last due-last n reached
+  idle = each-idle net (well-formed net made) ranks ranked is.last due-last n reached
 
   all-within : (k : ℕ) → k ≤ length net.packets → list_all (λ p. is_some (arrival_in net (state_at net n) p)) (take k (below (length net.packets))) ≡ true
   all-within zero l = refl

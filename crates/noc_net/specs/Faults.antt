@@ -11,7 +11,8 @@ use Rattle.noc_net.specs.declared.fault.NetFault.TheVariants.{SelfPacket, BadNod
 -- the first fault of the packet in a row
 abbrev pub packet_fault : Routes → ℕ → Packet → Option NetFault
 packet_fault relation row p =
-    if nat_le (nodes relation.grid) p.source || nat_le (nodes relation.grid) p.destination then Some (BadNode row)
+    if nat_le (nodes relation.grid) p.source || nat_le (nodes relation.grid) p.destination
+    then Some (BadNode row)
     else (if nat_eq p.source p.destination then Some (SelfPacket row)
     else (if nat_le relation.classes p.class then Some (BadClass row)
     else (if nat_eq p.length 0 || nat_lt MAX_LENGTH p.length then Some (BadLength row)
@@ -25,11 +26,13 @@ or_net_fault (Some fault) later = Some fault
 -- the first fault of the packets from a row on
 abbrev pub fault_from : Routes → ℕ → List Packet → Option NetFault
 fault_from relation row [] = None
-fault_from relation row (p ∷ ps) = or_net_fault (packet_fault relation row p) (fault_from relation (row + 1) ps)
+fault_from relation row (p ∷ ps) =
+    or_net_fault (packet_fault relation row p) (fault_from relation (row + 1) ps)
 
 -- the first fault of a network's packets
 abbrev pub fault_of : Routes → List Packet → Option NetFault
-fault_of relation packets = if nat_lt MAX_PACKETS (length packets) then Some TooMany else fault_from relation 0 packets
+fault_of relation packets =
+    if nat_lt MAX_PACKETS (length packets) then Some TooMany else fault_from relation 0 packets
 
 -- a packet within the limits, which has a flit
 abbrev pub IsSendable : Packet → Type 0

@@ -5,3 +5,4 @@ pub mod Limit
 pub mod Parts
 pub mod Room
 pub mod Stored
+pub mod Titles

@@ -10,7 +10,8 @@ use Rattle.noc_theory.specs.Progress.{budget}
 -- the last due time of some packets: none is due later, and one is due then; 0 where there are none
 pub record IsLastDue (packets : List Packet) (last : ℕ) : Type 0 where
   pub none_later : (i : ℕ) (p : Packet) → slice_get packets i ≡ Some p → p.due ≤ last
-  pub one_then : (last ≡ 0) ⊎ ((i : ℕ) × (p : Packet) × (slice_get packets i ≡ Some p) × (p.due ≡ last))
+  pub one_then : (last ≡ 0)
+      ⊎ ((i : ℕ) × (p : Packet) × (slice_get packets i ≡ Some p) × (p.due ≡ last))
 
 -- the last due time and the budget; 0 without packets
 pub record IsLimit (net : Setup) (limit : ℕ) : Type 0 where

@@ -26,11 +26,14 @@ wires_in room = map wire_beats room.wires
 
 -- the wires that arrive, each with the beat that is in flight on it
 abbrev pub opening_wires : Grid → ℕ → List Beat → List (List Beat)
-opening_wires grid r beats = tabulate (local_port grid) (λ port. if is_some (neighbour grid r port) then slice_index_or beats port idle_beat ∷ [] else [])
+opening_wires grid r beats =
+    tabulate (local_port grid) (λ port. if is_some (neighbour grid r port)
+    then slice_index_or beats port idle_beat ∷ [] else [])
 
 -- the beats that router r has to put where it has links
 abbrev pub unput_for : Setup → ℕ → List Beat → List (Option Beat)
-unput_for net r beats = map_indexed (λ port beat. if is_linked net r port then Some beat else None) beats
+unput_for net r beats =
+    map_indexed (λ port beat. if is_linked net r port then Some beat else None) beats
 
 -- a router with so many link ports, and what is kept of it
 abbrev pub post_of : ℕ → View → Room → Post
@@ -62,4 +65,5 @@ opened_post links view n beats = record {
 
 -- whether a router is between its cycles at a count
 abbrev pub rests_at : ℕ → ℕ → Room → Bool
-rests_at links count room = not room.decided && none_has (take links room.taken) && nat_eq room.steps count
+rests_at links count room =
+    not room.decided && none_has (take links room.taken) && nat_eq room.steps count

@@ -12,7 +12,10 @@ use Rattle.noc_net.specs.Room.{posts_of}
 
 -- the core with these parts
 abbrev pub core_in : Parts → CoreState
-core_in parts = record { net = setup_in parts; posts = posts_of (local_port parts.relation.grid) parts.routers.items parts.room.items }
+core_in parts = record {
+  net = setup_in parts;
+  posts = posts_of (local_port parts.relation.grid) parts.routers.items parts.room.items;
+}
 
 abbrev pub core_of : Inside → CoreState
 core_of c = core_in c.parts

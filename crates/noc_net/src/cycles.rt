@@ -26,7 +26,9 @@ pub(crate) fn decide_all(
     requires routers { All (λ v. IsRelationOf relation.now v) routers.old }
     requires beats { All (IsLinked relation.now.grid) beats.old }
     requires count { length beats.old ≡ length routers.old }
-    ensures routers { routers.new ≡ map_indexed (λ r v. view_after_decide relation.now cycle (incoming relation.now.grid (beats_at beats.old r)) v) routers.old }
+    ensures routers { routers.new ≡ map_indexed
+        (λ r v. view_after_decide relation.now cycle
+        (incoming relation.now.grid (beats_at beats.old r)) v) routers.old }
     ensures beats { All IsSilent beats.new }
 {
     for node in 0..routers.len() {
@@ -44,7 +46,8 @@ fn decide(
 )
     requires router { IsRelationOf relation.now router.old }
     requires beats { IsLinked relation.now.grid beats.old }
-    ensures router { router.new ≡ view_after_decide relation.now cycle (incoming relation.now.grid beats.old) router.old }
+    ensures router { router.new ≡ view_after_decide relation.now cycle
+        (incoming relation.now.grid beats.old) router.old }
     ensures beats { IsSilent beats.new }
 {
     take_beats(relation, router, beats);
@@ -58,7 +61,9 @@ pub(crate) fn deliver_all(relation: &Relation, routers: &mut [Router], beats: &m
     requires count { length beats.old ≡ nodes_of relation.now.grid }
     requires beats { All IsSilent beats.old }
     ensures routers { routers.new ≡ map view_after_puts routers.old }
-    ensures beats { (r port : ℕ) → r < nodes_of relation.now.grid → beat_at beats.new r port ≡ beat_from (map (λ v. v.to_put) routers.old) (neighbour_of relation.now.grid r port) }
+    ensures beats { (r port : ℕ) → r < nodes_of relation.now.grid
+        → beat_at beats.new r port ≡ beat_from (map (λ v. v.to_put) routers.old)
+        (neighbour_of relation.now.grid r port) }
 {
     for node in 0..routers.len() {
         deliver(relation, &mut routers[node], beats);
@@ -70,9 +75,12 @@ pub fn deliver(relation: &Relation, router: &mut Router, beats: &mut [[Beat; LIN
     requires router { HasItsBeats relation.now router.old.site.node router.old }
     requires node { router.old.site.node < nodes_of relation.now.grid }
     requires count { length beats.old ≡ nodes_of relation.now.grid }
-    requires idle { (r port q : ℕ) → neighbour_of relation.now.grid r port ≡ Some (router.old.site.node, q) → beat_at beats.old r port ≡ idle_beat }
+    requires idle { (r port q : ℕ) → neighbour_of relation.now.grid r port
+        ≡ Some (router.old.site.node, q) → beat_at beats.old r port ≡ idle_beat }
     ensures router { router.new ≡ view_after_puts router.old }
-    ensures beats { (r port : ℕ) → r < nodes_of relation.now.grid → beat_at beats.new r port ≡ wire_after_puts router.old (neighbour_of relation.now.grid r port) (beat_at beats.old r port) }
+    ensures beats { (r port : ℕ) → r < nodes_of relation.now.grid
+        → beat_at beats.new r port ≡ wire_after_puts router.old
+        (neighbour_of relation.now.grid r port) (beat_at beats.old r port) }
 {
     let links = relation.shape().ports() - 1;
     for port in 0..links {

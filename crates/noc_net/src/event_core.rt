@@ -100,7 +100,8 @@ impl Core {
 
     // Whether a router exists and has a link at a port.
     fn is_linked(&self, router: usize, port: usize) -> bool
-        ensures { result ≡ (is_linked self.now.net router port && is_some (post_at self.now router)) }
+        ensures { result ≡ (is_linked self.now.net router port && is_some
+            (post_at self.now router)) }
     {
         let shape = self.parts.relation.shape();
         if router >= shape.nodes() || port >= shape.ports() {
@@ -182,7 +183,8 @@ impl Core {
     /// began, and nothing at count 0.
     pub fn findings(&self, router: usize) -> &[Finding]
         requires { router < nodes_of self.now.net.relation.grid }
-        ensures { (view : View) × (view_of_post self.now router ≡ Some view) × (result.now ≡ view.findings) }
+        ensures { (view : View) × (view_of_post self.now router ≡ Some view)
+            × (result.now ≡ view.findings) }
     {
         self.parts.routers[router].findings()
     }
@@ -191,7 +193,8 @@ impl Core {
     /// cycles. Otherwise the core as it was.
     pub fn finish(self) -> Result<Network, Core>
         ensures whole { is_ok result ≡ are_between self (steps_at self 0) }
-        ensures network { IfOk result (λ u. u ≡ record { net = self.net; count = steps_at self 0 }) }
+        ensures network { IfOk result
+            (λ u. u ≡ record { net = self.net; count = steps_at self 0 }) }
         ensures same { IfOk result (λ u. opening_core u ≡ self) }
         ensures refused { IfErr result (λ core. core ≡ self) }
     {
@@ -216,10 +219,13 @@ fn open_all(
     room: &mut [Room],
 )
     requires few { links ≤ LINKS }
-    requires links { (r : ℕ) (view : View) → slice_get routers.now r ≡ Some view → local_port view.site.grid ≡ links }
+    requires links { (r : ℕ) (view : View) → slice_get routers.now r ≡ Some view
+        → local_port view.site.grid ≡ links }
     requires beats { length beats.now ≡ length routers.now }
     requires room { length room.old ≡ length routers.now }
-    ensures { (r : ℕ) (view : View) (one : Room) → slice_get routers.now r ≡ Some view → slice_get room.new r ≡ Some one → post_of links view one ≡ opened_post links view count (slice_index_or beats.now r []) }
+    ensures { (r : ℕ) (view : View) (one : Room) → slice_get routers.now r ≡ Some view
+        → slice_get room.new r ≡ Some one
+        → post_of links view one ≡ opened_post links view count (slice_index_or beats.now r []) }
 {
     for node in 0..routers.len() {
         room[node] = Room::opened(&routers[node], links, count, &beats[node]);
@@ -230,7 +236,10 @@ fn open_all(
 fn decide(relation: &Relation, plan: &mut Plan, router: &mut Router, room: &mut Room)
     requires relation { IsRelationOf relation.now router.old }
     requires steps { room.old.steps < CYCLE_LIMIT }
-    ensures { (net : Setup) → net.relation ≡ relation.now → let links = local_port relation.now.grid in post_of links router.new room.new ≡ deciding net router.old.site.node (post_of links router.old room.old) }
+    ensures { (net : Setup) → net.relation ≡ relation.now
+        → let links = local_port relation.now.grid in
+        post_of links router.new room.new
+        ≡ deciding net router.old.site.node (post_of links router.old room.old) }
 {
     let links = relation.shape().ports() - 1;
     let taken = room.beats_taken();
@@ -257,7 +266,8 @@ fn all_rest_at(links: usize, count: u64, room: &[Room]) -> bool
 fn land_all(links: usize, room: &[Room], beats: &mut [[Beat; LINKS]])
     requires few { links ≤ LINKS }
     requires beats { length beats.old ≡ length room.now }
-    ensures { (r : ℕ) (one : Room) (port : ℕ) → slice_get room.now r ≡ Some one → beat_at beats.new r port ≡ front_of (slice_index_or (take links (wires_in one)) port []) }
+    ensures { (r : ℕ) (one : Room) (port : ℕ) → slice_get room.now r ≡ Some one
+        → beat_at beats.new r port ≡ front_of (slice_index_or (take links (wires_in one)) port []) }
 {
     for node in 0..room.len() {
         beats[node] = room[node].front(links);

@@ -1,9 +1,12 @@
 //! Why a network cannot be made of its packets.
 
-ghost use Rattle.std.specs.Prelude.{◌≡◌};
+ghost use Rattle.std.specs.Prelude.{◌≡◌, ◌≤◌, Some, length};
+ghost use Rattle.noc_net.specs.Titles.{net_title};
 ghost use Rattle.noc_net.specs.declared.fault.NetFault.TheVariants.{Memory as memory_fault};
 
 use noc_packet::Memory;
+use std::error::Error;
+use std::fmt;
 
 /// The first fault of a network's packets. Rows are packet numbers, from 0
 /// (docs/FORMATS.md, "Fault lines").
@@ -25,6 +28,25 @@ pub enum NetFault {
     BadDue { row: usize },
 }
 
+impl NetFault {
+    /// The number and the name of the fault, as its fault line has them; at most 20 bytes
+    /// (docs/FORMATS.md, "Fault lines").
+    pub fn title(&self) -> &'static str
+        ensures title { result.now ≡ net_title self.now }
+        ensures short { length result.now ≤ 20 }
+    {
+        match self {
+            NetFault::SelfPacket { .. } => "1 SelfPacket",
+            NetFault::BadNode { .. } => "2 BadNode",
+            NetFault::BadClass { .. } => "3 BadClass",
+            NetFault::BadLength { .. } => "4 BadLength",
+            NetFault::TooMany => "5 TooMany",
+            NetFault::Memory => "6 Memory",
+            NetFault::BadDue { .. } => "7 BadDue",
+        }
+    }
+}
+
 impl From<Memory> for NetFault {
     ghost from_gives = { λ _ e. e ≡ memory_fault };
 
@@ -32,3 +54,14 @@ impl From<Memory> for NetFault {
         NetFault::Memory
     }
 }
+
+/// Its title.
+impl fmt::Display for NetFault {
+    ghost output = { λ fault. Some (net_title fault) };
+
+    fn fmt<W: fmt::Write>(&self, f: &mut fmt::Formatter<W>) -> fmt::Result {
+        f.write_str(self.title())
+    }
+}
+
+impl Error for NetFault {}

@@ -48,6 +48,7 @@ mod parts;
 mod room;
 mod takes;
 mod wire;
+mod workers;
 
 pub use cycles::deliver;
 pub use event_core::Core;
@@ -59,3 +60,4 @@ pub use noc_theory::{CYCLE_LIMIT, Event, NotReady};
 pub use parts::Parts;
 pub use room::Room;
 pub use takes::take_beats;
+pub use workers::{MAX_WORKERS, RunFault};

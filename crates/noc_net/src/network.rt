@@ -18,19 +18,22 @@ ghost use Rattle.noc_net.specs.Faults.{IsSendable, fault_of};
 ghost use Rattle.noc_theory.specs.Halves.{IsSilent};
 ghost use Rattle.noc_theory.specs.Lockstep.{counts_before, findings_before};
 ghost use Rattle.noc_packet.specs.ByNode.{ends_of, starts_of};
+ghost use Rattle.noc_opening.specs.Queues.{AreByNode};
 ghost use Rattle.noc_packet.specs.declared.limits.TheConstants.{MAX_BUFFER};
 ghost use Rattle.noc_router.specs.Decided.{empty_plan_contents};
 ghost use Rattle.noc_theory.specs.Good.{IsGoodSetup};
 ghost use Rattle.noc_theory.specs.Network.{arrival_in, packet_at, state_at};
 ghost use Rattle.noc_theory.specs.Progress.{is_pending, is_stuck, last_event_before};
 ghost use Rattle.noc_net.specs.Parts.{AreParts, run_in};
-ghost use Rattle.noc_net.specs.Limit.{IsLimit};
+ghost use Rattle.noc_net.specs.Limit.{IsLimit, are_all_out};
 
 use crate::fault::NetFault;
+use crate::limit::{MAX_LIMIT, budget, last_due};
 use crate::packets::first_fault;
 use crate::parts::Parts;
 use crate::room::Room;
-use noc_packet::{Beat, MAX_PACKETS, Memory, Packet, ends_at, starts_at};
+use noc_opening::{ends_by_node, starts_by_node};
+use noc_packet::{Beat, MAX_PACKETS, Memory, Packet};
 use noc_route::Relation;
 use noc_router::{Finding, Plan, Router, VERDICTS};
 use noc_rows::{NotRun, Rows, Setup};
@@ -38,6 +41,7 @@ use noc_theory::CYCLE_LIMIT;
 use noc_topo::LINKS;
 use std::alloc::Global;
 use std::marker::Model;
+use std::mem;
 use std::sync::Wait;
 use std::thread::Threads;
 use std::time::Clock;
@@ -81,16 +85,29 @@ impl Network {
     ) -> Result<Network, NetFault>
         requires some_depth { 0 < depth }
         requires depth { depth ≤ MAX_BUFFER }
-        ensures made { IfOk result (λ n. n ≡ record { net = record { relation = relation; depth = depth; packets = packets.items }; count = 0 }) }
+        ensures made { IfOk result (λ n. n
+            ≡ record {
+              net = record { relation = relation; depth = depth; packets = packets.items };
+              count = 0;
+            }) }
         ensures good { IfOk result (λ n. IsGoodSetup n.net) }
-        ensures fault { (e : NetFaultValue) → fault_of relation packets.items ≡ Some e → result ≡ Err e }
-        ensures memory { fault_of relation packets.items ≡ None → IfErr result (λ e. e ≡ memory_fault) }
+        ensures fault { (e : NetFaultValue) → fault_of relation packets.items ≡ Some e
+            → result ≡ Err e }
+        ensures memory { fault_of relation packets.items ≡ None
+            → IfErr result (λ e. e ≡ memory_fault) }
     {
         if let Some(fault) = first_fault(&relation, &packets) {
             return Err(fault);
         }
-        let (routers, plan, beats, room) = new_state(alloc, &relation, depth, &packets)?;
-        let rows = Rows::new(alloc, &relation, depth, &packets)?;
+        let nodes = relation.shape().nodes();
+        let starts = starts_by_node(alloc, nodes, &packets)?;
+        let rows = Rows::new(alloc, &relation, depth, &packets, &starts)?;
+        let Equipment {
+            routers,
+            plan,
+            beats,
+            room,
+        } = equipment_of(alloc, &relation, depth, &packets, starts)?;
         Ok(Network {
             parts: Parts {
                 relation,
@@ -113,7 +130,8 @@ impl Network {
     pub fn into_parts(self) -> Parts
         ensures network { run_in result ≡ self }
         ensures parts { AreParts result }
-        ensures plan { result.plan ≡ empty_plan_contents (ports_of result.relation.grid) result.relation.vcs }
+        ensures plan { result.plan ≡ empty_plan_contents
+            (ports_of result.relation.grid) result.relation.vcs }
     {
         let Network {
             mut parts,
@@ -150,7 +168,8 @@ impl Network {
     pub fn cycle(&mut self)
         requires { self.old.count < CYCLE_LIMIT }
         ensures value { self.new ≡ record self.old { count = self.old.count + 1 } }
-        ensures unstuck { (ranks : Ranking) → IsRankedBy self.new.net.relation ranks → is_stuck self.new.net self.new.count ≡ false }
+        ensures unstuck { (ranks : Ranking) → IsRankedBy self.new.net.relation ranks
+            → is_stuck self.new.net self.new.count ≡ false }
     {
         self.run(1);
     }
@@ -159,7 +178,8 @@ impl Network {
     pub fn run(&mut self, cycles: u64)
         requires { self.old.count + cycles ≤ CYCLE_LIMIT }
         ensures value { self.new ≡ record self.old { count = self.old.count + cycles } }
-        ensures unstuck { (ranks : Ranking) → IsRankedBy self.new.net.relation ranks → is_stuck self.new.net self.new.count ≡ false }
+        ensures unstuck { (ranks : Ranking) → IsRankedBy self.new.net.relation ranks
+            → is_stuck self.new.net self.new.count ≡ false }
     {
         match &mut self.rows {
             Some(rows) => rows.run(&self.parts.relation, cycles as u32),
@@ -219,8 +239,10 @@ impl Network {
     /// Whether cycle `count` is pending: a packet due by then has its tail not out yet. Where the
     /// relation is ranked and the limit is reached, it is not.
     pub fn pending(&self) -> bool
-        ensures value { result ≡ is_pending self.now.net self.now.count (state_at self.now.net self.now.count) }
-        ensures ranked { (ranks : Ranking) (limit : ℕ) → IsRankedBy self.now.net.relation ranks → IsLimit self.now.net limit → limit ≤ self.now.count → result ≡ false }
+        ensures value { result ≡ is_pending self.now.net self.now.count
+            (state_at self.now.net self.now.count) }
+        ensures ranked { (ranks : Ranking) (limit : ℕ) → IsRankedBy self.now.net.relation ranks
+            → IsLimit self.now.net limit → limit ≤ self.now.count → result ≡ false }
     {
         self.is_waiting_by(self.count)
     }
@@ -240,7 +262,8 @@ impl Network {
     // Whether a packet is due by this cycle and has its tail not out.
     fn is_waiting(&self, packet: usize, cycle: u64) -> bool
         requires { packet < length self.now.net.packets }
-        ensures { result ≡ (nat_le (packet_at self.now.net packet).due cycle && is_none (arrival_in self.now.net (state_at self.now.net self.now.count) packet)) }
+        ensures { result ≡ (nat_le (packet_at self.now.net packet).due cycle && is_none
+            (arrival_in self.now.net (state_at self.now.net self.now.count) packet)) }
     {
         u64::from(self.packet(packet).due) <= cycle && self.arrival(packet).is_none()
     }
@@ -258,7 +281,8 @@ impl Network {
     /// Whether the last cycle was pending and had no event: never where the relation is ranked.
     pub fn stuck(&self) -> bool
         ensures value { result ≡ is_stuck self.now.net self.now.count }
-        ensures ranked { (ranks : Ranking) → IsRankedBy self.now.net.relation ranks → result ≡ false }
+        ensures ranked { (ranks : Ranking) → IsRankedBy self.now.net.relation ranks
+            → result ≡ false }
     {
         match self.count.checked_sub(1) {
             Some(last) => self.last_event() != Some(last) && self.is_waiting_by(last),
@@ -270,8 +294,11 @@ impl Network {
     /// the limit is reached it was, in a cycle below the limit.
     pub fn arrival(&self, packet: usize) -> Option<u64>
         requires { packet < length self.now.net.packets }
-        ensures value { result ≡ arrival_in self.now.net (state_at self.now.net self.now.count) packet }
-        ensures ranked { (ranks : Ranking) (limit : ℕ) → IsRankedBy self.now.net.relation ranks → IsLimit self.now.net limit → limit ≤ self.now.count → (cycle : ℕ) × (result ≡ Some cycle) × (cycle < limit) }
+        ensures value { result ≡ arrival_in self.now.net
+            (state_at self.now.net self.now.count) packet }
+        ensures ranked { (ranks : Ranking) (limit : ℕ) → IsRankedBy self.now.net.relation ranks
+            → IsLimit self.now.net limit → limit ≤ self.now.count → (cycle : ℕ)
+            × (result ≡ Some cycle) × (cycle < limit) }
     {
         match &self.rows {
             Some(rows) => rows.arrival(packet),
@@ -285,7 +312,8 @@ impl Network {
         requires router { router < nodes_of self.now.net.relation.grid }
         requires port { port < ports_of self.now.net.relation.grid }
         requires vc { vc < self.now.net.relation.vcs }
-        ensures { result ≡ counts_before self.now.net self.now.count router (port * self.now.net.relation.vcs + vc) }
+        ensures { result ≡ counts_before self.now.net self.now.count router
+            (port * self.now.net.relation.vcs + vc) }
     {
         match &self.rows {
             Some(rows) => rows.counts(router, port, vc),
@@ -304,16 +332,36 @@ impl Network {
         }
     }
 
-    /// How many flits and credits did not fit, in all routers: none ever does. Rows have none to
-    /// count: a flit that comes has a slot in its buffer by the law of credits
-    /// (`noc_theory::credits_are_the_free_slots`).
+    /// Whether the tail of every packet is out: where the relation is ranked, at
+    /// the limit at the latest.
+    pub fn all_out(&self) -> bool
+        ensures value { result ≡ are_all_out self.now.net (state_at self.now.net self.now.count) }
+        ensures ranked { (ranks : Ranking) (limit : ℕ) → IsRankedBy self.now.net.relation ranks
+            → IsLimit self.now.net limit → limit ≤ self.now.count → result ≡ true }
+    {
+        for packet in 0..self.packets() {
+            if self.arrival(packet).is_none() {
+                return false;
+            }
+        }
+        true
+    }
+
+    /// The count by which every packet is out where the relation is ranked: the last due time and
+    /// the budget. It is 0 without packets.
+    pub fn limit(&self) -> u64
+        ensures value { IsLimit self.now.net result }
+        ensures few { result ≤ MAX_LIMIT }
+    {
+        last_due(self) + budget(self)
+    }
+
+    /// How many flits and credits did not fit, in all routers: none ever does. A flit that comes
+    /// has a slot in its buffer by the law of credits (`noc_theory::credits_are_the_free_slots`).
     pub fn misfits(&self) -> u64
         ensures { result ≡ 0 }
     {
-        match &self.rows {
-            Some(_) => 0,
-            None => self.parts.misfits(),
-        }
+        0
     }
 
     /// The packet with this number.
@@ -342,49 +390,78 @@ impl Network {
     }
 }
 
-// The routers of a network, a plan for them, an idle beat on every wire, and the storage of a core.
-fn new_state(
+// What a network takes memory for beside its packets and its rows: its routers, a plan for them,
+// the beats on its wires, and the storage of a core.
+#[derive(Drop)]
+struct Equipment {
+    routers: Vec<Router>,
+    plan: Plan,
+    beats: Vec<[Beat; LINKS]>,
+    room: Vec<Room>,
+}
+
+// That of a network before its first cycle, where `starts` has the packets of each node.
+fn equipment_of(
     alloc: Global,
     relation: &Relation,
     depth: usize,
     packets: &[Packet],
-) -> Result<(Vec<Router>, Plan, Vec<[Beat; LINKS]>, Vec<Room>), Memory>
+    starts: Vec<Vec<(u32, Packet)>>,
+) -> Result<Equipment, Memory>
     requires some_depth { 0 < depth }
     requires depth { depth ≤ MAX_BUFFER }
     requires few { length packets.now ≤ MAX_PACKETS }
     requires sendable { All IsSendable packets.now }
-    ensures routers { IfOk result (λ s. s.0.items ≡ tabulate (nodes_of relation.now.grid) (λ node. opening_view (record { grid = relation.now.grid; node = node; vcs = relation.now.vcs; depth = depth }) (starts_of packets.now node) (ends_of packets.now node))) }
-    ensures beats { IfOk result (λ s. vec_len s.2 ≡ nodes_of relation.now.grid) }
-    ensures idle { IfOk result (λ s. All IsSilent s.2.items) }
-    ensures room { IfOk result (λ s. vec_len s.3 ≡ nodes_of relation.now.grid) }
+    requires starts { AreByNode (starts_of packets.now) (nodes_of relation.now.grid) starts.items }
+    ensures routers { IfOk result (λ made. made.routers.items
+        ≡ tabulate (nodes_of relation.now.grid)
+        (λ node. opening_view
+        (record { grid = relation.now.grid; node = node; vcs = relation.now.vcs; depth = depth })
+        (starts_of packets.now node) (ends_of packets.now node))) }
+    ensures beats { IfOk result (λ made. vec_len made.beats ≡ nodes_of relation.now.grid) }
+    ensures idle { IfOk result (λ made. All IsSilent made.beats.items) }
+    ensures room { IfOk result (λ made. vec_len made.room ≡ nodes_of relation.now.grid) }
 {
     let nodes = relation.shape().nodes();
     let plan = Plan::new(alloc, relation)?;
     let beats = vec![in alloc; [Beat::idle(); LINKS]; nodes]?;
     let room = vec![in alloc; Room::new(0); nodes]?;
-    let routers = new_routers(alloc, relation, depth, packets)?;
-    Ok((routers, plan, beats, room))
+    let routers = new_routers(alloc, relation, depth, packets, starts)?;
+    Ok(Equipment {
+        routers,
+        plan,
+        beats,
+        room,
+    })
 }
 
-// The routers of a network, by node.
+// The routers of a network, by node, where `starts` has the packets of each.
 fn new_routers(
     alloc: Global,
     relation: &Relation,
     depth: usize,
     packets: &[Packet],
+    starts: Vec<Vec<(u32, Packet)>>,
 ) -> Result<Vec<Router>, Memory>
     requires some_depth { 0 < depth }
     requires depth { depth ≤ MAX_BUFFER }
     requires few { length packets.now ≤ MAX_PACKETS }
     requires sendable { All IsSendable packets.now }
-    ensures { IfOk result (λ routers. routers.items ≡ tabulate (nodes_of relation.now.grid) (λ node. opening_view (record { grid = relation.now.grid; node = node; vcs = relation.now.vcs; depth = depth }) (starts_of packets.now node) (ends_of packets.now node))) }
+    requires starts { AreByNode (starts_of packets.now) (nodes_of relation.now.grid) starts.items }
+    ensures { IfOk result (λ routers. routers.items
+        ≡ tabulate (nodes_of relation.now.grid)
+        (λ node. opening_view
+        (record { grid = relation.now.grid; node = node; vcs = relation.now.vcs; depth = depth })
+        (starts_of packets.now node) (ends_of packets.now node))) }
 {
     let nodes = relation.shape().nodes();
+    let mut starts = starts;
+    let mut ends = ends_by_node(alloc, nodes, packets)?;
     let mut routers = Vec::with_capacity(alloc, nodes)?;
     for node in 0..nodes {
-        let starts = starts_at(alloc, packets, node)?;
-        let ends = ends_at(alloc, packets, node)?;
-        routers.push(Router::new(alloc, relation, node, depth, starts, ends)?)?;
+        let starting = mem::replace(&mut starts[node], Vec::new(alloc));
+        let ending = mem::replace(&mut ends[node], Vec::new(alloc));
+        routers.push(Router::new(alloc, relation, node, depth, starting, ending)?)?;
     }
     Ok(routers)
 }

@@ -45,7 +45,8 @@ impl Parts {
         requires parts { AreParts self.old }
         requires within { self.old.count + cycles ≤ CYCLE_LIMIT }
         ensures parts { AreParts self.new }
-        ensures network { run_in self.new ≡ record { net = setup_in self.old; count = self.old.count + cycles } }
+        ensures network { run_in self.new
+            ≡ record { net = setup_in self.old; count = self.old.count + cycles } }
     {
         for _ in 0..cycles {
             self.cycle();
@@ -58,7 +59,8 @@ impl Parts {
         requires parts { AreParts self.old }
         requires within { self.old.count < CYCLE_LIMIT }
         ensures parts { AreParts self.new }
-        ensures network { run_in self.new ≡ record { net = setup_in self.old; count = self.old.count + 1 } }
+        ensures network { run_in self.new
+            ≡ record { net = setup_in self.old; count = self.old.count + 1 } }
     {
         decide_all(
             &self.relation,
@@ -87,7 +89,8 @@ impl Parts {
     pub(crate) fn arrival(&self, packet: usize) -> Option<u64>
         requires parts { AreParts self.now }
         requires packet { packet < length self.now.packets.items }
-        ensures { result ≡ arrival_in (setup_in self.now) (state_at (setup_in self.now) self.now.count) packet }
+        ensures { result ≡ arrival_in (setup_in self.now)
+            (state_at (setup_in self.now) self.now.count) packet }
     {
         self.routers[self.packets[packet].destination as usize].arrival(packet as u32)
     }
@@ -99,7 +102,8 @@ impl Parts {
         requires router { router < nodes_of self.now.relation.grid }
         requires port { port < ports_of self.now.relation.grid }
         requires vc { vc < self.now.relation.vcs }
-        ensures { result ≡ counts_before (setup_in self.now) self.now.count router (port * self.now.relation.vcs + vc) }
+        ensures { result ≡ counts_before (setup_in self.now) self.now.count router
+            (port * self.now.relation.vcs + vc) }
     {
         self.routers[router].counts(port, vc)
     }
@@ -111,18 +115,6 @@ impl Parts {
         ensures { result.now ≡ findings_before (setup_in self.now) self.now.count router }
     {
         self.routers[router].findings()
-    }
-
-    // How many flits and credits did not fit, in all routers: none ever does.
-    pub(crate) fn misfits(&self) -> u64
-        requires { AreParts self.now }
-        ensures { result ≡ 0 }
-    {
-        let mut misfits = 0u64;
-        for router in &self.routers {
-            misfits = misfits.saturating_add(router.misfits());
-        }
-        misfits
     }
 }
 

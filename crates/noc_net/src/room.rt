@@ -29,7 +29,13 @@ pub struct Room {
 impl Room {
     // A router between its cycles, with nothing on its wires.
     pub(crate) fn new(steps: u64) -> Room
-        ensures { result ≡ record { steps = steps; decided = false; wires = replicate LINKS Wire.Empty; taken = replicate LINKS None; unput = replicate LINKS None } }
+        ensures { result ≡ record {
+          steps = steps;
+          decided = false;
+          wires = replicate LINKS Wire.Empty;
+          taken = replicate LINKS None;
+          unput = replicate LINKS None;
+        } }
     {
         Room {
             steps,
@@ -64,7 +70,8 @@ impl Room {
     // Whether a beat can be taken at a link port.
     pub(crate) fn may_take(&self, port: usize) -> bool
         requires { port < LINKS }
-        ensures { (links : ℕ) (view : View) → port < links → result ≡ may_take CYCLE_LIMIT port (post_of links view self.now) }
+        ensures { (links : ℕ) (view : View) → port < links
+            → result ≡ may_take CYCLE_LIMIT port (post_of links view self.now) }
     {
         self.wires[port].len() > 0 && self.taken[port].is_none() && self.steps < CYCLE_LIMIT
     }
@@ -72,7 +79,8 @@ impl Room {
     // The oldest beat of a wire is taken.
     pub(crate) fn take(&mut self, port: usize)
         requires { port < LINKS }
-        ensures { (links : ℕ) (view : View) → port < links → post_of links view self.new ≡ taking port (post_of links view self.old) }
+        ensures { (links : ℕ) (view : View) → port < links
+            → post_of links view self.new ≡ taking port (post_of links view self.old) }
     {
         let mut wire = self.wires[port];
         self.taken[port] = wire.pop();
@@ -83,7 +91,9 @@ impl Room {
     pub(crate) fn may_decide(&self, router: &Router, links: usize) -> bool
         requires links { links ≡ local_port router.now.site.grid }
         requires few { links ≤ LINKS }
-        ensures { (net : Setup) (view : View) → net.relation.grid ≡ router.now.site.grid → result ≡ may_decide CYCLE_LIMIT net router.now.site.node (post_of links view self.now) }
+        ensures { (net : Setup) (view : View) → net.relation.grid ≡ router.now.site.grid
+            → result ≡ may_decide CYCLE_LIMIT net router.now.site.node
+            (post_of links view self.now) }
     {
         !self.decided && self.steps < CYCLE_LIMIT && self.has_all(router, links)
     }
@@ -92,7 +102,8 @@ impl Room {
     fn has_all(&self, router: &Router, links: usize) -> bool
         requires links { links ≡ local_port router.now.site.grid }
         requires few { links ≤ LINKS }
-        ensures { (net : Setup) → net.relation.grid ≡ router.now.site.grid → result ≡ all_have net router.now.site.node (take links self.now.taken) }
+        ensures { (net : Setup) → net.relation.grid ≡ router.now.site.grid
+            → result ≡ all_have net router.now.site.node (take links self.now.taken) }
     {
         for port in 0..links {
             if self.taken[port].is_none() & router.neighbour(port).is_some() {
@@ -118,7 +129,13 @@ impl Room {
         requires links { links ≡ local_port router.now.site.grid }
         requires few { links ≤ LINKS }
         requires steps { self.old.steps < CYCLE_LIMIT }
-        ensures { (net : Setup) (view : View) → net.relation.grid ≡ router.now.site.grid → post_of links view self.new ≡ post_after_last_put net (record (post_of links view self.old) { decided = true; unput = unput_for net router.now.site.node (take links beats.now) }) }
+        ensures { (net : Setup) (view : View) → net.relation.grid ≡ router.now.site.grid
+            → post_of links view self.new
+            ≡ post_after_last_put net
+            (record (post_of links view self.old) {
+              decided = true;
+              unput = unput_for net router.now.site.node (take links beats.now);
+            }) }
     {
         self.decided = true;
         for port in 0..links {
@@ -130,7 +147,8 @@ impl Room {
     // Whether the beat for a link port can be put.
     pub(crate) fn may_put(&self, port: usize) -> bool
         requires { port < LINKS }
-        ensures { (links : ℕ) (view : View) → port < links → result ≡ may_put port (post_of links view self.now) }
+        ensures { (links : ℕ) (view : View) → port < links
+            → result ≡ may_put port (post_of links view self.now) }
     {
         self.unput[port].is_some()
     }
@@ -141,7 +159,8 @@ impl Room {
         requires few { links ≤ LINKS }
         requires steps { self.old.steps < CYCLE_LIMIT }
         ensures beat { result ≡ unwrap_or (slice_index_or self.old.unput port None) idle_beat }
-        ensures post { (net : Setup) (view : View) → local_port net.relation.grid ≡ links → post_of links view self.new ≡ putting net port (post_of links view self.old) }
+        ensures post { (net : Setup) (view : View) → local_port net.relation.grid ≡ links
+            → post_of links view self.new ≡ putting net port (post_of links view self.old) }
     {
         let beat = self.unput[port].unwrap_or(Beat::idle());
         self.unput[port] = None;
@@ -153,7 +172,8 @@ impl Room {
     fn finish(&mut self, links: usize)
         requires few { links ≤ LINKS }
         requires steps { self.old.steps < CYCLE_LIMIT }
-        ensures { (net : Setup) (view : View) → local_port net.relation.grid ≡ links → post_of links view self.new ≡ post_after_last_put net (post_of links view self.old) }
+        ensures { (net : Setup) (view : View) → local_port net.relation.grid ≡ links
+            → post_of links view self.new ≡ post_after_last_put net (post_of links view self.old) }
     {
         if have_none(&self.unput[..links]) {
             let wires = self.wires;
@@ -166,7 +186,8 @@ impl Room {
     pub(crate) fn receive(&mut self, port: usize, beat: Beat)
         requires port { port < LINKS }
         requires room { length (slice_index_or (wires_in self.old) port []) < 2 }
-        ensures { (links : ℕ) (view : View) → port < links → post_of links view self.new ≡ receiving port beat (post_of links view self.old) }
+        ensures { (links : ℕ) (view : View) → port < links
+            → post_of links view self.new ≡ receiving port beat (post_of links view self.old) }
     {
         let mut wire = self.wires[port];
         wire.push(beat);
@@ -184,7 +205,8 @@ impl Room {
     // The oldest beats of the wires, idle ones where there are none.
     pub(crate) fn front(&self, links: usize) -> [Beat; LINKS]
         requires { links ≤ LINKS }
-        ensures { (port : ℕ) → slice_index_or result port idle_beat ≡ front_of (slice_index_or (take links (wires_in self.now)) port []) }
+        ensures { (port : ℕ) → slice_index_or result port idle_beat
+            ≡ front_of (slice_index_or (take links (wires_in self.now)) port []) }
     {
         let mut beats = [Beat::idle(); LINKS];
         for port in 0..links {

@@ -13,7 +13,8 @@ use noc_topo::LINKS;
 pub fn take_beats(relation: &Relation, router: &mut Router, beats: &mut [Beat; LINKS])
     requires router { IsRelationOf relation.now router.old }
     requires beats { IsLinked relation.now.grid beats.old }
-    ensures router { router.new ≡ view_after_takes relation.now (incoming relation.now.grid beats.old) router.old }
+    ensures router { router.new ≡ view_after_takes relation.now
+        (incoming relation.now.grid beats.old) router.old }
     ensures beats { IsSilent beats.new }
 {
     let links = relation.shape().ports() - 1;

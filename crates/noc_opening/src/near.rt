@@ -23,7 +23,7 @@ pub fn near_of(shape: &Shape, first: usize) -> u32
     near
 }
 
-/// .. from one router.
+/// The blocks to which links lead from one router.
 pub fn near_router(shape: &Shape, node: usize) -> u32
     requires { node < nodes shape.now }
     ensures each { (q to back : ℕ) → neighbour shape.now node q ≡ Some (to, back)

@@ -69,7 +69,7 @@ fn starts_of(shape: &Shape, first: usize, straight: bool) -> [usize; PORTS]
     starts
 }
 
-// .. by one port.
+// The place of the word of the first router's neighbour by one port, straight on or round.
 fn start_of(shape: &Shape, first: usize, port: usize, straight: bool) -> usize
     requires grid { IsGrid shape.now }
     requires within { first + LANES ≤ MAX_NODES }
@@ -131,7 +131,8 @@ fn masks_of<W: Word>(relation: &Relation, first: usize, straight: bool) -> [Lane
     masks
 }
 
-// .. of one port.
+// Of one port, the channels of the port at the other end, in the routers of a block that have a
+// neighbour straight on, or round.
 fn mask_port<W: Word>(
     relation: &Relation,
     first: usize,
@@ -151,7 +152,7 @@ fn mask_port<W: Word>(
     }
 }
 
-// .. in one router, if there is one.
+// The channels of the port at the other end, in one router, if it has such a neighbour.
 fn mask_of<W: Word>(relation: &Relation, node: usize, port: usize, straight: bool) -> W
     requires fits { width relation.now.grid relation.now.vcs < W.bits }
     requires port { port < local_port relation.now.grid }

@@ -4,32 +4,39 @@ ghost use Rattle.std.specs.Prelude.{◌≡◌, ◌<◌, ◌≤◌, ◌++◌, ◌
 ghost use Rattle.noc_sets.specs.Source.{due_of};
 ghost use Rattle.noc_blocks.specs.Begins.{starts_by};
 ghost use Rattle.noc_theory_bits.specs.Starts.{starts_list, with_end};
+ghost use Rattle.noc_packet.specs.ByNode.{starts_of};
 ghost use Rattle.noc_opening.specs.Firsts.{AreFirsts};
+ghost use Rattle.noc_opening.specs.Queues.{AreByNode};
 
 use crate::firsts::{First, Starts};
 use noc_blocks::{END, NEVER, Start};
-use noc_packet::{MAX_NODES, MAX_PACKETS, Memory, Packet, starts_at};
+use noc_packet::{MAX_NODES, MAX_PACKETS, Memory, Packet};
 use std::alloc::Global;
 
-/// The packets of so many routers, one router after the other.
-pub fn all_starts(alloc: Global, nodes: usize, packets: &[Packet]) -> Result<Starts, Memory>
-    requires nodes { nodes ≤ MAX_NODES }
+/// The packets of all routers, one router after the other, of which `queues` has those of each.
+pub fn all_starts(
+    alloc: Global,
+    packets: &[Packet],
+    queues: &[Vec<(u32, Packet)>],
+) -> Result<Starts, Memory>
+    requires nodes { length queues.now ≤ MAX_NODES }
     requires few { length packets.now ≤ MAX_PACKETS }
     requires flits { All (λ p. 0 < p.length) packets.now }
+    requires queues { AreByNode (starts_of packets.now) (length queues.now) queues.now }
     ensures list { IfOk result (λ starts. starts_by starts.list.items
-        ≡ starts_list packets.now nodes) }
+        ≡ starts_list packets.now (length queues.now)) }
     ensures short { IfOk result (λ starts. length starts.list.items < 2 ^ 32) }
-    ensures firsts { IfOk result (λ starts. AreFirsts packets.now nodes starts.firsts.items) }
+    ensures firsts { IfOk result (λ starts. AreFirsts packets.now (length queues.now)
+        starts.firsts.items) }
 {
-    let mut list = Vec::new(alloc);
-    let mut firsts = Vec::new(alloc);
-    for node in 0..nodes {
-        let queue = starts_at(alloc, packets, node)?;
+    let mut list = Vec::with_capacity(alloc, packets.len() + queues.len())?;
+    let mut firsts = Vec::with_capacity(alloc, queues.len())?;
+    for queue in queues {
         firsts.push(First {
             place: list.len() as u32,
-            due: first_due(&queue),
+            due: first_due(queue),
         })?;
-        add_starts(&queue, &mut list)?;
+        add_starts(queue, &mut list)?;
     }
     Ok(Starts { list, firsts })
 }

@@ -114,7 +114,7 @@ fn empty_marks<W: Word>() -> [Marks<W>; LANES]
     [router_marks(); LANES]
 }
 
-// .. of one router.
+// No channel of one router is held, and each of its pointers is at the first channel.
 fn router_marks<W: Word>() -> Marks<W>
     ensures { (o : ℕ) → o < PLACES → word W.value o result.turn ≡ 2 ^ W.bits - 1 }
 {

@@ -1,2 +1,1 @@
-pub mod ByNodeLemmas
 pub mod SetLemmas

@@ -4,7 +4,8 @@ use Rattle.noc_packet.specs.declared.packet.Packet.{Packet}
 use Rattle.noc_packet.specs.declared.packet.Flit.{Flit}
 use Rattle.noc_packet.specs.declared.limits.TheConstants.{MAX_NODES, MAX_CLASSES, MAX_LENGTH, MAX_DUE}
 
--- whether each field of a packet is within the limits of the network
+-- whether no field of a packet is above its limit in the network; that it has a flit is asked for
+-- beside this
 pub record IsWithinLimits (p : Packet) : Type 0 where
   pub source : p.source < MAX_NODES
   pub destination : p.destination < MAX_NODES

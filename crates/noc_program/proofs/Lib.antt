@@ -1,2 +1,4 @@
 pub mod CountedLemmas
 pub mod DeviceLemmas
+pub mod RequestLemmas
+pub mod TellingLemmas

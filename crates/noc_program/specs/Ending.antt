@@ -16,9 +16,11 @@ EndsAs IsOut taken (Err (Write fault)) (Err end) = end ≡ Write (record { writt
 EndsAs IsOut taken (Err fault) (Err end) = end ≡ fault
 
 -- a device has the whole text, or, where writing failed, just the bytes that the fault counts
-abbrev pub IsOnDevice : {W : Type 0} → (W → Option (List ℕ)) → W → W → List ℕ → Result (Unit {0}) WriteFault → Type 0
+abbrev pub IsOnDevice : {W : Type 0} → (W → Option (List ℕ)) → W → W → List ℕ
+    → Result (Unit {0}) WriteFault → Type 0
 IsOnDevice contents before after text (Ok done) = Appends (contents before) (contents after) text
-IsOnDevice contents before after text (Err fault) = Appends (contents before) (contents after) (take fault.written text)
+IsOnDevice contents before after text (Err fault) =
+    Appends (contents before) (contents after) (take fault.written text)
 
 -- the program ends with a status of docs/FORMATS.md
 abbrev pub IsExitStatus : ℕ → Type 0

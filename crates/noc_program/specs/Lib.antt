@@ -1,4 +1,5 @@
 pub mod Counted
 pub mod Ending
 pub mod Requests
+pub mod Telling
 pub mod Version

@@ -1,24 +1,52 @@
 -- What arguments ask for, and the texts of a request, read from the files that they name.
-use Rattle.std.specs.Prelude.{◌≡◌, List, ℕ, Option, Some, None, Result, Err, ⊤}
+use Rattle.std.specs.Prelude.{◌≡◌, ◌≢◌, ◌<◌, ◌≤◌, List, ℕ, Option, Some, None, Result, Err, ⊤, is_some, length}
 use Rattle.std.specs.Borrow.{Bor}
+use Rattle.clap.specs.Words.{kind_of}
+use Rattle.clap.specs.declared.error.Error.{Error}
+use Rattle.clap.specs.declared.error.kind.ErrorKind.TheVariants.{DisplayVersion}
+use Rattle.noc_answers.specs.declared.request.Request.{Request}
+use Rattle.noc_cli.specs.Args.{IsAskedBy, IsRefusal}
+use Rattle.noc_cli.specs.declared.args.Args.{Args}
 use Rattle.noc_commands.specs.Workers.{HasWorkers}
+use Rattle.noc_commands.specs.declared.command.Command.TheVariants.{Joined}
 use Rattle.noc_files.specs.declared.fault.InputFault.{InputFault}
 use Rattle.noc_files.specs.declared.fault.InputFault.TheVariants.{ReadFailed}
 use Rattle.noc_program.specs.declared.request.Asked.{Asked}
 use Rattle.noc_program.specs.declared.request.Asked.TheVariants.{Answer, Version}
+use Rattle.noc_program.specs.declared.request.Refusal.{Refusal}
+use Rattle.noc_program.specs.declared.request.Refusal.TheVariants as refusal
 
--- where an answer is asked for, its command has workers
-abbrev pub AsksWithWorkers : Asked → Type 0
-AsksWithWorkers (Answer request) = HasWorkers request.command
-AsksWithWorkers Version = ⊤
+-- these words, of which the first is the program's name, make this request: without another word
+-- that of a joined text; else they name its command, and which files it has
+pub data Asks (words : List (List ℕ)) (r : Request) : Type 0 where
+  joins : length words ≤ 1 → r.command ≡ Joined → r.table ≡ None → r.ranks ≡ None → Asks words r
+  names : {args : Args} → 1 < length words → IsAskedBy words args → r.command ≡ args.command
+      → is_some r.table ≡ is_some args.table → is_some r.ranks ≡ is_some args.ranks → Asks words r
+
+-- the version is asked for
+abbrev pub AsksForVersion : List (List ℕ) → Type 0
+AsksForVersion words = (error : Error) × IsRefusal words error × (kind_of error ≡ DisplayVersion)
+
+-- these words ask for this
+abbrev pub IsAskedAs : List (List ℕ) → Asked → Type 0
+IsAskedAs words (Answer request) = Asks words request × HasWorkers request.command
+IsAskedAs words Version = AsksForVersion words
+
+-- why these words ask for nothing
+abbrev pub IsRefusedAs : List (List ℕ) → Refusal → Type 0
+IsRefusedAs words refusal.Memory = ⊤
+IsRefusedAs words (refusal.NotText number) = ⊥
+IsRefusedAs words (refusal.Args error) = IsRefusal words error × (kind_of error ≢ DisplayVersion)
 
 -- what is read for a name, where there is one
-abbrev pub ReadsIfNamed : {T : Type 0} → (List ℕ → T → Type 0) → Option (Bor (List ℕ)) → Option T → Type 0
+abbrev pub ReadsIfNamed : {T : Type 0} → (List ℕ → T → Type 0) → Option (Bor (List ℕ)) → Option T
+    → Type 0
 ReadsIfNamed Reads None None = ⊤
 ReadsIfNamed Reads (Some name) (Some text) = Reads name.now text
 ReadsIfNamed Reads _ _ = ⊥
 
 -- what is read for a name, or that nothing was read where there is none
-abbrev pub ReadsOrFails : {T : Type 0} → (List ℕ → Result T InputFault → Type 0) → Option (Bor (List ℕ)) → Result T InputFault → Type 0
+abbrev pub ReadsOrFails : {T : Type 0} → (List ℕ → Result T InputFault → Type 0)
+    → Option (Bor (List ℕ)) → Result T InputFault → Type 0
 ReadsOrFails Reads None text = text ≡ Err ReadFailed
 ReadsOrFails Reads (Some name) text = Reads name.now text

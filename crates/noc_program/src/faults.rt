@@ -1,13 +1,13 @@
-//! How the program tells why it has no answer.
+//! How the program tells how it has ended.
 
 ghost use Rattle.std.specs.Prelude.{◌≡◌, ◌≢◌};
 ghost use Rattle.std.specs.Process.{exit_status};
-ghost use Rattle.noc_faults.specs.Status.{status_of_fault};
+ghost use Rattle.noc_program.specs.Telling.{Tells};
 
 use crate::request::Refusal;
 use arrayvec::ArrayString;
-use noc_faults::{Fault, fault_line, status_of};
-use noc_files::{InputFault, Out};
+use noc_faults::{Fault, Status, fault_line, status_of};
+use noc_files::{InputFault, Out, Sink};
 use std::fmt::Write as _;
 use std::io::Write;
 use std::process::ExitCode;
@@ -21,7 +21,9 @@ pub(crate) fn report_refusal<W: Write + Drop>(mut to: W, refusal: &Refusal) -> E
     ensures args { refusal.now ≢ Refusal.Memory → exit_status result ≡ 2 }
 {
     let _ = match refusal {
-        Refusal::Memory => return report_fault(to, &Fault::Config(InputFault::Memory)),
+        Refusal::Memory => {
+            return report(Err(Fault::Config(InputFault::Memory)), &mut Out::new(to));
+        }
         Refusal::NotText(None) => writeln!(to, "error: a word is no text in UTF-8"),
         Refusal::NotText(Some(number)) => {
             let mut line = ArrayString::<64>::new();
@@ -33,11 +35,17 @@ pub(crate) fn report_refusal<W: Write + Drop>(mut to: W, refusal: &Refusal) -> E
     ExitCode::from(WRONG_ARGS)
 }
 
-// Tells a fault, and gives its exit status. The line goes out in one write, so that programs side
-// by side, with one file for their errors, leave whole lines there.
-pub(crate) fn report_fault<W: Write + Drop>(to: W, fault: &Fault) -> ExitCode
-    ensures { exit_status result ≡ status_of_fault fault.now }
+/// Gives the exit status of an answer, and tells its fault, if there is one, by its line
+/// (docs/FORMATS.md, "Fault lines"). The line goes out in one write, so that programs side by side,
+/// with one file for their errors, leave whole lines there.
+pub fn report<W: Sink>(ended: Result<Status, Fault>, errors: &mut W) -> ExitCode
+    ensures { Tells W.contents W.has_failed errors.old errors.new ended (exit_status result) }
 {
-    let _ = fault_line(fault, &mut Out::new(to));
-    ExitCode::from(status_of(fault))
+    match ended {
+        Ok(status) => ExitCode::from(status.code()),
+        Err(fault) => {
+            let _ = fault_line(&fault, errors);
+            ExitCode::from(status_of(&fault))
+        }
+    }
 }

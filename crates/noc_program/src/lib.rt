@@ -9,7 +9,8 @@ mod program;
 mod request;
 mod version;
 
-pub use device::write_answer;
-pub use program::run;
-pub use request::request_of;
+pub use device::{write_answer, write_answer_one};
+pub use faults::report;
+pub use program::{run, run_args};
+pub use request::{Refusal, request_of};
 pub use version::write_version;

@@ -1,8 +1,8 @@
 //! The request that the arguments make, with the texts of the files that they name.
 
-ghost use Rattle.std.specs.Prelude.{◌≡◌, IfOk};
+ghost use Rattle.std.specs.Prelude.{◌≡◌, IfErr, IfOk, map, string_bytes};
 ghost use Rattle.std.specs.Fn.{FnReturnsAt};
-ghost use Rattle.noc_program.specs.Requests.{AsksWithWorkers, ReadsIfNamed, ReadsOrFails};
+ghost use Rattle.noc_program.specs.Requests.{IsAskedAs, IsRefusedAs, ReadsIfNamed, ReadsOrFails};
 
 use clap::error::ErrorKind;
 use noc_answers::{Request, Text};
@@ -26,23 +26,27 @@ pub(crate) enum Asked {
     Version,
 }
 
-// Why the arguments make no request.
+/// Why the arguments make no request.
 #[derive(Drop)]
-pub(crate) enum Refusal {
-    // Memory was refused.
+pub enum Refusal {
+    /// Memory was refused.
     Memory,
-    // An argument is no text in UTF-8: its number, the program's name being 0, where the argument
-    // is not too long to be looked at.
+    /// An argument is no text in UTF-8: its number, the program's name being 0, where the argument
+    /// is not too long to be looked at.
     NotText(Option<usize>),
-    // They make no sense, or help was asked for.
+    /// They make no sense, or help was asked for.
     Args(clap::Error),
 }
 
-// What the arguments of the command line ask for.
-pub(crate) fn parse_args(rt: &(impl Env + Files + Input + AllocGlobal)) -> Result<Asked, Refusal>
-    ensures { IfOk result AsksWithWorkers }
+// What these arguments ask for, the program's name being the first. A request has the texts of the
+// files that they name.
+pub(crate) fn parse_args(
+    rt: &(impl Files + Input + AllocGlobal),
+    args: &[String],
+) -> Result<Asked, Refusal>
+    ensures asked { IfOk result (IsAskedAs (map string_bytes args.now)) }
+    ensures refused { IfErr result (IsRefusedAs (map string_bytes args.now)) }
 {
-    let args = all_args(rt)?;
     if args.len() <= 1 {
         return Ok(Asked::Answer(Request {
             config: read_all(rt.alloc(), &mut rt.reader(), INPUT_LIMIT),
@@ -58,16 +62,18 @@ pub(crate) fn parse_args(rt: &(impl Env + Files + Input + AllocGlobal)) -> Resul
             Err(_) => Err(InputFault::ReadFailed),
         }
     };
-    match read_args(rt.alloc(), &args) {
+    match read_args(rt.alloc(), args) {
         Ok(args) => Ok(Asked::Answer(request_of(&args, file_text))),
-        Err(error) if error.kind() == ErrorKind::DisplayVersion => Ok(Asked::Version),
-        Err(error) if error.kind() == ErrorKind::OutOfMemory => Err(Refusal::Memory),
-        Err(error) => Err(Refusal::Args(error)),
+        Err(error) => match error.kind() {
+            ErrorKind::DisplayVersion => Ok(Asked::Version),
+            ErrorKind::OutOfMemory => Err(Refusal::Memory),
+            _ => Err(Refusal::Args(error)),
+        },
     }
 }
 
 // The arguments of the command line, the program's name first.
-fn all_args(rt: &(impl Env + AllocGlobal)) -> Result<Vec<String>, Refusal> {
+pub(crate) fn all_args(rt: &(impl Env + AllocGlobal)) -> Result<Vec<String>, Refusal> {
     match env::args(rt) {
         Ok(args) => args.collect(rt.alloc()).map_err(|_| Refusal::Memory),
         Err(error) if error.kind() == io::ErrorKind::OutOfMemory => Err(Refusal::Memory),

@@ -14,8 +14,12 @@ falls_in a set i = falls_to a.ranked.now.ranks.now a.router set a.rank i
 -- each step rises
 abbrev pub HasNoneOf : Arrival → Type 0
 HasNoneOf a = let k = a.ranked.now.ranks.now in
-    (t : ℕ) → t < nodes k.grid → HasNone (falls_in a (set_at a.ranked.now.relation.now a.class a.router a.in_port a.in_vc t)) (link_output_count k)
+    (t : ℕ) → t < nodes k.grid
+    → HasNone (falls_in a (set_at a.ranked.now.relation.now a.class a.router a.in_port a.in_vc t))
+    (link_output_count k)
 
 -- the first step that does not rise
 abbrev pub IsFirstOf : Arrival → Fall → Type 0
-IsFirstOf a fall = IsFirstFrom a.ranked.now.relation.now a.ranked.now.ranks.now a.class a.router a.in_port a.in_vc a.rank fall
+IsFirstOf a fall =
+    IsFirstFrom a.ranked.now.relation.now a.ranked.now.ranks.now a.class a.router a.in_port a.in_vc
+    a.rank fall

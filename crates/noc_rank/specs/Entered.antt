@@ -15,17 +15,22 @@ pub record IsRight (g : Grid) (vcs : ℕ) (row : RankRow) : Type 0 where
 
 -- one list holds the ranks of the first n rows, the other says which channels they
 -- name, and they have no fault
-pub record AreEntered (g : Grid) (vcs : ℕ) (rows : List RankRow) (n : ℕ) (ranks : List (Option ℕ)) (named : List Bool) : Type 0 where
+pub record AreEntered (g : Grid) (vcs : ℕ) (rows : List RankRow) (n : ℕ) (ranks : List (Option ℕ))
+    (named : List Bool) : Type 0 where
   pub long : length ranks ≡ rank_count g vcs
   pub all : length named ≡ rank_count g vcs
   pub good : AreGood g vcs rows n
   pub right : Each (IsRight g vcs) (take n rows)
-  pub stored : (r p v : ℕ) → is_port_channel g vcs r p v ≡ true → slice_index_or ranks (rank_index g vcs r p v) None ≡ rank_in (take n rows) r p v
-  pub noted : (r p v : ℕ) → is_port_channel g vcs r p v ≡ true → slice_index_or named (rank_index g vcs r p v) false ≡ has_rank_row (take n rows) r p v
+  pub stored : (r p v : ℕ) → is_port_channel g vcs r p v ≡ true
+      → slice_index_or ranks (rank_index g vcs r p v) None ≡ rank_in (take n rows) r p v
+  pub noted : (r p v : ℕ) → is_port_channel g vcs r p v ≡ true
+      → slice_index_or named (rank_index g vcs r p v) false ≡ has_rank_row (take n rows) r p v
 
 -- each link channel before this index is named
 abbrev pub IsWhole : Grid → ℕ → List Bool → ℕ → Type 0
-IsWhole g vcs named n = (r p v : ℕ) → is_channel g vcs r p v ≡ true → rank_index g vcs r p v < n → slice_index_or named (rank_index g vcs r p v) false ≡ true
+IsWhole g vcs named n =
+    (r p v : ℕ) → is_channel g vcs r p v ≡ true → rank_index g vcs r p v < n
+    → slice_index_or named (rank_index g vcs r p v) false ≡ true
 
 -- the fault names the first link channel that is not named
 pub record IsFirstGap (g : Grid) (vcs : ℕ) (names : List Bool) (fault : RankFault) : Type 0 where

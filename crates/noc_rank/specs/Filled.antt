@@ -14,4 +14,5 @@ IsAllFilled s least = AreAllLeast s.relation.now s.ranks.now s.marks.now s.class
 
 -- a channel of this set of a router, with an index below `end`, counts for n
 abbrev pub IsFoundIn : Search → List (Option ℕ) → ℕ → ℕ → ℕ → ℕ → Type 0
-IsFoundIn s least router set end n = IsValueIn s.relation.now s.ranks.now s.marks.now least router set end n
+IsFoundIn s least router set end n =
+    IsValueIn s.relation.now s.ranks.now s.marks.now least router set end n

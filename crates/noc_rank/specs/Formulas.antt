@@ -12,7 +12,13 @@ use Rattle.noc_rank.specs.Ranking.{IsRanking}
 -- whether a relation of this rule can be made, and the rule has ranks by formula: dimension order
 -- on a mesh alone, a table never
 abbrev pub has_ranks : Grid → ℕ → ℕ → Rule → Bool
-has_ranks g vcs classes rule = is_right g vcs classes rule && (elim rule [ Dor ↦ not g.wraps | Dateline ↦ true | WestFirst ↦ true | Adaptive ↦ true | Rows rows ↦ false ])
+has_ranks g vcs classes rule = is_right g vcs classes rule && (elim rule [
+  | Dor ↦ not g.wraps
+  | Dateline ↦ true
+  | WestFirst ↦ true
+  | Adaptive ↦ true
+  | Rows rows ↦ false
+])
 
 -- how many routers lie behind coordinate x of a dimension of size k, seen along this port
 abbrev pub passed_in : ℕ → ℕ → ℕ → ℕ
@@ -20,7 +26,8 @@ passed_in k x port = if is_plus port then x else k - 1 - x
 
 -- how many routers lie behind a router, seen along this port
 abbrev pub hops_passed : Grid → ℕ → ℕ → ℕ
-hops_passed g r p = passed_in (slice_index g.radix (p / 2)) (slice_index (coordinates g.radix r) (p / 2)) p
+hops_passed g r p =
+    passed_in (slice_index g.radix (p / 2)) (slice_index (coordinates g.radix r) (p / 2)) p
 
 -- the ports down dimension 0 first; then column by column, up and down dimension 1
 -- before the port up dimension 0
@@ -30,15 +37,20 @@ west_first_rank g r p =
     let rows = slice_index g.radix 1 in
     let x = slice_index (coordinates g.radix r) 0 in
     if nat_eq p 1 then columns - x
-    else (if nat_eq p 0 then columns + x * (rows + 1) + rows + 1 else columns + x * (rows + 1) + hops_passed g r p + 1)
+    else (if nat_eq p 0 then columns + x * (rows + 1) + rows + 1
+    else columns + x * (rows + 1) + hops_passed g r p + 1)
 
 -- the rank of a link channel by a rule: dimension by dimension, and along each port in the order of
 -- its links. By dateline the low half of the channels comes before the high half, and by adaptive
 -- the low escape channel before the high one
 abbrev pub formula : Grid → ℕ → ℕ → Rule → ℕ → ℕ → ℕ → ℕ
-formula g vcs classes Dateline r p v = 32 * (p / 2) + resource_class vcs classes v * slice_index g.radix (p / 2) + hops_passed g r p + 1
+formula g vcs classes Dateline r p v =
+    32 * (p / 2) + resource_class vcs classes v * slice_index g.radix (p / 2) + hops_passed g r p
+    + 1
 formula g vcs classes WestFirst r p v = west_first_rank g r p
-formula g vcs classes Adaptive r p v = 32 * (p / 2) + index_in_class vcs classes v * slice_index g.radix (p / 2) + hops_passed g r p + 1
+formula g vcs classes Adaptive r p v =
+    32 * (p / 2) + index_in_class vcs classes v * slice_index g.radix (p / 2) + hops_passed g r p
+    + 1
 formula g vcs classes _ r p v = 32 * (p / 2) + hops_passed g r p + 1
 
 -- whether a rule gives this channel of a link a rank: all, but the adaptive ones
@@ -49,7 +61,9 @@ is_ranked g vcs classes _ v = true
 -- the rank by formula of a channel of any link port; none where the port has no link
 -- or the channel is adaptive
 abbrev pub formula_at : Grid → ℕ → ℕ → Rule → ℕ → ℕ → ℕ → Option ℕ
-formula_at g vcs classes rule r p v = if is_channel g vcs r p v && is_ranked g vcs classes rule v then Some (formula g vcs classes rule r p v) else None
+formula_at g vcs classes rule r p v =
+    if is_channel g vcs r p v && is_ranked g vcs classes rule v
+    then Some (formula g vcs classes rule r p v) else None
 
 -- the ranks by formula of a rule that has them
 pub record IsGenerated (g : Grid) (vcs classes : ℕ) (rule : Rule) (k : Ranking) : Type 0 where

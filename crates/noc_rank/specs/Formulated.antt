@@ -28,5 +28,8 @@ part_in f v = part_by f.vcs f.classes f.rule.now v
 -- the ranks of the first n channels
 pub record AreByFormula (f : Formula) (n : ℕ) (ranks : List (Option ℕ)) : Type 0 where
   pub long : length ranks ≡ n
-  pub items : (k : ℕ) → k < n → slice_index_or ranks k None ≡ rank_in f (k / f.vcs / local_port f.shape.now) (k / f.vcs % local_port f.shape.now) (k % f.vcs)
+  pub items : (k : ℕ) → k < n
+      → slice_index_or ranks k None
+      ≡ rank_in f (k / f.vcs / local_port f.shape.now) (k / f.vcs % local_port f.shape.now)
+      (k % f.vcs)
   pub within : (k : ℕ) → k < n → IfSome (slice_index_or ranks k None) IsWithin

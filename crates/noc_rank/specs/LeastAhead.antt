@@ -28,12 +28,14 @@ mark_at routes marks r p v = slice_index_or marks (rank_index routes.grid routes
 
 -- permitted steps of a class to a destination lead from a channel to one with a rank and this mark,
 -- directly or through adaptive channels
-pub record IsAhead (routes : Routes) (ranks marks : List (Option ℕ)) (m t r p v n : ℕ) : Type 0 where
+pub record IsAhead (routes : Routes) (ranks marks : List (Option ℕ)) (m t r p v n : ℕ)
+    : Type 0 where
   pub router : ℕ
   pub port : ℕ
   pub vc : ℕ
   pub rank : ℕ
-  pub leads : LeadsTo (λ m c t o. IsTrue (permits routes m c t o)) (rank_at (over routes ranks)) m t (Link r p v) (Link router port vc)
+  pub leads : LeadsTo (λ m c t o. IsTrue (permits routes m c t o)) (rank_at (over routes ranks)) m t
+      (Link r p v) (Link router port vc)
   pub ranked : rank_at (over routes ranks) router port vc ≡ Some rank
   pub mark : mark_at routes marks router port vc ≡ Some n
 
@@ -44,10 +46,13 @@ outputs routes = local_port routes.grid * routes.vcs
 -- what the channel with an index counts for: its mark where it has a rank, else
 -- the least mark ahead of it
 abbrev pub counts_for : List (Option ℕ) → List (Option ℕ) → List (Option ℕ) → ℕ → Option ℕ
-counts_for ranks marks least index = if is_some (slice_index_or ranks index None) then slice_index_or marks index None else slice_index_or least index None
+counts_for ranks marks least index =
+    if is_some (slice_index_or ranks index None) then slice_index_or marks index None
+    else slice_index_or least index None
 
 -- a channel of this set, with an index below `end`, counts for n
-pub record IsValueIn (routes : Routes) (ranks marks least : List (Option ℕ)) (r set end n : ℕ) : Type 0 where
+pub record IsValueIn (routes : Routes) (ranks marks least : List (Option ℕ)) (r set end n : ℕ)
+    : Type 0 where
   pub index : ℕ
   pub below : index < end
   pub member : has_bit set index ≡ true
@@ -56,16 +61,22 @@ pub record IsValueIn (routes : Routes) (ranks marks least : List (Option ℕ)) (
 -- the input channels before input channel i of router b at distance d: those of nearer routers,
 -- those of routers as near with lower numbers, and those of this router with lower indices
 abbrev pub IsBefore : Routes → ℕ → ℕ → ℕ → ℕ → ℕ → ℕ → Type 0
-IsBefore routes t d b i r j = (distance routes.grid r t < d) ⊎ ((distance routes.grid r t ≡ d) × (r < b)) ⊎ ((r ≡ b) × (j < i))
+IsBefore routes t d b i r j =
+    (distance routes.grid r t < d) ⊎ ((distance routes.grid r t ≡ d) × (r < b))
+    ⊎ ((r ≡ b) × (j < i))
 
 -- the list has the least mark ahead of each channel that arrives at one of these
-pub record AreLeast (routes : Routes) (ranks marks : List (Option ℕ)) (m t d b i : ℕ) (least : List (Option ℕ)) : Type 0 where
+pub record AreLeast (routes : Routes) (ranks marks : List (Option ℕ)) (m t d b i : ℕ)
+    (least : List (Option ℕ)) : Type 0 where
   pub long : length least ≡ rank_count routes.grid routes.vcs
-  pub each : (a p w r q : ℕ) → is_port_channel routes.grid routes.vcs a p w ≡ true → neighbour routes.grid a p ≡ Some (r, q) → IsBefore routes t d b i r (q * routes.vcs + w)
+  pub each : (a p w r q : ℕ) → is_port_channel routes.grid routes.vcs a p w ≡ true
+      → neighbour routes.grid a p ≡ Some (r, q) → IsBefore routes t d b i r (q * routes.vcs + w)
       → IsLeastOf (IsAhead routes ranks marks m t a p w) (mark_at routes least a p w)
 
 -- the list has the least mark ahead of each link channel
-pub record AreAllLeast (routes : Routes) (ranks marks : List (Option ℕ)) (m t : ℕ) (least : List (Option ℕ)) : Type 0 where
+pub record AreAllLeast (routes : Routes) (ranks marks : List (Option ℕ)) (m t : ℕ)
+    (least : List (Option ℕ)) : Type 0 where
   pub long : length least ≡ rank_count routes.grid routes.vcs
-  pub each : (a p w r q : ℕ) → is_port_channel routes.grid routes.vcs a p w ≡ true → neighbour routes.grid a p ≡ Some (r, q)
+  pub each : (a p w r q : ℕ) → is_port_channel routes.grid routes.vcs a p w ≡ true
+      → neighbour routes.grid a p ≡ Some (r, q)
       → IsLeastOf (IsAhead routes ranks marks m t a p w) (mark_at routes least a p w)

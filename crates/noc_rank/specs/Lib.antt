@@ -12,3 +12,4 @@ pub mod NotRisingTo
 pub mod Filled
 pub mod Arriving
 pub mod Formulated
+pub mod Titles

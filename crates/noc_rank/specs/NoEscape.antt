@@ -8,7 +8,8 @@ use Rattle.noc_route.specs.declared.rule.Entry.{Entry}
 
 -- how many entries there are
 abbrev pub entries : Routes → ℕ
-entries routes = routes.classes * nodes routes.grid * ports routes.grid * routes.vcs * nodes routes.grid
+entries routes =
+    routes.classes * nodes routes.grid * ports routes.grid * routes.vcs * nodes routes.grid
 
 -- the entry of a number, with class, router, input port and channel, and destination as digits
 abbrev pub numbered_entry : Routes → ℕ → Entry
@@ -31,4 +32,5 @@ pub record IsBareSet (routes : Routes) (k : Ranking) (e : Entry) : Type 0 where
   pub away : e.router ≢ e.dst
   pub index : ℕ
   pub some : has_bit (set_at routes e.class e.router e.in_port e.in_vc e.dst) index ≡ true
-  pub none : (i : ℕ) → i < local_port k.grid * k.vcs → IsRankedIn k e.router (set_at routes e.class e.router e.in_port e.in_vc e.dst) i → ⊥
+  pub none : (i : ℕ) → i < local_port k.grid * k.vcs
+      → IsRankedIn k e.router (set_at routes e.class e.router e.in_port e.in_vc e.dst) i → ⊥

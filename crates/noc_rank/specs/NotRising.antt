@@ -24,7 +24,8 @@ is_not_above before (Some after) = nat_le after before
 
 -- whether a set of router r has output channel number i, whose rank is not greater
 abbrev pub falls_to : Ranking → ℕ → ℕ → ℕ → ℕ → Bool
-falls_to k r set before i = has_bit set i && is_not_above before (rank_at k r (i / k.vcs) (i % k.vcs))
+falls_to k r set before i =
+    has_bit set i && is_not_above before (rank_at k r (i / k.vcs) (i % k.vcs))
 
 -- whether a set of router r has output channel number i, whose rank is not greater than that of the
 -- channel on which the packet came, if that has one
@@ -54,13 +55,20 @@ input_count k = nodes k.grid * ports k.grid * k.vcs
 -- channel i without a rise
 abbrev pub falls_at : Routes → Ranking → ℕ → ℕ → ℕ → Bool
 falls_at routes k e t i =
-    falls_from k (router_of k e) (set_at routes (class_of k e) (router_of k e) (input_port_of k e) (e % k.vcs) t) (arrival_rank k (router_of k e) (input_port_of k e) (e % k.vcs)) i
+    falls_from k (router_of k e)
+    (set_at routes (class_of k e) (router_of k e) (input_port_of k e) (e % k.vcs) t)
+    (arrival_rank k (router_of k e) (input_port_of k e) (e % k.vcs)) i
 
 -- the fault that names a fall
 abbrev pub fault_of_fall : Fall → RankFault
 fault_of_fall fall =
-    NotRising (record { class = fall.step.class; router = fall.step.router; in_port = fall.step.in_port; in_vc = fall.step.in_vc; dst = fall.step.dst })
-    fall.step.out_port fall.step.out_vc fall.rank fall.next
+    NotRising (record {
+      class = fall.step.class;
+      router = fall.step.router;
+      in_port = fall.step.in_port;
+      in_vc = fall.step.in_vc;
+      dst = fall.step.dst;
+    }) fall.step.out_port fall.step.out_vc fall.rank fall.next
 
 -- the least number below n with this property
 pub record IsLeastBelow (has : ℕ → Bool) (n i : ℕ) : Type 0 where
@@ -73,22 +81,35 @@ HasNone has n = (j : ℕ) → j < n → has j ≡ false
 
 -- the first step from this entry that does not rise, over all destinations, and the
 -- ranks before and after it
-pub record IsFirstFrom (routes : Routes) (k : Ranking) (m r q w before : ℕ) (fall : Fall) : Type 0 where
+pub record IsFirstFrom (routes : Routes) (k : Ranking) (m r q w before : ℕ) (fall : Fall)
+    : Type 0 where
   pub index : ℕ
   pub dst : ℕ
   pub exists : dst < nodes k.grid
-  pub step : fall.step ≡ record { class = m; router = r; in_port = q; in_vc = w; dst = dst; out_port = index / k.vcs; out_vc = index % k.vcs }
+  pub step : fall.step ≡ record {
+    class = m;
+    router = r;
+    in_port = q;
+    in_vc = w;
+    dst = dst;
+    out_port = index / k.vcs;
+    out_vc = index % k.vcs;
+  }
   pub rank : fall.rank ≡ before
   pub next : rank_at k r (index / k.vcs) (index % k.vcs) ≡ Some fall.next
-  pub least : IsLeastBelow (falls_to k r (set_at routes m r q w dst) before) (link_output_count k) index
-  pub earlier : (t : ℕ) → t < dst → HasNone (falls_to k r (set_at routes m r q w t) before) (link_output_count k)
+  pub least : IsLeastBelow (falls_to k r (set_at routes m r q w dst) before)
+      (link_output_count k) index
+  pub earlier : (t : ℕ) → t < dst
+      → HasNone (falls_to k r (set_at routes m r q w t) before) (link_output_count k)
 
 -- each step at this number rises
 abbrev pub HasNoFall : Routes → Ranking → ℕ → Type 0
-HasNoFall routes k e = (t : ℕ) → t < nodes k.grid → HasNone (falls_at routes k e t) (link_output_count k)
+HasNoFall routes k e =
+    (t : ℕ) → t < nodes k.grid → HasNone (falls_at routes k e t) (link_output_count k)
 
 -- the first step at this number that does not rise
 pub record IsFirstAt (routes : Routes) (k : Ranking) (e : ℕ) (fall : Fall) : Type 0 where
   pub before : ℕ
   pub arrival : arrival_rank k (router_of k e) (input_port_of k e) (e % k.vcs) ≡ Some before
-  pub first : IsFirstFrom routes k (class_of k e) (router_of k e) (input_port_of k e) (e % k.vcs) before fall
+  pub first : IsFirstFrom routes k (class_of k e) (router_of k e) (input_port_of k e)
+      (e % k.vcs) before fall

@@ -16,15 +16,22 @@ fault_of_descent d = NotRisingTo d.from d.to d.rank d.next
 
 -- the channel with an index
 abbrev pub channel_at : Routes → ℕ → LinkChannel
-channel_at routes n = record { router = n / routes.vcs / local_port routes.grid; port = n / routes.vcs % local_port routes.grid; vc = n % routes.vcs }
+channel_at routes n = record {
+  router = n / routes.vcs / local_port routes.grid;
+  port = n / routes.vcs % local_port routes.grid;
+  vc = n % routes.vcs;
+}
 
 -- the index of a link channel
 abbrev pub IsLinkIndex : Routes → ℕ → Type 0
-IsLinkIndex routes n = let c = channel_at routes n in is_channel routes.grid routes.vcs c.router c.port c.vc ≡ true
+IsLinkIndex routes n =
+    let c = channel_at routes n in is_channel routes.grid routes.vcs c.router c.port c.vc ≡ true
 
 -- only link channels have ranks
 abbrev pub AreReal : Routes → List (Option ℕ) → Type 0
-AreReal routes ranks = (r p v n : ℕ) → rank_at (over routes ranks) r p v ≡ Some n → is_channel routes.grid routes.vcs r p v ≡ true
+AreReal routes ranks =
+    (r p v n : ℕ) → rank_at (over routes ranks) r p v ≡ Some n
+    → is_channel routes.grid routes.vcs r p v ≡ true
 
 -- whether a rank is no less than the one ahead, where both are there
 abbrev pub falls : Option ℕ → Option ℕ → Bool
@@ -34,7 +41,8 @@ falls (Some rank) (Some ahead) = nat_le ahead rank
 
 -- the index of a channel whose rank is no greater than that of the channel `start`
 abbrev pub mark_below : List (Option ℕ) → ℕ → ℕ → Option ℕ
-mark_below ranks start k = if falls (slice_index_or ranks start None) (slice_index_or ranks k None) then Some k else None
+mark_below ranks start k =
+    if falls (slice_index_or ranks start None) (slice_index_or ranks k None) then Some k else None
 
 -- a channel with a rank that is no less than the one ahead of it
 pub record BeginsDescent (ranks least : List (Option ℕ)) (n : ℕ) : Type 0 where
@@ -57,7 +65,8 @@ pub record IsStartBy (routes : Routes) (ranks : List (Option ℕ)) (m t n : ℕ)
 -- packets of class m come on from the channel `start`, on their way to t, to
 -- one with a rank and mark n
 abbrev pub IsAheadAt : Routes → List (Option ℕ) → List (Option ℕ) → ℕ → ℕ → ℕ → ℕ → Type 0
-IsAheadAt routes ranks marks m t start n = let c = channel_at routes start in IsAhead routes ranks marks m t c.router c.port c.vc n
+IsAheadAt routes ranks marks m t start n =
+    let c = channel_at routes start in IsAhead routes ranks marks m t c.router c.port c.vc n
 
 -- something holds of a number for some class and some destination, of the
 -- first `count` pairs of them

@@ -37,14 +37,18 @@ rank_row_fault g vcs named i row =
 
 -- the fault of row number i of a list
 abbrev pub listed_row_fault : Grid → ℕ → List RankRow → ℕ → RankRow → Option RankFault
-listed_row_fault g vcs rows i row = rank_row_fault g vcs (has_rank_row (take i rows) row.router row.port row.vc) i row
+listed_row_fault g vcs rows i row =
+    rank_row_fault g vcs (has_rank_row (take i rows) row.router row.port row.vc) i row
 
 -- the first n rows have no fault
 abbrev pub AreGood : Grid → ℕ → List RankRow → ℕ → Type 0
-AreGood g vcs rows n = (i : ℕ) (row : RankRow) → i < n → slice_get rows i ≡ Some row → listed_row_fault g vcs rows i row ≡ None
+AreGood g vcs rows n =
+    (i : ℕ) (row : RankRow) → i < n → slice_get rows i ≡ Some row
+    → listed_row_fault g vcs rows i row ≡ None
 
 -- the fault of the first row that has one
-pub record IsFirstRowFault (g : Grid) (vcs : ℕ) (rows : List RankRow) (fault : RankFault) : Type 0 where
+pub record IsFirstRowFault (g : Grid) (vcs : ℕ) (rows : List RankRow) (fault : RankFault)
+    : Type 0 where
   pub number : ℕ
   pub row : RankRow
   pub there : slice_get rows number ≡ Some row
@@ -57,7 +61,8 @@ pub record IsFirstMissing (g : Grid) (vcs : ℕ) (rows : List RankRow) (r p v : 
   pub good : (n : ℕ) → AreGood g vcs rows n
   pub channel : is_channel g vcs r p v ≡ true
   pub missing : has_rank_row rows r p v ≡ false
-  pub first : (a q w : ℕ) → is_channel g vcs a q w ≡ true → numbers_before (a ∷ q ∷ w ∷ []) (r ∷ p ∷ v ∷ []) ≡ true → has_rank_row rows a q w ≡ true
+  pub first : (a q w : ℕ) → is_channel g vcs a q w ≡ true
+      → numbers_before (a ∷ q ∷ w ∷ []) (r ∷ p ∷ v ∷ []) ≡ true → has_rank_row rows a q w ≡ true
 
 -- the first fault of the rows; memory is the allocator's matter
 abbrev pub IsFaultOfRows : Grid → ℕ → List RankRow → RankFault → Type 0

@@ -50,7 +50,8 @@ pub fn check(
     requires vcs { relation.now.vcs ≡ ranks.now.vcs }
     ensures ok { OnOk result (IsRankedBy relation.now ranks.now) }
     ensures err { IfErr result (IsFaultOfCheck relation.now ranks.now) }
-    ensures accepted { AreAllRanked ranks.now.grid ranks.now.vcs (rank_at ranks.now) → IsRankedBy relation.now ranks.now → IsOk result }
+    ensures accepted { AreAllRanked ranks.now.grid ranks.now.vcs (rank_at ranks.now)
+        → IsRankedBy relation.now ranks.now → IsOk result }
     ensures refused { IsRankedBy relation.now ranks.now → IfErr result (λ fault. fault ≡ Memory) }
 {
     let ranked = Ranked { relation, ranks };
@@ -71,7 +72,8 @@ pub fn check(
 
 // Whether each link channel has a rank.
 fn is_full(ranked: &Ranked) -> bool
-    ensures full { let k = ranked.now.ranks.now in IsTrue result ↔ AreAllRanked k.grid k.vcs (rank_at k) }
+    ensures full { let k = ranked.now.ranks.now in
+        IsTrue result ↔ AreAllRanked k.grid k.vcs (rank_at k) }
     ensures built { IsRelation ranked.now.relation.now }
 {
     let shape = ranked.relation.shape();
@@ -88,7 +90,9 @@ fn is_full(ranked: &Ranked) -> bool
 
 // Whether this is a link channel without a rank.
 fn is_adaptive(ranked: &Ranked, router: usize, port: usize, vc: usize) -> bool
-    ensures { let k = ranked.now.ranks.now in (result ≡ false) ↔ (is_channel k.grid k.vcs router port vc ≡ true → is_some (rank_at k router port vc) ≡ true) }
+    ensures { let k = ranked.now.ranks.now in (result ≡ false) ↔
+        (is_channel k.grid k.vcs router port vc ≡ true
+        → is_some (rank_at k router port vc) ≡ true) }
 {
     is_channel(
         ranked.relation.shape(),

@@ -83,8 +83,10 @@ impl<'a> Search<'a> {
     fn fill_input(&self, least: &mut [Option<u32>], router: usize, input: usize)
         requires router { router < nodes self.now.relation.now.grid }
         requires input { input < outputs self.now.relation.now }
-        requires before { IsFilled self.now (distance self.now.relation.now.grid router self.now.dst) router input least.old }
-        ensures { IsFilled self.now (distance self.now.relation.now.grid router self.now.dst) router (input + 1) least.new }
+        requires before { IsFilled self.now
+            (distance self.now.relation.now.grid router self.now.dst) router input least.old }
+        ensures { IsFilled self.now (distance self.now.relation.now.grid router self.now.dst) router
+            (input + 1) least.new }
     {
         let vcs = self.relation.vcs();
         let (port, vc) = (input / vcs, input % vcs);
@@ -101,7 +103,8 @@ impl<'a> Search<'a> {
     fn least_of(&self, least: &[Option<u32>], router: usize, set: ChannelSet) -> Option<u32>
         requires least { length least.now ≡ length self.now.ranks.now }
         requires router { router < nodes self.now.relation.now.grid }
-        ensures { IsLeastOf (IsFoundIn self.now least.now router set (outputs self.now.relation.now)) result }
+        ensures { IsLeastOf (IsFoundIn self.now least.now router set
+            (outputs self.now.relation.now)) result }
     {
         let count = link_ports(self.relation.shape()) * self.relation.vcs();
         let mut best = None;
@@ -124,7 +127,8 @@ impl<'a> Search<'a> {
         requires least { length least.now ≡ length self.now.ranks.now }
         requires index { index < INDICES }
         requires within { first + index < length least.now }
-        ensures { result ≡ (if has_bit set index then counts_for self.now.ranks.now self.now.marks.now least.now (first + index) else None) }
+        ensures { result ≡ (if has_bit set index then counts_for self.now.ranks.now
+            self.now.marks.now least.now (first + index) else None) }
     {
         if !set.contains(index) {
             return None;

@@ -18,7 +18,8 @@ use std::thread::Threads;
 // packets come, away from their destination, and at which no channel with a rank is permitted.
 // Looks at the entries in parallel.
 pub(crate) fn first_bare(rt: &(impl Threads + Sync), ranked: &Ranked) -> Option<Entry>
-    ensures { MatchOption result (HasEscapes ranked.now.relation.now ranked.now.ranks.now) (IsFirstBare ranked.now.relation.now ranked.now.ranks.now) }
+    ensures { MatchOption result (HasEscapes ranked.now.relation.now ranked.now.ranks.now)
+        (IsFirstBare ranked.now.relation.now ranked.now.ranks.now) }
 {
     let relation = ranked.relation;
     let nodes = relation.shape().nodes();
@@ -27,7 +28,9 @@ pub(crate) fn first_bare(rt: &(impl Threads + Sync), ranked: &Ranked) -> Option<
         rt,
         |number: &usize| -> bool
             requires { number.now < entries ranked.now.relation.now }
-            ensures { (result ≡ false) ↔ (IsBareSet ranked.entry.now.relation.now ranked.entry.now.ranks.now (numbered_entry ranked.entry.now.relation.now number.now) → ⊥) }
+            ensures { (result ≡ false) ↔
+                (IsBareSet ranked.entry.now.relation.now ranked.entry.now.ranks.now
+                (numbered_entry ranked.entry.now.relation.now number.now) → ⊥) }
         { bare_at(ranked, *number).is_some() },
     )?;
     bare_at(ranked, number)
@@ -36,8 +39,11 @@ pub(crate) fn first_bare(rt: &(impl Threads + Sync), ranked: &Ranked) -> Option<
 // The entry of this number, if no channel with a rank is permitted there though others are.
 fn bare_at(ranked: &Ranked, number: usize) -> Option<Entry>
     requires { number < entries ranked.now.relation.now }
-    ensures none { let routes = ranked.now.relation.now in IfNone result (IsBareSet routes ranked.now.ranks.now (numbered_entry routes number) → ⊥) }
-    ensures some { let routes = ranked.now.relation.now in IfSome result (λ entry. (entry ≡ numbered_entry routes number) × IsBareSet routes ranked.now.ranks.now entry) }
+    ensures none { let routes = ranked.now.relation.now in
+        IfNone result (IsBareSet routes ranked.now.ranks.now (numbered_entry routes number) → ⊥) }
+    ensures some { let routes = ranked.now.relation.now in
+        IfSome result (λ entry. (entry ≡ numbered_entry routes number)
+        × IsBareSet routes ranked.now.ranks.now entry) }
 {
     let entry = entry_of(ranked.relation, number);
     let set = ranked.relation.permitted(
@@ -77,8 +83,10 @@ fn entry_of(relation: &Relation, number: usize) -> Entry
 // Whether a set of a router has a channel on a link port with a rank.
 fn has_rank(ranked: &Ranked, router: usize, set: ChannelSet) -> bool
     requires { router < nodes ranked.now.ranks.now.grid }
-    ensures no { let k = ranked.now.ranks.now in result ≡ false → (i : ℕ) → i < local_port k.grid * k.vcs → IsRankedIn k router set i → ⊥ }
-    ensures yes { let k = ranked.now.ranks.now in result ≡ true → (i : ℕ) × (i < local_port k.grid * k.vcs) × IsRankedIn k router set i }
+    ensures no { let k = ranked.now.ranks.now in result ≡ false → (i : ℕ)
+        → i < local_port k.grid * k.vcs → IsRankedIn k router set i → ⊥ }
+    ensures yes { let k = ranked.now.ranks.now in result ≡ true → (i : ℕ)
+        × (i < local_port k.grid * k.vcs) × IsRankedIn k router set i }
 {
     for index in 0..link_ports(ranked.relation.shape()) * ranked.relation.vcs() {
         if set.contains(index) && output_rank(ranked.ranks, router, index).is_some() {

@@ -41,7 +41,9 @@ impl Descent {
 // The first descent along the relation, in the order of router, port and channel of the
 // first and then of the second.
 pub(crate) fn first_descent(alloc: Global, ranked: &Ranked) -> Result<Option<Descent>, AllocError>
-    ensures { let routes = ranked.now.relation.now in let k = ranked.now.ranks.now in IfOk result (λ found. MatchOption found (HasNoDescent routes k) (λ d. IsFirstDescent routes k d.from d.to d.rank d.next)) }
+    ensures { let routes = ranked.now.relation.now in let k = ranked.now.ranks.now in
+        IfOk result (λ found. MatchOption found (HasNoDescent routes k)
+        (λ d. IsFirstDescent routes k d.from d.to d.rank d.next)) }
 {
     let relation = ranked.relation;
     let count = all_ports(relation.shape()) * relation.vcs();
@@ -62,7 +64,9 @@ fn descent_in(
 ) -> Result<Option<Descent>, AllocError>
     requires least { length least.old ≡ length list.now.ranks.now }
     requires built { IsRelation list.now.relation.now }
-    ensures { let routes = list.now.relation.now in let k = over routes list.now.ranks.now in IfOk result (λ found. MatchOption found (HasNoDescent routes k) (λ d. IsFirstDescent routes k d.from d.to d.rank d.next)) }
+    ensures { let routes = list.now.relation.now in let k = over routes list.now.ranks.now in
+        IfOk result (λ found. MatchOption found (HasNoDescent routes k)
+        (λ d. IsFirstDescent routes k d.from d.to d.rank d.next)) }
 {
     let Some(start) = first_start(list, least) else {
         return Ok(None);
@@ -78,7 +82,8 @@ fn descent_in(
 // greater rank; what `least` holds is lost.
 fn first_start(list: &RankList, least: &mut [Option<u32>]) -> Option<u32>
     requires { length least.old ≡ length list.now.ranks.now }
-    ensures { IsLeastOf (IsOver list.now.relation.now (IsStartBy list.now.relation.now list.now.ranks.now)) result }
+    ensures { IsLeastOf (IsOver list.now.relation.now
+        (IsStartBy list.now.relation.now list.now.ranks.now)) result }
 {
     let nodes = list.relation.shape().nodes();
     let mut first = None;
@@ -120,7 +125,8 @@ fn falls(rank: Option<u32>, ahead: Option<u32>) -> bool
 fn marks_below(alloc: Global, list: &RankList, start: u32) -> Result<Vec<Option<u32>>, AllocError>
     requires { start < length list.now.ranks.now }
     ensures len { IfOk result (λ marks. vec_len marks ≡ length list.now.ranks.now) }
-    ensures items { IfOk result (λ marks. (k : ℕ) → k < length list.now.ranks.now → slice_index_or marks.items k None ≡ mark_below list.now.ranks.now start k) }
+    ensures items { IfOk result (λ marks. (k : ℕ) → k < length list.now.ranks.now
+        → slice_index_or marks.items k None ≡ mark_below list.now.ranks.now start k) }
 {
     let mut marks = Vec::with_capacity(alloc, list.ranks.len())?;
     for index in 0..list.ranks.len() {
@@ -153,7 +159,9 @@ fn first_end(
     requires marks { length marks.now ≡ length list.now.ranks.now }
     requires least { length least.old ≡ length list.now.ranks.now }
     requires start { IsLinkIndex list.now.relation.now start }
-    ensures { let routes = list.now.relation.now in IsLeastOf (IsOver routes (λ m t n. IsAheadAt routes list.now.ranks.now marks.now m t start n)) result }
+    ensures { let routes = list.now.relation.now in
+        IsLeastOf (IsOver routes
+        (λ m t n. IsAheadAt routes list.now.ranks.now marks.now m t start n)) result }
 {
     let nodes = list.relation.shape().nodes();
     let mut first = None;
@@ -175,8 +183,14 @@ fn first_end(
 fn descent_of(list: &RankList, start: u32, end: u32) -> Option<Descent>
     requires start { start < length list.now.ranks.now }
     requires end { end < length list.now.ranks.now }
-    ensures none { let ranks = list.now.ranks.now in IfNone result ((slice_index_or ranks start None ≡ None) ⊎ (slice_index_or ranks end None ≡ None)) }
-    ensures some { let ranks = list.now.ranks.now in IfSome result (λ d. (d.from ≡ channel_at list.now.relation.now start) × (d.to ≡ channel_at list.now.relation.now end) × (slice_index_or ranks start None ≡ Some d.rank) × (slice_index_or ranks end None ≡ Some d.next)) }
+    ensures none { let ranks = list.now.ranks.now in
+        IfNone result ((slice_index_or ranks start None ≡ None)
+        ⊎ (slice_index_or ranks end None ≡ None)) }
+    ensures some { let ranks = list.now.ranks.now in
+        IfSome result (λ d. (d.from ≡ channel_at list.now.relation.now start)
+        × (d.to ≡ channel_at list.now.relation.now end)
+        × (slice_index_or ranks start None ≡ Some d.rank)
+        × (slice_index_or ranks end None ≡ Some d.next)) }
 {
     let rank = list.ranks[start as usize]?;
     let next = list.ranks[end as usize]?;

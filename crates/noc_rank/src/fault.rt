@@ -1,8 +1,13 @@
 //! What can be wrong with ranks.
 
+ghost use Rattle.std.specs.Prelude.{◌≡◌, ◌≤◌, Some, length};
+ghost use Rattle.noc_rank.specs.Titles.{rank_title};
+
 use crate::channel::LinkChannel;
 use noc_route::Entry;
 use std::alloc::AllocError;
+use std::error::Error;
+use std::fmt;
 
 /// Why there are no ranks, or why a relation is not accepted.
 #[derive(Clone, Copy, Debug, PartialEq, Eq)]
@@ -53,8 +58,27 @@ pub enum RankFault {
     },
 }
 
+impl RankFault {
+    /// The number and the name of the fault, as its fault line has them; at most 20 bytes
+    /// (docs/FORMATS.md, "Fault lines").
+    pub fn title(&self) -> &'static str
+        ensures title { result.now ≡ rank_title self.now }
+        ensures short { length result.now ≤ 20 }
+    {
+        match self {
+            RankFault::NoGenerated => "1 NoGenerated",
+            RankFault::NotRising { .. } | RankFault::NotRisingTo { .. } => "2 NotRising",
+            RankFault::Memory => "3 Memory",
+            RankFault::NoEscape(_) => "4 NoEscape",
+            RankFault::UnknownChannel { .. } => "5 UnknownChannel",
+            RankFault::DoubleChannel { .. } => "6 DoubleChannel",
+            RankFault::MissingChannel { .. } => "7 MissingChannel",
+            RankFault::BadRank { .. } => "8 BadRank",
+        }
+    }
+}
+
 impl From<AllocError> for RankFault {
-    ghost use Rattle.std.specs.Prelude.{◌≡◌};
     ghost use Rattle.noc_rank.specs.declared.fault.RankFault.TheVariants.{Memory};
 
     ghost from_gives = { λ _ e. e ≡ Memory };
@@ -63,3 +87,14 @@ impl From<AllocError> for RankFault {
         RankFault::Memory
     }
 }
+
+/// Its title.
+impl fmt::Display for RankFault {
+    ghost output = { λ fault. Some (rank_title fault) };
+
+    fn fmt<W: fmt::Write>(&self, f: &mut fmt::Formatter<W>) -> fmt::Result {
+        f.write_str(self.title())
+    }
+}
+
+impl Error for RankFault {}

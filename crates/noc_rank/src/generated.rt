@@ -44,7 +44,8 @@ impl<'a> Formula<'a> {
     // The ranks of all channels of link ports, none where a port has no link
     // and for adaptive channels.
     pub(crate) fn ranks(&self, alloc: Global) -> Result<Vec<Option<u32>>, AllocError>
-        ensures ranks { IfOk result (λ ranks. AreByFormula self.now (rank_count self.now.shape.now self.now.vcs) ranks.items) }
+        ensures ranks { IfOk result (λ ranks. AreByFormula self.now
+            (rank_count self.now.shape.now self.now.vcs) ranks.items) }
         ensures grid { IsGrid self.now.shape.now }
     {
         let ports = link_ports(self.shape);
@@ -73,7 +74,8 @@ impl<'a> Formula<'a> {
 
     // Whether the rule gives this channel of a link a rank: all, but the adaptive ones.
     fn is_ranked(&self, vc: usize) -> bool
-        ensures { result ≡ is_ranked self.now.shape.now self.now.vcs self.now.classes self.now.rule.now vc }
+        ensures { result ≡ is_ranked self.now.shape.now self.now.vcs self.now.classes
+            self.now.rule.now vc }
     {
         match self.rule {
             Rule::Adaptive => vc % (self.vcs / self.classes) < escapes(self.shape),
@@ -85,8 +87,11 @@ impl<'a> Formula<'a> {
     fn rank(&self, router: usize, port: usize, vc: usize) -> usize
         requires router { router < nodes self.now.shape.now }
         requires port { port < local_port self.now.shape.now }
-        requires ranked { is_ranked self.now.shape.now self.now.vcs self.now.classes self.now.rule.now vc ≡ true }
-        ensures value { result ≡ formula self.now.shape.now self.now.vcs self.now.classes self.now.rule.now router port vc }
+        requires ranked { is_ranked self.now.shape.now self.now.vcs self.now.classes
+            self.now.rule.now vc ≡ true }
+        ensures value { result
+            ≡ formula self.now.shape.now self.now.vcs self.now.classes self.now.rule.now router port
+            vc }
         ensures within { IsWithin result }
     {
         match self.rule {
@@ -98,7 +103,8 @@ impl<'a> Formula<'a> {
     // The part of a dimension's channels in which this one is, in the order in which packets take
     // them: by dateline the half of its class's channels, by adaptive the escape channel.
     fn part(&self, vc: usize) -> usize
-        requires { is_ranked self.now.shape.now self.now.vcs self.now.classes self.now.rule.now vc ≡ true }
+        requires { is_ranked self.now.shape.now self.now.vcs self.now.classes self.now.rule.now vc
+            ≡ true }
         ensures value { result ≡ part_in self.now vc }
         ensures few { result ≤ 2 }
     {
@@ -157,7 +163,8 @@ impl Axis {
     fn rank(self, port: usize, part: usize) -> usize
         requires port { port < 6 }
         requires part { part ≤ 2 }
-        ensures value { result ≡ 32 * (port / 2) + part * self.size + passed_in self.size self.at port + 1 }
+        ensures value { result ≡ 32 *
+            (port / 2) + part * self.size + passed_in self.size self.at port + 1 }
         ensures few { result ≤ HIGHEST }
     {
         32 * (port / 2) + part * self.size + self.passed(port) + 1

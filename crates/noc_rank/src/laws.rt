@@ -16,8 +16,12 @@ use noc_route::a_relation_is_ranked_as_its_rule;
 /// ranked, whatever the shape and the numbers of channels and classes. Its ranks by formula make it
 /// ranked, so there are ranks that do.
 pub fn formula_ranks_are_accepted()
-    ensures accepted { (g : RelationParts) (routes : Routes) (ranks : Ranking) → IsRelationOfRule g routes → IsGenerated g.grid g.vcs g.classes g.rule ranks → IsRankedBy routes ranks }
-    ensures exist { (g : RelationParts) (routes : Routes) → IsRelationOfRule g routes → has_ranks g.grid g.vcs g.classes g.rule ≡ true → (ranks : Ranking) × IsRankedBy routes ranks }
+    ensures accepted { (g : RelationParts) (routes : Routes) (ranks : Ranking)
+        → IsRelationOfRule g routes → IsGenerated g.grid g.vcs g.classes g.rule ranks
+        → IsRankedBy routes ranks }
+    ensures exist { (g : RelationParts) (routes : Routes) → IsRelationOfRule g routes
+        → has_ranks g.grid g.vcs g.classes g.rule ≡ true → (ranks : Ranking)
+        × IsRankedBy routes ranks }
 {}
 
 /// No ranks at all make dimension order on a ring of four routers with one channel per link ranked,
@@ -26,8 +30,13 @@ pub fn formula_ranks_are_accepted()
 /// the only way of a packet to the neighbour at its end. So a rank file that says `adaptive` of
 /// some channel is refused for want of an escape.
 pub fn a_ring_of_four_has_no_ranks()
-    ensures none { (routes : Routes) (ranks : Ranking) → IsRelationOfRule (routing_of (record { wraps = true; radix = 4 ∷ [] }) 1 1 Dor) routes → IsRankedBy routes ranks → ⊥ }
-    ensures bare { (routes : Routes) (ranks : Ranking) → IsRelationOfRule (routing_of (record { wraps = true; radix = 4 ∷ [] }) 1 1 Dor) routes → (AreAllRanked routes.grid routes.vcs (rank_at ranks) → ⊥) → (e : EntryValue) × IsBare routes ranks e }
+    ensures none { (routes : Routes) (ranks : Ranking)
+        → IsRelationOfRule (routing_of (record { wraps = true; radix = 4 ∷ [] }) 1 1 Dor) routes
+        → IsRankedBy routes ranks → ⊥ }
+    ensures bare { (routes : Routes) (ranks : Ranking)
+        → IsRelationOfRule (routing_of (record { wraps = true; radix = 4 ∷ [] }) 1 1 Dor) routes
+        → (AreAllRanked routes.grid routes.vcs (rank_at ranks) → ⊥) → (e : EntryValue)
+        × IsBare routes ranks e }
 {
     a_relation_is_ranked_as_its_rule();
 }

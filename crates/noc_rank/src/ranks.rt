@@ -122,7 +122,8 @@ pub(crate) fn rank_at(ranks: &Ranks, router: usize, port: usize, vc: usize) -> O
 pub(crate) fn output_rank(ranks: &Ranks, router: usize, index: usize) -> Option<u32>
     requires router { router < nodes ranks.now.grid }
     requires index { index < local_port ranks.now.grid * ranks.now.vcs }
-    ensures value { result ≡ rank_at ranks.now router (index / ranks.now.vcs) (index % ranks.now.vcs) }
+    ensures value { result ≡ rank_at ranks.now router (index / ranks.now.vcs)
+        (index % ranks.now.vcs) }
     ensures ranking { IsRanking ranks.now }
 {
     ranks.ranks[router * link_ports(&ranks.shape) * ranks.vcs + index]

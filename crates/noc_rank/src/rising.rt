@@ -20,7 +20,9 @@ use std::thread::Threads;
 // the order of class, router, input port and channel, destination, output port and channel. Looks
 // at the entries in parallel and takes no memory.
 pub(crate) fn first_fall(rt: &(impl Threads + Sync), ranked: &Ranked) -> Option<Fall>
-    ensures { MatchOption result (IsRising ranked.now.relation.now (rank_at ranked.now.ranks.now)) (λ fall. IsFirstFall ranked.now.relation.now ranked.now.ranks.now fall.step fall.rank fall.next) }
+    ensures { MatchOption result (IsRising ranked.now.relation.now (rank_at ranked.now.ranks.now))
+        (λ fall. IsFirstFall ranked.now.relation.now ranked.now.ranks.now fall.step fall.rank
+        fall.next) }
 {
     let relation = ranked.relation;
     let count = relation.classes()
@@ -30,8 +32,10 @@ pub(crate) fn first_fall(rt: &(impl Threads + Sync), ranked: &Ranked) -> Option<
     let number = (0..count).into_par_iter().find_first(
         rt,
         |number: &usize| -> bool
-            requires { number.now < ranked.now.relation.now.classes * input_count ranked.now.ranks.now }
-            ensures { (result ≡ false) ↔ HasNoFall ranked.entry.now.relation.now ranked.entry.now.ranks.now number.now }
+            requires { number.now < ranked.now.relation.now.classes * input_count
+                ranked.now.ranks.now }
+            ensures { (result ≡ false) ↔ HasNoFall ranked.entry.now.relation.now
+                ranked.entry.now.ranks.now number.now }
         { first_at(ranked, *number).is_some() },
     )?;
     first_at(ranked, number)
@@ -71,7 +75,8 @@ impl Fall {
 // channel, both by number.
 fn first_at(ranked: &Ranked, number: usize) -> Option<Fall>
     requires { number < ranked.now.relation.now.classes * input_count ranked.now.ranks.now }
-    ensures { MatchOption result (HasNoFall ranked.now.relation.now ranked.now.ranks.now number) (IsFirstAt ranked.now.relation.now ranked.now.ranks.now number) }
+    ensures { MatchOption result (HasNoFall ranked.now.relation.now ranked.now.ranks.now number)
+        (IsFirstAt ranked.now.relation.now ranked.now.ranks.now number) }
 {
     let vcs = ranked.relation.vcs();
     let ports = ranked.relation.shape().ports();
@@ -154,8 +159,12 @@ impl<'a> Arrival<'a> {
     // The first channel on a link port in a set whose rank is not greater, by
     // its index, with its rank.
     fn first_in(&self, set: ChannelSet) -> Option<(usize, u32)>
-        ensures none { IfNone result (HasNone (falls_in self.now set) (link_output_count self.now.ranked.now.ranks.now)) }
-        ensures some { let k = self.now.ranked.now.ranks.now in IfSome result (λ found. IsLeastBelow (falls_in self.now set) (link_output_count k) found.0 × (rank_at k self.now.router (found.0 / k.vcs) (found.0 % k.vcs) ≡ Some found.1)) }
+        ensures none { IfNone result
+            (HasNone (falls_in self.now set) (link_output_count self.now.ranked.now.ranks.now)) }
+        ensures some { let k = self.now.ranked.now.ranks.now in
+            IfSome result (λ found. IsLeastBelow (falls_in self.now set)
+            (link_output_count k) found.0
+            × (rank_at k self.now.router (found.0 / k.vcs) (found.0 % k.vcs) ≡ Some found.1)) }
     {
         let relation = self.ranked.relation;
         for index in 0..link_ports(relation.shape()) * relation.vcs() {
@@ -172,7 +181,9 @@ impl<'a> Arrival<'a> {
         requires index { index < link_output_count self.now.ranked.now.ranks.now }
         requires few { index < INDICES }
         ensures none { IfNone result (falls_in self.now set index ≡ false) }
-        ensures some { let k = self.now.ranked.now.ranks.now in IfSome result (λ next. (falls_in self.now set index ≡ true) × (rank_at k self.now.router (index / k.vcs) (index % k.vcs) ≡ Some next)) }
+        ensures some { let k = self.now.ranked.now.ranks.now in
+            IfSome result (λ next. (falls_in self.now set index ≡ true)
+            × (rank_at k self.now.router (index / k.vcs) (index % k.vcs) ≡ Some next)) }
     {
         if !set.contains(index) {
             return None;

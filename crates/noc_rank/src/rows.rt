@@ -34,7 +34,8 @@ pub(crate) fn enter(
     requires few { rank_count shape.now vcs < 18446744073709551616 }
     requires blank { AreEntered shape.now vcs rows.now 0 ranks.old named.old }
     ensures err { IfErr result (IsFirstRowFault shape.now vcs rows.now) }
-    ensures ok { OnOk result (AreEntered shape.now vcs rows.now (length rows.now) ranks.new named.new) }
+    ensures ok { OnOk result (AreEntered shape.now vcs rows.now
+        (length rows.now) ranks.new named.new) }
 {
     for (number, row) in rows.iter().enumerate() {
         if let Some(fault) = row_fault(shape, vcs, named, number, row) {
@@ -57,7 +58,9 @@ fn row_fault(
 ) -> Option<RankFault>
     requires few { rank_count shape.now vcs < 18446744073709551616 }
     requires long { length named.now ≡ rank_count shape.now vcs }
-    ensures { result ≡ rank_row_fault shape.now vcs (slice_index_or named.now (rank_index shape.now vcs row.now.router row.now.port row.now.vc) false) number row.now }
+    ensures { result ≡ rank_row_fault shape.now vcs
+        (slice_index_or named.now
+        (rank_index shape.now vcs row.now.router row.now.port row.now.vc) false) number row.now }
 {
     if !is_channel(shape, vcs, row.router, row.port, row.vc) {
         return Some(RankFault::UnknownChannel { row: number });

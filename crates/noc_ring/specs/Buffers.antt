@@ -18,8 +18,14 @@ empty_buffers rings capacity = record { rings = replicate rings []; capacity = c
 
 -- one flit more at the end of ring r
 abbrev pub buffers_after_push : Buffers → ℕ → Flit → Buffers
-buffers_after_push b r flit = record { rings = slice_set b.rings r (buffer_at b r ++ flit ∷ []); capacity = b.capacity }
+buffers_after_push b r flit = record {
+  rings = slice_set b.rings r (buffer_at b r ++ flit ∷ []);
+  capacity = b.capacity;
+}
 
 -- ring r less its first flit
 abbrev pub buffers_after_pop : Buffers → ℕ → Buffers
-buffers_after_pop b r = record { rings = slice_set b.rings r (drop 1 (buffer_at b r)); capacity = b.capacity }
+buffers_after_pop b r = record {
+  rings = slice_set b.rings r (drop 1 (buffer_at b r));
+  capacity = b.capacity;
+}

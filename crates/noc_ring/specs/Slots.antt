@@ -26,15 +26,19 @@ flit_in slots base capacity head i = slice_index_or slots (slot_of base capacity
 
 -- the flits of the ring whose slots begin at `base`
 abbrev pub flits_in_slots : List Flit → ℕ → ℕ → ℕ → ℕ → List Flit
-flits_in_slots slots base capacity head len = map (flit_in slots base capacity head) (range_with_len 0 len)
+flits_in_slots slots base capacity head len =
+    map (flit_in slots base capacity head) (range_with_len 0 len)
 
 -- the flits of ring r
 abbrev pub flits_of_ring : List Flit → ℕ → List Ends → ℕ → List Flit
-flits_of_ring slots capacity ends r = flits_in_slots slots (r * capacity) capacity (slice_index_or ends r no_ends).head (slice_index_or ends r no_ends).len
+flits_of_ring slots capacity ends r =
+    flits_in_slots slots (r * capacity) capacity (slice_index_or ends r no_ends).head
+    (slice_index_or ends r no_ends).len
 
 -- so many rings
 abbrev pub rings_of : List Flit → ℕ → ℕ → List Ends → List (List Flit)
-rings_of slots capacity rings ends = map (flits_of_ring slots capacity ends) (range_with_len 0 rings)
+rings_of slots capacity rings ends =
+    map (flits_of_ring slots capacity ends) (range_with_len 0 rings)
 
 -- each ring has as many slots as its capacity, its head is one of them, and
 -- no more flits than slots
@@ -51,4 +55,6 @@ pub record IsBank (slots : List Flit) (capacity many : ℕ) (ends : List Ends) :
 -- in a slot that holds one
 pub record AreHeld (filled : List Bool) (capacity many : ℕ) (ends : List Ends) : Type 0 where
   pub whole : length filled ≡ many * capacity
-  pub held : (r i : ℕ) → r < many → i < (slice_index_or ends r no_ends).len → slice_index_or filled (slot_of (r * capacity) capacity (slice_index_or ends r no_ends).head i) false ≡ true
+  pub held : (r i : ℕ) → r < many → i < (slice_index_or ends r no_ends).len
+      → slice_index_or filled
+      (slot_of (r * capacity) capacity (slice_index_or ends r no_ends).head i) false ≡ true

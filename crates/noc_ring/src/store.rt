@@ -39,7 +39,8 @@ struct Block {
     slots: Slots<Flit>,
     lease: Lease<Flit, Global>,
     alloc: Global,
-    ghost leased: { (lease_ptr lease ≡ slots_ptr slots) × (lease_len lease ≡ slots_len slots) × (lease_heap lease ≡ alloc) },
+    ghost leased: { (lease_ptr lease ≡ slots_ptr slots) × (lease_len lease ≡ slots_len slots)
+        × (lease_heap lease ≡ alloc) },
 }
 
 /// Slots for flits in one block of memory, each of which is empty or holds a flit.
@@ -55,7 +56,8 @@ impl Model for Store {
 
     ghost Value = { Held };
 
-    ghost view = { λ p. record { flits = slots_items p.block.slots; filled = slots_filled p.block.slots } };
+    ghost view = { λ p. record
+        { flits = slots_items p.block.slots; filled = slots_filled p.block.slots } };
 
     // It owns what its block owns. A struct with this member may go to another
     // thread by a proof of its own.
@@ -71,7 +73,8 @@ unsafe impl Sync for Store {}
 
 impl Store {
     fn of(block: Block) -> Store
-        ensures { (result.flits ≡ slots_items block.slots) × (result.filled ≡ slots_filled block.slots) }
+        ensures { (result.flits ≡ slots_items block.slots)
+            × (result.filled ≡ slots_filled block.slots) }
     {
         Store { block }
     }

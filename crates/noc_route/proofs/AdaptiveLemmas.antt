@@ -88,13 +88,6 @@ nearer-found g here there last r t port b sound e f h few differ way =
     let unlike = ne_eqb (get_or here (port / 2) 0) (get_or there (port / 2) 0) differ in
     sym (nearer-padded g here there last r t port sound e f h few ∙ rw (unlike, way) refl)
 
-pub nearer-past : (g : Grid) (r t port : ℕ) → IsGrid g → 6 ≤ port → is_nearer g (coordinates g.radix r) (coordinates g.radix t) port ≡ false
-nearer-past g r t port sound many =
-    let few = sound.few_dimensions in
-    let x : get_or (coordinates g.radix r) (port / 2) 0 ≡ 0 = get_or-past (coordinates g.radix r) (port / 2) (omega (arith, length-coordinates g.radix r)) in
-    let y : get_or (coordinates g.radix t) (port / 2) 0 ≡ 0 = get_or-past (coordinates g.radix t) (port / 2) (omega (arith, length-coordinates g.radix t)) in
-    rw (x, y) refl
-
 -- ---- channels
 
 -- each class has a channel beyond the escape channels

@@ -12,35 +12,47 @@ use Rattle.noc_route.specs.declared.sizes.Sizes.{Sizes}
 use Rattle.noc_route.proofs.EntryLemmas.{flat-below, flat-div, flat-mod, pages-few}
 use Rattle.noc_route.proofs.TrimLemmas.{index-parts}
 
--- the set at a destination, in a block of n rows of w sets, is there
-pub block-below : (block : List ℕ) (t input n nodes width w : ℕ) → n ≡ nodes → width ≡ w → length block ≡ nodes * w → input < w → t < n → t * width + input < length block
-block-below block t input n nodes width w same wide long inside l =
-    let below : t * w + input < nodes * w = flat-below t nodes input w (omega arith) inside in
-    let row : t * width ≡ t * w = ap (λ x. t * x) wide in
-    omega (arith, below, row)
+-- the set at a destination, in a block of w columns of n sets, is there
+pub block-below : (block : List ℕ) (t input n nodes w : ℕ) → n ≡ nodes → length block ≡ nodes * w → input < w → t < n → input * n + t < length block
+block-below block t input n nodes w same long inside l =
+    let below : input * n + t < w * n = flat-below input w t n inside l in
+    let size : nodes * w ≡ n * w = ap (λ x. x * w) (sym same) in
+    omega (arith, below, long, size, mul_comm w n)
+
+-- row a of m, each of n, ends within all of them
+pub row-end : (a m n : ℕ) → a < m → a * n + n ≤ m * n
+row-end a m n l =
+    let rows : (a + 1) * n ≤ m * n = mul-le-mul_right n (omega arith) in
+    let next : (a + 1) * n ≡ a * n + n = omega arith in
+    omega (arith, rows, next)
 
 -- ---- reading and writing a column
 
--- the column of an input of a block stands at `start` as far as destination n
-abbrev pub StandsTo : List ℕ → ℕ → ℕ → List ℕ → ℕ → ℕ → Type 0
-StandsTo block w input sets start n = (t : ℕ) → t < n → get_or sets (start + t) 0 ≡ get_or block (t * w + input) 0
+-- what stands from `start` on, as far as destination n
+abbrev pub StandsTo : (ℕ → ℕ) → List ℕ → ℕ → ℕ → Type 0
+StandsTo want sets start n = (t : ℕ) → t < n → get_or sets (start + t) 0 ≡ want t
 
-pub stands-more : (block : List ℕ) (width w input : ℕ) (sets : List ℕ) (start n a b : ℕ) → width ≡ w → start + n < length sets → n * width + input < length block
-    → a ≡ get_or sets (start + n) a → b ≡ get_or block (n * width + input) b → a ≡ b → StandsTo block w input sets start n → StandsTo block w input sets start (n + 1)
-stands-more block width w input sets start n a b wide there from at_a at_b same all =
-    below_more (λ t. get_or sets (start + t) 0 ≡ get_or block (t * w + input) 0) n all
-    (sym (get_or_default sets (start + n) a 0 there) ∙ sym at_a ∙ same ∙ at_b ∙ get_or_default block (n * width + input) b 0 from ∙ ap (λ x. get_or block (n * x + input) 0) wide)
+-- the column of an input of a block
+abbrev pub column_of : List ℕ → ℕ → ℕ → ℕ → ℕ
+column_of block nodes input t = get_or block (input * nodes + t) 0
+
+-- its set at a destination
+pub column-at : (block : List ℕ) (n nodes input t b : ℕ) → n ≡ nodes → input * n + t < length block → b ≡ get_or block (input * n + t) b → b ≡ column_of block nodes input t
+column-at block n nodes input t b same from at_b = at_b ∙ get_or_default block (input * n + t) b 0 from ∙ ap (λ x. get_or block (input * x + t) 0) same
+
+pub stands-more : (want : ℕ → ℕ) (sets : List ℕ) (start n a : ℕ) → start + n < length sets → a ≡ get_or sets (start + n) a → a ≡ want n → StandsTo want sets start n → StandsTo want sets start (n + 1)
+stands-more want sets start n a there at_a same all =
+    below_more (λ t. get_or sets (start + t) 0 ≡ want t) n all (sym (get_or_default sets (start + n) a 0 there) ∙ sym at_a ∙ same)
 
 -- what is left alone by a column that is written as far as destination n
 abbrev pub LeavesOthers : List ℕ → List ℕ → ℕ → ℕ → Type 0
 LeavesOthers before sets start n = (j : ℕ) → (j < start) ⊎ (start + n ≤ j) → get_or sets j 0 ≡ get_or before j 0
 
-pub written-more : (block : List ℕ) (width w input : ℕ) (sets : List ℕ) (start n b : ℕ) → width ≡ w → start + n < length sets → n * width + input < length block
-    → b ≡ get_or block (n * width + input) b → StandsTo block w input sets start n → StandsTo block w input (set sets (start + n) b) start (n + 1)
-written-more block width w input sets start n b wide there from at_b all =
-    below_more (λ t. get_or (set sets (start + n) b) (start + t) 0 ≡ get_or block (t * w + input) 0) n
+pub written-more : (want : ℕ → ℕ) (sets : List ℕ) (start n b : ℕ) → start + n < length sets → b ≡ want n → StandsTo want sets start n → StandsTo want (set sets (start + n) b) start (n + 1)
+written-more want sets start n b there is all =
+    below_more (λ t. get_or (set sets (start + n) b) (start + t) 0 ≡ want t) n
     (λ t l. let other : start + t ≢ start + n = omega arith in get_or-set_other sets (start + n) (start + t) b 0 other ∙ all t l)
-    (get_or-set_same sets (start + n) b 0 there ∙ at_b ∙ get_or_default block (n * width + input) b 0 from ∙ ap (λ x. get_or block (n * x + input) 0) wide)
+    (get_or-set_same sets (start + n) b 0 there ∙ is)
 
 pub others-more : (before sets : List ℕ) (start n b : ℕ) → LeavesOthers before sets start n → LeavesOthers before (set sets (start + n) b) start (n + 1)
 others-more before sets start n b all j (inl l) = let other : j ≢ start + n = omega arith in get_or-set_other sets (start + n) j b 0 other ∙ all j (inl l)
@@ -140,7 +152,7 @@ AreKept-behind f table sets after starts pair end same h = record {
 }
 
 pub pairs-more : (f : Sizes) (table sets after block starts new : List ℕ) (pair end next : ℕ)
-    → ((t i : ℕ) → t < nodes f.shape → i < width f.shape f.vcs → get_or block (t * width f.shape f.vcs + i) 0 ≡ get_or table ((pair * nodes f.shape + t) * width f.shape f.vcs + i) 0)
+    → ((t i : ℕ) → t < nodes f.shape → i < width f.shape f.vcs → get_or block (i * nodes f.shape + t) 0 ≡ get_or table ((pair * nodes f.shape + t) * width f.shape f.vcs + i) 0)
     → AreKeptTo f block sets after starts new pair end (width f.shape f.vcs) next
     → AreKept f table sets starts pair end → AreKept f table after new (pair + 1) next
 pairs-more f table sets after block starts new pair end next written g h =

@@ -1,6 +1,6 @@
 -- The rules by coordinates.
 use Rattle.std.proofs.Common.{◌≡◌, ◌≢◌, ℕ, zero, suc, ◌+◌, ◌-◌, ◌*◌, ◌/◌, ◌%◌, ◌<◌, ◌≤◌, Bool, true, false, List, [], ◌∷◌, length, get_or, Option, Some, None, refl, sym, subst, ap, ◌∙◌, arith, inl, inr}
-use Rattle.std.specs.Prelude.{◌⊎◌, ◌&&◌, ◌||◌, option_map, nat_eq, nat_lt, nat_le, if◌then◌else◌}
+use Rattle.std.specs.Prelude.{◌⊎◌, IfSome, ◌&&◌, ◌||◌, option_map, nat_eq, nat_lt, nat_le, if◌then◌else◌}
 use Rattle.std.proofs.lemmas.Bool.{cases_lt, cases_eq, eq-eqb, ne_eqb, eqb-true, lt-ltb, le-ltb, ltb-true, ltb-false, leb-true, leb-false, false≢true}
 use Rattle.std.proofs.Math.Nat.{add-mul-mod_self_left, mod-eq_of_lt}
 use Rattle.std.proofs.Math.Bool.{or-true, or-false, and-false}
@@ -207,6 +207,17 @@ dor_port_from-some wraps j (k ∷ ks) (x ∷ xs) (t ∷ ts) p e = at (dor_port_f
         let port : (if goes_up wraps k x t then 2 * j else 2 * j + 1) ≡ p = cc in
         let place : j + 0 ≡ j = omega arith in
         (0, omega arith, differ, sym port ∙ rw place refl, λ l below. absurd (omega arith))
+
+-- it is a link port
+pub dor_port-link : (g : Grid) (xs ts : List ℕ) (o : Option ℕ) → o ≡ dor_port g xs ts → IfSome o (λ p. p < local_port g)
+dor_port-link g xs ts None e = tt
+dor_port-link g xs ts (Some p) e =
+    let found = dor_port_from-some g.wraps 0 g.radix xs ts p (sym e) in
+    at (goes_up g.wraps (get_or g.radix found.0 0) (get_or xs found.0 0) (get_or ts found.0 0)) found.0 found.1 found.3
+  where
+    at : (b : Bool) (i : ℕ) → i < length g.radix → p ≡ (if b then 2 * (0 + i) else 2 * (0 + i) + 1) → p < local_port g
+    at true i l e = omega (arith, l, e)
+    at false i l e = omega (arith, l, e)
 
 -- a port leads up or down in its dimension
 pub port-up : (b : Bool) (i p : ℕ) → p ≡ (if b then 2 * (0 + i) else 2 * (0 + i) + 1) → (p / 2 ≡ i) × (is_plus p ≡ b)

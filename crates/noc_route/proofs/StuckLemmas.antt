@@ -1,14 +1,13 @@
 -- The first entry at which packets are stuck.
-use Rattle.std.proofs.Common.{◌≡◌, ◌≢◌, ℕ, ◌+◌, ◌*◌, ◌/◌, ◌%◌, ◌<◌, ◌≤◌, Bool, true, false, List, get_or, set, length, Option, Some, None, refl, sym, subst, ap, ◌∙◌, add_assoc, arith, inl, inr, below_more}
+use Rattle.std.proofs.Common.{◌≡◌, ◌≢◌, ℕ, zero, suc, ◌+◌, ◌*◌, ◌/◌, ◌%◌, ◌<◌, ◌≤◌, Bool, true, false, List, set, Option, Some, None, refl, sym, subst, ap, ◌∙◌, add_assoc, arith, inl, inr}
 use Rattle.std.specs.Prelude.{◌⊎◌, ◌&&◌, nat_eq, if◌then◌else◌}
 use Rattle.std.proofs.lemmas.Nat.{div-mul-add, mod-mul-add}
 use Rattle.std.proofs.lemmas.Bool.{cases_lt, false≢true}
-use Rattle.std.proofs.lemmas.List.{get_or-set_same, get_or-set_other}
 use Rattle.noc_topo.specs.Shape.{nodes}
 use Rattle.noc_topo.proofs.ListLemmas.{get_or-tabulate}
 use Rattle.noc_route.specs.Order.{numbers_before, entry_numbers, earlier_entry}
-use Rattle.noc_route.specs.Routes.{Routes, width, pages, page_class, page_router, page_dst}
-use Rattle.noc_route.specs.Trimming.{routes_in, page_set, comes_in, comes_at, left_at, left_in, is_stuck_at, entry_on_page, IsNoEarlier, IsStuckFirst, IsFirstStuck}
+use Rattle.noc_route.specs.Routes.{Routes, width, pages}
+use Rattle.noc_route.specs.Trimming.{routes_in, page_set, comes_in, comes_at, left_at, left_in, is_stuck_at, entry_on_page, AreComing, reached_at, IsNoEarlier, IsStuckFirst, IsFirstStuck}
 use Rattle.noc_route.specs.declared.rule.Entry.{Entry}
 use Rattle.noc_route.specs.declared.sizes.Sizes.{Sizes}
 use Rattle.noc_route.proofs.OrderLemmas.{before-not-self, before-trans}
@@ -143,90 +142,49 @@ stuck-left f sets outs b i m l = ap (λ s. comes_at (routes_in f sets) outs b i 
 
 -- ---- the loops
 
--- whether packets come to an input of a page, by its class, router and destination
-pub comes_at-parts : (routes : Routes) (outs : List ℕ) (m r t b i : ℕ) → m ≡ page_class routes.grid routes.classes b → r ≡ page_router routes.grid routes.classes b → t ≡ page_dst routes.grid b
-    → comes_at routes outs b i ≡ comes_in routes outs m r t i
-comes_at-parts routes outs m r t b i class router dst =
-    ap (λ m. comes_in routes outs m (page_router routes.grid routes.classes b) (page_dst routes.grid b) i) (sym class)
-    ∙ ap (λ r. comes_in routes outs m r (page_dst routes.grid b) i) (sym router)
-    ∙ ap (λ t. comes_in routes outs m r t i) (sym dst)
+-- whether packets come to an input of a page, by the router and the class of its pair
+pub comes_at-pair : (routes : Routes) (outs : List ℕ) (pair t i : ℕ) → t < nodes routes.grid
+    → comes_at routes outs (pair * nodes routes.grid + t) i ≡ comes_in routes outs (pair % routes.classes) (pair / routes.classes) t i
+comes_at-pair routes outs pair t i l =
+    ap (λ b. comes_in routes outs (b % routes.classes) (b / routes.classes) ((pair * nodes routes.grid + t) % nodes routes.grid) i) (flat-div pair (nodes routes.grid) t l)
+    ∙ ap (λ t. comes_in routes outs (pair % routes.classes) (pair / routes.classes) t i) (flat-mod pair (nodes routes.grid) t l)
 
--- the sets of the first inputs of a page stand in a block, from `from` on, and no other set is changed
-pub record IsPageLeft (f : Sizes) (sets outs before block : List ℕ) (page from input : ℕ) (first : Option Entry) : Type 0 where
-  pub left : (i : ℕ) → i < input → get_or block (from + i) 0 ≡ left_at (routes_in f sets) outs page i
-  pub others : (j : ℕ) → (j < from) ⊎ (from + input ≤ j) → get_or block j 0 ≡ get_or before j 0
-  pub stuck : IsFirstStuck (routes_in f (left_in f sets outs)) outs (page * width f.shape f.vcs + input) first
+-- none of the first inputs of a page is stuck
+pub stuck-none : (f : Sizes) (sets outs : List ℕ) (page n : ℕ) (first : Option Entry) → page < pages f.shape f.classes → n ≤ width f.shape f.vcs
+    → ((i : ℕ) → i < width f.shape f.vcs → is_stuck_at (routes_in f sets) outs page i ≡ false)
+    → IsFirstStuck (routes_in f (left_in f sets outs)) outs (page * width f.shape f.vcs) first
+    → IsFirstStuck (routes_in f (left_in f sets outs)) outs (page * width f.shape f.vcs + n) first
+stuck-none f sets outs page zero first m few free h =
+    let P : ℕ → Type 0 = λ k. IsFirstStuck (routes_in f (left_in f sets outs)) outs k first in
+    let same : page * width f.shape f.vcs ≡ page * width f.shape f.vcs + 0 = omega arith in
+    subst P same h
+stuck-none f sets outs page (suc n) first m few free h =
+    let P : ℕ → Type 0 = λ k. IsFirstStuck (routes_in f (left_in f sets outs)) outs k first in
+    let same : page * width f.shape f.vcs + n + 1 ≡ page * width f.shape f.vcs + suc n = omega arith in
+    let inside : n < width f.shape f.vcs = omega arith in
+    subst P same
+    (IsFirstStuck-passed (routes_in f (left_in f sets outs)) outs page n first inside (stuck-left f sets outs page n m inside ∙ free n inside)
+    (stuck-none f sets outs page n first m (omega arith) free h))
 
--- one more set is written
-IsPageLeft-more : (f : Sizes) (sets outs before block : List ℕ) (page from input index s : ℕ) (first next : Option Entry) → index ≡ from + input → index < length block
-    → s ≡ left_at (routes_in f sets) outs page input
-    → IsFirstStuck (routes_in f (left_in f sets outs)) outs (page * width f.shape f.vcs + input + 1) next
-    → IsPageLeft f sets outs before block page from input first → IsPageLeft f sets outs before (set block index s) page from (input + 1) next
-IsPageLeft-more f sets outs before block page from input index s first next place there is stuck h = record {
-  left =
-      below_more (λ i. get_or (set block index s) (from + i) 0 ≡ left_at (routes_in f sets) outs page i) input
-      (λ i l. let other : from + i ≢ index = omega (arith, place) in get_or-set_other block index (from + i) s 0 other ∙ h.left i l)
-      (ap (λ k. get_or (set block index s) k 0) (sym place) ∙ get_or-set_same block index s 0 there ∙ is);
-  others = λ j. at j;
-  stuck =
-      let P : ℕ → Type 0 = λ n. IsFirstStuck (routes_in f (left_in f sets outs)) outs n next in
-      subst P (add_assoc (page * width f.shape f.vcs) input 1) stuck;
-}
+-- one more input, which may be stuck
+pub stuck-more : (f : Sizes) (sets outs : List ℕ) (page input : ℕ) (first next : Option Entry) (stuck : Bool) → page < pages f.shape f.classes → input < width f.shape f.vcs
+    → is_stuck_at (routes_in f sets) outs page input ≡ stuck
+    → next ≡ (if stuck then Some (earlier_entry (entry_on_page (routes_in f sets) page input) first) else first)
+    → IsFirstStuck (routes_in f (left_in f sets outs)) outs (page * width f.shape f.vcs + input) first
+    → IsFirstStuck (routes_in f (left_in f sets outs)) outs (page * width f.shape f.vcs + (input + 1)) next
+stuck-more f sets outs page input first next stuck m l is found h =
+    let routes = routes_in f (left_in f sets outs) in
+    let P : ℕ → Type 0 = λ n. IsFirstStuck routes outs n next in
+    subst P (add_assoc (page * width f.shape f.vcs) input 1)
+    (subst (IsFirstStuck routes outs (page * width f.shape f.vcs + input + 1)) (sym found) (at stuck (stuck-left f sets outs page input m l ∙ is)))
   where
-    at : (j : ℕ) → (j < from) ⊎ (from + (input + 1) ≤ j) → get_or (set block index s) j 0 ≡ get_or before j 0
-    at j (inl l) = let other : j ≢ index = omega (arith, place) in get_or-set_other block index j s 0 other ∙ h.others j (inl l)
-    at j (inr l) = let other : j ≢ index = omega (arith, place) in get_or-set_other block index j s 0 other ∙ h.others j (inr (omega arith))
-
--- where packets do not come the set is empty
-pub IsPageLeft-passed : (f : Sizes) (sets outs before block : List ℕ) (page from input index s : ℕ) (first : Option Entry)
-    → page < pages f.shape f.classes → input < width f.shape f.vcs → index ≡ from + input → index < length block
-    → comes_at (routes_in f sets) outs page input ≡ false → s ≡ 0
-    → IsPageLeft f sets outs before block page from input first → IsPageLeft f sets outs before (set block index s) page from (input + 1) first
-IsPageLeft-passed f sets outs before block page from input index s first m l place there none empty h =
-    let routes = routes_in f sets in
-    let free = stuck-left f sets outs page input m l ∙ ap (λ b. b && nat_eq (page_set routes page input) 0) none in
-    let left : s ≡ left_at routes outs page input = empty ∙ sym (ap (λ b. if b then page_set routes page input else 0) none) in
-    IsPageLeft-more f sets outs before block page from input index s first first place there left
-    (IsFirstStuck-passed (routes_in f (left_in f sets outs)) outs page input first l free h.stuck) h
-
--- where they come it is the rule's, which may lead nowhere
-pub IsPageLeft-come : (f : Sizes) (sets outs before block : List ℕ) (page from input index s : ℕ) (first next : Option Entry)
-    → page < pages f.shape f.classes → input < width f.shape f.vcs → index ≡ from + input → index < length block
-    → comes_at (routes_in f sets) outs page input ≡ true → s ≡ page_set (routes_in f sets) page input
-    → (empty : Bool) → nat_eq s 0 ≡ empty → next ≡ (if empty then Some (earlier_entry (entry_on_page (routes_in f sets) page input) first) else first)
-    → IsPageLeft f sets outs before block page from input first → IsPageLeft f sets outs before (set block index s) page from (input + 1) next
-IsPageLeft-come f sets outs before block page from input index s first next m l place there comes is empty told found h =
-    IsPageLeft-more f sets outs before block page from input index s first next place there
-    (is ∙ sym (ap (λ b. if b then page_set (routes_in f sets) page input else 0) comes))
-    (subst (IsFirstStuck (routes_in f (left_in f sets outs)) outs (page * width f.shape f.vcs + input + 1)) (sym found) (at empty told)) h
-  where
-    stuck : (b : Bool) → nat_eq s 0 ≡ b → is_stuck_at (routes_in f (left_in f sets outs)) outs page input ≡ b
-    stuck b e = stuck-left f sets outs page input m l ∙ ap (λ b. b && nat_eq (page_set (routes_in f sets) page input) 0) comes ∙ ap (λ s. nat_eq s 0) (sym is) ∙ e
-
-    at : (b : Bool) → nat_eq s 0 ≡ b
+    at : (b : Bool) → is_stuck_at (routes_in f (left_in f sets outs)) outs page input ≡ b
         → IsFirstStuck (routes_in f (left_in f sets outs)) outs (page * width f.shape f.vcs + input + 1) (if b then Some (earlier_entry (entry_on_page (routes_in f sets) page input) first) else first)
-    at true e = IsStuckFirst-earlier (routes_in f (left_in f sets outs)) outs page input first m l (stuck true e) h.stuck
-    at false e = IsFirstStuck-passed (routes_in f (left_in f sets outs)) outs page input first l (stuck false e) h.stuck
+    at true e = IsStuckFirst-earlier (routes_in f (left_in f sets outs)) outs page input first m l e h
+    at false e = IsFirstStuck-passed (routes_in f (left_in f sets outs)) outs page input first l e h
 
--- the sets of a router and a class stand in a block, as far as this destination
-pub record ArePagesLeft (f : Sizes) (sets outs block : List ℕ) (pair dst : ℕ) (first : Option Entry) : Type 0 where
-  pub left : (t i : ℕ) → t < dst → i < width f.shape f.vcs → get_or block (t * width f.shape f.vcs + i) 0 ≡ left_at (routes_in f sets) outs (pair * nodes f.shape + t) i
-  pub stuck : IsFirstStuck (routes_in f (left_in f sets outs)) outs ((pair * nodes f.shape + dst) * width f.shape f.vcs) first
-
-pub ArePagesLeft-more : (f : Sizes) (sets outs before block : List ℕ) (pair dst page : ℕ) (first next : Option Entry) → dst < nodes f.shape → page ≡ pair * nodes f.shape + dst
-    → ((i : ℕ) → i < width f.shape f.vcs → get_or block (page_dst f.shape page * width f.shape f.vcs + i) 0 ≡ left_at (routes_in f sets) outs page i)
-    → ((j : ℕ) → (j < page_dst f.shape page * width f.shape f.vcs) ⊎ (page_dst f.shape page * width f.shape f.vcs + width f.shape f.vcs ≤ j) → get_or block j 0 ≡ get_or before j 0)
-    → IsFirstStuck (routes_in f (left_in f sets outs)) outs ((page + 1) * width f.shape f.vcs) next
-    → ArePagesLeft f sets outs before pair dst first → ArePagesLeft f sets outs block pair (dst + 1) next
-ArePagesLeft-more f sets outs before block pair dst page first next l e here others stuck h =
-    let w = width f.shape f.vcs in
-    let at : page_dst f.shape page ≡ dst = ap (page_dst f.shape) e ∙ flat-mod pair (nodes f.shape) dst l in
-    record {
-      left = λ t i n k.
-          below_more (λ t. get_or block (t * w + i) 0 ≡ left_at (routes_in f sets) outs (pair * nodes f.shape + t) i) dst
-          (λ t n. others (t * w + i) (inl (subst (λ d. t * w + i < d * w) (sym at) (flat-below t dst i w n k))) ∙ h.left t i n k)
-          (ap (λ d. get_or block (d * w + i) 0) (sym at) ∙ here i k ∙ ap (λ b. left_at (routes_in f sets) outs b i) e) t n;
-      stuck =
-          let P : ℕ → Type 0 = λ n. IsFirstStuck (routes_in f (left_in f sets outs)) outs (n * w) next in
-          subst P (ap (λ b. b + 1) e ∙ add_assoc (pair * nodes f.shape) dst 1) stuck;
-    }
+-- what is left of a set is what these sets of input channels leave of it
+pub reached-left : (f : Sizes) (sets outs coming : List ℕ) (pair i t : ℕ) → AreComing f outs pair coming → t < nodes f.shape → i < width f.shape f.vcs
+    → reached_at f sets coming pair i t ≡ left_at (routes_in f sets) outs (pair * nodes f.shape + t) i
+reached-left f sets outs coming pair i t come l m =
+    ap (λ b. if b then page_set (routes_in f sets) (pair * nodes f.shape + t) i else 0) (come sets t i l m)

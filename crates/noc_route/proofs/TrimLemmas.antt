@@ -8,13 +8,13 @@ use Rattle.std.proofs.lemmas.Bool.Decides.{eqb_tells}
 use Rattle.std.proofs.lemmas.List.{length-set, get_or-set_same, get_or-set_other}
 use Rattle.std.proofs.Math.Bool.{or-true, and-true}
 use Rattle.noc_packet.specs.Set.{has_bit}
-use Rattle.noc_packet.proofs.SetLemmas.{has_bit-zero}
+use Rattle.noc_packet.proofs.SetLemmas.{has_bit-zero, zero_from_none}
 use Rattle.noc_topo.specs.Shape.{Grid, IsGrid, nodes, ports, local_port, neighbour, distance}
 use Rattle.noc_topo.proofs.LinkLemmas.{link_back, neighbour-range}
 use Rattle.noc_route.specs.Routes.{Routes, width, pages, page_of}
 use Rattle.noc_route.specs.Trimming.{set_in, IsPage, CanCome, injected, led, ComesNearer, CanLeave, comes_in, any_below, IsSoundOut, IsFullOut}
 use Rattle.noc_route.specs.Gathering.{AreOuts, AreOutsFrom, FartherFull, IsPairDone}
-use Rattle.noc_route.proofs.BoolLemmas.{same_test}
+use Rattle.noc_route.proofs.BoolLemmas.{same_test, and_where}
 use Rattle.noc_route.proofs.EntryLemmas.{flat-below}
 
 -- ---- a test of the numbers below one
@@ -34,6 +34,42 @@ any_below-at (suc n) test i l e = at (any_below-at n test i) (cases_lt i n)
     at : (i < n → test i ≡ true → any_below n test ≡ true) → (i < n) ⊎ (n ≤ i) → (any_below n test || test n) ≡ true
     at more (inl b) = rw (more b e) refl
     at more (inr g) = let last : i ≡ n = omega arith in let yes : test n ≡ true = ap test (sym last) ∙ e in rw yes (or-true (any_below n test))
+
+pub any_below-same : (n : ℕ) (f g : ℕ → Bool) → ((i : ℕ) → i < n → f i ≡ g i) → any_below n f ≡ any_below n g
+any_below-same zero f g same = refl
+any_below-same (suc n) f g same =
+    let here = same n (omega arith) in
+    let rest = any_below-same n f g (λ i l. same i (omega arith)) in
+    ap (λ b. b || f n) rest ∙ ap (λ b. any_below n g || b) here
+
+-- what is tested besides of all of them alike
+pub any_below-and : (n : ℕ) (f : ℕ → Bool) (b : Bool) → any_below n (λ i. f i && b) ≡ (any_below n f && b)
+any_below-and zero f b = refl
+any_below-and (suc n) f b = ap (λ x. x || (f n && b)) (any_below-and n f b) ∙ both (any_below n f) (f n) b
+  where
+    both : (x y b : Bool) → ((x && b) || (y && b)) ≡ ((x || y) && b)
+    both true y true = refl
+    both true y false = and_right y false refl
+    both false y b = refl
+
+-- whether a set of numbers below n has a member
+pub any_of_set : (n bits : ℕ) → ((i : ℕ) → has_bit bits i ≡ true → i < n) → not (nat_eq bits 0) ≡ any_below n (has_bit bits)
+any_of_set n bits within = at (any_below n (has_bit bits)) refl
+  where
+    none : any_below n (has_bit bits) ≡ false → (i : ℕ) (b : Bool) → has_bit bits i ≡ b → has_bit bits i ≡ false
+    none empty i true e = absurd (false≢true (sym empty ∙ any_below-at n (has_bit bits) i (within i e) e))
+    none empty i false e = e
+
+    at : (b : Bool) → any_below n (has_bit bits) ≡ b → not (nat_eq bits 0) ≡ b
+    at true e =
+        let some = any_below-some n (has_bit bits) e in
+        ap not (ne_eqb bits 0 (λ zero. false≢true (sym (has_bit-zero some.0) ∙ ap (λ s. has_bit s some.0) (sym zero) ∙ some.2)))
+    at false e = ap not (eq-eqb bits 0 (zero_from_none bits (λ k. none e k (has_bit bits k) refl)))
+
+-- a set, or none
+pub has_bit-only : (some : Bool) (set k : ℕ) → has_bit (if some then set else 0) k ≡ (some && has_bit set k)
+has_bit-only true set k = refl
+has_bit-only false set k = has_bit-zero k
 
 -- ---- numbers of a relation
 
@@ -108,6 +144,24 @@ comes_in-local routes outs m r t i e = rw e refl
 pub comes_in-link : (routes : Routes) (outs : List ℕ) (m r t i : ℕ) → nat_eq (i / routes.vcs) (local_port routes.grid) ≡ false
     → comes_in routes outs m r t i ≡ comes_over routes outs m t i (neighbour routes.grid r (i / routes.vcs))
 comes_in-link routes outs m r t i e = rw e refl
+
+-- what is moved from the list of the router before, where the channel arrives over a link
+pub brought : (routes : Routes) (outs : List ℕ) (m r t port sender out_port out i : ℕ) → 1 ≤ routes.vcs → port ≢ local_port routes.grid → neighbour routes.grid r port ≡ Some (sender, out_port)
+    → out ≡ slice_index outs (page_of routes.grid routes.classes m sender t)
+    → (nat_le (port * routes.vcs) i && nat_lt i (port * routes.vcs + routes.vcs) && has_bit out (out_port * routes.vcs + (i - port * routes.vcs)))
+    ≡ (nat_eq (i / routes.vcs) port && comes_in routes outs m r t i)
+brought routes outs m r t port sender out_port out i some away linked had =
+    ap (λ b. b && has_bit out (out_port * routes.vcs + (i - port * routes.vcs))) (port-span routes.vcs port i some) ∙ and_where _ _ _ over
+  where
+    over : nat_eq (i / routes.vcs) port ≡ true → has_bit out (out_port * routes.vcs + (i - port * routes.vcs)) ≡ comes_in routes outs m r t i
+    over e =
+        let same = eqb-true (i / routes.vcs) port e in
+        let parts = port-parts routes.vcs port i same in
+        let number : i - port * routes.vcs ≡ i % routes.vcs = omega (arith, parts) in
+        let other : nat_eq (i / routes.vcs) (local_port routes.grid) ≡ false = ne_eqb _ _ (λ home. away (sym same ∙ home)) in
+        ap (λ n. has_bit out (out_port * routes.vcs + n)) number
+        ∙ ap (λ s. has_bit s (out_port * routes.vcs + i % routes.vcs)) had
+        ∙ sym (comes_in-link routes outs m r t i other ∙ ap (λ (from : Option (ℕ × ℕ)). comes_over routes outs m t i from) (ap (neighbour routes.grid r) same ∙ linked))
 
 -- what the lists say comes in does
 pub comes_in-sound : (routes : Routes) (outs : List ℕ) (m r t i : ℕ) → IsSized routes → IsSoundOut routes outs → IsPage routes m r t → i < width routes.grid routes.vcs

@@ -25,4 +25,5 @@ pub record IsRelationOfRule (g : RelationParts) (routes : Routes) : Type 0 where
   pub vcs : routes.vcs ≡ g.vcs
   pub classes : routes.classes ≡ g.classes
   pub built : IsRelation routes
-  pub exact : (m : ℕ) (c : Channel) (t : ℕ) (o : Channel) → IsTrue (permits routes m c t o) ↔ IsPermitted g m c t o
+  pub exact : (m : ℕ) (c : Channel) (t : ℕ) (o : Channel)
+      → IsTrue (permits routes m c t o) ↔ IsPermitted g m c t o

@@ -41,7 +41,8 @@ channel_vc (Eject n v) = v
 
 -- the output channel of a router with this index, port*vcs + vc
 abbrev pub output_at : Grid → ℕ → ℕ → ℕ → Channel
-output_at g vcs r i = if nat_eq (i / vcs) (local_port g) then Eject r (i % vcs) else Link r (i / vcs) (i % vcs)
+output_at g vcs r i =
+    if nat_eq (i / vcs) (local_port g) then Eject r (i % vcs) else Link r (i / vcs) (i % vcs)
 
 abbrev pub output_index : Grid → ℕ → Channel → ℕ
 output_index g vcs (Link r p v) = p * vcs + v
@@ -58,4 +59,5 @@ input_at g vcs r i =
 
 -- every link and injection channel, by the router where it arrives
 unfoldable pub inputs : Grid → ℕ → List Channel
-inputs g vcs = flat_map (λ r. filter_map (input_at g vcs r) (below (ports g * vcs))) (below (nodes g))
+inputs g vcs =
+    flat_map (λ r. filter_map (input_at g vcs r) (below (ports g * vcs))) (below (nodes g))

@@ -9,27 +9,37 @@ use Rattle.noc_route.specs.declared.sizes.Sizes.{Sizes}
 abbrev pub column_set : Sizes → List ℕ → List ℕ → ℕ → ℕ
 column_set f sets starts j =
     let w = width f.shape f.vcs in
-    slice_index sets (slice_index starts (j / w / nodes f.shape * w + j % w) + j / w % nodes f.shape)
+    slice_index sets
+    (slice_index starts (j / w / nodes f.shape * w + j % w) + j / w % nodes f.shape)
 
 -- the table of these columns
 abbrev pub table_of : Sizes → List ℕ → List ℕ → List ℕ
-table_of f sets starts = tabulate (pages f.shape f.classes * width f.shape f.vcs) (column_set f sets starts)
+table_of f sets starts =
+    tabulate (pages f.shape f.classes * width f.shape f.vcs) (column_set f sets starts)
 
 -- each router, class and input has a column among this many sets
 pub record AreColumns (f : Sizes) (starts : List ℕ) (count : ℕ) : Type 0 where
   pub long : length starts ≡ nodes f.shape * f.classes * width f.shape f.vcs
-  pub within : (c : ℕ) → c < nodes f.shape * f.classes * width f.shape f.vcs → slice_index starts c + nodes f.shape ≤ count
+  pub within : (c : ℕ) → c < nodes f.shape * f.classes * width f.shape f.vcs
+      → slice_index starts c + nodes f.shape ≤ count
 
--- the column of an input of a block, the table of one router and class, stands there
+-- the column of an input of a block, the sets of one router and class, stands there
 abbrev pub IsColumnAt : Sizes → List ℕ → ℕ → List ℕ → ℕ → Type 0
-IsColumnAt f block input sets start = (t : ℕ) → t < nodes f.shape → slice_index sets (start + t) ≡ slice_index block (t * width f.shape f.vcs + input)
+IsColumnAt f block input sets start =
+    (t : ℕ) → t < nodes f.shape
+    → slice_index sets (start + t) ≡ slice_index block (input * nodes f.shape + t)
 
 -- the columns of the first inputs of a block stand between `first` and `end`, where `starts` says,
 -- and nothing else was written
-pub record AreKeptTo (f : Sizes) (block before sets old_starts starts : List ℕ) (pair first inputs end : ℕ) : Type 0 where
+pub record AreKeptTo (f : Sizes) (block before sets old_starts starts : List ℕ)
+    (pair first inputs end : ℕ) : Type 0 where
   pub grown : first ≤ end
   pub few : end ≤ first + inputs * nodes f.shape
-  pub within : (i : ℕ) → i < inputs → slice_index starts (pair * width f.shape f.vcs + i) + nodes f.shape ≤ end
-  pub same : (i : ℕ) → i < inputs → IsColumnAt f block i sets (slice_index starts (pair * width f.shape f.vcs + i))
-  pub others : (j : ℕ) → (j < first) ⊎ (first + length block ≤ j) → slice_index sets j ≡ slice_index before j
-  pub earlier : (c : ℕ) → c < pair * width f.shape f.vcs → slice_index starts c ≡ slice_index old_starts c
+  pub within : (i : ℕ) → i < inputs
+      → slice_index starts (pair * width f.shape f.vcs + i) + nodes f.shape ≤ end
+  pub same : (i : ℕ) → i < inputs
+      → IsColumnAt f block i sets (slice_index starts (pair * width f.shape f.vcs + i))
+  pub others : (j : ℕ) → (j < first) ⊎ (first + length block ≤ j)
+      → slice_index sets j ≡ slice_index before j
+  pub earlier : (c : ℕ) → c < pair * width f.shape f.vcs
+      → slice_index starts c ≡ slice_index old_starts c

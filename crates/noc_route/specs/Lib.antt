@@ -10,3 +10,4 @@ pub mod Entered
 pub mod Built
 pub mod Gathering
 pub mod Names
+pub mod Titles

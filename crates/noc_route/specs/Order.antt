@@ -10,7 +10,8 @@ numbers_before (x ∷ xs) [] = false
 numbers_before (x ∷ xs) (y ∷ ys) = nat_lt x y || (nat_eq x y && numbers_before xs ys)
 
 abbrev pub row_numbers : RouteRow → List ℕ
-row_numbers row = row.class ∷ row.router ∷ row.in_port ∷ row.in_vc ∷ row.dst ∷ row.out_port ∷ row.out_vc ∷ []
+row_numbers row =
+    row.class ∷ row.router ∷ row.in_port ∷ row.in_vc ∷ row.dst ∷ row.out_port ∷ row.out_vc ∷ []
 
 abbrev pub entry_numbers : Entry → List ℕ
 entry_numbers e = e.class ∷ e.router ∷ e.in_port ∷ e.in_vc ∷ e.dst ∷ []
@@ -23,4 +24,5 @@ row_before row (Some other) = numbers_before (row_numbers row) (row_numbers othe
 -- the one of two entries that comes first
 abbrev pub earlier_entry : Entry → Option Entry → Entry
 earlier_entry entry None = entry
-earlier_entry entry (Some other) = if numbers_before (entry_numbers entry) (entry_numbers other) then entry else other
+earlier_entry entry (Some other) =
+    if numbers_before (entry_numbers entry) (entry_numbers other) then entry else other

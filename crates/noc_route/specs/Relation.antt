@@ -36,7 +36,8 @@ fits g vcs classes (Rows rows) = true
 -- rule fits them and the shape
 abbrev pub is_right : Grid → ℕ → ℕ → Rule → Bool
 is_right g vcs classes rule =
-    nat_le 1 vcs && nat_le vcs MAX_CHANNELS && nat_le 1 classes && nat_le classes MAX_CLASSES && nat_eq (vcs % classes) 0
+    nat_le 1 vcs && nat_le vcs MAX_CHANNELS && nat_le 1 classes && nat_le classes MAX_CLASSES
+    && nat_eq (vcs % classes) 0
     && fits g vcs classes rule
 
 -- ---- ports
@@ -63,7 +64,8 @@ abbrev pub is_nearer : Grid → List ℕ → List ℕ → ℕ → Bool
 is_nearer g xs ts port =
     let i = port / 2 in
     not (nat_eq (slice_index xs i) (slice_index ts i))
-    && (if goes_up g.wraps (slice_index g.radix i) (slice_index xs i) (slice_index ts i) then is_plus port else not (is_plus port))
+    && (if goes_up g.wraps (slice_index g.radix i) (slice_index xs i) (slice_index ts i)
+    then is_plus port else not (is_plus port))
 
 -- down dimension 0 alone while the destination is there, and else any port
 abbrev pub is_west_first : List ℕ → List ℕ → ℕ → Bool
@@ -91,7 +93,8 @@ resource_class vcs classes v = v % (vcs / classes) / (vcs / classes / 2)
 -- the half that the next hop along a port takes, where in its dimension the router is at x and the
 -- destination at t: the low half while the way still crosses the ends
 abbrev pub dateline_class : ℕ → ℕ → ℕ → ℕ
-dateline_class port x t = if is_plus port then (if nat_lt t x then 0 else 1) else (if nat_lt x t then 0 else 1)
+dateline_class port x t =
+    if is_plus port then (if nat_lt t x then 0 else 1) else (if nat_lt x t then 0 else 1)
 
 -- the index of a channel among those of its class
 abbrev pub index_in_class : ℕ → ℕ → ℕ → ℕ
@@ -105,21 +108,25 @@ is_escape g vcs classes v = nat_lt (index_in_class vcs classes v) (escapes g)
 abbrev pub is_escape_taken : Grid → ℕ → ℕ → List ℕ → List ℕ → ℕ → ℕ → Bool
 is_escape_taken g vcs classes xs ts port v =
     is_some_of (dor_port g xs ts) port
-    && nat_eq (index_in_class vcs classes v) (if g.wraps then dateline_class port (slice_index xs (port / 2)) (slice_index ts (port / 2)) else 0)
+    && nat_eq (index_in_class vcs classes v) (if g.wraps
+    then dateline_class port (slice_index xs (port / 2)) (slice_index ts (port / 2)) else 0)
 
 -- whether a rule by coordinates takes a channel of a port that it takes, among
 -- those of the packet's class
 abbrev pub takes_of_class : Grid → ℕ → ℕ → Rule → List ℕ → List ℕ → ℕ → ℕ → Bool
 takes_of_class g vcs classes Dor xs ts port v = true
 takes_of_class g vcs classes Dateline xs ts port v =
-    nat_eq (resource_class vcs classes v) (dateline_class port (slice_index xs (port / 2)) (slice_index ts (port / 2)))
+    nat_eq (resource_class vcs classes v)
+    (dateline_class port (slice_index xs (port / 2)) (slice_index ts (port / 2)))
 takes_of_class g vcs classes WestFirst xs ts port v = true
-takes_of_class g vcs classes Adaptive xs ts port v = not (is_escape g vcs classes v) || is_escape_taken g vcs classes xs ts port v
+takes_of_class g vcs classes Adaptive xs ts port v =
+    not (is_escape g vcs classes v) || is_escape_taken g vcs classes xs ts port v
 takes_of_class g vcs classes (Rows rows) xs ts port v = true
 
 -- whether a rule by coordinates may take this channel of a port that it takes
 abbrev pub takes_channel : Grid → ℕ → ℕ → Rule → ℕ → List ℕ → List ℕ → ℕ → ℕ → Bool
-takes_channel g vcs classes rule m xs ts port v = is_of_class vcs classes m v && takes_of_class g vcs classes rule xs ts port v
+takes_channel g vcs classes rule m xs ts port v =
+    is_of_class vcs classes m v && takes_of_class g vcs classes rule xs ts port v
 
 -- ---- rows
 
@@ -135,7 +142,8 @@ table_rows_of rule = unwrap_or (rows_of rule) []
 -- whether a row names this entry and this output channel
 abbrev pub names_entry : ℕ → ℕ × ℕ → ℕ → ℕ → ℕ → ℕ → RouteRow → Bool
 names_entry m input in_vc t port v row =
-    nat_eq row.class m && nat_eq row.router input.0 && nat_eq row.in_port input.1 && nat_eq row.in_vc in_vc
+    nat_eq row.class m && nat_eq row.router input.0 && nat_eq row.in_port input.1
+    && nat_eq row.in_vc in_vc
     && nat_eq row.dst t && nat_eq row.out_port port && nat_eq row.out_vc v
 
 abbrev pub has_route_row : List RouteRow → ℕ → ℕ × ℕ → ℕ → ℕ → ℕ → ℕ → Bool
@@ -148,7 +156,8 @@ is_open g router port = nat_eq port (local_port g) || is_some (neighbour g route
 -- whether what a row names exists
 abbrev pub is_real_row : Grid → ℕ → ℕ → RouteRow → Bool
 is_real_row g vcs classes row =
-    nat_lt row.class classes && nat_lt row.router (nodes g) && nat_lt row.in_vc vcs && nat_lt row.out_vc vcs && nat_lt row.dst (nodes g)
+    nat_lt row.class classes && nat_lt row.router (nodes g) && nat_lt row.in_vc vcs
+    && nat_lt row.out_vc vcs && nat_lt row.dst (nodes g)
     && is_open g row.router row.in_port && is_open g row.router row.out_port
 
 -- what is wrong with a row whose output port leads to this neighbour, or is local
@@ -156,22 +165,28 @@ abbrev pub hop_fault : Grid → RouteRow → Option (ℕ × ℕ) → Option Rout
 hop_fault g row None = if nat_eq row.router row.dst then None else Some (EarlyEject row)
 hop_fault g row (Some next) =
     if nat_eq row.router row.dst then Some (LateHop row)
-    else (if nat_lt (distance g next.0 row.dst) (distance g row.router row.dst) then None else Some (NotMinimal row))
+    else (if nat_lt (distance g next.0 row.dst) (distance g row.router row.dst) then None
+    else Some (NotMinimal row))
 
 -- the first fault of a row
 abbrev pub row_fault : Grid → ℕ → ℕ → RouteRow → Option RouteFault
-row_fault g vcs classes row = if is_real_row g vcs classes row then hop_fault g row (neighbour g row.router row.out_port) else Some (NoLink row)
+row_fault g vcs classes row =
+    if is_real_row g vcs classes row then hop_fault g row (neighbour g row.router row.out_port)
+    else Some (NoLink row)
 
 -- a row, if it has a fault and comes before the other, and else the other
 abbrev pub earlier_fault : Grid → ℕ → ℕ → RouteRow → Option RouteRow → Option RouteRow
-earlier_fault g vcs classes row other = if is_some (row_fault g vcs classes row) && row_before row other then Some row else other
+earlier_fault g vcs classes row other =
+    if is_some (row_fault g vcs classes row) && row_before row other then Some row else other
 
 -- the fault of the first row that has one, in the order of the rows' numbers
-pub record IsFirstFault (g : Grid) (vcs classes : ℕ) (rows : List RouteRow) (fault : RouteFault) : Type 0 where
+pub record IsFirstFault (g : Grid) (vcs classes : ℕ) (rows : List RouteRow) (fault : RouteFault)
+    : Type 0 where
   pub row : RouteRow
   pub there : Contains rows row
   pub faulty : row_fault g vcs classes row ≡ Some fault
-  pub first : All (λ other. (row_fault g vcs classes other ≡ None) ⊎ (numbers_before (row_numbers other) (row_numbers row) ≡ false)) rows
+  pub first : All (λ other. (row_fault g vcs classes other ≡ None)
+      ⊎ (numbers_before (row_numbers other) (row_numbers row) ≡ false)) rows
 
 -- ---- the rule
 
@@ -182,18 +197,24 @@ is_led g m r t port v =
     if nat_eq r t
     then nat_eq port (local_port g.grid) && is_of_class g.vcs g.classes m v
     else takes_port g.grid g.rule (coordinates g.grid.radix r) (coordinates g.grid.radix t) port
-    && takes_channel g.grid g.vcs g.classes g.rule m (coordinates g.grid.radix r) (coordinates g.grid.radix t) port v
+    && takes_channel g.grid g.vcs g.classes g.rule m (coordinates g.grid.radix r)
+    (coordinates g.grid.radix t) port v
 
 -- whether the rule leads a packet of class m, that came to this input (a router and its port) on
 -- channel in_vc and is bound for t, on to channel v of this output port
 abbrev pub leads : RelationParts → ℕ → ℕ × ℕ → ℕ → ℕ → ℕ → ℕ → Bool
-leads g m input in_vc t port v = elim (rows_of g.rule) [ Some rows ↦ has_route_row rows m input in_vc t port v | None ↦ is_led g m input.0 t port v ]
+leads g m input in_vc t port v = elim (rows_of g.rule) [
+  | Some rows ↦ has_route_row rows m input in_vc t port v
+  | None ↦ is_led g m input.0 t port v
+]
 
 abbrev pub rule_offers : RelationParts → ℕ → Option (ℕ × ℕ) → ℕ → ℕ → Channel → Bool
 rule_offers g m None in_vc t o = false
 rule_offers g m (Some input) in_vc t (Inject n v) = false
-rule_offers g m (Some input) in_vc t (Link r p v) = nat_eq r input.0 && nat_lt p (local_port g.grid) && leads g m input in_vc t p v
-rule_offers g m (Some input) in_vc t (Eject n v) = nat_eq n input.0 && leads g m input in_vc t (local_port g.grid) v
+rule_offers g m (Some input) in_vc t (Link r p v) =
+    nat_eq r input.0 && nat_lt p (local_port g.grid) && leads g m input in_vc t p v
+rule_offers g m (Some input) in_vc t (Eject n v) =
+    nat_eq n input.0 && leads g m input in_vc t (local_port g.grid) v
 
 -- the rule has the class m, the channel c on which a packet is, its destination
 -- t, and the next channel o
@@ -203,8 +224,10 @@ rule_has g m c t o = rule_offers g m (arrival_of g.grid c) (channel_vc c) t o
 -- the least set of entries with every injection channel, and with each link channel to which the
 -- rule leads from one of them
 pub data IsReached (g : RelationParts) : ℕ → Channel → ℕ → Type 0 where
-  injected : {m n v t : ℕ} → m < g.classes → n < nodes g.grid → v < g.vcs → t < nodes g.grid → t ≢ n → IsReached g m (Inject n v) t
-  led_on : {m t : ℕ} {c : Channel} {r p v : ℕ} → IsReached g m c t → IsTrue (rule_has g m c t (Link r p v)) → IsReached g m (Link r p v) t
+  injected : {m n v t : ℕ} → m < g.classes → n < nodes g.grid → v < g.vcs → t < nodes g.grid → t ≢ n
+      → IsReached g m (Inject n v) t
+  led_on : {m t : ℕ} {c : Channel} {r p v : ℕ} → IsReached g m c t
+      → IsTrue (rule_has g m c t (Link r p v)) → IsReached g m (Link r p v) t
 
 -- the relation: the rule on the entries that packets reach
 abbrev pub IsPermitted : RelationParts → ℕ → Channel → ℕ → Channel → Type 0
@@ -225,7 +248,8 @@ pub record IsFirstNoWay (g : RelationParts) (e : Entry) : Type 0 where
   pub right : is_right g.grid g.vcs g.classes g.rule ≡ true
   pub rows : All (λ row. row_fault g.grid g.vcs g.classes row ≡ None) (table_rows_of g.rule)
   pub here : IsNoWay g e
-  pub first : (other : Entry) → IsNoWay g other → numbers_before (entry_numbers other) (entry_numbers e) ≡ false
+  pub first : (other : Entry) → IsNoWay g other
+      → numbers_before (entry_numbers other) (entry_numbers e) ≡ false
 
 -- the fault of the first bad row, of a rule with right numbers
 pub record IsFirstRow (g : RelationParts) (fault : RouteFault) : Type 0 where

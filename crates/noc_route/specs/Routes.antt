@@ -41,7 +41,9 @@ entry_index g vcs classes m r p v t = page_of g classes m r t * width g vcs + (p
 
 -- whether the class, router, input port, channel and destination exist
 abbrev pub is_entry : Grid → ℕ → ℕ → ℕ → ℕ → ℕ → ℕ → ℕ → Bool
-is_entry g vcs classes m r p v t = nat_lt m classes && nat_lt r (nodes g) && nat_lt p (ports g) && nat_lt v vcs && nat_lt t (nodes g)
+is_entry g vcs classes m r p v t =
+    nat_lt m classes && nat_lt r (nodes g) && nat_lt p (ports g) && nat_lt v vcs
+    && nat_lt t (nodes g)
 
 -- the set of an entry, none where it does not exist
 abbrev pub set_at : Routes → ℕ → ℕ → ℕ → ℕ → ℕ → ℕ
@@ -65,9 +67,11 @@ abbrev pub permits_at : Routes → ℕ → Option (ℕ × ℕ) → ℕ → ℕ �
 permits_at routes m None in_vc t o = false
 permits_at routes m (Some input) in_vc t (Inject n v) = false
 permits_at routes m (Some input) in_vc t (Link r p v) =
-    nat_eq r input.0 && nat_lt p (local_port routes.grid) && nat_lt v routes.vcs && has_bit (set_at routes m input.0 input.1 in_vc t) (p * routes.vcs + v)
+    nat_eq r input.0 && nat_lt p (local_port routes.grid) && nat_lt v routes.vcs
+    && has_bit (set_at routes m input.0 input.1 in_vc t) (p * routes.vcs + v)
 permits_at routes m (Some input) in_vc t (Eject n v) =
-    nat_eq n input.0 && nat_lt v routes.vcs && has_bit (set_at routes m input.0 input.1 in_vc t) (local_port routes.grid * routes.vcs + v)
+    nat_eq n input.0 && nat_lt v routes.vcs
+    && has_bit (set_at routes m input.0 input.1 in_vc t) (local_port routes.grid * routes.vcs + v)
 
 -- whether a channel on which a packet can be is sent by a router that exists
 abbrev pub is_sent : Routes → Channel → Bool
@@ -78,7 +82,8 @@ is_sent routes (Eject n v) = false
 -- whether the table permits a packet of class m, that is on channel c and bound for
 -- t, to take channel o next
 abbrev pub permits : Routes → ℕ → Channel → ℕ → Channel → Bool
-permits routes m c t o = is_sent routes c && permits_at routes m (arrival_of routes.grid c) (channel_vc c) t o
+permits routes m c t o =
+    is_sent routes c && permits_at routes m (arrival_of routes.grid c) (channel_vc c) t o
 
 -- ---- what is known of a relation that was built
 
@@ -101,16 +106,22 @@ pub record HasLead (routes : Routes) (m r p v t : ℕ) : Type 0 where
 pub record IsRelation (routes : Routes) : Type 0 where
   pub table : HasTableSize routes
   -- what is permitted is an output channel of the router
-  pub real : (m r p v t k : ℕ) → has_bit (set_at routes m r p v t) k ≡ true → k < width routes.grid routes.vcs
+  pub real : (m r p v t k : ℕ) → has_bit (set_at routes m r p v t) k ≡ true
+      → k < width routes.grid routes.vcs
   -- over a link it comes nearer by one
-  pub nearer : (m r p v t k : ℕ) → has_bit (set_at routes m r p v t) k ≡ true → k / routes.vcs < local_port routes.grid → HasHop routes r t (k / routes.vcs)
+  pub nearer : (m r p v t k : ℕ) → has_bit (set_at routes m r p v t) k ≡ true
+      → k / routes.vcs < local_port routes.grid → HasHop routes r t (k / routes.vcs)
   -- by the local port at the destination alone
-  pub home : (m r p v t k : ℕ) → has_bit (set_at routes m r p v t) k ≡ true → k / routes.vcs ≡ local_port routes.grid → r ≡ t
+  pub home : (m r p v t k : ℕ) → has_bit (set_at routes m r p v t) k ≡ true
+      → k / routes.vcs ≡ local_port routes.grid → r ≡ t
   -- each injection entry away from the destination permits something
-  pub injected : (m r v t : ℕ) → m < routes.classes → r < nodes routes.grid → v < routes.vcs → t < nodes routes.grid → t ≢ r
+  pub injected : (m r v t : ℕ) → m < routes.classes → r < nodes routes.grid → v < routes.vcs
+      → t < nodes routes.grid → t ≢ r
       → (k : ℕ) × (has_bit (set_at routes m r (local_port routes.grid) v t) k ≡ true)
   -- so does each entry to which a permitted link leads
-  pub led_on : (m r p v t k b q : ℕ) → has_bit (set_at routes m r p v t) k ≡ true → neighbour routes.grid r (k / routes.vcs) ≡ Some (b, q)
+  pub led_on : (m r p v t k b q : ℕ) → has_bit (set_at routes m r p v t) k ≡ true
+      → neighbour routes.grid r (k / routes.vcs) ≡ Some (b, q)
       → (j : ℕ) × (has_bit (set_at routes m b q (k % routes.vcs) t) j ≡ true)
   -- and no other entry
-  pub reached : (m r p v t k : ℕ) → has_bit (set_at routes m r p v t) k ≡ true → ((p ≡ local_port routes.grid) × (r ≢ t)) ⊎ HasLead routes m r p v t
+  pub reached : (m r p v t k : ℕ) → has_bit (set_at routes m r p v t) k ≡ true
+      → ((p ≡ local_port routes.grid) × (r ≢ t)) ⊎ HasLead routes m r p v t

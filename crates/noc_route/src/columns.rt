@@ -11,7 +11,7 @@ use crate::entered::Entered;
 use crate::gather::Departures;
 use crate::rule::Entry;
 use crate::sizes::Sizes;
-use crate::trim::trim_pair;
+use crate::trim::{stuck_pair, trim_pair};
 use noc_packet::ChannelSet;
 use std::alloc::{AllocError, Global};
 
@@ -45,12 +45,15 @@ impl Columns {
         let sizes = leaving.map.sizes;
         let count = sizes.node_count * sizes.width();
         let mut block = vec![in alloc; ChannelSet::empty(); count]?;
+        let mut coming = vec![in alloc; ChannelSet::empty(); sizes.node_count]?;
         let mut starts = vec![in alloc; 0u32; sizes.columns()]?;
         let mut sets = Vec::new(alloc);
         let mut end = 0;
         let mut first = None;
         for pair in 0..sizes.node_count * sizes.classes {
-            first = trim_pair(leaving, entered, &mut block, pair, first);
+            leaving.arrive(pair, &mut coming);
+            first = stuck_pair(leaving, entered, &coming, pair, first);
+            trim_pair(&sizes, entered, &coming, &mut block, pair);
             sets.resize(end + count, ChannelSet::empty())?;
             end = keep_pair(&sizes, &block, &mut sets, &mut starts, pair, end);
         }
@@ -96,7 +99,8 @@ fn keep_pair(
     pair: usize,
     first: usize,
 ) -> usize
-    requires block { length block.now ≡ nodes sizes.now.shape * width sizes.now.shape sizes.now.vcs }
+    requires block { length block.now
+        ≡ nodes sizes.now.shape * width sizes.now.shape sizes.now.vcs }
     requires sets { let f = sizes.now in length sets.old ≤ pages f.shape f.classes * width f.shape
         f.vcs }
     requires starts { length starts.old ≡ nodes sizes.now.shape * sizes.now.classes * width
@@ -125,7 +129,8 @@ fn place(
     first: usize,
     end: usize,
 ) -> usize
-    requires block { length block.now ≡ nodes sizes.now.shape * width sizes.now.shape sizes.now.vcs }
+    requires block { length block.now
+        ≡ nodes sizes.now.shape * width sizes.now.shape sizes.now.vcs }
     requires input { input < width sizes.now.shape sizes.now.vcs }
     requires order { first ≤ end }
     requires room { end + nodes sizes.now.shape ≤ length sets.old }
@@ -145,7 +150,8 @@ fn place(
 
 // Where the column of an input stands among others, of which the last is looked at first.
 fn find(sizes: &Sizes, block: &[ChannelSet], input: usize, kept: &[ChannelSet]) -> Option<usize>
-    requires block { length block.now ≡ nodes sizes.now.shape * width sizes.now.shape sizes.now.vcs }
+    requires block { length block.now
+        ≡ nodes sizes.now.shape * width sizes.now.shape sizes.now.vcs }
     requires input { input < width sizes.now.shape sizes.now.vcs }
     ensures within { IfSome result (λ start. start + nodes sizes.now.shape ≤ length kept.now) }
     ensures same { IfSome result (IsColumnAt sizes.now block.now input kept.now) }
@@ -167,14 +173,15 @@ fn is_at(
     kept: &[ChannelSet],
     start: usize,
 ) -> bool
-    requires block { length block.now ≡ nodes sizes.now.shape * width sizes.now.shape sizes.now.vcs }
+    requires block { length block.now
+        ≡ nodes sizes.now.shape * width sizes.now.shape sizes.now.vcs }
     requires input { input < width sizes.now.shape sizes.now.vcs }
     requires start { start + nodes sizes.now.shape ≤ length kept.now }
     ensures { IsTrue result → IsColumnAt sizes.now block.now input kept.now start }
 {
-    let width = sizes.width();
-    for dst in 0..sizes.node_count {
-        if kept[start + dst] != block[dst * width + input] {
+    let nodes = sizes.node_count;
+    for dst in 0..nodes {
+        if kept[start + dst] != block[input * nodes + dst] {
             return false;
         }
     }
@@ -183,15 +190,16 @@ fn is_at(
 
 // Writes the column of an input.
 fn write(sizes: &Sizes, block: &[ChannelSet], input: usize, sets: &mut [ChannelSet], start: usize)
-    requires block { length block.now ≡ nodes sizes.now.shape * width sizes.now.shape sizes.now.vcs }
+    requires block { length block.now
+        ≡ nodes sizes.now.shape * width sizes.now.shape sizes.now.vcs }
     requires input { input < width sizes.now.shape sizes.now.vcs }
     requires start { start + nodes sizes.now.shape ≤ length sets.old }
     ensures written { IsColumnAt sizes.now block.now input sets.new start }
     ensures others { (j : ℕ) → (j < start) ⊎ (start + nodes sizes.now.shape ≤ j)
         → slice_index sets.new j ≡ slice_index sets.old j }
 {
-    let width = sizes.width();
-    for dst in 0..sizes.node_count {
-        sets[start + dst] = block[dst * width + input];
+    let nodes = sizes.node_count;
+    for dst in 0..nodes {
+        sets[start + dst] = block[input * nodes + dst];
     }
 }

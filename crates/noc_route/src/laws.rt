@@ -31,5 +31,6 @@ pub fn a_relation_is_ranked_as_its_rule()
 pub fn ranks_of_all_channels_need_only_rise()
     ensures { (routes : Routes) (ranks : ℕ → ℕ → ℕ → Option ℕ) → IsRelation routes
         → AreAllRanked routes.grid routes.vcs ranks
-        → IsRanked (λ m c t o. IsTrue (permits routes m c t o)) routes.grid ranks ↔ IsRising routes ranks }
+        → IsRanked (λ m c t o. IsTrue (permits routes m c t o)) routes.grid ranks
+        ↔ IsRising routes ranks }
 {}

@@ -4,6 +4,7 @@
 mod columns;
 mod enter;
 mod entered;
+mod fault;
 mod gather;
 mod laws;
 mod map;

@@ -1,7 +1,7 @@
 //! The links and distances of a network, looked up once.
 
-ghost use Rattle.std.specs.Prelude.{◌≡◌, ℕ, Option, Some, None, ◌+◌, ◌-◌, ◌*◌, ◌/◌, ◌%◌, ◌<◌, ◌≤◌, IfOk, IfSome, EachIndex, slice_index, slice_index_or, vec_len};
-ghost use Rattle.noc_topo.specs.declared.limits.TheConstants.{MAX_RADIX};
+ghost use Rattle.std.specs.Prelude.{◌≡◌, ℕ, Option, Some, None, ◌+◌, ◌-◌, ◌*◌, ◌/◌, ◌%◌, ◌<◌, ◌≤◌, IfOk, IfSome, EachIndex, length, slice_index, slice_index_or, vec_len};
+ghost use Rattle.noc_topo.specs.declared.limits.TheConstants.{MAX_DISTANCE, MAX_RADIX};
 ghost use Rattle.noc_topo.specs.Shape.{Grid, nodes, ports, local_port, neighbour, distance, coordinates, three_coordinates};
 ghost use Rattle.noc_route.specs.Relation.{goes_up};
 
@@ -61,16 +61,29 @@ impl Map {
         requires to { to < nodes self.now.sizes.shape }
         ensures { result ≡ distance self.now.sizes.shape from to }
     {
-        self.distance_of(from * self.sizes.node_count + to)
+        self.apart[from * self.sizes.node_count + to]
     }
 
-    // The same of a pair of routers, by its number among all pairs.
-    pub(crate) fn distance_of(&self, pair: usize) -> usize
-        requires { pair < nodes self.now.sizes.shape * nodes self.now.sizes.shape }
-        ensures { let n = nodes self.now.sizes.shape in
-            result ≡ distance self.now.sizes.shape (pair / n) (pair % n) }
+    // The same of all pairs of routers, by the numbers of the pairs.
+    pub(crate) fn distances(&self) -> &[usize]
+        ensures len { length result.now ≡ nodes self.now.sizes.shape * nodes self.now.sizes.shape }
+        ensures items { let n = nodes self.now.sizes.shape in (pair : ℕ) → pair < n * n
+            → slice_index result.now pair ≡ distance self.now.sizes.shape (pair / n) (pair % n) }
     {
-        self.apart[pair]
+        self.apart.as_slice()
+    }
+
+    // How many hops lie between the routers that are farthest from one another.
+    pub(crate) fn farthest(&self) -> usize
+        ensures bound { (r t : ℕ) → r < nodes self.now.sizes.shape → t < nodes self.now.sizes.shape
+            → distance self.now.sizes.shape r t ≤ result }
+        ensures few { result ≤ MAX_DISTANCE }
+    {
+        let mut farthest = 0usize;
+        for apart in &self.apart {
+            farthest = farthest.max(*apart);
+        }
+        farthest
     }
 
     // Whether the way up is the shorter one from x to t in dimension i, or as long as the way down.

@@ -1,7 +1,7 @@
 //! The rules by coordinates: dimension order, dateline, west first and adaptive (Dally and Towles,
 //! chapters 8 to 10 and 14).
 
-ghost use Rattle.std.specs.Prelude.{◌≡◌, ℕ, ◌/◌, ◌%◌, ◌<◌, ◌≤◌, ◌&&◌, slice_index, slice_index_or, EachIndex, nat_eq, nat_lt, false};
+ghost use Rattle.std.specs.Prelude.{◌≡◌, ℕ, ◌/◌, ◌%◌, ◌<◌, ◌≤◌, ◌&&◌, IfSome, Some, slice_index, EachIndex, nat_eq, nat_lt};
 ghost use Rattle.noc_packet.specs.Set.{has_bit};
 ghost use Rattle.noc_topo.specs.Shape.{Grid, nodes, ports, local_port, coordinates, three_coordinates};
 ghost use Rattle.noc_route.specs.Entered.{parts_of, IsWay};
@@ -30,9 +30,12 @@ pub(crate) fn named_set(routing: &Routing, class: usize, router: usize, dst: usi
         return ejection(sizes, class);
     }
     let way = Way::of(routing.map, router, dst);
+    if let Some(port) = way.only_port(routing.rule) {
+        return way.channels(routing, class, port);
+    }
     let mut set = ChannelSet::empty();
     for port in 0..sizes.port_count {
-        if port < LINKS && way.takes_port(routing.rule, port) {
+        if port < LINKS && way.takes_port(routing, port) {
             set = set.either(way.channels(routing, class, port));
         }
     }
@@ -51,21 +54,24 @@ fn ejection(sizes: &Sizes, class: usize) -> ChannelSet
     ChannelSet::span((sizes.port_count - 1) * sizes.vcs + first, count)
 }
 
-// The coordinates of a router and a destination, the port of dimension order between them, and
-// the ports that come nearer.
+// The coordinates of a router and a destination, and the port of dimension order between them.
 #[derive(Clone, Copy)]
 struct Way {
     here: [usize; 3],
     there: [usize; 3],
     towards: Option<usize>,
-    nearer: [bool; LINKS],
 }
 
 impl Way {
     fn of(map: &Map, router: usize, dst: usize) -> Way
         requires router { router < nodes map.now.sizes.shape }
         requires dst { dst < nodes map.now.sizes.shape }
-        ensures { IsWay map.now.sizes.shape result router dst }
+        ensures way { IsWay map.now.sizes.shape result router dst }
+        ensures link { IfSome result.towards (λ port. port < local_port map.now.sizes.shape) }
+        ensures here { let xs = result.here in
+            EachIndex xs (λ i. slice_index xs i ≤ slice_index map.now.last i) }
+        ensures there { let ts = result.there in
+            EachIndex ts (λ i. slice_index ts i ≤ slice_index map.now.last i) }
     {
         let here = map.sizes.shape.coordinates(router);
         let there = map.sizes.shape.coordinates(dst);
@@ -73,7 +79,19 @@ impl Way {
             here,
             there,
             towards: dor_port(map, &here, &there),
-            nearer: nearer_ports(map, &here, &there),
+        }
+    }
+
+    // The port that a rule takes, where it takes no other.
+    fn only_port(&self, rule: &Rule) -> Option<usize>
+        ensures towards { IfSome result (λ port. self.now.towards ≡ Some port) }
+        ensures only { IfSome result (λ port. (g : Grid) (r t p : ℕ) → IsWay g self.now r t
+            → takes_port g rule.now (coordinates g.radix r) (coordinates g.radix t) p
+            ≡ nat_eq port p) }
+    {
+        match rule {
+            Rule::Dor | Rule::Dateline => self.towards,
+            Rule::WestFirst | Rule::Adaptive | Rule::Rows(_) => None,
         }
     }
 
@@ -98,16 +116,45 @@ impl Way {
     }
 
     // Whether a rule leads along this port, away from the destination.
-    fn takes_port(&self, rule: &Rule, port: usize) -> bool
-        requires { port < LINKS }
-        ensures { (g : Grid) (r t : ℕ) → IsWay g self.now r t
-            → result ≡ takes_port g rule.now (coordinates g.radix r) (coordinates g.radix t) port }
+    fn takes_port(&self, routing: &Routing, port: usize) -> bool
+        requires port { port < LINKS }
+        requires here { let xs = self.now.here in
+            EachIndex xs (λ i. slice_index xs i ≤ slice_index routing.now.map.now.last i) }
+        requires there { let ts = self.now.there in
+            EachIndex ts (λ i. slice_index ts i ≤ slice_index routing.now.map.now.last i) }
+        ensures { let g = routing.now.map.now.sizes.shape in (r t : ℕ) → IsWay g self.now r t
+            → result ≡ takes_port g routing.now.rule.now (coordinates g.radix r)
+            (coordinates g.radix t) port }
     {
-        match rule {
+        match routing.rule {
             Rule::Dor | Rule::Dateline => self.towards == Some(port),
-            Rule::WestFirst => { self.nearer[port] && (port == 1 || self.here[0] <= self.there[0]) }
-            Rule::Adaptive => self.nearer[port],
+            Rule::WestFirst => {
+                self.is_nearer(routing.map, port) && (port == 1 || self.here[0] <= self.there[0])
+            }
+            Rule::Adaptive => self.is_nearer(routing.map, port),
             Rule::Rows(_) => false,
+        }
+    }
+
+    // Whether a link port leads along the shorter way in its dimension, or up where both are
+    // equally long.
+    fn is_nearer(&self, map: &Map, port: usize) -> bool
+        requires port { port < LINKS }
+        requires here { let xs = self.now.here in
+            EachIndex xs (λ i. slice_index xs i ≤ slice_index map.now.last i) }
+        requires there { let ts = self.now.there in
+            EachIndex ts (λ i. slice_index ts i ≤ slice_index map.now.last i) }
+        ensures { let g = map.now.sizes.shape in (r t : ℕ) → IsWay g self.now r t
+            → result ≡ is_nearer g (coordinates g.radix r) (coordinates g.radix t) port }
+    {
+        let i = port / 2;
+        if self.here[i] == self.there[i] {
+            return false;
+        }
+        if map.goes_up(i, self.here[i], self.there[i]) {
+            port % 2 == 0
+        } else {
+            port % 2 != 0
         }
     }
 
@@ -162,49 +209,11 @@ impl Way {
     }
 }
 
-// Which of the link ports come nearer.
-fn nearer_ports(map: &Map, here: &[usize; 3], there: &[usize; 3]) -> [bool; LINKS]
-    requires here { EachIndex here.now (λ i. slice_index here.now i ≤ slice_index map.now.last i) }
-    requires there { EachIndex there.now (λ i. slice_index there.now i ≤ slice_index map.now.last i) }
-    ensures { let g = map.now.sizes.shape in (r t : ℕ)
-        → here.now ≡ three_coordinates (coordinates g.radix r)
-        → there.now ≡ three_coordinates (coordinates g.radix t) → (port : ℕ)
-        → slice_index_or result port false ≡ is_nearer g (coordinates g.radix r)
-        (coordinates g.radix t) port }
-{
-    let mut nearer = [false; LINKS];
-    for port in 0..LINKS {
-        nearer[port] = is_nearer(map, here, there, port);
-    }
-    nearer
-}
-
-// Whether a link port leads along the shorter way in its dimension, or up
-// where both are equally long.
-fn is_nearer(map: &Map, here: &[usize; 3], there: &[usize; 3], port: usize) -> bool
-    requires port { port < LINKS }
-    requires here { EachIndex here.now (λ i. slice_index here.now i ≤ slice_index map.now.last i) }
-    requires there { EachIndex there.now (λ i. slice_index there.now i ≤ slice_index map.now.last i) }
-    ensures { let g = map.now.sizes.shape in (r t : ℕ)
-        → here.now ≡ three_coordinates (coordinates g.radix r)
-        → there.now ≡ three_coordinates (coordinates g.radix t)
-        → result ≡ is_nearer g (coordinates g.radix r) (coordinates g.radix t) port }
-{
-    let i = port / 2;
-    if here[i] == there[i] {
-        return false;
-    }
-    if map.goes_up(i, here[i], there[i]) {
-        port % 2 == 0
-    } else {
-        port % 2 != 0
-    }
-}
-
 // The port of dimension order: in the lowest dimension in which router and destination differ.
 fn dor_port(map: &Map, here: &[usize; 3], there: &[usize; 3]) -> Option<usize>
     requires here { EachIndex here.now (λ i. slice_index here.now i ≤ slice_index map.now.last i) }
-    requires there { EachIndex there.now (λ i. slice_index there.now i ≤ slice_index map.now.last i) }
+    requires there { EachIndex there.now
+        (λ i. slice_index there.now i ≤ slice_index map.now.last i) }
     ensures { let g = map.now.sizes.shape in (r t : ℕ)
         → here.now ≡ three_coordinates (coordinates g.radix r)
         → there.now ≡ three_coordinates (coordinates g.radix t)

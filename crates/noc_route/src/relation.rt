@@ -41,10 +41,11 @@ impl Model for Relation {
 
 impl Relation {
     /// The relation of a rule: the rule at the entries that packets reach. Answers the first fault.
-    /// `WrongShape` comes first, and then `Memory`. Then comes the fault of the first bad row, in
-    /// the order of class, router, input port and channel, destination, output port and channel.
-    /// Last comes `NoWay`, with the first reached entry that permits nothing, in the order of
-    /// class, router, input port and channel, and destination.
+    /// `WrongShape` comes first. Then comes the fault of the first bad row, in the order of class,
+    /// router, input port and channel, destination, output port and channel. Last comes `NoWay`,
+    /// with the first reached entry that permits nothing, in the order of class, router, input port
+    /// and channel, and destination. `Memory` may come in place of either, and where no row is bad
+    /// also for the columns, which are made behind the rows.
     pub fn build(
         alloc: Global,
         shape: &Shape,

@@ -9,7 +9,8 @@ use crate::rule::{RouteFault, RouteRow};
 
 // The first fault of a row.
 pub(crate) fn row_fault(map: &Map, row: &RouteRow) -> Option<RouteFault>
-    ensures { result ≡ row_fault map.now.sizes.shape map.now.sizes.vcs map.now.sizes.classes row.now }
+    ensures { result
+        ≡ row_fault map.now.sizes.shape map.now.sizes.vcs map.now.sizes.classes row.now }
 {
     if !is_real(map, row) {
         return Some(RouteFault::NoLink(*row));

@@ -1,90 +1,185 @@
 //! Taking out the entries that no packet reaches.
 
-ghost use Rattle.std.specs.Prelude.{◌≡◌, ℕ, ◌⊎◌, ◌+◌, ◌*◌, ◌<◌, ◌≤◌, length, slice_index};
+ghost use Rattle.std.specs.Prelude.{◌≡◌, ℕ, ◌⊎◌, ◌+◌, ◌*◌, ◌<◌, ◌≤◌, ◌&&◌, length, nat_eq, slice_index, if◌then◌else◌};
+ghost use Rattle.noc_packet.specs.Set.{has_bit};
+ghost use Rattle.noc_packet.specs.declared.limits.TheConstants.{INDICES};
 ghost use Rattle.noc_topo.specs.Shape.{nodes};
 ghost use Rattle.noc_route.specs.Entered.{AreAll, sets_in};
 ghost use Rattle.noc_route.specs.Order.{earlier_entry};
-ghost use Rattle.noc_route.specs.Routes.{width, pages, page_dst};
-ghost use Rattle.noc_route.specs.Trimming.{routes_in, left_at, IsFirstLeft};
+ghost use Rattle.noc_route.specs.Routes.{width, pages};
+ghost use Rattle.noc_route.specs.Trimming.{routes_in, page_set, comes_at, reached_at, AreComing, IsFirstLeft};
 
 use crate::entered::Entered;
-use crate::gather::Departures;
+use crate::gather::{Departures, only_if};
 use crate::rule::Entry;
+use crate::sizes::Sizes;
 use noc_packet::ChannelSet;
 
-// Writes the sets of a router and a class, by destination and input channel, empty at the entries
-// that no packet reaches. Returns the first entry that is reached and has an empty set, among these
+// Writes the sets of a router and a class, by input channel and destination, empty at the entries
+// that no packet reaches. `coming` has the input channels to which packets come, by destination.
+pub(crate) fn trim_pair(
+    sizes: &Sizes,
+    entered: &Entered,
+    coming: &[ChannelSet],
+    block: &mut [ChannelSet],
+    pair: usize,
+)
+    requires all { AreAll sizes.now entered.now }
+    requires coming { length coming.now ≡ nodes sizes.now.shape }
+    requires block { let f = sizes.now in length block.old ≡ nodes f.shape * width f.shape f.vcs }
+    requires pair { pair < nodes sizes.now.shape * sizes.now.classes }
+    ensures { let f = sizes.now in (t i : ℕ) → t < nodes f.shape → i < width f.shape f.vcs
+        → slice_index block.new (i * nodes f.shape + t)
+        ≡ reached_at f (sets_in f entered.now) coming.now pair i t }
+{
+    for input in 0..sizes.width() {
+        trim_column(sizes, entered, coming, block, pair, input);
+    }
+}
+
+// Writes those of one input channel.
+fn trim_column(
+    sizes: &Sizes,
+    entered: &Entered,
+    coming: &[ChannelSet],
+    block: &mut [ChannelSet],
+    pair: usize,
+    input: usize,
+)
+    requires all { AreAll sizes.now entered.now }
+    requires coming { length coming.now ≡ nodes sizes.now.shape }
+    requires block { let f = sizes.now in length block.old ≡ nodes f.shape * width f.shape f.vcs }
+    requires pair { pair < nodes sizes.now.shape * sizes.now.classes }
+    requires input { input < width sizes.now.shape sizes.now.vcs }
+    ensures column { let f = sizes.now in (t : ℕ) → t < nodes f.shape
+        → slice_index block.new (input * nodes f.shape + t)
+        ≡ reached_at f (sets_in f entered.now) coming.now pair input t }
+    ensures others { let from = input * nodes sizes.now.shape in (j : ℕ)
+        → (j < from) ⊎ (from + nodes sizes.now.shape ≤ j)
+        → slice_index block.new j ≡ slice_index block.old j }
+{
+    let nodes = sizes.node_count;
+    match entered {
+        Entered::OfPages(sets) => {
+            take_row(sets, pair * nodes, coming, input, block, input * nodes);
+        }
+        Entered::OfEntries(_) => take_entries(sizes, entered, coming, block, pair, input),
+    }
+}
+
+// Writes the sets from `first` on where packets come to an input channel, and else none.
+fn take_row(
+    sets: &[ChannelSet],
+    first: usize,
+    coming: &[ChannelSet],
+    input: usize,
+    block: &mut [ChannelSet],
+    from: usize,
+)
+    requires sets { first + length coming.now ≤ length sets.now }
+    requires input { input < INDICES }
+    requires block { from + length coming.now ≤ length block.old }
+    ensures column { (t : ℕ) → t < length coming.now → slice_index block.new (from + t)
+        ≡ (if has_bit (slice_index coming.now t) input
+        then slice_index sets.now (first + t) else 0) }
+    ensures others { (j : ℕ) → (j < from) ⊎ (from + length coming.now ≤ j)
+        → slice_index block.new j ≡ slice_index block.old j }
+{
+    for dst in 0..coming.len() {
+        let set = sets[first + dst];
+        let is_reached = coming[dst].contains(input);
+        block[from + dst] = only_if(set, is_reached);
+    }
+}
+
+// Writes the sets of an input channel where packets come to it, and else none.
+fn take_entries(
+    sizes: &Sizes,
+    entered: &Entered,
+    coming: &[ChannelSet],
+    block: &mut [ChannelSet],
+    pair: usize,
+    input: usize,
+)
+    requires all { AreAll sizes.now entered.now }
+    requires coming { length coming.now ≡ nodes sizes.now.shape }
+    requires block { let f = sizes.now in length block.old ≡ nodes f.shape * width f.shape f.vcs }
+    requires pair { pair < nodes sizes.now.shape * sizes.now.classes }
+    requires input { input < width sizes.now.shape sizes.now.vcs }
+    ensures column { let f = sizes.now in (t : ℕ) → t < nodes f.shape
+        → slice_index block.new (input * nodes f.shape + t)
+        ≡ reached_at f (sets_in f entered.now) coming.now pair input t }
+    ensures others { let from = input * nodes sizes.now.shape in (j : ℕ)
+        → (j < from) ⊎ (from + nodes sizes.now.shape ≤ j)
+        → slice_index block.new j ≡ slice_index block.old j }
+{
+    let nodes = sizes.node_count;
+    for dst in 0..nodes {
+        let set = entered.set(sizes, pair * nodes + dst, input);
+        let is_reached = coming[dst].contains(input);
+        block[input * nodes + dst] = only_if(set, is_reached);
+    }
+}
+
+// The first entry that packets reach and whose set is empty, among those of a router and a class
 // and those before, of which `first` is the first; in the order of class, router, input port and
 // channel, and destination.
-pub(crate) fn trim_pair(
+pub(crate) fn stuck_pair(
     leaving: &Departures,
     entered: &Entered,
-    block: &mut [ChannelSet],
+    coming: &[ChannelSet],
     pair: usize,
     first: Option<Entry>,
 ) -> Option<Entry>
     requires all { AreAll leaving.now.map.now.sizes entered.now }
-    requires block { let f = leaving.now.map.now.sizes in
-        length block.old ≡ nodes f.shape * width f.shape f.vcs }
+    requires len { length coming.now ≡ nodes leaving.now.map.now.sizes.shape }
+    requires coming { AreComing leaving.now.map.now.sizes leaving.now.outs.now pair coming.now }
     requires pair { let f = leaving.now.map.now.sizes in pair < nodes f.shape * f.classes }
     requires first { let f = leaving.now.map.now.sizes in
         IsFirstLeft f (sets_in f entered.now) leaving.now.outs.now
         (pair * nodes f.shape * width f.shape f.vcs) first }
-    ensures left { let f = leaving.now.map.now.sizes in (t i : ℕ) → t < nodes f.shape
-        → i < width f.shape f.vcs → slice_index block.new (t * width f.shape f.vcs + i)
-        ≡ left_at (routes_in f (sets_in f entered.now)) leaving.now.outs.now
-        (pair * nodes f.shape + t) i }
-    ensures first { let f = leaving.now.map.now.sizes in
+    ensures { let f = leaving.now.map.now.sizes in
         IsFirstLeft f (sets_in f entered.now) leaving.now.outs.now
         ((pair + 1) * nodes f.shape * width f.shape f.vcs) result }
 {
     let nodes = leaving.map.sizes.node_count;
     let mut first = first;
     for dst in 0..nodes {
-        first = trim_page(leaving, entered, block, pair * nodes + dst, first);
+        first = stuck_page(leaving, entered, coming[dst], pair * nodes + dst, first);
     }
     first
 }
 
-// Writes the sets of one page; `first` is the first entry with no way among the pages before.
-fn trim_page(
+// The same of one page; `first` is the first one among the pages before.
+fn stuck_page(
     leaving: &Departures,
     entered: &Entered,
-    block: &mut [ChannelSet],
+    coming: ChannelSet,
     page: usize,
     first: Option<Entry>,
 ) -> Option<Entry>
     requires all { AreAll leaving.now.map.now.sizes entered.now }
-    requires block { let f = leaving.now.map.now.sizes in
-        length block.old ≡ nodes f.shape * width f.shape f.vcs }
     requires page { let f = leaving.now.map.now.sizes in page < pages f.shape f.classes }
+    requires coming { let f = leaving.now.map.now.sizes in (i : ℕ) → i < width f.shape f.vcs
+        → has_bit coming i ≡ comes_at (routes_in f (sets_in f entered.now))
+        leaving.now.outs.now page i }
     requires first { let f = leaving.now.map.now.sizes in
         IsFirstLeft f (sets_in f entered.now) leaving.now.outs.now
         (page * width f.shape f.vcs) first }
-    ensures left { let f = leaving.now.map.now.sizes in (i : ℕ) → i < width f.shape f.vcs
-        → slice_index block.new (page_dst f.shape page * width f.shape f.vcs + i)
-        ≡ left_at (routes_in f (sets_in f entered.now)) leaving.now.outs.now page i }
-    ensures others { let f = leaving.now.map.now.sizes in
-        let from = page_dst f.shape page * width f.shape f.vcs in (j : ℕ)
-        → (j < from) ⊎ (from + width f.shape f.vcs ≤ j)
-        → slice_index block.new j ≡ slice_index block.old j }
-    ensures first { let f = leaving.now.map.now.sizes in
+    ensures { let f = leaving.now.map.now.sizes in
         IsFirstLeft f (sets_in f entered.now) leaving.now.outs.now
         ((page + 1) * width f.shape f.vcs) result }
 {
     let sizes = &leaving.map.sizes;
+    if let Entered::OfPages(sets) = entered {
+        if !sets[page].is_empty() {
+            return first;
+        }
+    }
     let (class, router, dst) = sizes.page_parts(page);
-    let coming = leaving.arrivals(class, router, dst);
-    let from = dst * sizes.width();
     let mut first = first;
     for input in 0..sizes.width() {
-        if !coming.contains(input) {
-            block[from + input] = ChannelSet::empty();
-            continue;
-        }
-        let set = entered.set(sizes, page, input);
-        block[from + input] = set;
-        if set.is_empty() {
+        if is_stuck(sizes, entered, coming, page, input) {
             let entry = Entry {
                 class,
                 router,
@@ -96,6 +191,17 @@ fn trim_page(
         }
     }
     first
+}
+
+// Whether packets come to an input channel of a page and nothing is permitted.
+fn is_stuck(sizes: &Sizes, entered: &Entered, coming: ChannelSet, page: usize, input: usize) -> bool
+    requires all { AreAll sizes.now entered.now }
+    requires page { page < pages sizes.now.shape sizes.now.classes }
+    requires input { input < width sizes.now.shape sizes.now.vcs }
+    ensures { let f = sizes.now in result ≡ (has_bit coming input
+        && nat_eq (page_set (routes_in f (sets_in f entered.now)) page input) 0) }
+{
+    coming.contains(input) && entered.set(sizes, page, input).is_empty()
 }
 
 // The one of two entries that comes first.

@@ -1,33 +1,18 @@
 -- What the channels of a router ask for is what those of its view ask for.
-use Rattle.std.proofs.Common.{◌≡◌, ℕ, ◌*◌, ◌/◌, ◌<◌, true, Option, refl, ap, sym, ◌∙◌, subst, ltb-true}
-use Rattle.std.specs.Prelude.{not, ◌&&◌, find, nat_lt, if◌then◌else◌}
+use Rattle.std.proofs.Common.{◌≡◌, ℕ, ◌*◌, ◌/◌, ◌<◌, true, Option, Some, refl, ap, sym, ◌∙◌, subst, ltb-true}
+use Rattle.std.specs.Prelude.{◌&&◌, find, nat_lt}
 use Rattle.std.proofs.Math.Nat.{div-lt_iff_lt-mul}
-use Rattle.std.proofs.lemmas.Bool.{and_parts}
 use Rattle.noc_topo.specs.Lists.{below}
 use Rattle.noc_packet.specs.Set.{has_bit}
-use Rattle.noc_route.specs.Routes.{Routes}
-use Rattle.noc_vc.specs.Input.{is_empty, is_idle_phase}
 use Rattle.noc_vc.specs.Output.{is_free}
 use Rattle.noc_vc.specs.declared.input.InputState.{InputState}
 use Rattle.noc_vc.specs.declared.input.InputState.TheVariants.{Idle, Waiting, Active}
-use Rattle.noc_view.specs.declared.sets.ReadySets.{ReadySets}
 use Rattle.noc_router.specs.declared.router.Router.TheInside.{Inside}
 use Rattle.noc_router.specs.Inside.{IsRouter, view_of}
-use Rattle.noc_view.specs.ReadySets.{AreReadySets, AreReadySetsOf}
 use Rattle.noc_router.specs.Sound.{asked_in, nth_input, nth_output}
-use Rattle.noc_router.specs.Ready.{AreHeads}
 use Rattle.noc_view.specs.Verdict.{ask_of}
-use Rattle.noc_view.specs.View.{View, claim_in, first_flit, route_for, route_of, size_of, view_buffer, view_claim, view_input}
-
--- what the channels of a router can go on with is that of its view
-pub ready-view : (r : Inside) (v : View) (s : ReadySets) → view_of r ≡ v → IsRouter r → AreReadySets r.channels.size r.channels.bank.rings r.channels.inputs.items r.channels.outputs.items s → AreReadySetsOf v s
-ready-view r v s view is sets =
-    subst (λ w. AreReadySetsOf w s) view (subst (λ n. AreReadySets n r.channels.bank.rings r.channels.inputs.items r.channels.outputs.items s) (is.channels ∙ ap (λ p. p * r.vcs) is.ports) sets)
-
--- the route of a head that is not routed
-pub head-route : (relation : Routes) (v : View) (set i : ℕ) → AreHeads v set → i < size_of v.site → has_bit set i ≡ true → route_for relation v i (first_flit v i) ≡ route_of relation v i
-head-route relation v set i heads l here =
-    sym (ap (λ b. if b then route_for relation v i (first_flit v i) else 0) (and_parts (is_idle_phase (view_input v i).phase) (not (is_empty (view_buffer v i))) (sym (heads.each i l) ∙ here)).0)
+use Rattle.noc_view.specs.View.{View, claim_in, size_of, view_claim, view_input}
+use Rattle.noc_view.proofs.PlanLemmas.{ask_of-some, claim-waits}
 
 ask_in : (r : Inside) (phase : InputState) → IsRouter r → asked_in r.channels.size r.channels.outputs.items phase ≡ ask_of (claim_in (view_of r) phase)
 ask_in r Idle is = refl
@@ -44,3 +29,7 @@ pub port-below : (r : Inside) (o : ℕ) → IsRouter r → nat_lt o r.channels.s
 port-below r o is within =
     let l : o < r.channels.size = ltb-true o r.channels.size within in
     (div-lt_iff_lt-mul is.some_vc).1 (subst (λ n. o < n) is.channels l)
+
+-- the output channel that a channel asks for exists
+pub ask-below : (v : View) (i : ℕ) (asked : Option ℕ) (o : ℕ) → asked ≡ ask_of (view_claim v i) → asked ≡ Some o → o < size_of v.site
+ask-below v i asked o asks is = (claim-waits v (view_input v i).phase o (ask_of-some (view_claim v i) o (sym asks ∙ is))).2

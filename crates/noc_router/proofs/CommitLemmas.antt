@@ -24,6 +24,9 @@ settled-parts d v = arrival-is (tail_packet (flit_out v d.round (local_port v.si
 pub settled-site : (d : Decisions) (v : View) → (view_after_verdicts d v).site ≡ v.site
 settled-site d v = ap (λ (x : View). x.site) (settled-parts d v)
 
+pub settled-arbiters : (d : Decisions) (v : View) → (view_after_verdicts d v).arbiters ≡ v.arbiters
+settled-arbiters d v = ap (λ (x : View). x.arbiters) (settled-parts d v)
+
 -- the pointers are these, and the cycle ends
 abbrev pub closed_with : ArbiterStates → View → View
 closed_with arbiters v = record v { arbiters = arbiters; last_event = (if v.had_event then Some v.given else v.last_event); had_event = false }

@@ -3,14 +3,13 @@
 use Rattle.std.proofs.Common.{◌≡◌, ◌≢◌, ℕ, suc, ◌+◌, ◌*◌, ◌/◌, ◌%◌, ◌<◌, Bool, true, false, List, [], ◌∷◌, length, drop, get_or, Option, Some, None, refl, ap, sym, ◌∙◌, arith, inl, inr, subst}
 use Rattle.std.specs.Prelude.{IfSome, ◌⊎◌, ◌&&◌, ◌||◌, not, nat_eq, nat_lt, if◌then◌else◌, slice_get, slice_index}
 use Rattle.std.specs.List.{list_any}
-use Rattle.std.proofs.lemmas.Bool.{false≢true, or_cases, or_right}
+use Rattle.std.proofs.lemmas.Bool.{false≢true, le-ltb, lt-ltb, or_cases, or_right}
 use Rattle.std.proofs.lemmas.Nat.{mul-add-lt}
 use Rattle.std.proofs.lemmas.List.{get_or-replicate, length-replicate}
 use Rattle.std.proofs.lemmas.List.Folds.{list_any_at}
 use Rattle.noc_topo.proofs.ListLemmas.{length-tabulate, map_indexed-from_each, tabulate-from_each}
 use Rattle.noc_topo.specs.Lists.{below, tabulate, map_indexed}
 use Rattle.noc_topo.specs.Shape.{ports, local_port}
-use Rattle.noc_packet.specs.Set.{has_bit}
 use Rattle.noc_packet.specs.declared.packet.Flit.{Flit}
 use Rattle.noc_packet.specs.declared.packet.Beat.{Beat}
 use Rattle.noc_route.proofs.BoolLemmas.{same_test}
@@ -25,36 +24,26 @@ use Rattle.noc_view.specs.declared.verdict.Verdict.{Verdict}
 use Rattle.noc_view.specs.declared.verdict.Verdict.TheVariants.{Empty, Routed, Granted, Moved, NoFlit, NoIdleChannel, LostChannel, NoCredit, LostInput, LostSwitch}
 use Rattle.noc_view.specs.declared.finding.Finding.{Finding}
 use Rattle.noc_view.proofs.FindLemmas.{find-none, find-same}
-use Rattle.noc_view.proofs.PlanLemmas.{verdict-at, Lists, verdict_in, holds_flit, decided-is, granted-asks, is-granted, mover-is, Moves, moves-is, claim-waits, claim-unrouted, verdict-granted, verdict-routed}
-use Rattle.noc_router.proofs.SettleLemmas.{IsSettling, IsWhole, arrived_by, buffer-here, credit_by, flit_by, input-here, left, left-here, left_verdict, not_both, step-granted, step-plain, step-routed}
+use Rattle.noc_view.proofs.PlanLemmas.{verdict-at, Lists, verdict_in, holds_flit, decided-is, granted-asks, mover-is, Moves, moves-is, claim-waits, claim-unrouted, verdict-granted, verdict-routed}
+use Rattle.noc_router.proofs.SettleLemmas.{IsSettling, IsWhole, arrived_by, buffer-here, credit_by, flit_by, from_next, input-here, left, left-here, left_verdict, next-below, not_both, step-granted, step-plain, step-routed}
 use Rattle.noc_view.proofs.SinkLemmas.{arrival-is, sink_ends, sink_misfits}
-use Rattle.noc_view.proofs.MoverLemmas.{mover_to-from, mover_to-is, port_below, flit-first, quiet-moved}
+use Rattle.noc_view.proofs.MoverLemmas.{mover_to-from, mover_to-is, port_below, flit-first}
 use Rattle.noc_router.proofs.MoveLemmas.{moved-parts, site-kept, step-moved}
-use Rattle.noc_view.proofs.StillLemmas.{quiet-input}
 
-module _ (d : Decisions) (v : View) (rest : ℕ) (whole : IsWhole v) (lists : Lists d v)
-    (events : (i : ℕ) → i < size_of v.site → has_bit rest i ≡ is_event (verdict_in d v i)) where
-  all_left : (i : ℕ) → i < size_of v.site → is_event (left_verdict d rest i) ≡ false
-  all_left i l = at (has_bit rest i) refl
-    where
-      at : (b : Bool) → has_bit rest i ≡ b → is_event (left_verdict d rest i) ≡ false
-      at true e = ap (λ b. is_event (if b then Empty else decided_verdict d i)) e
-      at false e = ap (λ b. is_event (if b then Empty else decided_verdict d i)) e ∙ ap is_event (decided-is d v i lists l) ∙ sym (events i l) ∙ e
+module _ (d : Decisions) (v : View) (rest : ℕ → Bool) (whole : IsWhole v) (lists : Lists d v) (all : (i : ℕ) → i < size_of v.site → rest i ≡ true) where
+  all_left : (i : ℕ) → i < size_of v.site → left_verdict d rest i ≡ Empty
+  all_left i l = ap (λ b. if b then Empty else decided_verdict d i) (all i l)
 
-  is_left : (i : ℕ) → i < size_of v.site → (x : Verdict) → verdict_in d v i ≡ x → is_event x ≡ true → left rest (Some i) ≡ None
-  is_left i l x e t = ap (λ b. if b then None else Some i) (events i l ∙ ap is_event e ∙ t)
+  is_left : (i : ℕ) → i < size_of v.site → left rest (Some i) ≡ None
+  is_left i l = ap (λ b. if b then None else Some i) (all i l)
 
   grant_left : (o : ℕ) → o < size_of v.site → (m : Option ℕ) → get_or d.round.grants o None ≡ m → left rest m ≡ None
   grant_left o l None e = refl
-  grant_left o l (Some i) e =
-      let a = granted-asks d v o i lists l e in
-      is_left i a.0 Granted (is-granted d v o i a.1 e) refl
+  grant_left o l (Some i) e = is_left i (granted-asks d v o i lists l e).0
 
   pub mover_left : (p : ℕ) → p < ports v.site.grid → (m : Option ℕ) → mover v.site d.round p ≡ m → left rest m ≡ None
   mover_left p l None e = refl
-  mover_left p l (Some i) e =
-      let mv = mover-is d v p i lists l e in
-      is_left i mv.within Moved mv.verdict refl
+  mover_left p l (Some i) e = is_left i (mover-is d v p i lists l e).within
 
   mover_to_left : (o : ℕ) → o < size_of v.site → (m : Option ℕ) → mover_to v d.round o ≡ m → left rest m ≡ None
   mover_to_left o l None e = refl
@@ -64,7 +53,7 @@ module _ (d : Decisions) (v : View) (rest : ℕ) (whole : IsWhole v) (lists : Li
   no_credit p l =
       find-none (λ k. is_moved (left_verdict d rest (p * v.site.vcs + k))) v.site.vcs
       (λ k u. let m : p * v.site.vcs + k < v.site.vcs * ports v.site.grid = mul-add-lt p v.site.vcs k (ports v.site.grid) l u in
-      quiet-moved (left_verdict d rest (p * v.site.vcs + k)) (all_left (p * v.site.vcs + k) (omega arith)))
+      ap is_moved (all_left (p * v.site.vcs + k) (omega arith)))
 
   beat_parts : Option (ℕ × Flit) → Option ℕ → Beat
   beat_parts x y = record { flit = x; credit = y }
@@ -72,7 +61,7 @@ module _ (d : Decisions) (v : View) (rest : ℕ) (whole : IsWhole v) (lists : Li
   first-arrived : None ≡ arrived_by d v rest
   first-arrived = sym (ap (λ x. tail_packet (flit_by v x)) (mover_left (local_port v.site.grid) (omega arith) (mover v.site d.round (local_port v.site.grid)) refl))
 
-  settling-first : ((k : ℕ) → has_bit rest k ≡ true → k < size_of v.site) → v.to_put ≡ idle_beats v.site → IsSettling d v rest v
+  settling-first : ((k : ℕ) → rest k ≡ true → k < size_of v.site) → v.to_put ≡ idle_beats v.site → IsSettling d v rest v
   unfolding beat_parts
   settling-first below idle = record {
     others = refl;
@@ -81,8 +70,8 @@ module _ (d : Decisions) (v : View) (rest : ℕ) (whole : IsWhole v) (lists : Li
     n_inputs = whole.inputs;
     n_outputs = whole.outputs;
     n_beats = ap length idle ∙ length-replicate (local_port v.site.grid) idle_beat;
-    buffers = λ i l. sym (ap (λ b. if b then drop 1 (view_buffer v i) else view_buffer v i) (quiet-moved (left_verdict d rest i) (all_left i l)));
-    inputs = λ i l. sym (quiet-input d v i (view_input v i) (left_verdict d rest i) (all_left i l));
+    buffers = λ i l. sym (ap (λ b. if b then drop 1 (view_buffer v i) else view_buffer v i) (ap is_moved (all_left i l)));
+    inputs = λ i l. sym (ap (input_after d v i (view_input v i)) (all_left i l));
     outputs = λ o l. sym (ap (λ x. spent_by v (held_by v (view_output v o) x) (left rest (mover_to v d.round o))) (grant_left o l (get_or d.round.grants o None) refl)
         ∙ ap (λ x. spent_by v (view_output v o) x) (mover_to_left o l (mover_to v d.round o) refl));
     beats = λ p l. ap (λ xs. get_or xs p idle_beat) idle ∙ get_or-replicate (local_port v.site.grid) p idle_beat idle_beat l
@@ -90,7 +79,7 @@ module _ (d : Decisions) (v : View) (rest : ℕ) (whole : IsWhole v) (lists : Li
     ends = ap (λ a. sink_ends a v.given v.ends) first-arrived;
     misfits = ap (λ a. sink_misfits a v.ends v.misfits) first-arrived;
     event_kept = λ t. t;
-    event_of = λ i l e t. absurd (false≢true (sym e ∙ events i l ∙ sym (ap is_event (decided-is d v i lists l)) ∙ t));
+    event_of = λ i l e t. absurd (false≢true (sym e ∙ all i l));
     event_from = λ t. inl t;
   }
 
@@ -105,7 +94,7 @@ any_at (f ∷ fs) e = at (or_cases (is_event f.verdict) (list_any (λ (g : Findi
     at (inl t) more = (0, omega arith, t)
     at (inr t) more = let r = more t in (suc r.0, omega (arith, r.1), r.2)
 
-module _ (d : Decisions) (v w : View) (rest : ℕ) (whole : IsWhole v) (lists : Lists d v) (so_far : IsSettling d v rest w) (none : (k : ℕ) → has_bit rest k ≡ false) where
+module _ (d : Decisions) (v w : View) (rest : ℕ → Bool) (whole : IsWhole v) (lists : Lists d v) (so_far : IsSettling d v rest w) (none : (k : ℕ) → rest k ≡ false) where
   pub verdict-all : (k : ℕ) → left_verdict d rest k ≡ decided_verdict d k
   verdict-all k = ap (λ b. if b then Empty else decided_verdict d k) (none k)
 
@@ -195,8 +184,8 @@ full_length [] e = absurd (false≢true e)
 full_length (f ∷ rest) e = omega arith
 
 -- the verdict of channel `index` by an outcome whose lists are those of the decisions d
-module _ (p : PlanContents) (d : Decisions) (v w : View) (rest rest' index : ℕ) (routes : p.routes ≡ d.routes) (whole : IsWhole v) (lists : Lists d v)
-    (members : (k : ℕ) → has_bit rest' k ≡ (not (nat_eq k index) && has_bit rest k)) (member : has_bit rest index ≡ true) (so_far : IsSettling d v rest w)
+module _ (p : PlanContents) (d : Decisions) (v w : View) (rest rest' : ℕ → Bool) (index : ℕ) (routes : p.routes ≡ d.routes) (whole : IsWhole v) (lists : Lists d v)
+    (members : (k : ℕ) → rest' k ≡ (not (nat_eq k index) && rest k)) (member : rest index ≡ true) (so_far : IsSettling d v rest w)
     (asked : get_or p.asks index None ≡ ask_of (view_claim v index)) where
   in_size : index < size_of v.site
   in_size = so_far.below index member
@@ -311,22 +300,26 @@ module _ (p : PlanContents) (d : Decisions) (v w : View) (rest rest' index : ℕ
   settle-step LostSwitch e = step-quiet LostSwitch e (λ h. cc h) (λ h. cc h) refl refl refl
 
 -- ---- the whole
-pub can_settle : (p : PlanContents) (v w : View) (rest rest' index : ℕ) → IsWhole v → Lists (decisions_by p v) v → ((k : ℕ) → has_bit rest' k ≡ (not (nat_eq k index) && has_bit rest k)) → has_bit rest index ≡ true
+pub can_settle : (p : PlanContents) (v w : View) (rest rest' : ℕ → Bool) (index : ℕ) → IsWhole v → Lists (decisions_by p v) v → ((k : ℕ) → rest' k ≡ (not (nat_eq k index) && rest k)) → rest index ≡ true
     → IsSettling (decisions_by p v) v rest w → get_or p.asks index None ≡ ask_of (view_claim v index) → CanTakeEffect p w index (decided_verdict (decisions_by p v) index)
 can_settle p v w rest rest' index whole lists members member so_far asked =
     let d = decisions_by p v in
     can-settle p d v w rest rest' index refl whole lists members member so_far asked (decided_verdict d index) (sym (decided-is d v index lists (so_far.below index member)))
 
-pub settling_more : (p : PlanContents) (v w : View) (rest rest' index : ℕ) → IsWhole v → Lists (decisions_by p v) v → ((k : ℕ) → has_bit rest' k ≡ (not (nat_eq k index) && has_bit rest k)) → has_bit rest index ≡ true
+pub settling_more : (p : PlanContents) (v w : View) (rest rest' : ℕ → Bool) (index : ℕ) → IsWhole v → Lists (decisions_by p v) v → ((k : ℕ) → rest' k ≡ (not (nat_eq k index) && rest k)) → rest index ≡ true
     → IsSettling (decisions_by p v) v rest w → get_or p.asks index None ≡ ask_of (view_claim v index)
     → IsSettling (decisions_by p v) v rest' (effect_of p index w (decided_verdict (decisions_by p v) index))
 settling_more p v w rest rest' index whole lists members member so_far asked =
     let d = decisions_by p v in
     settle-step p d v w rest rest' index refl whole lists members member so_far asked (decided_verdict d index) (sym (decided-is d v index lists (so_far.below index member)))
 
-pub settling_first : (d : Decisions) (v : View) (rest : ℕ) → IsWhole v → Lists d v → ((i : ℕ) → i < size_of v.site → has_bit rest i ≡ is_event (decided_verdict d i))
-    → ((k : ℕ) → has_bit rest k ≡ true → k < size_of v.site) → v.to_put ≡ idle_beats v.site → IsSettling d v rest v
-settling_first d v rest whole lists are below idle = settling-first d v rest whole lists (λ i l. are i l ∙ ap is_event (decided-is d v i lists l)) below idle
+pub settling_first : (d : Decisions) (v : View) → IsWhole v → Lists d v → v.to_put ≡ idle_beats v.site → IsSettling d v (from_next (size_of v.site) 0) v
+settling_first d v whole lists idle =
+    let n = size_of v.site in
+    settling-first d v (from_next n 0) whole lists (λ i l. next-left n i l) (next-below n 0) idle
+  where
+    next-left : (n i : ℕ) → i < n → from_next n 0 i ≡ true
+    next-left n i l = ap (λ b. not b && nat_lt i n) (le-ltb i 0 (omega arith)) ∙ lt-ltb i n l
 
-pub settling_last : (d : Decisions) (v w : View) (rest : ℕ) → IsWhole v → Lists d v → IsSettling d v rest w → ((k : ℕ) → has_bit rest k ≡ false) → w ≡ view_after_verdicts d v
+pub settling_last : (d : Decisions) (v w : View) (rest : ℕ → Bool) → IsWhole v → Lists d v → IsSettling d v rest w → ((k : ℕ) → rest k ≡ false) → w ≡ view_after_verdicts d v
 settling_last d v w rest whole lists so_far none = settling-last d v w rest whole lists so_far none

@@ -6,7 +6,6 @@ use Rattle.std.proofs.lemmas.Nat.{mul-add-lt, div-mul-add, mod-mul-add, div-add-
 use Rattle.std.proofs.Math.Nat.{mod-lt}
 use Rattle.std.proofs.lemmas.List.{length-set, get_or-set_same, get_or-set_other}
 use Rattle.noc_topo.specs.Shape.{ports, local_port}
-use Rattle.noc_packet.specs.Set.{has_bit}
 use Rattle.noc_packet.specs.declared.packet.Flit.{Flit}
 use Rattle.noc_packet.specs.declared.packet.Beat.{Beat}
 use Rattle.noc_vc.specs.Input.{Input, idle_input, input_after_send}
@@ -94,18 +93,18 @@ moved-parts i o f w =
       to_put = with_flit_at (o / w.site.vcs) (o % w.site.vcs) f (with_credit_at (i / w.site.vcs) (i % w.site.vcs) w.to_put);
     })
 
-pub site-kept : (d : Decisions) (v w : View) (rest : ℕ) → IsSettling d v rest w → w.site ≡ v.site
+pub site-kept : (d : Decisions) (v w : View) (rest : ℕ → Bool) → IsSettling d v rest w → w.site ≡ v.site
 site-kept d v w rest so_far = ap (λ (x : View). x.site) so_far.others
 
-pub given-kept : (d : Decisions) (v w : View) (rest : ℕ) → IsSettling d v rest w → w.given ≡ v.given
+pub given-kept : (d : Decisions) (v w : View) (rest : ℕ → Bool) → IsSettling d v rest w → w.given ≡ v.given
 given-kept d v w rest so_far = ap (λ (x : View). x.given) so_far.others
 
 not_left_moved : (b : Bool) (x : Verdict) → is_moved (if b then Empty else x) ≡ true → x ≡ Moved
 not_left_moved true x e = absurd (false≢true e)
 not_left_moved false x e = is_moved-true x e
 
-module _ (d : Decisions) (v w : View) (rest rest' index : ℕ) (whole : IsWhole v) (lists : Lists d v) (members : (k : ℕ) → has_bit rest' k ≡ (not (nat_eq k index) && has_bit rest k))
-    (member : has_bit rest index ≡ true) (so_far : IsSettling d v rest w) (f : Flit) (first : first_flit v index ≡ Some f) (mv : Moves d v index) (e : decided_verdict d index ≡ Moved)
+module _ (d : Decisions) (v w : View) (rest rest' : ℕ → Bool) (index : ℕ) (whole : IsWhole v) (lists : Lists d v) (members : (k : ℕ) → rest' k ≡ (not (nat_eq k index) && rest k))
+    (member : rest index ≡ true) (so_far : IsSettling d v rest w) (f : Flit) (first : first_flit v index ≡ Some f) (mv : Moves d v index) (e : decided_verdict d index ≡ Moved)
     (from back to vc : ℕ) (from_is : from ≡ index / v.site.vcs) (back_is : back ≡ index % v.site.vcs) (to_is : to ≡ mv.out / v.site.vcs) (vc_is : vc ≡ mv.out % v.site.vcs) where
   index_in : index < size_of v.site
   index_in = so_far.below index member
@@ -189,7 +188,7 @@ module _ (d : Decisions) (v w : View) (rest rest' index : ℕ) (whole : IsWhole 
           let j = p * v.site.vcs + k in
           let m : p * v.site.vcs + k < v.site.vcs * ports v.site.grid = mul-add-lt p v.site.vcs k (ports v.site.grid) l u in
           let inside : j < size_of v.site = omega arith in
-          let moved : verdict_in d v j ≡ Moved = sym (decided-is d v j lists inside) ∙ not_left_moved (has_bit rest' j) (decided_verdict d j) t in
+          let moved : verdict_in d v j ≡ Moved = sym (decided-is d v j lists inside) ∙ not_left_moved (rest' j) (decided_verdict d j) t in
           let row : j / v.site.vcs ≡ p = div-mul-add p v.site.vcs k u in
           let col : j % v.site.vcs ≡ k = mod-mul-add p v.site.vcs k u in
           sym col ∙ one_pick d v j index whole.some_vc moved verdict_now (row ∙ sym same ∙ from_is) ∙ sym back_is

@@ -13,10 +13,9 @@ use Rattle.noc_vc.specs.Output.{link_output, ejection_output}
 use Rattle.noc_router.specs.declared.arbiters.Arbiters.{Arbiters}
 use Rattle.noc_router.specs.declared.arrivals.Arrivals.{Arrivals}
 use Rattle.noc_router.specs.declared.channels.Channels.{Channels}
-use Rattle.noc_router.specs.declared.leads.Leads.{Leads}
 use Rattle.noc_router.specs.declared.source.Source.{Source}
 use Rattle.noc_router.specs.declared.tally.Tally.{Tally}
-use Rattle.noc_router.specs.Asked.{SizedArbiters, arbiter_states_in, sized_arbiters_in}
+use Rattle.noc_router.specs.Arbiters.{SizedArbiters, arbiter_states_in, sized_arbiters_in}
 use Rattle.noc_router.specs.Inside.{view_of, queue_of}
 use Rattle.noc_router.specs.Parts.{ChannelStates, opening_states, states_in}
 use Rattle.noc_router.specs.Tally.{empty_tally}
@@ -27,7 +26,7 @@ last_port : (d vcs : ℕ) → (2 * d + 1) * vcs - 2 * d * vcs ≡ vcs
 last_port d vcs = let e : (2 * d + 1) * vcs ≡ 2 * d * vcs + 1 * vcs = add-mul (2 * d) 1 vcs in omega arith
 
 -- the view of a router none of whose parts has done anything
-pub opening-is : (node p vcs depth : ℕ) (shape : Grid) (source : Source) (channels : Channels) (leads : Leads) (to_put : List Beat) (tally : Tally) (arbiters : Arbiters) (arrivals : Arrivals) (starts : List (ℕ × Packet)) (ends : List ℕ)
+pub opening-is : (node p vcs depth : ℕ) (shape : Grid) (source : Source) (channels : Channels) (to_put : List Beat) (tally : Tally) (arbiters : Arbiters) (arrivals : Arrivals) (starts : List (ℕ × Packet)) (ends : List ℕ)
     → IsGrid shape → p ≡ ports shape → queue_of source ≡ starts → source.vc ≡ None
     → states_in channels ≡ opening_states (p * vcs) ((p - 1) * vcs) depth
     → to_put ≡ replicate 6 idle_beat
@@ -45,14 +44,13 @@ pub opening-is : (node p vcs depth : ℕ) (shape : Grid) (source : Source) (chan
       misfits = 0;
       source = source;
       channels = channels;
-      leads = leads;
       to_put = to_put;
       tally = tally;
       arbiters = arbiters;
       arrivals = arrivals;
       shape = shape;
     }) ≡ opening_view (record { grid = shape; node = node; vcs = vcs; depth = depth }) starts ends
-opening-is node p vcs depth shape source channels leads to_put tally arbiters arrivals starts ends grid ps queue vc opened beats tally_empty sized ended =
+opening-is node p vcs depth shape source channels to_put tally arbiters arrivals starts ends grid ps queue vc opened beats tally_empty sized ended =
     let d : ℕ = length shape.radix in
     let before : p - 1 ≡ 2 * d = omega arith in
     let bank_is : channels.bank ≡ empty_buffers (ports shape * vcs) depth = ap (λ (s : ChannelStates). s.bank) opened ∙ ap (λ n. empty_buffers (n * vcs) depth) ps in

@@ -1,145 +1,140 @@
--- What a router plans, put together.
-use Rattle.std.proofs.Common.{◌≡◌, ℕ, ◌*◌, ◌<◌, true, List, length, get_or, refl, replicate, Option, ap, arith, sym, ◌∙◌}
-use Rattle.noc_topo.specs.Lists.{tabulate}
+-- The decisions of a view, list by list.
+use Rattle.std.proofs.Common.{◌≡◌, ℕ, ◌+◌, ◌*◌, ◌≤◌, Bool, length, List, Option, None, ◌++◌, arith, drop, length-append, length-drop, replicate, take, ap, refl, ◌∙◌}
+use Rattle.std.proofs.lemmas.List.{length-replicate, take-replicate, take_at}
+use Rattle.std.specs.Prelude.{is_some, slice_index, slice_index_or}
+use Rattle.noc_topo.specs.Lists.{is_some_of, tabulate}
 use Rattle.noc_topo.specs.Shape.{ports}
-use Rattle.noc_topo.proofs.ListLemmas.{length-tabulate, tabulate-from_each}
-use Rattle.std.proofs.lemmas.Bool.{false≢true}
-use Rattle.std.proofs.lemmas.List.{ext_get_or, get_or-replicate, length-replicate}
+use Rattle.noc_topo.proofs.ListLemmas.{length-tabulate}
 use Rattle.noc_route.specs.Routes.{Routes}
-use Rattle.noc_router.specs.declared.requests.Requests.{Requests}
-use Rattle.noc_router.specs.declared.router.Router.TheInside.{Inside}
+use Rattle.noc_alloc.specs.Allocation.{grant_of, pick_of, picked_port, winner_of}
+use Rattle.noc_alloc.specs.Arbiter.{RoundRobin, first_in_turn, pointers_of}
+use Rattle.noc_alloc.specs.Requests.{AllBelow}
+use Rattle.noc_alloc.proofs.RequestLemmas.{below-from}
+use Rattle.noc_alloc.proofs.SwitchLemmas.{first_in_turn-below, tabulate-inside}
+use Rattle.noc_router.specs.Decided.{IsDecidedFor, empty_plan_contents, verdict_at}
+use Rattle.noc_view.specs.Verdict.{asks_of, ready_of}
+use Rattle.noc_view.specs.View.{PlanContents, View, plan_contents, route_of, size_of, view_round, view_stands}
 use Rattle.noc_view.specs.declared.verdict.Verdict.{Verdict}
 use Rattle.noc_view.specs.declared.verdict.Verdict.TheVariants.{Empty}
-use Rattle.noc_router.specs.Asked.{RequestLists, arbiter_states_in, grants_on, lists_in, no_requests, round_in, routes_in, wins_on}
-use Rattle.noc_router.specs.Decided.{IsDecidedFor, empty_plan_contents}
-use Rattle.noc_router.specs.Inside.{IsRouter, view_of}
-use Rattle.noc_alloc.proofs.OfferLemmas.{wins-granted}
-use Rattle.noc_router.specs.Ready.{AreAsked, picked_vc, picked_way}
-use Rattle.noc_view.specs.Verdict.{Round, asks_of, is_event, ready_of}
-use Rattle.noc_alloc.specs.Arbiter.{pointers_of}
-use Rattle.noc_view.specs.View.{PlanContents, View, finding_of, plan_contents, route_of, size_of, view_round, view_stands}
 use Rattle.noc_view.proofs.StandLemmas.{asks_of-stands}
-use Rattle.noc_router.proofs.WholeLemmas.{size_view}
 
--- the grants by the arbiters of a router are those of its view
-pub grants-view : (r : Inside) (v : View) (asks : List (Option ℕ)) → view_of r ≡ v → IsRouter r
-    → grants_on r.arbiters.ports r.arbiters.vcs asks (arbiter_states_in r.arbiters) ≡ grants_on (ports v.site.grid) v.site.vcs asks v.arbiters
-grants-view r v asks view is =
-    let grid : r.arbiters.ports ≡ ports v.site.grid = is.arbiter_ports ∙ is.ports ∙ ap (λ (w : View). ports w.site.grid) view in
-    let vcs : r.arbiters.vcs ≡ v.site.vcs = is.arbiter_vcs ∙ ap (λ (w : View). w.site.vcs) view in
-    ap (λ n. grants_on n r.arbiters.vcs asks (arbiter_states_in r.arbiters)) grid
-    ∙ ap (λ n. grants_on (ports v.site.grid) n asks (arbiter_states_in r.arbiters)) vcs
-    ∙ ap (λ (w : View). grants_on (ports v.site.grid) v.site.vcs asks w.arbiters) view
+-- those who come first in turn are below the number of requesters
+below-firsts : (n m : ℕ) (pointer : ℕ → ℕ) (asks : ℕ → ℕ → Bool) → AllBelow m (tabulate n (λ k. first_in_turn m (pointer k) (asks k)))
+below-firsts n m pointer asks =
+    below-from m (tabulate n (λ k. first_in_turn m (pointer k) (asks k)))
+    (tabulate-inside n m (λ k. first_in_turn m (pointer k) (asks k)) (tabulate n (λ k. first_in_turn m (pointer k) (asks k))) (λ k. first_in_turn-below m (pointer k) (asks k)) refl)
 
--- and so are the wins, where the input ports ask for the output ports to which their picks go
-pub wins-view : (r : Inside) (v : View) (ways : List (Option ℕ)) → view_of r ≡ v → IsRouter r → ways ≡ tabulate (ports v.site.grid) (picked_way v)
-    → wins_on r.arbiters.ports ways (arbiter_states_in r.arbiters) ≡ (view_round v).wins
-unfolding view_round
-wins-view r v ways view is are =
-    ap (λ n. wins_on n ways (arbiter_states_in r.arbiters)) (is.arbiter_ports ∙ is.ports ∙ ap (λ (w : View). ports w.site.grid) view)
-    ∙ ap (λ (w : View). wins_on (ports v.site.grid) ways w.arbiters) view
-    ∙ ap (λ xs. wins_on (ports v.site.grid) xs v.arbiters) are
-    ∙ wins-granted (ready_of v.site.vcs (view_stands v)) v.site.vcs (ports v.site.grid) (ports v.site.grid) (tabulate (ports v.site.grid) (picked_vc v)) (pointers_of v.arbiters.outputs)
-
--- all that is asked for and decided in a router with this view
-abbrev pub planned_lists : Routes → View → RequestLists
-planned_lists relation v = record {
-  ports = ports v.site.grid;
-  size = size_of v.site;
-  routes = tabulate (size_of v.site) (route_of relation v);
-  asks = asks_of (view_stands v);
-  grants = (view_round v).grants;
-  picks = (view_round v).picks;
-  ways = tabulate (ports v.site.grid) (picked_way v);
-  wins = (view_round v).wins;
-}
-
--- what each step of the plan adds makes them whole
-pub lists-made : (relation : Routes) (r : Inside) (v : View) (none routed asked ported granted : RequestLists) → view_of r ≡ v → IsRouter r → none ≡ no_requests r.ports (r.ports * r.vcs)
-    → routed ≡ record none { routes = tabulate (size_of v.site) (route_of relation v) } → asked ≡ record routed { asks = asks_of (view_stands v) }
-    → ported ≡ record asked { picks = tabulate (ports v.site.grid) (picked_vc v); ways = tabulate (ports v.site.grid) (picked_way v) }
-    → granted ≡ record ported { grants = grants_on r.arbiters.ports r.arbiters.vcs ported.asks (arbiter_states_in r.arbiters); wins = wins_on r.arbiters.ports ported.ways (arbiter_states_in r.arbiters) }
-    → granted ≡ planned_lists relation v
-unfolding view_round
-lists-made relation r v none routed asked ported granted view is e0 e1 e2 e3 e4 =
-    e4
-    ∙ ap (λ (x : RequestLists). record x { grants = grants_on r.arbiters.ports r.arbiters.vcs x.asks (arbiter_states_in r.arbiters); wins = wins_on r.arbiters.ports x.ways (arbiter_states_in r.arbiters) })
-    (e3 ∙ ap (λ (x : RequestLists). record x { picks = tabulate (ports v.site.grid) (picked_vc v); ways = tabulate (ports v.site.grid) (picked_way v) })
-    (e2 ∙ ap (λ (x : RequestLists). record x { asks = asks_of (view_stands v) }) (e1 ∙ ap (λ (x : RequestLists). record x { routes = tabulate (size_of v.site) (route_of relation v) }) e0)))
-    ∙ ap (λ n. record (planned_lists relation v) { ports = n; size = r.ports * r.vcs; grants = own_grants; wins = own_wins }) (is.ports ∙ ap (λ (w : View). ports w.site.grid) view)
-    ∙ ap (λ n. record (planned_lists relation v) { size = n; grants = own_grants; wins = own_wins }) (sym (size_view r v view is))
-    ∙ ap (λ xs. record (planned_lists relation v) { grants = xs; wins = own_wins }) (grants-view r v (asks_of (view_stands v)) view is)
-    ∙ ap (λ xs. record (planned_lists relation v) { wins = xs }) (wins-view r v (tabulate (ports v.site.grid) (picked_way v)) view is refl)
-  where
-    own_grants : List (Option ℕ)
-    own_grants = grants_on r.arbiters.ports r.arbiters.vcs (asks_of (view_stands v)) (arbiter_states_in r.arbiters)
-
-    own_wins : List (Option ℕ)
-    own_wins = wins_on r.arbiters.ports (tabulate (ports v.site.grid) (picked_way v)) (arbiter_states_in r.arbiters)
-
--- the requests of a router with this view
-pub asked-made : (relation : Routes) (v : View) (n : Requests) → lists_in n ≡ planned_lists relation v → AreAsked v n
-unfolding view_round
-asked-made relation v n made = record {
-  of_router = record { ports = ap (λ (x : RequestLists). x.ports) made; size = ap (λ (x : RequestLists). x.size) made };
-  asks = ap (λ (x : RequestLists). x.asks) made;
-  picks = ap (λ (x : RequestLists). x.picks) made;
-  ways = ap (λ (x : RequestLists). x.ways) made;
-}
-
-rounds : List (Option ℕ) → List (Option ℕ) → List (Option ℕ) → Round
-rounds grants picks wins = record { grants = grants; picks = picks; wins = wins }
-
-same_round : (a b f g x y : List (Option ℕ)) → a ≡ b → f ≡ g → x ≡ y → rounds a f x ≡ rounds b g y
-same_round a b f g x y grants picks wins = cc
-
--- outcomes by their parts
-parts : Round → List (Option ℕ) → List Verdict → List ℕ → PlanContents
-parts round asks verdicts routes = record { round = round; asks = asks; verdicts = verdicts; routes = routes }
-
-same_parts : (a b : Round) (f g : List (Option ℕ)) (w x : List Verdict) (q r : List ℕ) → a ≡ b → f ≡ g → w ≡ x → q ≡ r → parts a f w q ≡ parts b g x r
-same_parts a b f g w x q r rounds asks verdicts routes = cc
-
--- what has each part of the outcome is the outcome
-pub outcome-parts : (relation : Routes) (v : View) (n : Requests) (p : PlanContents) → lists_in n ≡ planned_lists relation v → p.round ≡ round_in n → p.asks ≡ n.channels.asks → p.routes ≡ routes_in n
-    → length p.verdicts ≡ size_of v.site → ((k : ℕ) → k < size_of v.site → get_or p.verdicts k Empty ≡ (finding_of p.round v k).verdict)
-    → p ≡ plan_contents relation v
-unfolding plan_contents parts rounds
-outcome-parts relation v n p made round asks routes long verdicts =
-    same_parts p.round (view_round v) p.asks _ p.verdicts _ p.routes _ is_round (asks ∙ ap (λ (x : RequestLists). x.asks) made)
-    (tabulate-from_each (size_of v.site) (λ i. (finding_of (view_round v) v i).verdict) p.verdicts Empty long (λ k l. verdicts k l ∙ ap (λ r. (finding_of r v k).verdict) is_round))
-    (routes ∙ ap (λ (x : RequestLists). x.routes) made)
-  where
-    is_round : p.round ≡ view_round v
-    is_round = round ∙ ap (λ (x : RequestLists). rounds x.grants x.picks x.wins) made
-
--- the outcome is as long as it should be
+-- the outcome is as long as it should be, and who wins is of the router
 pub outcome-lengths : (relation : Routes) (v : View) → IsDecidedFor (ports v.site.grid) v.site.vcs (plan_contents relation v)
 unfolding plan_contents view_round
-outcome-lengths relation v = record {
-  grants = length-tabulate _ _;
-  picks = length-tabulate _ _;
-  wins = length-tabulate _ _;
-  asks = ap (λ (xs : List (Option ℕ)). length xs) (asks_of-stands v) ∙ length-tabulate _ _;
-  verdicts = length-tabulate _ _;
-  routes = length-tabulate _ _;
-}
+outcome-lengths relation v =
+    let ready = ready_of v.site.vcs (view_stands v) in
+    let picks = tabulate (ports v.site.grid) (pick_of ready v.site.vcs (pointers_of v.arbiters.inputs)) in
+    record {
+      grants = length-tabulate _ _;
+      picks = length-tabulate _ _;
+      wins = length-tabulate _ _;
+      asks = ap (λ (xs : List (Option ℕ)). length xs) (asks_of-stands v) ∙ length-tabulate _ _;
+      verdicts = length-tabulate _ _;
+      routes = length-tabulate _ _;
+      granted = below-firsts (size_of v.site) (size_of v.site) (slice_index (pointers_of v.arbiters.channels)) (λ o i. is_some_of (slice_index_or (asks_of (view_stands v)) i None) o);
+      picked = below-firsts (ports v.site.grid) v.site.vcs (slice_index (pointers_of v.arbiters.inputs)) (λ port vc. is_some (slice_index_or ready (port * v.site.vcs + vc) None));
+      won = below-firsts (ports v.site.grid) (ports v.site.grid) (slice_index (pointers_of v.arbiters.outputs)) (λ port q. is_some_of (picked_port ready v.site.vcs picks q) port);
+    }
 
--- ---- no request
--- what has no request, and every channel empty
-pub no_outcome-parts : (m vcs : ℕ) (r : Requests) (p : PlanContents) → lists_in r ≡ no_requests m (m * vcs) → p.round ≡ round_in r → p.asks ≡ r.channels.asks → p.routes ≡ routes_in r → length p.verdicts ≡ m * vcs
-    → ((k : ℕ) → k < m * vcs → get_or p.verdicts k Empty ≡ Empty) → p ≡ empty_plan_contents m vcs
-unfolding parts rounds
-no_outcome-parts m vcs r p none round asks routes long verdicts =
-    same_parts p.round _ p.asks _ p.verdicts _ p.routes _
-    (round ∙ same_round r.channels.grants _ r.picks _ r.switch.grants _ (ap (λ (x : RequestLists). x.grants) none) (ap (λ (x : RequestLists). x.picks) none) (ap (λ (x : RequestLists). x.wins) none))
-    (asks ∙ ap (λ (x : RequestLists). x.asks) none)
-    (ext_get_or Empty p.verdicts (replicate (m * vcs) Empty) (long ∙ sym (length-replicate (m * vcs) Empty)) (λ k l. verdicts k (omega arith) ∙ sym (get_or-replicate (m * vcs) k Empty Empty (omega arith))))
-    (routes ∙ ap (λ (x : RequestLists). x.routes) none)
+-- ---- the round, by the lists on which it is decided
+pub granted-view : (v : View) (asks grants : List (Option ℕ)) (arbiters : List RoundRobin) → asks ≡ asks_of (view_stands v) → arbiters ≡ v.arbiters.channels → length arbiters ≡ size_of v.site
+    → grants ≡ tabulate (length arbiters) (grant_of asks (length asks) (pointers_of arbiters)) → grants ≡ (view_round v).grants
+unfolding view_round
+granted-view v asks grants arbiters ask are long is =
+    let n = size_of v.site in
+    let many : length asks ≡ n = ap (λ (xs : List (Option ℕ)). length xs) (ask ∙ asks_of-stands v) ∙ length-tabulate _ _ in
+    is
+    ∙ ap (λ k. tabulate k (grant_of asks (length asks) (pointers_of arbiters))) long
+    ∙ ap (λ k. tabulate n (grant_of asks k (pointers_of arbiters))) many
+    ∙ ap (λ xs. tabulate n (grant_of xs n (pointers_of arbiters))) ask
+    ∙ ap (λ ts. tabulate n (grant_of (asks_of (view_stands v)) n (pointers_of ts))) are
 
-empty_event : (x : Verdict) → x ≡ Empty → is_event x ≡ true → ⊥
-empty_event x e h = false≢true (sym (ap is_event e) ∙ h)
+pub picked-view : (v : View) (ready picks : List (Option ℕ)) (vcs : ℕ) (arbiters : List RoundRobin) → ready ≡ ready_of v.site.vcs (view_stands v) → vcs ≡ v.site.vcs → arbiters ≡ v.arbiters.inputs
+    → length arbiters ≡ ports v.site.grid → picks ≡ tabulate (length arbiters) (pick_of ready vcs (pointers_of arbiters)) → picks ≡ (view_round v).picks
+unfolding view_round
+picked-view v ready picks vcs arbiters can same are long is =
+    let n = ports v.site.grid in
+    is
+    ∙ ap (λ k. tabulate k (pick_of ready vcs (pointers_of arbiters))) long
+    ∙ ap (λ xs. tabulate n (pick_of xs vcs (pointers_of arbiters))) can
+    ∙ ap (λ k. tabulate n (pick_of (ready_of v.site.vcs (view_stands v)) k (pointers_of arbiters))) same
+    ∙ ap (λ ts. tabulate n (pick_of (ready_of v.site.vcs (view_stands v)) v.site.vcs (pointers_of ts))) are
 
--- an outcome without requests has no event
-pub no_event : (x : Verdict) (k n : ℕ) → x ≡ Empty → is_event x ≡ true → k < n
-no_event x k n e h = absurd (empty_event x e h)
+pub won-view : (v : View) (ready picks wins : List (Option ℕ)) (vcs many : ℕ) (arbiters : List RoundRobin) → ready ≡ ready_of v.site.vcs (view_stands v) → vcs ≡ v.site.vcs → many ≡ ports v.site.grid
+    → arbiters ≡ v.arbiters.outputs → length arbiters ≡ ports v.site.grid → picks ≡ (view_round v).picks
+    → wins ≡ tabulate (length arbiters) (winner_of ready vcs many picks (pointers_of arbiters)) → wins ≡ (view_round v).wins
+unfolding view_round
+won-view v ready picks wins vcs many arbiters can same all are long picked is =
+    let n = ports v.site.grid in
+    let able = ready_of v.site.vcs (view_stands v) in
+    is
+    ∙ ap (λ k. tabulate k (winner_of ready vcs many picks (pointers_of arbiters))) long
+    ∙ ap (λ xs. tabulate n (winner_of xs vcs many picks (pointers_of arbiters))) can
+    ∙ ap (λ k. tabulate n (winner_of able k many picks (pointers_of arbiters))) same
+    ∙ ap (λ k. tabulate n (winner_of able v.site.vcs k picks (pointers_of arbiters))) all
+    ∙ ap (λ xs. tabulate n (winner_of able v.site.vcs n xs (pointers_of arbiters))) picked
+    ∙ ap (λ ts. tabulate n (winner_of able v.site.vcs n (tabulate n (pick_of able v.site.vcs (pointers_of v.arbiters.inputs))) (pointers_of ts))) are
+
+-- ---- the outcome, by its parts
+abbrev pub parts : List (Option ℕ) → List (Option ℕ) → List (Option ℕ) → List (Option ℕ) → List Verdict → List ℕ → PlanContents
+parts grants picks wins asks verdicts routes = record { round = record { grants = grants; picks = picks; wins = wins }; asks = asks; verdicts = verdicts; routes = routes }
+
+planned-parts : (relation : Routes) (v : View) (grants picks wins asks : List (Option ℕ)) (verdicts : List Verdict) (routes : List ℕ)
+    → grants ≡ (view_round v).grants → picks ≡ (view_round v).picks → wins ≡ (view_round v).wins → asks ≡ asks_of (view_stands v)
+    → verdicts ≡ tabulate (size_of v.site) (verdict_at (record { grants = grants; picks = picks; wins = wins }) v) → routes ≡ tabulate (size_of v.site) (route_of relation v)
+    → parts grants picks wins asks verdicts routes ≡ plan_contents relation v
+unfolding plan_contents view_round
+planned-parts relation v grants picks wins asks verdicts routes g p w a d r =
+    let n = size_of v.site in
+    ap (λ xs. parts grants picks wins asks xs routes) d
+    ∙ ap (λ xs. parts grants picks wins asks (tabulate n (verdict_at (record { grants = grants; picks = picks; wins = wins }) v)) xs) r
+    ∙ ap (λ xs. parts grants picks wins xs (tabulate n (verdict_at (record { grants = grants; picks = picks; wins = wins }) v)) (tabulate n (route_of relation v))) a
+    ∙ ap (λ xs. parts xs picks wins (asks_of (view_stands v)) (tabulate n (verdict_at (record { grants = xs; picks = picks; wins = wins }) v)) (tabulate n (route_of relation v))) g
+    ∙ ap (λ xs. parts (view_round v).grants xs wins (asks_of (view_stands v)) (tabulate n (verdict_at (record { grants = (view_round v).grants; picks = xs; wins = wins }) v)) (tabulate n (route_of relation v))) p
+    ∙ ap (λ xs. parts (view_round v).grants (view_round v).picks xs (asks_of (view_stands v)) (tabulate n (verdict_at (record { grants = (view_round v).grants; picks = (view_round v).picks; wins = xs }) v)) (tabulate n (route_of relation v))) w
+
+-- the same, where the lists are written at the beginning of longer ones
+pub planned-is : (relation : Routes) (v : View) (m n : ℕ) (grants picks wins asks : List (Option ℕ)) (verdicts : List Verdict) (routes : List ℕ) (g p w a : List (Option ℕ)) (d : List Verdict) (r : List ℕ)
+    → length grants ≡ n → length picks ≡ m → length wins ≡ m → length asks ≡ n → length verdicts ≡ n → length routes ≡ n
+    → grants ≡ (view_round v).grants → picks ≡ (view_round v).picks → wins ≡ (view_round v).wins → asks ≡ asks_of (view_stands v)
+    → verdicts ≡ tabulate (size_of v.site) (verdict_at (record { grants = take n (grants ++ g); picks = take m (picks ++ p); wins = take m (wins ++ w) }) v) → routes ≡ tabulate (size_of v.site) (route_of relation v)
+    → parts (take n (grants ++ g)) (take m (picks ++ p)) (take m (wins ++ w)) (take n (asks ++ a)) (take n (verdicts ++ d)) (take n (routes ++ r)) ≡ plan_contents relation v
+planned-is relation v m n grants picks wins asks verdicts routes g p w a d r lg lp lw la ld lr eg ep ew ea ed er =
+    let tg = take_at grants g n lg in
+    let tp = take_at picks p m lp in
+    let tw = take_at wins w m lw in
+    let verdict : List (Option ℕ) → List (Option ℕ) → List (Option ℕ) → List Verdict = λ x y z. tabulate (size_of v.site) (verdict_at (record { grants = x; picks = y; wins = z }) v) in
+    ap (λ xs. parts xs (take m (picks ++ p)) (take m (wins ++ w)) (take n (asks ++ a)) (take n (verdicts ++ d)) (take n (routes ++ r))) tg
+    ∙ ap (λ xs. parts grants xs (take m (wins ++ w)) (take n (asks ++ a)) (take n (verdicts ++ d)) (take n (routes ++ r))) tp
+    ∙ ap (λ xs. parts grants picks xs (take n (asks ++ a)) (take n (verdicts ++ d)) (take n (routes ++ r))) tw
+    ∙ ap (λ xs. parts grants picks wins xs (take n (verdicts ++ d)) (take n (routes ++ r))) (take_at asks a n la)
+    ∙ ap (λ xs. parts grants picks wins asks xs (take n (routes ++ r))) (take_at verdicts d n ld)
+    ∙ ap (λ xs. parts grants picks wins asks verdicts xs) (take_at routes r n lr)
+    ∙ planned-parts relation v grants picks wins asks verdicts routes eg ep ew ea
+    (ed ∙ ap (λ x. verdict x (take m (picks ++ p)) (take m (wins ++ w))) tg ∙ ap (λ y. verdict grants y (take m (wins ++ w))) tp ∙ ap (λ z. verdict grants picks z) tw) er
+
+-- the beginning of a list of which nothing was written
+pub room : {X : Type 0} (n m : ℕ) (x : X) → n ≤ m → length (take n (replicate m x)) ≡ n
+room n m x l = ap length (take-replicate n m x l) ∙ length-replicate n x
+
+-- a list is as long as before, where its beginning is written
+pub written : {X : Type 0} (n m : ℕ) (x : X) (xs : List X) → length xs ≡ n → n ≤ m → length (xs ++ drop n (replicate m x)) ≡ m
+written n m x xs long l = omega (arith, length-append xs (drop n (replicate m x)), length-drop n (replicate m x), length-replicate m x, long)
+
+-- a plan in which nothing was written
+pub empty-plan : (m vcs set : ℕ) → m ≤ 7 → m * vcs ≤ 56 → set ≡ 0
+    → parts (take (m * vcs) (replicate 56 None)) (take m (replicate 7 None)) (take m (replicate 7 None)) (take (m * vcs) (replicate 56 None)) (take (m * vcs) (replicate 56 Empty)) (take (m * vcs) (replicate 56 set)) ≡ empty_plan_contents m vcs
+empty-plan m vcs set few many none =
+    let n = m * vcs in
+    let all : take n (replicate 56 None) ≡ replicate n None = take-replicate n 56 None many in
+    let each : take m (replicate 7 None) ≡ replicate m None = take-replicate m 7 None few in
+    ap (λ xs. parts xs (take m (replicate 7 None)) (take m (replicate 7 None)) xs (take n (replicate 56 Empty)) (take n (replicate 56 set))) all
+    ∙ ap (λ xs. parts (replicate n None) xs xs (replicate n None) (take n (replicate 56 Empty)) (take n (replicate 56 set))) each
+    ∙ ap (λ xs. parts (replicate n None) (replicate m None) (replicate m None) (replicate n None) xs (take n (replicate 56 set))) (take-replicate n 56 Empty many)
+    ∙ ap (λ xs. parts (replicate n None) (replicate m None) (replicate m None) (replicate n None) (replicate n Empty) xs) (ap (λ s. take n (replicate 56 s)) none ∙ take-replicate n 56 0 many)

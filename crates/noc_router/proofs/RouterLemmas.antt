@@ -1,9 +1,9 @@
 -- What is true of a router stays true.
-use Rattle.std.proofs.Common.{◌≡◌, ℕ, ◌+◌, ◌-◌, ◌*◌, ◌<◌, Bool, true, List, Option, None, refl, ap, sym, ◌∙◌, subst, arith, length, slice_index_or}
+use Rattle.std.proofs.Common.{◌≡◌, ℕ, ◌+◌, ◌-◌, ◌*◌, ◌<◌, Bool, true, List, Option, refl, ap, sym, ◌∙◌, subst, arith, length}
 use Rattle.std.specs.Prelude.{is_some}
 use Rattle.std.proofs.lemmas.List.{get_or-set_other}
 use Rattle.std.specs.Option.{ForSome}
-use Rattle.noc_topo.specs.Shape.{Grid, IsGrid, ports, neighbour}
+use Rattle.noc_topo.specs.Shape.{Grid, IsGrid, ports}
 use Rattle.noc_packet.specs.declared.packet.Beat.{Beat}
 use Rattle.noc_packet.specs.declared.packet.Flit.{Flit}
 use Rattle.noc_vc.specs.Input.{Input, idle_input, input_after_land}
@@ -21,9 +21,9 @@ for_some P Q o f h = λ x e. f x (h x e)
 -- where the parts keep their sizes, and the input channels that await a flit still do
 pub IsRouter-kept : (r s : Inside) → IsRouter r → s.shape ≡ r.shape → s.node ≡ r.node → s.ports ≡ r.ports → s.vcs ≡ r.vcs → s.depth ≡ r.depth
     → s.source.vc ≡ r.source.vc → s.channels.size ≡ r.channels.size → s.channels.bank.capacity ≡ r.channels.bank.capacity
-    → KeepsAwaiting r.channels.inputs.items s.channels.inputs.items → s.leads.neighbours ≡ r.leads.neighbours → length s.to_put ≡ length r.to_put
+    → KeepsAwaiting r.channels.inputs.items s.channels.inputs.items → length s.to_put ≡ length r.to_put
     → length s.tally.counts ≡ length r.tally.counts → s.arbiters.ports ≡ r.arbiters.ports → s.arbiters.vcs ≡ r.arbiters.vcs → IsRouter s
-IsRouter-kept r s is shape node ports_same vcs depth vc size capacity keeps leads beats counts arbiter_ports arbiter_vcs =
+IsRouter-kept r s is shape node ports_same vcs depth vc size capacity keeps beats counts arbiter_ports arbiter_vcs =
     let all : r.ports * r.vcs ≡ s.ports * s.vcs = ap (λ n. n * r.vcs) (sym ports_same) ∙ ap (λ n. s.ports * n) (sym vcs) in
     let first : (r.ports - 1) * r.vcs ≡ (s.ports - 1) * s.vcs = ap (λ n. (n - 1) * r.vcs) (sym ports_same) ∙ ap (λ n. (s.ports - 1) * n) (sym vcs) in
     record {
@@ -34,7 +34,6 @@ IsRouter-kept r s is shape node ports_same vcs depth vc size capacity keeps lead
       few_vcs = rw vcs is.few_vcs;
       channels = size ∙ is.channels ∙ all;
       depth = capacity ∙ is.depth ∙ sym depth;
-      leads = λ port l. ap (λ xs. slice_index_or xs port None) leads ∙ is.leads port l ∙ ap (λ g. neighbour g r.node port) (sym shape) ∙ ap (λ n. neighbour s.shape n port) (sym node);
       beats = beats ∙ is.beats;
       sending = rw vc (for_some (λ v. v < r.vcs) (λ v. v < s.vcs) r.source.vc (λ v l. rw vcs l) is.sending);
       awaiting = rw vc (for_some (λ v. is_awaiting r.channels.inputs.items ((r.ports - 1) * r.vcs + v) ≡ true) (λ v. is_awaiting s.channels.inputs.items ((s.ports - 1) * s.vcs + v) ≡ true) r.source.vc
@@ -54,13 +53,13 @@ local-index r vc is =
 pub IsRouter-misfit : (r : Inside) (channels : Channels) (n : ℕ) → IsRouter r → states_in channels ≡ states_in r.channels → IsRouter (record r { channels = channels; misfits = n })
 IsRouter-misfit r channels n is states =
     IsRouter-kept r (record r { channels = channels; misfits = n }) is refl refl refl refl refl refl (ap (λ (s : ChannelStates). s.size) states) (ap (λ (s : ChannelStates). s.bank.capacity) states)
-    (λ i h. ap (λ (s : ChannelStates). is_awaiting s.inputs i) states ∙ h) refl refl refl refl refl
+    (λ i h. ap (λ (s : ChannelStates). is_awaiting s.inputs i) states ∙ h) refl refl refl refl
 
 -- a router of which only channels change, and whether it had an event, is one still
 pub IsRouter-channels : (r : Inside) (channels : Channels) (happened : Bool) → IsRouter r → channels.size ≡ r.channels.size → channels.bank.capacity ≡ r.channels.bank.capacity
     → KeepsAwaiting r.channels.inputs.items channels.inputs.items → IsRouter (record r { channels = channels; had_event = happened })
 IsRouter-channels r channels happened is size capacity keeps =
-    IsRouter-kept r (record r { channels = channels; had_event = happened }) is refl refl refl refl refl refl size capacity keeps refl refl refl refl refl
+    IsRouter-kept r (record r { channels = channels; had_event = happened }) is refl refl refl refl refl refl size capacity keeps refl refl refl refl
 
 -- a router where a flit has come to an input channel of a link port is one still
 pub IsRouter-landed : (r : Inside) (channels : Channels) (i : ℕ) (flit : Flit) → IsRouter r → states_in channels ≡ states_after_land i flit (states_in r.channels) → i < (r.ports - 1) * r.vcs → IsRouter (record r { channels = channels; had_event = true })
@@ -72,7 +71,6 @@ IsRouter-landed r channels i flit is states link = record {
   few_vcs = is.few_vcs;
   channels = ap (λ (s : ChannelStates). s.size) states ∙ is.channels;
   depth = ap (λ (s : ChannelStates). s.bank.capacity) states ∙ is.depth;
-  leads = is.leads;
   beats = is.beats;
   sending = is.sending;
   awaiting = for_some (λ v. is_awaiting r.channels.inputs.items ((r.ports - 1) * r.vcs + v) ≡ true) (λ v. is_awaiting channels.inputs.items ((r.ports - 1) * r.vcs + v) ≡ true) r.source.vc
@@ -86,4 +84,4 @@ IsRouter-landed r channels i flit is states link = record {
 -- a router of which as many channels are counted as before is one still
 pub IsRouter-counted : (r : Inside) (tally : TallyContents) (beats : List Beat) → IsRouter r → length tally.counts ≡ length r.tally.counts → length beats ≡ length r.to_put
     → IsRouter (record r { tally = tally; to_put = beats })
-IsRouter-counted r tally beats is counts same = IsRouter-kept r (record r { tally = tally; to_put = beats }) is refl refl refl refl refl refl refl refl (λ i h. h) refl same counts refl refl
+IsRouter-counted r tally beats is counts same = IsRouter-kept r (record r { tally = tally; to_put = beats }) is refl refl refl refl refl refl refl refl (λ i h. h) same counts refl refl

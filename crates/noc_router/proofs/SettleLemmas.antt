@@ -1,12 +1,11 @@
 -- The verdicts take effect one by one: what holds while some channels are left, and what a channel
 -- that sends no flit changes.
-use Rattle.std.proofs.Common.{◌≡◌, ◌≢◌, ℕ, ◌+◌, ◌*◌, ◌/◌, ◌%◌, ◌<◌, true, false, List, [], length, drop, get_or, set, Option, Some, None, refl, ap, sym, ◌∙◌, arith, inl, inr}
-use Rattle.std.specs.Prelude.{◌⊎◌, ◌&&◌, not, option_and_then, option_map, unwrap_or, nat_eq, if◌then◌else◌, find, slice_index}
-use Rattle.std.proofs.lemmas.Bool.{cases_eq, eq-eqb, ne_eqb, false≢true, and_parts}
+use Rattle.std.proofs.Common.{◌≡◌, ◌≢◌, ℕ, ◌+◌, ◌*◌, ◌/◌, ◌%◌, ◌<◌, ◌≤◌, Bool, true, false, List, [], length, drop, get_or, set, Option, Some, None, refl, ap, sym, ◌∙◌, arith, inl, inr}
+use Rattle.std.specs.Prelude.{◌⊎◌, ◌&&◌, not, option_and_then, option_map, unwrap_or, nat_eq, nat_lt, if◌then◌else◌, find, slice_index}
+use Rattle.std.proofs.lemmas.Bool.{cases_eq, cases_lt, eq-eqb, ne_eqb, le-ltb, lt-ltb, ltb-true, false≢true, and_parts}
 use Rattle.std.proofs.lemmas.List.{length-set, get_or-set_same, get_or-set_other}
 use Rattle.noc_topo.specs.Lists.{below}
 use Rattle.noc_topo.specs.Shape.{ports, local_port}
-use Rattle.noc_packet.specs.Set.{has_bit}
 use Rattle.noc_packet.specs.declared.packet.Flit.{Flit}
 use Rattle.noc_packet.specs.declared.packet.Beat.{Beat}
 use Rattle.noc_vc.specs.Input.{Input, idle_input, input_after_route, input_after_grant}
@@ -26,29 +25,62 @@ use Rattle.noc_view.proofs.SinkLemmas.{sink_ends, sink_misfits}
 use Rattle.noc_view.proofs.MoverLemmas.{port_below, mover_to-is}
 
 -- ---- what is left
+-- the channels from `next` on, of so many
+abbrev pub from_next : ℕ → ℕ → ℕ → Bool
+from_next n next k = not (nat_lt k next) && nat_lt k n
+
+pub next-less : (n q k : ℕ) → from_next n (q + 1) k ≡ (not (nat_eq k q) && from_next n q k)
+next-less n q k = at (cases_eq k q) (cases_lt k q)
+  where
+    at : (k ≡ q) ⊎ (k ≢ q) → (k < q) ⊎ (q ≤ k) → from_next n (q + 1) k ≡ (not (nat_eq k q) && from_next n q k)
+    at (inl same) _ = ap (λ b. not b && nat_lt k n) (lt-ltb k (q + 1) (omega arith)) ∙ sym (ap (λ b. not b && from_next n q k) (eq-eqb k q same))
+    at (inr other) (inl before) =
+        ap (λ b. not b && nat_lt k n) (lt-ltb k (q + 1) (omega arith) ∙ sym (lt-ltb k q before)) ∙ sym (ap (λ b. not b && from_next n q k) (ne_eqb k q other))
+    at (inr other) (inr after) =
+        ap (λ b. not b && nat_lt k n) (le-ltb k (q + 1) (omega arith) ∙ sym (le-ltb k q after)) ∙ sym (ap (λ b. not b && from_next n q k) (ne_eqb k q other))
+
+pub next-below : (n q k : ℕ) → from_next n q k ≡ true → k < n
+next-below n q k e = ltb-true k n (and_parts (not (nat_lt k q)) (nat_lt k n) e).1
+
+-- the next one is left
+pub next-here : (n q : ℕ) → q < n → from_next n q q ≡ true
+next-here n q l = ap (λ b. not b && nat_lt q n) (le-ltb q q (omega arith)) ∙ lt-ltb q n l
+
+-- after the last none is left
+pub next-none : (n q k : ℕ) → n ≤ q → from_next n q k ≡ false
+next-none n q k l = at (cases_lt k n)
+  where
+    and-false : (b : Bool) → (b && false) ≡ false
+    and-false true = refl
+    and-false false = refl
+
+    at : (k < n) ⊎ (n ≤ k) → from_next n q k ≡ false
+    at (inl u) = ap (λ b. not b && nat_lt k n) (lt-ltb k q (omega arith))
+    at (inr u) = ap (λ b. not (nat_lt k q) && b) (le-ltb k n u) ∙ and-false (not (nat_lt k q))
+
 -- the verdict of channel i, where it is not left
-abbrev pub left_verdict : Decisions → ℕ → ℕ → Verdict
-left_verdict d rest i = if has_bit rest i then Empty else decided_verdict d i
+abbrev pub left_verdict : Decisions → (ℕ → Bool) → ℕ → Verdict
+left_verdict d rest i = if rest i then Empty else decided_verdict d i
 
 -- the channel, where it is not left
-abbrev pub left : ℕ → Option ℕ → Option ℕ
+abbrev pub left : (ℕ → Bool) → Option ℕ → Option ℕ
 left rest None = None
-left rest (Some i) = if has_bit rest i then None else Some i
+left rest (Some i) = if rest i then None else Some i
 
 -- the virtual channel and the flit that leave from this channel
 abbrev pub flit_by : View → Option ℕ → Option (ℕ × Flit)
 flit_by v m = option_and_then (λ i. option_and_then (λ o. option_map (λ f. (o % v.site.vcs, f)) (first_flit v i)) (out_of (view_claim v i))) m
 
-abbrev pub credit_by : Decisions → View → ℕ → ℕ → Option ℕ
+abbrev pub credit_by : Decisions → View → (ℕ → Bool) → ℕ → Option ℕ
 credit_by d v rest p = find (λ vc. is_moved (left_verdict d rest (p * v.site.vcs + vc))) (below v.site.vcs)
 
-abbrev pub beat_by : Decisions → View → ℕ → ℕ → Beat
+abbrev pub beat_by : Decisions → View → (ℕ → Bool) → ℕ → Beat
 beat_by d v rest p = record { flit = flit_by v (left rest (mover v.site d.round p)); credit = credit_by d v rest p }
 
-abbrev pub arrived_by : Decisions → View → ℕ → Option ℕ
+abbrev pub arrived_by : Decisions → View → (ℕ → Bool) → Option ℕ
 arrived_by d v rest = tail_packet (flit_by v (left rest (mover v.site d.round (local_port v.site.grid))))
 
-abbrev pub output_by : Decisions → View → ℕ → ℕ → Output
+abbrev pub output_by : Decisions → View → (ℕ → Bool) → ℕ → Output
 output_by d v rest o = spent_by v (held_by v (view_output v o) (left rest (get_or d.round.grants o None))) (left rest (mover_to v d.round o))
 
 -- the channels of a view are as many as there are, and owned by those that own them
@@ -61,9 +93,9 @@ pub record IsWhole (v : View) : Type 0 where
   pub owners : (i o : ℕ) → i < size_of v.site → o < size_of v.site → owns (view_input v i).phase o ≡ is_owned_from (view_output v o).holder i
 
 -- the verdicts of all channels but those that are left have taken effect
-pub record IsSettling (d : Decisions) (v : View) (rest : ℕ) (w : View) : Type 0 where
+pub record IsSettling (d : Decisions) (v : View) (rest : ℕ → Bool) (w : View) : Type 0 where
   pub others : w ≡ record v { buffers = w.buffers; inputs = w.inputs; outputs = w.outputs; ends = w.ends; misfits = w.misfits; had_event = w.had_event; to_put = w.to_put }
-  pub below : (k : ℕ) → has_bit rest k ≡ true → k < size_of v.site
+  pub below : (k : ℕ) → rest k ≡ true → k < size_of v.site
   pub n_buffers : length w.buffers ≡ size_of v.site
   pub n_inputs : length w.inputs ≡ size_of v.site
   pub n_outputs : length w.outputs ≡ size_of v.site
@@ -75,16 +107,16 @@ pub record IsSettling (d : Decisions) (v : View) (rest : ℕ) (w : View) : Type 
   pub ends : w.ends ≡ sink_ends (arrived_by d v rest) v.given v.ends
   pub misfits : w.misfits ≡ sink_misfits (arrived_by d v rest) v.ends v.misfits
   pub event_kept : v.had_event ≡ true → w.had_event ≡ true
-  pub event_of : (i : ℕ) → i < size_of v.site → has_bit rest i ≡ false → is_event (decided_verdict d i) ≡ true → w.had_event ≡ true
+  pub event_of : (i : ℕ) → i < size_of v.site → rest i ≡ false → is_event (decided_verdict d i) ≡ true → w.had_event ≡ true
   pub event_from : w.had_event ≡ true → (v.had_event ≡ true) ⊎ ((i : ℕ) × (i < size_of v.site) × (is_event (decided_verdict d i) ≡ true))
 
 -- ---- one channel less is left
-module _ (rest rest' index : ℕ) (members : (k : ℕ) → has_bit rest' k ≡ (not (nat_eq k index) && has_bit rest k)) (member : has_bit rest index ≡ true) where
-  gone : (k : ℕ) → k ≡ index → has_bit rest' k ≡ false
-  gone k e = members k ∙ ap (λ b. not b && has_bit rest k) (eq-eqb k index e)
+module _ (rest rest' : ℕ → Bool) (index : ℕ) (members : (k : ℕ) → rest' k ≡ (not (nat_eq k index) && rest k)) (member : rest index ≡ true) where
+  gone : (k : ℕ) → k ≡ index → rest' k ≡ false
+  gone k e = members k ∙ ap (λ b. not b && rest k) (eq-eqb k index e)
 
-  kept : (k : ℕ) → k ≢ index → has_bit rest' k ≡ has_bit rest k
-  kept k other = members k ∙ ap (λ b. not b && has_bit rest k) (ne_eqb k index other)
+  kept : (k : ℕ) → k ≢ index → rest' k ≡ rest k
+  kept k other = members k ∙ ap (λ b. not b && rest k) (ne_eqb k index other)
 
   pub verdict-kept : (d : Decisions) (k : ℕ) → k ≢ index → left_verdict d rest' k ≡ left_verdict d rest k
   verdict-kept d k other = ap (λ b. if b then Empty else decided_verdict d k) (kept k other)
@@ -150,16 +182,16 @@ module _ (d : Decisions) (v : View) (whole : IsWhole v) (lists : Lists d v) wher
   not_mover_to index o l other m = not_mover index (o / v.site.vcs) (port_below v o whole.some_vc l) other (mover_to-is d v o index m).0
 
 -- ---- a step
-module _ (d : Decisions) (v w : View) (rest rest' index : ℕ) (whole : IsWhole v) (lists : Lists d v) (members : (k : ℕ) → has_bit rest' k ≡ (not (nat_eq k index) && has_bit rest k))
-    (member : has_bit rest index ≡ true) (so_far : IsSettling d v rest w) where
+module _ (d : Decisions) (v w : View) (rest rest' : ℕ → Bool) (index : ℕ) (whole : IsWhole v) (lists : Lists d v) (members : (k : ℕ) → rest' k ≡ (not (nat_eq k index) && rest k))
+    (member : rest index ≡ true) (so_far : IsSettling d v rest w) where
   pub inside : index < size_of v.site
   inside = so_far.below index member
 
   decided : decided_verdict d index ≡ verdict_in d v index
   decided = decided-is d v index lists inside
 
-  pub below-step : (k : ℕ) → has_bit rest' k ≡ true → k < size_of v.site
-  below-step k t = so_far.below k (and_parts (not (nat_eq k index)) (has_bit rest k) (sym (members k) ∙ t)).1
+  pub below-step : (k : ℕ) → rest' k ≡ true → k < size_of v.site
+  below-step k t = so_far.below k (and_parts (not (nat_eq k index)) (rest k) (sym (members k) ∙ t)).1
 
   pub buffer-here : view_buffer w index ≡ view_buffer v index
   buffer-here = so_far.buffers index inside ∙ ap (buffer_after (view_buffer v index)) (verdict-here rest rest' index members member d)
@@ -210,7 +242,7 @@ module _ (d : Decisions) (v w : View) (rest rest' index : ℕ) (whole : IsWhole 
     arrived-still : arrived_by d v rest ≡ arrived_by d v rest'
     arrived-still = ap (λ x. tail_packet (flit_by v x)) (sym (left-kept rest rest' index members member (mover v.site d.round (local_port v.site.grid)) (not_mover d v whole lists index (local_port v.site.grid) (omega arith) still)))
 
-  event_of-still : is_event (decided_verdict d index) ≡ false → (i : ℕ) → i < size_of v.site → has_bit rest' i ≡ false → is_event (decided_verdict d i) ≡ true → w.had_event ≡ true
+  event_of-still : is_event (decided_verdict d index) ≡ false → (i : ℕ) → i < size_of v.site → rest' i ≡ false → is_event (decided_verdict d i) ≡ true → w.had_event ≡ true
   event_of-still quiet i l e t = at (cases_eq i index)
     where
       at : (i ≡ index) ⊎ (i ≡ index → ⊥) → w.had_event ≡ true

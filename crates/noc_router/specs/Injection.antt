@@ -16,7 +16,8 @@ vacant_vc v = find (is_vacant v) (below v.site.vcs)
 -- the local virtual channel to which it can go: that of its packet where there is room, or for a
 -- head that is due the lowest vacant one
 abbrev pub vc_from : View → Bool → Option (ℕ × ℕ) → Option ℕ
-vc_from v due (Some (vc, index)) = if nat_lt (length (view_buffer v (local_channel v.site vc))) v.site.depth then Some vc else None
+vc_from v due (Some (vc, index)) =
+    if nat_lt (length (view_buffer v (local_channel v.site vc))) v.site.depth then Some vc else None
 vc_from v due None = if due then vacant_vc v else None
 
 -- the local virtual channel to which the next flit can go in the cycle that goes on

@@ -1,10 +1,10 @@
 -- Which view the fields of a router stand for, and what is true of these fields.
-use Rattle.std.specs.Prelude.{◌≡◌, ℕ, ◌+◌, ◌-◌, ◌*◌, ◌<◌, ◌≤◌, true, List, length, take, Option, None, slice_index_or}
+use Rattle.std.specs.Prelude.{◌≡◌, ℕ, ◌+◌, ◌-◌, ◌*◌, ◌<◌, ◌≤◌, true, List, length, take, Option}
 use Rattle.std.specs.Option.{ForSome}
 use Rattle.std.specs.List.{zip}
 use Rattle.noc_packet.specs.declared.packet.Packet.{Packet}
 use Rattle.noc_packet.specs.declared.limits.TheConstants.{MAX_CHANNELS}
-use Rattle.noc_topo.specs.Shape.{IsGrid, nodes, ports, local_port, neighbour}
+use Rattle.noc_topo.specs.Shape.{IsGrid, nodes, ports, local_port}
 use Rattle.noc_topo.specs.declared.limits.TheConstants.{LINKS}
 use Rattle.noc_router.specs.declared.router.Router.TheInside.{Inside}
 use Rattle.noc_router.specs.declared.source.Source.{Source}
@@ -26,7 +26,11 @@ view_of r = record {
   buffers = r.channels.bank.rings;
   inputs = r.channels.inputs.items;
   outputs = r.channels.outputs.items;
-  arbiters = record { channels = r.arbiters.channels.items; inputs = r.arbiters.inputs.items; outputs = r.arbiters.outputs.items };
+  arbiters = record {
+    channels = r.arbiters.channels.items;
+    inputs = r.arbiters.inputs.items;
+    outputs = r.arbiters.outputs.items;
+  };
   queue = queue_of r.source;
   sending = sending_of r.source;
   ends = zip r.arrivals.ends.items r.arrivals.cycles.items;
@@ -48,11 +52,11 @@ pub record IsRouter (r : Inside) : Type 0 where
   pub few_vcs : r.vcs ≤ MAX_CHANNELS
   pub channels : r.channels.size ≡ r.ports * r.vcs
   pub depth : r.channels.bank.capacity ≡ r.depth
-  pub leads : (port : ℕ) → port < 6 → slice_index_or r.leads.neighbours port None ≡ neighbour r.shape r.node port
   pub beats : length r.to_put ≡ LINKS
   pub sending : ForSome r.source.vc (λ vc. vc < r.vcs)
   -- the local channel that the source sends on awaits the next flit
-  pub awaiting : ForSome r.source.vc (λ vc. is_awaiting r.channels.inputs.items ((r.ports - 1) * r.vcs + vc) ≡ true)
+  pub awaiting : ForSome r.source.vc
+      (λ vc. is_awaiting r.channels.inputs.items ((r.ports - 1) * r.vcs + vc) ≡ true)
   pub counts : length r.tally.counts ≡ r.ports * r.vcs
   pub arbiter_ports : r.arbiters.ports ≡ r.ports
   pub arbiter_vcs : r.arbiters.vcs ≡ r.vcs

@@ -1,14 +1,11 @@
-pub mod Asked
+pub mod Arbiters
 pub mod Decided
 pub mod Injection
 pub mod Inside
 pub mod Members
 pub mod Parts
-pub mod SparseSets
 pub mod Planned
 pub mod Queue
-pub mod Ready
-pub mod Requests
 pub mod Settled
 pub mod Sound
 pub mod Tally

@@ -15,7 +15,12 @@ pub record ChannelStates : Type 0 where
   pub outputs : List Output
 
 abbrev pub states_in : Channels → ChannelStates
-states_in c = record { size = c.size; bank = c.bank; inputs = c.inputs.items; outputs = c.outputs.items }
+states_in c = record {
+  size = c.size;
+  bank = c.bank;
+  inputs = c.inputs.items;
+  outputs = c.outputs.items;
+}
 
 -- empty channels: the first `links` output channels go on links, the others are ejection channels
 abbrev pub opening_states : ℕ → ℕ → ℕ → ChannelStates
@@ -36,7 +41,10 @@ with_output o output s = record s { outputs = slice_set s.outputs o output }
 
 -- a flit has come to input channel i
 abbrev pub states_after_land : ℕ → Flit → ChannelStates → ChannelStates
-states_after_land i flit s = record (with_input i (input_after_land (nth_input s.inputs i) flit) s) { bank = buffers_after_push s.bank i flit }
+states_after_land i flit s =
+    record (with_input i (input_after_land (nth_input s.inputs i) flit) s) {
+      bank = buffers_after_push s.bank i flit;
+    }
 
 -- a credit has come to output channel o
 abbrev pub states_after_credit : ℕ → ChannelStates → ChannelStates
@@ -50,10 +58,12 @@ states_after_route i set s = with_input i (input_after_route (nth_input s.inputs
 abbrev pub states_after_grant : ℕ → ℕ → ChannelStates → ChannelStates
 states_after_grant i o s =
     let input = nth_input s.inputs i in
-    with_input i (input_after_grant input o) (with_output o (output_after_hold (nth_output s.outputs o) i (unwrap_or input.packet 0)) s)
+    with_input i (input_after_grant input o)
+    (with_output o (output_after_hold (nth_output s.outputs o) i (unwrap_or input.packet 0)) s)
 
 -- this flit has left input channel i by output channel o
 abbrev pub states_after_send : ℕ → ℕ → Flit → ChannelStates → ChannelStates
 states_after_send i o flit s =
-    let sent = with_input i (input_after_send (nth_input s.inputs i) flit) (with_output o (output_after_spend flit.last (nth_output s.outputs o)) s) in
+    let sent = with_input i (input_after_send (nth_input s.inputs i) flit)
+    (with_output o (output_after_spend flit.last (nth_output s.outputs o)) s) in
     record sent { bank = buffers_after_pop s.bank i }

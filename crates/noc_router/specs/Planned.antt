@@ -1,20 +1,33 @@
 -- Which decisions the fields of a plan stand for, and what is true of these fields.
-use Rattle.std.specs.Prelude.{◌≡◌, ℕ, ◌<◌, true}
-use Rattle.noc_topo.specs.Lists.{tabulate}
+use Rattle.std.specs.Prelude.{◌≡◌, ◌≤◌, length, take}
+use Rattle.noc_packet.specs.declared.limits.TheConstants.{INDICES, MAX_PORTS}
 use Rattle.noc_router.specs.declared.plan.Plan.TheInside.{Inside}
-use Rattle.noc_router.specs.Asked.{round_in, routes_in}
-use Rattle.noc_view.specs.Verdict.{is_event}
-use Rattle.noc_view.specs.VerdictSets.{verdict_by}
+use Rattle.noc_view.specs.Verdict.{Round}
 use Rattle.noc_view.specs.View.{PlanContents}
+
+-- what the arbiters have decided
+abbrev pub round_in : Inside → Round
+round_in p = record {
+  grants = take p.size p.grants;
+  picks = take p.ports p.picks;
+  wins = take p.ports p.wins;
+}
 
 abbrev pub plan_contents_in : Inside → PlanContents
 plan_contents_in p = record {
-  round = round_in p.requests;
-  asks = p.requests.channels.asks;
-  verdicts = tabulate p.requests.size (verdict_by p.verdicts);
-  routes = routes_in p.requests;
+  round = round_in p;
+  asks = take p.size p.asks;
+  verdicts = take p.size p.verdicts;
+  routes = take p.size p.routes;
 }
 
--- a verdict that takes effect is that of an input channel
-abbrev pub IsPlan : Inside → Type 0
-IsPlan p = (k : ℕ) → is_event (verdict_by p.verdicts k) ≡ true → k < p.requests.size
+-- there is room for the channels and the ports
+pub record IsPlan (p : Inside) : Type 0 where
+  pub few_ports : p.ports ≤ MAX_PORTS
+  pub few : p.size ≤ INDICES
+  pub routes : length p.routes ≡ INDICES
+  pub asks : length p.asks ≡ INDICES
+  pub verdicts : length p.verdicts ≡ INDICES
+  pub grants : length p.grants ≡ INDICES
+  pub picks : length p.picks ≡ MAX_PORTS
+  pub wins : length p.wins ≡ MAX_PORTS

@@ -1,19 +1,18 @@
--- What is true of the channels of one router: what its sets of channels have, and which input
--- channel owns which output channel.
-use Rattle.std.specs.Prelude.{◌≡◌, ◌≢◌, ℕ, ◌<◌, ◌≤◌, ◌/◌, ◌%◌, ◌⊎◌, Bool, true, false, ◌&&◌, not, length, List, [], ◌∷◌, find, Option, Some, None, is_some, option_map, slice_index_or, if◌then◌else◌}
+-- What is true of the channels of one router: what their buffers hold, and which input channel owns
+-- which output channel.
+use Rattle.std.specs.Prelude.{◌≡◌, ℕ, ◌<◌, ◌≤◌, ◌/◌, ◌%◌, ◌⊎◌, Bool, true, ◌&&◌, not, length, List, [], ◌∷◌, find, Option, Some, None, is_some, option_map, slice_index_or, if◌then◌else◌}
 use Rattle.noc_topo.specs.Lists.{below}
 use Rattle.noc_packet.specs.Set.{has_bit}
 use Rattle.noc_packet.specs.declared.packet.Flit.{Flit}
 use Rattle.noc_packet.specs.declared.limits.TheConstants.{INDICES, MAX_BUFFER}
-use Rattle.noc_vc.specs.Input.{Input, idle_input, is_active, is_empty, is_waiting}
+use Rattle.noc_vc.specs.Input.{Input, idle_input, is_empty, is_waiting}
 use Rattle.noc_vc.specs.Output.{Output, ejection_output, has_credit, is_free}
 use Rattle.noc_vc.specs.declared.input.InputState.{InputState}
 use Rattle.noc_vc.specs.declared.input.InputState.TheVariants.{Idle, Waiting, Active}
-use Rattle.noc_alloc.specs.Sparse.{AreBelow}
 use Rattle.noc_router.specs.Members.{is_within}
 use Rattle.noc_view.specs.declared.verdict.Verdict.{Verdict}
 use Rattle.noc_view.specs.declared.finding.Finding.{Finding}
-use Rattle.noc_view.specs.States.{is_occupied, owns, is_owned_from, is_supplied}
+use Rattle.noc_view.specs.States.{owns, is_owned_from}
 
 -- the sizes of one router's channels: how many there are, how many of their output channels go on
 -- links, and the depth of each buffer
@@ -23,11 +22,6 @@ pub record AreSizes (size links depth : ℕ) : Type 0 where
   pub few_links : links ≤ size
   pub some_depth : 0 < depth
   pub depth_within : depth ≤ MAX_BUFFER
-
--- a set of channels after a change: it has channel i as is said, and every other one as before
-pub record IsMarked (before after i : ℕ) (here : Bool) : Type 0 where
-  pub at : has_bit after i ≡ here
-  pub others : (k : ℕ) → k ≢ i → has_bit after k ≡ has_bit before k
 
 -- the input channel with this index, an idle one where it does not exist
 abbrev pub nth_input : List Input → ℕ → Input
@@ -59,7 +53,9 @@ KeepsAwaiting before after = (i : ℕ) → is_awaiting before i ≡ true → is_
 -- the output channel that an input channel in this state asks for
 abbrev pub asked_in : ℕ → List Output → InputState → Option ℕ
 asked_in size outputs Idle = None
-asked_in size outputs (Waiting set) = find (λ o. has_bit set o && is_free (slice_index_or outputs o ejection_output).holder) (below size)
+asked_in size outputs (Waiting set) =
+    find (λ o. has_bit set o && is_free (slice_index_or outputs o ejection_output).holder)
+    (below size)
 asked_in size outputs (Active output) = None
 
 -- the output channel that it asks for or owns
@@ -70,11 +66,16 @@ out_in (Active output) ask = Some output
 
 -- what is found of an input channel with this verdict, that asks for this output channel
 abbrev pub finding_with : ℕ → Input → Verdict → Option ℕ → Finding
-finding_with vcs input verdict ask = record { verdict = verdict; packet = input.packet; out = option_map (λ o. (o / vcs, o % vcs)) (out_in input.phase ask) }
+finding_with vcs input verdict ask = record {
+  verdict = verdict;
+  packet = input.packet;
+  out = option_map (λ o. (o / vcs, o % vcs)) (out_in input.phase ask);
+}
 
 -- ---- what input channel i can do, in a router with so many channels
 -- it is idle and holds a head, which can be routed
-pub record CanRoute (size : ℕ) (buffers : List (List Flit)) (inputs : List Input) (i : ℕ) : Type 0 where
+pub record CanRoute (size : ℕ) (buffers : List (List Flit)) (inputs : List Input) (i : ℕ)
+    : Type 0 where
   pub exists : i < size
   pub idle : (nth_input inputs i).phase ≡ Idle
   pub head : 0 < length (slice_index_or buffers i [])
@@ -87,7 +88,8 @@ pub record CanHold (size : ℕ) (inputs : List Input) (outputs : List Output) (i
   pub free : is_free (nth_output outputs o).holder ≡ true
 
 -- its packet owns output channel o, which has a credit, and its next flit is there
-pub record CanSend (size : ℕ) (buffers : List (List Flit)) (inputs : List Input) (outputs : List Output) (i o : ℕ) : Type 0 where
+pub record CanSend (size : ℕ) (buffers : List (List Flit)) (inputs : List Input)
+    (outputs : List Output) (i o : ℕ) : Type 0 where
   pub input : i < size
   pub output : o < size
   pub owned : (nth_input inputs i).phase ≡ Active o
@@ -96,34 +98,20 @@ pub record CanSend (size : ℕ) (buffers : List (List Flit)) (inputs : List Inpu
 
 -- the source can put its next flit into it: its buffer has room, and it is
 -- empty or awaits that flit
-pub record CanInject (size depth : ℕ) (buffers : List (List Flit)) (inputs : List Input) (i : ℕ) : Type 0 where
+pub record CanInject (size depth : ℕ) (buffers : List (List Flit)) (inputs : List Input) (i : ℕ)
+    : Type 0 where
   pub exists : i < size
   pub room : length (slice_index_or buffers i []) < depth
   pub next : is_empty (slice_index_or buffers i []) ≡ true ⊎ is_awaiting inputs i ≡ true
 
 -- ---- all channels
--- the sets that a router keeps of its channels
-pub record Sets : Type 0 where
-  pub filled : ℕ  -- the input channels whose buffer holds a flit
-  pub waiting : ℕ  -- the input channels whose packet waits for an output channel
-  pub active : ℕ  -- the input channels whose packet owns an output channel
-  pub supplied : ℕ  -- the input channels whose packet owns an output channel that has a credit
-  pub idle : ℕ  -- the output channels that are idle
-
--- the channels of a router, by index, with its sets
-pub record AreSound (size : ℕ) (sets : Sets) (buffers : List (List Flit)) (inputs : List Input) (outputs : List Output) : Type 0 where
-  pub filled_below : AreBelow size sets.filled
-  pub waiting_below : AreBelow size sets.waiting
-  pub active_below : AreBelow size sets.active
-  pub supplied_below : AreBelow size sets.supplied
-  pub idle_below : AreBelow size sets.idle
-  pub filled_is : (i : ℕ) → i < size → has_bit sets.filled i ≡ not (is_empty (slice_index_or buffers i []))
-  pub waiting_is : (i : ℕ) → i < size → has_bit sets.waiting i ≡ is_waiting (slice_index_or inputs i idle_input).phase
-  pub active_is : (i : ℕ) → i < size → has_bit sets.active i ≡ is_active (slice_index_or inputs i idle_input).phase
-  pub supplied_is : (i : ℕ) → i < size → has_bit sets.supplied i ≡ is_supplied outputs (slice_index_or inputs i idle_input).phase
-  pub idle_is : (o : ℕ) → o < size → has_bit sets.idle o ≡ is_free (slice_index_or outputs o ejection_output).holder
-  pub owned_below : (i : ℕ) → i < size → is_within size (slice_index_or inputs i idle_input).phase ≡ true
-  pub owner_below : (i o : ℕ) → o < size → is_owned_from (slice_index_or outputs o ejection_output).holder i ≡ true → i < size
-  pub owners : (i o : ℕ) → i < size → o < size → owns (slice_index_or inputs i idle_input).phase o ≡ is_owned_from (slice_index_or outputs o ejection_output).holder i
-  pub worms : (i : ℕ) → i < size → is_worm_of (slice_index_or inputs i idle_input) (slice_index_or buffers i []) ≡ true
-  pub vacant : (i : ℕ) → i < size → is_occupied (slice_index_or inputs i idle_input) (slice_index_or buffers i []) ≡ false → (slice_index_or inputs i idle_input).packet ≡ None
+-- the channels of a router, by index
+pub record AreSound (size : ℕ) (buffers : List (List Flit)) (inputs : List Input)
+    (outputs : List Output) : Type 0 where
+  pub owned_below : (i : ℕ) → i < size
+      → is_within size (slice_index_or inputs i idle_input).phase ≡ true
+  pub owners : (i o : ℕ) → i < size → o < size
+      → owns (slice_index_or inputs i idle_input).phase o
+      ≡ is_owned_from (slice_index_or outputs o ejection_output).holder i
+  pub worms : (i : ℕ) → i < size
+      → is_worm_of (slice_index_or inputs i idle_input) (slice_index_or buffers i []) ≡ true

@@ -1,17 +1,9 @@
 -- What a router counts of its input channels, and what it finds of them.
-use Rattle.std.specs.Prelude.{◌≡◌, ℕ, ◌^◌, ◌<◌, ◌≤◌, false, List, [], sum, length, replicate, slice_index_or}
-use Rattle.noc_packet.specs.Set.{has_bit}
-use Rattle.noc_packet.specs.declared.limits.TheConstants.{INDICES}
-use Rattle.noc_alloc.specs.Sparse.{AreBelow}
-use Rattle.noc_view.specs.Found.{empty_finding, finding_at}
+use Rattle.std.specs.Prelude.{◌≡◌, ℕ, ◌^◌, ◌<◌, List, [], sum, length, replicate, slice_index_or}
+use Rattle.noc_view.specs.Found.{finding_at}
 use Rattle.noc_view.specs.View.{PlanContents}
 use Rattle.noc_view.specs.declared.finding.Finding.{Finding}
-use Rattle.noc_ring.specs.Buffers.{buffer_at}
-use Rattle.noc_view.specs.States.{is_occupied}
 use Rattle.noc_view.specs.declared.verdict.Verdict.{Verdict}
-use Rattle.noc_view.specs.declared.verdict.Verdict.TheVariants.{Empty}
-use Rattle.noc_router.specs.Settled.{planned_verdict}
-use Rattle.noc_router.specs.Sound.{nth_input}
 use Rattle.noc_router.specs.declared.channels.Channels.{Channels}
 
 -- the ten counts of each channel, and what was found of each in the last cycle: nothing before the
@@ -24,27 +16,18 @@ pub record TallyContents : Type 0 where
 abbrev pub empty_tally : ℕ → TallyContents
 empty_tally size = record { counts = replicate size (replicate 10 0); findings = [] }
 
--- the channels of the set exist, and nothing is found of the others
-pub record AreFindings (occupied : ℕ) (findings : List Finding) : Type 0 where
-  pub below : AreBelow (length findings) occupied
-  pub empty : (k : ℕ) → has_bit occupied k ≡ false → finding_at findings k ≡ empty_finding
-
--- so many cycles are counted of each channel, and there is a finding for each: for those of the set
--- perhaps another than Empty
-pub record IsTally (cycles : ℕ) (counts : List (List ℕ)) (occupied : ℕ) (findings : List Finding) : Type 0 where
+-- so many cycles are counted of each channel, and there is a finding for each
+pub record IsTally (cycles : ℕ) (counts : List (List ℕ)) (findings : List Finding) : Type 0 where
   pub fits : cycles < 2 ^ 64
-  pub few : length counts ≤ INDICES
   pub ten : (i : ℕ) → i < length counts → length (slice_index_or counts i []) ≡ 10
   pub sums : (i : ℕ) → i < length counts → sum (slice_index_or counts i []) ≡ cycles
   pub found : length findings ≡ length counts
-  pub shown : AreFindings occupied findings
 
--- a plan of these channels, of which there are so many: those that hold nothing are Empty
+-- a plan of these channels, of which there are so many
 pub record IsPlanOf (router : Channels) (size : ℕ) (p : PlanContents) : Type 0 where
   pub channels : router.size ≡ size
   pub asks : length p.asks ≡ size
   pub verdicts : length p.verdicts ≡ size
-  pub vacant : (k : ℕ) → k < size → is_occupied (nth_input router.inputs.items k) (buffer_at router.bank k) ≡ false → planned_verdict p k ≡ Empty
 
 -- what is found of the channels has these verdicts
 abbrev pub HaveVerdicts : (ℕ → Verdict) → List Finding → Type 0

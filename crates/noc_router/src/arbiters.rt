@@ -1,17 +1,12 @@
 //! The arbiters of one router.
-//!
-//! The pointers of the switch go on in the loop over the verdicts that take effect, where the mover
-//! has just been looked up.
 
-ghost use Rattle.std.specs.Prelude.{◌≡◌, ℕ, ◌*◌, ◌<◌, ◌≤◌, All, IfOk, IfSome, List, Option, None, is_some, slice_index_or, vec_len};
-ghost use Rattle.noc_packet.specs.Set.{has_bit};
-ghost use Rattle.noc_packet.specs.declared.limits.TheConstants.{INDICES};
-ghost use Rattle.noc_alloc.specs.Allocation.{pick_of};
-ghost use Rattle.noc_alloc.specs.Arbiter.{pointers_of};
-ghost use Rattle.noc_view.specs.Verdict.{opening_arbiters};
+ghost use Rattle.std.specs.Prelude.{◌≡◌, ◌*◌, All, IfOk, vec_len};
+ghost use Rattle.noc_router.specs.Decided.{IsDecidedFor};
+ghost use Rattle.noc_view.specs.Verdict.{arbiters_after, opening_arbiters};
 
-use noc_alloc::Arbiter;
-use noc_packet::{ChannelSet, Memory};
+use crate::plan::Plan;
+use noc_alloc::{Arbiter, advance_channels, advance_switch};
+use noc_packet::Memory;
 use std::alloc::Global;
 
 /// An arbiter over all input channels for each output channel, one over its channels for each input
@@ -32,12 +27,12 @@ pub(crate) struct Arbiters {
 }
 
 impl Arbiters {
-    ghost use Rattle.noc_router.specs.Asked.{IsSizedRouter, arbiter_states_in, sized_arbiters_in};
-    ghost use Rattle.noc_router.specs.Settled.{states_past};
+    ghost use Rattle.noc_router.specs.Arbiters.{IsSizedRouter, arbiter_states_in, sized_arbiters_in};
 
     pub(crate) fn new(alloc: Global, ports: usize, vcs: usize) -> Result<Arbiters, Memory>
         requires { IsSizedRouter ports vcs }
-        ensures { IfOk result (λ arbiters. sized_arbiters_in arbiters ≡ record { ports = ports; vcs = vcs; states = opening_arbiters ports vcs }) }
+        ensures { IfOk result (λ arbiters. sized_arbiters_in arbiters
+            ≡ record { ports = ports; vcs = vcs; states = opening_arbiters ports vcs }) }
     {
         let size = ports * vcs;
         Ok(Arbiters {
@@ -49,26 +44,20 @@ impl Arbiters {
         })
     }
 
-    // The virtual channel that an input port picks: of those that are ready, the one
-    // that its arbiter puts first.
-    pub(crate) fn pick(&self, ready: ChannelSet, port: usize) -> Option<usize>
-        requires port { port < self.now.ports }
-        requires few { self.now.ports * self.now.vcs ≤ INDICES }
-        ensures vc { IfSome result (λ vc. vc < self.now.vcs) }
-        ensures pick { (asked : List (Option ℕ)) → ((k : ℕ) → has_bit ready k ≡ is_some (slice_index_or asked k None)) → result ≡ pick_of asked self.now.vcs (pointers_of (arbiter_states_in self.now).inputs) port }
+    // The pointers go on past those who have won.
+    pub(crate) fn advance(&mut self, plan: &Plan)
+        requires { IsDecidedFor self.old.ports self.old.vcs plan.now }
+        ensures { sized_arbiters_in self.new
+            ≡ record (sized_arbiters_in self.old) {
+              states = arbiters_after plan.now.round (arbiter_states_in self.old);
+            } }
     {
-        self.inputs[port].pick(ready.part(port * self.vcs, self.vcs))
-    }
-
-    // The pointers of an input port and an output port go on past the virtual channel and
-    // the input port that won.
-    pub(crate) fn advance_switch_pointers(&mut self, port: usize, vc: usize, output: usize)
-        requires port { port < self.old.ports }
-        requires vc { vc < self.old.vcs }
-        requires output { output < self.old.ports }
-        ensures { sized_arbiters_in self.new ≡ record (sized_arbiters_in self.old) { states = states_past port vc output (arbiter_states_in self.old) } }
-    {
-        self.inputs[port].advance(Some(vc));
-        self.outputs[output].advance(Some(port));
+        advance_channels(plan.grants(), &mut self.channels);
+        advance_switch(
+            plan.picks(),
+            plan.wins(),
+            &mut self.inputs,
+            &mut self.outputs,
+        );
     }
 }

@@ -21,7 +21,8 @@ pub(crate) struct Arrivals {
 impl Arrivals {
     pub(crate) fn new(alloc: Global, ends: Vec<u32>) -> Result<Arrivals, Memory>
         requires { IsStrictlyIncreasing ends.items }
-        ensures { IfOk result (λ arrivals. zip arrivals.ends.items arrivals.cycles.items ≡ map (λ p. (p, None)) ends.items) }
+        ensures { IfOk result (λ arrivals. zip arrivals.ends.items arrivals.cycles.items
+            ≡ map (λ p. (p, None)) ends.items) }
     {
         let cycles = vec![in alloc; None; ends.len()]?;
         Ok(Arrivals { ends, cycles })
@@ -40,8 +41,11 @@ impl Arrivals {
     // Notes that a packet's tail is out. False where the packet was not built to end
     // here or has arrived before.
     pub(crate) fn note(&mut self, packet: u32, cycle: u64) -> bool
-        ensures expected { result ≡ is_expected_in packet (zip self.old.ends.items self.old.cycles.items) }
-        ensures noted { zip self.new.ends.items self.new.cycles.items ≡ (if result then arrivals_after packet cycle (zip self.old.ends.items self.old.cycles.items) else zip self.old.ends.items self.old.cycles.items) }
+        ensures expected { result
+            ≡ is_expected_in packet (zip self.old.ends.items self.old.cycles.items) }
+        ensures noted { zip self.new.ends.items self.new.cycles.items ≡ (if result
+            then arrivals_after packet cycle (zip self.old.ends.items self.old.cycles.items)
+            else zip self.old.ends.items self.old.cycles.items) }
     {
         let Ok(index) = self.ends.binary_search(&packet) else {
             return false;

@@ -1,11 +1,6 @@
 //! The buffers, input channels and output channels of one router.
-//!
-//! Beside the channels stand sets of them by state: filled, waiting, active, supplied with a
-//! credit, and the idle output channels. So stalled channels get their verdict by a few operations
-//! on words, and each loop visits only channels that have something to do. That the sets are those
-//! of the states is an invariant (`specs/Sound.antt`).
 
-ghost use Rattle.std.specs.Prelude.{◌≡◌, ℕ, ◌≤◌, ◌<◌, ◌-◌, ◌++◌, ◌&&◌, true, false, None, IfOk, IfSome, length, nat_lt, not, Some, slice_get, slice_index_or, vec_len, if◌then◌else◌, replicate};
+ghost use Rattle.std.specs.Prelude.{◌≡◌, ◌≤◌, ◌<◌, ◌-◌, ◌++◌, ◌&&◌, true, false, find, None, IfOk, length, nat_lt, not, Some, slice_get, vec_len, if◌then◌else◌, replicate};
 ghost use Rattle.noc_topo.specs.Shape.{nodes as nodes_of, ports as ports_of};
 ghost use Rattle.noc_topo.specs.Lists.{below};
 ghost use Rattle.noc_packet.specs.Set.{has_bit};
@@ -13,33 +8,22 @@ ghost use Rattle.noc_packet.specs.declared.limits.TheConstants.{INDICES};
 ghost use Rattle.noc_ring.specs.Buffers.{buffer_at};
 ghost use Rattle.noc_vc.specs.Input.{is_idle_phase, is_empty, fits};
 ghost use Rattle.noc_vc.specs.Output.{ejection_output, link_output, is_free, is_owned, has_credit, credit_fits, output_after_spend};
-ghost use Rattle.noc_alloc.specs.Sparse.{AreBelow};
 ghost use Rattle.noc_router.specs.Members.{is_within};
-ghost use Rattle.noc_router.specs.Sound.{nth_input, nth_output, CanHold, CanInject, CanRoute, CanSend, IsMarked, KeepsAwaiting, AreSizes, AreSound, asked_in};
+ghost use Rattle.noc_router.specs.Sound.{nth_input, nth_output, CanHold, CanInject, CanRoute, CanSend, KeepsAwaiting, AreSizes, AreSound, asked_in};
 ghost use Rattle.noc_router.specs.Settled.{finding_by};
-ghost use Rattle.noc_view.specs.ReadySets.{AreReadySets};
-ghost use Rattle.noc_view.specs.States.{is_occupied};
 
 use crate::plan::Plan;
 use noc_packet::{ChannelSet, Flit, Memory};
 use noc_ring::Bank;
 use noc_route::Relation;
-use noc_vc::{InputChannel, InputState, Misfit, OutputChannel, OutputState};
-use noc_view::{Finding, ReadySets};
+use noc_vc::{InputChannel, InputState, OutputChannel, OutputState};
+use noc_view::Finding;
 use std::alloc::Global;
 
 /// The channels of one router, by index: port * V + virtual channel.
 #[derive(Drop)]
 pub(crate) struct Channels {
     size: usize,
-    // The input channels whose buffer holds a flit, whose packet waits for an output channel, whose
-    // packet owns one, and of the last those whose output channel has a credit.
-    filled: ChannelSet,
-    waiting: ChannelSet,
-    active: ChannelSet,
-    supplied: ChannelSet,
-    // The output channels that are idle.
-    idle: ChannelSet,
     pub(crate) bank: Bank,
     inputs: Vec<InputChannel>,
     outputs: Vec<OutputChannel>,
@@ -48,7 +32,7 @@ pub(crate) struct Channels {
     ghost an_input_each: { vec_len inputs ≡ size },
     ghost an_output_each: { vec_len outputs ≡ size },
     ghost some_depth: { 0 < bank.capacity },
-    ghost sound: { AreSound size (record { filled = filled; waiting = waiting; active = active; supplied = supplied; idle = idle }) bank.rings inputs.items outputs.items },
+    ghost sound: { AreSound size bank.rings inputs.items outputs.items },
 }
 
 impl Channels {
@@ -69,48 +53,40 @@ impl Channels {
         let mut inputs = Vec::new(alloc);
         inputs.resize(size, InputChannel::new())?;
         let outputs = idle_outputs(alloc, size, links, depth)?;
-        let none = ChannelSet::empty();
         Ok(Channels {
             size,
-            filled: none,
-            waiting: none,
-            active: none,
-            supplied: none,
-            idle: all_channels(size),
             bank,
             inputs,
             outputs,
         })
     }
 
-    // The input channels that hold a packet or a flit.
-    pub(crate) fn occupied(&self) -> ChannelSet
-        ensures below { AreBelow self.now.size result }
-        ensures members { (i : ℕ) → i < self.now.size → has_bit result i ≡ is_occupied (nth_input self.now.inputs.items i) (buffer_at self.now.bank i) }
-    {
-        self.filled.either(self.waiting).either(self.active)
-    }
-
     // Whether an input channel is idle with an empty buffer.
     pub(crate) fn is_vacant(&self, index: usize) -> bool
         requires { index < self.now.size }
-        ensures { result ≡ (is_idle_phase (nth_input self.now.inputs.items index).phase && is_empty (buffer_at self.now.bank index)) }
+        ensures { result ≡ (is_idle_phase (nth_input self.now.inputs.items index).phase
+            && is_empty (buffer_at self.now.bank index)) }
     {
-        !self.occupied().contains(index)
+        match self.inputs[index].state() {
+            InputState::Idle => !self.has_flit(index),
+            _ => false,
+        }
     }
 
-    // What the input channels that hold something can go on with.
-    pub(crate) fn ready_sets(&self) -> ReadySets
-        ensures { AreReadySets self.now.size self.now.bank.rings self.now.inputs.items self.now.outputs.items result }
+    // Whether the buffer of an input channel holds a flit.
+    pub(crate) fn has_flit(&self, index: usize) -> bool
+        requires { index < self.now.size }
+        ensures { result ≡ not (is_empty (buffer_at self.now.bank index)) }
     {
-        let sendable = self.active.both(self.filled);
-        ReadySets {
-            heads: self.filled.less(self.waiting).less(self.active),
-            waiting: self.waiting,
-            no_flit: self.active.less(self.filled),
-            no_credit: sendable.less(self.supplied),
-            ready: sendable.both(self.supplied),
-        }
+        self.bank.len(index) > 0
+    }
+
+    // Whether a flit can leave by an output channel: it has a credit, or is an ejection channel.
+    pub(crate) fn has_credit(&self, index: usize) -> bool
+        requires { index < self.now.size }
+        ensures { result ≡ has_credit (nth_output self.now.outputs.items index) }
+    {
+        self.outputs[index].credit() != Some(0)
     }
 
     // A flit comes to an input channel, which is virtual channel `vc` of an input port of this
@@ -128,27 +104,24 @@ impl Channels {
         requires router { router < nodes_of relation.now.grid }
         requires port { port < ports_of relation.now.grid }
         requires vc { vc < relation.now.vcs }
-        ensures fits { result ≡ fits relation.now router port vc self.old.bank.capacity (buffer_at self.old.bank index) (nth_input self.old.inputs.items index) flit.now }
-        ensures states { states_in self.new ≡ (if result then states_after_land index flit.now (states_in self.old) else states_in self.old) }
+        ensures fits { result ≡ fits relation.now router port vc self.old.bank.capacity
+            (buffer_at self.old.bank index) (nth_input self.old.inputs.items index) flit.now }
+        ensures states { states_in self.new ≡ (if result
+            then states_after_land index flit.now (states_in self.old) else states_in self.old) }
     {
-        let input = &mut self.inputs[index];
-        match input.land_from(&mut self.bank, index, relation, router, port, vc, flit) {
-            Ok(()) => {
-                self.filled = self.filled.with(index);
-                true
-            }
-            Err(Misfit) => false,
-        }
+        self.inputs[index]
+            .land(&mut self.bank, index, relation, router, port, vc, *flit)
+            .is_ok()
     }
 
     // The source puts its next flit into the buffer of a local channel that has room: the head into
     // an empty one, and then the flits that the channel awaits.
     pub(crate) fn inject(&mut self, index: usize, flit: Flit)
-        requires { CanInject self.old.size self.old.bank.capacity self.old.bank.rings self.old.inputs.items index }
+        requires { CanInject self.old.size self.old.bank.capacity self.old.bank.rings
+            self.old.inputs.items index }
         ensures { states_in self.new ≡ states_after_land index flit (states_in self.old) }
     {
         self.inputs[index].inject(&mut self.bank, index, flit);
-        self.filled = self.filled.with(index);
     }
 
     // A credit arrives at an output channel. False where it does not fit, and
@@ -156,18 +129,10 @@ impl Channels {
     pub(crate) fn credit_back(&mut self, index: usize) -> bool
         requires { index < self.old.size }
         ensures fits { result ≡ credit_fits (nth_output self.old.outputs.items index) }
-        ensures states { states_in self.new ≡ (if result then states_after_credit index (states_in self.old) else states_in self.old) }
+        ensures states { states_in self.new ≡ (if result
+            then states_after_credit index (states_in self.old) else states_in self.old) }
     {
-        let output = &mut self.outputs[index];
-        if output.credit_back().is_err() {
-            return false;
-        }
-        match output.state() {
-            OutputState::Idle => self.idle = self.idle.with(index),
-            OutputState::Owned(input, _) => self.supplied = self.supplied.with(input),
-            OutputState::Draining => {}
-        }
-        true
+        self.outputs[index].credit_back().is_ok()
     }
 
     // The state of an input channel.
@@ -183,13 +148,36 @@ impl Channels {
     // the idle ones in its set.
     pub(crate) fn asked(&self, index: usize) -> Option<usize>
         requires { index < self.now.size }
-        ensures value { result ≡ asked_in self.now.size self.now.outputs.items (nth_input self.now.inputs.items index).phase }
-        ensures within { IfSome result (λ output. output < self.now.size) }
+        ensures { result ≡ asked_in self.now.size self.now.outputs.items
+            (nth_input self.now.inputs.items index).phase }
     {
         match self.inputs[index].state() {
-            InputState::Waiting(set) => set.least_common(&self.idle),
+            InputState::Waiting(set) => self.least_idle(set),
             _ => None,
         }
+    }
+
+    // The idle output channel of a set with the least index.
+    fn least_idle(&self, set: ChannelSet) -> Option<usize>
+        ensures { result
+            ≡ find (λ o. has_bit set o && is_free (nth_output self.now.outputs.items o).holder)
+            (below self.now.size) }
+    {
+        for output in 0..self.size {
+            if self.is_idle_in(set, output) {
+                return Some(output);
+            }
+        }
+        None
+    }
+
+    // Whether an output channel is in a set, and idle.
+    fn is_idle_in(&self, set: ChannelSet, output: usize) -> bool
+        requires { output < self.now.size }
+        ensures { result
+            ≡ (has_bit set output && is_free (nth_output self.now.outputs.items output).holder) }
+    {
+        set.contains(output) && self.outputs[output].state() == OutputState::Idle
     }
 
     // What is found of an input channel by a plan of these channels.
@@ -228,7 +216,6 @@ impl Channels {
         ensures awaits { KeepsAwaiting self.old.inputs.items self.new.inputs.items }
     {
         self.inputs[index].route(set);
-        self.waiting = self.waiting.with(index);
     }
 
     // A waiting input channel gets an idle output channel.
@@ -238,31 +225,22 @@ impl Channels {
         ensures awaits { KeepsAwaiting self.old.inputs.items self.new.inputs.items }
     {
         let input = &mut self.inputs[index];
-        let output = &mut self.outputs[next];
-        output.hold(index, input.packet().unwrap_or(0));
+        self.outputs[next].hold(index, input.packet().unwrap_or(0));
         input.grant(next);
-        self.idle = self.idle.without(next);
-        self.waiting = self.waiting.without(index);
-        self.active = self.active.with(index);
-        self.supplied = marked(self.supplied, index, output.credit() != Some(0));
     }
 
     // The first flit of an input channel leaves by the output channel that its packet
     // owns, which has a credit.
     pub(crate) fn send(&mut self, index: usize, next: usize) -> Flit
-        requires { CanSend self.old.size self.old.bank.rings self.old.inputs.items self.old.outputs.items index next }
+        requires { CanSend self.old.size self.old.bank.rings self.old.inputs.items
+            self.old.outputs.items index next }
         ensures value { slice_get (buffer_at self.old.bank index) 0 ≡ Some result }
-        ensures states { states_in self.new ≡ states_after_send index next result (states_in self.old) }
+        ensures states { states_in self.new
+            ≡ states_after_send index next result (states_in self.old) }
         ensures awaits { KeepsAwaiting self.old.inputs.items self.new.inputs.items }
     {
         let flit = self.inputs[index].send(&mut self.bank, index);
-        let output = &mut self.outputs[next];
-        spend(output, flit.last);
-        let supplied = !flit.last && output.credit() != Some(0);
-        self.idle = marked(self.idle, next, is_idle(output));
-        self.active = marked(self.active, index, !flit.last);
-        self.filled = marked(self.filled, index, self.bank.len(index) > 0);
-        self.supplied = marked(self.supplied, index, supplied);
+        spend(&mut self.outputs[next], flit.last);
         flit
     }
 }
@@ -280,25 +258,6 @@ fn spend(output: &mut OutputChannel, last: bool)
     }
 }
 
-// Whether an output channel is idle.
-fn is_idle(output: &OutputChannel) -> bool
-    ensures { result ≡ is_free output.now.holder }
-{
-    output.state() == OutputState::Idle
-}
-
-// A set with this index or without it, as is said.
-pub(crate) fn marked(set: ChannelSet, index: usize, is_member: bool) -> ChannelSet
-    requires { index < INDICES }
-    ensures { IsMarked set result index is_member }
-{
-    if is_member {
-        set.with(index)
-    } else {
-        set.without(index)
-    }
-}
-
 // Idle output channels, of which the first `links` go on links.
 fn idle_outputs(
     alloc: Global,
@@ -307,22 +266,11 @@ fn idle_outputs(
     depth: usize,
 ) -> Result<Vec<OutputChannel>, Memory>
     requires { AreSizes size links depth }
-    ensures { IfOk result (λ outputs. outputs.items ≡ replicate links (link_output depth) ++ replicate (size - links) ejection_output) }
+    ensures { IfOk result (λ outputs. outputs.items
+        ≡ replicate links (link_output depth) ++ replicate (size - links) ejection_output) }
 {
     let mut outputs = Vec::new(alloc);
     outputs.resize(links, OutputChannel::link(depth))?;
     outputs.resize(size, OutputChannel::ejection())?;
     Ok(outputs)
-}
-
-// The set of the first `size` channels.
-fn all_channels(size: usize) -> ChannelSet
-    requires { size ≤ INDICES }
-    ensures { (k : ℕ) → has_bit result k ≡ nat_lt k size }
-{
-    let mut set = ChannelSet::empty();
-    for index in 0..size {
-        set = set.with(index);
-    }
-    set
 }

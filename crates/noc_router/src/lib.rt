@@ -4,9 +4,7 @@
 mod arbiters;
 mod arrivals;
 mod channels;
-mod leads;
 mod plan;
-mod requests;
 mod router;
 mod source;
 mod tally;

@@ -5,20 +5,14 @@
 //! the view, so `commit` reads them there. A whole cycle is defined by `Decisions`, which adds
 //! findings; `decisions-are` proves once that both agree.
 
-ghost use Rattle.std.specs.Prelude.{◌≡◌, ℕ, ◌<◌, IsOkAnd, IfSome, length, slice_index, slice_index_or, None};
+ghost use Rattle.std.specs.Prelude.{◌≡◌, ◌<◌, IsOkAnd, length, slice_index, slice_index_or, None};
 ghost use Rattle.noc_topo.specs.Shape.{ports as ports_of};
-ghost use Rattle.noc_packet.specs.Set.{has_bit};
-ghost use Rattle.noc_packet.specs.declared.limits.TheConstants.{INDICES};
-ghost use Rattle.noc_router.specs.Asked.{arbiter_states_in, channels_past, sized_arbiters_in};
-ghost use Rattle.noc_router.specs.Decided.{IsDecidedFor, empty_plan_contents};
+ghost use Rattle.noc_router.specs.Decided.{empty_plan_contents};
 ghost use Rattle.noc_view.specs.declared.verdict.Verdict.TheVariants.{Empty};
-ghost use Rattle.noc_view.specs.Verdict.{is_event};
 
-use crate::arbiters::Arbiters;
-use crate::requests::Requests;
-use noc_packet::{ChannelSet, Memory};
+use noc_packet::{ChannelSet, INDICES, MAX_PORTS, Memory};
 use noc_route::Relation;
-use noc_view::{Verdict, VerdictSets};
+use noc_view::Verdict;
 use std::alloc::Global;
 use std::marker::Model;
 
@@ -28,8 +22,18 @@ use std::marker::Model;
 /// One plan serves all routers, one after the other: it has room for any router.
 #[derive(Drop)]
 pub struct Plan {
-    pub(crate) requests: Requests,
-    pub(crate) verdicts: VerdictSets,
+    pub(crate) ports: usize,
+    pub(crate) size: usize,
+    // By input channel: the set for its head, the output channel that it asks for, its verdict.
+    pub(crate) routes: [ChannelSet; INDICES],
+    pub(crate) asks: [Option<usize>; INDICES],
+    pub(crate) verdicts: [Verdict; INDICES],
+    // The input channel that each output channel goes to.
+    pub(crate) grants: [Option<usize>; INDICES],
+    // The virtual channel that each input port picks, and the input port that each output port
+    // goes to.
+    pub(crate) picks: [Option<usize>; MAX_PORTS],
+    pub(crate) wins: [Option<usize>; MAX_PORTS],
 }
 
 impl Model for Plan {
@@ -48,40 +52,56 @@ impl Plan {
     /// A plan without requests, of a router of this relation's network. It takes no memory from
     /// `alloc`, so it is never refused.
     pub fn new(alloc: Global, relation: &Relation) -> Result<Plan, Memory>
-        ensures { IsOkAnd result (λ plan. plan ≡ empty_plan_contents (ports_of relation.now.grid) relation.now.vcs) }
+        ensures { IsOkAnd result (λ plan. plan
+            ≡ empty_plan_contents (ports_of relation.now.grid) relation.now.vcs) }
     {
         let _ = alloc;
-        let mut plan = Plan {
-            requests: Requests::new(),
-            verdicts: VerdictSets::none(),
-        };
-        plan.clear(relation);
-        Ok(plan)
+        Ok(Plan::empty(relation))
+    }
+
+    // A plan without requests, of a router of this relation's network.
+    fn empty(relation: &Relation) -> Plan
+        ensures { result ≡ empty_plan_contents (ports_of relation.now.grid) relation.now.vcs }
+    {
+        let ports = relation.shape().ports();
+        Plan {
+            ports,
+            size: ports * relation.vcs(),
+            routes: [ChannelSet::empty(); INDICES],
+            asks: [None; INDICES],
+            verdicts: [Verdict::Empty; INDICES],
+            grants: [None; INDICES],
+            picks: [None; MAX_PORTS],
+            wins: [None; MAX_PORTS],
+        }
     }
 
     /// Makes it a plan without requests again, of a router of this relation's network.
     pub fn clear(&mut self, relation: &Relation)
         ensures { self.new ≡ empty_plan_contents (ports_of relation.now.grid) relation.now.vcs }
     {
-        let ports = relation.shape().ports();
-        self.requests.clear(ports, ports * relation.vcs());
-        self.verdicts = VerdictSets::none();
+        *self = Plan::empty(relation);
     }
 
-    // The pointers of the output channels go on past the input channels that they were granted to.
-    pub(crate) fn advance(&self, arbiters: &mut Arbiters)
-        requires { IsDecidedFor arbiters.old.ports arbiters.old.vcs self.now }
-        ensures { sized_arbiters_in arbiters.new ≡ record (sized_arbiters_in arbiters.old) { states = channels_past self.now.round (arbiter_states_in arbiters.old) } }
+    // The input channel that each output channel goes to.
+    pub(crate) fn grants(&self) -> &[Option<usize>]
+        ensures { result.now ≡ self.now.round.grants }
     {
-        self.requests.channels.advance(&mut arbiters.channels);
+        &self.grants[..self.size]
     }
 
-    // The input channels whose verdict takes effect.
-    pub(crate) fn events(&self) -> ChannelSet
-        ensures { (k : ℕ) → has_bit result k ≡ is_event (slice_index_or self.now.verdicts k Empty) }
+    // The virtual channel that each input port picks.
+    pub(crate) fn picks(&self) -> &[Option<usize>]
+        ensures { result.now ≡ self.now.round.picks }
     {
-        let sets = &self.verdicts;
-        sets.moved.either(sets.granted.either(sets.routed))
+        &self.picks[..self.ports]
+    }
+
+    // The input port that each output port goes to.
+    pub(crate) fn wins(&self) -> &[Option<usize>]
+        ensures { result.now ≡ self.now.round.wins }
+    {
+        &self.wins[..self.ports]
     }
 
     // The verdict on an input channel.
@@ -89,23 +109,25 @@ impl Plan {
         requires { index < length self.now.verdicts }
         ensures { result ≡ slice_index_or self.now.verdicts index Empty }
     {
-        self.verdicts.verdict(index)
+        let verdicts = &self.verdicts[..self.size];
+        verdicts[index]
     }
 
     // The output channel that an input channel asks for.
     pub(crate) fn ask(&self, index: usize) -> Option<usize>
-        requires { index < INDICES }
-        ensures value { result ≡ slice_index_or self.now.asks index None }
-        ensures within { IfSome result (λ output. output < length self.now.asks) }
+        requires { index < length self.now.asks }
+        ensures { result ≡ slice_index_or self.now.asks index None }
     {
-        self.requests.channels.asked(index)
+        let asks = &self.asks[..self.size];
+        asks[index]
     }
 
-    // The set for the head of an input channel.
+    // The set for the head of an input channel: the empty one where there is none.
     pub(crate) fn route(&self, index: usize) -> ChannelSet
-        requires { index < INDICES }
+        requires { index < length self.now.routes }
         ensures { result ≡ slice_index self.now.routes index }
     {
-        self.requests.route(index)
+        let routes = &self.routes[..self.size];
+        routes[index]
     }
 }

@@ -1,39 +1,35 @@
 //! The router.
 
 ghost use Rattle.std.specs.List.Sorted.{IsStrictlyIncreasing};
-ghost use Rattle.std.specs.Prelude.{◌≡◌, ◌+◌, ◌*◌, ◌/◌, ◌%◌, ◌<◌, ◌≤◌, All, IfOk, IfSome, Some, true, ◌⊎◌, length, ℕ, None, replicate, slice_index_or, [], false, if◌then◌else◌};
-ghost use Rattle.noc_topo.specs.Shape.{IsGrid, nodes as nodes_of, ports as ports_of, local_port, neighbour as neighbour_of};
+ghost use Rattle.std.specs.Prelude.{◌≡◌, ◌+◌, ◌*◌, ◌/◌, ◌%◌, ◌<◌, ◌≤◌, not, All, IfOk, IfSome, Some, true, ◌⊎◌, length, None, slice_index_or, [], false, if◌then◌else◌};
+ghost use Rattle.noc_topo.specs.Shape.{nodes as nodes_of, ports as ports_of, local_port, neighbour as neighbour_of};
 ghost use Rattle.noc_topo.specs.Lists.{tabulate};
 ghost use Rattle.noc_vc.specs.Input.{is_empty};
 ghost use Rattle.noc_view.specs.Arrivals.{noted_arrival};
-ghost use Rattle.noc_router.specs.Asked.{lists_in, round_in, routes_in};
 ghost use Rattle.noc_view.specs.Finish.{view_after_finish};
+ghost use Rattle.noc_router.specs.Decided.{verdict_at};
 ghost use Rattle.noc_router.specs.Injection.{next_vc, vacant_vc};
-ghost use Rattle.noc_view.specs.View.{IsRelationOf, local_channel, size_of, view_buffer, opening_view, with_flit, with_credit, view_after_take, view_after_takes, view_after_inject, decisions_of, plan_contents, view_after_commit, beat_to_put, view_after_put, idle_beats, local_step, route_for, route_of, view_stands, first_flit, view_input, with_arrival};
+ghost use Rattle.noc_view.specs.View.{IsRelationOf, local_channel, size_of, view_buffer, opening_view, with_flit, with_credit, view_after_take, view_after_takes, view_after_inject, decisions_of, plan_contents, view_after_commit, beat_to_put, view_after_put, idle_beats, local_step, route_for, route_of, view_claim, view_round, view_stands, first_flit, with_arrival};
 ghost use Rattle.noc_alloc.specs.Requests.{AllBelow};
-ghost use Rattle.noc_router.specs.Settled.{AreContentsFor, CanGrant, CanTakeEffect, decisions_by, effect_of, planned_verdict, passed_by, switch_past, view_after_tally, view_after_verdicts, view_after_route, view_after_grant, moved_by, credit_put, flit_put};
+ghost use Rattle.noc_router.specs.Settled.{AreContentsFor, CanGrant, CanTakeEffect, decisions_by, effect_of, planned_verdict, view_after_tally, view_after_verdicts, view_after_route, view_after_grant, moved_by, credit_put, flit_put};
 ghost use Rattle.noc_router.specs.Sound.{CanRoute, CanSend, is_awaiting};
-ghost use Rattle.noc_router.specs.Ready.{AreAsked, AreHeads, AreReady, AreRequestsOf, AreVerdictsOf, AreWaiting, IsPick, picked_vc, picked_way};
-ghost use Rattle.noc_view.specs.ReadySets.{AreReadySetsOf};
 ghost use Rattle.noc_route.specs.Routes.{Routes};
-ghost use Rattle.noc_packet.specs.Set.{has_bit};
 ghost use Rattle.noc_packet.specs.declared.limits.TheConstants.{INDICES};
 ghost use Rattle.noc_view.specs.Start.{IsNumberedPacket};
-ghost use Rattle.noc_view.specs.Verdict.{arbiters_after, asks_of, is_event};
+ghost use Rattle.noc_view.specs.Verdict.{Round, ask_of, asks_of, ready_of, ready_port};
 
 use crate::arbiters::Arbiters;
 use crate::arrivals::Arrivals;
 use crate::channels::Channels;
-use crate::leads::Leads;
 use crate::plan::Plan;
-use crate::requests::Requests;
 use crate::source::Source;
 use crate::tally::Tally;
-use noc_packet::{Beat, ChannelSet, Flit, MAX_BUFFER, Memory, Packet};
+use noc_alloc::{allocate_channels, allocate_switch};
+use noc_packet::{Beat, ChannelSet, Flit, INDICES, MAX_BUFFER, MAX_PORTS, Memory, Packet};
 use noc_route::Relation;
 use noc_topo::{LINKS, Shape};
 use noc_vc::InputState;
-use noc_view::{Finding, ReadySets, VERDICTS, Verdict, VerdictSets};
+use noc_view::{Finding, VERDICTS, Verdict};
 use std::alloc::Global;
 use std::marker::Model;
 
@@ -56,7 +52,6 @@ pub struct Router {
     misfits: u64,
     source: Source,
     channels: Channels,
-    leads: Leads,
     // The beat that is still to be put on each link.
     to_put: [Beat; LINKS],
     tally: Tally,
@@ -95,7 +90,9 @@ impl Router {
         requires depth { depth ≤ MAX_BUFFER }
         requires starts { All IsNumberedPacket starts.items }
         requires ends { IsStrictlyIncreasing ends.items }
-        ensures { IfOk result (λ router. router ≡ opening_view (record { grid = relation.now.grid; node = node; vcs = relation.now.vcs; depth = depth }) starts.items ends.items) }
+        ensures { IfOk result (λ router. router ≡ opening_view (record
+            { grid = relation.now.grid; node = node; vcs = relation.now.vcs; depth = depth })
+            starts.items ends.items) }
     {
         let shape = *relation.shape();
         let ports = shape.ports();
@@ -115,7 +112,6 @@ impl Router {
             misfits: 0,
             source: Source::new(starts),
             channels,
-            leads: Leads::new(&shape, node),
             to_put: [Beat::idle(); LINKS],
             tally,
             arbiters,
@@ -148,7 +144,7 @@ impl Router {
         ensures { self.new ≡ with_flit relation.now port (Some (vc, flit.now)) self.old }
     {
         if vc < self.vcs
-            && self.leads.neighbour(port).is_some()
+            && self.neighbour(port).is_some()
             && self
                 .channels
                 .land(port * self.vcs + vc, relation, self.node, port, vc, flit)
@@ -166,7 +162,7 @@ impl Router {
         ensures { self.new ≡ with_credit port (Some vc) self.old }
     {
         if vc < self.vcs
-            && self.leads.neighbour(port).is_some()
+            && self.neighbour(port).is_some()
             && self.channels.credit_back(port * self.vcs + vc)
         {
             self.had_event = true;
@@ -199,8 +195,11 @@ impl Router {
     fn next_channel(&self) -> Option<usize>
         ensures value { result ≡ next_vc self.now }
         ensures within { IfSome result (λ vc. vc < self.now.site.vcs) }
-        ensures room { IfSome result (λ vc. length (view_buffer self.now (local_channel self.now.site vc)) < self.now.site.depth) }
-        ensures next { IfSome result (λ vc. is_empty (view_buffer self.now (local_channel self.now.site vc)) ≡ true ⊎ is_awaiting self.now.inputs (local_channel self.now.site vc) ≡ true) }
+        ensures room { IfSome result (λ vc. length (view_buffer self.now
+            (local_channel self.now.site vc)) < self.now.site.depth) }
+        ensures next { IfSome result (λ vc. is_empty (view_buffer self.now
+            (local_channel self.now.site vc)) ≡ true
+            ⊎ is_awaiting self.now.inputs (local_channel self.now.site vc) ≡ true) }
     {
         match self.source.vc {
             Some(vc) => {
@@ -216,7 +215,8 @@ impl Router {
     fn vacant_channel(&self) -> Option<usize>
         ensures value { result ≡ vacant_vc self.now }
         ensures within { IfSome result (λ vc. vc < self.now.site.vcs) }
-        ensures empty { IfSome result (λ vc. is_empty (view_buffer self.now (local_channel self.now.site vc)) ≡ true) }
+        ensures empty { IfSome result (λ vc. is_empty (view_buffer self.now
+            (local_channel self.now.site vc)) ≡ true) }
     {
         for vc in 0..self.vcs {
             if self.channels.is_vacant((self.ports - 1) * self.vcs + vc) {
@@ -233,30 +233,63 @@ impl Router {
         ensures value { plan.new ≡ plan_contents relation.now self.now }
         ensures picks { AllBelow self.now.site.vcs plan.new.round.picks }
     {
-        let sets = self.channels.ready_sets();
-        plan.requests.clear(self.ports, self.ports * self.vcs);
-        self.route_heads(relation, sets.heads, &mut plan.requests);
-        self.ask_for_channels(sets.waiting, &mut plan.requests);
-        self.ask_for_ports(sets.ready, &mut plan.requests);
-        plan.requests.grant(&self.arbiters);
-        plan.verdicts = self.verdicts(&sets, &plan.requests);
+        let ports = self.ports;
+        let size = ports * self.vcs;
+        let mut routes = [ChannelSet::empty(); INDICES];
+        let mut asks = [None; INDICES];
+        let mut ready = [None; INDICES];
+        let mut grants = [None; INDICES];
+        let mut picks = [None; MAX_PORTS];
+        let mut wins = [None; MAX_PORTS];
+        let mut verdicts = [Verdict::Empty; INDICES];
+        self.route_heads(relation, &mut routes[..size]);
+        self.ask_for_channels(&mut asks[..size]);
+        self.ask_for_ports(&mut ready[..size]);
+        self.grant_channels(&asks[..size], &mut grants[..size]);
+        self.grant_ports(&ready[..size], &mut picks[..ports], &mut wins[..ports]);
+        self.find_verdicts(
+            &asks[..size],
+            &grants[..size],
+            &picks[..ports],
+            &wins[..ports],
+            &mut verdicts[..size],
+        );
+        *plan = Plan {
+            ports,
+            size,
+            routes,
+            asks,
+            verdicts,
+            grants,
+            picks,
+            wins,
+        };
     }
 
-    // The sets for the heads that are not routed, where there are none yet.
-    fn route_heads(&self, relation: &Relation, heads: ChannelSet, requests: &mut Requests)
+    // The set for the head of each input channel.
+    fn route_heads(&self, relation: &Relation, routes: &mut [ChannelSet])
         requires relation { IsRelationOf relation.now self.now }
-        requires heads { AreHeads self.now heads }
-        requires size { AreRequestsOf self.now.site requests.old }
-        requires none { routes_in requests.old ≡ replicate (size_of self.now.site) 0 }
-        ensures { lists_in requests.new ≡ record (lists_in requests.old) { routes = tabulate (size_of self.now.site) (route_of relation.now self.now) } }
+        requires routes { length routes.old ≡ size_of self.now.site }
+        ensures { routes.new ≡ tabulate (size_of self.now.site) (route_of relation.now self.now) }
     {
-        let mut rest = heads;
-        while let Some(index) = rest.pop_least() {
-            requests.add_route(index, self.route_for(relation, index));
+        for index in 0..routes.len() {
+            routes[index] = self.route_of(relation, index);
         }
     }
 
-    // The set for the head in the buffer of an input channel: none where its class or
+    // The set for the head of an input channel: none where the channel is not idle or has no flit.
+    fn route_of(&self, relation: &Relation, index: usize) -> ChannelSet
+        requires relation { IsRelationOf relation.now self.now }
+        requires index { index < size_of self.now.site }
+        ensures { result ≡ route_of relation.now self.now index }
+    {
+        match self.channels.state(index) {
+            InputState::Idle => self.route_for(relation, index),
+            _ => ChannelSet::empty(),
+        }
+    }
+
+    // The set for the first flit in the buffer of an input channel: none where its class or
     // destination does not exist.
     fn route_for(&self, relation: &Relation, index: usize) -> ChannelSet
         requires relation { IsRelationOf relation.now self.now }
@@ -283,84 +316,172 @@ impl Router {
         (index / self.vcs, index % self.vcs)
     }
 
-    // What the waiting channels ask for, where nothing is asked for yet.
-    fn ask_for_channels(&self, waiting: ChannelSet, requests: &mut Requests)
-        requires waiting { AreWaiting self.now waiting }
-        requires size { AreRequestsOf self.now.site requests.old }
-        requires none { requests.old.channels.asks ≡ replicate (size_of self.now.site) None }
-        ensures { lists_in requests.new ≡ record (lists_in requests.old) { asks = asks_of (view_stands self.now) } }
+    // The output channel that each input channel asks for.
+    fn ask_for_channels(&self, asks: &mut [Option<usize>])
+        requires { length asks.old ≡ size_of self.now.site }
+        ensures { asks.new ≡ asks_of (view_stands self.now) }
     {
-        let mut rest = waiting;
-        while let Some(index) = rest.pop_least() {
-            if let Some(output) = self.channels.asked(index) {
-                requests.ask_for_channel(index, output);
-            }
+        for index in 0..asks.len() {
+            asks[index] = self.channels.asked(index);
         }
     }
 
-    // Each input port picks one of its channels that are ready to send, if it has one, and asks for
-    // the output port to which this channel sends. Nobody has picked or asked before.
-    fn ask_for_ports(&self, ready: ChannelSet, requests: &mut Requests)
-        requires ready { AreReady self.now ready }
-        requires size { AreRequestsOf self.now.site requests.old }
-        requires picks { requests.old.picks ≡ replicate (ports_of self.now.site.grid) None }
-        requires ways { requests.old.switch.asks ≡ replicate (ports_of self.now.site.grid) None }
-        ensures { lists_in requests.new ≡ record (lists_in requests.old) { picks = tabulate (ports_of self.now.site.grid) (picked_vc self.now); ways = tabulate (ports_of self.now.site.grid) (picked_way self.now) } }
+    // The output port to which each input channel can send.
+    fn ask_for_ports(&self, ready: &mut [Option<usize>])
+        requires { length ready.old ≡ size_of self.now.site }
+        ensures { ready.new ≡ ready_of self.now.site.vcs (view_stands self.now) }
     {
-        for port in 0..self.ports {
-            if let Some((vc, output)) = self.pick(ready, port) {
-                requests.ask_for_port(port, vc, output);
-            }
+        for index in 0..ready.len() {
+            ready[index] = self.ready_port(index);
         }
     }
 
-    // The virtual channel that an input port picks, of those that are ready to send, and the
-    // output port to which it sends.
-    fn pick(&self, ready: ChannelSet, port: usize) -> Option<(usize, usize)>
-        requires ready { AreReady self.now ready }
-        requires port { port < ports_of self.now.site.grid }
-        ensures pick { IsPick self.now port result }
-        ensures within { IfSome result (λ pick. pick.1 < ports_of self.now.site.grid) }
+    // The output port to which an input channel can send: its flit is there, and the output channel
+    // that its packet owns has a credit.
+    fn ready_port(&self, index: usize) -> Option<usize>
+        requires { index < size_of self.now.site }
+        ensures { result
+            ≡ ready_port self.now.site.vcs (view_claim self.now index)
+            (not (is_empty (view_buffer self.now index))) }
     {
-        let vc = self.arbiters.pick(ready, port)?;
-        match self.channels.state(port * self.vcs + vc) {
-            InputState::Active(next) => Some((vc, next / self.vcs)),
+        match self.channels.state(index) {
+            InputState::Active(next) => {
+                let can_send = self.channels.has_flit(index) & self.channels.has_credit(next);
+                if can_send {
+                    Some(next / self.vcs)
+                } else {
+                    None
+                }
+            }
             _ => None,
         }
     }
 
-    // The verdict on every input channel, once the arbiters have decided.
-    fn verdicts(&self, sets: &ReadySets, requests: &Requests) -> VerdictSets
-        requires sets { AreReadySetsOf self.now sets.now }
-        requires requests { AreAsked self.now requests.now }
-        ensures { AreVerdictsOf self.now (round_in requests.now) result }
+    // Each output channel goes to one of the input channels that ask for it.
+    fn grant_channels(&self, asks: &[Option<usize>], grants: &mut [Option<usize>])
+        requires asks { asks.now ≡ asks_of (view_stands self.now) }
+        requires grants { length grants.old ≡ size_of self.now.site }
+        ensures { grants.new ≡ (view_round self.now).grants }
     {
-        let asking = requests.channels.asking();
-        let granted = requests.channels.granted();
-        let picked = requests.picked_by(requests.picks.filled(), self.vcs);
-        let moved = requests.picked_by(requests.switch.granted(), self.vcs);
-        VerdictSets {
-            moved,
-            granted,
-            routed: sets.heads,
-            no_flit: sets.no_flit,
-            no_idle_channel: sets.waiting.less(asking),
-            lost_channel: asking.less(granted),
-            no_credit: sets.no_credit,
-            lost_input: sets.ready.less(picked),
-            lost_switch: picked.less(moved),
+        allocate_channels(asks, &self.arbiters.channels, grants);
+    }
+
+    // Each input port picks one of its channels that can send, and each output port goes to one of
+    // the input ports whose pick sends to it.
+    fn grant_ports(
+        &self,
+        ready: &[Option<usize>],
+        picks: &mut [Option<usize>],
+        wins: &mut [Option<usize>],
+    )
+        requires ready { ready.now ≡ ready_of self.now.site.vcs (view_stands self.now) }
+        requires picks { length picks.old ≡ ports_of self.now.site.grid }
+        requires wins { length wins.old ≡ ports_of self.now.site.grid }
+        ensures picks { picks.new ≡ (view_round self.now).picks }
+        ensures wins { wins.new ≡ (view_round self.now).wins }
+        ensures vcs { AllBelow self.now.site.vcs picks.new }
+    {
+        let arbiters = &self.arbiters;
+        allocate_switch(
+            ready,
+            self.vcs,
+            &arbiters.inputs,
+            &arbiters.outputs,
+            picks,
+            wins,
+        );
+    }
+
+    // The verdict on each input channel, once the arbiters have decided.
+    fn find_verdicts(
+        &self,
+        asks: &[Option<usize>],
+        grants: &[Option<usize>],
+        picks: &[Option<usize>],
+        wins: &[Option<usize>],
+        verdicts: &mut [Verdict],
+    )
+        requires asks { asks.now ≡ asks_of (view_stands self.now) }
+        requires grants { length grants.now ≡ size_of self.now.site }
+        requires picks { length picks.now ≡ ports_of self.now.site.grid }
+        requires wins { length wins.now ≡ ports_of self.now.site.grid }
+        requires verdicts { length verdicts.old ≡ size_of self.now.site }
+        ensures { let round : Round =
+            record { grants = grants.now; picks = picks.now; wins = wins.now } in
+            verdicts.new ≡ tabulate (size_of self.now.site) (verdict_at round self.now) }
+    {
+        for index in 0..verdicts.len() {
+            verdicts[index] = self.verdict(index, asks[index], grants, picks, wins);
+        }
+    }
+
+    // The verdict on an input channel, which asks for this output channel: the first condition that
+    // fails, as `verdict_of` has them (docs/MODEL.md, "Verdicts").
+    fn verdict(
+        &self,
+        index: usize,
+        asked: Option<usize>,
+        grants: &[Option<usize>],
+        picks: &[Option<usize>],
+        wins: &[Option<usize>],
+    ) -> Verdict
+        requires index { index < size_of self.now.site }
+        requires asked { asked ≡ ask_of (view_claim self.now index) }
+        requires grants { length grants.now ≡ size_of self.now.site }
+        requires picks { length picks.now ≡ ports_of self.now.site.grid }
+        requires wins { length wins.now ≡ ports_of self.now.site.grid }
+        ensures { let round : Round =
+            record { grants = grants.now; picks = picks.now; wins = wins.now } in
+            result ≡ verdict_at round self.now index }
+    {
+        let has_flit = self.channels.has_flit(index);
+        let (port, vc) = self.split(index);
+        match self.channels.state(index) {
+            InputState::Idle => {
+                if has_flit {
+                    Verdict::Routed
+                } else {
+                    Verdict::Empty
+                }
+            }
+            InputState::Waiting(_) => match asked {
+                None => Verdict::NoIdleChannel,
+                Some(output) => {
+                    if grants[output] == Some(index) {
+                        Verdict::Granted
+                    } else {
+                        Verdict::LostChannel
+                    }
+                }
+            },
+            InputState::Active(next) => {
+                if !has_flit {
+                    Verdict::NoFlit
+                } else if !self.channels.has_credit(next) {
+                    Verdict::NoCredit
+                } else if picks[port] == Some(vc) {
+                    if wins[next / self.vcs] == Some(port) {
+                        Verdict::Moved
+                    } else {
+                        Verdict::LostSwitch
+                    }
+                } else {
+                    Verdict::LostInput
+                }
+            }
         }
     }
 
     /// Lets the verdicts of the plan of this state take effect, and keeps its findings.
     pub fn commit(&mut self, plan: &Plan)
         requires { AreContentsFor plan.now self.old }
-        ensures view { (relation : Routes) → plan.now ≡ plan_contents relation self.old → self.new ≡ view_after_commit (decisions_of relation self.old) self.old }
+        ensures view { (relation : Routes) → plan.now ≡ plan_contents relation self.old
+            → self.new ≡ view_after_commit (decisions_of relation self.old) self.old }
         ensures site { self.new.site ≡ self.old.site }
     {
         self.note(plan);
         self.apply_verdicts(plan);
-        plan.advance(&mut self.arbiters);
+        self.arbiters.advance(plan);
         self.end_cycle();
     }
 
@@ -386,7 +507,10 @@ impl Router {
 
     // The cycle ends.
     fn end_cycle(&mut self)
-        ensures { self.new ≡ record self.old { last_event = (if self.old.had_event then Some self.old.given else self.old.last_event); had_event = false } }
+        ensures { self.new ≡ record self.old {
+          last_event = (if self.old.had_event then Some self.old.given else self.old.last_event);
+          had_event = false;
+        } }
     {
         if self.had_event {
             self.last_event = Some(self.cycle);
@@ -394,29 +518,25 @@ impl Router {
         }
     }
 
-    // The verdict of every input channel takes effect, and the pointers of the
-    // switch go on past the winners.
+    // The verdict of every input channel takes effect.
     fn apply_verdicts(&mut self, plan: &Plan)
         requires plan { AreContentsFor plan.now self.old }
         requires beats { self.old.to_put ≡ idle_beats self.old.site }
-        ensures { self.new ≡ record (view_after_verdicts (decisions_by plan.now self.old) self.old) { arbiters = record (arbiters_after plan.now.round self.old.arbiters) { channels = self.old.arbiters.channels } } }
+        ensures { self.new ≡ view_after_verdicts (decisions_by plan.now self.old) self.old }
     {
-        // (whoever reads a field of a router knows that the router is sound)
-        let _vcs = self.vcs;
-        let mut rest = plan.events();
-        while let Some(index) = rest.pop_least() {
+        for index in 0..self.ports * self.vcs {
             self.apply_verdict(plan, index);
         }
     }
 
-    // The verdict of one input channel takes effect, and the pointers of the switch go
-    // on past it, if it moves.
+    // The verdict of one input channel takes effect.
     fn apply_verdict(&mut self, plan: &Plan, index: usize)
         requires index { index < size_of self.old.site }
-        requires few { index < INDICES }
-        requires decided { index < length plan.now.verdicts }
+        requires asks { index < length plan.now.asks }
+        requires verdicts { index < length plan.now.verdicts }
+        requires routes { index < length plan.now.routes }
         requires can { CanTakeEffect plan.now self.old index (planned_verdict plan.now index) }
-        ensures { self.new ≡ passed_by index (view_input self.old index).phase (planned_verdict plan.now index) (effect_of plan.now index self.old (planned_verdict plan.now index)) }
+        ensures { self.new ≡ effect_of plan.now index self.old (planned_verdict plan.now index) }
     {
         match plan.verdict(index) {
             Verdict::Routed => self.route_head(index, plan.route(index)),
@@ -453,11 +573,11 @@ impl Router {
         self.had_event = true;
     }
 
-    // The first flit of an input channel leaves by its output channel, a credit goes back, and the
-    // pointers of the switch go on past that input channel.
+    // The first flit of an input channel leaves by its output channel, and a credit goes back.
     fn move_flit(&mut self, index: usize, next: usize)
-        requires { CanSend (size_of self.old.site) self.old.buffers self.old.inputs self.old.outputs index next }
-        ensures { self.new ≡ switch_past index next (moved_by index next (first_flit self.old index) self.old) }
+        requires { CanSend (size_of self.old.site) self.old.buffers self.old.inputs
+            self.old.outputs index next }
+        ensures { self.new ≡ moved_by index next (first_flit self.old index) self.old }
     {
         let (port, vc) = self.split(index);
         let (output, next_vc) = self.split(next);
@@ -465,7 +585,6 @@ impl Router {
         self.had_event = true;
         self.put_credit(port, vc);
         self.put_flit(output, next_vc, flit);
-        self.arbiters.advance_switch_pointers(port, vc, output);
     }
 
     // A credit returns by a port; the local port has none.
@@ -568,7 +687,7 @@ impl Router {
         requires { port < local_port self.now.site.grid }
         ensures { result ≡ neighbour_of self.now.site.grid self.now.site.node port }
     {
-        self.leads.neighbour(port)
+        self.shape.neighbour(self.node, port)
     }
 
     /// What was found in the last cycle, by input channel (port * V + virtual channel): nothing

@@ -42,7 +42,8 @@ impl Source {
     // The next packet comes to the front.
     fn next_packet(&mut self)
         ensures vc { self.new.vc ≡ None }
-        ensures queue { queue_from self.new.front self.new.begun self.new.packets.items ≡ drop self.old.begun self.old.packets.items }
+        ensures queue { queue_from self.new.front self.new.begun self.new.packets.items
+            ≡ drop self.old.begun self.old.packets.items }
     {
         self.index = 0;
         self.vc = None;
@@ -71,8 +72,13 @@ impl Source {
     // The next flit has gone to a local virtual channel.
     pub(crate) fn sent(&mut self, vc: usize)
         ensures vc { ForSome self.new.vc (λ v. v ≡ vc) }
-        ensures queue { queue_from self.new.front self.new.begun self.new.packets.items ≡ (if is_next_last self.old.front self.old.index then drop 1 (queue_from self.old.front self.old.begun self.old.packets.items) else queue_from self.old.front self.old.begun self.old.packets.items) }
-        ensures sending { sending_from self.new.vc self.new.index ≡ (if is_next_last self.old.front self.old.index then None else Some (vc, self.old.index + 1)) }
+        ensures queue { queue_from self.new.front self.new.begun self.new.packets.items
+            ≡ (if is_next_last self.old.front self.old.index
+            then drop 1 (queue_from self.old.front self.old.begun self.old.packets.items)
+            else queue_from self.old.front self.old.begun self.old.packets.items) }
+        ensures sending { sending_from self.new.vc self.new.index
+            ≡ (if is_next_last self.old.front self.old.index
+            then None else Some (vc, self.old.index + 1)) }
     {
         match self.front {
             Some((_, packet)) if self.index + 1 < packet.length => {

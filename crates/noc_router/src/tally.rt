@@ -1,18 +1,14 @@
 //! What a router has counted and found.
 
-ghost use Rattle.std.specs.Prelude.{◌≡◌, ℕ, ◌-◌, ◌^◌, ◌<◌, ◌≤◌, All, IfOk, [], false, length, slice_index_or, sum};
-ghost use Rattle.noc_packet.specs.Set.{has_bit};
-ghost use Rattle.noc_packet.specs.declared.limits.TheConstants.{INDICES};
+ghost use Rattle.std.specs.Prelude.{◌≡◌, ℕ, ◌-◌, ◌^◌, ◌<◌, All, IfOk, [], length, slice_index_or, sum};
 ghost use Rattle.noc_topo.specs.Lists.{map_indexed, tabulate};
-ghost use Rattle.noc_alloc.specs.Sparse.{AreBelow};
 ghost use Rattle.noc_router.specs.Settled.{finding_by, planned_verdict};
 ghost use Rattle.noc_router.specs.Tally.{HaveVerdicts, IsPlanOf, empty_tally};
-ghost use Rattle.noc_view.specs.Found.{finding_at};
 ghost use Rattle.noc_view.specs.View.{counts_after};
 
 use crate::channels::Channels;
 use crate::plan::Plan;
-use noc_packet::{ChannelSet, Memory};
+use noc_packet::Memory;
 use noc_view::{Finding, VERDICTS, Verdict};
 use std::alloc::Global;
 use std::marker::Model;
@@ -25,8 +21,6 @@ pub(crate) struct Tally {
     cycles: u64,
     counts: Vec<[u64; VERDICTS]>,
     findings: Vec<Finding>,
-    // The channels that held something then. What was found of the others is Empty.
-    occupied: ChannelSet,
 }
 
 impl Model for Tally {
@@ -35,22 +29,23 @@ impl Model for Tally {
 
     ghost Value = { TallyContents };
 
-    ghost view = { λ t. record { counts = t.counts.items; findings = if nat_eq t.cycles 0 then [] else t.findings.items } };
+    ghost view = { λ t. record {
+      counts = t.counts.items;
+      findings = if nat_eq t.cycles 0 then [] else t.findings.items;
+    } };
 
-    ghost invariant = { λ t. IsTally t.cycles t.counts.items t.occupied t.findings.items };
+    ghost invariant = { λ t. IsTally t.cycles t.counts.items t.findings.items };
 }
 
 impl Tally {
     // Nothing is counted and found yet, of so many channels.
     pub(crate) fn new(alloc: Global, size: usize) -> Result<Tally, Memory>
-        requires { size ≤ INDICES }
         ensures { IfOk result (λ tally. tally ≡ empty_tally size) }
     {
         Ok(Tally {
             cycles: 0,
             counts: vec![in alloc; [0; VERDICTS]; size]?,
             findings: vec![in alloc; Finding::EMPTY; size]?,
-            occupied: ChannelSet::empty(),
         })
     }
 
@@ -59,14 +54,13 @@ impl Tally {
         requires some { 0 < vcs }
         requires plan { IsPlanOf channels.now (length self.old.counts) plan.now }
         ensures { self.new ≡ record {
-          counts = map_indexed (λ i counts. counts_after (planned_verdict plan.now i) counts) self.old.counts;
-          findings = tabulate (length self.old.counts) (finding_by plan.now vcs channels.now.inputs.items);
+          counts = map_indexed
+              (λ i counts. counts_after (planned_verdict plan.now i) counts) self.old.counts;
+          findings = tabulate (length self.old.counts)
+              (finding_by plan.now vcs channels.now.inputs.items);
         } }
     {
-        let occupied = channels.occupied();
-        let changed = self.occupied.either(occupied);
-        find_all(&mut self.findings, changed, channels, vcs, plan);
-        self.occupied = occupied;
+        find_all(&mut self.findings, channels, vcs, plan);
         if self.cycles < u64::MAX {
             self.cycles += 1;
             count_all(&mut self.counts, &self.findings);
@@ -93,16 +87,14 @@ impl Tally {
     }
 }
 
-// What is found of each channel with this plan: of those outside the set it was found before.
-fn find_all(findings: &mut [Finding], set: ChannelSet, channels: &Channels, vcs: usize, plan: &Plan)
+// What is found of each channel with this plan.
+fn find_all(findings: &mut [Finding], channels: &Channels, vcs: usize, plan: &Plan)
     requires some { 0 < vcs }
     requires plan { IsPlanOf channels.now (length findings.old) plan.now }
-    requires set { AreBelow (length findings.old) set }
-    requires others { (k : ℕ) → k < length findings.old → has_bit set k ≡ false → finding_at findings.old k ≡ finding_by plan.now vcs channels.now.inputs.items k }
-    ensures { findings.new ≡ tabulate (length findings.old) (finding_by plan.now vcs channels.now.inputs.items) }
+    ensures { findings.new ≡ tabulate (length findings.old)
+        (finding_by plan.now vcs channels.now.inputs.items) }
 {
-    let mut rest = set;
-    while let Some(index) = rest.pop_least() {
+    for index in 0..findings.len() {
         findings[index] = channels.finding(plan, index, vcs);
     }
 }

@@ -6,6 +6,7 @@ use Rattle.noc_topo.specs.Shape.{nodes, ports}
 use Rattle.noc_packet.specs.Set.{has_bit}
 use Rattle.noc_packet.proofs.SetLemmas.{has_bit-zero}
 use Rattle.noc_route.specs.Routes.{Routes}
+use Rattle.noc_sets.specs.Source.{NEVER}
 use Rattle.noc_sets.specs.Unions.{some_below}
 use Rattle.noc_theory.specs.Good.{IsGoodSetup}
 use Rattle.noc_theory.specs.Network.{Setup}
@@ -106,6 +107,13 @@ idle-cycle value w relation n all = record {
 -- ---- so many cycles of it, until the next one in which a block is awake
 pub idle-within : (n idle next most limit : ℕ) → idle ≡ min (next - n) most → n + most ≤ limit → n + idle ≤ limit
 idle-within n idle next most limit is few = omega (arith, is, few)
+
+-- where no cycle is passed, the next one is this one
+pub none-idle : (n next most idle : ℕ) → idle ≡ min (next - n) most → n ≤ next → 0 < most → idle ≤ 0 → next ≡ n
+none-idle n next most idle is from some none = omega (arith, is, from, some, none)
+
+pub before-never : (n next most : ℕ) → next ≡ n → n + most ≤ CYCLE_LIMIT → next < NEVER
+before-never n next most here within = omega (arith, here, within)
 
 pub idle-before : (n idle next most m : ℕ) → idle ≡ min (next - n) most → n ≤ m → m < n + idle → m < next
 idle-before n idle next most m is from l = omega (arith, is, from, l)

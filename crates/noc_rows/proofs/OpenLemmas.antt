@@ -1,5 +1,5 @@
 -- The lists of the blocks of a network before its first cycle.
-use Rattle.std.proofs.Common.{◌≡◌, ◌≢◌, ℕ, zero, suc, ◌+◌, ◌<◌, List, [], ◌∷◌, ◌++◌, Some, length, ap, sym, ◌∙◌, subst, refl, arith, inl, inr, length-append}
+use Rattle.std.proofs.Common.{◌≡◌, ◌≢◌, ℕ, zero, suc, ◌+◌, ◌*◌, ◌<◌, ◌≤◌, Fits, w64, List, [], ◌∷◌, ◌++◌, Some, length, ap, sym, ◌∙◌, subst, refl, arith, inl, inr, length-append}
 use Rattle.std.specs.Prelude.{◌⊎◌, slice_get}
 use Rattle.std.proofs.lemmas.Bool.{cases_eq}
 use Rattle.std.proofs.lemmas.Option.{slice_get_within}
@@ -42,3 +42,7 @@ all-next is n xs new x pushed are here = subst (AreAll is (n + 1)) (sym pushed) 
 
 pub all-done : {S : Type 0} (is : ℕ → S → Type 0) (n m : ℕ) (xs : List S) → n ≡ m → AreAll is n xs → AreAll is m xs
 all-done is n m xs same are = subst (λ (k : ℕ). AreAll is k xs) same are
+
+-- ---- 64 findings for each router are counted by a machine word
+pub found-fits : (nodes : ℕ) → nodes ≤ 256 → Fits w64 (nodes * 64)
+found-fits nodes few = omega (arith, few)

@@ -136,6 +136,14 @@ module _ {A : Type 0} (value : A → ℕ) (w : ℕ) (net : Setup) (n : ℕ) (all
       is ∙ ap (λ m. ten_counts m (shows.counts r i)) shows.cycle
       ∙ counts-read net n (words_by value net all.states.items all.left shows.counts all.last all.arrivals.items) shows.shows r i l (flat-below port (ports net.relation.grid) vc net.relation.vcs u v)
 
+  -- the places of what it has found
+  pub found-fits : (r : ℕ) (m : ℕ) → r < nodes net.relation.grid → m ≡ all.plan.pattern.frame.ports * all.plan.pattern.frame.fields.width → (m < 64) × (r * 64 + m ≤ length all.found.items)
+  found-fits r m l is =
+      let many : m ≡ size net = is ∙ ap₂ (λ p v. p * v) shows.plan.frame.ports_are shows.plan.frame.width_is in
+      let most = shows.plan.room.word in let low = shows.plan.room.few in let long = shows.found_are in
+      let few : size net < 64 = omega (arith, most, low) in
+      (omega (arith, many, few), omega (arith, many, few, long, l))
+
   -- what it has found
   pub found-read : (r : ℕ) (found : List Finding) → AreFindings net all → r < nodes net.relation.grid → all.cycle ≢ 0 → found ≡ all.found.items
       → take (r * 64 + all.plan.pattern.frame.ports * all.plan.pattern.frame.fields.width - r * 64) (drop (r * 64) found) ≡ findings_before net n r

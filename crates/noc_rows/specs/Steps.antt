@@ -1,5 +1,5 @@
 -- One cycle of a network of blocks, by the contracts of the passes.
-use Rattle.std.specs.Prelude.{◌≡◌, ◌≢◌, ℕ, ◌+◌, ◌-◌, ◌*◌, ◌/◌, ◌%◌, ◌<◌, ◌≤◌, Bool, true, false, ◌&&◌, List, length, Some, bit_and, option_map, slice_get, slice_index, if◌then◌else◌}
+use Rattle.std.specs.Prelude.{◌≡◌, ◌≢◌, ℕ, ◌+◌, ◌-◌, ◌*◌, ◌/◌, ◌%◌, ◌<◌, ◌≤◌, Bool, true, false, ◌&&◌, List, length, min, Some, bit_and, option_map, slice_get, slice_index, if◌then◌else◌}
 use Rattle.noc_packet.specs.Set.{has_bit}
 use Rattle.noc_view.specs.Found.{empty_finding}
 use Rattle.noc_sets.specs.Unions.{some_below}
@@ -139,3 +139,8 @@ pub record HasPassed {A : Type 0} (value : A → ℕ) (awake times : ℕ) (all n
       → slice_get next.tallies.items b ≡ slice_get all.tallies.items b
   pub tallies_are : length next.tallies.items ≡ length all.tallies.items
   pub rest : next ≡ record all { tallies = next.tallies; cycle = all.cycle + times }
+
+-- as many cycles are passed from this one on as there are up to the next one of a kind, and at most
+-- so many
+abbrev pub JumpsTo : (ℕ → Type 0) → ℕ → ℕ → ℕ → Type 0
+JumpsTo IsNext cycle most passed = (next : ℕ) × IsNext next × (passed ≡ min (next - cycle) most)

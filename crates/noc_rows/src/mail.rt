@@ -118,7 +118,7 @@ impl<W: Word> Network<W> {
         self.write_parts(awake, &shares[1..], mail.rest.as_mut_slice());
     }
 
-    // .. what these have sent, each into one of these parts.
+    // Writes what these shares have sent, each into one of these parts.
     fn write_parts(&self, awake: u32, shares: &[Option<usize>], parts: &mut [Part<W>])
         requires memory { BlocksFit W.row }
         requires letters { LetterFits W.row }
@@ -142,7 +142,7 @@ impl<W: Word> Network<W> {
         }
     }
 
-    // .. what one of them has sent, if it is one.
+    // Writes what a share has sent into a part of a mail, if there is such a share.
     fn write_part(&self, awake: u32, share: Option<usize>, part: &mut Part<W>)
         requires memory { BlocksFit W.row }
         requires letters { LetterFits W.row }
@@ -165,7 +165,7 @@ impl<W: Word> Network<W> {
         }
     }
 
-    // .. what that share has sent.
+    // Writes what that share has sent into a letter.
     fn write_share(&self, awake: u32, share: usize, letter: &mut Letter<W>)
         requires memory { BlocksFit W.row }
         requires letters { LetterFits W.row }
@@ -210,7 +210,7 @@ impl<W: Word> Network<W> {
         self.hear_parts(mail.rest.as_slice());
     }
 
-    // .. what these of its parts have.
+    // Takes what these parts of a mail say.
     fn hear_parts(&mut self, parts: &[Part<W>])
         requires memory { BlocksFit W.row }
         requires letters { LetterFits W.row }
@@ -231,7 +231,7 @@ impl<W: Word> Network<W> {
         }
     }
 
-    // .. what one of them has sent, if it is of a share.
+    // Takes what a part of a mail says, if it is of a share.
     fn hear_part(&mut self, part: &Part<W>)
         requires memory { BlocksFit W.row }
         requires letters { LetterFits W.row }
@@ -250,7 +250,7 @@ impl<W: Word> Network<W> {
         }
     }
 
-    // .. what that share has sent.
+    // Takes what that share has sent, by its letter.
     fn hear_share(&mut self, share: usize, letter: &Letter<W>)
         requires memory { BlocksFit W.row }
         requires letters { LetterFits W.row }

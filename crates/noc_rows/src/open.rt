@@ -2,6 +2,7 @@
 
 ghost use Rattle.std.specs.Prelude.{◌≡◌, ℕ, ◌+◌, ◌*◌, ◌^◌, ◌<◌, ◌≤◌, All, IfOk, length, slice_get};
 ghost use Rattle.noc_topo.specs.Shape.{nodes};
+ghost use Rattle.noc_packet.specs.ByNode.{starts_of};
 ghost use Rattle.noc_packet.specs.Packet.{IsWithinLimits};
 ghost use Rattle.noc_route.specs.Routes.{width};
 ghost use Rattle.noc_blocks.specs.Begins.{starts_by};
@@ -11,6 +12,7 @@ ghost use Rattle.noc_theory.specs.Good.{IsGoodSetup};
 ghost use Rattle.noc_theory.specs.Network.{Setup};
 ghost use Rattle.noc_theory_bits.specs.Starts.{starts_list};
 ghost use Rattle.noc_opening.specs.Near.{AreNear};
+ghost use Rattle.noc_opening.specs.Queues.{AreByNode};
 ghost use Rattle.noc_turns.specs.States.{lane_of};
 ghost use Rattle.noc_rows.specs.Sizes.{BlocksFit, SidesFit, WorkFits};
 ghost use Rattle.noc_rows.specs.Opened.{AreAll, HasNoCounts, IsForeseen, IsMadeFrom, IsOpened, IsWired};
@@ -166,12 +168,14 @@ fn plan_of<W: Word>(
     })
 }
 
-// The network of a relation, so many flits in each buffer and these packets.
+// The network of a relation, so many flits in each buffer and these packets, of which `starts` has
+// those of each node.
 pub(crate) fn open_network<W: Word>(
     alloc: Global,
     relation: &Relation,
     places: usize,
     packets: &[Packet],
+    starts: &[Vec<(u32, Packet)>],
 ) -> Result<Network<W>, Memory>
     requires memory { BlocksFit W.row }
     requires fits { width relation.now.grid relation.now.vcs < W.bits }
@@ -179,11 +183,13 @@ pub(crate) fn open_network<W: Word>(
     requires few { length packets.now ≤ MAX_PACKETS }
     requires limits { All IsWithinLimits packets.now }
     requires flits { All (λ p. 0 < p.length) packets.now }
+    requires starts { AreByNode (starts_of packets.now) (nodes relation.now.grid) starts.now }
     ensures { IfOk result (λ made. (net : Setup)
         → IsMadeFrom relation.now places packets.now net → IsGoodSetup net
         → ShowsAt W.value W.bits net 0 made) }
 {
-    let Starts { list, firsts } = all_starts(alloc, relation.shape().nodes(), packets)?;
+    let nodes = relation.shape().nodes();
+    let Starts { list, firsts } = all_starts(alloc, packets, starts)?;
     let plan = plan_of(alloc, relation, places, packets, list)?;
     let blocks = plan.sides.len();
     let states = open_states(alloc, &plan.pattern.frame, &firsts, blocks)?;
@@ -200,6 +206,6 @@ pub(crate) fn open_network<W: Word>(
         arrivals: vec![in alloc; NEVER; packets.len()]?,
         last: 0,
         cycle: 0,
-        found: vec![in alloc; Finding::EMPTY; relation.shape().nodes() * PLACES]?,
+        found: vec![in alloc; Finding::EMPTY; nodes * PLACES]?,
     })
 }

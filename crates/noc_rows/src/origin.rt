@@ -30,7 +30,7 @@ pub(crate) struct Run<'a> {
     pub(crate) blocks: usize,
 }
 
-/// .. as clauses see it: it has no bytes.
+/// A run of tiles as clauses see it: it has no bytes.
 #[derive(Drop)]
 pub(crate) struct Origin {
     pub(crate) relation: Snapshot<Relation>,

@@ -9,18 +9,19 @@ use std::time::{Clock, Instant};
 const WARMING: u64 = 1_000_000;
 
 // How many times as many cycles the stretch after it has, of which the time counts. Threads end and
-// begin anew between two stretches, so each that goes well makes the next one twice as long,
+// begin anew between two stretches, so each that goes well makes the next one twice as long.
 const JUDGED: u32 = 4;
 
-// .. up to this. A network that is cut into tiles is joined again after as many.
+// How many cycles a stretch has at most. A network that is cut into tiles is joined again after as
+// many.
 const LONGEST: u32 = 65_536;
 
 // After how many nanoseconds by fewer tiles more are tried again: twice as many each time, until
-// all tiles go well,
+// all tiles go well.
 const REST: u64 = 64_000_000;
 
-// .. up to this. It is time and not cycles, since to try tiles takes some milliseconds, in which
-// small networks run thousands of cycles.
+// After how many they are tried again at the latest. It is time and not cycles, since to try tiles
+// takes some milliseconds, in which small networks run thousands of cycles.
 const LONGEST_REST: u64 = 16 * REST;
 
 // To cut and join tiles for fewer cycles costs more than it saves.

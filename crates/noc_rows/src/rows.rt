@@ -2,11 +2,13 @@
 
 ghost use Rattle.std.specs.Prelude.{◌≡◌, ℕ, ◌+◌, ◌*◌, ◌<◌, ◌≤◌, All, IfOk, IsOk, length};
 ghost use Rattle.noc_topo.specs.Shape.{nodes, ports};
+ghost use Rattle.noc_packet.specs.ByNode.{starts_of};
 ghost use Rattle.noc_packet.specs.Packet.{IsWithinLimits};
 ghost use Rattle.noc_theory.specs.Good.{IsGoodSetup};
 ghost use Rattle.noc_theory.specs.Lockstep.{counts_before, findings_before};
 ghost use Rattle.noc_theory.specs.Network.{Setup as TheSetup, arrival_in, state_at};
 ghost use Rattle.noc_theory.specs.Progress.{last_event_before};
+ghost use Rattle.noc_opening.specs.Queues.{AreByNode};
 ghost use Rattle.noc_rows.specs.Opened.{IsMadeFrom};
 ghost use Rattle.noc_rows.specs.Rows.{MayRunRows, ShowsRun, setup_by};
 
@@ -33,7 +35,7 @@ pub struct Rows {
     words: Words,
 }
 
-// .. of words of either width.
+// A network of words of either width.
 #[derive(Drop)]
 enum Words {
     Narrow(Network<u32>),
@@ -42,25 +44,28 @@ enum Words {
 
 impl Rows {
     /// The network of a relation, `places` (1 to 16 flits) in each buffer and these packets, before
-    /// its first cycle.
+    /// its first cycle. `starts` has the packets of each node as `noc_opening::starts_by_node`
+    /// gives them.
     pub fn new(
         alloc: Global,
         relation: &Relation,
         places: usize,
         packets: &[Packet],
+        starts: &[Vec<(u32, Packet)>],
     ) -> Result<Rows, Memory>
         requires places { places ≤ MAX_BUFFER }
         requires few { length packets.now ≤ MAX_PACKETS }
         requires limits { All IsWithinLimits packets.now }
         requires flits { All (λ p. 0 < p.length) packets.now }
+        requires starts { AreByNode (starts_of packets.now) (nodes relation.now.grid) starts.now }
         ensures { IfOk result (λ made. (net : TheSetup)
             → IsMadeFrom relation.now places packets.now net → IsGoodSetup net
             → ShowsRun net 0 made) }
     {
         let words = if relation.shape().ports() * relation.vcs() <= NARROW {
-            Words::Narrow(open_network(alloc, relation, places, packets)?)
+            Words::Narrow(open_network(alloc, relation, places, packets, starts)?)
         } else {
-            Words::Wide(open_network(alloc, relation, places, packets)?)
+            Words::Wide(open_network(alloc, relation, places, packets, starts)?)
         };
         Ok(Rows { words })
     }

@@ -1,13 +1,16 @@
 //! A network runs.
 
-ghost use Rattle.std.specs.Prelude.{◌≡◌, ◌+◌, ◌*◌, ◌<◌, ◌≤◌, ◌^◌, length, IfOk, IsOk, OnOk};
+ghost use Rattle.std.specs.Prelude.{◌≡◌, ◌≢◌, ℕ, ◌+◌, ◌*◌, ◌<◌, ◌≤◌, ◌^◌, false, length, IfOk, IsOk, OnOk};
 ghost use Rattle.noc_theory.specs.Network.{Setup as TheSetup};
 ghost use Rattle.noc_wires.specs.declared.awake.TheConstants.{BLOCKS};
 ghost use Rattle.noc_rows.specs.Shows.{AreFindings, MayRun, ShowsAt};
 ghost use Rattle.noc_rows.specs.Rows.{setup_by};
 ghost use Rattle.noc_rows.specs.Sizes.{BlocksFit, LetterFits};
 ghost use Rattle.noc_rows.specs.TileSizes.{TileFits};
-ghost use Rattle.noc_rows.specs.Steps.{HasPassed};
+ghost use Rattle.noc_wires.specs.Waking.{IsNextCycle, is_awake};
+ghost use Rattle.noc_rows.specs.Blocks.{lane_in};
+ghost use Rattle.noc_rows.specs.Passes.{IsNextOf};
+ghost use Rattle.noc_rows.specs.Steps.{HasPassed, JumpsTo};
 
 use crate::apart::Ahead;
 use crate::network::Network;
@@ -66,7 +69,8 @@ impl<W: Word> Network<W> {
         }
     }
 
-    // Runs one cycle, or as many of these as nothing happens in. The answer is how many it has run.
+    // Runs one cycle, or as many of these as all blocks sleep in. The answer is how many it has
+    // run.
     fn advance(&mut self, relation: &Relation, most: u32) -> u32
         requires memory { BlocksFit W.row }
         requires some { 0 < most }
@@ -75,6 +79,9 @@ impl<W: Word> Network<W> {
         ensures within { result ≤ most }
         ensures shows { (net : TheSetup) → MayRun W.value W.bits relation.now net most self.old
             → ShowsAt W.value W.bits net (self.old.cycle + result) self.new }
+        ensures slept { let awake = is_awake self.old.outlooks.items self.old.plan.near.items in
+            ((b : ℕ) → awake self.old.cycle b ≡ false)
+            → JumpsTo (IsNextCycle awake self.old.cycle) self.old.cycle most result }
     {
         let waking = wake(&self.outlooks, &self.plan.near, self.cycle);
         let idle = (waking.next - self.cycle).min(most);
@@ -108,6 +115,10 @@ impl<W: Word> Network<W> {
         requires within { self.old.cycle + most < 2 ^ 32 }
         ensures within { result ≤ most }
         ensures passed { HasPassed W.value awake result self.old self.new }
+        ensures waited { self.old.last ≢ self.old.cycle
+            → JumpsTo (IsNextOf self.old.cycle (length self.old.states.items)
+            (λ b k. (lane_in W.value self.old.states.items b k).words.due))
+            self.old.cycle most result }
     {
         if self.last == self.cycle {
             return 0;

@@ -1,6 +1,6 @@
 //! The tiles of a network, run in threads of their own.
 
-ghost use Rattle.std.specs.Prelude.{◌≡◌, ◌+◌, ◌<◌, ◌≤◌, ◌++◌, IfOk, IsOkAnd, map, vec_len};
+ghost use Rattle.std.specs.Prelude.{◌≡◌, ◌⊎◌, ◌+◌, ◌<◌, ◌≤◌, ◌++◌, Err, IfOk, IsOkAnd, map, vec_len};
 ghost use Rattle.std.specs.Thread.{IsSend, IsSync};
 ghost use Rattle.noc_rows.specs.Rounds.{start_by};
 ghost use Rattle.noc_rows.specs.Sizes.{BlocksFit, LetterFits};
@@ -28,6 +28,10 @@ pub enum NotRun {
 }
 
 impl From<Memory> for NotRun {
+    ghost use Rattle.noc_rows.specs.declared.threads.NotRun.{NotRun};
+
+    ghost from_gives = { λ _ e. e ≡ NotRun.Memory };
+
     fn from(_memory: Memory) -> NotRun {
         NotRun::Memory
     }
@@ -161,8 +165,12 @@ pub(crate) fn joined<T: Drop>(
     first: Result<Vec<T>, NotRun>,
     second: Result<Vec<T>, NotRun>,
 ) -> Result<Vec<T>, NotRun>
-    ensures { IfOk result (λ v. IsOkAnd first (λ a. IsOkAnd second (λ b.
+    ensures both { IfOk result (λ v. IsOkAnd first (λ a. IsOkAnd second (λ b.
         v.items ≡ a.items ++ b.items))) }
+    ensures memory { (first ≡ Err NotRun.Memory) ⊎ (second ≡ Err NotRun.Memory)
+        → result ≡ Err NotRun.Memory }
+    ensures worker { result ≡ Err NotRun.NoWorker
+        → (first ≡ Err NotRun.NoWorker) ⊎ (second ≡ Err NotRun.NoWorker) }
 {
     match (first, second) {
         (Ok(mut first), Ok(mut second)) => {

@@ -25,7 +25,7 @@ pub(crate) fn next_due<W: Word>(cycle: u32, states: &[State<W>]) -> u32
     next
 }
 
-// .. in a block.
+// The first cycle from this one on in which a packet of a block is due.
 fn next_due_in<W: Word>(cycle: u32, due: &Lanes<W>) -> u32
     ensures { IsNext cycle LANES (λ k. word W.value k due.now) result }
 {

@@ -8,14 +8,14 @@ use Rattle.noc_packet.specs.Set.{has_bit, IsLeast}
 use Rattle.noc_packet.proofs.SetLemmas.{both_members, has_bit-zero}
 use Rattle.noc_alloc.specs.Arbiter.{first_in_turn}
 use Rattle.noc_alloc.proofs.ArbiterLemmas.{first_in_turn-same}
-use Rattle.noc_alloc.specs.Sparse.{AreBelow}
+use Rattle.noc_alloc.specs.Members.{MembersAreBelow}
 use Rattle.noc_vc.specs.Output.{is_free}
 use Rattle.noc_view.specs.View.{View, size_of, view_output, asked_for, local_channel, is_vacant}
 use Rattle.noc_view.proofs.FindLemmas.{find-below, find-none}
 use Rattle.noc_sets.proofs.MemberLemmas.{and_fits, least_is}
 
 -- the least idle channel of a set: `(set & idle).trailing_zeros()`, where there is one
-pub asked-is : (v : View) (idle set : ℕ) → set < 2 ^ 64 → AreBelow (size_of v.site) idle → ((o : ℕ) → o < size_of v.site → has_bit idle o ≡ is_free (view_output v o).holder)
+pub asked-is : (v : View) (idle set : ℕ) → set < 2 ^ 64 → MembersAreBelow (size_of v.site) idle → ((o : ℕ) → o < size_of v.site → has_bit idle o ≡ is_free (view_output v o).holder)
     → asked_for v set ≡ (if nat_eq (bit_and set idle) 0 then None else Some (trailing_zeros w64 (bit_and set idle)))
 asked-is v idle set fits below_size is = at (cases_lt 0 (bit_and set idle))
   where

@@ -7,7 +7,7 @@ use Rattle.std.proofs.lemmas.Nat.{or_lt, xor_lt, shr-shr, and_le_l, le_or_l, le_
 use Rattle.std.proofs.lemmas.Nat.Bits.{bit_at-zero, bit_at_xor, bit_at_above, same_from_bits, bit_at-trailing_zeros, bit_at_ones, bit_at_ones_above, bit_at-pow_same, bit_at-pow_other, bit_at_cat_low, bit_at_cat_high, bit_at-suc}
 use Rattle.noc_packet.specs.Set.{has_bit, IsLeast}
 use Rattle.noc_packet.proofs.SetLemmas.{has_bit-one, has_bit-none, bit_at-true, bit_at-false, has_bit-above, has_bit-zero, both_members, either_members}
-use Rattle.noc_alloc.specs.Sparse.{AreBelow}
+use Rattle.noc_alloc.specs.Members.{MembersAreBelow}
 use Rattle.noc_sets.specs.Sets.{differ, less, up_by, down_by, least, lowest}
 
 pub xor_members : (a b k : ℕ) → has_bit (bit_xor a b) k ≡ differ (has_bit a k) (has_bit b k)
@@ -229,7 +229,7 @@ or-false true = refl
 or-false false = refl
 
 -- a word with no member from n on
-pub below_fits : (n word : ℕ) → AreBelow n word → word < 2 ^ n
+pub below_fits : (n word : ℕ) → MembersAreBelow n word → word < 2 ^ n
 below_fits n word below =
     let same : word ≡ word % 2 ^ n = same_from_bits word (word % 2 ^ n) (λ k. at k (cases_lt k n)) in
     omega (arith, mod_below word (2 ^ n) (pow_pos n))

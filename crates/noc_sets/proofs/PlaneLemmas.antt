@@ -1,7 +1,8 @@
 -- Numbers that are kept bit by bit.
-use Rattle.std.proofs.Common.{◌≡◌, ℕ, suc, ◌+◌, ◌*◌, ◌^◌, ◌<◌, ◌≤◌, Bool, true, false, List, [], ◌∷◌, length, refl, ap, sym, ◌∙◌, arith, inl, inr, bit_and, bit_or, bit_xor, pow-suc}
+use Rattle.std.proofs.Common.{◌≡◌, ℕ, suc, ◌+◌, ◌-◌, ◌*◌, ◌%◌, ◌^◌, ◌<◌, ◌≤◌, Bool, true, false, List, [], ◌∷◌, length, refl, ap, sym, ◌∙◌, subst, arith, inl, inr, bit_and, bit_or, bit_xor, pow-suc}
 use Rattle.std.specs.Prelude.{nat_eq, nat_lt, ◌⊎◌, ◌&&◌, ◌||◌, not}
 use Rattle.std.proofs.lemmas.Bool.{eq-eqb, ne_eqb, cases_eq, cases_lt, lt-ltb, le-ltb}
+use Rattle.std.proofs.lemmas.Nat.{mod-mul-add}
 use Rattle.noc_topo.specs.Lists.{one_if}
 use Rattle.noc_topo.proofs.ListLemmas.{one-small}
 use Rattle.noc_packet.specs.Set.{has_bit}
@@ -9,6 +10,10 @@ use Rattle.noc_packet.proofs.SetLemmas.{both_members, either_members, has_bit-ze
 use Rattle.noc_sets.specs.Sets.{differ, less}
 use Rattle.noc_sets.specs.Planes.{plane_number, ArePlanes, raised_by, carry_of, AreAll, lowered_by, borrow_of, any_from, more_than_one, wrong_from}
 use Rattle.noc_sets.proofs.MemberLemmas.{xor_members, less_members, less_fits, and_fits, or_fits, xor_fits}
+
+pub number-small : (planes : List ℕ) (x : ℕ) → plane_number planes x < 2 ^ length planes
+number-small [] x = omega arith
+number-small (plane ∷ planes) x = omega (arith, number-small planes x, one-small (has_bit plane x), pow-suc 2 (length planes))
 
 -- ---- one more
 add_bits : (a b : Bool) → one_if (differ a b) + 2 * one_if (b && a) ≡ one_if a + one_if b
@@ -41,13 +46,28 @@ raised-number planes set x room = at (has_bit (carry_of planes set) x) (raised-i
     at true h = absurd (omega arith)
     at false h = omega arith
 
-pub raised-fits : (planes : List ℕ) (set : ℕ) → ArePlanes planes → set < 2 ^ 64 → ArePlanes (raised_by planes set)
-raised-fits [] set fits small = tt
-raised-fits (plane ∷ planes) set fits small = (xor_fits plane set fits.0 small, raised-fits planes (bit_and set plane) fits.1 (and_fits set plane small))
-
 pub raised-length : (planes : List ℕ) (set : ℕ) → length (raised_by planes set) ≡ length planes
 raised-length [] set = refl
 raised-length (plane ∷ planes) set = ap suc (raised-length planes (bit_and set plane))
+
+-- modulo what the planes can hold
+pub raised-modulo : (planes : List ℕ) (set x : ℕ) → plane_number (raised_by planes set) x ≡ (plane_number planes x + one_if (has_bit set x)) % 2 ^ length planes
+raised-modulo planes set x = at (has_bit (carry_of planes set) x) (raised-is planes set x)
+  where
+    small : plane_number (raised_by planes set) x < 2 ^ length planes
+    small = subst (λ n. plane_number (raised_by planes set) x < 2 ^ n) (raised-length planes set) (number-small (raised_by planes set) x)
+
+    is : (c n : ℕ) → c * 2 ^ length planes + plane_number (raised_by planes set) x ≡ n → plane_number (raised_by planes set) x ≡ n % 2 ^ length planes
+    is c n h = sym (mod-mul-add c (2 ^ length planes) (plane_number (raised_by planes set) x) small) ∙ ap (λ k. k % 2 ^ length planes) h
+
+    at : (b : Bool) → plane_number (raised_by planes set) x + 2 ^ length planes * one_if b ≡ plane_number planes x + one_if (has_bit set x)
+        → plane_number (raised_by planes set) x ≡ (plane_number planes x + one_if (has_bit set x)) % 2 ^ length planes
+    at true h = is 1 _ (omega arith)
+    at false h = is 0 _ (omega arith)
+
+pub raised-fits : (planes : List ℕ) (set : ℕ) → ArePlanes planes → set < 2 ^ 64 → ArePlanes (raised_by planes set)
+raised-fits [] set fits small = tt
+raised-fits (plane ∷ planes) set fits small = (xor_fits plane set fits.0 small, raised-fits planes (bit_and set plane) fits.1 (and_fits set plane small))
 
 -- ---- one less
 take_bits : (a b : Bool) → one_if (differ a b) + one_if b ≡ one_if a + 2 * one_if (b && not a)
@@ -69,9 +89,9 @@ lowered-is (plane ∷ planes) set x fits small =
     twice p q c low new b old plane set e r l =
         let m : q * c ≡ 2 * (p * c) = ap (λ z. z * c) e ∙ omega arith in omega arith
 
-pub number-small : (planes : List ℕ) (x : ℕ) → plane_number planes x < 2 ^ length planes
-number-small [] x = omega arith
-number-small (plane ∷ planes) x = omega (arith, number-small planes x, one-small (has_bit plane x), pow-suc 2 (length planes))
+pub lowered-length : (planes : List ℕ) (set : ℕ) → length (lowered_by planes set) ≡ length planes
+lowered-length [] set = refl
+lowered-length (plane ∷ planes) set = ap suc (lowered-length planes (less set plane))
 
 -- where there is one
 pub lowered-number : (planes : List ℕ) (set x : ℕ) → ArePlanes planes → set < 2 ^ 64 → one_if (has_bit set x) ≤ plane_number planes x
@@ -84,21 +104,29 @@ lowered-number planes set x fits small some = at (has_bit (borrow_of planes set)
         let l : plane_number (lowered_by planes set) x < 2 ^ length planes = lowered-small planes set x in
         absurd (omega (arith, number-small planes x))
       where
-        lowered-length : (planes : List ℕ) (set : ℕ) → length (lowered_by planes set) ≡ length planes
-        lowered-length [] set = refl
-        lowered-length (plane ∷ planes) set = ap suc (lowered-length planes (less set plane))
-
         lowered-small : (planes : List ℕ) (set x : ℕ) → plane_number (lowered_by planes set) x < 2 ^ length planes
         lowered-small planes set x = rw (sym (lowered-length planes set)) (number-small (lowered_by planes set) x)
     at false h = omega arith
 
+-- modulo what the planes can hold
+pub lowered-modulo : (planes : List ℕ) (set x : ℕ) → ArePlanes planes → set < 2 ^ 64
+    → plane_number (lowered_by planes set) x ≡ (plane_number planes x + 2 ^ length planes - one_if (has_bit set x)) % 2 ^ length planes
+lowered-modulo planes set x fits few = at (has_bit (borrow_of planes set) x) (lowered-is planes set x fits few)
+  where
+    small : plane_number (lowered_by planes set) x < 2 ^ length planes
+    small = subst (λ n. plane_number (lowered_by planes set) x < 2 ^ n) (lowered-length planes set) (number-small (lowered_by planes set) x)
+
+    is : (c n : ℕ) → c * 2 ^ length planes + plane_number (lowered_by planes set) x ≡ n → plane_number (lowered_by planes set) x ≡ n % 2 ^ length planes
+    is c n h = sym (mod-mul-add c (2 ^ length planes) (plane_number (lowered_by planes set) x) small) ∙ ap (λ k. k % 2 ^ length planes) h
+
+    at : (b : Bool) → plane_number (lowered_by planes set) x + one_if (has_bit set x) ≡ plane_number planes x + 2 ^ length planes * one_if b
+        → plane_number (lowered_by planes set) x ≡ (plane_number planes x + 2 ^ length planes - one_if (has_bit set x)) % 2 ^ length planes
+    at true h = is 0 _ (omega arith)
+    at false h = is 1 _ (omega arith)
+
 pub lowered-fits : (planes : List ℕ) (set : ℕ) → ArePlanes planes → set < 2 ^ 64 → ArePlanes (lowered_by planes set)
 lowered-fits [] set fits small = tt
 lowered-fits (plane ∷ planes) set fits small = (xor_fits plane set fits.0 small, lowered-fits planes (less set plane) fits.1 (less_fits set plane small))
-
-pub lowered-length : (planes : List ℕ) (set : ℕ) → length (lowered_by planes set) ≡ length planes
-lowered-length [] set = refl
-lowered-length (plane ∷ planes) set = ap suc (lowered-length planes (less set plane))
 
 -- ---- tests
 or_false : (b : Bool) → (b || false) ≡ b
@@ -166,11 +194,16 @@ wrong-from wrong (plane ∷ planes) (other ∷ others) x long =
     ∙ ap (λ b. has_bit wrong x || (b || not (nat_eq (plane_number planes x) (plane_number others x)))) (xor_members plane other x)
     ∙ ap (λ b. has_bit wrong x || b) (differ_bit (has_bit plane x) (has_bit other x) (plane_number planes x) (plane_number others x))
 
+pub other-members : (planes others : List ℕ) (x : ℕ) → length planes ≡ length others
+    → has_bit (wrong_from 0 planes others) x ≡ not (nat_eq (plane_number planes x) (plane_number others x))
+other-members planes others x long =
+    wrong-from 0 planes others x long ∙ ap (λ b. b || not (nat_eq (plane_number planes x) (plane_number others x))) (has_bit-zero x)
+
 -- whether it is not a number that all have
 pub wrong-members : (planes others : List ℕ) (count size n x : ℕ) → length planes ≡ count → x < size → AreAll count size n others
     → has_bit (wrong_from 0 planes others) x ≡ not (nat_eq (plane_number planes x) n)
 wrong-members planes others count size n x long l all =
-    wrong-from 0 planes others x (long ∙ sym all.bits) ∙ ap (λ b. b || not (nat_eq (plane_number planes x) (plane_number others x))) (has_bit-zero x)
+    other-members planes others x (long ∙ sym all.bits)
     ∙ ap (λ k. not (nat_eq (plane_number planes x) k)) (all.each x l)
 
 wrong-fits-from : (wrong : ℕ) (planes others : List ℕ) → wrong < 2 ^ 64 → ArePlanes planes → ArePlanes others → wrong_from wrong planes others < 2 ^ 64

@@ -12,7 +12,7 @@ use Rattle.noc_packet.proofs.SetLemmas.{both_members}
 use Rattle.noc_alloc.specs.Arbiter.{pointers_of}
 use Rattle.noc_alloc.specs.Allocation.{pick_of, picked_port, winner_of}
 use Rattle.noc_alloc.proofs.ArbiterLemmas.{first_in_turn-picks}
-use Rattle.noc_alloc.specs.Sparse.{AreBelow}
+use Rattle.noc_alloc.specs.Members.{MembersAreBelow}
 use Rattle.noc_vc.specs.Input.{is_empty}
 use Rattle.noc_vc.specs.Output.{has_credit}
 use Rattle.noc_vc.specs.declared.input.InputState.{InputState}
@@ -33,7 +33,7 @@ some-of (Some y) x e = ap Some (eqb-true y x e)
 same-some : (a b : ℕ) → Some a ≡ Some b → a ≡ b
 same-some a b e = cc e
 
-module _ (v : View) (picked to q : ℕ) (some_vc : 0 < v.site.vcs) (fits : picked < 2 ^ 64) (below : AreBelow (size_of v.site) picked) (lq : q < ports v.site.grid)
+module _ (v : View) (picked to q : ℕ) (some_vc : 0 < v.site.vcs) (fits : picked < 2 ^ 64) (below : MembersAreBelow (size_of v.site) picked) (lq : q < ports v.site.grid)
     (draws : (k : ℕ) → k < size_of v.site → has_bit picked k ≡ is_some_of (slice_index_or (view_round v).picks (k / v.site.vcs) None) (k % v.site.vcs))
     (to_is : (k : ℕ) → k < size_of v.site → has_bit picked k ≡ true → has_bit to k ≡ sends_by v.site.vcs q (view_input v k).phase) where
   -- whether the pick of a port goes to this output port

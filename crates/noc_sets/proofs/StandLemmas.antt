@@ -12,7 +12,7 @@ use Rattle.noc_packet.proofs.SetLemmas.{both_members, either_members}
 use Rattle.noc_alloc.specs.Arbiter.{RoundRobin, first_in_turn, arbiter_at, pointers_of}
 use Rattle.noc_alloc.specs.Allocation.{pick_of}
 use Rattle.noc_alloc.proofs.ArbiterLemmas.{first_in_turn-same}
-use Rattle.noc_alloc.specs.Sparse.{AreBelow}
+use Rattle.noc_alloc.specs.Members.{MembersAreBelow}
 use Rattle.noc_alloc.specs.Requests.{is_given}
 use Rattle.noc_vc.specs.Input.{is_active, is_waiting, is_idle_phase, is_empty}
 use Rattle.noc_vc.specs.Output.{has_credit}
@@ -38,14 +38,14 @@ is_some_of-true (Some y) x e = ap Some (eqb-true y x e)
 -- the channels with a flit
 pub record AreFilled (v : View) (filled : ℕ) : Type 0 where
   pub fits : filled < 2 ^ 64
-  pub below : AreBelow (size_of v.site) filled
+  pub below : MembersAreBelow (size_of v.site) filled
   pub each : (i : ℕ) → i < size_of v.site → has_bit filled i ≡ not (is_empty (view_buffer v i))
 
 module _ (count : ℕ) (c : Column) (v : View) (filled : ℕ) (words : AreWords count c) (shows : ShowsChannels c v) (fill : AreFilled v filled) where
-  rest_below : (a b n : ℕ) → AreBelow n a → AreBelow n (less a b)
+  rest_below : (a b n : ℕ) → MembersAreBelow n a → MembersAreBelow n (less a b)
   rest_below a b n below k e = below k (and_parts (has_bit a k) (not (has_bit b k)) (sym (less_members a b k) ∙ e)).0
 
-  part_below : (a b n : ℕ) → AreBelow n a → AreBelow n (bit_and a b)
+  part_below : (a b n : ℕ) → MembersAreBelow n a → MembersAreBelow n (bit_and a b)
   part_below a b n below k e = below k (and_parts (has_bit a k) (has_bit b k) (sym (both_members a b k) ∙ e)).0
 
   heads-bit : (i : ℕ) → has_bit (lane_heads filled c) i ≡ (has_bit filled i && not (has_bit c.waiting i || has_bit c.active i))

@@ -8,7 +8,7 @@ use Rattle.noc_packet.specs.Set.{has_bit, IsLeast}
 use Rattle.noc_packet.proofs.SetLemmas.{both_members, has_bit-zero}
 use Rattle.noc_alloc.specs.Arbiter.{first_in_turn}
 use Rattle.noc_alloc.proofs.ArbiterLemmas.{first_in_turn-at, first_in_turn-before, first_in_turn-none}
-use Rattle.noc_alloc.specs.Sparse.{AreBelow}
+use Rattle.noc_alloc.specs.Members.{MembersAreBelow}
 use Rattle.noc_sets.specs.Sets.{least, lowest}
 use Rattle.noc_sets.specs.Turns.{in_turn, ShowsPointer, first_bit}
 use Rattle.noc_sets.proofs.MemberLemmas.{lowest-is, less_members, and_fits, least_is, lowest_members, zero_members}
@@ -17,7 +17,7 @@ alone : (b : Bool) → (b && true) ≡ b
 alone true = refl
 alone false = refl
 
-module _ (n p requests mask : ℕ) (fits : requests < 2 ^ 64) (below : AreBelow n requests) (pointer : p < n) (shows : ShowsPointer n mask 0 p) where
+module _ (n p requests mask : ℕ) (fits : requests < 2 ^ 64) (below : MembersAreBelow n requests) (pointer : p < n) (shows : ShowsPointer n mask 0 p) where
   high-bit : (k : ℕ) → has_bit (bit_and requests mask) k ≡ (has_bit requests k && has_bit mask k)
   high-bit k = both_members requests mask k
 

@@ -80,7 +80,8 @@ with_verdicts sets k counts = record {
 -- the counts of the nine, in the order of the stall report
 abbrev pub nine_counts : ByVerdict → List ℕ
 nine_counts c =
-    c.routed ∷ c.granted ∷ c.moved ∷ c.no_flit ∷ c.no_idle_channel ∷ c.lost_channel ∷ c.no_credit ∷ c.lost_input ∷ c.lost_switch ∷ []
+    c.routed ∷ c.granted ∷ c.moved ∷ c.no_flit ∷ c.no_idle_channel ∷ c.lost_channel ∷ c.no_credit
+    ∷ c.lost_input ∷ c.lost_switch ∷ []
 
 -- of all ten after so many cycles: Empty in those that no other verdict has
 abbrev pub ten_counts : ℕ → ByVerdict → List ℕ
@@ -90,7 +91,8 @@ ten_counts cycles c = (cycles - sum (nine_counts c)) ∷ nine_counts c
 -- each
 abbrev pub ShowsCounts : ℕ → (ℕ → ByVerdict) → View → Type 0
 ShowsCounts cycles counts v = (i : ℕ) → i < size_of v.site
-    → (slice_index_or v.counts i [] ≡ ten_counts cycles (counts i)) × (sum (nine_counts (counts i)) ≤ cycles)
+    → (slice_index_or v.counts i [] ≡ ten_counts cycles (counts i))
+    × (sum (nine_counts (counts i)) ≤ cycles)
 
 -- the word of the last event of a router has the cycle after it, and 0 before the first
 abbrev pub ShowsLastEvent : ℕ → Option ℕ → Type 0

@@ -3,7 +3,7 @@ use Rattle.std.specs.Prelude.{◌≡◌, ℕ, ◌<◌, Bool, false, List, [], �
 use Rattle.std.specs.List.{list_any}
 use Rattle.noc_packet.specs.Set.{has_bit}
 use Rattle.noc_packet.specs.declared.packet.Flit.{Flit}
-use Rattle.noc_alloc.specs.Sparse.{AreBelow}
+use Rattle.noc_alloc.specs.Members.{MembersAreBelow}
 use Rattle.noc_view.specs.View.{View, size_of, view_buffer}
 use Rattle.noc_sets.specs.Planes.{more_than_one}
 use Rattle.noc_sets.specs.Sets.{less}
@@ -33,7 +33,7 @@ ends_in_tail (f ∷ g ∷ rest) = ends_in_tail (g ∷ rest)
 -- the input channels whose buffer holds the tail of its packet
 pub record ShowsEnded (ended : ℕ) (v : View) : Type 0 where
   pub each : (i : ℕ) → i < size_of v.site → has_bit ended i ≡ holds_tail (view_buffer v i)
-  pub below : AreBelow (size_of v.site) ended
+  pub below : MembersAreBelow (size_of v.site) ended
 
 -- whether the first flit of an input channel that has one is a tail: its buffer holds a tail, and
 -- no more than one flit

@@ -18,7 +18,8 @@ out_in c m i =
 
 -- its packet: that which holds it, where it waits, is active or has a flit
 abbrev pub packet_in : ℕ → Column → RouterMarks → ℕ → Option ℕ
-packet_in filled c m i = if has_bit (bit_or (bit_or c.waiting c.active) filled) i then Some (m.packet i) else None
+packet_in filled c m i =
+    if has_bit (bit_or (bit_or c.waiting c.active) filled) i then Some (m.packet i) else None
 
 -- all of it, where these are the sets of verdicts; the output channel by port and virtual channel
 abbrev pub found_in : ℕ → ByVerdict → ℕ → Column → RouterMarks → ℕ → Finding

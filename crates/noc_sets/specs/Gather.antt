@@ -19,7 +19,8 @@ span g i = stride g i * (slice_index g.radix i - 1)
 abbrev pub goes_straight : Grid → ℕ → ℕ → Bool
 goes_straight g r port =
     if is_plus port
-    then nat_lt (slice_index (coordinates g.radix r) (port / 2) + 1) (slice_index g.radix (port / 2))
+    then nat_lt (slice_index (coordinates g.radix r) (port / 2) + 1)
+    (slice_index g.radix (port / 2))
     else nat_lt 0 (slice_index (coordinates g.radix r) (port / 2))
 
 -- whether it is the last of a line that is a ring: then its neighbour is the first, a span away
@@ -56,8 +57,10 @@ shifted vcs port word = if is_plus port then down_by word vcs else up_by word vc
 -- goes there
 abbrev pub by_port : Grid → ℕ → (ℕ → ℕ) → ℕ → ℕ → ℕ
 by_port g vcs words r port =
-    bit_or (bit_and (shifted vcs port (words (straight g r port))) (mask_where vcs port (goes_straight g r port)))
-    (bit_and (shifted vcs port (words (round g r port))) (mask_where vcs port (goes_round g r port)))
+    bit_or (bit_and (shifted vcs port (words (straight g r port)))
+    (mask_where vcs port (goes_straight g r port)))
+    (bit_and (shifted vcs port (words (round g r port)))
+    (mask_where vcs port (goes_round g r port)))
 
 -- .. by all link ports
 abbrev pub gathered : Grid → ℕ → (ℕ → ℕ) → ℕ → ℕ
@@ -66,16 +69,20 @@ gathered g vcs words r = union_from 0 (local_port g) (by_port g vcs words r)
 -- ---- in a row of words, in which that of the first router stands behind so much room
 -- where the word of the router one stride on stands, and that of the router a span back
 abbrev pub place_straight : Grid → ℕ → ℕ → ℕ → ℕ
-place_straight g room r port = if is_plus port then room + r + stride g (port / 2) else room + r - stride g (port / 2)
+place_straight g room r port =
+    if is_plus port then room + r + stride g (port / 2) else room + r - stride g (port / 2)
 
 abbrev pub place_round : Grid → ℕ → ℕ → ℕ → ℕ
-place_round g room r port = if is_plus port then room + r - span g (port / 2) else room + r + span g (port / 2)
+place_round g room r port =
+    if is_plus port then room + r - span g (port / 2) else room + r + span g (port / 2)
 
 -- what comes to router r by a port, and by all link ports
 abbrev pub from_row : Grid → ℕ → ℕ → List ℕ → ℕ → ℕ → ℕ
 from_row g vcs room row r port =
-    bit_or (bit_and (shifted vcs port (slice_index row (place_straight g room r port))) (mask_where vcs port (goes_straight g r port)))
-    (bit_and (shifted vcs port (slice_index row (place_round g room r port))) (mask_where vcs port (goes_round g r port)))
+    bit_or (bit_and (shifted vcs port (slice_index row (place_straight g room r port)))
+    (mask_where vcs port (goes_straight g r port)))
+    (bit_and (shifted vcs port (slice_index row (place_round g room r port)))
+    (mask_where vcs port (goes_round g r port)))
 
 abbrev pub gathered_row : Grid → ℕ → ℕ → List ℕ → ℕ → ℕ
 gathered_row g vcs room row r = union_from 0 (local_port g) (from_row g vcs room row r)

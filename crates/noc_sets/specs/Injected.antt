@@ -11,9 +11,12 @@ use Rattle.noc_sets.specs.Taken.{with_one, landed_by}
 abbrev pub injection_from : ℕ → List (ℕ × Packet) → Option (ℕ × ℕ) → View → Option (ℕ × Flit)
 injection_from n [] sending v = None
 injection_from n ((number, p) ∷ rest) (Some (vc, index)) v =
-    if nat_lt (length (view_buffer v (local_channel v.site vc))) v.site.depth then Some (vc, flit_at p number index) else None
+    if nat_lt (length (view_buffer v (local_channel v.site vc))) v.site.depth
+    then Some (vc, flit_at p number index) else None
 injection_from n ((number, p) ∷ rest) None v =
-    if nat_le p.due n then option_map (λ vc. (vc, flit_at p number 0)) (find (is_vacant v) (below v.site.vcs)) else None
+    if nat_le p.due n
+    then option_map (λ vc. (vc, flit_at p number 0)) (find (is_vacant v) (below v.site.vcs))
+    else None
 
 abbrev pub injection_in : ℕ → View → Option (ℕ × Flit)
 injection_in n v = injection_from n v.queue v.sending v
@@ -26,8 +29,10 @@ injected_to v (Some (vc, f)) i = if nat_eq i (local_channel v.site vc) then Some
 -- w is v after this flit was injected, if one was
 pub record HasInjected (v w : View) (flit : Option (ℕ × Flit)) : Type 0 where
   pub site : w.site ≡ v.site
-  pub buffer : (i : ℕ) → i < size_of v.site → view_buffer w i ≡ with_one (view_buffer v i) (injected_to v flit i)
-  pub input : (i : ℕ) → i < size_of v.site → view_input w i ≡ landed_by (view_input v i) (injected_to v flit i)
+  pub buffer : (i : ℕ) → i < size_of v.site
+      → view_buffer w i ≡ with_one (view_buffer v i) (injected_to v flit i)
+  pub input : (i : ℕ) → i < size_of v.site
+      → view_input w i ≡ landed_by (view_input v i) (injected_to v flit i)
   pub n_buffers : length w.buffers ≡ length v.buffers
   pub n_inputs : length w.inputs ≡ length v.inputs
   pub outputs : w.outputs ≡ v.outputs

@@ -11,7 +11,8 @@ pub record AreSides (grid : Grid) (vcs links local : ℕ) : Type 0 where
   pub link_fits : links < 2 ^ 64
   pub local_fits : local < 2 ^ 64
   pub link_is : (k : ℕ) → has_bit links k ≡ nat_lt k (local_port grid * vcs)
-  pub local_is : (k : ℕ) → has_bit local k ≡ (nat_le (local_port grid * vcs) k && nat_lt k (ports grid * vcs))
+  pub local_is : (k : ℕ)
+      → has_bit local k ≡ (nat_le (local_port grid * vcs) k && nat_lt k (ports grid * vcs))
 
 -- before the first cycle, where these are the channels of links and of the local port: every
 -- channel is idle and has no flit, every link channel has a credit for each place, and every

@@ -51,7 +51,8 @@ lane_free local c = less local (bit_or (bit_or c.waiting c.active) (any_from 0 c
 -- the local channels that may begin a packet, where the source injects nothing and its next packet
 -- is due
 abbrev pub lane_begins : ℕ → ℕ → ℕ → Column → ℕ
-lane_begins local cycle due c = if nat_le due cycle && nat_eq c.injecting 0 then lane_free local c else 0
+lane_begins local cycle due c =
+    if nat_le due cycle && nat_eq c.injecting 0 then lane_free local c else 0
 
 -- ---- a packet begins in the least of these channels, if there is one, and its head is injected
 abbrev pub with_first : ℕ → List ℕ → List ℕ
@@ -61,7 +62,8 @@ with_first bit (plane ∷ planes) = bit_or plane bit ∷ planes
 -- the channel from which a packet is injected, after a flit is injected where so many are left with
 -- it
 abbrev pub injecting_after : ℕ → ℕ → ℕ → ℕ
-injecting_after injected left injecting = if not (nat_eq injected 0) && nat_eq left 1 then 0 else injecting
+injecting_after injected left injecting =
+    if not (nat_eq injected 0) && nat_eq left 1 then 0 else injecting
 
 -- the words of a router after the beats are taken and a flit is injected: into `went`, from a
 -- source with so many flits left, where `up` are supplied, and a packet begins in one of the

@@ -1,4 +1,5 @@
 -- A number for each channel, bit by bit: plane i is the set of the channels whose number has bit i.
+-- The steps are those of words; what they mean in numbers is proved in src/planes.rt.
 use Rattle.std.specs.Prelude.{◌≡◌, ℕ, ◌+◌, ◌*◌, ◌^◌, ◌<◌, List, [], ◌∷◌, length, bit_and, bit_or, bit_xor}
 use Rattle.noc_topo.specs.Lists.{one_if}
 use Rattle.noc_packet.specs.Set.{has_bit}
@@ -48,7 +49,8 @@ more_than_one (plane ∷ planes) = any_from 0 planes
 abbrev pub wrong_from : ℕ → List ℕ → List ℕ → ℕ
 wrong_from wrong [] others = wrong
 wrong_from wrong (plane ∷ planes) [] = wrong
-wrong_from wrong (plane ∷ planes) (other ∷ others) = wrong_from (bit_or wrong (bit_xor plane other)) planes others
+wrong_from wrong (plane ∷ planes) (other ∷ others) =
+    wrong_from (bit_or wrong (bit_xor plane other)) planes others
 
 -- these planes give each channel of a router with so many the number n
 pub record AreAll (count size n : ℕ) (planes : List ℕ) : Type 0 where

@@ -44,7 +44,8 @@ pub record HasFlits (p : Packet) : Type 0 where
 abbrev pub ShowsQueue : List Start → ℕ → List (ℕ × Packet) → Type 0
 ShowsQueue starts place [] = slice_get starts place ≡ Some END
 ShowsQueue starts place ((number, p) ∷ rest) =
-    (slice_get starts place ≡ Some (record { number = number; length = p.length; due = p.due })) × HasFlits p × ShowsQueue starts (place + 1) rest
+    (slice_get starts place ≡ Some (record { number = number; length = p.length; due = p.due }))
+    × HasFlits p × ShowsQueue starts (place + 1) rest
 
 -- of the first packet of the queue, once it has begun, so many flits are left from this index on
 abbrev pub ShowsNext : Source → List (ℕ × Packet) → Option (ℕ × ℕ) → Type 0
@@ -66,7 +67,8 @@ first_source start s = record s { left = start.length }
 
 -- where its next packet begins, if it may in one of these channels
 abbrev pub begun_source : List Start → ℕ → Source → Source
-begun_source starts begins s = if nat_eq begins 0 then s else first_source (start_in starts s.queue) s
+begun_source starts begins s =
+    if nat_eq begins 0 then s else first_source (start_in starts s.queue) s
 
 -- once its next flit is injected
 abbrev pub next_source : List Start → Source → Source
@@ -82,4 +84,5 @@ sent_source starts injected s = if nat_eq injected 0 then s else next_source sta
 -- the numbers of the packets that hold the input channels, where one begins in the least of these
 -- channels, if there is one
 abbrev pub packet_begun : List Start → ℕ → Source → (ℕ → ℕ) → ℕ → ℕ
-packet_begun starts begins s packet i = if has_bit (lowest begins) i then (start_in starts s.queue).number else packet i
+packet_begun starts begins s packet i =
+    if has_bit (lowest begins) i then (start_in starts s.queue).number else packet i

@@ -24,11 +24,15 @@ credit_by vcs port credit o = if nat_eq (o / vcs) port then is_some_of credit (o
 -- by the beats of this port and those behind it
 abbrev pub flit_from : ℕ → ℕ → List Beat → ℕ → Option Flit
 flit_from vcs port [] i = None
-flit_from vcs port (beat ∷ beats) i = if nat_eq (i / vcs) port then flit_on_vc (i % vcs) beat.flit else flit_from vcs (port + 1) beats i
+flit_from vcs port (beat ∷ beats) i =
+    if nat_eq (i / vcs) port then flit_on_vc (i % vcs) beat.flit
+    else flit_from vcs (port + 1) beats i
 
 abbrev pub credit_from : ℕ → ℕ → List Beat → ℕ → Bool
 credit_from vcs port [] o = false
-credit_from vcs port (beat ∷ beats) o = if nat_eq (o / vcs) port then is_some_of beat.credit (o % vcs) else credit_from vcs (port + 1) beats o
+credit_from vcs port (beat ∷ beats) o =
+    if nat_eq (o / vcs) port then is_some_of beat.credit (o % vcs)
+    else credit_from vcs (port + 1) beats o
 
 -- with the flit that comes, if one does
 abbrev pub with_one : List Flit → Option Flit → List Flit
@@ -44,16 +48,26 @@ credited_by output false = output
 credited_by output true = output_after_credit output
 
 -- w is v after these flits have landed and these credits have come, all of which fit
-pub record HasTaken (relation : Routes) (v w : View) (flit : ℕ → Option Flit) (credit : ℕ → Bool) : Type 0 where
+pub record HasTaken (relation : Routes) (v w : View) (flit : ℕ → Option Flit) (credit : ℕ → Bool)
+    : Type 0 where
   pub buffer : (i : ℕ) → i < size_of v.site → view_buffer w i ≡ with_one (view_buffer v i) (flit i)
   pub input : (i : ℕ) → i < size_of v.site → view_input w i ≡ landed_by (view_input v i) (flit i)
-  pub output : (o : ℕ) → o < size_of v.site → view_output w o ≡ credited_by (view_output v o) (credit o)
-  pub fits : (i : ℕ) → i < size_of v.site → IfSome (flit i) (λ f. fits relation v.site.node (i / v.site.vcs) (i % v.site.vcs) v.site.depth (view_buffer v i) (view_input v i) f ≡ true)
-  pub credits : (o : ℕ) → o < size_of v.site → credit o ≡ true → credit_fits (view_output v o) ≡ true
+  pub output : (o : ℕ) → o < size_of v.site
+      → view_output w o ≡ credited_by (view_output v o) (credit o)
+  pub fits : (i : ℕ) → i < size_of v.site
+      → IfSome (flit i) (λ f. fits relation v.site.node (i / v.site.vcs)
+      (i % v.site.vcs) v.site.depth (view_buffer v i) (view_input v i) f ≡ true)
+  pub credits : (o : ℕ) → o < size_of v.site → credit o ≡ true
+      → credit_fits (view_output v o) ≡ true
   pub n_buffers : length w.buffers ≡ length v.buffers
   pub n_inputs : length w.inputs ≡ length v.inputs
   pub n_outputs : length w.outputs ≡ length v.outputs
-  pub rest : w ≡ record v { buffers = w.buffers; inputs = w.inputs; outputs = w.outputs; had_event = w.had_event }
+  pub rest : w ≡ record v {
+    buffers = w.buffers;
+    inputs = w.inputs;
+    outputs = w.outputs;
+    had_event = w.had_event;
+  }
 
 -- an entry for each channel
 pub record HasSize (v : View) : Type 0 where

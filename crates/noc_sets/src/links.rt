@@ -12,8 +12,8 @@ pub fn neighbours_are_at_two_distances()
         → neighbour g r port ≡ neighbour_by g r port }
 {}
 
-/// So the words of all routers, shifted and masked at these two distances, are what comes over their
-/// links.
+/// So the words of all routers, shifted and masked at these two distances, are what comes over
+/// their links.
 pub fn links_are_gathered_at_two_distances()
     ensures { (g : Grid) (vcs : ℕ) (words : ℕ → ℕ) (r i : ℕ) → IsGrid g → 0 < vcs → r < nodes g
         → has_bit (gathered g vcs words r) i ≡ comes_over g vcs words r i }

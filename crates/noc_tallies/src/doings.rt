@@ -1,15 +1,16 @@
 //! What the routers of a block do in a cycle.
 
-ghost use Rattle.std.specs.Prelude.{◌<◌, ℕ};
+ghost use Rattle.std.specs.Prelude.{◌<◌, ℕ, ◌≡◌, ⊤};
 ghost use Rattle.noc_lanes.specs.Channels.{verdicts_by};
 ghost use Rattle.noc_lanes.specs.Lanes.{word};
 ghost use Rattle.noc_tallies.specs.Doings.{doing_at};
 ghost use Rattle.noc_tallies.specs.Sheets.{AreVerdictsOf};
 
 use noc_lanes::{Decided, LANES, Lanes, Standing, Verdicts, Word, at};
+use std::alloc::AllocError;
 
 /// What the routers of a block do in a cycle, before it takes effect.
-#[derive(Clone, Copy)]
+#[derive(Copy)]
 pub struct Doings<'a, W> {
     /// The input channels that wait for an output channel.
     pub waiting: &'a Lanes<W>,
@@ -23,6 +24,16 @@ pub struct Doings<'a, W> {
     pub moved: &'a Lanes<W>,
     /// What is decided.
     pub decided: &'a Decided<Lanes<W>>,
+}
+
+impl<'a, W: Copy> Clone for Doings<'a, W> {
+    ghost is_clone = { λ x y. y ≡ x };
+
+    ghost is_infallible = { λ _. ⊤ };
+
+    fn clone(&self) -> Result<Doings<'a, W>, AllocError> {
+        Ok(*self)
+    }
 }
 
 impl<W: Word> Doings<'_, W> {

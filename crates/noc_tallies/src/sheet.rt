@@ -1,18 +1,19 @@
 //! The verdicts of a block that are counted by bits.
 
-ghost use Rattle.std.specs.Prelude.{◌≡◌, ◌+◌, ◌/◌, ◌%◌, ◌^◌, ◌<◌, ℕ};
+ghost use Rattle.std.specs.Prelude.{◌≡◌, ◌+◌, ◌/◌, ◌%◌, ◌^◌, ◌<◌, ℕ, ⊤};
 ghost use Rattle.noc_lanes.specs.Channels.{verdicts_by};
 ghost use Rattle.noc_tallies.specs.Doings.{doing_at};
 ghost use Rattle.noc_tallies.specs.Sheets.{CountsAreBelow, AreVerdictsOf, added_at, alike, last_in, sheet_counts, one_more, with_recent};
 
 use crate::doings::Doings;
 use noc_lanes::{LANES, Lanes, Tally, Verdicts, Word, alike};
+use std::alloc::AllocError;
 
 // How many cycles are added at once.
 const SLOTS: usize = 4;
 
 // How often the channels of a block had each verdict.
-#[derive(Clone, Copy)]
+#[derive(Copy)]
 pub(crate) struct Sheet<T> {
     // The verdicts of the cycles after those that were added, and of the last one.
     recent: [Verdicts<Lanes<T>>; SLOTS],
@@ -20,6 +21,16 @@ pub(crate) struct Sheet<T> {
     tallies: Verdicts<Tally<T>>,
     // How many cycles were counted.
     cycles: u32,
+}
+
+impl<T: Copy> Clone for Sheet<T> {
+    ghost is_clone = { λ x y. y ≡ x };
+
+    ghost is_infallible = { λ _. ⊤ };
+
+    fn clone(&self) -> Result<Sheet<T>, AllocError> {
+        Ok(*self)
+    }
 }
 
 impl<W: Word> Sheet<W> {

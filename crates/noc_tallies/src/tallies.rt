@@ -1,6 +1,6 @@
 //! The counts of a block.
 
-ghost use Rattle.std.specs.Prelude.{◌≡◌, ◌+◌, ◌<◌, ◌≤◌, ℕ, Bool, false};
+ghost use Rattle.std.specs.Prelude.{◌≡◌, ◌+◌, ◌<◌, ◌≤◌, ℕ, Bool, false, ⊤};
 ghost use Rattle.noc_packet.specs.Set.{has_bit};
 ghost use Rattle.noc_sets.specs.Column.{Column};
 ghost use Rattle.noc_sets.specs.Counts.{ByVerdict, RunOn, no_counts, ten_counts, with_verdicts};
@@ -13,12 +13,13 @@ use crate::sheet::Sheet;
 use crate::times::RouterTimes;
 use noc_blocks::PLACES;
 use noc_lanes::{LANES, Word};
+use std::alloc::AllocError;
 
 /// So many cycles can be counted.
 pub const CYCLES: u32 = 1 << 31;
 
 /// How often each channel of the routers of a block had each verdict.
-#[derive(Clone, Copy)]
+#[derive(Copy)]
 pub struct Tallies<T> {
     // 48 bytes that hold nothing, so that rows begin lines of the cache (docs/DECISIONS.md#rows).
     before: [u64; 6],
@@ -28,6 +29,16 @@ pub struct Tallies<T> {
     times: [RouterTimes; LANES],
     // Nothing, so that all is a multiple of 64 bytes.
     after: u64,
+}
+
+impl<T: Copy> Clone for Tallies<T> {
+    ghost is_clone = { λ x y. y ≡ x };
+
+    ghost is_infallible = { λ _. ⊤ };
+
+    fn clone(&self) -> Result<Tallies<T>, AllocError> {
+        Ok(*self)
+    }
 }
 
 impl<W: Word> Tallies<W> {

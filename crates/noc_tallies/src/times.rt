@@ -1,6 +1,6 @@
 //! What is counted of the channels of a block in waits: many cycles in which nothing happens.
 
-ghost use Rattle.std.specs.Prelude.{◌≡◌, ◌<◌, ℕ};
+ghost use Rattle.std.specs.Prelude.{◌≡◌, ◌<◌, ℕ, ⊤};
 ghost use Rattle.noc_packet.specs.Set.{has_bit};
 ghost use Rattle.noc_sets.specs.Counts.{ByVerdict, ten_counts};
 ghost use Rattle.noc_tallies.specs.Channels.{ShowsChannel};
@@ -8,16 +8,27 @@ ghost use Rattle.noc_tallies.specs.Times.{channel_in, no_times, plus_if, times_w
 
 use noc_blocks::PLACES;
 use noc_lanes::{Verdicts, Word};
+use std::alloc::AllocError;
 
-// In how many cycles of waits a channel
-#[derive(Clone, Copy)]
+// In how many cycles of waits a channel was so.
+#[derive(Copy)]
 pub(crate) struct ChannelTimes {
-    // .. waited for an output channel,
+    // It waited for an output channel.
     waiting: u32,
-    // .. owned one,
+    // It owned one.
     active: u32,
-    // .. and had NoCredit.
+    // It had NoCredit.
     no_credit: u32,
+}
+
+impl Clone for ChannelTimes {
+    ghost is_clone = { λ x y. y ≡ x };
+
+    ghost is_infallible = { λ _. ⊤ };
+
+    fn clone(&self) -> Result<ChannelTimes, AllocError> {
+        Ok(*self)
+    }
 }
 
 impl ChannelTimes {
@@ -74,9 +85,19 @@ fn plus_if(test: bool, number: u32, more: u32) -> u32
 }
 
 // The same of each channel of a router.
-#[derive(Clone, Copy)]
+#[derive(Copy)]
 pub(crate) struct RouterTimes {
     channels: [ChannelTimes; PLACES],
+}
+
+impl Clone for RouterTimes {
+    ghost is_clone = { λ x y. y ≡ x };
+
+    ghost is_infallible = { λ _. ⊤ };
+
+    fn clone(&self) -> Result<RouterTimes, AllocError> {
+        Ok(*self)
+    }
 }
 
 impl RouterTimes {

@@ -41,18 +41,28 @@ is_linked net r port = is_some (neighbour net.relation.grid r port)
 
 -- a router that is between its cycles
 abbrev pub resting_post : Setup → View → ℕ → List (List Beat) → Post
-resting_post net view n wires = record { view = view; steps = n; wires = wires; taken = no_beats net; decided = false; unput = no_beats net }
+resting_post net view n wires = record {
+  view = view;
+  steps = n;
+  wires = wires;
+  taken = no_beats net;
+  decided = false;
+  unput = no_beats net;
+}
 
 -- the wires that arrive at router r at count n, each with the beat in flight
 abbrev pub wires_in_flight : Setup → ℕ → ℕ → List (List Beat)
-wires_in_flight net n r = tabulate (link_ports net) (λ port. if is_linked net r port then beat_at (beats_in net (state_at net n)) r port ∷ [] else [])
+wires_in_flight net n r =
+    tabulate (link_ports net) (λ port. if is_linked net r port
+    then beat_at (beats_in net (state_at net n)) r port ∷ [] else [])
 
 -- the core that begins where a network is after its cycles: each router has its
 -- view of the network's state
 unfoldable pub opening_core : Run → CoreState
 opening_core u = record {
   net = u.net;
-  posts = tabulate (nodes u.net.relation.grid) (λ r. resting_post u.net (view_at u.net u.count r) u.count (wires_in_flight u.net u.count r));
+  posts = tabulate (nodes u.net.relation.grid)
+      (λ r. resting_post u.net (view_at u.net u.count r) u.count (wires_in_flight u.net u.count r));
 }
 
 -- the router with this number, if it exists
@@ -87,17 +97,21 @@ none_has beats = list_all (λ beat. is_none beat) beats
 
 -- there is a beat for each link of router r
 abbrev pub all_have : Setup → ℕ → List (Option Beat) → Bool
-all_have net r beats = list_all (λ port. not (is_linked net r port) || has_beat beats port) (below (link_ports net))
+all_have net r beats =
+    list_all (λ port. not (is_linked net r port) || has_beat beats port) (below (link_ports net))
 
 -- ---- when an event may happen, where a router does at most `limit` cycles
 
 -- a beat is on the wire, and this cycle has taken none there
 abbrev pub may_take : ℕ → ℕ → Post → Bool
-may_take limit port post = nat_lt 0 (length (wire_of post port)) && not (has_beat post.taken port) && nat_lt post.steps limit
+may_take limit port post =
+    nat_lt 0 (length (wire_of post port)) && not (has_beat post.taken port)
+    && nat_lt post.steps limit
 
 -- all beats of this cycle are taken, and it is not decided
 abbrev pub may_decide : ℕ → Setup → ℕ → Post → Bool
-may_decide limit net r post = not post.decided && all_have net r post.taken && nat_lt post.steps limit
+may_decide limit net r post =
+    not post.decided && all_have net r post.taken && nat_lt post.steps limit
 
 -- the beat for this port is there since the cycle was decided, and is not put yet
 abbrev pub may_put : ℕ → Post → Bool
@@ -109,7 +123,8 @@ holds_at may post = unwrap_or (option_map may post) false
 
 -- whether an event may happen
 unfoldable pub is_ready : ℕ → CoreState → Event → Bool
-is_ready limit k (Take r port) = is_linked k.net r port && holds_at (may_take limit port) (post_at k r)
+is_ready limit k (Take r port) =
+    is_linked k.net r port && holds_at (may_take limit port) (post_at k r)
 is_ready limit k (Decide r) = holds_at (may_decide limit k.net r) (post_at k r)
 is_ready limit k (Put r port) = is_linked k.net r port && holds_at (may_put port) (post_at k r)
 
@@ -124,12 +139,14 @@ taking port post = record post {
 
 -- after its last put a router is between its cycles
 abbrev pub post_after_last_put : Setup → Post → Post
-post_after_last_put net post = if none_has post.unput then resting_post net post.view (post.steps + 1) post.wires else post
+post_after_last_put net post =
+    if none_has post.unput then resting_post net post.view (post.steps + 1) post.wires else post
 
 -- one whole cycle of the view over the beats that were taken
 abbrev pub deciding : Setup → ℕ → Post → Post
 deciding net r post =
-    let after = local_step net.relation post.view (map (λ beat. unwrap_or beat idle_beat) post.taken) post.steps in
+    let after = local_step net.relation post.view
+    (map (λ beat. unwrap_or beat idle_beat) post.taken) post.steps in
     post_after_last_put net (record post {
       view = after.0;
       decided = true;
@@ -138,15 +155,20 @@ deciding net r post =
 
 -- the beat for a port is put
 abbrev pub putting : Setup → ℕ → Post → Post
-putting net port post = post_after_last_put net (record post { unput = slice_set post.unput port None })
+putting net port post =
+    post_after_last_put net (record post { unput = slice_set post.unput port None })
 
 -- the beat that a router has for a port
 abbrev pub beat_to_send : ℕ → Option Post → Beat
-beat_to_send port post = unwrap_or (option_and_then (λ (post : Post). slice_index_or post.unput port None) post) idle_beat
+beat_to_send port post =
+    unwrap_or
+    (option_and_then (λ (post : Post). slice_index_or post.unput port None) post) idle_beat
 
 -- a beat comes to the end of a wire
 abbrev pub receiving : ℕ → Beat → Post → Post
-receiving port beat post = record post { wires = slice_set post.wires port (wire_of post port ++ beat ∷ []) }
+receiving port beat post = record post {
+  wires = slice_set post.wires port (wire_of post port ++ beat ∷ []);
+}
 
 -- a beat comes to the end of the wire that arrives at this router and port, if there is one
 abbrev pub onto_wire : Option (ℕ × ℕ) → Beat → CoreState → CoreState
@@ -157,7 +179,9 @@ onto_wire (Some to) beat k = with_post to.0 (receiving to.1 beat) k
 unfoldable pub happens : CoreState → Event → CoreState
 happens k (Take r port) = with_post r (taking port) k
 happens k (Decide r) = with_post r (deciding k.net r) k
-happens k (Put r port) = onto_wire (neighbour k.net.relation.grid r port) (beat_to_send port (post_at k r)) (with_post r (putting k.net port) k)
+happens k (Put r port) =
+    onto_wire (neighbour k.net.relation.grid r port) (beat_to_send port (post_at k r))
+    (with_post r (putting k.net port) k)
 
 -- the core after an event, which changes nothing where it is not ready
 abbrev pub after_event : ℕ → CoreState → Event → CoreState

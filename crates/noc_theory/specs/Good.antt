@@ -1,5 +1,5 @@
--- A good setup, of which alone a network is made and for which all laws hold, and terms for the
--- flits of its packets and the slots of its buffers.
+-- A well-formed setup, for which the laws of states hold, and a good one, of which alone a network
+-- is made and for which all laws hold. And terms for the flits of packets and the slots of buffers.
 use Rattle.std.specs.Prelude.{ℕ, ◌≢◌, ◌+◌, ◌<◌, ◌≤◌, length, if◌then◌else◌}
 use Rattle.std.specs.List.{All}
 use Rattle.noc_topo.specs.Shape.{nodes}
@@ -9,7 +9,22 @@ use Rattle.noc_route.specs.Channel.{Channel}
 use Rattle.noc_route.specs.Routes.{Routes, IsRelation}
 use Rattle.noc_theory.specs.Network.{Setup, State, packet_at, count_on, count_in, has_channel}
 
--- a packet that a network on this relation can send
+-- a packet that can be sent on this relation: of any length, and due at any time
+pub record IsWellFormedPacket (relation : Routes) (p : Packet) : Type 0 where
+  pub source : p.source < nodes relation.grid
+  pub destination : p.destination < nodes relation.grid
+  pub apart : p.destination ≢ p.source
+  pub class : p.class < relation.classes
+  pub some_flit : 0 < p.length
+
+-- the relation was built, each buffer has a slot, and each packet can be sent,
+-- however many they are
+pub record IsWellFormedSetup (net : Setup) : Type 0 where
+  pub relation : IsRelation net.relation
+  pub some_depth : 0 < net.depth
+  pub packets : All (IsWellFormedPacket net.relation) net.packets
+
+-- a packet that a network on this relation can send: well-formed, and within the limits
 pub record IsGoodPacket (relation : Routes) (p : Packet) : Type 0 where
   pub source : p.source < nodes relation.grid
   pub destination : p.destination < nodes relation.grid
@@ -19,8 +34,7 @@ pub record IsGoodPacket (relation : Routes) (p : Packet) : Type 0 where
   pub length : p.length ≤ MAX_LENGTH
   pub due : p.due ≤ MAX_DUE
 
--- the relation was built, each buffer has a slot, and the packets are not too
--- many and each can be sent
+-- well-formed, and the packets are not too many and each is within the limits
 pub record IsGoodSetup (net : Setup) : Type 0 where
   pub relation : IsRelation net.relation
   pub some_depth : 0 < net.depth

@@ -27,17 +27,21 @@ cycle_put port post = post.steps + 1 + one_if (post.decided && not (has_beat pos
 -- the beats of the lockstep run on the wire that arrives at this router and port, of the
 -- cycles from `a` to before `b`
 abbrev pub beats_of_cycles : Setup → ℕ → ℕ → ℕ → ℕ → List Beat
-beats_of_cycles net r port a b = map (λ n. beat_at (lockstep_at net n).wires r port) (range_with_len a (b - a))
+beats_of_cycles net r port a b =
+    map (λ n. beat_at (lockstep_at net n).wires r port) (range_with_len a (b - a))
 
 -- the wires that arrive at router r at count n of the lockstep run, each with the beat in flight
 abbrev pub lockstep_wires : Setup → ℕ → ℕ → List (List Beat)
-lockstep_wires net n r = tabulate (link_ports net) (λ port. if is_linked net r port then beat_at (lockstep_at net n).wires r port ∷ [] else [])
+lockstep_wires net n r =
+    tabulate (link_ports net)
+    (λ port. if is_linked net r port then beat_at (lockstep_at net n).wires r port ∷ [] else [])
 
 -- the core that begins where the lockstep run is at a count
 unfoldable pub lockstep_core : Run → CoreState
 lockstep_core u = record {
   net = u.net;
-  posts = map_indexed (λ r view. resting_post u.net view u.count (lockstep_wires u.net u.count r)) (lockstep_at u.net u.count).views;
+  posts = map_indexed (λ r view. resting_post u.net view u.count (lockstep_wires u.net u.count r))
+      (lockstep_at u.net u.count).views;
 }
 
 -- router r is in a cycle of the lockstep run
@@ -47,11 +51,14 @@ pub record IsPostInStep (limit : ℕ) (net : Setup) (r : ℕ) (post : Post) : Ty
   pub taken : length post.taken ≡ link_ports net
   pub unput : length post.unput ≡ link_ports net
   pub unlinked : (port : ℕ) → is_linked net r port ≡ false → wire_of post port ≡ []
-  pub beats_taken : (port : ℕ) (beat : Beat) → slice_index_or post.taken port None ≡ Some beat → beat ≡ beat_at (lockstep_at net post.steps).wires r port
-  pub beats_unput : (port s q : ℕ) (beat : Beat) → slice_index_or post.unput port None ≡ Some beat → neighbour net.relation.grid r port ≡ Some (s, q)
+  pub beats_taken : (port : ℕ) (beat : Beat) → slice_index_or post.taken port None ≡ Some beat
+      → beat ≡ beat_at (lockstep_at net post.steps).wires r port
+  pub beats_unput : (port s q : ℕ) (beat : Beat) → slice_index_or post.unput port None ≡ Some beat
+      → neighbour net.relation.grid r port ≡ Some (s, q)
       → beat ≡ beat_at (lockstep_at net (post.steps + 1)).wires s q
   pub some_unput : (port : ℕ) → has_beat post.unput port ≡ true → post.decided ≡ true
-  pub all_taken : post.decided ≡ true → (port : ℕ) → is_linked net r port ≡ true → has_beat post.taken port ≡ true
+  pub all_taken : post.decided ≡ true → (port : ℕ) → is_linked net r port ≡ true
+      → has_beat post.taken port ≡ true
   pub below_limit : post.decided ≡ true → post.steps < limit
 
 -- a wire that arrives at this router and port holds the beats of the cycles from `a` to before `b`
@@ -65,12 +72,14 @@ pub record IsInStep (limit : ℕ) (k : CoreState) : Type 0 where
   pub grid : IsGrid k.net.relation.grid
   pub count : length k.posts ≡ nodes k.net.relation.grid
   pub posts : (r : ℕ) (post : Post) → post_at k r ≡ Some post → IsPostInStep limit k.net r post
-  pub wires : (r port s q : ℕ) (post sender : Post) → post_at k r ≡ Some post → post_at k s ≡ Some sender → neighbour k.net.relation.grid r port ≡ Some (s, q)
+  pub wires : (r port s q : ℕ) (post sender : Post) → post_at k r ≡ Some post
+      → post_at k s ≡ Some sender → neighbour k.net.relation.grid r port ≡ Some (s, q)
       → HoldsCycles k.net r port (cycle_taken port post) (cycle_put q sender) (wire_of post port)
 
 -- the wire that arrives at a router and port from a sender: it holds the opening beat and those
 -- that were put and not taken, at most two
-pub record KeepsWire (net : Setup) (events : List Event) (r port : ℕ) (post : Post) (s q : ℕ) (sender : Post) : Type 0 where
+pub record KeepsWire (net : Setup) (events : List Event) (r port : ℕ) (post : Post) (s q : ℕ)
+    (sender : Post) : Type 0 where
   pub beats : length (wire_of post port) + takes r port events ≡ 1 + puts s q events
   pub few : length (wire_of post port) ≤ 2
   -- between the cycles of both ends it holds the beats of the lockstep run from the receiver's
@@ -87,10 +96,13 @@ pub record KeepsStep (net : Setup) (count : ℕ) (events : List Event) (k : Core
   pub routers : length k.posts ≡ nodes net.relation.grid
   -- each router has the view of the lockstep run, with its findings, at the
   -- count of its last Decide
-  pub views : (r : ℕ) (post : Post) → post_at k r ≡ Some post → post.view ≡ slice_index_or (lockstep_at net (count + decides r events)).views r post.view
+  pub views : (r : ℕ) (post : Post) → post_at k r ≡ Some post
+      → post.view ≡ slice_index_or (lockstep_at net (count + decides r events)).views r post.view
   -- the count of its last Decide is its own number of steps where it is between its cycles
-  pub steps : (r : ℕ) (post : Post) → post_at k r ≡ Some post → is_between post ≡ true → post.steps ≡ count + decides r events
-  pub wires : (r port s q : ℕ) (post sender : Post) → post_at k r ≡ Some post → post_at k s ≡ Some sender → neighbour net.relation.grid r port ≡ Some (s, q)
+  pub steps : (r : ℕ) (post : Post) → post_at k r ≡ Some post → is_between post ≡ true
+      → post.steps ≡ count + decides r events
+  pub wires : (r port s q : ℕ) (post sender : Post) → post_at k r ≡ Some post
+      → post_at k s ≡ Some sender → neighbour net.relation.grid r port ≡ Some (s, q)
       → KeepsWire net events r port post s q sender
   -- where all routers are between their cycles at one count, the core is the one of the lockstep
   -- run after so many cycles

@@ -36,7 +36,12 @@ beat_from sent (Some from) = slice_index_or (beats_at sent from.0) from.1 idle_b
 module _ (net : Setup) where
   -- what router r is built for
   abbrev pub site_at : ℕ → Site
-  site_at r = record { grid = net.relation.grid; node = r; vcs = net.relation.vcs; depth = net.depth }
+  site_at r = record {
+    grid = net.relation.grid;
+    node = r;
+    vcs = net.relation.vcs;
+    depth = net.depth;
+  }
 
   -- the packets of a node with their numbers, in the order in which they are injected
   abbrev pub starts_at : ℕ → List (ℕ × Packet)
@@ -56,18 +61,23 @@ module _ (net : Setup) where
   -- each router has its opening view, each wire an idle beat
   unfoldable pub opening_lockstep : Lockstep
   opening_lockstep = record {
-    views = tabulate (nodes net.relation.grid) (λ r. opening_view (site_at r) (starts_at r) (ends_at r));
-    wires = replicate (nodes net.relation.grid) (replicate (local_port net.relation.grid) idle_beat);
+    views = tabulate (nodes net.relation.grid)
+        (λ r. opening_view (site_at r) (starts_at r) (ends_at r));
+    wires = replicate (nodes net.relation.grid)
+        (replicate (local_port net.relation.grid) idle_beat);
   }
 
   -- the wires after each router has put its beats
   unfoldable pub wires_after_puts : List (List Beat) → List (List Beat)
-  wires_after_puts sent = tabulate (nodes net.relation.grid) (λ r. tabulate (local_port net.relation.grid) (λ port. beat_from sent (neighbour net.relation.grid r port)))
+  wires_after_puts sent =
+      tabulate (nodes net.relation.grid) (λ r. tabulate (local_port net.relation.grid)
+      (λ port. beat_from sent (neighbour net.relation.grid r port)))
 
   -- cycle n of all routers
   unfoldable pub lockstep_cycle : ℕ → Lockstep → Lockstep
   lockstep_cycle n all =
-      let steps = map_indexed (λ r view. local_step net.relation view (beats_at all.wires r) n) all.views in
+      let steps = map_indexed
+      (λ r view. local_step net.relation view (beats_at all.wires r) n) all.views in
       record {
         views = map (λ (step : View × List Beat). step.0) steps;
         wires = wires_after_puts (map (λ (step : View × List Beat). step.1) steps);
@@ -86,22 +96,28 @@ module _ (net : Setup) where
 
   -- how many flits of p have come to the buffer of c
   abbrev pub come_count : State → Channel → ℕ → ℕ
-  come_count S c p = count_by (λ (f : Located). has_come c (packet_at net p).destination f.place) (flits_of net S p)
+  come_count S c p =
+      count_by (λ (f : Located). has_come c (packet_at net p).destination f.place)
+      (flits_of net S p)
 
   -- whether the head of p has come to the buffer of c and its tail has not left it
   abbrev pub is_present : State → Channel → ℕ → Bool
-  is_present S c p = nat_lt 0 (come_count S c p) && not (is_past net c (packet_at net p).destination (tail_place net S p))
+  is_present S c p =
+      nat_lt 0 (come_count S c p)
+      && not (is_past net c (packet_at net p).destination (tail_place net S p))
 
   -- the flits in the buffer of an input channel, if it exists
   abbrev pub seen_flits : State → Option Channel → List Flit
   seen_flits S None = []
-  seen_flits S (Some c) = map (λ (f : Located). flit_at (packet_at net f.packet) f.packet f.index) (buffer_of net S c)
+  seen_flits S (Some c) =
+      map (λ (f : Located). flit_at (packet_at net f.packet) f.packet f.index) (buffer_of net S c)
 
   -- the set of the relation for the packet that owns the input channel with index i of router r
   abbrev pub seen_set : State → ℕ → ℕ → Option ℕ → ℕ
   seen_set S r i None = 0
   seen_set S r i (Some p) =
-      set_at net.relation (packet_at net p).class r (i / net.relation.vcs) (i % net.relation.vcs) (packet_at net p).destination
+      set_at net.relation (packet_at net p).class r (i / net.relation.vcs) (i % net.relation.vcs)
+      (packet_at net p).destination
 
   -- a routed channel is active where it has a next channel, and else it waits
   abbrev pub seen_phase_with : State → ℕ → ℕ → Channel → Option Channel → InputState
@@ -111,11 +127,14 @@ module _ (net : Setup) where
   -- a channel that is not routed is idle; a routed one is active where it has a next
   -- channel, and else it waits
   abbrev pub seen_phase : State → ℕ → ℕ → Channel → InputState
-  seen_phase S r i c = if has_channel S.routed c then seen_phase_with S r i c (next_channel net S c) else Idle
+  seen_phase S r i c =
+      if has_channel S.routed c then seen_phase_with S r i c (next_channel net S c) else Idle
 
   -- the last flit of p that has come to the buffer of c
   abbrev pub last_come : State → Channel → ℕ → Option Flit
-  last_come S c p = if nat_eq (come_count S c p) 0 then None else Some (flit_at (packet_at net p) p (come_count S c p - 1))
+  last_come S c p =
+      if nat_eq (come_count S c p) 0 then None
+      else Some (flit_at (packet_at net p) p (come_count S c p - 1))
 
   -- the input channel with index i of router r
   abbrev pub seen_input : State → ℕ → ℕ → Option Channel → Input
@@ -133,13 +152,16 @@ module _ (net : Setup) where
   -- the input channel of router r whose packet goes on by o
   abbrev pub seen_sender : State → ℕ → Channel → ℕ
   seen_sender S r o =
-      unwrap_or (find (λ i. unwrap_or (option_map (goes_on_by S o) (arriving net r i)) false) (below (size net))) 0
+      unwrap_or (find (λ i. unwrap_or (option_map (goes_on_by S o) (arriving net r i)) false)
+      (below (size net))) 0
 
   -- an owned link channel is draining once the tail has been sent on it
   abbrev pub seen_holder : State → ℕ → Channel → Option ℕ → OutputState
   seen_holder S r o None = Free
   seen_holder S r o (Some p) =
-      if is_link o && (is_on o (tail_place net S p) || has_come o (packet_at net p).destination (tail_place net S p))
+      if is_link o
+      && (is_on o (tail_place net S p)
+      || has_come o (packet_at net p).destination (tail_place net S p))
       then Draining
       else Owned (seen_sender S r o) p
 
@@ -147,7 +169,11 @@ module _ (net : Setup) where
   abbrev pub seen_output : State → ℕ → Channel → Output
   seen_output S r o =
       if is_link o
-      then record { holder = seen_holder S r o (owner_of net S o); credit = Some (credit_of net S o); depth = net.depth }
+      then record {
+        holder = seen_holder S r o (owner_of net S o);
+        credit = Some (credit_of net S o);
+        depth = net.depth;
+      }
       else record ejection_output { holder = seen_holder S r o (owner_of net S o) }
 
   -- the injection channel of the first waiting packet, once it has begun, and
@@ -155,7 +181,10 @@ module _ (net : Setup) where
   abbrev pub seen_sending : State → ℕ → Option ℕ → Option (ℕ × ℕ)
   seen_sending S r None = None
   seen_sending S r (Some p) =
-      option_map (λ c. (channel_vc c, count_by (λ (f : Located). not (is_at_source f.place)) (flits_of net S p))) (find (is_injection_of net r) (owned_by net S p))
+      option_map
+      (λ c.
+      (channel_vc c, count_by (λ (f : Located). not (is_at_source f.place)) (flits_of net S p)))
+      (find (is_injection_of net r) (owned_by net S p))
 
   -- whether a packet has a flit at its source
   abbrev pub has_flit_at_source : State → ℕ × Packet → Bool
@@ -216,7 +245,8 @@ module _ (net : Setup) where
 
   -- the findings of router r in cycle n
   abbrev pub findings_in_cycle : ℕ → ℕ → List Finding
-  findings_in_cycle n r = tabulate (size net) (λ i. finding_in (frozen_at net n) r i (arriving net r i))
+  findings_in_cycle n r =
+      tabulate (size net) (λ i. finding_in (frozen_at net n) r i (arriving net r i))
 
   -- those of the cycle before count n
   abbrev pub findings_before : ℕ → ℕ → List Finding
@@ -225,7 +255,8 @@ module _ (net : Setup) where
 
   -- how often input channel i of router r had each verdict in the cycles below n
   abbrev pub counts_before : ℕ → ℕ → ℕ → List ℕ
-  counts_before n r i = tabulate 10 (λ k. count_by (λ m. nat_eq (column (verdict_in_cycle net m r i)) k) (below n))
+  counts_before n r i =
+      tabulate 10 (λ k. count_by (λ m. nat_eq (column (verdict_in_cycle net m r i)) k) (below n))
 
   -- the whole view of router r at the start of cycle n
   unfoldable pub view_at : ℕ → ℕ → View
@@ -240,7 +271,9 @@ module _ (net : Setup) where
 
   -- the flit on the wire of c
   abbrev pub flit_on : State → Channel → Option Flit
-  flit_on S c = option_map (λ (f : Located). flit_at (packet_at net f.packet) f.packet f.index) (find (λ (f : Located). is_on c f.place) S.at)
+  flit_on S c =
+      option_map (λ (f : Located). flit_at (packet_at net f.packet) f.packet f.index)
+      (find (λ (f : Located). is_on c f.place) S.at)
 
   -- the beat on its way to router r from the sender at its port: the flit that it sent, and
   -- the credit for a flit of r
@@ -254,4 +287,6 @@ module _ (net : Setup) where
 
   -- by router and link port, the beat on the wire that arrives
   unfoldable pub beats_in : State → List (List Beat)
-  beats_in S = tabulate (nodes net.relation.grid) (λ r. tabulate (local_port net.relation.grid) (λ port. beat_by S r port (neighbour net.relation.grid r port)))
+  beats_in S =
+      tabulate (nodes net.relation.grid) (λ r. tabulate (local_port net.relation.grid)
+      (λ port. beat_by S r port (neighbour net.relation.grid r port)))

@@ -89,7 +89,9 @@ module _ (net : Setup) where
 
   -- the packet with this number
   abbrev pub packet_at : ℕ → Packet
-  packet_at p = slice_index_or net.packets p (record { source = 0; destination = 0; class = 0; length = 0; due = 0 })
+  packet_at p =
+      slice_index_or net.packets p
+      (record { source = 0; destination = 0; class = 0; length = 0; due = 0 })
 
   -- the input channel with this index of router r, which arrives there
   abbrev pub arriving : ℕ → ℕ → Option Channel
@@ -106,11 +108,14 @@ module _ (net : Setup) where
   -- every flit at its source, nothing owned, all pointers at 0
   unfoldable pub opening_state : State
   opening_state = record {
-    at = flat_map (λ (one : ℕ × Packet). map (λ i. record { packet = one.0; index = i; place = Source }) (below one.1.length)) (enumerate_from 0 net.packets);
+    at = flat_map
+        (λ (one : ℕ × Packet). map (λ i. record { packet = one.0; index = i; place = Source })
+        (below one.1.length)) (enumerate_from 0 net.packets);
     own = [];
     routed = [];
     back = [];
-    arbiters = replicate (nodes net.relation.grid) (opening_arbiters (ports net.relation.grid) net.relation.vcs);
+    arbiters = replicate (nodes net.relation.grid)
+        (opening_arbiters (ports net.relation.grid) net.relation.vcs);
   }
 
   -- ---- buffers, owners and credits (Dally and Towles, chapter 13)
@@ -137,7 +142,9 @@ module _ (net : Setup) where
 
   -- where flit i of packet p is
   abbrev pub place_of_flit : State → ℕ → ℕ → Place
-  place_of_flit S p i = unwrap_or (option_map (λ (f : Located). f.place) (find (λ (f : Located). nat_eq p f.packet && nat_eq i f.index) S.at)) Source
+  place_of_flit S p i =
+      unwrap_or (option_map (λ (f : Located). f.place)
+      (find (λ (f : Located). nat_eq p f.packet && nat_eq i f.index) S.at)) Source
 
   -- where the tail of p is
   abbrev pub tail_place : State → ℕ → Place
@@ -150,7 +157,8 @@ module _ (net : Setup) where
 
   -- the packet that owns c
   abbrev pub owner_of : State → Channel → Option ℕ
-  owner_of S c = option_map (λ (pair : Channel × ℕ). pair.1) (find (λ pair. same_channel c pair.0) S.own)
+  owner_of S c =
+      option_map (λ (pair : Channel × ℕ). pair.1) (find (λ pair. same_channel c pair.0) S.own)
 
   -- the channels of packet p, in the order in which it came to own them
   abbrev pub owned_by : State → ℕ → List Channel
@@ -166,7 +174,8 @@ module _ (net : Setup) where
 
   -- whether o begins at the router where c ends
   abbrev pub leads_from : Channel → Channel → Bool
-  leads_from c o = unwrap_or (option_map (is_some_of (end_of net.relation c)) (sending_router o)) false
+  leads_from c o =
+      unwrap_or (option_map (is_some_of (end_of net.relation c)) (sending_router o)) false
 
   -- the channel that begins where c ends and belongs to the packet that owns c
   abbrev pub next_channel : State → Channel → Option Channel
@@ -176,7 +185,11 @@ module _ (net : Setup) where
   -- c, which ends at router r
   abbrev pub ask : State → ℕ → Channel → Option ℕ
   ask S r c =
-      option_and_then (λ p. find (λ o. is_idle S (leaving r o) && permits net.relation (packet_at p).class c (packet_at p).destination (leaving r o)) (below size))
+      option_and_then
+      (λ p. find
+      (λ o. is_idle S (leaving r o)
+      && permits net.relation (packet_at p).class c (packet_at p).destination (leaving r o))
+      (below size))
       (owner_of S c)
 
   -- ---- phase one: each flit on a wire lands
@@ -190,7 +203,9 @@ module _ (net : Setup) where
 
   -- the state after phase one
   unfoldable pub after_landing : State → State
-  after_landing S = record S { at = map (λ (f : Located). record f { place = landed_place f.place }) S.at }
+  after_landing S = record S {
+    at = map (λ (f : Located). record f { place = landed_place f.place }) S.at;
+  }
 
   -- ---- phase two: credits arrive, and link channels that their owner has left are idle
 
@@ -204,7 +219,8 @@ module _ (net : Setup) where
 
   -- whether a link channel is idle from now on, whose owner is given beside it
   abbrev pub is_freed : State → Channel × ℕ → Bool
-  is_freed S pair = is_link pair.0 && is_past pair.0 (packet_at pair.1).destination (tail_place S pair.1)
+  is_freed S pair =
+      is_link pair.0 && is_past pair.0 (packet_at pair.1).destination (tail_place S pair.1)
 
   -- the state after phase two
   unfoldable pub after_credits : State → State
@@ -216,7 +232,10 @@ module _ (net : Setup) where
   abbrev pub first_waiting : State → ℕ → Option ℕ
   first_waiting S node =
       least_by (λ p. (packet_at p).due)
-      (filter (λ p. nat_eq (packet_at p).source node && list_any (λ (f : Located). is_at_source f.place) (flits_of S p)) (below (length net.packets)))
+      (filter
+      (λ p. nat_eq (packet_at p).source node
+      && list_any (λ (f : Located). is_at_source f.place) (flits_of S p))
+      (below (length net.packets)))
 
   -- whether it is an injection channel of the node
   abbrev pub is_injection_of : ℕ → Channel → Bool
@@ -235,17 +254,22 @@ module _ (net : Setup) where
   abbrev pub beginning : State → ℕ → ℕ → ℕ → Option Injection
   beginning S n node p =
       if nat_le (packet_at p).due n
-      then option_map (λ v. record { packet = p; channel = Inject node v; begins = true }) (find (λ v. is_idle S (Inject node v)) (below net.relation.vcs))
+      then option_map (λ v. record { packet = p; channel = Inject node v; begins = true })
+      (find (λ v. is_idle S (Inject node v)) (below net.relation.vcs))
       else None
 
   -- a packet that has begun goes on where the buffer of its injection channel has room
   abbrev pub injection_with : State → ℕ → ℕ → ℕ → Option Channel → Option Injection
   injection_with S n node p None = beginning S n node p
-  injection_with S n node p (Some c) = if nat_lt (count_in S c) net.depth then Some (record { packet = p; channel = c; begins = false }) else None
+  injection_with S n node p (Some c) =
+      if nat_lt (count_in S c) net.depth
+      then Some (record { packet = p; channel = c; begins = false }) else None
 
   -- the injection at a node, if there is one
   abbrev pub injection_at : State → ℕ → ℕ → Option Injection
-  injection_at S n node = option_and_then (λ p. injection_with S n node p (find (is_injection_of node) (owned_by S p))) (first_waiting S node)
+  injection_at S n node =
+      option_and_then (λ p. injection_with S n node p (find (is_injection_of node) (owned_by S p)))
+      (first_waiting S node)
 
   -- the injections at all nodes
   abbrev pub injections : State → ℕ → List Injection
@@ -263,15 +287,22 @@ module _ (net : Setup) where
   -- where flit f is after the injection of its packet, if there is one
   abbrev pub injected_place : State → Located → Option Injection → Place
   injected_place S f None = f.place
-  injected_place S f (Some one) = if is_at_source f.place && is_the_flit f (first_at_source S f.packet) then In one.channel else f.place
+  injected_place S f (Some one) =
+      if is_at_source f.place && is_the_flit f (first_at_source S f.packet) then In one.channel
+      else f.place
 
   -- the state after phase three in cycle n
   unfoldable pub after_injection : ℕ → State → State
   after_injection n S =
       let all = injections S n in
       record S {
-        at = map (λ (f : Located). record f { place = injected_place S f (find (λ (one : Injection). nat_eq one.packet f.packet) all) }) S.at;
-        own = S.own ++ map (λ (one : Injection). (one.channel, one.packet)) (filter (λ (one : Injection). one.begins) all);
+        at = map (λ (f : Located). record f {
+          place = injected_place S f
+              (find (λ (one : Injection). nat_eq one.packet f.packet) all);
+        }) S.at;
+        own = S.own
+            ++ map (λ (one : Injection). (one.channel, one.packet))
+            (filter (λ (one : Injection). one.begins) all);
       }
 
   -- ---- phase four: each input channel gets its verdict, all from this one frozen state
@@ -283,7 +314,8 @@ module _ (net : Setup) where
   -- the claim of a channel that has this next channel
   abbrev pub claim_with : State → ℕ → Channel → Option Channel → Claim
   claim_with F r c None = Waits (ask F r c)
-  claim_with F r c (Some o) = Holds (output_index net.relation.grid net.relation.vcs o) (has_credit_in F o)
+  claim_with F r c (Some o) =
+      Holds (output_index net.relation.grid net.relation.vcs o) (has_credit_in F o)
 
   -- what c, which ends at router r, can go on with
   abbrev pub claim_of : State → ℕ → Channel → Claim
@@ -300,17 +332,20 @@ module _ (net : Setup) where
 
   -- the arbiters of router r
   abbrev pub arbiters_at : State → ℕ → ArbiterStates
-  arbiters_at F r = slice_index_or F.arbiters r (record { channels = []; inputs = []; outputs = [] })
+  arbiters_at F r =
+      slice_index_or F.arbiters r (record { channels = []; inputs = []; outputs = [] })
 
   -- what the arbiters of router r decide
   abbrev pub round_at : State → ℕ → Round
-  round_at F r = round_of (ports net.relation.grid) net.relation.vcs (stands_at F r) (arbiters_at F r)
+  round_at F r =
+      round_of (ports net.relation.grid) net.relation.vcs (stands_at F r) (arbiters_at F r)
 
   -- the verdict of c, which arrives at this router and port
   abbrev pub verdict_at : State → Channel → Option (ℕ × ℕ) → Verdict
   verdict_at F c None = Empty
   verdict_at F c (Some input) =
-      verdict_of net.relation.vcs (round_at F input.0) (input.1 * net.relation.vcs + channel_vc c) (claim_of F input.0 c) (nat_lt 0 (count_in F c))
+      verdict_of net.relation.vcs (round_at F input.0) (input.1 * net.relation.vcs + channel_vc c)
+      (claim_of F input.0 c) (nat_lt 0 (count_in F c))
 
   -- the verdict of c (docs/MODEL.md, "Verdicts")
   abbrev pub verdict_in : State → Channel → Verdict
@@ -330,7 +365,9 @@ module _ (net : Setup) where
   abbrev pub moved_place : State → ℕ → Located → Place → Place
   moved_place F n f Source = Source
   moved_place F n f (On c) = On c
-  moved_place F n f (In c) = if is_moved (verdict_in F c) && is_the_flit f (front_in F c) then gone_to n c (next_channel F c) else In c
+  moved_place F n f (In c) =
+      if is_moved (verdict_in F c) && is_the_flit f (front_in F c)
+      then gone_to n c (next_channel F c) else In c
   moved_place F n f (Out m) = Out m
 
   -- whether it is the tail of its packet
@@ -344,7 +381,8 @@ module _ (net : Setup) where
 
   -- whether a tail leaves the buffer of c for channel o
   abbrev pub tail_leaves_to : State → Channel → Channel → Bool
-  tail_leaves_to F o c = tail_leaves F c && unwrap_or (option_map (same_channel o) (next_channel F c)) false
+  tail_leaves_to F o c =
+      tail_leaves F c && unwrap_or (option_map (same_channel o) (next_channel F c)) false
 
   -- an injection channel that the tail leaves, and an ejection channel by which it
   -- is out, are idle at once
@@ -361,7 +399,8 @@ module _ (net : Setup) where
   abbrev pub granted_pair : State → Channel → Option (Channel × ℕ)
   granted_pair F c =
       if is_granted (verdict_in F c)
-      then option_and_then (λ r. option_and_then (grant_to_owner F c r) (owner_of F c)) (end_of net.relation c)
+      then option_and_then (λ r. option_and_then (grant_to_owner F c r) (owner_of F c))
+      (end_of net.relation c)
       else None
 
   -- the state after the verdicts of cycle n, which were all taken from F
@@ -369,7 +408,8 @@ module _ (net : Setup) where
   after_verdicts n F = record {
     at = map (λ (f : Located). record f { place = moved_place F n f f.place }) F.at;
     own = filter (λ pair. not (is_released F pair)) F.own ++ filter_map (granted_pair F) all_inputs;
-    routed = filter (λ c. not (tail_leaves F c)) F.routed ++ filter (λ c. is_routed (verdict_in F c)) all_inputs;
+    routed = filter (λ c. not (tail_leaves F c)) F.routed
+        ++ filter (λ c. is_routed (verdict_in F c)) all_inputs;
     back = filter (λ c. is_link c && is_moved (verdict_in F c)) all_inputs;
     arbiters = map_indexed (λ r arbiters. arbiters_after (round_at F r) arbiters) F.arbiters;
   }

@@ -26,11 +26,14 @@ module _ (net : Setup) where
   -- the last cycle below n that had an event
   abbrev pub last_event_before : ℕ → Option ℕ
   last_event_before zero = None
-  last_event_before (suc n) = if nat_lt 0 (events n (state_at net n)) then Some n else last_event_before n
+  last_event_before (suc n) =
+      if nat_lt 0 (events n (state_at net n)) then Some n else last_event_before n
 
   -- cycle n is pending: the tail of a packet that was due by then is not out
   abbrev pub is_pending : ℕ → State → Bool
-  is_pending n S = list_any (λ p. nat_le (packet_at net p).due n && is_none (arrival_in net S p)) (below (length net.packets))
+  is_pending n S =
+      list_any (λ p. nat_le (packet_at net p).due n && is_none (arrival_in net S p))
+      (below (length net.packets))
 
   -- the cycle before count n was pending and had no event
   abbrev pub is_stuck : ℕ → Bool
@@ -53,7 +56,8 @@ module _ (net : Setup) where
   abbrev pub weight : ℕ → Place → ℕ
   weight p Source = 3 * hops p + 2
   weight p (On c) = 3 * end_distance net.relation c (packet_at net p).destination + 3
-  weight p (In (Link r q v)) = 3 * end_distance net.relation (Link r q v) (packet_at net p).destination + 2
+  weight p (In (Link r q v)) =
+      3 * end_distance net.relation (Link r q v) (packet_at net p).destination + 2
   weight p (In (Inject n v)) = 3 * hops p + 1
   weight p (In (Eject n v)) = 0
   weight p (Out n) = 0
@@ -80,4 +84,6 @@ module _ (net : Setup) where
 
   -- the events of a whole run in which every packet arrives
   abbrev pub budget : ℕ
-  budget = sum_by (λ p. (packet_at net p).length * (3 * hops p + 2) + 2 * (hops p + 1)) (below (length net.packets))
+  budget =
+      sum_by (λ p. (packet_at net p).length * (3 * hops p + 2) + 2 * (hops p + 1))
+      (below (length net.packets))

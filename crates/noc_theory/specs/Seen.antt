@@ -37,4 +37,7 @@ module _ (net : Setup) where
 
   -- the routers and the wires as the state at this count has them
   abbrev pub shown_at : ℕ → Lockstep net
-  shown_at n = record { views = tabulate (nodes net.relation.grid) (view_at net n); wires = beats_in net (state_at net n) }
+  shown_at n = record {
+    views = tabulate (nodes net.relation.grid) (view_at net n);
+    wires = beats_in net (state_at net n);
+  }

@@ -3,11 +3,12 @@
 //! `specs/` has the state of the whole network and one cycle of it (`Network`), events and the
 //! work that is left (`Progress`), and worm order (`Worm`). It also has the same run router by
 //! router (`Lockstep`, `Halves`), and routers that go on by single events (`Core`, `InStep`,
-//! `Order`). What a network needs so that the laws hold of it is `IsGoodSetup` in `Good`.
-//! `ownership`, `views`, `progress` and `latency` have the laws: how packets stand in every
-//! state, that the routers in lockstep show it, and that a ranked network goes on. Two more say
-//! that a network in which nothing happens stays as it is until a packet is due, and how long a
-//! packet takes that is alone.
+//! `Order`). What a network needs so that the laws hold of it stands in `Good`. The laws of states
+//! ask for `IsWellFormedSetup`, which has no limits on packets, and those of routers for
+//! `IsGoodSetup`. `ownership`, `views`, `progress` and `latency` have the laws: how packets stand
+//! in every state, that the routers in lockstep show it, and that a ranked network goes on. Two
+//! more say that a network in which nothing happens stays as it is until a packet is due, and how
+//! long a packet takes that is alone.
 #![tactic(auto)]
 
 mod event;
@@ -20,7 +21,7 @@ mod views;
 
 pub use event::{Event, NotReady};
 pub use latency::{a_packet_alone_is_apart_from_others, a_packet_alone_is_never_held_up};
-pub use laws::{findings_change_nothing, takes_commute};
+pub use laws::{a_good_setup_is_well_formed, findings_change_nothing, takes_commute};
 pub use limits::CYCLE_LIMIT;
 pub use ownership::{
     a_link_carries_one_credit, a_link_carries_one_flit, credits_are_the_free_slots,

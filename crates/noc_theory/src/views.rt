@@ -19,7 +19,8 @@ pub fn routers_in_lockstep_show_the_network()
 /// A cycle of the whole network is one local step of each router, on its view
 /// and the beats on its wires.
 pub fn a_cycle_is_a_step_of_each_router()
-    ensures { (net : Setup) (n : ℕ) → IsGoodSetup net → n < LIMIT → shown_at net (n + 1) ≡ lockstep_cycle net n (shown_at net n) }
+    ensures { (net : Setup) (n : ℕ) → IsGoodSetup net → n < LIMIT
+        → shown_at net (n + 1) ≡ lockstep_cycle net n (shown_at net n) }
 {}
 
 /// A core that is opened on a network begins where its routers are in lockstep.
@@ -31,5 +32,6 @@ pub fn a_core_opens_where_its_routers_are()
 /// bits reaches its greatest value.
 pub fn counts_add_up()
     ensures sum { (net : Setup) (n r i : ℕ) → sum (counts_before net n r i) ≡ n }
-    ensures few { (net : Setup) (n r i : ℕ) → n ≤ LIMIT → All (λ count. count < 2 ^ 64 - 1) (counts_before net n r i) }
+    ensures few { (net : Setup) (n r i : ℕ) → n ≤ LIMIT
+        → All (λ count. count < 2 ^ 64 - 1) (counts_before net n r i) }
 {}

@@ -26,17 +26,20 @@ all_starts net = starts_list net.packets (nodes net.relation.grid)
 
 -- ---- at a count
 -- these words, with numbers in planes of so many bits, show router r of a network at count n
-pub record ShowsRouter (count : ℕ) (net : Setup) (n r : ℕ) (starts : List Start) (w : Router) : Type 0 where
+pub record ShowsRouter (count : ℕ) (net : Setup) (n r : ℕ) (starts : List Start) (w : Router)
+    : Type 0 where
   pub column : IsColumn count w.column w.marks (view_at net n r)
   pub ended : ShowsEnded w.ended (view_at net n r)
   pub holders : ShowsHolders net (state_at net n) r w.marks.packet
-  pub wires : ShowsWires (view_at net n r) w.links.flits w.links.tails w.links.credits (beats_at (beats_in net (state_at net n)) r)
+  pub wires : ShowsWires (view_at net n r) w.links.flits w.links.tails w.links.credits
+      (beats_at (beats_in net (state_at net n)) r)
   pub source : ShowsSource starts w.source (view_at net n r)
   pub counts : ShowsCounts n w.counts (view_at net n r)
 
 -- the words of all routers do
 abbrev pub ShowRouters : ℕ → Setup → ℕ → List Start → (ℕ → Router) → Type 0
-ShowRouters count net n starts words = (r : ℕ) → r < nodes net.relation.grid → ShowsRouter count net n r starts (words r)
+ShowRouters count net n starts words =
+    (r : ℕ) → r < nodes net.relation.grid → ShowsRouter count net n r starts (words r)
 
 -- what is kept of a network: the words of its routers, the cycle after that of its last event (0
 -- before the first), and by packet the cycle in which it arrived
@@ -68,7 +71,8 @@ pub record ShowsOwn (count : ℕ) (net : Setup) (own : ℕ → Bool) (n : ℕ) (
   pub limit : n ≤ CYCLE_LIMIT
   pub routers : (r : ℕ) → IsOwn net own r → ShowsRouter count net n r (all_starts net) (w.routers r)
   pub last : ShowsLastOf net own n w.last
-  pub arrivals : (p : ℕ) → p < length net.packets → own (packet_at net p).destination ≡ true → w.arrivals p ≡ arrival_in net (state_at net n) p
+  pub arrivals : (p : ℕ) → p < length net.packets → own (packet_at net p).destination ≡ true
+      → w.arrivals p ≡ arrival_in net (state_at net n) p
 
 -- words have what those of the parts of a network have, where each router is in the part of this
 -- number: the words of each router, the latest of the last events, and of each packet the arrival
@@ -77,7 +81,8 @@ pub record AreJoined (net : Setup) (part : ℕ → ℕ) (parts : ℕ → Words) 
   pub routers : (r : ℕ) → r < nodes net.relation.grid → w.routers r ≡ (parts (part r)).routers r
   pub latest : (r : ℕ) → r < nodes net.relation.grid → (parts (part r)).last ≤ w.last
   pub last : (r : ℕ) × (r < nodes net.relation.grid) × (w.last ≡ (parts (part r)).last)
-  pub arrivals : (p : ℕ) → p < length net.packets → w.arrivals p ≡ (parts (part (packet_at net p).destination)).arrivals p
+  pub arrivals : (p : ℕ) → p < length net.packets
+      → w.arrivals p ≡ (parts (part (packet_at net p).destination)).arrivals p
 
 -- the routers of the part that router r is in
 abbrev pub with_router : (ℕ → ℕ) → ℕ → ℕ → Bool
@@ -87,8 +92,10 @@ with_router part r s = nat_eq (part s) (part r)
 -- every channel is idle and has no flit, nothing is on the wires, nothing was counted, and each
 -- source has all its packets
 pub record HasOpened (count : ℕ) (net : Setup) (layout : Layout) (r : ℕ) (w : Router) : Type 0 where
-  pub column : IsEmptyColumn count (ports net.relation.grid * net.relation.vcs) layout.links layout.local net.depth w.column
-  pub marks : AreEmptyMarks (ports net.relation.grid) (ports net.relation.grid * net.relation.vcs) w.marks
+  pub column : IsEmptyColumn count
+      (ports net.relation.grid * net.relation.vcs) layout.links layout.local net.depth w.column
+  pub marks : AreEmptyMarks (ports net.relation.grid)
+      (ports net.relation.grid * net.relation.vcs) w.marks
   pub ended : w.ended ≡ 0
   pub links : w.links ≡ record { flits = 0; tails = 0; credits = 0 }
   pub source : w.source ≡ opened_source net.packets r
@@ -103,20 +110,25 @@ pub record HaveOpened (count : ℕ) (net : Setup) (layout : Layout) (w : Words) 
 -- ---- a cycle
 -- the set that the relation permits to packet p in input channel k of router r
 abbrev pub permitted : Setup → ℕ → ℕ → ℕ → ℕ
-permitted net r k p = set_at net.relation (packet_at net p).class r (k / net.relation.vcs) (k % net.relation.vcs) (packet_at net p).destination
+permitted net r k p =
+    set_at net.relation (packet_at net p).class r (k / net.relation.vcs) (k % net.relation.vcs)
+    (packet_at net p).destination
 
 -- router r makes this turn of cycle n: it has worked or slept
 abbrev pub IsTurn : Setup → Layout → ℕ → ℕ → Router → Turn → Type 0
 IsTurn net layout n r b t =
-    HasWorked (ports net.relation.grid) net.relation.vcs layout (all_starts net) (permitted net r) n b t ⊎ HasSlept n b t
+    HasWorked (ports net.relation.grid) net.relation.vcs layout (all_starts net)
+    (permitted net r) n b t ⊎ HasSlept n b t
 
 -- what router r has of all that left the routers, and of the numbers of packets that they told by
 -- output channel: what its links bring, and the numbers of its packets, which were these
-pub record HasGathered (grid : Grid) (vcs : ℕ) (left : ℕ → Links) (tells : ℕ → ℕ → Option ℕ) (packets : ℕ → ℕ) (r : ℕ) (w : Router) : Type 0 where
+pub record HasGathered (grid : Grid) (vcs : ℕ) (left : ℕ → Links) (tells : ℕ → ℕ → Option ℕ)
+    (packets : ℕ → ℕ) (r : ℕ) (w : Router) : Type 0 where
   pub flits : w.links.flits ≡ gathered grid vcs (λ s. (left s).flits) r
   pub tails : w.links.tails ≡ gathered grid vcs (λ s. (left s).tails) r
   pub credits : w.links.credits ≡ gathered grid vcs (λ s. (left s).credits) r
-  pub packet : (i : ℕ) → i < ports grid * vcs → w.marks.packet i ≡ unwrap_or (heard grid vcs tells r i) (packets i)
+  pub packet : (i : ℕ) → i < ports grid * vcs
+      → w.marks.packet i ≡ unwrap_or (heard grid vcs tells r i) (packets i)
 
 -- its other words are those of its turn
 pub record HasTurned (t : Turn) (w : Router) : Type 0 where
@@ -134,9 +146,13 @@ pub record IsLastAfter (Among : ℕ → Type 0) (n : ℕ) (t : ℕ → Turn) (be
 
 -- the packets of the channels of these routers that are left by the local port arrive in cycle n,
 -- and no others, where these are the numbers of packets
-pub record AreArrivals (Among : ℕ → Type 0) (size n : ℕ) (t : ℕ → Turn) (packets : ℕ → ℕ → ℕ) (before after : ℕ → Option ℕ) : Type 0 where
-  pub some : (r i : ℕ) → Among r → i < size → has_bit (t r).arrived i ≡ true → after (packets r i) ≡ Some n
-  pub others : (p : ℕ) → ((r i : ℕ) → Among r → i < size → has_bit (t r).arrived i ≡ true → packets r i ≢ p) → after p ≡ before p
+pub record AreArrivals (Among : ℕ → Type 0) (size n : ℕ) (t : ℕ → Turn) (packets : ℕ → ℕ → ℕ)
+    (before after : ℕ → Option ℕ) : Type 0 where
+  pub some : (r i : ℕ) → Among r → i < size → has_bit (t r).arrived i ≡ true
+      → after (packets r i) ≡ Some n
+  pub others : (p : ℕ)
+      → ((r i : ℕ) → Among r → i < size → has_bit (t r).arrived i ≡ true → packets r i ≢ p)
+      → after p ≡ before p
 
 -- the numbers of packets that router r has for its input channels in cycle n, and those that it
 -- tells by output channel in this turn
@@ -147,29 +163,39 @@ abbrev pub tells_in : Setup → Layout → ℕ → Router → Turn → ℕ → O
 tells_in net layout n b t o = option_map (numbers_in net layout n b) (t.grants o)
 
 -- cycle n of a network, from the words b to the words `next`, where each router makes this of it
-pub record HasRun (net : Setup) (layout : Layout) (n : ℕ) (b : Words) (t : ℕ → Turn) (next : Words) : Type 0 where
+pub record HasRun (net : Setup) (layout : Layout) (n : ℕ) (b : Words) (t : ℕ → Turn) (next : Words)
+    : Type 0 where
   pub turns : (r : ℕ) → r < nodes net.relation.grid → IsTurn net layout n r (b.routers r) (t r)
   pub gathered_are : (r : ℕ) → r < nodes net.relation.grid
-      → HasGathered net.relation.grid net.relation.vcs (λ s. (t s).left) (λ s. tells_in net layout n (b.routers s) (t s)) (numbers_in net layout n (b.routers r)) r (next.routers r)
+      → HasGathered net.relation.grid net.relation.vcs (λ s. (t s).left)
+      (λ s. tells_in net layout n (b.routers s) (t s)) (numbers_in net layout n (b.routers r)) r
+      (next.routers r)
   pub are : (r : ℕ) → r < nodes net.relation.grid → HasTurned (t r) (next.routers r)
   pub last : IsLastAfter (λ r. r < nodes net.relation.grid) n t b.last next.last
-  pub arrivals : AreArrivals (λ r. r < nodes net.relation.grid) (size net) n t (λ s. numbers_in net layout n (b.routers s)) b.arrivals next.arrivals
+  pub arrivals : AreArrivals (λ r. r < nodes net.relation.grid) (size net) n t
+      (λ s. numbers_in net layout n (b.routers s)) b.arrivals next.arrivals
 
 -- cycle n of the own routers of a network, where this has left all routers, and they have told
 -- these numbers: what the others send over the links to own ones is right
-pub record HasRunOwn (net : Setup) (layout : Layout) (own : ℕ → Bool) (n : ℕ) (b : Words) (t : ℕ → Turn) (left : ℕ → Links) (tells : ℕ → ℕ → Option ℕ) (next : Words) : Type 0 where
+pub record HasRunOwn (net : Setup) (layout : Layout) (own : ℕ → Bool) (n : ℕ) (b : Words)
+    (t : ℕ → Turn) (left : ℕ → Links) (tells : ℕ → ℕ → Option ℕ) (next : Words) : Type 0 where
   pub turns : (r : ℕ) → IsOwn net own r → IsTurn net layout n r (b.routers r) (t r)
   pub left_are : (s : ℕ) → IsOwn net own s → left s ≡ (t s).left
-  pub told_are : (s o : ℕ) → IsOwn net own s → o < size net → tells s o ≡ tells_in net layout n (b.routers s) (t s) o
-  pub sent : (r q s port : ℕ) → IsOwn net own r → neighbour net.relation.grid r q ≡ Some (s, port) → own s ≡ false → Sends net n s port (left s) (tells s)
+  pub told_are : (s o : ℕ) → IsOwn net own s → o < size net
+      → tells s o ≡ tells_in net layout n (b.routers s) (t s) o
+  pub sent : (r q s port : ℕ) → IsOwn net own r → neighbour net.relation.grid r q ≡ Some (s, port)
+      → own s ≡ false → Sends net n s port (left s) (tells s)
   pub gathered_are : (r : ℕ) → IsOwn net own r
-      → HasGathered net.relation.grid net.relation.vcs left tells (numbers_in net layout n (b.routers r)) r (next.routers r)
+      → HasGathered net.relation.grid net.relation.vcs left tells
+      (numbers_in net layout n (b.routers r)) r (next.routers r)
   pub are : (r : ℕ) → IsOwn net own r → HasTurned (t r) (next.routers r)
   pub last : IsLastAfter (IsOwn net own) n t b.last next.last
-  pub arrivals : AreArrivals (IsOwn net own) (size net) n t (λ s. numbers_in net layout n (b.routers s)) b.arrivals next.arrivals
+  pub arrivals : AreArrivals (IsOwn net own) (size net) n t
+      (λ s. numbers_in net layout n (b.routers s)) b.arrivals next.arrivals
 
 -- cycle after cycle from the words of an opened network: the words at each count
-pub record HasRunTo (count : ℕ) (net : Setup) (layout : Layout) (end : ℕ) (w : ℕ → Words) : Type 0 where
+pub record HasRunTo (count : ℕ) (net : Setup) (layout : Layout) (end : ℕ) (w : ℕ → Words)
+    : Type 0 where
   pub opened : HaveOpened count net layout (w 0)
   pub cycles : (n : ℕ) → n < end → (t : ℕ → Turn) × HasRun net layout n (w n) t (w (suc n))
 
@@ -177,12 +203,16 @@ pub record HasRunTo (count : ℕ) (net : Setup) (layout : Layout) (end : ℕ) (w
 -- from `was` to `is` a cycle has run in which nothing happened, and then to `later` as many more:
 -- what is counted of each channel goes on as in the first of them, and all else stays
 pub record HasWaited (net : Setup) (times : ℕ) (was is later : Words) : Type 0 where
-  pub counts : (r i : ℕ) → r < nodes net.relation.grid → i < size net → RunOn times ((was.routers r).counts i) ((is.routers r).counts i) ((later.routers r).counts i)
-  pub rest : (r : ℕ) → r < nodes net.relation.grid → later.routers r ≡ record (is.routers r) { counts = (later.routers r).counts }
+  pub counts : (r i : ℕ) → r < nodes net.relation.grid → i < size net
+      → RunOn times ((was.routers r).counts i) ((is.routers r).counts i)
+      ((later.routers r).counts i)
+  pub rest : (r : ℕ) → r < nodes net.relation.grid
+      → later.routers r ≡ record (is.routers r) { counts = (later.routers r).counts }
   pub last : later.last ≡ is.last
   pub arrivals : (p : ℕ) → p < length net.packets → later.arrivals p ≡ is.arrivals p
 
 -- nothing happened in cycle n, and no packet is due before cycle `end` that is not yet due after it
 pub record MayWait (net : Setup) (n end : ℕ) (is : Words) : Type 0 where
   pub quiet : is.last ≢ n + 1
-  pub due : (r : ℕ) → r < nodes net.relation.grid → n < (is.routers r).source.due → end ≤ (is.routers r).source.due
+  pub due : (r : ℕ) → r < nodes net.relation.grid → n < (is.routers r).source.due
+      → end ≤ (is.routers r).source.due

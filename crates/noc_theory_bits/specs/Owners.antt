@@ -12,7 +12,8 @@ holder_at net S r i = option_and_then (owner_of net S) (arriving net r i)
 
 -- these are, by input channel of router r, the numbers of the packets that hold them
 abbrev pub ShowsHolders : Setup → State → ℕ → (ℕ → ℕ) → Type 0
-ShowsHolders net S r packet = (i : ℕ) → i < size net → IfSome (holder_at net S r i) (λ p. packet i ≡ p)
+ShowsHolders net S r packet =
+    (i : ℕ) → i < size net → IfSome (holder_at net S r i) (λ p. packet i ≡ p)
 
 -- ---- what the grants of a cycle tell the channels at the other end of links
 -- what a channel hears over its link, if it has one, where each router tells these numbers of
@@ -33,16 +34,20 @@ told_by packets old grant = unwrap_or (option_map packets grant) old
 -- what a channel is told over its link, if it has one, where each router has these grants, by
 -- output channel, and these numbers
 abbrev pub told_over : ℕ → (ℕ → ℕ → Option ℕ) → (ℕ → ℕ → ℕ) → ℕ → ℕ → Option (ℕ × ℕ) → ℕ
-told_over vcs grants packets old vc link = unwrap_or (heard_over vcs (λ s o. option_map (packets s) (grants s o)) vc link) old
+told_over vcs grants packets old vc link =
+    unwrap_or (heard_over vcs (λ s o. option_map (packets s) (grants s o)) vc link) old
 
 -- the number of the packet of input channel i of router r after the grants of a cycle
 abbrev pub told : Grid → ℕ → (ℕ → ℕ → Option ℕ) → (ℕ → ℕ → ℕ) → ℕ → ℕ → ℕ
-told grid vcs grants packets r i = told_over vcs grants packets (packets r i) (i % vcs) (neighbour grid r (i / vcs))
+told grid vcs grants packets r i =
+    told_over vcs grants packets (packets r i) (i % vcs) (neighbour grid r (i / vcs))
 
 -- ---- the routers of a network in a cycle
 -- the view of router r from which the verdicts of cycle n are taken
 abbrev pub frozen_of : Setup → ℕ → ℕ → View
-frozen_of net n r = view_after_inject n (view_after_takes net.relation (beats_at (beats_in net (state_at net n)) r) (view_at net n r))
+frozen_of net n r =
+    view_after_inject n
+    (view_after_takes net.relation (beats_at (beats_in net (state_at net n)) r) (view_at net n r))
 
 -- its grants, by output channel
 abbrev pub grants_of : Setup → ℕ → ℕ → ℕ → Option ℕ

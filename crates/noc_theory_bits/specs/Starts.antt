@@ -19,4 +19,8 @@ starts_list packets (suc n) = starts_list packets n ++ with_end (starts_of packe
 
 -- the source of router r before the first cycle: at the first of its packets
 abbrev pub opened_source : List Packet → ℕ → Source
-opened_source packets r = record { due = due_of (starts_of packets r); left = 0; queue = length (starts_list packets r) }
+opened_source packets r = record {
+  due = due_of (starts_of packets r);
+  left = 0;
+  queue = length (starts_list packets r);
+}

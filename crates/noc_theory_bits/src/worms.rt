@@ -10,7 +10,8 @@ ghost use Rattle.noc_theory.specs.Lockstep.{view_at};
 ghost use Rattle.noc_theory.specs.Network.{Setup, size};
 ghost use Rattle.noc_theory_bits.specs.Owners.{frozen_of};
 
-/// The flits of a buffer are consecutive ones of one packet, at each count and in each frozen state.
+/// The flits of a buffer are consecutive ones of one packet, at each count and in each frozen
+/// state.
 pub fn buffers_hold_consecutive_flits()
     ensures start { (net : Setup) (n r i : ℕ)
         → IsGoodSetup net → r < nodes net.relation.grid → i < size net

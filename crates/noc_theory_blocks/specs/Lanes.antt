@@ -44,7 +44,8 @@ pub record HasDecidedLane (w : ℕ) (net : Setup) (layout : Layout) (numbering :
     : Type 0 where
   pub takes : HasTakenLane net layout starts n a s returned x
   pub decides : HasDecidedAll w net.relation.vcs (ports net.relation.grid) (port_in numbering)
-      (vc_in numbering) (sets_by net.relation numbering (headers_of net.packets) r) returned.single s d
+      (vc_in numbering)
+      (sets_by net.relation numbering (headers_of net.packets) r) returned.single s d
       x.standing y.moves y.decided
   pub rest : y ≡ record x { moves = y.moves; decided = y.decided }
 

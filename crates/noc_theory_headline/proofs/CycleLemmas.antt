@@ -3,7 +3,7 @@ use Rattle.std.proofs.Common.{ℕ}
 use Rattle.noc_topo.specs.Lists.{Has}
 use Rattle.noc_route.specs.Channel.{Channel}
 use Rattle.noc_theory.specs.Network.{Setup, all_inputs, frozen_at}
-use Rattle.noc_theory.specs.Good.{IsGoodSetup}
+use Rattle.noc_theory.specs.Good.{IsWellFormedSetup}
 use Rattle.noc_theory.proofs.worms.NetworkLemmas.{out-at, frozen_credit-at}
 use Rattle.noc_theory.proofs.worms.WormOrderLemmas.{worm_order-at, worm_order-frozen_at, credit-at}
 use Rattle.noc_theory.proofs.join.OrderedStateLemmas.{ordered-frozen}
@@ -12,7 +12,7 @@ use Rattle.noc_theory.proofs.join.LockstepTheoremLemmas.{good-network}
 use Rattle.noc_theory_headline.specs.Headline.{IsInput, IsInputOf, IsRightCycle}
 use Rattle.noc_theory_headline.proofs.SaysLemmas.{verdict-says}
 
-module _ (net : Setup) (made : IsGoodSetup net) where
+module _ (net : Setup) (made : IsWellFormedSetup net) where
   pub somewhere : (c : Channel) → Has c (all_inputs net) → IsInput net c
   somewhere c h = let a = input-at net (good-network net made) c h in (a.0, a.1, record { router = a.2.router; index = a.2.index; is = a.2.found })
 

@@ -1,7 +1,7 @@
 -- What the verdicts of a cycle do.
 use Rattle.std.proofs.Common.{◌≡◌, ℕ, suc, ◌+◌, ◌<◌, refl, ap, sym, subst, ◌∙◌, arith}
 use Rattle.noc_theory.specs.Network.{Setup, after_credits, after_injection, after_landing, arbiters_at, frozen_state, has_channel, owner_of, place_of_flit, size, state_at, frozen_at, network_cycle}
-use Rattle.noc_theory.specs.Good.{IsGoodSetup}
+use Rattle.noc_theory.specs.Good.{IsWellFormedSetup}
 use Rattle.noc_theory.proofs.join.OrderedStateLemmas.{ordered-frozen, ordered-state}
 use Rattle.noc_theory.proofs.join.LockstepTheoremLemmas.{good-network}
 use Rattle.noc_theory_headline.specs.Effects.{IsRightStep, IsPointerAfter}
@@ -27,7 +27,7 @@ routed-frozen : (net : Setup) (n : ℕ) → (frozen_at net n).routed ≡ (state_
 unfolding frozen_state after_landing after_credits after_injection
 routed-frozen net n = refl
 
-module _ (net : Setup) (made : IsGoodSetup net) where
+module _ (net : Setup) (made : IsWellFormedSetup net) where
   pub right-step : (n : ℕ) → IsRightStep net n
   unfolding state_at network_cycle
   right-step n =

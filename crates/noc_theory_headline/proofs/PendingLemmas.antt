@@ -10,7 +10,7 @@ use Rattle.noc_view.specs.declared.verdict.Verdict.{Verdict}
 use Rattle.noc_view.specs.declared.verdict.Verdict.TheVariants.{Empty, Routed, Granted, Moved, NoFlit, NoIdleChannel, LostChannel, NoCredit, LostInput, LostSwitch}
 use Rattle.noc_theory.specs.Network.{Setup, State, Injection, Located, Place, Source, On, In, Out, after_landing, after_credits, injections, all_inputs, arrival_in, out_cycle, packet_at, tail_place, state_at, frozen_at, verdict_in}
 use Rattle.noc_theory.specs.Progress.{events, is_flying, is_pending}
-use Rattle.noc_theory.specs.Good.{IsGoodSetup}
+use Rattle.noc_theory.specs.Good.{IsWellFormedSetup}
 use Rattle.noc_theory.proofs.worms.NetworkLemmas.{mid_at}
 use Rattle.noc_theory.proofs.worms.WormOrderLemmas.{whole-at}
 use Rattle.noc_theory.proofs.worms.MemberLemmas.{list_any-from}
@@ -44,7 +44,7 @@ acting NoCredit e = absurd (false≢true e)
 acting LostInput e = absurd (false≢true e)
 acting LostSwitch e = absurd (false≢true e)
 
-module _ (net : Setup) (good : IsGoodSetup net) (n : ℕ) where
+module _ (net : Setup) (good : IsWellFormedSetup net) (n : ℕ) where
   abbrev S : State
   S = state_at net n
 
@@ -91,6 +91,6 @@ module _ (net : Setup) (good : IsGoodSetup net) (n : ℕ) where
           lands r.0.packet r.0.index on.0 (keyed.valid r.0 r.1) (place-of-flit net S keyed r.0 r.1 ∙ on.1)
       first (inr l) = second l (cases_lt 0 (length S.back))
 
-pub ranked-happens : (net : Setup) (ranks : Ranking) (n : ℕ) → IsGoodSetup net → IsRankedBy net.relation ranks → IsPendingIn net n → HappensIn net n
+pub ranked-happens : (net : Setup) (ranks : Ranking) (n : ℕ) → IsWellFormedSetup net → IsRankedBy net.relation ranks → IsPendingIn net n → HappensIn net n
 ranked-happens net ranks n good ranked w =
     happens net good n (each-pending net good ranks ranked n (pending net good n w))

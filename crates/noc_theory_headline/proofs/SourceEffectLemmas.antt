@@ -7,7 +7,7 @@ use Rattle.std.proofs.lemmas.Option.{none-some, same_Some}
 use Rattle.noc_topo.specs.Lists.{Has, below}
 use Rattle.noc_topo.specs.Shape.{nodes}
 use Rattle.noc_route.specs.Channel.{Channel, Link, Inject, Eject, is_link, same_channel}
-use Rattle.noc_theory.specs.Good.{IsGoodSetup, IsValid}
+use Rattle.noc_theory.specs.Good.{IsWellFormedSetup, IsValid}
 use Rattle.noc_theory.specs.Network.{Setup, State, Injection, Located, Place, Source, On, In, Out, after_credits, after_injection, after_landing, count_in, first_waiting, flits_of, frozen_state, frozen_at, injection_at, injection_with, injections, is_at_source, is_freed, is_idle, is_injection_of, is_on, is_past, landed_place, owned_by, owner_of, packet_at, place_of_flit, state_at, tail_place}
 use Rattle.noc_theory.proofs.worms.BuiltLemmas.{good-built, good-wired}
 use Rattle.noc_theory.proofs.worms.BuiltRecordLemmas.{IsBuilt}
@@ -33,7 +33,7 @@ use Rattle.noc_theory.proofs.budget.WormLemmas.{filter-none}
 use Rattle.noc_theory_headline.specs.Effects.{Begins, GoesOnAt, HasPassed, IsFirstOfNode, IsNextFlit, entry_channel}
 use Rattle.noc_theory_headline.proofs.SearchLemmas.{find-absent, find-least_below}
 
-module _ (net : Setup) (made : IsGoodSetup net) (n : ℕ) where
+module _ (net : Setup) (made : IsWellFormedSetup net) (n : ℕ) where
   abbrev S : State
   S = state_at net n
 

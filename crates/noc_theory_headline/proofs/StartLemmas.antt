@@ -5,7 +5,7 @@ use Rattle.std.proofs.lemmas.Bool.{cases_eq}
 use Rattle.noc_topo.specs.Lists.{Has}
 use Rattle.noc_route.specs.Channel.{Channel, Inject}
 use Rattle.noc_theory.specs.Network.{Setup, State, Injection, Located, Source, In, landed_place, after_landing, after_credits, after_injection, frozen_state, injections, packet_at, place_of_flit, state_at, frozen_at}
-use Rattle.noc_theory.specs.Good.{IsGoodSetup, IsValid}
+use Rattle.noc_theory.specs.Good.{IsWellFormedSetup, IsValid}
 use Rattle.noc_theory.proofs.worms.BuiltLemmas.{good-built}
 use Rattle.noc_theory.proofs.worms.BuiltRecordLemmas.{IsBuilt}
 use Rattle.noc_theory.proofs.worms.NetworkLemmas.{mid_at, whole-mid_at}
@@ -16,7 +16,7 @@ use Rattle.noc_theory.proofs.worms.PlaceLemmas.{place-stepped}
 use Rattle.noc_theory.proofs.worms.SoundLemmas.{IsSoundFrozen}
 use Rattle.noc_theory.proofs.worms.WormRecordLemmas.{source-landed}
 
-module _ (net : Setup) (good : IsGoodSetup net) (n : ℕ) where
+module _ (net : Setup) (good : IsWellFormedSetup net) (n : ℕ) where
   abbrev S : State
   S = state_at net n
 

@@ -28,11 +28,12 @@ use Rattle.noc_theory.proofs.runs.CoreLemmas.{get_some}
 use Rattle.noc_theory.proofs.runs.OrderLemmas.{here_between, keeps_step, opening_in_step}
 use Rattle.noc_theory.proofs.runs.EventLemmas.{linked_when}
 use Rattle.noc_theory_headline.proofs.CountLemmas.{IsAfter, base_after, after-events}
-use Rattle.noc_theory.specs.Good.{IsGoodSetup}
+use Rattle.noc_theory.specs.Good.{IsGoodSetup, IsWellFormedSetup}
 use Rattle.noc_theory.proofs.join.OrderedStateLemmas.{ordered-frozen}
 use Rattle.noc_theory.proofs.join.PlaceViewLemmas.{arriving-at}
 use Rattle.noc_theory.proofs.join.CoreOpeningLemmas.{opening-is}
 use Rattle.noc_theory.proofs.join.LockstepTheoremLemmas.{good-network, lockstep-is_state}
+use Rattle.noc_theory.proofs.worms.BuiltLemmas.{well-formed}
 use Rattle.noc_theory.proofs.worms.WormOrderLemmas.{worm_order-at}
 use Rattle.noc_theory_headline.specs.Headline.{IsInputOf, AsksForChannel, GoesOnBy}
 use Rattle.noc_theory_headline.specs.Steps.{IsBufferIn, IsFoundIn, IsRightCore, IsRightRouter, IsRightWire, beat_in, beats_of}
@@ -56,7 +57,7 @@ kept-some test (Some q) p e = let k = kept-one (test q) q p e in (ap Some k.0, s
 some-kept : (test : ℕ → Bool) (o : Option ℕ) (p : ℕ) → o ≡ Some p → test p ≡ true → option_and_then (λ q. if test q then Some q else None) o ≡ Some p
 some-kept test o p is holds = ap (option_and_then (λ q. if test q then Some q else None)) is ∙ ap (λ b. if b then Some p else None) holds
 
-module _ (net : Setup) (made : IsGoodSetup net) where
+module _ (net : Setup) (made : IsWellFormedSetup net) where
   -- the buffers that a view shows
   buffer-in : (n r i : ℕ) (c : Channel) → IsInputOf net r i c → IsBufferIn net (state_at net n) c (view_buffer (view_at net n r) i)
   unfolding view_at view_in
@@ -173,10 +174,10 @@ module _ (u : Run) (made : IsGoodSetup u.net) (few : u.count ≤ CYCLE_LIMIT) (e
     between = keeps.steps r post at;
     findings = λ n e.
         let s : u.count + decides r happened ≡ suc n = omega arith in
-        found-in u.net made n r post.view.findings (ap (λ (v : View). v.findings) (view-is r post at ∙ ap (λ m. view_at u.net m r) s) ∙ findings-are u.net made n r);
+        found-in u.net (well-formed u.net made) n r post.view.findings (ap (λ (v : View). v.findings) (view-is r post at ∙ ap (λ m. view_at u.net m r) s) ∙ findings-are u.net (well-formed u.net made) n r);
     buffers = λ i c to.
         subst (IsBufferIn u.net (state_at u.net (u.count + decides r happened)) c) (sym (ap (λ (v : View). view_buffer v i) (view-is r post at)))
-        (buffer-in u.net made (u.count + decides r happened) r i c to);
+        (buffer-in u.net (well-formed u.net made) (u.count + decides r happened) r i c to);
     taken = λ port beat e. (in_step r post at).beats_taken port beat e ∙ beat-is r port post.steps (let l = steps-within r post at in omega arith);
     unput = λ port s q beat e to.
         (in_step r post at).beats_unput port s q beat e to

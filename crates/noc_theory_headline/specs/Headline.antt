@@ -18,7 +18,8 @@ use Rattle.noc_theory.specs.Good.{IsValid, slots_taken}
 pub record IsFirstInTurn (size pointer : ℕ) (Asks : ℕ → Type 0) (x : ℕ) : Type 0 where
   pub exists : x < size
   pub asks : Asks x
-  pub first : (y : ℕ) → y < size → Asks y → distance_in_turn size pointer x ≤ distance_in_turn size pointer y
+  pub first : (y : ℕ) → y < size → Asks y
+      → distance_in_turn size pointer x ≤ distance_in_turn size pointer y
 
 -- a router, in the state of the network from which all verdicts of a cycle are taken.
 -- Channel c is one that ends there; i and o are indices, port * vcs + vc, of its input
@@ -65,7 +66,8 @@ module _ (net : Setup) (F : State) (r : ℕ) where
   pub record MayTake (c : Channel) (o : ℕ) : Type 0 where
     pub packet : ℕ
     pub here : Owns packet c
-    pub permitted : IsTrue (permits net.relation (packet_at net packet).class c (packet_at net packet).destination (leaving net r o))
+    pub permitted : IsTrue (permits net.relation (packet_at net packet).class c
+        (packet_at net packet).destination (leaving net r o))
     pub idle : IsIdle (leaving net r o)
     pub exists : o < size net
 
@@ -89,7 +91,9 @@ module _ (net : Setup) (F : State) (r : ℕ) where
 
   -- input channel i is first in turn among those that ask for output channel o
   abbrev pub WinsChannel : ℕ → ℕ → Type 0
-  WinsChannel i o = IsFirstInTurn (size net) (arbiter_at (arbiters_at net F r).channels o).pointer (HoldsAt (λ c. AsksForChannel c o)) i
+  WinsChannel i o =
+      IsFirstInTurn (size net) (arbiter_at (arbiters_at net F r).channels o).pointer
+      (HoldsAt (λ c. AsksForChannel c o)) i
 
   -- virtual channel v is first in turn among those of an input port that can send
   abbrev pub IsPick : ℕ → ℕ → Type 0
@@ -100,11 +104,15 @@ module _ (net : Setup) (F : State) (r : ℕ) where
   -- the pick of an input port goes through an output port
   abbrev pub PickGoesThrough : ℕ → ℕ → Type 0
   PickGoesThrough out port =
-      (v : ℕ) × IsPick port v × HoldsAt (λ c. (o : ℕ) × CanSend c o × (o / net.relation.vcs ≡ out)) (port * net.relation.vcs + v)
+      (v : ℕ) × IsPick port v
+      × HoldsAt (λ c. (o : ℕ) × CanSend c o × (o / net.relation.vcs ≡ out))
+      (port * net.relation.vcs + v)
 
   -- an input port is first in turn among those whose pick goes through an output port
   abbrev pub WinsSwitch : ℕ → ℕ → Type 0
-  WinsSwitch port out = IsFirstInTurn (ports net.relation.grid) (arbiter_at (arbiters_at net F r).outputs out).pointer (PickGoesThrough out) port
+  WinsSwitch port out =
+      IsFirstInTurn (ports net.relation.grid) (arbiter_at (arbiters_at net F r).outputs out).pointer
+      (PickGoesThrough out) port
 
   -- ---- what each verdict says of channel c, which arrives as input channel i
   abbrev pub Says : ℕ → Channel → Verdict → Type 0
@@ -115,9 +123,14 @@ module _ (net : Setup) (F : State) (r : ℕ) where
   Says i c Granted = (o : ℕ) × AsksForChannel c o × WinsChannel i o
   Says i c NoFlit = (o : ℕ) × GoesOnBy c o × (¬ HasFlit c)
   Says i c NoCredit = (o : ℕ) × GoesOnBy c o × HasFlit c × (¬ HasCredit (leaving net r o))
-  Says i c LostInput = (o : ℕ) × CanSend c o × (¬ IsPick (i / net.relation.vcs) (i % net.relation.vcs))
-  Says i c LostSwitch = (o : ℕ) × CanSend c o × IsPick (i / net.relation.vcs) (i % net.relation.vcs) × (¬ WinsSwitch (i / net.relation.vcs) (o / net.relation.vcs))
-  Says i c Moved = (o : ℕ) × CanSend c o × IsPick (i / net.relation.vcs) (i % net.relation.vcs) × WinsSwitch (i / net.relation.vcs) (o / net.relation.vcs)
+  Says i c LostInput =
+      (o : ℕ) × CanSend c o × (¬ IsPick (i / net.relation.vcs) (i % net.relation.vcs))
+  Says i c LostSwitch =
+      (o : ℕ) × CanSend c o × IsPick (i / net.relation.vcs) (i % net.relation.vcs)
+      × (¬ WinsSwitch (i / net.relation.vcs) (o / net.relation.vcs))
+  Says i c Moved =
+      (o : ℕ) × CanSend c o × IsPick (i / net.relation.vcs) (i % net.relation.vcs)
+      × WinsSwitch (i / net.relation.vcs) (o / net.relation.vcs)
 
 -- channel c arrives at router r as input channel i
 pub record IsInputOf (net : Setup) (r i : ℕ) (c : Channel) : Type 0 where
@@ -134,15 +147,21 @@ IsInput net c = (r : ℕ) × (i : ℕ) × IsInputOf net r i c
 pub record IsRightCycle (net : Setup) (n : ℕ) : Type 0 where
   -- each channel with a buffer ends at one router, as one of its input channels
   pub somewhere : (c : Channel) → Has c (all_inputs net) → IsInput net c
-  pub once : (r i s j : ℕ) (c : Channel) → IsInputOf net r i c → IsInputOf net s j c → (r ≡ s) × (i ≡ j)
+  pub once : (r i s j : ℕ) (c : Channel) → IsInputOf net r i c → IsInputOf net s j c
+      → (r ≡ s) × (i ≡ j)
   -- it gets each verdict exactly where that says what holds
-  pub verdicts : (r i : ℕ) (c : Channel) → IsInputOf net r i c → (verdict : Verdict) → (verdict_in net (frozen_at net n) c ≡ verdict) ↔ Says net (frozen_at net n) r i c verdict
+  pub verdicts : (r i : ℕ) (c : Channel) → IsInputOf net r i c → (verdict : Verdict)
+      → (verdict_in net (frozen_at net n) c ≡ verdict) ↔ Says net (frozen_at net n) r i c verdict
   -- no buffer holds more than its slots or flits of two packets, no channel has two owners
   pub start : IsWormOrder net (state_at net n)
   pub frozen : IsWormOrder net (frozen_at net n)
   -- the credits of a channel are the free slots of its buffer, also those
   -- that the verdicts look at
-  pub credits : (c : Channel) → credit_of net (state_at net n) c + slots_taken net (state_at net n) c ≡ net.depth
-  pub frozen_credits : (c : Channel) → credit_of net (frozen_at net n) c + slots_taken net (frozen_at net n) c ≡ net.depth
+  pub credits : (c : Channel)
+      → credit_of net (state_at net n) c + slots_taken net (state_at net n) c ≡ net.depth
+  pub frozen_credits : (c : Channel)
+      → credit_of net (frozen_at net n) c + slots_taken net (frozen_at net n) c ≡ net.depth
   -- the flits of a packet go out in order
-  pub out_in_order : (p i j a b : ℕ) → IsValid net p j → i < j → place_of_flit net (state_at net n) p i ≡ Out a → place_of_flit net (state_at net n) p j ≡ Out b → a < b
+  pub out_in_order : (p i j a b : ℕ) → IsValid net p j → i < j
+      → place_of_flit net (state_at net n) p i ≡ Out a
+      → place_of_flit net (state_at net n) p j ≡ Out b → a < b

@@ -18,8 +18,13 @@ pub record IsPendingIn (net : Setup) (n : ℕ) : Type 0 where
 -- something happens in cycle n: a flit on a wire lands, a credit arrives, a source injects a flit,
 -- or an input channel is routed, is granted a channel or moves a flit
 pub data HappensIn (net : Setup) (n : ℕ) : Type 0 where
-  lands : (p i : ℕ) (c : Channel) → IsValid net p i → place_of_flit net (state_at net n) p i ≡ On c → HappensIn net n
+  lands : (p i : ℕ) (c : Channel) → IsValid net p i → place_of_flit net (state_at net n) p i ≡ On c
+      → HappensIn net n
   credit : (c : Channel) → Has c (state_at net n).back → HappensIn net n
-  injects : (p i : ℕ) (c : Channel) → IsValid net p i → place_of_flit net (state_at net n) p i ≡ Source → place_of_flit net (frozen_at net n) p i ≡ In c → HappensIn net n
+  injects : (p i : ℕ) (c : Channel) → IsValid net p i
+      → place_of_flit net (state_at net n) p i ≡ Source
+      → place_of_flit net (frozen_at net n) p i ≡ In c → HappensIn net n
   acts : (r i : ℕ) (c : Channel) → IsInputOf net r i c
-      → Says net (frozen_at net n) r i c Routed ⊎ (Says net (frozen_at net n) r i c Granted ⊎ Says net (frozen_at net n) r i c Moved) → HappensIn net n
+      → Says net (frozen_at net n) r i c Routed
+      ⊎ (Says net (frozen_at net n) r i c Granted ⊎ Says net (frozen_at net n) r i c Moved)
+      → HappensIn net n

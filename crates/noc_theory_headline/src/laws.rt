@@ -1,4 +1,4 @@
-//! The laws of every network that is made.
+//! The laws of every network, whatever packets it has to send.
 
 ghost use Rattle.std.specs.Prelude.{◌≤◌, ℕ, List};
 ghost use Rattle.noc_theory_headline.specs.Effects.{IsRightStep};
@@ -6,7 +6,7 @@ ghost use Rattle.noc_theory_headline.specs.Headline.{IsRightCycle};
 ghost use Rattle.noc_theory_headline.specs.Pending.{HappensIn, IsPendingIn};
 ghost use Rattle.noc_theory_headline.specs.Steps.{IsRightCore};
 ghost use Rattle.noc_theory.specs.Core.{after_events, opening_core};
-ghost use Rattle.noc_theory.specs.Good.{IsGoodSetup};
+ghost use Rattle.noc_theory.specs.Good.{IsGoodSetup, IsWellFormedSetup};
 ghost use Rattle.noc_theory.specs.Network.{Run, Setup};
 ghost use Rattle.noc_theory.specs.Order.{happening};
 ghost use Rattle.noc_theory.specs.declared.event.Event.{Event as EventValue};
@@ -21,7 +21,7 @@ ghost use Rattle.noc_route.specs.Ranks.{IsRankedBy, Ranking};
 /// of two packets, and no channel has two owners. The credits of a channel are the slots that are
 /// free, and the flits of a packet go out in order.
 pub fn every_cycle_is_right()
-    ensures { (net : Setup) (n : ℕ) → IsGoodSetup net → IsRightCycle net n }
+    ensures { (net : Setup) (n : ℕ) → IsWellFormedSetup net → IsRightCycle net n }
 {}
 
 /// The verdicts are what happens, and with what comes before them they are all that happens. Before
@@ -36,7 +36,7 @@ pub fn every_cycle_is_right()
 /// link channel. Nothing but an input channel of some router is routed or has a credit on its way.
 /// The pointer of an arbiter goes one past its winner, and without one it stays.
 pub fn verdicts_take_effect()
-    ensures { (net : Setup) (n : ℕ) → IsGoodSetup net → IsRightStep net n }
+    ensures { (net : Setup) (n : ℕ) → IsWellFormedSetup net → IsRightStep net n }
 {}
 
 /// Routers that take their steps in any order show the network. A core is opened on a network, and
@@ -47,12 +47,14 @@ pub fn verdicts_take_effect()
 /// cycles at one count, the core is the one that opens on the network at that count.
 pub fn after_any_list_of_steps()
     ensures { (u : Run) (events : List EventValue) → IsGoodSetup u.net → u.count ≤ CYCLE_LIMIT
-        → IsRightCore u.net u.count (happening CYCLE_LIMIT events (opening_core u)) (after_events CYCLE_LIMIT events (opening_core u)) }
+        → IsRightCore u.net u.count (happening CYCLE_LIMIT events (opening_core u))
+        (after_events CYCLE_LIMIT events (opening_core u)) }
 {}
 
 /// With ranks that the check of ranks accepts, something happens in every cycle in which a packet
 /// waits that was due. A flit lands, a credit arrives, a source injects a flit, or some packet is
 /// routed, is granted a channel or moves a flit.
 pub fn accepted_ranks_leave_no_pending_cycle_without_an_event()
-    ensures { (net : Setup) (ranks : Ranking) (n : ℕ) → IsGoodSetup net → IsRankedBy net.relation ranks → IsPendingIn net n → HappensIn net n }
+    ensures { (net : Setup) (ranks : Ranking) (n : ℕ) → IsWellFormedSetup net
+        → IsRankedBy net.relation ranks → IsPendingIn net n → HappensIn net n }
 {}

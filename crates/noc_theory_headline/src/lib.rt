@@ -1,11 +1,13 @@
 //! What a network promises, in four laws that hold of every network that is made, in every cycle
 //! and every order of router steps.
 //!
-//! Their premise is `IsGoodSetup` (noc_theory, specs/Good): the relation was built, each buffer has
-//! a slot, each packet can be sent. The law on steps asks beside it for a count within the limit,
-//! which every network keeps (`Network::count` of noc_net), and that on ranks for a relation that
-//! is ranked. They speak of the state of the whole network, its owners, flits, credits and pointers
-//! (noc_theory, specs/Network), and their own terms stand in the specs of this crate:
+//! Their premise is `IsWellFormedSetup` (noc_theory, specs/Good): the relation was built, each
+//! buffer has a slot, each packet can be sent, however many there are, of whatever length and due
+//! whenever. The law on steps asks for `IsGoodSetup`, which keeps the limits on packets, and for a
+//! count within the limit, as every network has them (`Network::packets`, `Network::count` of
+//! noc_net). That on ranks asks for a relation that is ranked. They speak of the state of the whole
+//! network, its owners, flits, credits and pointers (noc_theory, specs/Network), and their own
+//! terms stand in the specs of this crate:
 //! - `Headline` has what each verdict says of a channel, and what holds of
 //!   a cycle (`IsRightCycle`);
 //! - `Effects` has what a cycle does to channels, owners, flits, credits and
@@ -28,8 +30,8 @@
 //!   buffers of routers `after_any_list_of_steps`;
 //! - accepted ranks leave no pending cycle without an event:
 //!   `accepted_ranks_leave_no_pending_cycle_without_an_event`;
-//! - workers change no report: `run_tiles` of noc_tiles, whose network is the one of the same count
-//!   by one worker, and `workers_change_no_report` of noc_answers.
+//! - workers change no report: `Network::run_by` of noc_net, whose network is the one of the same
+//!   count by one worker, and `workers_change_no_report` of noc_answers.
 //!
 //! That with ranks all packets arrive within the budget stands in noc_theory
 //! (`all_packets_arrive_within_the_budget`).

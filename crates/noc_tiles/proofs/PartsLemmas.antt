@@ -11,7 +11,7 @@ use Rattle.noc_theory.specs.Network.{Run}
 use Rattle.noc_net.specs.Parts.{AreParts, run_in, setup_in}
 use Rattle.noc_net.specs.declared.parts.Parts.{Parts}
 use Rattle.noc_tiles.specs.Partition.{InFlight, IsKept}
-use Rattle.noc_tiles.specs.declared.tile.TheConstants.{MAX_WORKERS}
+use Rattle.noc_net.specs.declared.workers.TheConstants.{MAX_WORKERS}
 use Rattle.noc_tiles.proofs.BoundaryLemmas.{vec-length}
 
 -- what parts say of the lockstep run

@@ -1,7 +1,7 @@
 -- The faults of tiles that are run in threads, in order.
 use Rattle.std.specs.Prelude.{ℕ}
-use Rattle.noc_tiles.specs.declared.threads.RunFault.{RunFault}
-use Rattle.noc_tiles.specs.declared.threads.RunFault.TheVariants.{Memory, NoWorker, LostWorker}
+use Rattle.noc_net.specs.declared.workers.RunFault.{RunFault}
+use Rattle.noc_net.specs.declared.workers.RunFault.TheVariants.{Memory, NoWorker, LostWorker}
 
 -- of several faults the one with the least number is told
 abbrev pub fault_number : RunFault → ℕ

@@ -16,7 +16,7 @@ use Rattle.noc_tiles.specs.Rings.{AreLeftOut, AreSlots, in_slots, out_slots, til
 use Rattle.noc_tiles.specs.Tiles.{AllEnded, CanRun, Gating, inlets, outlets}
 use Rattle.noc_tiles.specs.declared.partition.Kept.{Kept}
 use Rattle.noc_tiles.specs.declared.threads.Gathered.{Gathered}
-use Rattle.noc_tiles.specs.declared.tile.TheConstants.{MAX_WORKERS}
+use Rattle.noc_net.specs.declared.workers.TheConstants.{MAX_WORKERS}
 use Rattle.noc_tiles.specs.declared.partition.Uncut.{Uncut}
 use Rattle.noc_tiles.specs.declared.tile.Tile.{Tile}
 use Rattle.noc_tiles.specs.declared.tile.Outcome.TheVariants.{Whole}
@@ -63,30 +63,44 @@ pub record IsWire (net : Setup) (n : ℕ) (i o : End) : Type 0 where
 
 -- the ends that stand for one port are those of one ring
 abbrev pub AreWires : Setup → ℕ → List (Option End) → List (Option End) → Type 0
-AreWires net n I O = (k : ℕ) (i o : End) → get_or I k None ≡ Some i → get_or O k None ≡ Some o → IsWire net n i o
+AreWires net n I O =
+    (k : ℕ) (i o : End) → get_or I k None ≡ Some i → get_or O k None ≡ Some o → IsWire net n i o
 
 -- a tile of the network at count n, to run k cycles, with ends from I and O
 pub record IsTile (net : Setup) (n k : ℕ) (I O : List (Option End)) (t : Tile) : Type 0 where
   pub can : CanRun net.relation t
   pub start : t.start ≡ n
   pub cycles : t.cycles ≡ k
-  pub wires : (c q : ℕ) → c < length t.routers.items → is_inside t.first (length t.routers.items) (neighbour net.relation.grid (t.first + c) q) ≡ true
+  pub wires : (c q : ℕ) → c < length t.routers.items
+      → is_inside t.first (length t.routers.items) (neighbour net.relation.grid (t.first + c) q)
+      ≡ true
       → beat_at t.beats.items (t.first + c) q ≡ beat_at (lockstep_at net n).wires (t.first + c) q
-  pub covers : (c q : ℕ) → c < length t.routers.items → is_inside t.first (length t.routers.items) (neighbour net.relation.grid (t.first + c) q) ≡ true
-      ⊎ ((j : ℕ) × (j < length (arrival_ports (inlets t))) × (get_or (arrival_ports (inlets t)) j (0, 0) ≡ (t.first + c, q)))
+  pub covers : (c q : ℕ) → c < length t.routers.items
+      → is_inside t.first (length t.routers.items) (neighbour net.relation.grid (t.first + c) q)
+      ≡ true
+      ⊎ ((j : ℕ) × (j < length (arrival_ports (inlets t)))
+      × (get_or (arrival_ports (inlets t)) j (0, 0) ≡ (t.first + c, q)))
   pub crossing : (j : ℕ) → j < length (arrival_ports (inlets t))
-      → is_inside t.first (length t.routers.items) (neighbour net.relation.grid (get_or (arrival_ports (inlets t)) j (0, 0)).0 (get_or (arrival_ports (inlets t)) j (0, 0)).1) ≡ false
+      → is_inside t.first (length t.routers.items)
+      (neighbour net.relation.grid (get_or (arrival_ports (inlets t)) j (0, 0)).0
+      (get_or (arrival_ports (inlets t)) j (0, 0)).1) ≡ false
   pub from : (o : ℕ) → o < length (arrival_ports (outlets t))
-      → is_from t.first (length t.routers.items) (neighbour net.relation.grid (get_or (arrival_ports (outlets t)) o (0, 0)).0 (get_or (arrival_ports (outlets t)) o (0, 0)).1) ≡ true
-  pub ins : (j : ℕ) (e : End) → j < length (inlets t) → get_or I (index_of (get_or (inlets t) j e).at) None ≡ Some (get_or (inlets t) j e)
-  pub outs : (o : ℕ) (e : End) → o < length (outlets t) → get_or O (index_of (get_or (outlets t) o e).at) None ≡ Some (get_or (outlets t) o e)
+      → is_from t.first (length t.routers.items)
+      (neighbour net.relation.grid (get_or (arrival_ports (outlets t)) o (0, 0)).0
+      (get_or (arrival_ports (outlets t)) o (0, 0)).1) ≡ true
+  pub ins : (j : ℕ) (e : End) → j < length (inlets t)
+      → get_or I (index_of (get_or (inlets t) j e).at) None ≡ Some (get_or (inlets t) j e)
+  pub outs : (o : ℕ) (e : End) → o < length (outlets t)
+      → get_or O (index_of (get_or (outlets t) o e).at) None ≡ Some (get_or (outlets t) o e)
 
 -- tiles that are cut from the network at count n, to run k cycles, with a ring on each
 -- wire between two of them
-pub record IsPartition (net : Setup) (n k : ℕ) (I O : List (Option End)) (ts : List Tile) : Type 0 where
+pub record IsPartition (net : Setup) (n k : ℕ) (I O : List (Option End)) (ts : List Tile)
+    : Type 0 where
   pub grid : IsGrid net.relation.grid
   pub tiles : (t : ℕ) (d : Tile) → t < length ts → IsTile net n k I O (get_or ts t d)
-  pub firsts : (t : ℕ) (d : Tile) → t < length ts → (get_or ts t d).first ≡ length (flat_map routers_of (take t ts))
+  pub firsts : (t : ℕ) (d : Tile) → t < length ts
+      → (get_or ts t d).first ≡ length (flat_map routers_of (take t ts))
   pub views : flat_map routers_of ts ≡ (lockstep_at net n).views
   pub rings : AreWires net n I O
 
@@ -104,7 +118,8 @@ pub record AreCut (kept : Kept) (ts : List Tile) : Type 0 where
 
 -- the ends of the rings of the routers from `first` on are still in their slots: I0 and O0 are the
 -- slots when all were there
-pub record AreUnassigned (net : Setup) (workers first : ℕ) (B : List (List Beat)) (I0 O0 I O : List (Option End)) : Type 0 where
+pub record AreUnassigned (net : Setup) (workers first : ℕ) (B : List (List Beat))
+    (I0 O0 I O : List (Option End)) : Type 0 where
   pub slots : AreSlots net.relation.grid workers B (nodes net.relation.grid * 6) I0 O0
   pub left_in : (m : ℕ) → first * 6 ≤ m → get_or I m None ≡ get_or I0 m None
   pub left_out : AreLeftOut net.relation.grid (first * 6) O0 O

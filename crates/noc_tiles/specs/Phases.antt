@@ -23,7 +23,8 @@ pub record KeepsTile (a b : Tile) : Type 0 where
 
 -- the routers from `first` on can take the beats that came: each is one of the relation, and no
 -- beat came to others, or by a port without a link
-pub record CanTake (relation : Routes) (first : ℕ) (views : List View) (b : List (List Beat)) : Type 0 where
+pub record CanTake (relation : Routes) (first : ℕ) (views : List View) (b : List (List Beat))
+    : Type 0 where
   pub within : first + length views ≤ length b
   pub routers : All (λ v. IsRelationOf relation v) views
   pub beats : All (IsLinked relation.grid) b
@@ -34,23 +35,29 @@ pub record CanTake (relation : Routes) (first : ℕ) (views : List View) (b : Li
 pub record TileHasTaken (relation : Routes) (row : List Beat) (a b : Tile) : Type 0 where
   pub width : length row ≡ length (inlets a)
   pub ins : inlets b ≡ ends_after_beats (inlets a) row
-  pub views : b.routers.items ≡ map_indexed (λ (i : ℕ) (v : View). view_after_takes relation (beats_arriving relation (layout_of a) (state_of a) row i) v) a.routers.items
+  pub views : b.routers.items
+      ≡ map_indexed (λ (i : ℕ) (v : View). view_after_takes relation
+      (beats_arriving relation (layout_of a) (state_of a) row i) v) a.routers.items
   pub rest : b ≡ record a { routers = b.routers; beats = b.beats; ins = b.ins }
   pub size : length b.beats.items ≡ length a.beats.items
   pub silent : (r q : ℕ) → beat_at b.beats.items r q ≡ idle_beat
 
 -- of `count` routers from `first` on, those between two indices: no wire to one of the ports
 -- `outs` begins at one of them
-pub record AreInner (grid : Grid) (first count : ℕ) (outs : List (ℕ × ℕ)) (inner : Inner) : Type 0 where
+pub record AreInner (grid : Grid) (first count : ℕ) (outs : List (ℕ × ℕ)) (inner : Inner)
+    : Type 0 where
   pub order : inner.from ≤ inner.to
   pub within : inner.to ≤ count
-  pub none : (o : ℕ) → o < length outs → is_from (first + inner.from) (inner.to - inner.from) (neighbour grid (get_or outs o (0, 0)).0 (get_or outs o (0, 0)).1) ≡ false
+  pub none : (o : ℕ) → o < length outs
+      → is_from (first + inner.from) (inner.to - inner.from)
+      (neighbour grid (get_or outs o (0, 0)).0 (get_or outs o (0, 0)).1) ≡ false
 
 -- a wire whose sender is given, after the routers of a tile from index i to before j have put
 -- what is theirs of `sent`
 abbrev pub put_from : ℕ → ℕ → ℕ → List (List Beat) → Option (ℕ × ℕ) → Beat → Beat
 put_from first i j sent None beat = beat
-put_from first i j sent (Some from) beat = if is_own (first + i) (j - i) from.0 then beat_at sent (from.0 - first) from.1 else beat
+put_from first i j sent (Some from) beat =
+    if is_own (first + i) (j - i) from.0 then beat_at sent (from.0 - first) from.1 else beat
 
 -- what routers that have taken their beats put at the end of cycle n
 abbrev pub to_send : Routes → ℕ → List View → List (List Beat)
@@ -62,7 +69,8 @@ pub record RouterCanFinish (relation : Routes) (router : View) (b : List (List B
   pub built : IsRelationOf relation router
   pub node : router.site.node < nodes relation.grid
   pub count : length b ≡ nodes relation.grid
-  pub idle : (r q port : ℕ) → neighbour relation.grid r q ≡ Some (router.site.node, port) → beat_at b r q ≡ idle_beat
+  pub idle : (r q port : ℕ) → neighbour relation.grid r q ≡ Some (router.site.node, port)
+      → beat_at b r q ≡ idle_beat
 
 -- the routers of a tile from index i to before j can finish a cycle: they are those of their nodes,
 -- and the wires that leave them are idle
@@ -71,19 +79,28 @@ pub record CanFinish (relation : Routes) (i j : ℕ) (t : Tile) : Type 0 where
   pub within : j ≤ length t.routers.items
   pub wide : t.first + length t.routers.items ≤ nodes relation.grid
   pub count : length t.beats.items ≡ nodes relation.grid
-  pub built : (k : ℕ) (d : View) → i ≤ k → k < j → IsRelationOf relation (get_or t.routers.items k d)
-  pub site : (k : ℕ) (d : View) → i ≤ k → k < j → (get_or t.routers.items k d).site.node ≡ t.first + k
-  pub idle : (r q : ℕ) → r < nodes relation.grid → is_from (t.first + i) (j - i) (neighbour relation.grid r q) ≡ true → beat_at t.beats.items r q ≡ idle_beat
+  pub built : (k : ℕ) (d : View) → i ≤ k → k < j
+      → IsRelationOf relation (get_or t.routers.items k d)
+  pub site : (k : ℕ) (d : View) → i ≤ k → k < j
+      → (get_or t.routers.items k d).site.node ≡ t.first + k
+  pub idle : (r q : ℕ) → r < nodes relation.grid
+      → is_from (t.first + i) (j - i) (neighbour relation.grid r q) ≡ true
+      → beat_at t.beats.items r q ≡ idle_beat
 
 -- the routers of a tile from index i to before j have finished cycle n
 pub record HaveFinished (relation : Routes) (n : ℕ) (i j : ℕ) (a b : Tile) : Type 0 where
   pub rest : b ≡ record a { plan = b.plan; routers = b.routers; beats = b.beats }
   pub count : length b.routers.items ≡ length a.routers.items
   pub size : length b.beats.items ≡ length a.beats.items
-  pub views : (k : ℕ) (d : View) → i ≤ k → k < j → get_or b.routers.items k d ≡ view_after_puts (view_after_finish relation n (get_or a.routers.items k d))
-  pub others : (k : ℕ) (d : View) → (k < i) ⊎ (j ≤ k) → get_or b.routers.items k d ≡ get_or a.routers.items k d
+  pub views : (k : ℕ) (d : View) → i ≤ k → k < j
+      → get_or b.routers.items k d
+      ≡ view_after_puts (view_after_finish relation n (get_or a.routers.items k d))
+  pub others : (k : ℕ) (d : View) → (k < i) ⊎ (j ≤ k)
+      → get_or b.routers.items k d ≡ get_or a.routers.items k d
   pub wires : (r q : ℕ) → r < nodes relation.grid
-      → beat_at b.beats.items r q ≡ put_from a.first i j (to_send relation n a.routers.items) (neighbour relation.grid r q) (beat_at a.beats.items r q)
+      → beat_at b.beats.items r q
+      ≡ put_from a.first i j (to_send relation n a.routers.items) (neighbour relation.grid r q)
+      (beat_at a.beats.items r q)
 
 -- the wire at this port is idle where it is one of the first k ports, else as it was
 abbrev pub IsCleared : List (ℕ × ℕ) → List (List Beat) → List (List Beat) → ℕ → ℕ → ℕ → Type 0
@@ -94,6 +111,10 @@ IsCleared ps old new k r q =
 -- the beats that leave a tile are sent, and their wires idle
 pub record TileHasSent (a b : Tile) : Type 0 where
   pub rest : b ≡ record a { beats = b.beats; outs = b.outs }
-  pub outs : outlets b ≡ ends_after_beats (outlets a) (map (λ (p : ℕ × ℕ). beat_at a.beats.items p.0 p.1) (arrival_ports (outlets a)))
-  pub cleared : (r q : ℕ) → IsCleared (arrival_ports (outlets a)) a.beats.items b.beats.items (length (arrival_ports (outlets a))) r q
+  pub outs : outlets b
+      ≡ ends_after_beats (outlets a)
+      (map (λ (p : ℕ × ℕ). beat_at a.beats.items p.0 p.1) (arrival_ports (outlets a)))
+  pub cleared : (r q : ℕ)
+      → IsCleared (arrival_ports (outlets a)) a.beats.items b.beats.items
+      (length (arrival_ports (outlets a))) r q
   pub size : length b.beats.items ≡ length a.beats.items

@@ -59,7 +59,8 @@ is_inside first count (Some from) = is_own first count from.0
 -- what they have sent on a wire whose sender is given, idle where that is another one
 abbrev pub beat_among : ℕ → ℕ → List (List Beat) → Option (ℕ × ℕ) → Beat
 beat_among first count sent None = idle_beat
-beat_among first count sent (Some from) = if is_own first count from.0 then beat_at sent (from.0 - first) from.1 else idle_beat
+beat_among first count sent (Some from) =
+    if is_own first count from.0 then beat_at sent (from.0 - first) from.1 else idle_beat
 
 -- what is sent on a wire whose sender is given, where these routers have sent all that is sent
 abbrev pub beat_of : ℕ → List (List Beat) → Option (ℕ × ℕ) → Beat
@@ -80,7 +81,8 @@ pub record TileState : Type 0 where
 module _ (relation : Routes) (P : Layout) where
   -- the beats that arrive at router i of the tile
   abbrev pub beats_arriving : TileState → List Beat → ℕ → List Beat
-  beats_arriving T row i = tabulate (local_port relation.grid) (with_row T.wires P.ins row (P.first + i))
+  beats_arriving T row i =
+      tabulate (local_port relation.grid) (with_row T.wires P.ins row (P.first + i))
 
   -- what each router makes of cycle n, with the beats of a row
   unfoldable pub steps : ℕ → TileState → List Beat → List (View × List Beat)

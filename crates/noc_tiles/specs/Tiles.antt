@@ -17,34 +17,44 @@ abbrev pub outlets : Tile → List End
 outlets t = map outlet t.outs.items
 
 abbrev pub layout_of : Tile → Layout
-layout_of t = record { first = t.first; ins = arrival_ports (inlets t); outs = arrival_ports (outlets t) }
+layout_of t = record {
+  first = t.first;
+  ins = arrival_ports (inlets t);
+  outs = arrival_ports (outlets t);
+}
 
 abbrev pub state_of : Tile → TileState
 state_of t = record { views = t.routers.items; wires = beat_at t.beats.items }
 
 -- each is a link port of one of so many routers
 abbrev pub AreLinkPorts : ℕ → ℕ → List (ℕ × ℕ) → Type 0
-AreLinkPorts rows links ps = (j : ℕ) → j < length ps → ((get_or ps j (0, 0)).0 < rows) × ((get_or ps j (0, 0)).1 < links)
+AreLinkPorts rows links ps =
+    (j : ℕ) → j < length ps → ((get_or ps j (0, 0)).0 < rows) × ((get_or ps j (0, 0)).1 < links)
 
 -- the routers from `first` on are in their order, and `ins` are ports of theirs. `outs` are the
 -- ports of all wires that go from them to others, and the wires that arrive at others are idle
-pub record PartsFit (relation : Routes) (first : ℕ) (ins outs : List (ℕ × ℕ)) (views : List View) (b : List (List Beat)) : Type 0 where
+pub record PartsFit (relation : Routes) (first : ℕ) (ins outs : List (ℕ × ℕ)) (views : List View)
+    (b : List (List Beat)) : Type 0 where
   pub wide : first + length views ≤ nodes relation.grid
   pub count : length b ≡ nodes relation.grid
-  pub placed : (i : ℕ) (d : View) → i < length views → HasItsBeats relation (first + i) (get_or views i d)
+  pub placed : (i : ℕ) (d : View) → i < length views
+      → HasItsBeats relation (first + i) (get_or views i d)
   pub linked : (r q : ℕ) → local_port relation.grid ≤ q → beat_at b r q ≡ idle_beat
   pub idle : (r q : ℕ) → is_own first (length views) r ≡ false → beat_at b r q ≡ idle_beat
   pub within : AreLinkPorts (nodes relation.grid) (local_port relation.grid) ins
   pub own : (j : ℕ) → j < length ins → is_own first (length views) (get_or ins j (0, 0)).0 ≡ true
   pub outs_within : AreLinkPorts (nodes relation.grid) (local_port relation.grid) outs
-  pub others : (o : ℕ) → o < length outs → is_own first (length views) (get_or outs o (0, 0)).0 ≡ false
-  pub leaves : (r q : ℕ) → r < nodes relation.grid → is_own first (length views) r ≡ false → is_from first (length views) (neighbour relation.grid r q) ≡ true
+  pub others : (o : ℕ) → o < length outs
+      → is_own first (length views) (get_or outs o (0, 0)).0 ≡ false
+  pub leaves : (r q : ℕ) → r < nodes relation.grid → is_own first (length views) r ≡ false
+      → is_from first (length views) (neighbour relation.grid r q) ≡ true
       → (o : ℕ) × (o < length outs) × (get_or outs o (0, 0) ≡ (r, q))
 
 -- its parts fit each other and the relation
 pub record IsReady (relation : Routes) (t : Tile) : Type 0 where
   pub few_links : local_port relation.grid ≤ 6
-  pub parts : PartsFit relation t.first (arrival_ports (inlets t)) (arrival_ports (outlets t)) t.routers.items t.beats.items
+  pub parts : PartsFit relation t.first (arrival_ports (inlets t))
+      (arrival_ports (outlets t)) t.routers.items t.beats.items
 
 -- what a run leaves alone
 pub record IsSameTile (a b : Tile) : Type 0 where
@@ -53,16 +63,24 @@ pub record IsSameTile (a b : Tile) : Type 0 where
   pub start : b.start ≡ a.start
   pub cycles : b.cycles ≡ a.cycles
   pub size : vec_len b.beats ≡ vec_len a.beats
-  pub ins : Rattle.noc_tiles.specs.TileStep.names (inlets b) ≡ Rattle.noc_tiles.specs.TileStep.names (inlets a)
-  pub outs : Rattle.noc_tiles.specs.TileStep.names (outlets b) ≡ Rattle.noc_tiles.specs.TileStep.names (outlets a)
+  pub ins : Rattle.noc_tiles.specs.TileStep.names (inlets b)
+      ≡ Rattle.noc_tiles.specs.TileStep.names (inlets a)
+  pub outs : Rattle.noc_tiles.specs.TileStep.names (outlets b)
+      ≡ Rattle.noc_tiles.specs.TileStep.names (outlets a)
 
 -- cycle n, with the beats of a row
 pub record Cycles (relation : Routes) (n : ℕ) (a b : Tile) (row : List Beat) : Type 0 where
   pub width : length row ≡ length (inlets a)
-  pub views : b.routers.items ≡ (after_steps relation (layout_of a) (steps relation (layout_of a) n (state_of a) row)).views
-  pub wires : (r q : ℕ) → r < nodes relation.grid → beat_at b.beats.items r q ≡ (after_steps relation (layout_of a) (steps relation (layout_of a) n (state_of a) row)).wires r q
+  pub views : b.routers.items
+      ≡ (after_steps relation (layout_of a) (steps relation (layout_of a) n (state_of a) row)).views
+  pub wires : (r q : ℕ) → r < nodes relation.grid
+      → beat_at b.beats.items r q
+      ≡ (after_steps relation (layout_of a)
+      (steps relation (layout_of a) n (state_of a) row)).wires r q
   pub ins : inlets b ≡ ends_after_beats (inlets a) row
-  pub outs : outlets b ≡ ends_after_beats (outlets a) (put_by relation (layout_of a) (steps relation (layout_of a) n (state_of a) row))
+  pub outs : outlets b
+      ≡ ends_after_beats (outlets a)
+      (put_by relation (layout_of a) (steps relation (layout_of a) n (state_of a) row))
 
 -- k cycles, with a row of beats for each
 pub record Runs (relation : Routes) (k : ℕ) (a b : Tile) : Type 0 where
@@ -70,9 +88,12 @@ pub record Runs (relation : Routes) (k : ℕ) (a b : Tile) : Type 0 where
   pub count : length rows ≡ k
   pub width : (i : ℕ) → i < k → length (get_or rows i []) ≡ length (inlets a)
   pub views : b.routers.items ≡ (after relation (layout_of a) a.start (state_of a) rows).views
-  pub wires : (r q : ℕ) → r < nodes relation.grid → beat_at b.beats.items r q ≡ (after relation (layout_of a) a.start (state_of a) rows).wires r q
+  pub wires : (r q : ℕ) → r < nodes relation.grid
+      → beat_at b.beats.items r q
+      ≡ (after relation (layout_of a) a.start (state_of a) rows).wires r q
   pub ins : inlets b ≡ ends_after_rows (inlets a) rows
-  pub outs : outlets b ≡ ends_after_rows (outlets a) (beats_put relation (layout_of a) a.start (state_of a) rows)
+  pub outs : outlets b
+      ≡ ends_after_rows (outlets a) (beats_put relation (layout_of a) a.start (state_of a) rows)
 
 -- what is known of a gate: whether it is open to every worker in every cycle, and to which worker
 -- it is shut in which cycle

@@ -36,29 +36,51 @@ module _ (net : Setup) (n : ℕ) where
 
   -- no other tile sends on the wire that arrives at port q of router c of the tile
   abbrev pub IsInner : Trace → ℕ → ℕ → Type 0
-  IsInner t c q = is_inside t.layout.first (length t.state.views) (neighbour net.relation.grid (t.layout.first + c) q) ≡ true
+  IsInner t c q =
+      is_inside t.layout.first (length t.state.views)
+      (neighbour net.relation.grid (t.layout.first + c) q) ≡ true
 
   -- the state of the tile is that of the lockstep run, after i cycles
   pub record Agrees (t : Trace) (i : ℕ) : Type 0 where
     pub many : length (tile_at t i).views ≡ length t.state.views
-    pub views : (c : ℕ) (d : View) → c < length t.state.views → get_or (tile_at t i).views c d ≡ get_or (lockstep_at net (n + i)).views (t.layout.first + c) d
-    pub wires : (c q : ℕ) → c < length t.state.views → IsInner t c q → (tile_at t i).wires (t.layout.first + c) q ≡ in_flight (n + i) (t.layout.first + c) q
+    pub views : (c : ℕ) (d : View) → c < length t.state.views
+        → get_or (tile_at t i).views c d
+        ≡ get_or (lockstep_at net (n + i)).views (t.layout.first + c) d
+    pub wires : (c q : ℕ) → c < length t.state.views → IsInner t c q
+        → (tile_at t i).wires (t.layout.first + c) q ≡ in_flight (n + i) (t.layout.first + c) q
 
   -- what it puts in its cycle i is in flight at the next count
   abbrev pub PutsInFlight : Trace → ℕ → Type 0
-  PutsInFlight t i = (o : ℕ) → o < length t.layout.outs → get_or (put_at t i) o idle_beat ≡ in_flight (n + suc i) (get_or t.layout.outs o (0, 0)).0 (get_or t.layout.outs o (0, 0)).1
+  PutsInFlight t i =
+      (o : ℕ) → o < length t.layout.outs
+      → get_or (put_at t i) o idle_beat
+      ≡ in_flight (n + suc i) (get_or t.layout.outs o (0, 0)).0 (get_or t.layout.outs o (0, 0)).1
 
   -- m tiles of the network at count n, that ran k cycles
   pub record TilesRan (k m : ℕ) (T : ℕ → Trace) : Type 0 where
-    pub within : (t : ℕ) → t < m → (T t).layout.first + length (T t).state.views ≤ nodes net.relation.grid
-    pub views : (t c : ℕ) (d : View) → t < m → c < length (T t).state.views → get_or (T t).state.views c d ≡ get_or (lockstep_at net n).views ((T t).layout.first + c) d
-    pub wires : (t c q : ℕ) → t < m → c < length (T t).state.views → IsInner (T t) c q → (T t).state.wires ((T t).layout.first + c) q ≡ in_flight n ((T t).layout.first + c) q
+    pub within : (t : ℕ) → t < m
+        → (T t).layout.first + length (T t).state.views ≤ nodes net.relation.grid
+    pub views : (t c : ℕ) (d : View) → t < m → c < length (T t).state.views
+        → get_or (T t).state.views c d ≡ get_or (lockstep_at net n).views ((T t).layout.first + c) d
+    pub wires : (t c q : ℕ) → t < m → c < length (T t).state.views → IsInner (T t) c q
+        → (T t).state.wires ((T t).layout.first + c) q ≡ in_flight n ((T t).layout.first + c) q
     pub outs : (t o : ℕ) → t < m → o < length (T t).layout.outs
         → ((get_or (T t).layout.outs o (0, 0)).0 < nodes net.relation.grid)
-        × (is_from (T t).layout.first (length (T t).state.views) (neighbour net.relation.grid (get_or (T t).layout.outs o (0, 0)).0 (get_or (T t).layout.outs o (0, 0)).1) ≡ true)
-    pub covers : (t c q : ℕ) → t < m → c < length (T t).state.views → IsInner (T t) c q ⊎ ((j : ℕ) × (j < length (T t).layout.ins) × (get_or (T t).layout.ins j (0, 0) ≡ ((T t).layout.first + c, q)))
+        × (is_from (T t).layout.first (length (T t).state.views)
+        (neighbour net.relation.grid (get_or (T t).layout.outs o (0, 0)).0
+        (get_or (T t).layout.outs o (0, 0)).1) ≡ true)
+    pub covers : (t c q : ℕ) → t < m → c < length (T t).state.views
+        → IsInner (T t) c q
+        ⊎ ((j : ℕ) × (j < length (T t).layout.ins)
+        × (get_or (T t).layout.ins j (0, 0) ≡ ((T t).layout.first + c, q)))
     pub count : (t : ℕ) → t < m → length (T t).rows ≡ k
-    pub width : (t i : ℕ) → t < m → i < k → length (get_or (T t).rows i []) ≡ length (T t).layout.ins
+    pub width : (t i : ℕ) → t < m → i < k
+        → length (get_or (T t).rows i []) ≡ length (T t).layout.ins
     pub wired : (t j : ℕ) → t < m → j < length (T t).layout.ins
-        → (u : ℕ) × (o : ℕ) × (u < m) × (o < length (T u).layout.outs) × (get_or (T u).layout.outs o (0, 0) ≡ get_or (T t).layout.ins j (0, 0))
-        × ((i : ℕ) → i < k → get_or (get_or (T t).rows i []) j idle_beat ≡ beat_carried (in_flight n (get_or (T t).layout.ins j (0, 0)).0 (get_or (T t).layout.ins j (0, 0)).1) (T u) o i)
+        → (u : ℕ) × (o : ℕ) × (u < m) × (o < length (T u).layout.outs)
+        × (get_or (T u).layout.outs o (0, 0) ≡ get_or (T t).layout.ins j (0, 0))
+        × ((i : ℕ) → i < k
+        → get_or (get_or (T t).rows i []) j idle_beat
+        ≡ beat_carried
+        (in_flight n (get_or (T t).layout.ins j (0, 0)).0 (get_or (T t).layout.ins j (0, 0)).1)
+        (T u) o i)

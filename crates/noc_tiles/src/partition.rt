@@ -17,7 +17,7 @@ ghost use Rattle.noc_tiles.specs.Partition.{AreCut, IsKept, IsTileOf, IsToCut, I
 ghost use Rattle.noc_tiles.specs.Rings.{AreEnds, AreLeftOut, AreSlots, AreTakenIn, AreTakenOut, AreTogether, CanEmpty, Empties, GoesOutTo, IsSlot, item_at, in_slots, out_slots, tile_start, without};
 ghost use Rattle.noc_tiles.specs.TileStep.{is_inside, is_own};
 ghost use Rattle.noc_tiles.specs.declared.ends.Outlet.{Outlet as outlet_value};
-ghost use Rattle.noc_tiles.specs.declared.tile.TheConstants.{MAX_WORKERS};
+ghost use Rattle.noc_net.specs.declared.workers.TheConstants.{MAX_WORKERS};
 
 use crate::ends::{Inlet, Outlet, set_beat};
 use crate::tile::{Outcome, Tile};

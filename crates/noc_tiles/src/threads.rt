@@ -6,7 +6,7 @@ ghost use Rattle.noc_net.specs.Parts.{run_in};
 ghost use Rattle.noc_tiles.specs.Faults.{fault_number};
 ghost use Rattle.noc_tiles.specs.Partition.{AddsTile, AllWhole, AreDone, IsGathered, IsKept, IsToCut};
 ghost use Rattle.noc_tiles.specs.Tiles.{AllCanRun, AllEnded};
-ghost use Rattle.noc_tiles.specs.declared.threads.RunFault.TheVariants.{LostWorker};
+ghost use Rattle.noc_net.specs.declared.workers.RunFault.TheVariants.{LostWorker};
 ghost use Rattle.noc_tiles.specs.declared.tile.Tile.{Tile as tile_value};
 
 use crate::ends::{Inlet, Outlet};
@@ -14,7 +14,7 @@ use crate::gate::{Gate, Stop};
 use crate::partition::{Kept, empty_all, partition};
 use crate::tile::{Outcome, Tile};
 use crate::worker::run_tile;
-use noc_net::{Network, Parts};
+use noc_net::{Network, Parts, RunFault};
 use noc_packet::Beat;
 use noc_route::Relation;
 use noc_router::Router;
@@ -24,21 +24,6 @@ use std::snapshot::Snapshot;
 use std::sync::Wait;
 use std::thread;
 use std::thread::{Promise, Threads};
-use thiserror::Error;
-
-/// Why a run by workers gave no network.
-#[derive(Clone, Copy, Debug, PartialEq, Eq, Error)]
-pub enum RunFault {
-    /// Memory was refused.
-    #[error("memory was refused")]
-    Memory,
-    /// A worker could not be started.
-    #[error("a worker could not be started")]
-    NoWorker,
-    /// A worker came back without its cycles.
-    #[error("a worker came back without its cycles")]
-    LostWorker,
-}
 
 // Cuts a network into tiles, runs them in threads, and gives what they held then.
 pub(crate) fn run_threads<R: Threads + Wait + Sync, G: Gate>(

@@ -2,13 +2,13 @@
 
 ghost use Rattle.std.specs.Prelude.{ℕ, ◌≡◌, ◌+◌, ◌<◌, ◌≤◌, true, false, IfErr, IfOk, IsOk};
 ghost use Rattle.noc_theory.specs.declared.limits.TheConstants.{CYCLE_LIMIT as cycle_limit};
-ghost use Rattle.noc_tiles.specs.declared.threads.RunFault.TheVariants.{LostWorker};
-ghost use Rattle.noc_tiles.specs.declared.tile.TheConstants.{MAX_WORKERS};
+ghost use Rattle.noc_net.specs.declared.workers.RunFault.TheVariants.{LostWorker};
+ghost use Rattle.noc_net.specs.declared.workers.TheConstants.{MAX_WORKERS};
 
 use crate::gate::Gate;
 use crate::partition::Kept;
-use crate::threads::{RunFault, network_of, run_threads};
-use noc_net::Network;
+use crate::threads::{network_of, run_threads};
+use noc_net::{Network, RunFault};
 use std::alloc::Global;
 use std::mem;
 use std::sync::Wait;

@@ -2,3 +2,4 @@ pub mod Lists
 pub mod Shape
 pub mod Filled
 pub mod Inside
+pub mod Titles

@@ -76,8 +76,10 @@ opposite port = if is_plus port then port + 1 else port - 1
 
 -- the coordinate one further in a dimension of radix k, up or down
 abbrev pub moved_in : Bool → ℕ → Bool → ℕ → Option ℕ
-moved_in wraps k true x = if nat_lt (x + 1) k then Some (x + 1) else (if wraps then Some 0 else None)
-moved_in wraps k false x = if nat_lt 0 x then Some (x - 1) else (if wraps then Some (k - 1) else None)
+moved_in wraps k true x =
+    if nat_lt (x + 1) k then Some (x + 1) else (if wraps then Some 0 else None)
+moved_in wraps k false x =
+    if nat_lt 0 x then Some (x - 1) else (if wraps then Some (k - 1) else None)
 
 -- the node to which a port leads, and the port by which a flit enters there
 abbrev pub neighbour : Grid → ℕ → ℕ → Option (ℕ × ℕ)
@@ -85,7 +87,8 @@ neighbour g node port =
     let xs = coordinates g.radix node in
     let i = port / 2 in
     if nat_lt port (local_port g)
-    then option_map (λ x. (node_at g.radix (slice_set xs i x), opposite port)) (moved_in g.wraps (slice_index g.radix i) (is_plus port) (slice_index xs i))
+    then option_map (λ x. (node_at g.radix (slice_set xs i x), opposite port))
+    (moved_in g.wraps (slice_index g.radix i) (is_plus port) (slice_index xs i))
     else None
 
 -- port q of node b is a link port that leads back to port p of node a

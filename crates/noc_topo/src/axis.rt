@@ -92,7 +92,8 @@ pub(crate) fn split(sizes: &[usize; 3], node: usize) -> [usize; 3]
 // The node at three coordinates.
 pub(crate) fn join(sizes: &[usize; 3], coordinates: &[usize; 3]) -> usize
     requires sizes { EachIndex sizes.now (λ i. slice_index sizes.now i ≤ MAX_RADIX) }
-    requires coordinates { EachIndex coordinates.now (λ i. slice_index coordinates.now i < MAX_RADIX) }
+    requires coordinates { EachIndex coordinates.now
+        (λ i. slice_index coordinates.now i < MAX_RADIX) }
     ensures { result ≡ node_at sizes.now coordinates.now }
 {
     coordinates[0] + sizes[0] * (coordinates[1] + sizes[1] * coordinates[2])

@@ -2,6 +2,7 @@
 #![tactic(auto)]
 
 mod axis;
+mod fault;
 mod limits;
 mod shape;
 

@@ -155,7 +155,8 @@ impl Shape {
         requires node { node < nodes self.now }
         requires port { port < ports self.now }
         ensures value { result ≡ neighbour self.now node port }
-        ensures range { IfSome result (λ to. (to.0 < nodes self.now) × (to.1 < local_port self.now)) }
+        ensures range { IfSome result (λ to. (to.0 < nodes self.now)
+            × (to.1 < local_port self.now)) }
         ensures grid { IsGrid self.now }
     {
         if port >= 2 * self.count {
@@ -176,5 +177,6 @@ impl Shape {
 /// A law: each link leads to a node by a port other than the local one, and the port there leads
 /// back. Dally and Towles, chapter 3.
 pub fn links_are_mutual()
-    ensures { (g : Grid) (a p b q : ℕ) → IsGrid g → a < nodes g → p < ports g → neighbour g a p ≡ Some (b, q) → IsLinkBack g a p b q }
+    ensures { (g : Grid) (a p b q : ℕ) → IsGrid g → a < nodes g → p < ports g
+        → neighbour g a p ≡ Some (b, q) → IsLinkBack g a p b q }
 {}

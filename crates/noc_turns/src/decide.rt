@@ -1,6 +1,6 @@
 //! What each channel does in a cycle.
 
-ghost use Rattle.std.specs.Prelude.{◌≡◌, ℕ, ◌+◌, ◌<◌, ◌≤◌};
+ghost use Rattle.std.specs.Prelude.{◌≡◌, ℕ, ◌+◌, ◌<◌, ◌≤◌, ⊤};
 ghost use Rattle.noc_route.specs.Routes.{width};
 ghost use Rattle.noc_lanes.specs.Channels.{decided_by, moves_by, standing_by};
 ghost use Rattle.noc_lanes.specs.Lanes.{word};
@@ -16,14 +16,25 @@ use crate::state::{State, Work};
 use noc_blocks::{Guide, Header, allocate_all, move_by_ports, note_tails, route_all};
 use noc_lanes::{LANES, Word};
 use noc_route::Relation;
+use std::alloc::AllocError;
 
 /// The packets of a network, and where they may go.
-#[derive(Clone, Copy)]
+#[derive(Copy)]
 pub struct Traffic<'a> {
     /// The channels that they may take.
     pub relation: &'a Relation,
     /// Their headers, by number.
     pub headers: &'a [Header],
+}
+
+impl<'a> Clone for Traffic<'a> {
+    ghost is_clone = { λ x y. y ≡ x };
+
+    ghost is_infallible = { λ _. ⊤ };
+
+    fn clone(&self) -> Result<Traffic<'a>, AllocError> {
+        Ok(*self)
+    }
 }
 
 /// Output channels are granted, heads are routed, and flits are selected, in a block whose routers

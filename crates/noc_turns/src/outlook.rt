@@ -1,6 +1,6 @@
 //! Whether anything is to happen in a block.
 
-ghost use Rattle.std.specs.Prelude.{◌≡◌, ℕ, ◌^◌, ◌<◌, nat_le, if◌then◌else◌};
+ghost use Rattle.std.specs.Prelude.{◌≡◌, ℕ, ◌^◌, ◌<◌, nat_le, if◌then◌else◌, ⊤};
 ghost use Rattle.noc_lanes.specs.Lanes.{word};
 ghost use Rattle.noc_turns.specs.Held.{IsAmong};
 ghost use Rattle.noc_turns.specs.Outlooks.{IsLeastOf, TellsSome, happens_to, held_in};
@@ -9,9 +9,10 @@ ghost use Rattle.noc_turns.specs.States.{lane_of, working_of};
 use crate::state::{State, Work};
 use noc_blocks::has_some;
 use noc_lanes::{LANES, Word, at};
+use std::alloc::AllocError;
 
 /// What is known of a block after a cycle.
-#[derive(Clone, Copy)]
+#[derive(Copy)]
 pub struct Outlook {
     /// Whether a channel waits or is active, or a packet is being injected.
     pub holds: bool,
@@ -21,6 +22,16 @@ pub struct Outlook {
     pub happened: bool,
     /// The first cycle in which a packet is due.
     pub due: u32,
+}
+
+impl Clone for Outlook {
+    ghost is_clone = { λ x y. y ≡ x };
+
+    ghost is_infallible = { λ _. ⊤ };
+
+    fn clone(&self) -> Result<Outlook, AllocError> {
+        Ok(*self)
+    }
 }
 
 /// The outlook of a block after a cycle.

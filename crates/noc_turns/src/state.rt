@@ -1,6 +1,6 @@
 //! What a block keeps from cycle to cycle, and what it works out in one.
 
-ghost use Rattle.std.specs.Prelude.{◌≡◌};
+ghost use Rattle.std.specs.Prelude.{◌≡◌, ⊤};
 
 use noc_blocks::{Marks, Pending, Ports, Sources};
 use noc_lanes::{
@@ -42,7 +42,7 @@ impl<W: Word> Clone for State<W> {
 impl<W: Word> Copy for State<W> {}
 
 /// What the routers of a block work out in a cycle.
-#[derive(Clone, Copy)]
+#[derive(Copy)]
 pub struct Work<W: Word> {
     /// What the links bring.
     pub links: Links<Lanes<W>>,
@@ -66,4 +66,14 @@ pub struct Work<W: Word> {
     pub tails: u32,
     /// Whether a flit or a credit has come to a router, or a packet has begun in it.
     pub came: bool,
+}
+
+impl<W: Word + Copy> Clone for Work<W> {
+    ghost is_clone = { λ x y. y ≡ x };
+
+    ghost is_infallible = { λ _. ⊤ };
+
+    fn clone(&self) -> Result<Work<W>, AllocError> {
+        Ok(*self)
+    }
 }

@@ -44,16 +44,21 @@ is_empty (x ∷ xs) = false
 
 -- the flit behind f in its packet
 abbrev pub next_of : Flit → Option Awaited
-next_of f = if f.last then None else Some (record { packet = f.packet; index = f.index + 1; dst = f.dst; class = f.class })
+next_of f =
+    if f.last then None
+    else Some (record { packet = f.packet; index = f.index + 1; dst = f.dst; class = f.class })
 
 abbrev pub is_awaited : Flit → Option Awaited → Bool
 is_awaited f None = false
-is_awaited f (Some a) = nat_eq f.packet a.packet && nat_eq f.index a.index && nat_eq f.dst a.dst && nat_eq f.class a.class && nat_lt f.index MAX_LENGTH
+is_awaited f (Some a) =
+    nat_eq f.packet a.packet && nat_eq f.index a.index && nat_eq f.dst a.dst
+    && nat_eq f.class a.class && nat_lt f.index MAX_LENGTH
 
 -- whether a flit is a head that may begin at this router, port and vc
 abbrev pub may_begin : Routes → ℕ → ℕ → ℕ → Flit → Bool
 may_begin g router port vc f =
-    nat_eq f.index 0 && nat_lt f.dst (nodes g.grid) && nat_lt f.class g.classes && not (nat_eq (set_at g f.class router port vc f.dst) 0)
+    nat_eq f.index 0 && nat_lt f.dst (nodes g.grid) && nat_lt f.class g.classes
+    && not (nat_eq (set_at g f.class router port vc f.dst) 0)
 
 -- whether a flit is the one that an input channel expects: a head where it is idle and has no flit,
 -- then the next of its packet
@@ -64,7 +69,8 @@ is_expected g router port vc flits input f (Active o) = is_awaited f input.await
 
 -- whether a flit fits an input channel with these flits in a buffer of this depth
 abbrev pub fits : Routes → ℕ → ℕ → ℕ → ℕ → List Flit → Input → Flit → Bool
-fits g router port vc depth flits input f = nat_lt (length flits) depth && is_expected g router port vc flits input f input.phase
+fits g router port vc depth flits input f =
+    nat_lt (length flits) depth && is_expected g router port vc flits input f input.phase
 
 -- an input channel after a flit has landed
 abbrev pub input_after_land : Input → Flit → Input

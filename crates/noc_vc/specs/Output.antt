@@ -49,7 +49,10 @@ holder_at depth count Draining = if nat_eq count depth then Free else Draining
 
 abbrev pub output_with_credit : Output → Option ℕ → Output
 output_with_credit output None = output
-output_with_credit output (Some n) = record output { holder = holder_at output.depth (n + 1) output.holder; credit = Some (n + 1) }
+output_with_credit output (Some n) = record output {
+  holder = holder_at output.depth (n + 1) output.holder;
+  credit = Some (n + 1);
+}
 
 -- an output channel after a credit has come
 abbrev pub output_after_credit : Output → Output
@@ -73,7 +76,10 @@ output_after_release output = record output { holder = Free }
 
 abbrev pub output_without_credit : Bool → Output → Option ℕ → Output
 output_without_credit last output None = if last then output_after_release output else output
-output_without_credit last output (Some n) = record output { holder = if last then Draining else output.holder; credit = Some (n - 1) }
+output_without_credit last output (Some n) = record output {
+  holder = if last then Draining else output.holder;
+  credit = Some (n - 1);
+}
 
 -- an output channel after a flit has left by it, the tail or another
 abbrev pub output_after_spend : Bool → Output → Output

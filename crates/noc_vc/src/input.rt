@@ -1,13 +1,9 @@
 //! Input virtual channels (Dally and Towles, chapter 16).
-//!
-//! `land_from` compares a flit where it stands and copies it whole; given by value, as `land` takes
-//! it, its fields and the gaps between them move one by one. Where the awaited flit lands, only the
-//! index of the next one is written.
 
-ghost use Rattle.std.specs.Prelude.{◌≡◌, ◌⊎◌, ◌<◌, ◌∷◌, IsTrue, IsSome, length, is_ok, true, if◌then◌else◌};
+ghost use Rattle.std.specs.Prelude.{◌≡◌, ◌<◌, ◌∷◌, IsTrue, IsSome, length, is_ok, if◌then◌else◌};
 ghost use Rattle.noc_topo.specs.Shape.{nodes, ports};
 ghost use Rattle.noc_ring.specs.Buffers.{buffer_at, buffers_after_push, buffers_after_pop};
-ghost use Rattle.noc_vc.specs.Input.{idle_input, is_idle_phase, is_waiting, is_active, is_awaited, next_of, is_expected, may_begin, fits, input_after_land, input_after_route, input_after_grant, input_after_send, IsInput};
+ghost use Rattle.noc_vc.specs.Input.{idle_input, is_waiting, is_active, next_of, is_expected, may_begin, fits, input_after_land, input_after_route, input_after_grant, input_after_send, IsInput};
 
 use crate::misfit::Misfit;
 use noc_packet::{ChannelSet, Flit, MAX_LENGTH};
@@ -50,9 +46,11 @@ impl Model for InputChannel {
 
     ghost view = { λ c. record { phase = c.state; packet = c.packet; awaited = c.awaited } };
 
-    ghost invariant = { λ c. IsInput (record { phase = c.state; packet = c.packet; awaited = c.awaited }) };
+    ghost invariant = { λ c. IsInput
+        (record { phase = c.state; packet = c.packet; awaited = c.awaited }) };
 
-    ghost inverse = { λ input. record { state = input.phase; packet = input.packet; awaited = input.awaited } };
+    ghost inverse = { λ input. record
+        { state = input.phase; packet = input.packet; awaited = input.awaited } };
 }
 
 // Whether a flit is a head that may begin on this channel of the router.
@@ -128,7 +126,8 @@ impl InputChannel {
         requires router { router < nodes relation.now.grid }
         requires port { port < ports relation.now.grid }
         requires vc { vc < relation.now.vcs }
-        ensures { result ≡ is_expected relation.now router port vc (buffer_at bank.now ring) self.now flit.now self.now.phase }
+        ensures { result ≡ is_expected relation.now router port vc (buffer_at bank.now ring)
+            self.now flit.now self.now.phase }
     {
         if let InputState::Idle = self.state {
             return bank.len(ring) == 0 && may_begin(relation, router, port, vc, flit);
@@ -165,20 +164,6 @@ impl InputChannel {
         self.awaited = next_of(flit);
     }
 
-    // A flit has landed: a head in an idle channel, or the one that was awaited.
-    fn follow(&mut self, flit: &Flit)
-        requires { is_idle_phase self.old.phase ≡ true ⊎ is_awaited flit.now self.old.awaited ≡ true }
-        ensures { self.new ≡ input_after_land self.old flit.now }
-    {
-        if let InputState::Idle = self.state {
-            self.begin(flit);
-        } else if flit.last {
-            self.awaited = None;
-        } else if let Some(awaited) = &mut self.awaited {
-            awaited.index += 1;
-        }
-    }
-
     /// A flit comes to this virtual channel of this input port of the router, whose flits are in
     /// this ring of the bank. Where the ring is not full and the flit is the one that is expected,
     /// it lands. Any other flit is a misfit and changes nothing.
@@ -201,37 +186,18 @@ impl InputChannel {
         requires router { router < nodes relation.now.grid }
         requires port { port < ports relation.now.grid }
         requires vc { vc < relation.now.vcs }
-        ensures fits { is_ok result ≡ fits relation.now router port vc bank.old.capacity (buffer_at bank.old ring) self.old flit }
-        ensures channel { self.new ≡ (if is_ok result then input_after_land self.old flit else self.old) }
-        ensures bank { bank.new ≡ (if is_ok result then buffers_after_push bank.old ring flit else bank.old) }
+        ensures fits { is_ok result ≡ fits relation.now router port vc bank.old.capacity
+            (buffer_at bank.old ring) self.old flit }
+        ensures channel { self.new
+            ≡ (if is_ok result then input_after_land self.old flit else self.old) }
+        ensures bank { bank.new
+            ≡ (if is_ok result then buffers_after_push bank.old ring flit else bank.old) }
     {
-        self.land_from(bank, ring, relation, router, port, vc, &flit)
-    }
-
-    /// `land`, of a flit that stands elsewhere: it is compared where it stands, and copied whole.
-    pub fn land_from(
-        &mut self,
-        bank: &mut Bank,
-        ring: usize,
-        relation: &Relation,
-        router: usize,
-        port: usize,
-        vc: usize,
-        flit: &Flit,
-    ) -> Result<(), Misfit>
-        requires ring { ring < length bank.old.rings }
-        requires router { router < nodes relation.now.grid }
-        requires port { port < ports relation.now.grid }
-        requires vc { vc < relation.now.vcs }
-        ensures fits { is_ok result ≡ fits relation.now router port vc bank.old.capacity (buffer_at bank.old ring) self.old flit.now }
-        ensures channel { self.new ≡ (if is_ok result then input_after_land self.old flit.now else self.old) }
-        ensures bank { bank.new ≡ (if is_ok result then buffers_after_push bank.old ring flit.now else bank.old) }
-    {
-        if bank.is_full(ring) || !self.expects(bank, ring, relation, router, port, vc, flit) {
+        if bank.is_full(ring) || !self.expects(bank, ring, relation, router, port, vc, &flit) {
             return Err(Misfit);
         }
-        bank.push(ring, *flit);
-        self.follow(flit);
+        bank.push(ring, flit);
+        self.begin(&flit);
         Ok(())
     }
 

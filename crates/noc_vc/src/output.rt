@@ -34,7 +34,8 @@ impl Model for OutputChannel {
 
     ghost view = { λ c. record { holder = c.state; credit = c.credit; depth = c.depth } };
 
-    ghost invariant = { λ c. IsOutput (record { holder = c.state; credit = c.credit; depth = c.depth }) };
+    ghost invariant = { λ c. IsOutput
+        (record { holder = c.state; credit = c.credit; depth = c.depth }) };
 
     ghost inverse = { λ o. record { state = o.holder; credit = o.credit; depth = o.depth } };
 }
@@ -90,7 +91,8 @@ impl OutputChannel {
     /// (Dally and Towles, chapter 13).
     pub fn credit_back(&mut self) -> Result<(), Misfit>
         ensures fits { is_ok result ≡ credit_fits self.old }
-        ensures channel { self.new ≡ (if is_ok result then output_after_credit self.old else self.old) }
+        ensures channel { self.new
+            ≡ (if is_ok result then output_after_credit self.old else self.old) }
     {
         let Some(count) = self.credit else {
             return Err(Misfit);

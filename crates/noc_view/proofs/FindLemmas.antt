@@ -5,7 +5,7 @@ use Rattle.std.specs.List.{range_with_len}
 use Rattle.std.proofs.lemmas.Bool.{cases_eq, and_parts}
 use Rattle.noc_topo.specs.Lists.{below}
 use Rattle.noc_packet.specs.Set.{has_bit, in_both, IsLeast}
-use Rattle.noc_alloc.specs.Sparse.{AreBelow}
+use Rattle.noc_alloc.specs.Members.{MembersAreBelow}
 
 in_range-none : (p : ℕ → Bool) (n a : ℕ) → ((k : ℕ) → a ≤ k → k < a + n → p k ≡ false) → find p (range_with_len a n) ≡ None
 in_range-none p zero a h = refl
@@ -69,7 +69,7 @@ unfolding below
 find-below p n x l e h = in_range-first p n 0 x (omega arith) (omega arith) e h
 
 -- the least number that is in two sets, of which the second says below n what a test says
-pub find-least : (n set other : ℕ) (p : ℕ → Bool) (r : Option ℕ) → IsLeast (in_both set other) r → AreBelow n other
+pub find-least : (n set other : ℕ) (p : ℕ → Bool) (r : Option ℕ) → IsLeast (in_both set other) r → MembersAreBelow n other
     → ((k : ℕ) → k < n → has_bit other k ≡ p k) → r ≡ find (λ k. has_bit set k && p k) (below n)
 find-least n set other p None least all same =
     sym (find-none (λ k. has_bit set k && p k) n (λ k l. ap (λ b. has_bit set k && b) (sym (same k l)) ∙ least k))

@@ -10,5 +10,6 @@ pub mod StepExamples
 pub mod StillLemmas
 pub mod VacantLemmas
 pub mod VerdictExamples
+pub mod VerdictOfSetLemmas
 pub mod VerdictOrderLemmas
 pub mod VerdictSetLemmas

@@ -8,8 +8,11 @@ is_expected_in p ends = list_any (λ (one : ℕ × Option ℕ). nat_eq one.0 p &
 
 -- a packet has arrived in this cycle
 abbrev pub arrivals_after : ℕ → ℕ → List (ℕ × Option ℕ) → List (ℕ × Option ℕ)
-arrivals_after p cycle ends = map (λ (one : ℕ × Option ℕ). (one.0, if nat_eq one.0 p then Some cycle else one.1)) ends
+arrivals_after p cycle ends =
+    map (λ (one : ℕ × Option ℕ). (one.0, if nat_eq one.0 p then Some cycle else one.1)) ends
 
 -- the cycle in which the tail of a packet was out
 abbrev pub noted_arrival : ℕ → List (ℕ × Option ℕ) → Option ℕ
-noted_arrival p ends = option_and_then (λ (one : ℕ × Option ℕ). one.1) (find (λ (one : ℕ × Option ℕ). nat_eq one.0 p) ends)
+noted_arrival p ends =
+    option_and_then (λ (one : ℕ × Option ℕ). one.1)
+    (find (λ (one : ℕ × Option ℕ). nat_eq one.0 p) ends)

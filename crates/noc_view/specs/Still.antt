@@ -11,7 +11,8 @@ use Rattle.noc_view.specs.declared.finding.Finding.{Finding}
 
 -- whether a verdict takes effect
 abbrev pub takes_effect : Routes → View → Bool
-takes_effect relation v = list_any (λ (finding : Finding). is_event finding.verdict) (decisions_of relation v).findings
+takes_effect relation v =
+    list_any (λ (finding : Finding). is_event finding.verdict) (decisions_of relation v).findings
 
 -- nothing is injected before this cycle
 abbrev pub IsHeldBefore : ℕ → View → Type 0
@@ -26,6 +27,7 @@ counted_times (suc k) verdict counts = counts_after verdict (counted_times k ver
 -- verdicts are the same in each of them
 unfoldable pub view_after_waiting : Routes → ℕ → ℕ → View → View
 view_after_waiting relation cycles last v = record v {
-  counts = map_indexed (λ i counts. counted_times cycles (decided_verdict (decisions_of relation v) i) counts) v.counts;
+  counts = map_indexed (λ i counts. counted_times cycles
+      (decided_verdict (decisions_of relation v) i) counts) v.counts;
   given = last;
 }

@@ -74,7 +74,8 @@ round_of ports vcs stands arbiters =
     let ready = ready_of vcs stands in
     let picks = tabulate ports (pick_of ready vcs (pointers_of arbiters.inputs)) in
     record {
-      grants = tabulate (ports * vcs) (grant_of (asks_of stands) (ports * vcs) (pointers_of arbiters.channels));
+      grants = tabulate (ports * vcs)
+          (grant_of (asks_of stands) (ports * vcs) (pointers_of arbiters.channels));
       picks = picks;
       wins = tabulate ports (winner_of ready vcs ports picks (pointers_of arbiters.outputs));
     }
@@ -85,12 +86,14 @@ abbrev pub verdict_of : ℕ → Round → ℕ → Claim → Bool → Verdict
 verdict_of vcs round i Unrouted false = Empty
 verdict_of vcs round i Unrouted true = Routed
 verdict_of vcs round i (Waits None) has_flit = NoIdleChannel
-verdict_of vcs round i (Waits (Some o)) has_flit = if is_some_of (slice_index_or round.grants o None) i then Granted else LostChannel
+verdict_of vcs round i (Waits (Some o)) has_flit =
+    if is_some_of (slice_index_or round.grants o None) i then Granted else LostChannel
 verdict_of vcs round i (Holds o credit) false = NoFlit
 verdict_of vcs round i (Holds o false) true = NoCredit
 verdict_of vcs round i (Holds o true) true =
     if is_some_of (slice_index_or round.picks (i / vcs) None) (i % vcs)
-    then (if is_some_of (slice_index_or round.wins (o / vcs) None) (i / vcs) then Moved else LostSwitch)
+    then (if is_some_of (slice_index_or round.wins (o / vcs) None) (i / vcs) then Moved
+    else LostSwitch)
     else LostInput
 
 -- the verdict by which a head is routed

@@ -1,5 +1,5 @@
 -- The verdict of an input channel, by the sets of those that have each verdict.
-use Rattle.std.specs.Prelude.{ℕ, ◌+◌, if◌then◌else◌}
+use Rattle.std.specs.Prelude.{◌≡◌, ℕ, ◌+◌, IsTrue, if◌then◌else◌}
 use Rattle.noc_packet.specs.Set.{has_bit}
 use Rattle.noc_topo.specs.Lists.{one_if}
 use Rattle.noc_view.specs.declared.sets.VerdictSets.{VerdictSets}
@@ -23,5 +23,20 @@ verdict_by sets i =
 -- in how many of the sets channel i is
 abbrev pub sets_with : VerdictSets → ℕ → ℕ
 sets_with sets i =
-    one_if (has_bit sets.moved i) + one_if (has_bit sets.granted i) + one_if (has_bit sets.routed i) + one_if (has_bit sets.no_flit i) + one_if (has_bit sets.no_idle_channel i)
-    + one_if (has_bit sets.lost_channel i) + one_if (has_bit sets.no_credit i) + one_if (has_bit sets.lost_input i) + one_if (has_bit sets.lost_switch i)
+    one_if (has_bit sets.moved i) + one_if (has_bit sets.granted i) + one_if (has_bit sets.routed i)
+    + one_if (has_bit sets.no_flit i) + one_if (has_bit sets.no_idle_channel i)
+    + one_if (has_bit sets.lost_channel i) + one_if (has_bit sets.no_credit i)
+    + one_if (has_bit sets.lost_input i) + one_if (has_bit sets.lost_switch i)
+
+-- channel i has the verdict in whose set it is, and Empty where it is in none of them
+abbrev pub HasVerdict : VerdictSets → ℕ → Verdict → Type 0
+HasVerdict sets i Empty = sets_with sets i ≡ 0
+HasVerdict sets i Routed = IsTrue (has_bit sets.routed i)
+HasVerdict sets i Granted = IsTrue (has_bit sets.granted i)
+HasVerdict sets i Moved = IsTrue (has_bit sets.moved i)
+HasVerdict sets i NoFlit = IsTrue (has_bit sets.no_flit i)
+HasVerdict sets i NoIdleChannel = IsTrue (has_bit sets.no_idle_channel i)
+HasVerdict sets i LostChannel = IsTrue (has_bit sets.lost_channel i)
+HasVerdict sets i NoCredit = IsTrue (has_bit sets.no_credit i)
+HasVerdict sets i LostInput = IsTrue (has_bit sets.lost_input i)
+HasVerdict sets i LostSwitch = IsTrue (has_bit sets.lost_switch i)

@@ -1,6 +1,6 @@
 -- What one router can see, and one cycle of it over any beats (docs/MODEL.md, "One router"; Dally
 -- and Towles, chapter 16).
-use Rattle.std.specs.Prelude.{◌≡◌, ℕ, ◌+◌, ◌-◌, ◌*◌, ◌/◌, ◌%◌, ◌^◌, Bool, true, false, ◌&&◌, ◌||◌, not, List, [], ◌∷◌, ◌++◌, map, drop, find, sum, length, Option, Some, None, option_map, option_and_then, is_some, unwrap_or, slice_get, slice_index, slice_index_or, slice_set, min, nat_lt, nat_le, if◌then◌else◌, replicate, is_none}
+use Rattle.std.specs.Prelude.{◌≡◌, ℕ, ◌+◌, ◌-◌, ◌*◌, ◌/◌, ◌%◌, ◌^◌, Bool, true, false, ◌&&◌, ◌||◌, not, List, [], ◌∷◌, ◌++◌, map, drop, find, sum, length, Option, Some, None, option_map, option_and_then, is_some, unwrap_or, slice_get, slice_index, slice_index_or, slice_set, min, nat_lt, nat_le, if◌then◌else◌, replicate}
 use Rattle.std.specs.List.{list_any}
 use Rattle.noc_topo.specs.Lists.{below, tabulate, map_indexed, is_some_of}
 use Rattle.noc_topo.specs.Shape.{Grid, ports, local_port, neighbour}
@@ -69,10 +69,6 @@ has_link site port = is_some (neighbour site.grid site.node port)
 abbrev pub idle_beat : Beat
 idle_beat = record { flit = None; credit = None }
 
--- whether a beat carries nothing
-abbrev pub is_idle_beat : Beat → Bool
-is_idle_beat beat = is_none beat.flit && is_none beat.credit
-
 -- one for each link port
 abbrev pub idle_beats : Site → List Beat
 idle_beats site = replicate (local_port site.grid) idle_beat
@@ -112,7 +108,8 @@ abbrev pub with_flit : Routes → ℕ → Option (ℕ × Flit) → View → View
 with_flit relation port None v = v
 with_flit relation port (Some (vc, f)) v =
     let i = port * v.site.vcs + vc in
-    if has_link v.site port && nat_lt vc v.site.vcs && fits relation v.site.node port vc v.site.depth (view_buffer v i) (view_input v i) f
+    if has_link v.site port && nat_lt vc v.site.vcs
+    && fits relation v.site.node port vc v.site.depth (view_buffer v i) (view_input v i) f
     then with_landed i f v
     else with_misfit v
 
@@ -122,17 +119,22 @@ with_credit port None v = v
 with_credit port (Some vc) v =
     let o = port * v.site.vcs + vc in
     if has_link v.site port && nat_lt vc v.site.vcs && credit_fits (view_output v o)
-    then record v { outputs = slice_set v.outputs o (output_after_credit (view_output v o)); had_event = true }
+    then record v {
+      outputs = slice_set v.outputs o (output_after_credit (view_output v o));
+      had_event = true;
+    }
     else with_misfit v
 
 -- after `take`: the flit and the credit of a beat, each by itself
 unfoldable pub view_after_take : Routes → ℕ → Beat → View → View
-view_after_take relation port beat v = with_credit port beat.credit (with_flit relation port beat.flit v)
+view_after_take relation port beat v =
+    with_credit port beat.credit (with_flit relation port beat.flit v)
 
 -- after a `take` of each beat, at this port and those behind it
 abbrev pub view_after_takes_from : Routes → ℕ → List Beat → View → View
 view_after_takes_from relation port [] v = v
-view_after_takes_from relation port (beat ∷ beats) v = view_after_takes_from relation (port + 1) beats (view_after_take relation port beat v)
+view_after_takes_from relation port (beat ∷ beats) v =
+    view_after_takes_from relation (port + 1) beats (view_after_take relation port beat v)
 
 -- after a `take` at each link port, from port 0 on
 unfoldable pub view_after_takes : Routes → List Beat → View → View
@@ -155,7 +157,9 @@ with_injected vc index packet p rest v =
 
 -- whether local virtual channel vc is idle and has an empty buffer
 abbrev pub is_vacant : View → ℕ → Bool
-is_vacant v vc = is_idle_phase (view_input v (local_channel v.site vc)).phase && is_empty (view_buffer v (local_channel v.site vc))
+is_vacant v vc =
+    is_idle_phase (view_input v (local_channel v.site vc)).phase
+    && is_empty (view_buffer v (local_channel v.site vc))
 
 -- the first packet begins on this local virtual channel, if there is one
 abbrev pub begun_on : Option ℕ → ℕ → Packet → List (ℕ × Packet) → View → View
@@ -167,7 +171,8 @@ begun_on (Some vc) packet p rest v = with_injected vc 0 packet p rest v
 abbrev pub view_after_inject_from : ℕ → List (ℕ × Packet) → Option (ℕ × ℕ) → View → View
 view_after_inject_from n [] sending v = v
 view_after_inject_from n ((packet, p) ∷ rest) (Some (vc, index)) v =
-    if nat_lt (length (view_buffer v (local_channel v.site vc))) v.site.depth then with_injected vc index packet p rest v else v
+    if nat_lt (length (view_buffer v (local_channel v.site vc))) v.site.depth
+    then with_injected vc index packet p rest v else v
 view_after_inject_from n ((packet, p) ∷ rest) None v =
     if nat_le p.due n then begun_on (find (is_vacant v) (below v.site.vcs)) packet p rest v else v
 
@@ -179,7 +184,8 @@ view_after_inject n v = view_after_inject_from n v.queue v.sending (record v { g
 
 -- the idle output channel of a set with the least index
 abbrev pub asked_for : View → ℕ → Option ℕ
-asked_for v set = find (λ o. has_bit set o && is_free (view_output v o).holder) (below (size_of v.site))
+asked_for v set =
+    find (λ o. has_bit set o && is_free (view_output v o).holder) (below (size_of v.site))
 
 -- what an input channel in this state can go on with
 abbrev pub claim_in : View → InputState → Claim
@@ -219,7 +225,8 @@ finding_of round v i = record {
 -- the set that the relation permits to a head in input channel i
 abbrev pub route_for : Routes → View → ℕ → Option Flit → ℕ
 route_for relation v i None = 0
-route_for relation v i (Some f) = set_at relation f.class v.site.node (i / v.site.vcs) (i % v.site.vcs) f.dst
+route_for relation v i (Some f) =
+    set_at relation f.class v.site.node (i / v.site.vcs) (i % v.site.vcs) f.dst
 
 -- the first flit in the buffer of input channel i
 abbrev pub first_flit : View → ℕ → Option Flit
@@ -228,7 +235,8 @@ first_flit v i = slice_get (view_buffer v i) 0
 -- the set to which the head of input channel i is routed, where the channel is idle and holds one,
 -- and else 0
 abbrev pub route_of : Routes → View → ℕ → ℕ
-route_of relation v i = if is_idle_phase (view_input v i).phase then route_for relation v i (first_flit v i) else 0
+route_of relation v i =
+    if is_idle_phase (view_input v i).phase then route_for relation v i (first_flit v i) else 0
 
 -- after `plan`
 unfoldable pub decisions_of : Routes → View → Decisions
@@ -257,7 +265,8 @@ plan_contents relation v = record {
 
 -- the verdict of input channel i
 abbrev pub decided_verdict : Decisions → ℕ → Verdict
-decided_verdict d i = slice_index_or (map (λ (finding : Finding). finding.verdict) d.findings) i Empty
+decided_verdict d i =
+    slice_index_or (map (λ (finding : Finding). finding.verdict) d.findings) i Empty
 
 -- an input channel that was granted what it asked for
 abbrev pub granted_to : Input → Option ℕ → Input
@@ -282,11 +291,15 @@ buffer_after flits verdict = if is_moved verdict then drop 1 flits else flits
 
 -- the input channel that moves a flit through an output port
 abbrev pub mover : Site → Round → ℕ → Option ℕ
-mover site round port = option_and_then (λ q. option_map (λ vc. q * site.vcs + vc) (slice_index_or round.picks q None)) (slice_index_or round.wins port None)
+mover site round port =
+    option_and_then (λ q. option_map (λ vc. q * site.vcs + vc) (slice_index_or round.picks q None))
+    (slice_index_or round.wins port None)
 
 -- the input channel that moves a flit to output channel o
 abbrev pub mover_to : View → Round → ℕ → Option ℕ
-mover_to v round o = option_and_then (λ i. if is_some_of (out_of (view_claim v i)) o then Some i else None) (mover v.site round (o / v.site.vcs))
+mover_to v round o =
+    option_and_then (λ i. if is_some_of (out_of (view_claim v i)) o then Some i else None)
+    (mover v.site round (o / v.site.vcs))
 
 -- an output channel that was granted to the packet of an input channel
 abbrev pub held_by : View → Output → Option ℕ → Output
@@ -306,12 +319,14 @@ spent_by v output (Some i) = output_after_spend (is_tail (first_flit v i)) outpu
 -- an output channel is owned by the packet that it was granted to, and has lost the credit of a
 -- flit that left by it
 abbrev pub output_after : View → Round → ℕ → Output → Output
-output_after v round o output = spent_by v (held_by v output (slice_index_or round.grants o None)) (mover_to v round o)
+output_after v round o output =
+    spent_by v (held_by v output (slice_index_or round.grants o None)) (mover_to v round o)
 
 -- the virtual channel and the flit that leave by an output port
 abbrev pub flit_out : View → Round → ℕ → Option (ℕ × Flit)
 flit_out v round port =
-    option_and_then (λ i. option_and_then (λ o. option_map (λ f. (o % v.site.vcs, f)) (first_flit v i)) (out_of (view_claim v i)))
+    option_and_then (λ i. option_and_then
+    (λ o. option_map (λ f. (o % v.site.vcs, f)) (first_flit v i)) (out_of (view_claim v i)))
     (mover v.site round port)
 
 -- the beat for a link port: the flit that leaves by it, and the credit of the flit that leaves one
@@ -348,17 +363,18 @@ has_event d v = v.had_event || list_any (λ (finding : Finding). is_event findin
 
 -- after `commit`, with the decisions of this very view
 unfoldable pub view_after_commit : Decisions → View → View
-view_after_commit d v = with_arrival (tail_packet (flit_out v d.round (local_port v.site.grid))) (record v {
-  buffers = map_indexed (λ i flits. buffer_after flits (decided_verdict d i)) v.buffers;
-  inputs = map_indexed (λ i input. input_after d v i input (decided_verdict d i)) v.inputs;
-  outputs = map_indexed (output_after v d.round) v.outputs;
-  arbiters = arbiters_after d.round v.arbiters;
-  last_event = if has_event d v then Some v.given else v.last_event;
-  counts = map_indexed (λ i counts. counts_after (decided_verdict d i) counts) v.counts;
-  findings = d.findings;
-  had_event = false;
-  to_put = tabulate (local_port v.site.grid) (beat_out d v);
-})
+view_after_commit d v =
+    with_arrival (tail_packet (flit_out v d.round (local_port v.site.grid))) (record v {
+      buffers = map_indexed (λ i flits. buffer_after flits (decided_verdict d i)) v.buffers;
+      inputs = map_indexed (λ i input. input_after d v i input (decided_verdict d i)) v.inputs;
+      outputs = map_indexed (output_after v d.round) v.outputs;
+      arbiters = arbiters_after d.round v.arbiters;
+      last_event = if has_event d v then Some v.given else v.last_event;
+      counts = map_indexed (λ i counts. counts_after (decided_verdict d i) counts) v.counts;
+      findings = d.findings;
+      had_event = false;
+      to_put = tabulate (local_port v.site.grid) (beat_out d v);
+    })
 
 -- ---- beats are put
 
@@ -386,7 +402,8 @@ opening_view site starts ends = record {
   site = site;
   buffers = replicate (size_of site) [];
   inputs = replicate (size_of site) idle_input;
-  outputs = replicate (local_port site.grid * site.vcs) (link_output site.depth) ++ replicate site.vcs ejection_output;
+  outputs = replicate (local_port site.grid * site.vcs) (link_output site.depth)
+      ++ replicate site.vcs ejection_output;
   arbiters = opening_arbiters (ports site.grid) site.vcs;
   queue = starts;
   sending = None;

@@ -1,9 +1,10 @@
 //! The input channels of a router as sets: by what they can go on with, and by their verdicts.
 
-ghost use Rattle.std.specs.Prelude.{◌≡◌, ℕ, ◌<◌};
+ghost use Rattle.std.specs.Prelude.{◌≡◌, ℕ, ◌<◌, ◌≤◌};
 ghost use Rattle.noc_packet.specs.declared.limits.TheConstants.{INDICES};
-ghost use Rattle.noc_view.specs.VerdictSets.{sets_with, verdict_by};
-ghost use Rattle.noc_view.specs.declared.verdict.Verdict.TheVariants.{Empty};
+ghost use Rattle.noc_view.specs.VerdictSets.{HasVerdict, sets_with, verdict_by};
+ghost use Rattle.noc_view.specs.declared.sets.VerdictSets.{VerdictSets as TheSets};
+ghost use Rattle.noc_view.specs.declared.verdict.Verdict.{Verdict as TheVerdict};
 
 use crate::verdict::Verdict;
 use noc_packet::ChannelSet;
@@ -42,25 +43,6 @@ pub struct VerdictSets {
 }
 
 impl VerdictSets {
-    /// Every channel has the verdict Empty.
-    pub fn none() -> VerdictSets
-        ensures verdicts { (k : ℕ) → verdict_by result k ≡ Empty }
-        ensures sets { (k : ℕ) → sets_with result k ≡ 0 }
-    {
-        let none = ChannelSet::empty();
-        VerdictSets {
-            routed: none,
-            granted: none,
-            moved: none,
-            no_flit: none,
-            no_idle_channel: none,
-            lost_channel: none,
-            no_credit: none,
-            lost_input: none,
-            lost_switch: none,
-        }
-    }
-
     /// The verdict of a channel, 0 to 55.
     pub fn verdict(&self, index: usize) -> Verdict
         requires { index < INDICES }
@@ -89,3 +71,12 @@ impl VerdictSets {
         }
     }
 }
+
+/// A channel has the verdict of the set that it is in, and Empty where it is in none. Where it is
+/// in one set at most, as in those of a plan, it has no other verdict, so it makes no difference in
+/// which order `VerdictSets::verdict` looks.
+pub fn a_channel_has_the_verdict_of_its_set()
+    ensures has { (sets : TheSets) (i : ℕ) → HasVerdict sets i (verdict_by sets i) }
+    ensures only { (sets : TheSets) (i : ℕ) (verdict : TheVerdict) → sets_with sets i ≤ 1
+        → HasVerdict sets i verdict → verdict_by sets i ≡ verdict }
+{}

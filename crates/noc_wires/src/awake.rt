@@ -1,6 +1,6 @@
 //! Which blocks take part in a cycle.
 
-ghost use Rattle.std.specs.Prelude.{◌≡◌, ℕ, ◌<◌, ◌≤◌, Some, ◌&&◌, length, nat_eq, nat_le};
+ghost use Rattle.std.specs.Prelude.{◌≡◌, ℕ, ◌<◌, ◌≤◌, Some, ◌&&◌, length, nat_eq, nat_le, ⊤};
 ghost use Rattle.noc_packet.specs.Set.{has_bit};
 ghost use Rattle.noc_wires.specs.Waking.{IsNextCycle, is_awake, is_awake_by, is_reached};
 
@@ -8,17 +8,28 @@ use noc_blocks::NEVER;
 use noc_lanes::{LANES, Word};
 use noc_packet::MAX_NODES;
 use noc_turns::Outlook;
+use std::alloc::AllocError;
 
 /// How many blocks a network has at most.
 pub const BLOCKS: usize = MAX_NODES / LANES;
 
 /// Which blocks take part in a cycle.
-#[derive(Clone, Copy)]
+#[derive(Copy)]
 pub struct Waking {
     /// The blocks that do.
     pub awake: u32,
     /// The first cycle from this one on in which one does.
     pub next: u32,
+}
+
+impl Clone for Waking {
+    ghost is_clone = { λ x y. y ≡ x };
+
+    ghost is_infallible = { λ _. ⊤ };
+
+    fn clone(&self) -> Result<Waking, AllocError> {
+        Ok(*self)
+    }
 }
 
 /// The blocks that take part in a cycle, by what is known of each after the cycle before, and by
@@ -55,7 +66,7 @@ fn reached_by(outlooks: &[Outlook], near: &[u32]) -> u32
     reached
 }
 
-// .. from one of them.
+// The blocks to which links lead from one block, if a flit has moved in it.
 #[inline(always)]
 fn reached_from(outlook: Outlook, near: u32) -> u32
     ensures { (b : ℕ) → has_bit result b ≡ (outlook.moves && has_bit near b) }

@@ -1,6 +1,6 @@
 //! What has left all routers in the last cycle.
 
-ghost use Rattle.std.specs.Prelude.{◌≡◌, ◌≢◌, ◌⊎◌, ℕ, ◌+◌, ◌-◌, ◌*◌, ◌/◌, ◌%◌, ◌<◌, ◌≤◌, map, slice_index};
+ghost use Rattle.std.specs.Prelude.{◌≡◌, ◌≢◌, ◌⊎◌, ℕ, ◌+◌, ◌-◌, ◌*◌, ◌/◌, ◌%◌, ◌<◌, ◌≤◌, map, slice_index, ⊤};
 ghost use Rattle.noc_topo.specs.Shape.{Grid, IsGrid, nodes, ports};
 ghost use Rattle.noc_lanes.specs.Channels.{links_by};
 ghost use Rattle.noc_lanes.specs.Lanes.{word};
@@ -11,6 +11,7 @@ ghost use Rattle.noc_blocks.specs.Sides.{AreSides, FitsRow};
 use crate::awake::BLOCKS;
 use noc_blocks::{Frame, ROOM, ROW, Sides, entry, gather, put_row};
 use noc_lanes::{LANES, Lanes, Links, Word, alike, put};
+use std::alloc::AllocError;
 
 /// How many routers tell of themselves together where others run elsewhere: a share of a block.
 /// Few are less to move from one processor to another.
@@ -21,11 +22,21 @@ pub const PARTS: usize = LANES / SHARE;
 
 /// By router, what has left it: the words of the routers stand one after the other, behind some
 /// room.
-#[derive(Clone, Copy)]
+#[derive(Copy)]
 pub struct Left<W: Word> {
     // Output channels by which a flit has left, those by which a tail has, and input channels that
     // a flit has left.
     words: Links<[W; ROW]>,
+}
+
+impl<W: Word + Copy> Clone for Left<W> {
+    ghost is_clone = { λ x y. y ≡ x };
+
+    ghost is_infallible = { λ _. ⊤ };
+
+    fn clone(&self) -> Result<Left<W>, AllocError> {
+        Ok(*self)
+    }
 }
 
 impl<W: Word> Left<W> {

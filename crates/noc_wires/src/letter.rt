@@ -149,7 +149,7 @@ impl<W: Word> Letter<W> {
         self.telling |= 1 << lane as u32;
     }
 
-    // .. behind the pointer.
+    // The packets that are granted channels in one router are written behind the pointer.
     fn write_told(&mut self, lane: usize, marks: &Marks<W>, granted: W)
         requires lane { lane < SHARE }
         requires tells { (size : ℕ) × (tells : ℕ → Option ℕ)
@@ -313,7 +313,7 @@ pub fn hear<W: Word>(
     }
 }
 
-// .. of the links of one router.
+// The packets of which a letter tells are noted at the other ends of the links of one router.
 fn hear_router<W: Word>(
     pattern: &Pattern<W>,
     sides: &[Sides<Lanes<W>>],

@@ -42,7 +42,7 @@ pub fn tell<W: Word>(
     }
 }
 
-// .. of one block.
+// The numbers of the packets that are granted channels in one block are told.
 fn tell_block<W: Word>(
     pattern: &Pattern<W>,
     sides: &[Sides<Lanes<W>>],
@@ -69,7 +69,7 @@ fn tell_block<W: Word>(
     }
 }
 
-// .. of one router.
+// The numbers of the packets that are granted channels in one router are told.
 fn tell_router<W: Word>(
     pattern: &Pattern<W>,
     sides: &[Sides<Lanes<W>>],
@@ -90,7 +90,7 @@ fn tell_router<W: Word>(
     }
 }
 
-// .. of one input channel.
+// The number of the packet of one input channel, which is granted an output channel, is told.
 fn tell_one<W: Word>(
     pattern: &Pattern<W>,
     sides: &[Sides<Lanes<W>>],
@@ -151,7 +151,7 @@ fn packet_held<W: Word>(states: &[State<W>], router: usize, input: usize) -> u32
     packet_of(&state.marks, router % LANES, input)
 }
 
-// .. of a router of a block.
+// The number of the packet that holds an input channel, of a router of a block.
 #[inline(always)]
 fn packet_of<W: Word>(marks: &[Marks<W>; LANES], lane: usize, input: usize) -> u32
     requires lane { lane < LANES }
@@ -173,7 +173,7 @@ fn channel_taken<W: Word>(states: &[State<W>], router: usize, input: usize) -> W
     taken_of(&state.marks, router % LANES, input)
 }
 
-// .. of a router of a block.
+// The output channel that an input channel has taken, as a set, of a router of a block.
 #[inline(always)]
 fn taken_of<W: Word>(marks: &[Marks<W>; LANES], lane: usize, input: usize) -> W
     requires lane { lane < LANES }
@@ -196,7 +196,7 @@ fn note<W: Word>(states: &mut [State<W>], router: usize, channel: usize, packet:
     note_in(&mut state.marks, router % LANES, channel, packet);
 }
 
-// .. of a router of a block.
+// The number of the packet of an input channel is noted, of a router of a block.
 #[inline(always)]
 fn note_in<W: Word>(marks: &mut [Marks<W>; LANES], lane: usize, channel: usize, packet: u32)
     requires lane { lane < LANES }

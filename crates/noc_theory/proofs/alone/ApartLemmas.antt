@@ -5,7 +5,7 @@ use Rattle.std.specs.Prelude.{◌⊎◌}
 use Rattle.std.proofs.lemmas.Bool.{cases_lt}
 use Rattle.std.proofs.lemmas.Option.{same_Some}
 use Rattle.noc_theory.specs.Network.{Setup, Place, Source, On, In, Out, packet_at, place_of_flit, tail_place, out_cycle, arrival_in, state_at}
-use Rattle.noc_theory.specs.Good.{IsGoodSetup}
+use Rattle.noc_theory.specs.Good.{IsWellFormedSetup}
 use Rattle.noc_theory.specs.Alone.{IsAlone, IsApart}
 use Rattle.noc_theory.proofs.worms.BuiltLemmas.{good-built}
 use Rattle.noc_theory.proofs.worms.InjectionPhaseLemmas.{source-behind}
@@ -29,7 +29,7 @@ module _ (net : Setup) where
       let z : Some o.0 ≡ None = sym (arrival-stays n m q o.0 later o.1) ∙ none in
       cc z
 
-module _ (net : Setup) (good : IsGoodSetup net) (two : 2 ≤ net.depth) (p : ℕ) (low : p < length net.packets) where
+module _ (net : Setup) (good : IsWellFormedSetup net) (two : 2 ≤ net.depth) (p : ℕ) (low : p < length net.packets) where
   pub alone-in_time : IsAlone net p → (n : ℕ) → last_time net p < n → arrival_in net (state_at net n) p ≡ Some (last_time net p)
   alone-in_time alone = out-in_time net good two p low (λ n due early waits q l other now. alone n q due waits l other now)
 

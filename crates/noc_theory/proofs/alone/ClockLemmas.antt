@@ -9,7 +9,7 @@ use Rattle.noc_view.specs.declared.verdict.Verdict.{Verdict}
 use Rattle.noc_view.specs.declared.verdict.Verdict.TheVariants.{Routed, Granted, Moved}
 use Rattle.noc_theory.specs.Network.{Setup, State, Place, Source, On, In, Out, place_of_flit, landed_place, verdict_in, after_landing, after_credits, after_injection, after_verdicts, frozen_state, frozen_at, state_at}
 use Rattle.noc_theory.specs.Progress.{hops, head_place, allocations_left}
-use Rattle.noc_theory.specs.Good.{IsGoodSetup}
+use Rattle.noc_theory.specs.Good.{IsWellFormedSetup}
 use Rattle.noc_theory.proofs.worms.BuiltRecordLemmas.{IsBuilt}
 use Rattle.noc_theory.proofs.worms.BuiltLemmas.{good-built}
 use Rattle.noc_theory.proofs.worms.InjectionPhaseLemmas.{IsInjected}
@@ -62,7 +62,7 @@ module _ (net : Setup) (p : ℕ) where
   clock-same : (n a b : ℕ) (x : Place) → a ≡ b → IsOnClock n b x → IsOnClock n a x
   clock-same n a b x e t = subst (λ (k : ℕ). IsOnClock n k x) (sym e) t
 
-module _ (net : Setup) (good : IsGoodSetup net) (n p : ℕ) (low : p < length net.packets) where
+module _ (net : Setup) (good : IsWellFormedSetup net) (n p : ℕ) (low : p < length net.packets) where
   abbrev built : IsBuilt net
   built = good-built net good
 

@@ -8,7 +8,7 @@ use Rattle.noc_topo.specs.Shape.{distance, nodes}
 use Rattle.noc_route.specs.Channel.{Channel, Inject}
 use Rattle.noc_theory.specs.Network.{Setup, State, Located, Source, In, Out, Injection, packet_at, place_of_flit, tail_place, owner_of, owned_by, is_idle, is_at_source, flits_of, first_waiting, is_injection_of, injection_with, injection_at, injections, count_in, state_at}
 use Rattle.noc_theory.specs.Progress.{hops, head_place}
-use Rattle.noc_theory.specs.Good.{IsGoodSetup, IsValid}
+use Rattle.noc_theory.specs.Good.{IsWellFormedSetup, IsValid}
 use Rattle.noc_theory.proofs.worms.BuiltRecordLemmas.{IsBuilt}
 use Rattle.noc_theory.proofs.worms.BuiltLemmas.{good-built}
 use Rattle.noc_theory.proofs.worms.BufferLemmas.{find-passes}
@@ -32,17 +32,17 @@ use Rattle.noc_theory.proofs.alone.MoverLemmas.{few-in}
 use Rattle.noc_theory.proofs.alone.FollowLemmas.{out_time, InTime}
 
 -- an injection of p is among those of cycle n
-abbrev pub IsEntering : (net : Setup) → IsGoodSetup net → ℕ → ℕ → Type 0
+abbrev pub IsEntering : (net : Setup) → IsWellFormedSetup net → ℕ → ℕ → Type 0
 IsEntering net good n p = (one : Injection net) × Has one (injections net (mid_at net good n) n) × (one.packet ≡ p)
 
 -- such an injection is to a channel that ends at the source of p
-pub entry-far : (net : Setup) (good : IsGoodSetup net) (n p : ℕ) (one : Injection net) → Has one (injections net (mid_at net good n) n) → one.packet ≡ p → far_of net p one.channel ≡ hops net p
+pub entry-far : (net : Setup) (good : IsWellFormedSetup net) (n p : ℕ) (one : Injection net) → Has one (injections net (mid_at net good n) n) → one.packet ≡ p → far_of net p one.channel ≡ hops net p
 entry-far net good n p one h is_p =
     let whole = whole-mid_at net good n in
     let e = (entries-are net (good-built net good) (mid_at net good n) whole.sound.keyed whole.sound.worm n one h).1 in
     ap (far_of net p) e.channel ∙ ap (λ (x : ℕ). distance net.relation.grid x (goal net p)) (e.from ∙ ap (λ q. (packet_at net q).source) is_p)
 
-module _ (net : Setup) (good : IsGoodSetup net) (two : 2 ≤ net.depth) (n p : ℕ) (low : p < length net.packets) where
+module _ (net : Setup) (good : IsWellFormedSetup net) (two : 2 ≤ net.depth) (n p : ℕ) (low : p < length net.packets) where
   abbrev T : State
   T = mid_at net good n
 

@@ -6,7 +6,7 @@ use Rattle.noc_route.specs.Channel.{Channel}
 use Rattle.noc_view.specs.declared.verdict.Verdict.TheVariants.{Moved}
 use Rattle.noc_theory.specs.Network.{Setup, State, Place, Source, On, In, Out, packet_at, place_of_flit, next_channel, is_past, verdict_in, frozen_at}
 use Rattle.noc_theory.specs.Progress.{hops, head_place}
-use Rattle.noc_theory.specs.Good.{IsGoodSetup, IsValid}
+use Rattle.noc_theory.specs.Good.{IsWellFormedSetup, IsValid}
 use Rattle.noc_theory.proofs.worms.BuiltLemmas.{good-built}
 use Rattle.noc_theory.proofs.worms.MoveLemmas.{IsFirst, placed-in}
 use Rattle.noc_theory.proofs.worms.NextLemmas.{next-from}
@@ -32,7 +32,7 @@ module _ (net : Setup) (p : ℕ) where
   InTime n i (In c) = n + far_of net p c ≤ out_time i
   InTime n i (Out m) = m ≤ out_time i
 
-module _ (net : Setup) (good : IsGoodSetup net) (two : 2 ≤ net.depth) (n p : ℕ) (alone : OwnsAlone net p (frozen_at net n))
+module _ (net : Setup) (good : IsWellFormedSetup net) (two : 2 ≤ net.depth) (n p : ℕ) (alone : OwnsAlone net p (frozen_at net n))
     (times : (i : ℕ) → IsValid net p i → InTime net p n i (place_of_flit net (frozen_at net n) p i)) where
   abbrev F : State
   F = frozen_at net n

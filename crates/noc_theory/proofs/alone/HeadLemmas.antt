@@ -10,7 +10,7 @@ use Rattle.noc_view.specs.Verdict.{Unrouted, Waits, is_event, verdict_of}
 use Rattle.noc_view.specs.declared.verdict.Verdict.TheVariants.{Routed, Granted, Moved}
 use Rattle.noc_theory.specs.Network.{Setup, State, In, size, packet_at, leaving, owner_of, next_channel, has_channel, is_idle, end_of, ask, claim_of, claim_with, count_in, round_at, verdict_in, frozen_at}
 use Rattle.noc_theory.specs.Progress.{head_place}
-use Rattle.noc_theory.specs.Good.{IsGoodSetup}
+use Rattle.noc_theory.specs.Good.{IsWellFormedSetup}
 use Rattle.noc_theory.proofs.worms.BuiltLemmas.{good-built, good-wired}
 use Rattle.noc_theory.proofs.worms.GrantLemmas.{Has-below}
 use Rattle.noc_theory.proofs.worms.MemberLemmas.{find-some}
@@ -32,7 +32,7 @@ use Rattle.noc_theory.proofs.budget.WormLemmas.{owner-has, verdict-owned, led-on
 use Rattle.noc_theory.proofs.alone.OwnerLemmas.{OwnsAlone}
 use Rattle.noc_theory.proofs.alone.MoverLemmas.{built, chain, comes-in, some-in, few-in, moves, ahead, first-here}
 
-module _ (net : Setup) (good : IsGoodSetup net) (two : 2 ≤ net.depth) (n p : ℕ) (low : p < length net.packets) (alone : OwnsAlone net p (frozen_at net n)) where
+module _ (net : Setup) (good : IsWellFormedSetup net) (two : 2 ≤ net.depth) (n p : ℕ) (low : p < length net.packets) (alone : OwnsAlone net p (frozen_at net n)) where
   abbrev F : State
   F = frozen_at net n
 

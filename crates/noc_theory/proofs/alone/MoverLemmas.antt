@@ -8,7 +8,7 @@ use Rattle.noc_route.specs.Channel.{Channel, Link, Inject, Eject}
 use Rattle.noc_view.specs.declared.verdict.Verdict.TheVariants.{Moved}
 use Rattle.noc_theory.specs.Network.{Setup, State, Located, Place, In, place_of_flit, owner_of, next_channel, has_channel, has_credit_in, credit_of, count_on, count_in, is_in, end_of, arriving, verdict_in, frozen_at}
 use Rattle.noc_theory.specs.Progress.{weight}
-use Rattle.noc_theory.specs.Good.{IsGoodSetup, IsValid}
+use Rattle.noc_theory.specs.Good.{IsWellFormedSetup, IsValid}
 use Rattle.noc_theory.proofs.worms.BuiltLemmas.{good-built, good-wired}
 use Rattle.noc_theory.proofs.worms.BufferLemmas.{same_channel-refl}
 use Rattle.noc_theory.proofs.worms.MemberLemmas.{Has-kept, Has-filter, Pairs-filter, find-some}
@@ -56,7 +56,7 @@ module _ (net : Setup) (S : State) where
       one-at_most p i (filter (λ (g : Located). is_in c g.place) S.at) (Pairs-filter IsSortedPair (λ (g : Located). is_in c g.place) S.at sorted)
       (λ f h. let m = Has-filter (λ (g : Located). is_in c g.place) f S.at h in same f m.0 (is_in-is c f.place m.1))
 
-module _ (net : Setup) (good : IsGoodSetup net) (n : ℕ) where
+module _ (net : Setup) (good : IsWellFormedSetup net) (n : ℕ) where
   abbrev F : State
   F = frozen_at net n
 

@@ -6,7 +6,7 @@ use Rattle.noc_topo.specs.Lists.{Has}
 use Rattle.noc_route.specs.Channel.{Channel, Link, Inject, Eject}
 use Rattle.noc_theory.specs.Network.{Setup, State, Place, Source, On, In, Out, packet_at, tail_place, is_past, out_cycle, arrival_in, state_at, frozen_at}
 use Rattle.noc_theory.specs.Progress.{head_place}
-use Rattle.noc_theory.specs.Good.{IsGoodSetup}
+use Rattle.noc_theory.specs.Good.{IsWellFormedSetup}
 use Rattle.noc_theory.proofs.worms.BuiltLemmas.{good-built}
 use Rattle.noc_theory.proofs.worms.StateWordLemmas.{goal, last_of}
 use Rattle.noc_theory.proofs.worms.WormRecordLemmas.{valid-last}
@@ -52,7 +52,7 @@ module _ (net : Setup) where
   abbrev pub OthersAreOut : ℕ → ℕ → Type 0
   OthersAreOut p n = (q : ℕ) → q < length net.packets → q ≢ p → (packet_at net q).due ≤ n → arrival_in net (state_at net n) q ≢ None
 
-  module _ (good : IsGoodSetup net) (p n : ℕ) (others : OthersAreOut p n) where
+  module _ (good : IsWellFormedSetup net) (p n : ℕ) (others : OthersAreOut p n) where
     -- another packet that is not out is due later
     pub due-later : (q : ℕ) → q < length net.packets → q ≢ p → (n < (packet_at net q).due) ⊎ ((m : ℕ) × (tail_place net (state_at net n) q ≡ Out m))
     due-later q l other = at (cases_lt n (packet_at net q).due)

@@ -6,7 +6,7 @@ use Rattle.std.proofs.lemmas.Bool.{false≢true, cases_lt, cases_order}
 use Rattle.noc_route.specs.Channel.{Channel, Link, Inject, Eject}
 use Rattle.noc_theory.specs.Network.{Setup, State, Place, Source, On, In, Out, packet_at, place_of_flit, tail_place, out_cycle, arrival_in, landed_place, after_injection, after_verdicts, frozen_state, frozen_at, network_cycle, state_at}
 use Rattle.noc_theory.specs.Progress.{hops, head_place, weight, allocations_left}
-use Rattle.noc_theory.specs.Good.{IsGoodSetup, IsValid}
+use Rattle.noc_theory.specs.Good.{IsWellFormedSetup, IsValid}
 use Rattle.noc_theory.specs.Alone.{zero_load_latency}
 use Rattle.noc_theory.proofs.worms.BuiltRecordLemmas.{IsBuilt}
 use Rattle.noc_theory.proofs.worms.BuiltLemmas.{good-built}
@@ -29,7 +29,7 @@ use Rattle.noc_theory.proofs.alone.ClockLemmas.{IsOnClock, HeadOnClock, clock-ti
 abbrev pub last_time : Setup → ℕ → ℕ
 last_time net p = (packet_at net p).due + zero_load_latency net p
 
-module _ (net : Setup) (good : IsGoodSetup net) (two : 2 ≤ net.depth) (p : ℕ) (low : p < length net.packets) where
+module _ (net : Setup) (good : IsWellFormedSetup net) (two : 2 ≤ net.depth) (p : ℕ) (low : p < length net.packets) where
   abbrev built : IsBuilt net
   built = good-built net good
 

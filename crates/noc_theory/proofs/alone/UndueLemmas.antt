@@ -8,7 +8,7 @@ use Rattle.noc_topo.specs.Shape.{nodes}
 use Rattle.noc_route.specs.Channel.{Channel, Inject}
 use Rattle.noc_theory.specs.Network.{Setup, State, Located, Source, Out, Injection, packet_at, place_of_flit, landed_place, moved_place, is_idle, is_injection_of, owned_by, count_in, first_waiting, injection_at, injection_with, after_landing, after_credits, after_injection, after_verdicts, frozen_state, frozen_at, network_cycle, state_at}
 use Rattle.noc_theory.specs.Progress.{head_place}
-use Rattle.noc_theory.specs.Good.{IsGoodSetup, IsValid}
+use Rattle.noc_theory.specs.Good.{IsWellFormedSetup, IsValid}
 use Rattle.noc_theory.proofs.runs.PostLemmas.{some_of_map}
 use Rattle.noc_theory.proofs.worms.BuiltRecordLemmas.{IsBuilt}
 use Rattle.noc_theory.proofs.worms.BuiltLemmas.{good-built}
@@ -70,7 +70,7 @@ module _ (net : Setup) (built : IsBuilt net) (n : ℕ) (S : State) (whole : IsWh
           by (inl f) = let z : Source ≡ Out m = sym (ap (place_of_flit net S p) f ∙ x.3.was) ∙ e in absurd (cc z)
           by (inr f) = x.3.others i v f ∙ e
 
-module _ (net : Setup) (good : IsGoodSetup net) where
+module _ (net : Setup) (good : IsWellFormedSetup net) where
   abbrev built : IsBuilt net
   built = good-built net good
 

@@ -12,7 +12,7 @@ use Rattle.noc_route.specs.Routes.{permits, is_sent, set_at, IsRelation}
 use Rattle.noc_route.proofs.BuiltLemmas.{set_at-member}
 use Rattle.noc_route.proofs.PermitsLemmas.{PermitsLink-from_test, PermitsEject-from_test, permits-inject, permits-nearer, member-permits}
 use Rattle.noc_theory.specs.Network.{Setup, packet_at}
-use Rattle.noc_theory.specs.Good.{IsGoodSetup}
+use Rattle.noc_theory.specs.Good.{IsWellFormedSetup}
 use Rattle.noc_theory.proofs.worms.BuiltLemmas.{good-built, good-packet}
 use Rattle.noc_theory.proofs.budget.ProgressRecordLemmas.{IsReal, IsBuilt, LeadsOn}
 use Rattle.noc_theory.proofs.budget.WormChainLemmas.{IsNearing}
@@ -47,11 +47,11 @@ module _ (net : Setup) (made : IsRelation net.relation) where
       led-by m (Link r q v) t a b found.0 (lt-ltb _ _ there.place.router) n (ap (λ x. has_bit (set_at net.relation m a b x t) found.0) (sym number) ∙ found.1)
 
 -- each permitted hop brings the packet nearer
-pub nearer-good : (net : Setup) → IsGoodSetup net → IsNearing net
+pub nearer-good : (net : Setup) → IsWellFormedSetup net → IsNearing net
 nearer-good net good m c t r q v e = let s = (good-built net good).shorter m t c r q v e in omega arith
 
 -- a good network
-pub built-good : (net : Setup) → IsGoodSetup net → IsBuilt net
+pub built-good : (net : Setup) → IsWellFormedSetup net → IsBuilt net
 built-good net good = record {
   depth = good.some_depth;
   vcs = let v = good.relation.table.some_vcs in omega arith;

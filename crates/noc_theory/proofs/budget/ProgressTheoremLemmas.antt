@@ -5,7 +5,7 @@ use Rattle.std.proofs.Common.{◌≡◌, ℕ, suc, ◌+◌, ◌<◌, ◌≤◌, 
 use Rattle.noc_route.specs.Ranks.{IsRankedBy, Ranking, rank_at}
 use Rattle.noc_theory.specs.Network.{Setup, packet_at, state_at, frozen_at, network_cycle, arrival_in}
 use Rattle.noc_theory.specs.Progress.{remainder, budget, events, is_pending, is_stuck}
-use Rattle.noc_theory.specs.Good.{IsGoodSetup}
+use Rattle.noc_theory.specs.Good.{IsWellFormedSetup}
 use Rattle.noc_theory.proofs.worms.BuiltLemmas.{good-built, good-wired}
 use Rattle.noc_theory.proofs.worms.WormOrderLemmas.{whole-at, whole-frozen_at}
 use Rattle.noc_theory.proofs.worms.NetworkLemmas.{queued-frozen_at, led-frozen_at}
@@ -21,7 +21,7 @@ use Rattle.noc_theory.proofs.budget.CycleRemainderLemmas.{IsCountable, cycle-fal
 use Rattle.noc_theory.proofs.budget.OpeningProgressLemmas.{opening-budget}
 use Rattle.noc_theory.proofs.budget.DrainLemmas.{arrives-by, idle-by}
 
-module _ (net : Setup) (good : IsGoodSetup net) where
+module _ (net : Setup) (good : IsWellFormedSetup net) where
   pub built : IsBuilt net
   built = built-good net good
 

@@ -10,11 +10,11 @@ use Rattle.noc_theory.specs.Network.{Setup, Located, Place, Source, On, In, Out,
 use Rattle.noc_theory.specs.Progress.{events, is_pending, is_stuck, last_event_before}
 use Rattle.noc_view.proofs.MoverLemmas.{is_moved-true}
 use Rattle.noc_theory.proofs.worms.MemberLemmas.{any-same}
-use Rattle.noc_theory.specs.Good.{IsGoodSetup}
+use Rattle.noc_theory.specs.Good.{IsWellFormedSetup}
 use Rattle.noc_theory.proofs.budget.ProgressLemmas.{map-same, at-same, quiet-frozen}
 use Rattle.noc_theory.proofs.budget.ProgressTheoremLemmas.{countable}
 
-module _ (net : Setup) (made : IsGoodSetup net) (n : ℕ) (quiet : events net n (state_at net n) ≡ 0) where
+module _ (net : Setup) (made : IsWellFormedSetup net) (n : ℕ) (quiet : events net n (state_at net n) ≡ 0) where
   pub unmoved : (c : Channel) → is_moved (verdict_in net (frozen_at net n) c) ≡ false
   unmoved c =
       false_from_ne_true _ (λ k.
@@ -52,7 +52,7 @@ last-below net (suc n) o e m l = at (nat_lt 0 (events net n (state_at net n))) e
 
 -- the last cycle was stuck where it had no event, and a packet that was due
 -- has not arrived by its end
-pub stuck-after : (net : Setup) → IsGoodSetup net → (n : ℕ) → (not (is_some_of (last_event_before net (suc n)) n) && is_pending net n (state_at net (suc n))) ≡ is_stuck net (suc n)
+pub stuck-after : (net : Setup) → IsWellFormedSetup net → (n : ℕ) → (not (is_some_of (last_event_before net (suc n)) n) && is_pending net n (state_at net (suc n))) ≡ is_stuck net (suc n)
 stuck-after net made n = at (events net n (state_at net n)) refl
   where
     and-true : (b : Bool) → (b && true) ≡ b

@@ -13,7 +13,7 @@ use Rattle.noc_route.specs.Channel.{Channel, Link, Inject, Eject, is_link}
 use Rattle.noc_view.specs.Verdict.{ArbiterStates, arbiters_after, is_event, is_granted, is_moved, is_routed}
 use Rattle.noc_view.specs.declared.verdict.Verdict.{Verdict}
 use Rattle.noc_view.specs.declared.verdict.Verdict.TheVariants.{Routed, Granted}
-use Rattle.noc_theory.specs.Good.{IsGoodSetup}
+use Rattle.noc_theory.specs.Good.{IsWellFormedSetup}
 use Rattle.noc_theory.specs.Network.{Injection, Located, Setup, State, after_credits, after_injection, after_landing, after_verdicts, all_inputs, arrival_in, end_of, first_waiting, frozen_at, frozen_state, grant_to_owner, granted_pair, has_channel, injected_place, injection_at, injection_with, injections, is_freed, is_idle, is_injection_of, is_past, is_released, is_tail_of_packet, front_in, network_cycle, owned_by, owner_of, packet_at, round_at, state_at, tail_leaves, tail_place, verdict_in}
 use Rattle.noc_theory.specs.Progress.{NoneDue, events, is_flying, is_pending, is_stuck}
 use Rattle.noc_theory.proofs.worms.MemberLemmas.{any-same, filter-all}
@@ -49,7 +49,7 @@ ungranted : (v : Verdict) → is_event v ≡ false → is_granted v ≡ false
 ungranted Granted e = absurd (true≢false e)
 ungranted _ e = refl
 
-module _ (net : Setup) (made : IsGoodSetup net) (n : ℕ) (quiet : events net n (state_at net n) ≡ 0) where
+module _ (net : Setup) (made : IsWellFormedSetup net) (n : ℕ) (quiet : events net n (state_at net n) ≡ 0) where
   abbrev S : State
   S = state_at net n
 
@@ -183,7 +183,7 @@ module _ (net : Setup) (n m : ℕ) (later : n ≤ m) (none : NoneDue net n m) wh
       (ap (λ X. count_by (λ c. is_event (verdict_in net X c)) (all_inputs net)) (frozen-same T))
 
 -- the cycles that follow one without an event
-module _ (net : Setup) (made : IsGoodSetup net) (n : ℕ) (quiet : events net n (state_at net n) ≡ 0) where
+module _ (net : Setup) (made : IsWellFormedSetup net) (n : ℕ) (quiet : events net n (state_at net n) ≡ 0) where
   quiet-after : (k : ℕ) → NoneDue net n (n + k) → state_at net (n + k) ≡ state_at net n → events net (n + k) (state_at net (n + k)) ≡ 0
   quiet-after k none same = ap (events net (n + k)) same ∙ events-same net n (n + k) (omega arith) none (state_at net n) ∙ quiet
 
@@ -208,7 +208,7 @@ module _ (net : Setup) (made : IsGoodSetup net) (n : ℕ) (quiet : events net n 
     state-until = state-stays net made m quiet-until ∙ same-there
 
 -- a network that is stuck stays stuck until another packet is due
-pub stuck-until : (net : Setup) → IsGoodSetup net → (n m : ℕ) → is_stuck net (suc n) ≡ true → n ≤ m → NoneDue net n m → is_stuck net (suc m) ≡ true
+pub stuck-until : (net : Setup) → IsWellFormedSetup net → (n m : ℕ) → is_stuck net (suc n) ≡ true → n ≤ m → NoneDue net n m → is_stuck net (suc m) ≡ true
 stuck-until net made n m stuck later none =
     let parts = and_parts (is_pending net n (state_at net n)) (nat_eq (events net n (state_at net n)) 0) stuck in
     let quiet = eqb-true _ _ parts.1 in

@@ -17,6 +17,7 @@ use Rattle.noc_theory.specs.Lockstep.{flies_to, has_event_at, last_event_at}
 use Rattle.noc_theory.specs.Network.{Setup, State, Located, Place, Source, On, In, Out, Injection, after_landing, after_credits, all_inputs, arriving, end_of, frozen_at, injection_at, injections, size, state_at, verdict_in, verdict_in_cycle}
 use Rattle.noc_theory.specs.Progress.{events, is_flying, last_event_before}
 use Rattle.noc_theory.proofs.worms.BufferLemmas.{same_channel-refl}
+use Rattle.noc_theory.proofs.worms.BuiltLemmas.{well-formed}
 use Rattle.noc_theory.proofs.worms.WormOrderLemmas.{whole-at}
 use Rattle.noc_theory.proofs.worms.GrantLemmas.{Has-below}
 use Rattle.noc_theory.proofs.worms.MemberLemmas.{Has-filter_map, Has-filter_mapped, list_any-has, list_any-from}
@@ -75,7 +76,7 @@ module _ (net : Setup) (made : IsGoodSetup net) (n : ℕ) where
   S = state_at net n
 
   good : IsGood net
-  good = good-network net made
+  good = good-network net (well-formed net made)
 
   abbrev landed : State
   landed = after_credits net (after_landing net S)
@@ -91,7 +92,7 @@ module _ (net : Setup) (made : IsGoodSetup net) (n : ℕ) where
   -- a flit that flies comes to a router
   lands : (f : Located) (c : Channel) → Has f S.at → f.place ≡ On c → Somewhere
   lands f c h e =
-      let whole = whole-at net made n in
+      let whole = whole-at net (well-formed net made) n in
       let keyed = whole.sound.keyed in
       let own = owned c (subst (λ (x : Place). IsPlaced net S.own f.packet x) (place-of-flit net S keyed f h ∙ e) (whole.sound.worm.placed f.packet f.index (keyed.valid f h))) in
       let at = input-at net good c (whole.covered c f.packet own) in

@@ -1,10 +1,11 @@
 -- What is asked of a network and of its states: the ownership laws, and four facts more.
-use Rattle.std.specs.Prelude.{◌≡◌, ◌≢◌, ℕ, ◌<◌, true, false, length, Some}
+use Rattle.std.specs.Prelude.{◌≡◌, ◌≢◌, ℕ, ◌<◌, ◌≤◌, true, false, length, Some}
 use Rattle.noc_topo.specs.Lists.{Has}
 use Rattle.noc_topo.specs.Shape.{nodes, neighbour}
+use Rattle.noc_packet.specs.declared.limits.TheConstants.{MAX_LENGTH}
 use Rattle.noc_route.specs.Channel.{Channel, Link, Eject, is_link}
 use Rattle.noc_route.specs.Routes.{set_at, IsRelation}
-use Rattle.noc_theory.specs.Good.{IsGoodPacket, IsValid}
+use Rattle.noc_theory.specs.Good.{IsWellFormedPacket, IsValid}
 use Rattle.noc_theory.specs.Network.{Setup, State, On, packet_at, place_of_flit, has_channel, all_inputs}
 use Rattle.noc_theory.proofs.worms.BuiltRecordLemmas.{IsBuilt}
 use Rattle.noc_theory.proofs.worms.FirstOfNodeLemmas.{IsQueued}
@@ -17,9 +18,13 @@ pub record IsGood (net : Setup) : Type 0 where
   pub wired : IsWired net
   pub covering : IsCovering net
   pub relation : IsRelation net.relation
-  pub packets : (p : ℕ) → p < length net.packets → IsGoodPacket net.relation (packet_at net p)
+  pub packets : (p : ℕ) → p < length net.packets → IsWellFormedPacket net.relation (packet_at net p)
 
 module _ (net : Setup) where
+  -- no packet has more flits than a router takes
+  abbrev pub AreShort : Type 0
+  AreShort = (p : ℕ) → p < length net.packets → (packet_at net p).length ≤ MAX_LENGTH
+
   -- what each pair of a channel and its owner keeps, and the arbiters
   pub record IsLed (S : State) : Type 0 where
     -- where a link channel of a packet ends, the relation leads the packet on

@@ -18,7 +18,7 @@ use Rattle.noc_theory.specs.Good.{IsValid}
 use Rattle.noc_theory.proofs.worms.RoutedStateLemmas.{IsWhole, IsWholeFrozen, whole-mid, whole-state, whole-frozen_state}
 use Rattle.noc_theory.proofs.worms.RoutedVerdictLemmas.{channel-has}
 use Rattle.noc_theory.proofs.join.JoinedLemmas.{joined}
-use Rattle.noc_theory.proofs.join.OrderedLemmas.{IsGood, IsLed, IsOrdered, IsOrderedFrozen}
+use Rattle.noc_theory.proofs.join.OrderedLemmas.{IsGood, AreShort, IsLed, IsOrdered, IsOrderedFrozen}
 use Rattle.noc_theory.proofs.join.PhaseLemmas.{mid}
 use Rattle.noc_theory.specs.Seen.{AreSeen}
 
@@ -97,5 +97,5 @@ module _ (net : Setup) (good : IsGood net) where
 
   -- at every count that a run can have, the routers and wires of the lockstep run are those of the
   -- state of the whole network
-  pub lockstep-is_network : (n : ℕ) → n ≤ CYCLE_LIMIT → AreSeen net n
-  lockstep-is_network n l = joined net good ordered-state ordered-mid ordered-frozen n l
+  pub lockstep-is_network : AreShort net → (n : ℕ) → n ≤ CYCLE_LIMIT → AreSeen net n
+  lockstep-is_network short n l = joined net good short ordered-state ordered-mid ordered-frozen n l

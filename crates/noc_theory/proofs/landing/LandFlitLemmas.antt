@@ -28,7 +28,7 @@ use Rattle.noc_theory.proofs.landing.ComeLemmas.{come-level, come-behind, count-
 use Rattle.noc_theory.proofs.join.KeyLemmas.{count-places}
 use Rattle.noc_theory.proofs.landing.LandLemmas.{keyed, worm, keyedM, landed, landed-tail, past-landed, come-landed, owner-still, next-still, wire-weight}
 use Rattle.noc_theory.proofs.verdicts.NextViewLemmas.{owner-at}
-use Rattle.noc_theory.proofs.join.OrderedLemmas.{IsGood, IsOrdered}
+use Rattle.noc_theory.proofs.join.OrderedLemmas.{IsGood, AreShort, IsOrdered}
 use Rattle.noc_theory.proofs.join.PhaseLemmas.{mid}
 use Rattle.noc_theory.proofs.join.PlaceViewLemmas.{IsAt}
 use Rattle.noc_theory.proofs.join.LockstepStepLemmas.{filter-last}
@@ -232,10 +232,10 @@ module _ (net : Setup) (good : IsGood net) (S : State) (x : IsOrdered net S) (a 
       some-on zero e = absurd (false≢true (sym (Rattle.noc_theory.proofs.worms.InjectionRoomLemmas.filter-none (λ (f : Located). is_on (Link a b w) f.place) S.at it.flit e it.member) ∙ ap (is_on (Link a b w)) it.place ∙ same_channel-refl (Link a b w)))
       some-on (suc j) e = omega (arith, e)
 
-  pub fits-some : (r i : ℕ) (at : IsAt net good r i (Link a b w)) → fits net.relation r (i / net.relation.vcs) w net.depth (seen_flits net S (Some (Link a b w))) (seen_input net S r i (Some (Link a b w))) fl ≡ true
-  fits-some r i at = and_from _ _ room (ap (λ (f : Flit). is_expected net.relation r (i / net.relation.vcs) w (seen_flits net S (Some (Link a b w))) (seen_input net S r i (Some (Link a b w))) f (seen_input net S r i (Some (Link a b w))).phase) (sym it.is_flit) ∙ by (has_channel S.routed (Link a b w)) refl)
+  pub fits-some : AreShort net → (r i : ℕ) (at : IsAt net good r i (Link a b w)) → fits net.relation r (i / net.relation.vcs) w net.depth (seen_flits net S (Some (Link a b w))) (seen_input net S r i (Some (Link a b w))) fl ≡ true
+  fits-some short r i at = and_from _ _ room (ap (λ (f : Flit). is_expected net.relation r (i / net.relation.vcs) w (seen_flits net S (Some (Link a b w))) (seen_input net S r i (Some (Link a b w))) f (seen_input net S r i (Some (Link a b w))).phase) (sym it.is_flit) ∙ by (has_channel S.routed (Link a b w)) refl)
     where
-      faultless : Rattle.noc_theory.specs.Good.IsGoodPacket net.relation (packet_at net it.flit.packet)
+      faultless : Rattle.noc_theory.specs.Good.IsWellFormedPacket net.relation (packet_at net it.flit.packet)
       faultless = good.packets it.flit.packet valid.0
 
       -- the head, on a channel that is not routed
@@ -281,7 +281,7 @@ module _ (net : Setup) (good : IsGood net) (S : State) (x : IsOrdered net S) (a 
       next-fits : has_channel S.routed (Link a b w) ≡ true → is_awaited (flit_of it.flit) (seen_input net S r i (Some (Link a b w))).awaited ≡ true
       next-fits e =
           let some : 0 < it.flit.index = positive it.flit.index refl in
-          let lim = faultless.length in
+          let lim = short it.flit.packet valid.0 in
           let inside = valid.1 in
           let awaited : (seen_input net S r i (Some (Link a b w))).awaited ≡ Some (record { packet = it.flit.packet; index = it.flit.index - 1 + 1; dst = (packet_at net it.flit.packet).destination; class = (packet_at net it.flit.packet).class })
           = ap (λ (y : Input). y.awaited) (seen-held net S r i it.flit.packet (Link a b w) owner)

@@ -26,7 +26,7 @@ use Rattle.noc_theory.proofs.verdicts.CommitEndLemmas.{map-each, ends-here}
 use Rattle.noc_theory.proofs.landing.LandInputLemmas.{flits-none, input-none}
 use Rattle.noc_theory.proofs.landing.LandLemmas.{keyed, worm, keyedM, wormM, landed-tail, owned-before, owned-still}
 use Rattle.noc_theory.proofs.landing.LandOutputLemmas.{eject-same}
-use Rattle.noc_theory.proofs.join.OrderedLemmas.{IsGood, IsOrdered}
+use Rattle.noc_theory.proofs.join.OrderedLemmas.{IsGood, AreShort, IsOrdered}
 use Rattle.noc_theory.proofs.join.PhaseLemmas.{mid, has_arrival, IsTaken}
 use Rattle.noc_theory.proofs.join.PlaceViewLemmas.{IsAt, input-at, mod-below, OutputCase, ejects, links, output-case}
 use Rattle.noc_theory.proofs.injection.SourceStateLemmas.{injection-at, injection-own, injection-none, waiting-same, queue-same}
@@ -84,7 +84,7 @@ module _ (net : Setup) (good : IsGood net) (S : State) (x : IsOrdered net S) whe
   unfolding after_landing after_credits
   arbiters-same r = refl
 
-  module _ (r : ℕ) (l : r < nodes net.relation.grid) (v0 : View) (seen : IsSeen net S r v0) (had : v0.had_event ≡ false) where
+  module _ (short : AreShort net) (r : ℕ) (l : r < nodes net.relation.grid) (v0 : View) (seen : IsSeen net S r v0) (had : v0.had_event ≡ false) where
     abbrev beat : ℕ → Beat
     beat port = beat_by net S r port (neighbour net.relation.grid r port)
 
@@ -120,7 +120,7 @@ module _ (net : Setup) (good : IsGood net) (S : State) (x : IsOrdered net S) whe
 
     all-from : (m a : ℕ) (v : View) → a + m ≡ local_port net.relation.grid → UpTo a v → UpTo (local_port net.relation.grid) (view_after_takes_from net.relation a (map (λ port. beat_by net S r port (neighbour net.relation.grid r port)) (range_with_len a m)) v)
     all-from zero a v e so_far = subst (λ k. UpTo k v) (let z : a ≡ local_port net.relation.grid = omega (arith, e) in z) so_far
-    all-from (suc m) a v e so_far = all-from m (a + 1) (view_after_take net.relation a (beat_by net S r a (neighbour net.relation.grid r a)) v) (omega (arith, e)) (port-taken net good S x r l v0 seen a (omega (arith, e)) v so_far)
+    all-from (suc m) a v e so_far = all-from m (a + 1) (view_after_take net.relation a (beat_by net S r a (neighbour net.relation.grid r a)) v) (omega (arith, e)) (port-taken net good short S x r l v0 seen a (omega (arith, e)) v so_far)
 
     beats-are : beats_at (beats_in net S) r ≡ map (λ port. beat_by net S r port (neighbour net.relation.grid r port)) (range_with_len 0 (local_port net.relation.grid))
     unfolding beats_in tabulate below

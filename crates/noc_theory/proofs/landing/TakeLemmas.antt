@@ -18,7 +18,7 @@ use Rattle.noc_theory.specs.Lockstep.{beat_by, flit_on, seen_flits, seen_input, 
 use Rattle.noc_theory.specs.Network.{Setup, State, size, arriving, leaving}
 use Rattle.noc_theory.proofs.landing.LandFlitLemmas.{flits-some, input-some, fits-some}
 use Rattle.noc_theory.proofs.landing.LandInputLemmas.{flits-none, input-none}
-use Rattle.noc_theory.proofs.join.OrderedLemmas.{IsGood, IsOrdered}
+use Rattle.noc_theory.proofs.join.OrderedLemmas.{IsGood, AreShort, IsOrdered}
 use Rattle.noc_theory.proofs.join.PhaseLemmas.{mid}
 use Rattle.noc_theory.proofs.join.PlaceViewLemmas.{IsAt, arriving-at, not-eject, in-size, mod-below}
 use Rattle.noc_theory.specs.Seen.{IsSeen, IsAsNoted}
@@ -131,9 +131,9 @@ module _ (net : Setup) (good : IsGood net) (S : State) (x : IsOrdered net S) (r 
         or-false true = refl
         or-false false = refl
 
-    pub with-flit : (s q vc : ℕ) (f : Flit) → neighbour net.relation.grid r k ≡ Some (s, q) → vc < net.relation.vcs → flit_on net S (Link s q vc) ≡ Some f
+    pub with-flit : AreShort net → (s q vc : ℕ) (f : Flit) → neighbour net.relation.grid r k ≡ Some (s, q) → vc < net.relation.vcs → flit_on net S (Link s q vc) ≡ Some f
         → ((w : ℕ) → w < net.relation.vcs → (w ≡ vc → ⊥) → flit_on net S (Link s q w) ≡ None) → IsLanded true (with_flit net.relation k (Some (vc, f)) v)
-    with-flit s q vc f link u on alone = subst (λ (y : View). IsLanded true y) (sym is_landed) done
+    with-flit short s q vc f link u on alone = subst (λ (y : View). IsLanded true y) (sym is_landed) done
       where
         i : ℕ
         i = k * net.relation.vcs + vc
@@ -174,7 +174,7 @@ module _ (net : Setup) (good : IsGood net) (S : State) (x : IsOrdered net S) (r 
             ∙ ap (λ (fs : List Flit). fits net.relation r k vc net.depth fs (view_input v (k * net.relation.vcs + vc)) f) buffer-was
             ∙ ap (λ (y : Input). fits net.relation r k vc net.depth (seen_flits net S (Some (Link s q vc))) y f) input-was
             ∙ ap (λ j. fits net.relation r j vc net.depth (seen_flits net S (Some (Link s q vc))) (seen_input net S r (k * net.relation.vcs + vc) (Some (Link s q vc))) f) (sym row)
-            ∙ fits-some net good S x s q vc f on r (k * net.relation.vcs + vc) at
+            ∙ fits-some net good S x s q vc f on short r (k * net.relation.vcs + vc) at
 
         all-fit : (has_link v.site k && nat_lt vc v.site.vcs && fits net.relation v.site.node k vc v.site.depth (view_buffer v (k * v.site.vcs + vc)) (view_input v (k * v.site.vcs + vc)) f) ≡ true
         all-fit = and_from _ _ (and_from _ _ linked (lt-ltb _ _ (subst (λ j. vc < j) (sym vcs-is) u))) fitting

@@ -24,13 +24,13 @@ use Rattle.noc_theory.proofs.worms.MemberLemmas.{find-has, find-fails}
 use Rattle.noc_theory.proofs.worms.PlaceLemmas.{place-of-flit, sorted-same, is_on-is}
 use Rattle.noc_theory.proofs.worms.OpeningLemmas.{below-has}
 use Rattle.noc_theory.proofs.landing.LandOutputLemmas.{link-same, link-credited, credit-fits, eject-same}
-use Rattle.noc_theory.proofs.join.OrderedLemmas.{IsGood, IsOrdered}
+use Rattle.noc_theory.proofs.join.OrderedLemmas.{IsGood, AreShort, IsOrdered}
 use Rattle.noc_theory.proofs.join.PhaseLemmas.{mid}
 use Rattle.noc_theory.proofs.join.PlaceViewLemmas.{input-at, in-size, mod-below, OutputCase, ejects, links, output-case, link-from}
 use Rattle.noc_theory.proofs.landing.TakeLemmas.{at_port, came, IsUpTo, IsLanded, no-flit, with-flit, elsewhere, here-before, here-after, vcs-is, site-is}
 use Rattle.noc_theory.specs.Seen.{IsSeen}
 
-module _ (net : Setup) (good : IsGood net) (S : State) (x : IsOrdered net S) (r : ℕ) (l : r < nodes net.relation.grid) (v0 : View) (seen : IsSeen net S r v0) (k : ℕ) (low : k < local_port net.relation.grid) (v : View)
+module _ (net : Setup) (good : IsGood net) (short : AreShort net) (S : State) (x : IsOrdered net S) (r : ℕ) (l : r < nodes net.relation.grid) (v0 : View) (seen : IsSeen net S r v0) (k : ℕ) (low : k < local_port net.relation.grid) (v : View)
     (so_far : IsUpTo net good S x r l v0 k v) where
   abbrev Landed : Bool → View → Type 0
   Landed b w = IsLanded net good S x r l v0 seen k low v so_far b w
@@ -92,7 +92,7 @@ module _ (net : Setup) (good : IsGood net) (S : State) (x : IsOrdered net S) (r 
               flit None q = absurd (false≢true (ap is_some (sym q) ∙ found.0))
               flit (Some f) q =
                   subst (λ (o : Option Flit). Landed (is_some {T = ℕ × Flit} (option_map (λ g. (vc, g)) o)) (with_flit net.relation k (option_map (λ g. (vc, g)) o) v)) (sym q)
-                  (with-flit net good S x r l v0 seen k low v so_far from.0 from.1 vc f e found.1 q alone)
+                  (with-flit net good S x r l v0 seen k low v so_far short from.0 from.1 vc f e found.1 q alone)
                 where
                   alone : (w : ℕ) → w < net.relation.vcs → (w ≡ vc → ⊥) → flit_on net S (Link from.0 from.1 w) ≡ None
                   alone w u apart = at (flit_on net S (Link from.0 from.1 w)) refl

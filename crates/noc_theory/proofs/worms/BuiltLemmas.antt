@@ -8,9 +8,8 @@ use Rattle.noc_route.specs.Channel.{Channel, Link, Inject, Eject, arrival_of}
 use Rattle.noc_route.specs.Routes.{permits}
 use Rattle.noc_route.proofs.BuiltLemmas.{set_at-member}
 use Rattle.noc_route.proofs.PermitsLemmas.{PermitsLink-from_test, PermitsEject-from_test, permits-inject, permits-nearer, permits-home}
-use Rattle.noc_theory.specs.Good.{IsGoodPacket}
 use Rattle.noc_theory.specs.Network.{Setup, packet_at, leads_from, end_of}
-use Rattle.noc_theory.specs.Good.{IsGoodSetup}
+use Rattle.noc_theory.specs.Good.{IsGoodSetup, IsWellFormedPacket, IsWellFormedSetup}
 use Rattle.noc_theory.proofs.worms.BuiltRecordLemmas.{IsBuilt}
 use Rattle.noc_theory.proofs.worms.GrantLemmas.{IsWired}
 use Rattle.noc_theory.proofs.worms.InputLemmas.{input-is, input-low, same-input, inputs-apart, inject-input, link-input}
@@ -30,9 +29,19 @@ distance_of-none wraps (k ∷ ks) (x ∷ xs) = let a = distance_in-none wraps k 
 pub distance-none : (g : Grid) (a : ℕ) → distance g a a ≡ 0
 distance-none g a = distance_of-none g.wraps g.radix (coordinates g.radix a)
 
-module _ (net : Setup) (good : IsGoodSetup net) where
+-- a good setup is well-formed
+pub well-formed : (net : Setup) → IsGoodSetup net → IsWellFormedSetup net
+well-formed net good = record {
+  relation = good.relation;
+  some_depth = good.some_depth;
+  packets = λ p none l.
+      let k = good.packets p none l in
+      record { source = k.source; destination = k.destination; apart = k.apart; class = k.class; some_flit = k.some_flit };
+}
+
+module _ (net : Setup) (good : IsWellFormedSetup net) where
   -- no packet has a fault
-  pub good-packet : (p : ℕ) → p < length net.packets → IsGoodPacket net.relation (packet_at net p)
+  pub good-packet : (p : ℕ) → p < length net.packets → IsWellFormedPacket net.relation (packet_at net p)
   good-packet p low = good.packets p (record { source = 0; destination = 0; class = 0; length = 0; due = 0 }) low
 
   -- where a channel arrives it ends

@@ -7,7 +7,7 @@ use Rattle.noc_topo.specs.Shape.{nodes, neighbour}
 use Rattle.noc_route.specs.Channel.{Channel, Link, Eject}
 use Rattle.noc_route.specs.Routes.{set_at}
 use Rattle.noc_theory.specs.Network.{Setup, count_in, count_on, credit_of, State, Source, On, place_of_flit, has_channel, after_landing, after_credits, network_cycle, frozen_at, state_at}
-use Rattle.noc_theory.specs.Good.{IsGoodSetup, slots_taken, IsValid}
+use Rattle.noc_theory.specs.Good.{IsWellFormedSetup, slots_taken, IsValid}
 use Rattle.noc_theory.proofs.worms.StateWordLemmas.{class_of, goal}
 use Rattle.noc_theory.proofs.worms.BuiltRecordLemmas.{IsBuilt}
 use Rattle.noc_theory.proofs.worms.BuiltLemmas.{good-built, good-wired, good-covering}
@@ -22,7 +22,7 @@ use Rattle.noc_theory.proofs.worms.RoutedStateLemmas.{IsWholeFrozen, whole-mid}
 use Rattle.noc_theory.proofs.worms.VerdictRoomLemmas.{none-on}
 use Rattle.noc_theory.proofs.worms.WormOrderLemmas.{whole-at, whole-frozen_at}
 
-module _ (net : Setup) (good : IsGoodSetup net) where
+module _ (net : Setup) (good : IsWellFormedSetup net) where
   abbrev built : IsBuilt net
   built = good-built net good
 

@@ -5,19 +5,20 @@ use Rattle.std.specs.Prelude.{◌⊎◌, IsTrue, if◌then◌else◌}
 use Rattle.std.proofs.lemmas.Bool.{false≢true, lt-ltb}
 use Rattle.noc_topo.specs.Lists.{Has}
 use Rattle.noc_route.specs.Channel.{Channel, Link, Inject, Eject, is_link}
-use Rattle.noc_theory.specs.Network.{Setup, State, Located, Place, Source, On, In, Out, place_of_flit, tail_place, count_in, count_on, credit_of, has_channel, owner_of, owned_by, is_past, packet_at, state_at, frozen_at}
+use Rattle.noc_theory.specs.Network.{Setup, State, Located, Place, Source, On, In, Out, place_of_flit, tail_place, count_in, count_on, credit_of, has_channel, owner_of, owned_by, is_past, packet_at, all_inputs, buffer_of, is_in, state_at, frozen_at}
 use Rattle.noc_theory.specs.Worm.{IsWormOrder, IsPath, IsRear}
-use Rattle.noc_theory.specs.Good.{IsGoodSetup, slots_taken}
+use Rattle.noc_theory.specs.Good.{IsWellFormedSetup, slots_taken}
 use Rattle.noc_theory.proofs.worms.BuiltRecordLemmas.{IsBuilt}
 use Rattle.noc_theory.proofs.worms.BuiltLemmas.{good-built, good-wired, good-covering}
 use Rattle.noc_theory.proofs.worms.OwnedLemmas.{of-has, has-of, owner-is}
 use Rattle.noc_theory.proofs.worms.StateWordLemmas.{IsEject, IsKeyed, IsPlaced, IsEntering, class_of, goal, last_of, far_of, IsHeld}
 use Rattle.noc_theory.proofs.worms.PathLemmas.{IsBehind, path-behind, ends-at-eject}
-use Rattle.noc_theory.proofs.worms.PlaceLemmas.{place-of-flit}
+use Rattle.noc_theory.proofs.worms.MemberLemmas.{Has-filter}
+use Rattle.noc_theory.proofs.worms.PlaceLemmas.{is_in-is, place-of-flit}
 use Rattle.noc_theory.proofs.worms.WormRecordLemmas.{IsWorm, valid-last}
 use Rattle.noc_theory.proofs.worms.MoveLemmas.{placed-in}
 use Rattle.noc_theory.proofs.worms.UnmixedLemmas.{unmixed-buffer}
-use Rattle.noc_theory.proofs.worms.RoutedStateLemmas.{IsWhole, IsWholeFrozen, whole-state, whole-frozen_state}
+use Rattle.noc_theory.proofs.worms.RoutedStateLemmas.{IsCovered, IsWhole, IsWholeFrozen, whole-state, whole-frozen_state}
 
 module _ (net : Setup) (built : IsBuilt net) (S : State) (keyed : IsKeyed net S.at) (w : IsWorm net S.own (place_of_flit net S)) where
   -- a flit on a wire is on a link channel that its packet owns
@@ -38,7 +39,7 @@ module _ (net : Setup) (built : IsBuilt net) (S : State) (keyed : IsKeyed net S.
   placed-on p (Eject n v) k = elim k [ ]
 
   module _ (past : (c : Channel) (p : ℕ) → IsHeld net S c p → is_link c ≡ true → is_past net c (goal net p) (tail_place net S p) ≡ true → has_channel S.back c ≡ true)
-      (eject : (n v p k : ℕ) → Has (Eject n v, p) S.own → tail_place net S p ≡ Out k → ⊥) where
+      (eject : (n v p k : ℕ) → Has (Eject n v, p) S.own → tail_place net S p ≡ Out k → ⊥) (covered : IsCovered net S) where
     -- the tail of a packet stands at the rear of its path
     pub rear-of : (p : ℕ) (c : Channel) (rest : List Channel) → p < length net.packets → owned_by net S p ≡ c ∷ rest → IsRear net S p c (tail_place net S p)
     rear-of p c rest low e = cases c (tail_place net S p) path e refl (w.placed p (last_of net p) (valid-last net built p low))
@@ -124,6 +125,18 @@ module _ (net : Setup) (built : IsBuilt net) (S : State) (keyed : IsKeyed net S.
         cases (Eject n v) (In d) q f s k = absurd (no_eject n v d q f (placed-in net built S keyed w p d k))
         cases (Eject n v) (Out m) q f s k = absurd (eject n v p m (first (Eject n v) f) s)
 
+    -- a flit in a buffer is in that of an input channel, since its packet owns it
+    in-input : (c : Channel) → (buffer_of net S c ≡ []) ⊎ Has c (all_inputs net)
+    in-input c = at (buffer_of net S c) refl
+      where
+        at : (fs : List Located) → buffer_of net S c ≡ fs → (buffer_of net S c ≡ []) ⊎ Has c (all_inputs net)
+        at [] e = inl e
+        at (f ∷ fs) e =
+            let m = Has-filter (λ (g : Located). is_in c g.place) f S.at (subst (λ (gs : List Located). Has f gs) (sym e) (inl refl)) in
+            let there : place_of_flit net S f.packet f.index ≡ In c = place-of-flit net S keyed f m.0 ∙ is_in-is c f.place m.1 in
+            let placed = subst (λ (x : Place). IsPlaced net S.own f.packet x) there (w.placed f.packet f.index (keyed.valid f m.0)) in
+            inr (covered c f.packet (placed-in net built S keyed w f.packet c placed))
+
     pub worm_order-from : ((c : Channel) → count_in net S c ≤ net.depth) → IsWormOrder net S
     worm_order-from room = record {
       path = λ p l. w.path p;
@@ -132,10 +145,11 @@ module _ (net : Setup) (built : IsBuilt net) (S : State) (keyed : IsKeyed net S.
       in_order = λ p i j l le v. w.order p i j (l, v) le;
       on_own = on-own;
       in_depth = room;
+      in_input = in-input;
       unmixed = unmixed-buffer net built S keyed w;
     }
 
-module _ (net : Setup) (good : IsGoodSetup net) where
+module _ (net : Setup) (good : IsWellFormedSetup net) where
   -- the whole invariant at the start of each cycle
   pub whole-at : (n : ℕ) → IsWhole net (state_at net n)
   whole-at n = whole-state net (good-built net good) (good-wired net good) (good-covering net good) n
@@ -147,13 +161,13 @@ module _ (net : Setup) (good : IsGoodSetup net) where
   pub worm_order-at : (n : ℕ) → IsWormOrder net (state_at net n)
   worm_order-at n =
       let x = whole-at n in
-      worm_order-from net (good-built net good) (state_at net n) x.sound.keyed x.sound.worm x.backed x.routed.mid.eject (λ c. let r = x.sound.room c in omega arith)
+      worm_order-from net (good-built net good) (state_at net n) x.sound.keyed x.sound.worm x.backed x.routed.mid.eject x.covered (λ c. let r = x.sound.room c in omega arith)
 
   pub worm_order-frozen_at : (n : ℕ) → IsWormOrder net (frozen_at net n)
   worm_order-frozen_at n =
       let x = whole-frozen_at n in
       worm_order-from net (good-built net good) (frozen_at net n) x.sound.keyed x.sound.worm
-      (λ c p h l e. absurd (false≢true (sym (x.routed.behind c p h) ∙ e))) x.routed.mid.eject x.sound.room
+      (λ c p h l e. absurd (false≢true (sym (x.routed.behind c p h) ∙ e))) x.routed.mid.eject x.covered x.sound.room
 
   -- what is on the wire, in the buffer and on its way back is never more than the slots of a
   -- buffer, at the start of each cycle

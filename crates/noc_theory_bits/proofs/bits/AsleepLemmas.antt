@@ -12,7 +12,7 @@ use Rattle.noc_packet.specs.Set.{has_bit}
 use Rattle.noc_packet.specs.declared.packet.Flit.{Flit}
 use Rattle.noc_packet.specs.declared.packet.Packet.{Packet}
 use Rattle.noc_packet.proofs.SetLemmas.{has_bit-zero}
-use Rattle.noc_alloc.specs.Sparse.{AreBelow}
+use Rattle.noc_alloc.specs.Members.{MembersAreBelow}
 use Rattle.noc_vc.specs.Input.{is_idle_phase, is_empty}
 use Rattle.noc_vc.specs.declared.input.InputState.{InputState}
 use Rattle.noc_vc.specs.declared.input.InputState.TheVariants.{Idle, Waiting, Active}
@@ -100,7 +100,7 @@ module _ {count : ℕ} (net : Setup) (setup : IsGoodSetup net) (n r : ℕ) (l : 
   pub ended-rests : ShowsEnded b.ended (view_at net (suc n) r)
   ended-rests = record {
     each = λ i u. shows.ended.each i (subst (λ (s : Site). i < size_of s) same-site u) ∙ ap (λ (bs : List (List Flit)). holds_tail (slice_index_or bs i [])) (sym same-buffers);
-    below = subst (λ (s : Site). AreBelow (size_of s) b.ended) (sym same-site) shows.ended.below;
+    below = subst (λ (s : Site). MembersAreBelow (size_of s) b.ended) (sym same-site) shows.ended.below;
   }
 
   pub source-rests : ShowsSource starts b.source (view_at net (suc n) r)

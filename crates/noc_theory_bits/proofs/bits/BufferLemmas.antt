@@ -17,6 +17,7 @@ use Rattle.noc_theory.specs.Worm.{IsRun, IsWormOrder}
 use Rattle.noc_theory.proofs.join.ViewLemmas.{view_at-seen}
 use Rattle.noc_theory.proofs.worms.MemberLemmas.{Has-filter}
 use Rattle.noc_theory.proofs.worms.StateWordLemmas.{IsKeyed}
+use Rattle.noc_theory.proofs.worms.BuiltLemmas.{well-formed}
 use Rattle.noc_theory.proofs.worms.WormOrderLemmas.{worm_order-at, worm_order-frozen_at}
 use Rattle.noc_sets.specs.Ended.{AreConsecutive}
 use Rattle.noc_theory_bits.proofs.network.NetworkLemmas.{frozen_view, frozen-seen, steady-state, steady-still}
@@ -61,8 +62,8 @@ module _ (net : Setup) where
   module _ (setup : IsGoodSetup net) (n r : ℕ) (l : r < nodes net.relation.grid) where
     -- at each count
     pub start-consecutive : (i : ℕ) → i < size net → AreConsecutive (view_buffer (view_at net n r) i)
-    start-consecutive = seen-consecutive (state_at net n) (steady-state net setup n).keyed (worm_order-at net setup n) r (view_at net n r) (view_at-seen net n r)
+    start-consecutive = seen-consecutive (state_at net n) (steady-state net setup n).keyed (worm_order-at net (well-formed net setup) n) r (view_at net n r) (view_at-seen net n r)
 
     -- and in each frozen state
     pub frozen-consecutive : (i : ℕ) → i < size net → AreConsecutive (view_buffer (frozen_view net setup n r l) i)
-    frozen-consecutive = seen-consecutive (frozen_at net n) (steady-still net setup n).keyed (worm_order-frozen_at net setup n) r (frozen_view net setup n r l) (frozen-seen net setup n r l)
+    frozen-consecutive = seen-consecutive (frozen_at net n) (steady-still net setup n).keyed (worm_order-frozen_at net (well-formed net setup) n) r (frozen_view net setup n r l) (frozen-seen net setup n r l)

@@ -8,7 +8,7 @@ use Rattle.noc_topo.proofs.ListLemmas.{length-tabulate}
 use Rattle.noc_packet.specs.declared.packet.Beat.{Beat}
 use Rattle.noc_route.specs.Routes.{Routes}
 use Rattle.noc_alloc.specs.Arbiter.{arbiter_at}
-use Rattle.noc_alloc.specs.Sparse.{AreBelow}
+use Rattle.noc_alloc.specs.Members.{MembersAreBelow}
 use Rattle.noc_view.specs.View.{Decisions, Site, View, decisions_of, has_event, local_step, size_of, view_after_commit, view_after_inject, view_after_takes, flit_out, tail_packet, with_arrival, with_misfit}
 use Rattle.noc_view.specs.Arrivals.{arrivals_after, is_expected_in}
 use Rattle.noc_theory.specs.declared.limits.TheConstants.{CYCLE_LIMIT}
@@ -186,10 +186,10 @@ module _ {count : ℕ} (net : Setup) (setup : IsGoodSetup net) (n r : ℕ) (l : 
       twice true = refl
       twice false = refl
 
-      granted-below : AreBelow (size_of v.site) e.granted
-      granted-below = subst (AreBelow (size_of v.site)) (sym decided.granted) (put net setup n r l layout is_layout starts few s shows a b picked ahead e c w ended decided).granted_below
+      granted-below : MembersAreBelow (size_of v.site) e.granted
+      granted-below = subst (MembersAreBelow (size_of v.site)) (sym decided.granted) (put net setup n r l layout is_layout starts few s shows a b picked ahead e c w ended decided).granted_below
 
-      moved-there : AreBelow (size_of v.site) e.moved
+      moved-there : MembersAreBelow (size_of v.site) e.moved
       moved-there =
           moves-below net.relation layout (around net setup n r l layout is_layout starts few s shows a b picked ahead e c w ended decided) v
           (quiet net setup n r l layout is_layout starts few s shows a b picked ahead e c w ended decided) a b _ was

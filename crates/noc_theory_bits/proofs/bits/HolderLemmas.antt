@@ -35,6 +35,7 @@ use Rattle.noc_theory.proofs.worms.VerdictPhaseLemmas.{owned-before}
 use Rattle.noc_theory.proofs.verdicts.MoverLemmas.{GivenTo, grant-given, given-grant}
 use Rattle.noc_theory.proofs.join.OrderedStateLemmas.{ordered-frozen}
 use Rattle.noc_theory.proofs.join.ViewLemmas.{view_at-seen}
+use Rattle.noc_theory.proofs.worms.BuiltLemmas.{well-formed}
 use Rattle.noc_theory.proofs.worms.WormOrderLemmas.{worm_order-at}
 use Rattle.noc_sets.specs.Taken.{flit_from, flit_on_vc}
 use Rattle.noc_theory_bits.proofs.network.NetworkLemmas.{good, frozen-seen, frozen-tidy, steady-state, steady-still}
@@ -175,7 +176,7 @@ module _ (net : Setup) (setup : IsGoodSetup net) (n r : ℕ) (l : r < nodes net.
       at : (o : Option Located) → find (λ (g : Located). is_on c g.place) S.at ≡ o → option_map (λ (g : Located). flit_at (packet_at net g.packet) g.packet g.index) o ≡ Some f → owner_of net S c ≡ Some f.packet
       at None found h = absurd (none-some f h)
       at (Some g) found h =
-          let own = (worm_order-at net setup n).on_own g c (find-has (λ (g : Located). is_on c g.place) S.at g found) (place-on g.place (find-passes (λ (g : Located). is_on c g.place) S.at g found)) in
+          let own = (worm_order-at net (well-formed net setup) n).on_own g c (find-has (λ (g : Located). is_on c g.place) S.at g found) (place-on g.place (find-passes (λ (g : Located). is_on c g.place) S.at g found)) in
           own.1 ∙ ap (λ (x : Flit). Some x.packet) (same_Some _ f h)
 
   pub wire-holder : (i : ℕ) (f : Flit) → flit_from net.relation.vcs 0 row i ≡ Some f → holder_at net S r i ≡ Some f.packet

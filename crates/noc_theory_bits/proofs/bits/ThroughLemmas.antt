@@ -8,7 +8,7 @@ use Rattle.noc_topo.specs.Shape.{IsGrid, nodes, ports, neighbour}
 use Rattle.noc_packet.specs.Set.{has_bit}
 use Rattle.noc_packet.specs.declared.packet.Beat.{Beat}
 use Rattle.noc_packet.proofs.SetLemmas.{has_bit-zero}
-use Rattle.noc_alloc.specs.Sparse.{AreBelow}
+use Rattle.noc_alloc.specs.Members.{MembersAreBelow}
 use Rattle.noc_view.specs.View.{Site, View, size_of, is_tail, view_round}
 use Rattle.noc_view.specs.Found.{empty_finding}
 use Rattle.noc_theory.specs.declared.limits.TheConstants.{CYCLE_LIMIT}
@@ -159,7 +159,7 @@ module _ {count : ℕ} (net : Setup) (setup : IsGoodSetup net) (n : ℕ) (starts
     beats q s port e = (sent q s port e).beat
 
     -- a channel of a link is one of the router
-    link-size : (words : ℕ → ℕ) → AreBelow (size net) (gathered net.relation.grid net.relation.vcs words r)
+    link-size : (words : ℕ → ℕ) → MembersAreBelow (size net) (gathered net.relation.grid net.relation.vcs words r)
     link-size words k e =
         let link = gathered-links net.relation.grid grid net.relation.vcs some-vcs words r l k e in
         let m : (k / net.relation.vcs + 1) * net.relation.vcs ≤ ports net.relation.grid * net.relation.vcs = mul-le-mul_right net.relation.vcs (omega (arith, link)) in
@@ -171,18 +171,18 @@ module _ {count : ℕ} (net : Setup) (setup : IsGoodSetup net) (n : ℕ) (starts
     over words i = gathered-is net.relation.grid grid net.relation.vcs some-vcs words r l i
 
     abbrev Wires : Site → Type 0
-    Wires s = ((i : ℕ) → i < size_of s → has_bit next.links.flits i ≡ is_some (flit_from s.vcs 0 row i)) × AreBelow (size_of s) next.links.flits
-        × ((i : ℕ) → i < size_of s → has_bit next.links.tails i ≡ is_tail (flit_from s.vcs 0 row i)) × AreBelow (size_of s) next.links.tails
-        × ((o : ℕ) → o < size_of s → has_bit next.links.credits o ≡ credit_from s.vcs 0 row o) × AreBelow (size_of s) next.links.credits
+    Wires s = ((i : ℕ) → i < size_of s → has_bit next.links.flits i ≡ is_some (flit_from s.vcs 0 row i)) × MembersAreBelow (size_of s) next.links.flits
+        × ((i : ℕ) → i < size_of s → has_bit next.links.tails i ≡ is_tail (flit_from s.vcs 0 row i)) × MembersAreBelow (size_of s) next.links.tails
+        × ((o : ℕ) → o < size_of s → has_bit next.links.credits o ≡ credit_from s.vcs 0 row o) × MembersAreBelow (size_of s) next.links.credits
 
     wires-at : Wires (site_at net r)
     wires-at = (
       λ i u. ap (λ k. has_bit k i) have.flits ∙ over (λ s. (left s).flits) i ∙ sym (flits-over net setup n few left r l beats i),
-      subst (AreBelow (size net)) (sym have.flits) (link-size (λ s. (left s).flits)),
+      subst (MembersAreBelow (size net)) (sym have.flits) (link-size (λ s. (left s).flits)),
       λ i u. ap (λ k. has_bit k i) have.tails ∙ over (λ s. (left s).tails) i ∙ sym (tails-over net setup n few left r l beats i),
-      subst (AreBelow (size net)) (sym have.tails) (link-size (λ s. (left s).tails)),
+      subst (MembersAreBelow (size net)) (sym have.tails) (link-size (λ s. (left s).tails)),
       λ o u. ap (λ k. has_bit k o) have.credits ∙ over (λ s. (left s).credits) o ∙ sym (credits-over net setup n few left r l beats o),
-      subst (AreBelow (size net)) (sym have.credits) (link-size (λ s. (left s).credits)),
+      subst (MembersAreBelow (size net)) (sym have.credits) (link-size (λ s. (left s).credits)),
     )
 
     wires-are : ShowsWires (view_at net (suc n) r) next.links.flits next.links.tails next.links.credits (beats_at (beats_in net (state_at net (suc n))) r)

@@ -9,6 +9,7 @@ use Rattle.noc_view.specs.View.{View, view_buffer}
 use Rattle.noc_theory.specs.Good.{IsGoodSetup, IsValid}
 use Rattle.noc_theory.specs.Lockstep.{seen_flits}
 use Rattle.noc_theory.specs.Network.{Setup, State, Located, size, arriving, packet_at, is_in, buffer_of, frozen_at}
+use Rattle.noc_theory.proofs.join.LockstepTheoremLemmas.{are-short}
 use Rattle.noc_theory.proofs.worms.MemberLemmas.{Has-filter, Has-map}
 use Rattle.noc_theory.specs.Seen.{IsSeen}
 use Rattle.noc_theory_bits.proofs.network.NetworkLemmas.{good, frozen_view, frozen-seen, steady-still}
@@ -32,7 +33,7 @@ module _ (net : Setup) (setup : IsGoodSetup net) where
       let few = setup.few_packets in
       let number = one.valid.0 in
       let index = one.valid.1 in
-      let length = p.length in
+      let length = are-short net setup one.packet one.valid.0 in
       let nodes = setup.relation.table.grid.few_nodes in
       let goal = p.destination in
       let class = p.class in

@@ -5,7 +5,7 @@ use Rattle.std.proofs.lemmas.Bool.{and_parts, cases_lt, eq-eqb, le-ltb, lt-ltb, 
 use Rattle.noc_topo.specs.Lists.{is_some_of}
 use Rattle.noc_packet.specs.Set.{has_bit}
 use Rattle.noc_packet.proofs.SetLemmas.{has_bit-zero}
-use Rattle.noc_alloc.specs.Sparse.{AreBelow}
+use Rattle.noc_alloc.specs.Members.{MembersAreBelow}
 use Rattle.noc_view.specs.States.{is_won_from}
 use Rattle.noc_view.specs.View.{View, size_of, view_input, view_round}
 use Rattle.noc_theory.specs.Network.{Setup}
@@ -62,7 +62,7 @@ moves_in v = set_below (size_of v.site) (is_moving_in v)
 pub moves-are : (v : View) → AreMoved v (moves_in v)
 moves-are v = record { each = λ k l. set-members (size_of v.site) (is_moving_in v) k ∙ ap (λ b. b && is_moving_in v k) (lt-ltb k (size_of v.site) l) }
 
-pub moves-below : (v : View) → AreBelow (size_of v.site) (moves_in v)
+pub moves-below : (v : View) → MembersAreBelow (size_of v.site) (moves_in v)
 moves-below v k e = ltb-true k (size_of v.site) (and_parts (nat_lt k (size_of v.site)) (is_moving_in v k) (sym (set-members (size_of v.site) (is_moving_in v) k) ∙ e)).0
 
 -- by router, the channels that move in cycle n of a network

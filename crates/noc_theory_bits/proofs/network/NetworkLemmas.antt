@@ -16,7 +16,8 @@ use Rattle.noc_theory.proofs.join.JoinedLemmas.{phases}
 use Rattle.noc_theory.proofs.join.OrderedLemmas.{IsGood}
 use Rattle.noc_theory.proofs.join.OrderedStateLemmas.{ordered-state, ordered-mid, ordered-frozen}
 use Rattle.noc_theory.proofs.join.PhaseLemmas.{mid, IsTaken, IsInjected}
-use Rattle.noc_theory.proofs.join.LockstepTheoremLemmas.{good-network}
+use Rattle.noc_theory.proofs.worms.BuiltLemmas.{well-formed}
+use Rattle.noc_theory.proofs.join.LockstepTheoremLemmas.{are-short, good-network}
 use Rattle.noc_theory.proofs.join.ViewLemmas.{view_at-seen}
 use Rattle.noc_theory.specs.Seen.{IsSeen}
 use Rattle.noc_sets.specs.Column.{IsTidy}
@@ -28,7 +29,7 @@ use Rattle.noc_theory_bits.proofs.network.TidyLemmas.{tidy, has-size, full}
 
 module _ (net : Setup) (setup : IsGoodSetup net) where
   abbrev pub good : IsGood net
-  good = good-network net setup
+  good = good-network net (well-formed net setup)
 
   pub steady-state : (n : ℕ) → IsSteady net good (state_at net n)
   steady-state n = steady-start net good (state_at net n) (ordered-state net good n) (owed-at net good n)
@@ -49,10 +50,10 @@ module _ (net : Setup) (setup : IsGoodSetup net) where
 
     pub taken-seen : IsTaken net (state_at net n) r (view_at net n r) taken_view
     unfolding view_at view_in
-    taken-seen = (phases net good).takes (state_at net n) (ordered-state net good n) r l (view_at net n r) (view_at-seen net n r) refl
+    taken-seen = (phases net good (are-short net setup)).takes (state_at net n) (ordered-state net good n) r l (view_at net n r) (view_at-seen net n r) refl
 
     pub entered-seen : IsInjected net (mid net (state_at net n)) n r taken_view frozen_view
-    entered-seen = (phases net good).injects (mid net (state_at net n)) (ordered-mid net good n) n r l taken_view taken-seen.seen
+    entered-seen = (phases net good (are-short net setup)).injects (mid net (state_at net n)) (ordered-mid net good n) n r l taken_view taken-seen.seen
 
     same-frozen : after_injection net n (mid net (state_at net n)) ≡ frozen_at net n
     unfolding frozen_state
@@ -88,7 +89,7 @@ module _ (net : Setup) (setup : IsGoodSetup net) where
     -- the view at the next count is that after a local step, all of it
     pub next-count : n < CYCLE_LIMIT → (local_step net.relation (view_at net n r) (beats_at (beats_in net (state_at net n)) r) n).0 ≡ view_at net (suc n) r
     unfolding local_step
-    next-count few = next-view net (phases net good) n r l (omega (arith, few)) (ordered-state net good n) (ordered-mid net good n) (ordered-frozen net good n)
+    next-count few = next-view net (phases net good (are-short net setup)) n r l (omega (arith, few)) (ordered-state net good n) (ordered-mid net good n) (ordered-frozen net good n)
 
     pub beats-few : length beats ≤ ports (view_at net n r).site.grid
     unfolding beats_in

@@ -12,7 +12,7 @@ use Rattle.noc_packet.proofs.SetLemmas.{has_bit-zero, both_members}
 use Rattle.noc_alloc.specs.Arbiter.{RoundRobin, first_in_turn, arbiter_at, arbiter_after, pointer_after, pointers_of}
 use Rattle.noc_alloc.specs.Allocation.{grant_of}
 use Rattle.noc_alloc.proofs.ArbiterLemmas.{first_in_turn-same, first_in_turn-none}
-use Rattle.noc_alloc.specs.Sparse.{AreBelow}
+use Rattle.noc_alloc.specs.Members.{MembersAreBelow}
 use Rattle.noc_alloc.specs.Requests.{is_given}
 use Rattle.noc_vc.specs.Input.{is_waiting}
 use Rattle.noc_vc.specs.Output.{is_free}
@@ -77,10 +77,10 @@ module _ {count : ℕ} (v : View) (a b : Allocation) (port : ℕ → ℕ) (shows
   requests-at : (o k : ℕ) → o < size_of v.site → k < size_of v.site → has_bit (has.requests o) k ≡ is_some_of (ask_of (view_claim v k)) o
   requests-at o k lo lk = has.asks.asked o k (omega (arith, few)) ∙ ask-at a.column a.marks v shows few k lk (λ ask. is_some_of ask o) refl
 
-  requests-below : (o : ℕ) → o < size_of v.site → AreBelow (size_of v.site) (has.requests o)
+  requests-below : (o : ℕ) → o < size_of v.site → MembersAreBelow (size_of v.site) (has.requests o)
   requests-below o lo k e = shows.channels.waiting_below k (and_parts (has_bit a.column.waiting k) (is_some_of (asked_of a.column.idle (a.marks.set k)) o) (sym (has.asks.asked o k (omega (arith, few))) ∙ e)).0
 
-  small : (word : ℕ) → AreBelow (size_of v.site) word → word < 2 ^ 64
+  small : (word : ℕ) → MembersAreBelow (size_of v.site) word → word < 2 ^ 64
   small word below = omega (arith, below_fits (size_of v.site) word below, pow_below (size_of v.site) 64 (omega (arith, few)))
 
   -- the winner of an output channel is the one that the round grants it to
@@ -98,7 +98,7 @@ module _ {count : ℕ} (v : View) (a b : Allocation) (port : ℕ → ℕ) (shows
       idle-of : o < size_of v.site
       idle-of = at (cases_eq (bit_and (a.marks.set k) a.column.idle) 0)
         where
-          below : AreBelow (size_of v.site) (bit_and (a.marks.set k) a.column.idle)
+          below : MembersAreBelow (size_of v.site) (bit_and (a.marks.set k) a.column.idle)
           below i h = shows.channels.idle_below i (and_parts (has_bit (a.marks.set k) i) (has_bit a.column.idle i) (sym (both_members (a.marks.set k) a.column.idle i) ∙ h)).1
 
           test : is_some_of (asked_of a.column.idle (a.marks.set k)) o ≡ true
@@ -180,7 +180,7 @@ module _ {count : ℕ} (v : View) (a b : Allocation) (port : ℕ → ℕ) (shows
       ∙ ap (λ x. x && not (has_bit b.granted k)) (has.asks.asking k ∙ ask-at a.column a.marks v shows few k lk is_some refl)
       ∙ and-turned (is_some (ask_of (view_claim v k))) (not (has_bit b.granted k))
     where
-      inputs-below : AreBelow (size_of v.site) has.inputs
+      inputs-below : MembersAreBelow (size_of v.site) has.inputs
       inputs-below i e = shows.channels.waiting_below i (and_parts (has_bit a.column.waiting i) (is_some (asked_of a.column.idle (a.marks.set i))) (sym (has.asks.asking i) ∙ e)).0
 
       and-turned : (x y : Bool) → (x && y) ≡ (y && x)

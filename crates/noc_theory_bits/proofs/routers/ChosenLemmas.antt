@@ -10,7 +10,7 @@ use Rattle.noc_packet.specs.declared.packet.Flit.{Flit}
 use Rattle.noc_packet.proofs.SetLemmas.{has_bit-zero}
 use Rattle.noc_route.specs.Routes.{Routes, IsRelation, width}
 use Rattle.noc_alloc.specs.Arbiter.{arbiter_at}
-use Rattle.noc_alloc.specs.Sparse.{AreBelow}
+use Rattle.noc_alloc.specs.Members.{MembersAreBelow}
 use Rattle.noc_alloc.specs.Requests.{is_given}
 use Rattle.noc_vc.specs.Output.{is_free}
 use Rattle.noc_vc.specs.declared.input.InputState.{InputState}
@@ -75,7 +75,7 @@ pub record HasGrants (a b : Allocation) (v : View) : Type 0 where
   pub outs : ℕ
   pub outs_fit : outs < 2 ^ 64
   pub granted_fit : b.granted < 2 ^ 64
-  pub granted_below : AreBelow (size_of v.site) b.granted
+  pub granted_below : MembersAreBelow (size_of v.site) b.granted
   pub lost_fit : b.lost < 2 ^ 64
   pub shows : ShowsGrants a b outs v
 
@@ -90,7 +90,7 @@ pub record KeepsMarks (heads : ℕ) (m w : RouterMarks) (wanted all : ℕ) : Typ
 pub record ShowsChosen (relation : Routes) (filled : ℕ) (a b : Allocation) (outs : ℕ) (v : View) : Type 0 where
   pub outs_fit : outs < 2 ^ 64
   pub granted_fit : b.granted < 2 ^ 64
-  pub granted_below : AreBelow (size_of v.site) b.granted
+  pub granted_below : MembersAreBelow (size_of v.site) b.granted
   pub lost_fit : b.lost < 2 ^ 64
   pub wanted_fit : b.column.wanted < 2 ^ 64
   pub granted : (k : ℕ) → k < size_of v.site → has_bit b.granted k ≡ is_given (view_round v).grants (ask_of (view_claim v k)) k
@@ -111,7 +111,7 @@ module _ {count : ℕ} (relation : Routes) (layout : Layout) (x : Surroundings) 
     (permits : ArePermitted relation v sets a.marks.packet)
     (shows : IsColumn count a.column a.marks v) (no_grant : a.granted ≡ 0) (no_loss : a.lost ≡ 0)
     (chosen : HasChosen (size_of v.site) (λ o. o / v.site.vcs) (lane_heads x.filled a.column) sets a b) where
-  small : (set : ℕ) → AreBelow (size_of v.site) set → set < 2 ^ 64
+  small : (set : ℕ) → MembersAreBelow (size_of v.site) set → set < 2 ^ 64
   small set below = let few = still.few in omega (arith, below_fits (size_of v.site) set below, pow_below (size_of v.site) 64 (omega (arith, few)))
 
   pub given : HasGrants a chosen.granted v
@@ -121,7 +121,7 @@ module _ {count : ℕ} (relation : Routes) (layout : Layout) (x : Surroundings) 
       inputs-fit has = small has.inputs (λ k e. shows.channels.waiting_below k (and_parts (has_bit a.column.waiting k) (is_some (asked_of a.column.idle (a.marks.set k))) (sym (has.asks.asking k) ∙ e)).0)
 
       -- who is granted a channel waits
-      granted-below : (has : HasAllocated (size_of v.site) (λ o. o / v.site.vcs) a chosen.granted) → AreBelow (size_of v.site) chosen.granted.granted
+      granted-below : (has : HasAllocated (size_of v.site) (λ o. o / v.site.vcs) a chosen.granted) → MembersAreBelow (size_of v.site) chosen.granted.granted
       granted-below has k e = within (cases_lt k (size_of v.site))
         where
           wins : (o : ℕ) → has_bit has.outs o ≡ true → size_of v.site ≤ k → (won : Bool) → has_bit (winner has.requests a.marks o) k ≡ won → won ≡ false
@@ -208,7 +208,7 @@ module _ {count : ℕ} (relation : Routes) (layout : Layout) (x : Surroundings) 
   choice = record {
     outs_fit = given.outs_fit;
     granted_fit = subst (λ n. n < 2 ^ 64) (sym same-granted) given.granted_fit;
-    granted_below = subst (λ n. AreBelow (size_of v.site) n) (sym same-granted) given.granted_below;
+    granted_below = subst (λ n. MembersAreBelow (size_of v.site) n) (sym same-granted) given.granted_below;
     lost_fit = subst (λ n. n < 2 ^ 64) (sym same-lost) given.lost_fit;
     wanted_fit = chosen.wanted_fits;
     granted = λ k l. ap (λ n. has_bit n k) same-granted ∙ given.shows.granted k l;

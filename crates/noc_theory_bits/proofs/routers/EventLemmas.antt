@@ -10,7 +10,7 @@ use Rattle.noc_topo.proofs.ListLemmas.{get_or-tabulate, length-tabulate}
 use Rattle.noc_packet.specs.Set.{has_bit}
 use Rattle.noc_packet.proofs.SetLemmas.{has_bit-zero, zero_from_none}
 use Rattle.noc_route.specs.Routes.{Routes}
-use Rattle.noc_alloc.specs.Sparse.{AreBelow}
+use Rattle.noc_alloc.specs.Members.{MembersAreBelow}
 use Rattle.noc_view.specs.Verdict.{is_event}
 use Rattle.noc_view.specs.View.{View, size_of, view_round, finding_of, decisions_of, has_event}
 use Rattle.noc_view.specs.declared.finding.Finding.{Finding}
@@ -69,7 +69,7 @@ none-of true y z e = absurd (true≢false e)
 none-of false true z e = absurd (true≢false e)
 none-of false false z e = (refl, refl, e)
 
-no-word : (n w : ℕ) → AreBelow n w → ((k : ℕ) → k < n → has_bit w k ≡ false) → nat_eq w 0 ≡ true
+no-word : (n w : ℕ) → MembersAreBelow n w → ((k : ℕ) → k < n → has_bit w k ≡ false) → nat_eq w 0 ≡ true
 no-word n w below none = eq-eqb w 0 (zero_from_none w (λ k. at k (cases_lt k n)))
   where
     at : (k : ℕ) → (k < n) ⊎ (n ≤ k) → has_bit w k ≡ false
@@ -78,8 +78,8 @@ no-word n w below none = eq-eqb w 0 (zero_from_none w (λ k. at k (cases_lt k n)
 
 module _ (relation : Routes) (count picked : ℕ) (c : Column) (v : View) (filled lost_set : ℕ) (e : Effects) (words : AreWords count c)
     (effects : AreEffects e) (some_vc : 0 < v.site.vcs) (picks : ArePicked v.site.vcs (ports v.site.grid) (lane_ready filled c) c.ahead picked)
-    (shows : ShowsChannels c v) (fill : AreFilled v filled) (turns : HasTurns c v) (are : AreDecided picked c v filled lost_set e) (granted_below : AreBelow
-    (size_of v.site) e.granted) (moved_below : AreBelow (size_of v.site) e.moved) where
+    (shows : ShowsChannels c v) (fill : AreFilled v filled) (turns : HasTurns c v) (are : AreDecided picked c v filled lost_set e) (granted_below : MembersAreBelow
+    (size_of v.site) e.granted) (moved_below : MembersAreBelow (size_of v.site) e.moved) where
   event-at : (k : ℕ) → k < size_of v.site → is_event (finding_of (view_round v) v k).verdict
       ≡ (has_bit e.moved k || (has_bit e.granted k || has_bit (lane_heads filled c) k))
   event-at k l =

@@ -12,7 +12,7 @@ use Rattle.noc_packet.specs.declared.packet.Flit.{Flit}
 use Rattle.noc_packet.specs.declared.packet.Beat.{Beat}
 use Rattle.noc_packet.proofs.SetLemmas.{either_members}
 use Rattle.noc_route.specs.Routes.{Routes}
-use Rattle.noc_alloc.specs.Sparse.{AreBelow}
+use Rattle.noc_alloc.specs.Members.{MembersAreBelow}
 use Rattle.noc_vc.specs.Input.{Input, is_active, is_empty, is_idle_phase, is_waiting}
 use Rattle.noc_vc.specs.Output.{Output, ejection_output}
 use Rattle.noc_vc.specs.declared.input.InputState.{InputState}
@@ -272,34 +272,34 @@ module _ (relation : Routes) (count : ℕ) (c : Column) (m : RouterMarks) (v : V
       named o j p lo e = subst (ShowsHolder m o) e (column.marks.holders o lo)
 
   -- ---- no channel beyond those of the router
-  not-member : (set k : ℕ) → AreBelow (size_of v.site) set → size_of v.site ≤ k → has_bit set k ≡ false
+  not-member : (set k : ℕ) → MembersAreBelow (size_of v.site) set → size_of v.site ≤ k → has_bit set k ≡ false
   not-member set k below beyond = at (has_bit set k) refl
     where
       at : (b : Bool) → has_bit set k ≡ b → has_bit set k ≡ false
       at true e = absurd (let l = below k e in omega (arith, l, beyond))
       at false e = e
 
-  home_below : AreBelow (size_of v.site) (lane_home bits credits c)
+  home_below : MembersAreBelow (size_of v.site) (lane_home bits credits c)
   home_below k e =
       column.channels.draining_below k
       (and_parts (has_bit c.draining k) (not (has_bit (wrong_from 0 (raised_by c.credit credits) bits) k))
       (sym (less_members c.draining (wrong_from 0 (raised_by c.credit credits) bits) k) ∙ e)).0
 
-  idle_below_x : AreBelow (size_of v.site) frozen.idle
+  idle_below_x : MembersAreBelow (size_of v.site) frozen.idle
   idle_below_x k e = at (has_bit c.idle k) refl (sym (either_members c.idle (lane_home bits credits c) k) ∙ e)
     where
       at : (b : Bool) → has_bit c.idle k ≡ b → (has_bit c.idle k || has_bit (lane_home bits credits c) k) ≡ true → k < size_of v.site
       at true h t = column.channels.idle_below k h
       at false h t = home_below k (sym (ap (λ b. b || has_bit (lane_home bits credits c) k) h) ∙ t)
 
-  draining_below_x : AreBelow (size_of v.site) frozen.draining
+  draining_below_x : MembersAreBelow (size_of v.site) frozen.draining
   draining_below_x k e = at (has_bit c.draining k) refl (sym (xor_members c.draining (lane_home bits credits c) k) ∙ e)
     where
       at : (b : Bool) → has_bit c.draining k ≡ b → differ (has_bit c.draining k) (has_bit (lane_home bits credits c) k) ≡ true → k < size_of v.site
       at true h t = column.channels.draining_below k h
       at false h t = home_below k (sym (ap (λ b. differ b (has_bit (lane_home bits credits c) k)) h) ∙ t)
 
-  went_below : AreBelow (size_of v.site) went
+  went_below : MembersAreBelow (size_of v.site) went
   went_below k e = (went-local k e).1
 
   len_below_x : (i : ℕ) → size_of v.site ≤ i → plane_number frozen.len i ≡ 0
@@ -359,10 +359,10 @@ module _ (relation : Routes) (count : ℕ) (c : Column) (m : RouterMarks) (v : V
       inputs = subst (λ (t : Site). (i : ℕ) → i < size_of t → ShowsInput frozen i (view_buffer x i) (view_input x i)) (sym x_site) inputs_x;
       outputs = subst (λ (t : Site). (o : ℕ) → o < size_of t → ShowsOutput frozen o (view_output x o)) (sym x_site) outputs_x;
       supplied = subst (λ (t : Site). (i : ℕ) → i < size_of t → has_bit frozen.supplied i ≡ is_supplied x.outputs (view_input x i).phase) (sym x_site) supplied_x;
-      waiting_below = subst (λ (t : Site). AreBelow (size_of t) c.waiting) (sym x_site) column.channels.waiting_below;
-      active_below = subst (λ (t : Site). AreBelow (size_of t) c.active) (sym x_site) column.channels.active_below;
-      idle_below = subst (λ (t : Site). AreBelow (size_of t) frozen.idle) (sym x_site) idle_below_x;
-      draining_below = subst (λ (t : Site). AreBelow (size_of t) frozen.draining) (sym x_site) draining_below_x;
+      waiting_below = subst (λ (t : Site). MembersAreBelow (size_of t) c.waiting) (sym x_site) column.channels.waiting_below;
+      active_below = subst (λ (t : Site). MembersAreBelow (size_of t) c.active) (sym x_site) column.channels.active_below;
+      idle_below = subst (λ (t : Site). MembersAreBelow (size_of t) frozen.idle) (sym x_site) idle_below_x;
+      draining_below = subst (λ (t : Site). MembersAreBelow (size_of t) frozen.draining) (sym x_site) draining_below_x;
       len_below = subst (λ (t : Site). (i : ℕ) → size_of t ≤ i → plane_number frozen.len i ≡ 0) (sym x_site) len_below_x;
     };
     turns = turns-kept c frozen m v x refl x_site (injects.arbiters ∙ ap (λ (y : View). y.arbiters) taken.rest) column.turns;
@@ -396,7 +396,7 @@ module _ (relation : Routes) (count : ℕ) (c : Column) (m : RouterMarks) (v : V
         (or_fits (any_from 0 c.len) (lane_landed bits flits c) (any-fits c.len column.words.len)
         (or_fits flits (lane_injected bits c) flits_fit (and_fits c.injecting (wrong_from 0 c.len bits) column.words.injecting)))
         (lowest_fits (lane_begins local n s.due c) begins-fit);
-    below = subst (λ (t : Site). AreBelow (size_of t) (bit_or (lane_filled bits flits c) (lowest (lane_begins local n s.due c)))) (sym x_site) (λ k e. within k e (cases_lt k (size_of v.site)));
+    below = subst (λ (t : Site). MembersAreBelow (size_of t) (bit_or (lane_filled bits flits c) (lowest (lane_begins local n s.due c)))) (sym x_site) (λ k e. within k e (cases_lt k (size_of v.site)));
     each = subst (λ (t : Site). (i : ℕ) → i < size_of t → has_bit (bit_or (lane_filled bits flits c) (lowest (lane_begins local n s.due c))) i ≡ not (is_empty (view_buffer x i))) (sym x_site) fills;
   }
     where

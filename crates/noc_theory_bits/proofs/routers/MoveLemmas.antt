@@ -14,7 +14,7 @@ use Rattle.noc_topo.proofs.ListLemmas.{get_or-map_indexed}
 use Rattle.noc_packet.specs.Set.{has_bit, IsLeast}
 use Rattle.noc_packet.proofs.SetLemmas.{bit_at-true, bit_at-false, both_members, has_bit-zero}
 use Rattle.noc_alloc.specs.Arbiter.{RoundRobin, pointer_after, pointers_of, arbiter_at, arbiter_after}
-use Rattle.noc_alloc.specs.Sparse.{AreBelow}
+use Rattle.noc_alloc.specs.Members.{MembersAreBelow}
 use Rattle.noc_vc.specs.declared.input.InputState.{InputState}
 use Rattle.noc_vc.specs.declared.input.InputState.TheVariants.{Idle, Waiting, Active}
 use Rattle.noc_view.specs.States.{is_won_from}
@@ -37,7 +37,7 @@ use Rattle.noc_sets.proofs.WinnerLemmas.{ShowsPorts}
 pub record AreMoving (v : View) (picked : ℕ) (to turn : ℕ → ℕ) : Type 0 where
   pub some_vc : 0 < v.site.vcs
   pub fits : picked < 2 ^ 64
-  pub below : AreBelow (size_of v.site) picked
+  pub below : MembersAreBelow (size_of v.site) picked
   pub draws : (k : ℕ) → k < size_of v.site → has_bit picked k ≡ is_some_of (slice_index_or (view_round v).picks (k / v.site.vcs) None) (k % v.site.vcs)
   pub to_port : (q k : ℕ) → q < ports v.site.grid → k < size_of v.site → has_bit picked k ≡ true → has_bit (to q) k ≡ sends_by v.site.vcs q (view_input v k).phase
   pub pointers : (q : ℕ) → q < ports v.site.grid → slice_index (pointers_of v.arbiters.outputs) q < ports v.site.grid

@@ -9,7 +9,7 @@ use Rattle.noc_packet.specs.declared.packet.Beat.{Beat}
 use Rattle.noc_packet.proofs.SetLemmas.{both_members, either_members}
 use Rattle.noc_route.specs.Routes.{Routes}
 use Rattle.noc_alloc.specs.Arbiter.{arbiter_at}
-use Rattle.noc_alloc.specs.Sparse.{AreBelow}
+use Rattle.noc_alloc.specs.Members.{MembersAreBelow}
 use Rattle.noc_vc.specs.Output.{Output}
 use Rattle.noc_view.specs.Arrivals.{is_expected_in, arrivals_after}
 use Rattle.noc_view.specs.States.{is_supplied, is_won_from}
@@ -37,20 +37,20 @@ abbrev pub decided_lane : ℕ → ℕ → ℕ → Column → Column
 decided_lane outs wanted supplied c = record c { idle = less c.idle outs; wanted = wanted; supplied = supplied }
 
 -- ---- sets below a number
-or-below : (n a b : ℕ) → AreBelow n a → AreBelow n b → AreBelow n (bit_or a b)
+or-below : (n a b : ℕ) → MembersAreBelow n a → MembersAreBelow n b → MembersAreBelow n (bit_or a b)
 or-below n a b p q k e = at (has_bit a k) refl
   where
     at : (x : Bool) → has_bit a k ≡ x → k < n
     at true z = p k z
     at false z = q k (sym (ap (λ x. x || has_bit b k) z) ∙ sym (either_members a b k) ∙ e)
 
-pub less-below : (n a b : ℕ) → AreBelow n a → AreBelow n (less a b)
+pub less-below : (n a b : ℕ) → MembersAreBelow n a → MembersAreBelow n (less a b)
 less-below n a b p k e = p k (and_parts (has_bit a k) (not (has_bit b k)) (sym (less_members a b k) ∙ e)).0
 
-and-below : (n a b : ℕ) → AreBelow n b → AreBelow n (bit_and a b)
+and-below : (n a b : ℕ) → MembersAreBelow n b → MembersAreBelow n (bit_and a b)
 and-below n a b p k e = p k (and_parts (has_bit a k) (has_bit b k) (sym (both_members a b k) ∙ e)).1
 
-pub none-above : (n a k : ℕ) → AreBelow n a → n ≤ k → has_bit a k ≡ false
+pub none-above : (n a k : ℕ) → MembersAreBelow n a → n ≤ k → has_bit a k ≡ false
 none-above n a k below l = at (has_bit a k) refl
   where
     at : (b : Bool) → has_bit a k ≡ b → has_bit a k ≡ false
@@ -79,10 +79,10 @@ record ChannelsIn (site : Site) (c : Column) (v : View) : Type 0 where
   inputs : (i : ℕ) → i < size_of site → ShowsInput c i (view_buffer v i) (view_input v i)
   outputs : (o : ℕ) → o < size_of site → ShowsOutput c o (view_output v o)
   supplied : (i : ℕ) → i < size_of site → has_bit c.supplied i ≡ is_supplied v.outputs (view_input v i).phase
-  waiting_below : AreBelow (size_of site) c.waiting
-  active_below : AreBelow (size_of site) c.active
-  idle_below : AreBelow (size_of site) c.idle
-  draining_below : AreBelow (size_of site) c.draining
+  waiting_below : MembersAreBelow (size_of site) c.waiting
+  active_below : MembersAreBelow (size_of site) c.active
+  idle_below : MembersAreBelow (size_of site) c.idle
+  draining_below : MembersAreBelow (size_of site) c.draining
   len_below : (i : ℕ) → size_of site ≤ i → plane_number c.len i ≡ 0
 
 shows-channels : (c : Column) (v : View) (parts : ChannelsIn v.site c v) → ShowsChannels c v
@@ -130,10 +130,10 @@ pub record AreSettling (v w : View) (c : Column) (m : RouterMarks) (links local 
   pub outs_fit : outs < 2 ^ 64
   pub wanted_fits : wanted < 2 ^ 64
   pub supplied_fits : supplied < 2 ^ 64
-  pub granted_below : AreBelow (size_of v.site) e.granted
-  pub moved_below : AreBelow (size_of v.site) e.moved
-  pub local_below : AreBelow (size_of v.site) local
-  pub links_below : AreBelow (size_of v.site) links
+  pub granted_below : MembersAreBelow (size_of v.site) e.granted
+  pub moved_below : MembersAreBelow (size_of v.site) e.moved
+  pub local_below : MembersAreBelow (size_of v.site) local
+  pub links_below : MembersAreBelow (size_of v.site) links
   pub sizes : (p : ℕ) → p < ports v.site.grid → (arbiter_at v.arbiters.inputs p).size ≡ v.site.vcs
   pub outputs : (o : ℕ) → o < size_of v.site → SaysOut v links local outs e o (view_output v o) (slice_index_or (view_round v).grants o None) (mover_to v
       (view_round v) o)
@@ -195,7 +195,7 @@ module _ (relation : Routes) (count : ℕ) (picked ahead : ℕ) (c : Column) (v 
           (has_bit c.supplied i) (has_bit dry i) (has_bit e.granted i) (has_bit e.released i) (shows.supplied i l) says.says;
       waiting_below = or-below (size_of v.site) (less c.waiting e.granted) e.heads (less-below
           (size_of v.site) c.waiting e.granted shows.waiting_below)
-          (subst (λ w. AreBelow (size_of v.site) w) (sym are.heads) (less-below (size_of v.site) filled (bit_or c.waiting c.active) fill.below));
+          (subst (λ w. MembersAreBelow (size_of v.site) w) (sym are.heads) (less-below (size_of v.site) filled (bit_or c.waiting c.active) fill.below));
       active_below = less-below (size_of v.site) (bit_or c.active e.granted) e.released (or-below
           (size_of v.site) c.active e.granted shows.active_below s.granted_below);
       idle_below = or-below (size_of v.site) (less c.idle outs) (bit_and e.freed local) (less-below

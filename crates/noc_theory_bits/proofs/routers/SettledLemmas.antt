@@ -9,7 +9,7 @@ use Rattle.noc_packet.specs.declared.packet.Beat.{Beat}
 use Rattle.noc_packet.specs.declared.packet.Packet.{Packet}
 use Rattle.noc_route.specs.Routes.{Routes}
 use Rattle.noc_alloc.specs.Arbiter.{arbiter_at}
-use Rattle.noc_alloc.specs.Sparse.{AreBelow}
+use Rattle.noc_alloc.specs.Members.{MembersAreBelow}
 use Rattle.noc_view.specs.Arrivals.{is_expected_in, arrivals_after}
 use Rattle.noc_view.specs.Verdict.{arbiters_after}
 use Rattle.noc_view.specs.View.{View, Decisions, size_of, view_round, decisions_of, view_after_commit, with_arrival, with_misfit, tail_packet, flit_out, view_after_inject, view_after_takes, local_step}
@@ -39,13 +39,13 @@ module _ {count : ℕ} (relation : Routes) (layout : Layout) (x : Surroundings) 
   abbrev sw : HasSwitched v.site.vcs (ports v.site.grid) x.picked (single_in layout.links a.column) x.tail b.marks w e b.column.supplied supplied
   sw = switched
 
-  links-below : AreBelow (size_of v.site) layout.links
+  links-below : MembersAreBelow (size_of v.site) layout.links
   links-below k h =
       let m : local_port v.site.grid * v.site.vcs ≤ ports v.site.grid * v.site.vcs = mul-le-mul_right v.site.vcs (omega arith) in
       let l : k < local_port v.site.grid * v.site.vcs = ltb-true k (local_port v.site.grid * v.site.vcs) (sym (still.sides.link_is k) ∙ h) in
       omega (arith, m, l)
 
-  local-below : AreBelow (size_of v.site) layout.local
+  local-below : MembersAreBelow (size_of v.site) layout.local
   local-below k h =
       ltb-true k (ports v.site.grid * v.site.vcs)
       (and_parts (nat_le (local_port v.site.grid * v.site.vcs) k) (nat_lt k (ports v.site.grid * v.site.vcs)) (sym (still.sides.local_is k) ∙ h)).1
@@ -61,7 +61,7 @@ module _ {count : ℕ} (relation : Routes) (layout : Layout) (x : Surroundings) 
     outs_fit = put.outs_fit;
     wanted_fits = put.wanted_fit;
     supplied_fits = supplied-fits relation layout x v still a b outs shows picks put w e supplied switched heads_are granted_are;
-    granted_below = subst (λ n. AreBelow (size_of v.site) n) (sym granted_are) put.granted_below;
+    granted_below = subst (λ n. MembersAreBelow (size_of v.site) n) (sym granted_are) put.granted_below;
     moved_below = moves-below relation layout x v still a b outs shows picks put w e supplied switched heads_are granted_are;
     local_below = local-below;
     links_below = links-below;

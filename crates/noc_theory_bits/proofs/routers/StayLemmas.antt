@@ -7,7 +7,7 @@ use Rattle.std.proofs.lemmas.List.{get_or-map}
 use Rattle.noc_topo.specs.Lists.{is_some_of}
 use Rattle.noc_topo.proofs.ListLemmas.{length-tabulate}
 use Rattle.noc_packet.specs.declared.packet.Beat.{Beat}
-use Rattle.noc_alloc.specs.Sparse.{AreBelow}
+use Rattle.noc_alloc.specs.Members.{MembersAreBelow}
 use Rattle.noc_view.specs.Still.{counted_times}
 use Rattle.noc_view.specs.Verdict.{column}
 use Rattle.noc_view.specs.View.{Site, View, size_of, counts_after, is_tail}
@@ -76,11 +76,11 @@ pub wires-same : (v w : View) (flits tails credits : ℕ) (row later : List Beat
     → ShowsWires v flits tails credits row → ShowsWires w flits tails credits later
 wires-same v w flits tails credits row later site now still x = record {
   comes = λ i l. x.comes i (within i l) ∙ ap is_some (silent-flit v.site.vcs row i now ∙ sym (silent-flit w.site.vcs later i still));
-  comes_below = subst (λ (s : Site). AreBelow (size_of s) flits) (sym site) x.comes_below;
+  comes_below = subst (λ (s : Site). MembersAreBelow (size_of s) flits) (sym site) x.comes_below;
   returns = λ o l. x.returns o (within o l) ∙ silent-credit v.site.vcs row o now ∙ sym (silent-credit w.site.vcs later o still);
-  returns_below = subst (λ (s : Site). AreBelow (size_of s) credits) (sym site) x.returns_below;
+  returns_below = subst (λ (s : Site). MembersAreBelow (size_of s) credits) (sym site) x.returns_below;
   tail_comes = λ i l. x.tail_comes i (within i l) ∙ ap is_tail (silent-flit v.site.vcs row i now ∙ sym (silent-flit w.site.vcs later i still));
-  tail_comes_below = subst (λ (s : Site). AreBelow (size_of s) tails) (sym site) x.tail_comes_below;
+  tail_comes_below = subst (λ (s : Site). MembersAreBelow (size_of s) tails) (sym site) x.tail_comes_below;
 }
   where
     within : (i : ℕ) → i < size_of w.site → i < size_of v.site

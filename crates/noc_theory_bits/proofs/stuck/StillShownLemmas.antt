@@ -5,7 +5,7 @@ use Rattle.std.specs.Prelude.{slice_index_or}
 use Rattle.noc_topo.specs.Shape.{nodes}
 use Rattle.noc_topo.proofs.ListLemmas.{get_or-map_indexed}
 use Rattle.noc_packet.specs.declared.packet.Flit.{Flit}
-use Rattle.noc_alloc.specs.Sparse.{AreBelow}
+use Rattle.noc_alloc.specs.Members.{MembersAreBelow}
 use Rattle.noc_view.specs.Still.{IsHeldBefore, counted_times, takes_effect, view_after_waiting}
 use Rattle.noc_view.specs.View.{Site, View, counts_after, decided_verdict, decisions_of, size_of}
 use Rattle.noc_view.proofs.StillLemmas.{still-verdict}
@@ -120,7 +120,7 @@ module _ (net : Setup) (setup : IsGoodSetup net) (n t end : ℕ) (sums : n + suc
             each = λ i u.
                 after.ended.each i (subst (λ (s : Site). i < size_of s) site-then u)
                 ∙ ap (λ (bs : List (List Flit)). holds_tail (slice_index_or bs i [])) (ap (λ (v : View). v.buffers) same);
-            below = subst (λ (s : Site). AreBelow (size_of s) is.ended) (sym site-then) after.ended.below;
+            below = subst (λ (s : Site). MembersAreBelow (size_of s) is.ended) (sym site-then) after.ended.below;
           };
           holders = held_then;
         }

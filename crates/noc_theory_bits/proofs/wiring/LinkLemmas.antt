@@ -19,6 +19,7 @@ use Rattle.noc_theory.specs.Lockstep.{beats_at, beats_in, beat_by, site_at}
 use Rattle.noc_theory.specs.Network.{Setup, size, state_at}
 use Rattle.noc_theory.proofs.join.JoinLemmas.{next-beats}
 use Rattle.noc_theory.proofs.join.JoinedLemmas.{phases}
+use Rattle.noc_theory.proofs.join.LockstepTheoremLemmas.{are-short}
 use Rattle.noc_theory.proofs.join.OrderedStateLemmas.{ordered-state, ordered-mid, ordered-frozen}
 use Rattle.noc_sets.specs.Taken.{flit_from, flit_on_vc, credit_from}
 use Rattle.noc_theory_bits.proofs.network.PutLemmas.{beat-next}
@@ -85,7 +86,7 @@ module _ (net : Setup) (setup : IsGoodSetup net) where
               let out : port < local_port (frozen_of net n to).site.grid = subst (λ (x : Site). port < local_port x.grid) (sym (same-site to back.node)) back.port in
               here q link
               ∙ ap (beat_by net (state_at net (suc n)) r q) e
-              ∙ sym (next-beats net (phases net (good net setup)) n to back.node (omega (arith, few)) (ordered-state net (good net setup) n) (ordered-mid net (good net setup) n) (ordered-frozen net (good net setup) n) port r q e l)
+              ∙ sym (next-beats net (phases net (good net setup) (are-short net setup)) n to back.node (omega (arith, few)) (ordered-state net (good net setup) n) (ordered-mid net (good net setup) n) (ordered-frozen net (good net setup) n) port r q e l)
               ∙ beat-next net.relation (frozen_of net n to) port out
 
       -- the flit that comes to an input channel, and whether a credit comes to an output channel

@@ -5,8 +5,8 @@ use Rattle.noc_opening.specs.Firsts.{AreFirsts}
 use Rattle.noc_opening.proofs.starts.all_starts.Given as goal
 
 -- the packets of the routers so far
-abbrev pub invariant-loop-node : goal.invariant-loop-node
-invariant-loop-node l = record {
-  list : starts_by l.list.items ≡ starts_list l.packets l.node;
-  firsts : AreFirsts l.packets l.node l.firsts.items;
+abbrev pub invariant-loop-queue : goal.invariant-loop-queue
+invariant-loop-queue l = record {
+  list : starts_by l.list.items ≡ starts_list l.packets l.queue-index;
+  firsts : AreFirsts l.packets l.queue-index l.firsts.items;
 }

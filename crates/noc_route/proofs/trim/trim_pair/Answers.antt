@@ -1,29 +1,23 @@
-use Rattle.std.proofs.Common.{◌≡◌, ◌+◌, ◌*◌, ◌<◌, ℕ, subst, ap, sym, arith}
+use Rattle.std.proofs.Common.{◌≡◌, ◌+◌, ◌*◌, ◌<◌, ◌≤◌, ◌∙◌, ℕ, get_or, subst, arith, inl, below_more}
 use Rattle.noc_topo.specs.Shape.{nodes}
 use Rattle.noc_route.specs.Entered.{sets_in}
-use Rattle.noc_route.specs.Routes.{width, pages}
-use Rattle.noc_route.specs.Trimming.{routes_in, left_in, IsFirstStuck}
+use Rattle.noc_route.specs.Routes.{width}
+use Rattle.noc_route.specs.Trimming.{reached_at}
 use Rattle.noc_route.proofs.EntryLemmas.{flat-below}
-use Rattle.noc_route.proofs.StuckLemmas.{ArePagesLeft-more}
 use Rattle.noc_route.proofs.trim.trim_pair.Goals as goal
 
-pub trim_page-first-requires-clause-page : goal.trim_page-first-requires-clause-page
-trim_page-first-requires-clause-page c =
-    let f = c.args.leaving.now.map.now.sizes in
-    let there : c.loop-dst.dst < nodes f.shape = omega (arith, c.loop-dst-test.true, f.all_nodes) in
-    subst (λ n. c.args.pair * n + c.loop-dst.dst < pages f.shape f.classes) (sym f.all_nodes) (flat-below c.args.pair (nodes f.shape * f.classes) c.loop-dst.dst (nodes f.shape) c.requires.pair there)
+pub trim_column-requires-clause-input : goal.trim_column-requires-clause-input
+trim_column-requires-clause-input c = let P : ℕ → Type 0 = λ n. c.loop-input.input < n in subst P c.width-input-end.ensures.value c.loop-input-test.true
 
-pub loop-dst-preserved : goal.loop-dst-preserved
-loop-dst-preserved c =
-    let f = c.args.leaving.now.map.now.sizes in
-    let dst = c.loop-dst.dst in
-    let there : dst < nodes f.shape = omega (arith, c.loop-dst-test.true, f.all_nodes) in
-    ArePagesLeft-more f (sets_in f c.args.entered.now) c.args.leaving.now.outs.now c.loop-dst.block c.trim_page-first.new.block c.args.pair dst (c.args.pair * f.node_count + dst) c.loop-dst.first c.trim_page-first.result
-    there (ap (λ n. c.args.pair * n + dst) f.all_nodes) c.trim_page-first.ensures.left c.trim_page-first.ensures.others c.trim_page-first.ensures.first c.loop-dst.invariant
+pub loop-input-preserved : goal.loop-input-preserved
+loop-input-preserved c = λ i t l m.
+    let f = c.args.sizes.now in
+    let n = nodes f.shape in
+    below_more (λ i. get_or c.trim_column.new.block (i * n + t) 0 ≡ reached_at f (sets_in f c.args.entered.now) c.args.coming.now c.args.pair i t) c.loop-input.input
+    (λ i l. c.trim_column.ensures.others (i * n + t) (inl (flat-below i c.loop-input.input t n l m)) ∙ c.loop-input.invariant i t l m)
+    (c.trim_column.ensures.column t m) i l
 
-pub returns-clause-first : goal.returns-clause-first
-returns-clause-first c =
-    let f = c.args.leaving.now.map.now.sizes in
-    let P : ℕ → Type 0 = λ n. IsFirstStuck (routes_in f (left_in f (sets_in f c.args.entered.now) c.args.leaving.now.outs.now)) c.args.leaving.now.outs.now (n * width f.shape f.vcs) c.loop-dst.first in
-    let all : c.args.pair * nodes f.shape + c.loop-dst.dst ≡ (c.args.pair + 1) * nodes f.shape = omega (arith, c.loop-dst-test.false, c.loop-dst.auto.dst-end, f.all_nodes) in
-    subst P all c.loop-dst.invariant.stuck
+pub returns : goal.returns
+returns c = λ t i l m.
+    let last : width c.args.sizes.now.shape c.args.sizes.now.vcs ≤ c.loop-input.input = omega (arith, c.width-input-end.ensures.value, c.loop-input-test.false) in
+    c.loop-input.invariant i t (omega (arith, m, last)) l

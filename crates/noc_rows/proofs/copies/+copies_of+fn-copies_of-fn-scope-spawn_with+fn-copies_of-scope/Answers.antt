@@ -51,7 +51,7 @@ fn::copies_of::scope+FnOnce::call_once-scope-requires g t c κs within = (search
 pub scope-returns : goal.scope-returns
 scope-returns g t c =
     let there = subst (λ (p : CopiesOf g.row.W.Denot). IfOk c.join-second.result (λ v. AreCopies p.network.now p.count v.items)) c.in-Ok.ensures.ok c.join-second.ensures in
-    both-copied c.captures.network.now c.captures.here c.captures.there c.copies_of-first.result c.join-second.result c.joined.result c.copies_of-first.ensures there c.joined.ensures
+    both-copied c.captures.network.now c.captures.here c.captures.there c.copies_of-first.result c.join-second.result c.joined.result c.copies_of-first.ensures there c.joined.ensures.both
 
 pub scoped-requires : goal.scoped-requires
 scoped-requires g t c =

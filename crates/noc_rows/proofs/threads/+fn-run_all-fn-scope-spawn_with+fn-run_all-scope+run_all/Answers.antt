@@ -48,7 +48,7 @@ fn::run_all::scope+FnOnce::call_once-scope-requires g t c κs within = (search r
 pub scope-returns : goal.scope-returns
 scope-returns g t c =
     let there = subst (λ (p : RunsOf g.row.W.Denot). IfOk c.join-second.result (λ v. AllHaveRun g.W.Word.value g.W.Word.bits (start_by p.run.now) (p.done + p.more) p.owns.now v.items)) c.in-Ok.ensures.ok c.join-second.ensures in
-    both-run g.W.Word.value g.W.Word.bits (start_by c.captures.run.now) (c.captures.done + c.captures.more) c.captures.here.now c.captures.there.now c.run_all-first.result c.join-second.result c.joined.result c.run_all-first.ensures there c.joined.ensures
+    both-run g.W.Word.value g.W.Word.bits (start_by c.captures.run.now) (c.captures.done + c.captures.more) c.captures.here.now c.captures.there.now c.run_all-first.result c.join-second.result c.joined.result c.run_all-first.ensures there c.joined.ensures.both
 
 pub run_last-requires : goal.run_last-requires
 run_last-requires g t c =

@@ -1,7 +1,7 @@
 use Rattle.std.proofs.Common.{rules, arith, ℕ, ◌≡◌, ◌+◌, ◌<◌, false, Result, Ok, Err, IfErr, IfOk, IsOk, ap, sym, ◌∙◌, refl}
 use Rattle.std.proofs.lemmas.Bool.{false≢true}
-use Rattle.noc_tiles.specs.declared.threads.RunFault.{RunFault}
-use Rattle.noc_tiles.specs.declared.threads.RunFault.TheVariants.{LostWorker}
+use Rattle.noc_net.specs.declared.workers.RunFault.{RunFault}
+use Rattle.noc_net.specs.declared.workers.RunFault.TheVariants.{LostWorker}
 use Rattle.noc_tiles.proofs.tiles.run_tiles.Goals as goal
 
 -- what follows from what is known of a result

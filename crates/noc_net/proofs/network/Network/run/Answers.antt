@@ -1,6 +1,7 @@
 use Rattle.std.proofs.Common.{◌+◌, ◌≤◌, sym, subst}
 use Rattle.noc_theory.specs.declared.limits.TheConstants.{CYCLE_LIMIT}
 use Rattle.noc_theory.specs.Network.{Run}
+use Rattle.noc_theory.proofs.worms.BuiltLemmas.{well-formed}
 use Rattle.noc_theory.proofs.budget.ProgressTheoremLemmas.{not-stuck}
 use Rattle.noc_net.specs.declared.network.Network.TheInside.{Inside}
 use Rattle.noc_net.specs.Inside.{IsNetwork}
@@ -30,4 +31,4 @@ invariant_of-self c =
 pub returns-clause-unstuck : goal.returns-clause-unstuck
 returns-clause-unstuck c = λ ranks ranked.
     let sound : IsNetwork _ = invariant_of-self c in
-    not-stuck _ sound.parts.good ranks ranked _
+    not-stuck _ (well-formed _ sound.parts.good) ranks ranked _

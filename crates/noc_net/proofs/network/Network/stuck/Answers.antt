@@ -5,6 +5,7 @@ use Rattle.noc_topo.specs.Lists.{is_some_of}
 use Rattle.noc_theory.specs.Good.{IsGoodSetup}
 use Rattle.noc_theory.specs.Network.{Run, Setup, state_at}
 use Rattle.noc_theory.specs.Progress.{is_pending, is_stuck, last_event_before}
+use Rattle.noc_theory.proofs.worms.BuiltLemmas.{well-formed}
 use Rattle.noc_theory.proofs.budget.ProgressTheoremLemmas.{not-stuck}
 use Rattle.noc_theory.proofs.budget.StuckLemmas.{stuck-after}
 use Rattle.noc_net.proofs.network.Network.stuck.Goals as goal
@@ -19,7 +20,7 @@ since : (net : Setup) → IsGoodSetup net → (last count : ℕ) → last + 1 �
 since net good last count e event is test tested =
     let s : suc last ≡ count = omega arith in
     ap (λ b. b && is_pending net last (state_at net count)) (tested ∙ ap not (test-is event last) ∙ ap (λ (o : Option ℕ). not (is_some_of o last)) is)
-    ∙ ap (λ n. not (is_some_of (last_event_before net n) last) && is_pending net last (state_at net n)) (sym s) ∙ stuck-after net good last ∙ ap (is_stuck net) s
+    ∙ ap (λ n. not (is_some_of (last_event_before net n) last) && is_pending net last (state_at net n)) (sym s) ∙ stuck-after net (well-formed net good) last ∙ ap (is_stuck net) s
 
 pub returns-then-ne-clause-value : goal.returns-then-ne-clause-value
 returns-then-ne-clause-value c =
@@ -37,4 +38,4 @@ returns-else-ne-clause-value c =
 
 pub returns-then-ne-clause-ranked : goal.returns-then-ne-clause-ranked
 returns-then-ne-clause-ranked c = λ ranks ranked.
-    returns-then-ne-clause-value c ∙ not-stuck c.args.self.now.net (subst (λ (u : Run). IsGoodSetup u.net) c.self.view_is c.self.invariant.parts.good) ranks ranked c.args.self.now.count
+    returns-then-ne-clause-value c ∙ not-stuck c.args.self.now.net (well-formed _ (subst (λ (u : Run). IsGoodSetup u.net) c.self.view_is c.self.invariant.parts.good)) ranks ranked c.args.self.now.count

@@ -11,6 +11,7 @@ invariant-loop-pair l =
     let f = l.leaving.map.now.sizes in
     let table = left_in f (sets_in f l.entered) l.leaving.outs.now in
     record {
+      coming : vec_len l.coming ≡ nodes f.shape;
       block : vec_len l.block ≡ nodes f.shape * width f.shape f.vcs;
       starts : vec_len l.starts ≡ nodes f.shape * f.classes * width f.shape f.vcs;
       few : l.end ≤ l.pair * (nodes f.shape * width f.shape f.vcs);

@@ -1,12 +1,10 @@
-use Rattle.std.proofs.Common.{◌≡◌, ℕ, ◌+◌, ◌-◌, ◌*◌, ◌/◌, ◌%◌, ◌<◌, ◌∙◌, Option, true, false, ap, arith, get_or, length, sym, subst}
+use Rattle.std.proofs.Common.{◌≡◌, ℕ, ◌+◌, ◌-◌, ◌*◌, ◌/◌, ◌<◌, ◌∙◌, true, false, ap, arith, get_or, length, sym, subst}
 use Rattle.std.specs.Prelude.{◌&&◌, nat_eq, nat_le, nat_lt, not, if◌then◌else◌}
 use Rattle.std.proofs.lemmas.Bool.{eq-eqb, eqb-true, ne_eqb}
 use Rattle.std.proofs.lemmas.List.{get_or_default}
-use Rattle.noc_packet.specs.Set.{has_bit}
-use Rattle.noc_topo.specs.Shape.{local_port, neighbour}
 use Rattle.noc_route.specs.Trimming.{routes_in, comes_in}
 use Rattle.noc_route.proofs.BoolLemmas.{and_where}
-use Rattle.noc_route.proofs.TrimLemmas.{port-parts, port-span, port-span_unless, comes_over, comes_in-local, comes_in-link}
+use Rattle.noc_route.proofs.TrimLemmas.{port-span_unless, comes_in-local, brought}
 use Rattle.noc_route.proofs.gather.Departures.arrivals_by.Goals as goal
 use Rattle.noc_route.proofs.gather.Departures.arrivals_by.Goals.{then-router-dst, else-router-dst}
 
@@ -29,22 +27,9 @@ returns-then-port-sizes c = λ sets i.
 pub returns-in-Some : goal.returns-in-Some
 returns-in-Some c = λ sets i.
     let f = c.args.self.now.map.now.sizes in
-    let routes = routes_in f sets in
     let outs = c.args.self.now.outs.now in
     let within : c.page.result < length outs = let P : ℕ → Type 0 = λ n. c.page.result < n in subst P (sym c.args.self.now.long) c.page.ensures.within in
-    let out = get_or outs c.page.result c.index-self-page.result in
     let had = get_or_default outs c.page.result c.index-self-page.result 0 within ∙ ap (λ j. get_or outs j 0) c.page.ensures.value in
-    let first = c.in-Some.out_port * f.vcs in
-    let link : nat_eq (i / f.vcs) c.args.port ≡ true → has_bit out (first + (i - c.args.port * f.vcs)) ≡ comes_in routes outs c.args.class c.args.router c.args.dst i = λ e.
-    let same = eqb-true (i / f.vcs) c.args.port e in
-    let parts = port-parts f.vcs c.args.port i same in
-    let number : i - c.args.port * f.vcs ≡ i % f.vcs = omega (arith, parts) in
-    let other : nat_eq (i / f.vcs) (local_port f.shape) ≡ false = ne_eqb _ _ (λ home. c.if-port-sizes.false (omega (arith, home, same, f.all_ports))) in
-    ap (λ n. has_bit out (first + n)) number
-    ∙ ap (λ s. has_bit s (first + i % f.vcs)) had
-    ∙ sym
-    (comes_in-link routes outs c.args.class c.args.router c.args.dst i other
-    ∙ ap (λ (from : Option (ℕ × ℕ)). comes_over routes outs c.args.class c.args.dst i from) (ap (neighbour f.shape c.args.router) same ∙ sym c.link.ensures.value ∙ c.in-Some.is)) in
     c.moved.ensures i
-    ∙ ap (λ b. b && has_bit out (first + (i - c.args.port * f.vcs))) (port-span f.vcs c.args.port i f.some_vcs)
-    ∙ and_where _ _ _ link
+    ∙ brought (routes_in f sets) outs c.args.class c.args.router c.args.dst c.args.port c.in-Some.sender c.in-Some.out_port (get_or outs c.page.result c.index-self-page.result) i f.some_vcs
+    (λ home. c.if-port-sizes.false (omega (arith, home, f.all_ports))) (sym c.link.ensures.value ∙ c.in-Some.is) had

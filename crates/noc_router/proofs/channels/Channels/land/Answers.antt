@@ -1,27 +1,38 @@
-use Rattle.std.proofs.Common.{ap, arith, set, ◌∙◌}
-use Rattle.noc_ring.specs.Buffers.{Buffers, buffer_at, buffers_after_push}
-use Rattle.noc_vc.specs.Input.{Input, fits, input_after_land}
+use Rattle.std.proofs.Common.{ap, arith, sym, ◌∙◌}
+use Rattle.std.specs.Prelude.{is_ok}
+use Rattle.noc_ring.specs.Buffers.{buffer_at}
+use Rattle.noc_vc.specs.Input.{Input, fits}
 use Rattle.noc_router.specs.Parts.{states_in}
-use Rattle.noc_router.proofs.ChannelLemmas.{AreSound-landed, read-at, fits-next}
+use Rattle.noc_router.proofs.ChannelLemmas.{AreSound-taken, fits-next, read-at, taken-bank, taken-states}
 use Rattle.noc_router.proofs.channels.Channels.land.Goals as goal
 
 pub invariant_of-self-clause-sound : goal.invariant_of-self-clause-sound
 invariant_of-self-clause-sound c =
     let s = c.args.self.now in
-    AreSound-landed s.size _ s.bank c.land_from.new.bank s.inputs.items s.outputs.items c.with-self.result c.args.index _ _ c.args.flit.now
-    s.sound (omega arith) (omega arith) c.requires.exists c.with-self.ensures.members
-    (read-at s.inputs.items c.args.index _ _ (omega arith) c.index_mut-input.ensures.value) c.in-Ok.ensures.channel c.in-Ok.ensures.bank
-    (fits-next c.args.relation.now c.args.router c.args.port c.args.vc s.bank.capacity (buffer_at s.bank c.args.index) c.index_mut-input.result.now c.args.flit.now c.in-Ok.ensures.fits)
+    AreSound-taken s.size s.bank c.land.new.bank s.inputs.items s.outputs.items c.args.index c.index_mut.result.now _ c.args.flit.now (is_ok c.land.result)
+    s.sound (omega arith) (omega arith) c.requires.exists
+    (read-at s.inputs.items c.args.index _ _ (omega arith) c.index_mut.ensures.value) c.land.ensures.channel c.land.ensures.bank
+    (λ e. fits-next c.args.relation.now c.args.router c.args.port c.args.vc s.bank.capacity (buffer_at s.bank c.args.index) c.index_mut.result.now c.args.flit.now (sym e ∙ c.land.ensures.fits))
 
-pub returns-in-Ok : goal.returns-in-Ok
-returns-in-Ok c =
+pub invariant_of-self-clause-a_ring_each : goal.invariant_of-self-clause-a_ring_each
+invariant_of-self-clause-a_ring_each c =
     let s = c.args.self.now in
-    let i = c.args.index in
-    let flit = c.args.flit.now in
-    let at = read-at s.inputs.items i _ _ (omega arith) c.index_mut-input.ensures.value in
-    record {
-      fits = c.in-Ok.ensures.fits ∙ ap (λ (x : Input). fits c.args.relation.now c.args.router c.args.port c.args.vc s.bank.capacity (buffer_at s.bank i) x flit) at;
-      states =
-          ap (λ (b : Buffers). record (states_in s) { bank = b; inputs = set s.inputs.items i c.land_from.new.self }) c.in-Ok.ensures.bank
-          ∙ ap (λ (x : Input). record (states_in s) { bank = buffers_after_push s.bank i flit; inputs = set s.inputs.items i x }) (c.in-Ok.ensures.channel ∙ ap (λ (x : Input). input_after_land x flit) at);
-    }
+    (taken-bank s.bank c.land.new.bank c.args.index c.args.flit.now (is_ok c.land.result) c.land.ensures.bank).0 ∙ s.a_ring_each
+
+pub invariant_of-self-clause-some_depth : goal.invariant_of-self-clause-some_depth
+invariant_of-self-clause-some_depth c =
+    let s = c.args.self.now in
+    omega (arith, s.some_depth, (taken-bank s.bank c.land.new.bank c.args.index c.args.flit.now (is_ok c.land.result) c.land.ensures.bank).1)
+
+pub returns-clause-fits : goal.returns-clause-fits
+returns-clause-fits c =
+    let s = c.args.self.now in
+    c.is_ok.ensures.value ∙ c.land.ensures.fits
+    ∙ ap (λ (x : Input). fits c.args.relation.now c.args.router c.args.port c.args.vc s.bank.capacity (buffer_at s.bank c.args.index) x c.args.flit.now)
+    (read-at s.inputs.items c.args.index _ _ (omega arith) c.index_mut.ensures.value)
+
+pub returns-clause-states : goal.returns-clause-states
+returns-clause-states c =
+    let s = c.args.self.now in
+    taken-states (states_in s) c.land.new.bank c.args.index c.index_mut.result.now _ c.args.flit.now (is_ok c.land.result) c.is_ok.result c.is_ok.ensures.value
+    (read-at s.inputs.items c.args.index _ _ (omega arith) c.index_mut.ensures.value) c.land.ensures.channel c.land.ensures.bank

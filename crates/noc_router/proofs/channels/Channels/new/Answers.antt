@@ -10,9 +10,8 @@ use Rattle.noc_router.proofs.channels.Channels.new.Goals as goal
 
 pub invariant_of-result-clause-sound : goal.invariant_of-result-clause-sound
 invariant_of-result-clause-sound c =
-    let none = c.empty-none.ensures.members in
-    AreSound-opening c.args.size c.args.links c.args.depth _ c.in_ok-bank.bank c.resize.new.self.items c.in_ok-outputs.outputs.items
-    c.requires.few_links none none none none c.all_channels.ensures c.in_ok-bank.ensures (grind (arith, common_steps, c.in_ok-resize.ensures.items)) c.in_ok-outputs.ensures
+    AreSound-opening c.args.size c.args.links c.args.depth c.in_ok-bank.bank c.resize.new.self.items c.in_ok-outputs.outputs.items
+    c.requires.few_links c.in_ok-bank.ensures (grind (arith, common_steps, c.in_ok-resize.ensures.items)) c.in_ok-outputs.ensures
 
 pub invariant_of-result-clause-an_output_each : goal.invariant_of-result-clause-an_output_each
 invariant_of-result-clause-an_output_each c =

@@ -1,15 +1,15 @@
 use Rattle.std.proofs.Common.{◌≡◌, ap, refl, sym, ◌∙◌, subst}
 use Rattle.noc_topo.specs.Shape.{ports}
-use Rattle.noc_router.specs.Asked.{SizedArbiters, channels_past}
+use Rattle.noc_router.specs.Arbiters.{SizedArbiters}
 use Rattle.noc_router.specs.Decided.{IsDecidedFor}
 use Rattle.noc_router.specs.Inside.{view_of}
-use Rattle.noc_router.specs.Settled.{AreContentsFor, decisions_by, view_after_verdicts}
+use Rattle.noc_router.specs.Settled.{AreContentsFor, decisions_by, view_after_tally, view_after_verdicts}
 use Rattle.noc_view.specs.Verdict.{arbiters_after}
 use Rattle.noc_view.specs.View.{Site, View, decisions_of, view_after_commit}
 use Rattle.noc_view.proofs.SiteLemmas.{committed-site}
 use Rattle.noc_router.proofs.OutcomeLemmas.{decisions-are, outcome-decided, outcome-tallied}
 use Rattle.noc_router.proofs.RouterLemmas.{IsRouter-kept}
-use Rattle.noc_router.proofs.CommitLemmas.{closed_with, committed-is, settled-site}
+use Rattle.noc_router.proofs.CommitLemmas.{closed_with, committed-is, settled-arbiters, settled-site}
 use Rattle.noc_router.proofs.router.Router.commit.Goals as goal
 
 pub apply_verdicts-requires-clause-plan : goal.apply_verdicts-requires-clause-plan
@@ -34,7 +34,7 @@ pub invariant_of-self : goal.invariant_of-self
 invariant_of-self c =
     let r = c.self.inside in
     let arbiters = c.advance.ensures in
-    IsRouter-kept r (record r { arbiters = c.advance.new.arbiters }) c.self.invariant refl refl refl refl refl refl refl refl (λ i h. h) refl refl refl (ap (λ (t : SizedArbiters). t.ports) arbiters) (ap (λ (t : SizedArbiters). t.vcs) arbiters)
+    IsRouter-kept r (record r { arbiters = c.advance.new.self }) c.self.invariant refl refl refl refl refl refl refl refl (λ i h. h) refl refl (ap (λ (t : SizedArbiters). t.ports) arbiters) (ap (λ (t : SizedArbiters). t.vcs) arbiters)
 
 pub returns-clause-view : goal.returns-clause-view
 returns-clause-view c = λ relation is.
@@ -42,9 +42,10 @@ returns-clause-view c = λ relation is.
     let v = c.args.self.now in
     let d = decisions_by p v in
     c.end_cycle.ensures
-    ∙ ap (λ (x : View). closed_with x.arbiters x) (ap (λ (t : SizedArbiters). record (view_of c.self.inside) { arbiters = t.states }) c.advance.ensures ∙ ap (λ (x : View). record x { arbiters = channels_past d.round x.arbiters }) c.self.view_is)
-    ∙ ap (λ (x : View). closed_with (channels_past d.round x.arbiters) x)
-    (c.apply_verdicts.ensures ∙ ap (λ (x : View). record (view_after_verdicts (decisions_by p x) x) { arbiters = record (arbiters_after p.round x.arbiters) { channels = x.arbiters.channels } }) c.note.ensures)
+    ∙ ap (λ (x : View). closed_with x.arbiters x) (ap (λ (t : SizedArbiters). record (view_of c.self.inside) { arbiters = t.states }) c.advance.ensures ∙ ap (λ (x : View). record x { arbiters = arbiters_after d.round x.arbiters }) c.self.view_is)
+    ∙ ap (λ (x : View). closed_with (arbiters_after d.round x.arbiters) x)
+    (c.apply_verdicts.ensures ∙ ap (λ (x : View). view_after_verdicts (decisions_by p x) x) c.note.ensures)
+    ∙ ap (λ a. closed_with (arbiters_after d.round a) (view_after_verdicts d (view_after_tally d v))) (settled-arbiters d (view_after_tally d v))
     ∙ committed-is d v
     ∙ ap (λ x. view_after_commit x v) (decisions-are relation p v is)
 

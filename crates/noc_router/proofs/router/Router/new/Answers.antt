@@ -1,7 +1,7 @@
 use Rattle.std.proofs.Common.{◌*◌, ap, arith, length, replicate, ◌∙◌}
 use Rattle.std.proofs.lemmas.List.{length-replicate}
 use Rattle.noc_topo.specs.Shape.{Grid, nodes}
-use Rattle.noc_router.specs.Asked.{SizedArbiters}
+use Rattle.noc_router.specs.Arbiters.{SizedArbiters}
 use Rattle.noc_router.specs.Parts.{ChannelStates}
 use Rattle.noc_router.specs.Tally.{TallyContents}
 use Rattle.noc_view.specs.View.{opening_view}
@@ -17,7 +17,6 @@ invariant_of-result c = record {
   few_vcs = omega arith;
   channels = ap (λ (s : ChannelStates). s.size) c.in_ok-channels.ensures;
   depth = ap (λ (s : ChannelStates). s.bank.capacity) c.in_ok-channels.ensures;
-  leads = c.new-6.ensures;
   beats = omega arith;
   sending = λ vc e. absurd (cc (c.new-5.ensures.vc));
   awaiting = λ vc e. absurd (cc (c.new-5.ensures.vc));
@@ -28,7 +27,7 @@ invariant_of-result c = record {
 
 pub returns : goal.returns
 returns c =
-    opening-is c.args.node c.ports-ports.result c.vcs-vcs.result c.args.depth c.shape.result.now c.new-5.result c.in_ok-channels.channels c.new-6.result _ c.in_ok-tally.tally c.in_ok-arbiters.arbiters c.in_ok-arrivals.arrivals c.args.starts.items c.args.ends.items
+    opening-is c.args.node c.ports-ports.result c.vcs-vcs.result c.args.depth c.shape.result.now c.new-5.result c.in_ok-channels.channels _ c.in_ok-tally.tally c.in_ok-arbiters.arbiters c.in_ok-arrivals.arrivals c.args.starts.items c.args.ends.items
     c.ports-ports.ensures.grid c.ports-ports.ensures.value c.new-5.ensures.queue c.new-5.ensures.vc
     c.in_ok-channels.ensures (ap (replicate 6) c.idle.ensures)
     c.in_ok-tally.ensures

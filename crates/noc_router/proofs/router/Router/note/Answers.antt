@@ -7,7 +7,7 @@ use Rattle.noc_router.specs.Inside.{view_of}
 use Rattle.noc_router.specs.Settled.{AreContentsFor, decisions_by, finding_by, planned_verdict, view_after_tally}
 use Rattle.noc_router.specs.Tally.{TallyContents}
 use Rattle.noc_view.specs.View.{counts_after, idle_beat, size_of}
-use Rattle.noc_router.proofs.OutcomeLemmas.{counted-outcome, found-outcome, outcome-decided, outcome-vacant}
+use Rattle.noc_router.proofs.OutcomeLemmas.{counted-outcome, found-outcome, outcome-decided}
 use Rattle.noc_router.proofs.WholeLemmas.{size_view}
 use Rattle.noc_router.proofs.RouterLemmas.{IsRouter-counted}
 use Rattle.noc_router.proofs.router.Router.note.Goals as goal
@@ -23,7 +23,6 @@ note-requires-clause-plan c =
       channels = h.channels ∙ sym h.counts;
       asks = decided.asks ∙ size ∙ sym h.counts;
       verdicts = decided.verdicts ∙ size ∙ sym h.counts;
-      vacant = λ k l. outcome-vacant c.args.plan.now (view_of r) k (subst (AreContentsFor c.args.plan.now) (sym c.self.view_is) c.requires) (omega (arith, l, h.counts, own));
     }
 
 pub invariant_of-self : goal.invariant_of-self

@@ -1,53 +1,111 @@
-use Rattle.std.proofs.Common.{◌≡◌, ap, arith, refl, ◌∙◌}
-use Rattle.noc_topo.proofs.ListLemmas.{get_or-tabulate, length-tabulate}
-use Rattle.noc_router.specs.Asked.{RequestLists, lists_in}
-use Rattle.noc_view.specs.ReadySets.{AreReadySetsOf}
-use Rattle.noc_view.specs.VerdictSets.{verdict_by}
-use Rattle.noc_view.specs.View.{size_of}
+use Rattle.std.proofs.Common.{◌≡◌, ◌*◌, ◌≤◌, ℕ, List, Option, None, length, ap, sym, subst, ◌∙◌, arith}
+use Rattle.std.proofs.lemmas.List.{take_at}
+use Rattle.noc_topo.specs.Shape.{ports}
+use Rattle.noc_alloc.specs.Requests.{AllBelow}
+use Rattle.noc_router.specs.Inside.{IsRouter}
+use Rattle.noc_router.specs.declared.router.Router.TheInside.{Inside}
 use Rattle.noc_view.specs.declared.verdict.Verdict.TheVariants.{Empty}
-use Rattle.noc_router.proofs.PlannedLemmas.{asked-made, lists-made, outcome-parts, planned_lists}
-use Rattle.noc_router.proofs.AskedLemmas.{ready-view}
-use Rattle.noc_router.proofs.SwitchLemmas.{picks-below}
+use Rattle.noc_router.proofs.PlannedLemmas.{planned-is, room, written}
+use Rattle.noc_router.proofs.WholeLemmas.{ports_view, size_view}
 use Rattle.noc_router.proofs.router.Router.plan.Goals as goal
 
-pub route_heads-requires-clause-heads : goal.route_heads-requires-clause-heads
-route_heads-requires-clause-heads c =
-    let s : AreReadySetsOf c.args.self.now c.ready_sets-sets.result = ready-view c.self.inside c.args.self.now c.ready_sets-sets.result c.self.view_is c.self.invariant c.ready_sets-sets.ensures in
-    record { below = s.heads_below; each = s.heads }
+-- there is room for the channels and the ports
+few-channels : (r : Inside) → IsRouter r → r.ports * r.vcs ≤ 56
+few-channels r is = omega (arith, r.channels.few, is.channels)
 
-pub ask_for_ports-requires-clause-ready : goal.ask_for_ports-requires-clause-ready
-ask_for_ports-requires-clause-ready c =
-    let s : AreReadySetsOf c.args.self.now c.ready_sets-sets.result = ready-view c.self.inside c.args.self.now c.ready_sets-sets.result c.self.view_is c.self.invariant c.ready_sets-sets.ensures in
-    record { below = s.ready_below; each = s.ready }
+few-ports : (r : Inside) → IsRouter r → r.ports ≤ 7
+few-ports r is = omega (arith, is.ports, is.grid.few_dimensions)
 
-pub verdicts-plan-inside-requires-clause-requests : goal.verdicts-plan-inside-requires-clause-requests
-verdicts-plan-inside-requires-clause-requests c =
-    asked-made c.args.relation.now c.args.self.now c.grant.new.self
-    (lists-made c.args.relation.now c.self.inside c.args.self.now _ _ _ _ (lists_in c.grant.new.self) c.self.view_is c.self.invariant c.clear.ensures c.route_heads.ensures c.ask_for_channels.ensures c.ask_for_ports.ensures c.grant.ensures)
+pub route_heads-requires : goal.route_heads-requires
+route_heads-requires c =
+    let r = c.self.inside in
+    record { relation = c.requires; routes = room (r.ports * r.vcs) 56 c.empty-routes.result (few-channels r c.self.invariant) ∙ sym (size_view r c.args.self.now c.self.view_is c.self.invariant) }
 
-pub returns-clause-value : goal.returns-clause-value
-returns-clause-value c =
-    let v = c.args.self.now in
-    let n = c.grant.new.self in
-    let sets = c.verdicts-plan-inside.result in
-    let made : lists_in n ≡ planned_lists c.args.relation.now v =
-    lists-made c.args.relation.now c.self.inside v _ _ _ _ (lists_in n) c.self.view_is c.self.invariant c.clear.ensures c.route_heads.ensures c.ask_for_channels.ensures c.ask_for_ports.ensures c.grant.ensures in
-    let size : n.size ≡ size_of v.site = ap (λ (x : RequestLists). x.size) made in
-    outcome-parts c.args.relation.now v n _ made refl refl refl
-    (length-tabulate n.size (verdict_by sets) ∙ size) (λ k l. get_or-tabulate n.size k (verdict_by sets) Empty (omega arith) ∙ c.verdicts-plan-inside.ensures.verdicts k l)
+pub ask_for_channels-requires : goal.ask_for_channels-requires
+ask_for_channels-requires c =
+    let r = c.self.inside in
+    room (r.ports * r.vcs) 56 None (few-channels r c.self.invariant) ∙ sym (size_view r c.args.self.now c.self.view_is c.self.invariant)
 
-pub returns-clause-picks : goal.returns-clause-picks
-returns-clause-picks c =
-    let v = c.args.self.now in
-    let n = c.grant.new.self in
-    picks-below v n.picks
-    (asked-made c.args.relation.now v n (lists-made c.args.relation.now c.self.inside v _ _ _ _ (lists_in n) c.self.view_is c.self.invariant c.clear.ensures c.route_heads.ensures c.ask_for_channels.ensures c.ask_for_ports.ensures c.grant.ensures)).picks
+pub ask_for_ports-requires : goal.ask_for_ports-requires
+ask_for_ports-requires c =
+    let r = c.self.inside in
+    room (r.ports * r.vcs) 56 None (few-channels r c.self.invariant) ∙ sym (size_view r c.args.self.now c.self.view_is c.self.invariant)
+
+pub grant_channels-requires : goal.grant_channels-requires
+grant_channels-requires c =
+    let r = c.self.inside in
+    let n = r.ports * r.vcs in
+    let few = few-channels r c.self.invariant in
+    record {
+      asks = take_at c.ask_for_channels.new.asks _ n (c.ask_for_channels.auto.asks ∙ room n 56 None few) ∙ c.ask_for_channels.ensures;
+      grants = room n 56 None few ∙ sym (size_view r c.args.self.now c.self.view_is c.self.invariant);
+    }
+
+pub grant_ports-requires : goal.grant_ports-requires
+grant_ports-requires c =
+    let r = c.self.inside in
+    let n = r.ports * r.vcs in
+    let few = few-ports r c.self.invariant in
+    let ports_are = ports_view r c.args.self.now c.self.view_is c.self.invariant in
+    record {
+      ready = take_at c.ask_for_ports.new.ready _ n (c.ask_for_ports.auto.ready ∙ room n 56 None (few-channels r c.self.invariant)) ∙ c.ask_for_ports.ensures;
+      picks = room r.ports 7 None few ∙ ports_are;
+      wins = room r.ports 7 None few ∙ ports_are;
+    }
+
+pub find_verdicts-requires : goal.find_verdicts-requires
+find_verdicts-requires c =
+    let r = c.self.inside in
+    let n = r.ports * r.vcs in
+    let m = r.ports in
+    let many = few-channels r c.self.invariant in
+    let few = few-ports r c.self.invariant in
+    let size = size_view r c.args.self.now c.self.view_is c.self.invariant in
+    let ports_are = ports_view r c.args.self.now c.self.view_is c.self.invariant in
+    let grants : length c.grant_channels.new.grants ≡ n = c.grant_channels.auto.grants ∙ room n 56 None many in
+    let picks : length c.grant_ports.new.picks ≡ m = c.grant_ports.auto.picks ∙ room m 7 None few in
+    let wins : length c.grant_ports.new.wins ≡ m = c.grant_ports.auto.wins ∙ room m 7 None few in
+    record {
+      asks = take_at c.ask_for_channels.new.asks _ n (c.ask_for_channels.auto.asks ∙ room n 56 None many) ∙ c.ask_for_channels.ensures;
+      grants = ap (λ (xs : List (Option ℕ)). length xs) (take_at c.grant_channels.new.grants _ n grants) ∙ grants ∙ sym size;
+      picks = ap (λ (xs : List (Option ℕ)). length xs) (take_at c.grant_ports.new.picks _ m picks) ∙ picks ∙ ports_are;
+      wins = ap (λ (xs : List (Option ℕ)). length xs) (take_at c.grant_ports.new.wins _ m wins) ∙ wins ∙ ports_are;
+      verdicts = room n 56 Empty many ∙ sym size;
+    }
 
 pub invariant_of-plan : goal.invariant_of-plan
 invariant_of-plan c =
-    let v = c.args.self.now in
-    let n = c.grant.new.self in
-    let made : lists_in n ≡ planned_lists c.args.relation.now v =
-    lists-made c.args.relation.now c.self.inside v _ _ _ _ (lists_in n) c.self.view_is c.self.invariant c.clear.ensures c.route_heads.ensures c.ask_for_channels.ensures c.ask_for_ports.ensures c.grant.ensures in
-    let size : n.size ≡ size_of v.site = ap (λ (x : RequestLists). x.size) made in
-    λ k e. let l = c.verdicts-plan-inside.ensures.events k e in omega arith
+    let r = c.self.inside in
+    let n = r.ports * r.vcs in
+    let m = r.ports in
+    let many = few-channels r c.self.invariant in
+    let few = few-ports r c.self.invariant in
+    record {
+      few_ports = few;
+      few = many;
+      routes = written n 56 c.empty-routes.result c.route_heads.new.routes (c.route_heads.auto.routes ∙ room n 56 c.empty-routes.result many) many;
+      asks = written n 56 None c.ask_for_channels.new.asks (c.ask_for_channels.auto.asks ∙ room n 56 None many) many;
+      verdicts = written n 56 Empty c.find_verdicts.new.verdicts (c.find_verdicts.auto.verdicts ∙ room n 56 Empty many) many;
+      grants = written n 56 None c.grant_channels.new.grants (c.grant_channels.auto.grants ∙ room n 56 None many) many;
+      picks = written m 7 None c.grant_ports.new.picks (c.grant_ports.auto.picks ∙ room m 7 None few) few;
+      wins = written m 7 None c.grant_ports.new.wins (c.grant_ports.auto.wins ∙ room m 7 None few) few;
+    }
+
+pub returns-clause-value : goal.returns-clause-value
+returns-clause-value c =
+    let r = c.self.inside in
+    let n = r.ports * r.vcs in
+    let m = r.ports in
+    let many = few-channels r c.self.invariant in
+    let few = few-ports r c.self.invariant in
+    planned-is c.args.relation.now c.args.self.now m n c.grant_channels.new.grants c.grant_ports.new.picks c.grant_ports.new.wins c.ask_for_channels.new.asks c.find_verdicts.new.verdicts c.route_heads.new.routes
+    _ _ _ _ _ _
+    (c.grant_channels.auto.grants ∙ room n 56 None many) (c.grant_ports.auto.picks ∙ room m 7 None few) (c.grant_ports.auto.wins ∙ room m 7 None few)
+    (c.ask_for_channels.auto.asks ∙ room n 56 None many) (c.find_verdicts.auto.verdicts ∙ room n 56 Empty many) (c.route_heads.auto.routes ∙ room n 56 c.empty-routes.result many)
+    c.grant_channels.ensures c.grant_ports.ensures.picks c.grant_ports.ensures.wins c.ask_for_channels.ensures c.find_verdicts.ensures c.route_heads.ensures
+
+pub returns-clause-picks : goal.returns-clause-picks
+returns-clause-picks c =
+    let r = c.self.inside in
+    let m = r.ports in
+    subst (AllBelow c.args.self.now.site.vcs) (sym (take_at c.grant_ports.new.picks _ m (c.grant_ports.auto.picks ∙ room m 7 None (few-ports r c.self.invariant)))) c.grant_ports.ensures.vcs

@@ -1,9 +1,9 @@
-use Rattle.std.proofs.Common.{◌+◌, ◌*◌, ◌<◌, Some, ap, arith, refl, rules, subst, sym, ◌∙◌}
+use Rattle.std.proofs.Common.{◌+◌, ◌*◌, ◌<◌, Some, ap, arith, refl, subst, sym, ◌∙◌}
 use Rattle.std.specs.Prelude.{is_some}
 use Rattle.std.proofs.lemmas.Bool.{lt-ltb}
 use Rattle.noc_topo.specs.Shape.{local_port}
 use Rattle.noc_alloc.proofs.SwitchLemmas.{in_ready}
-use Rattle.noc_view.specs.View.{View, with_credit}
+use Rattle.noc_view.specs.View.{View, has_link, with_credit}
 use Rattle.noc_router.proofs.TakeLemmas.{credited-view, with_credit-fits}
 use Rattle.noc_router.specs.Inside.{IsRouter, view_of}
 use Rattle.noc_router.specs.declared.router.Router.TheInside.{Inside}
@@ -28,10 +28,9 @@ invariant_of-self-else-vc-self c =
 pub returns-then-credit_back : goal.returns-then-credit_back
 returns-then-credit_back c =
     let r = c.self.inside in
-    let small : c.args.port < 6 = search rules in
     credited-view r c.credit_back.new.self (c.args.port * r.vcs + c.args.vc) c.if-credit_back.ensures.states
     ∙ sym (with_credit-fits c.args.port c.args.vc (view_of r)
-    (ap is_some (sym (c.neighbour.ensures ∙ c.self.invariant.leads c.args.port small)) ∙ sym c.if-is_some.ensures)
+    (ap (λ (v : View). has_link v.site c.args.port) c.self.view_is ∙ ap is_some (sym c.neighbour.ensures) ∙ sym c.if-is_some.ensures)
     (lt-ltb c.args.vc r.vcs c.if-vc-self.true)
     (sym c.if-credit_back.ensures.fits))
     ∙ ap (λ (v : View). with_credit c.args.port (Some c.args.vc) v) c.self.view_is

@@ -4,7 +4,7 @@ use Rattle.std.proofs.lemmas.Bool.{lt-ltb, le-ltb}
 use Rattle.noc_ring.specs.Buffers.{buffer_at}
 use Rattle.noc_vc.specs.Input.{fits}
 use Rattle.noc_router.specs.Sound.{nth_input}
-use Rattle.noc_view.specs.View.{View, with_flit, saturating_next}
+use Rattle.noc_view.specs.View.{View, has_link, with_flit, saturating_next}
 use Rattle.noc_router.specs.Inside.{IsRouter, view_of}
 use Rattle.noc_router.specs.declared.router.Router.TheInside.{Inside}
 use Rattle.noc_alloc.proofs.SwitchLemmas.{in_ready}
@@ -16,10 +16,9 @@ use Rattle.noc_router.proofs.router.Router.take_flit.Goals.{else-vc-self-via-the
 pub returns-then-land : goal.returns-then-land
 returns-then-land c =
     let r = c.self.inside in
-    let small : c.args.port < 6 = search rules in
     landed-view r c.land.new.self (c.args.port * r.vcs + c.args.vc) c.args.flit.now c.if-land.ensures.states
     ∙ sym (with_flit-lands c.args.relation.now c.args.port c.args.vc c.args.flit.now (view_of r)
-    (ap is_some (sym (c.neighbour.ensures ∙ c.self.invariant.leads c.args.port small)) ∙ sym c.if-is_some.ensures)
+    (ap (λ (v : View). has_link v.site c.args.port) c.self.view_is ∙ ap is_some (sym c.neighbour.ensures) ∙ sym c.if-is_some.ensures)
     (lt-ltb c.args.vc r.vcs c.if-vc-self.true)
     (ap (λ n. fits c.args.relation.now r.node c.args.port c.args.vc n (buffer_at r.channels.bank (c.args.port * r.vcs + c.args.vc)) (nth_input r.channels.inputs.items (c.args.port * r.vcs + c.args.vc)) c.args.flit.now) (sym c.self.invariant.depth)
     ∙ sym c.if-land.ensures.fits))
@@ -41,12 +40,11 @@ returns-else-vc-self c =
           ∙ sym w.if-land.ensures.fits)))
           ∙ whole
       | else-vc-self-via-then-vc-self+else-is_some w ↦
-          let small : c.args.port < 6 = search rules in
           ap (λ (i : Inside). view_of (record i { misfits = n })) w.self-inside-is
           ∙ misfit-view r r.channels n refl (c.saturating_add-self-inside.ensures ∙ ap (λ (i : Inside). saturating_next i.misfits) w.self-inside-is)
           ∙ sym (with_flit-turned c.args.relation.now c.args.port c.args.vc c.args.flit.now (view_of r)
           (no_link c.args.relation.now c.args.port c.args.vc c.args.flit.now (view_of r)
-          (ap is_some (sym (w.neighbour.ensures ∙ c.self.invariant.leads c.args.port small)) ∙ sym w.if-is_some.ensures)))
+          (ap (λ (v : View). has_link v.site c.args.port) c.self.view_is ∙ ap is_some (sym w.neighbour.ensures) ∙ sym w.if-is_some.ensures)))
           ∙ whole
       | else-vc-self-via-else-vc-self w ↦
           ap (λ (i : Inside). view_of (record i { misfits = n })) w.self-inside-is

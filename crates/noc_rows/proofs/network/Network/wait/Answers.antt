@@ -46,3 +46,12 @@ returns-clause-passed g c =
       tallies_are = ap length new ∙ omega (arith, ap length old, c.repeat_all.auto.tallies);
       rest = refl;
     }
+
+pub returns-clause-waited : goal.returns-clause-waited
+returns-clause-waited g c = λ quiet.
+    let value = g.W.Word.value in
+    let all = c.args.self.now in (
+      c.next_due-due.result,
+      subst (λ (xs : List (State g.row.W.Denot)). IsNextOf all.cycle (length xs) (λ b k. (lane_in value xs b k).words.due) c.next_due-due.result) c.deref.ensures.value c.next_due-due.ensures,
+      c.min-times.ensures,
+    )

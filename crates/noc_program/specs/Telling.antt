@@ -1,0 +1,52 @@
+-- How the program ends: the exit status, and the line of a fault.
+use Rattle.std.specs.Prelude.{◌≡◌, ◌⊎◌, ℕ, Bool, List, Option, Result, Ok, Err, ⊤}
+use Rattle.noc_answers.specs.Answer.{Asks, FirstFault}
+use Rattle.noc_answers.specs.Ending.{Ends}
+use Rattle.noc_answers.specs.declared.request.Request.{Request}
+use Rattle.noc_commands.specs.Workers.{workers_of}
+use Rattle.noc_faults.specs.Line.{line_of}
+use Rattle.noc_faults.specs.Status.{status_code, status_of_fault}
+use Rattle.noc_faults.specs.declared.fault.Fault.{Fault}
+use Rattle.noc_faults.specs.declared.fault.Fault.TheVariants.{Config, Write}
+use Rattle.noc_faults.specs.declared.status.Status.{Status}
+use Rattle.noc_faults.specs.declared.status.Status.TheVariants.{Done}
+use Rattle.noc_files.specs.Writing.{Wrote}
+use Rattle.noc_files.specs.declared.fault.InputFault.TheVariants.{Memory}
+use Rattle.noc_files.specs.declared.writing.WriteFault.{WriteFault}
+use Rattle.noc_program.specs.Requests.{Asks as AsksFor, AsksForVersion}
+
+-- the exit status is that of the answer, and the line of a fault is written
+abbrev pub Tells : {S : Type 0} → (S → Option (List ℕ)) → (S → Bool) → S → S → Result Status Fault
+    → ℕ → Type 0
+Tells contents failed old new (Ok ended) status = (status ≡ status_code ended) × (new ≡ old)
+Tells contents failed old new (Err fault) status =
+    (status ≡ status_of_fault fault)
+    × ((done : Result (Unit {0}) WriteFault) × Wrote contents failed old new (line_of fault) done)
+
+-- how answering a request ends, whatever the device is on which the answer goes: `Done` and `Stuck`
+-- are of the text that is asked for. There may also be no memory for the way to the device.
+abbrev pub IsEndOf : Request → Result Status Fault → Type 0
+IsEndOf r ended =
+    Ends (workers_of r.command) (λ text done. ⊤) ⊤ (Asks r) (FirstFault r) ended
+    ⊎ (ended ≡ Err (Config Memory))
+
+-- the version was printed, or its writing failed
+abbrev pub TellsVersion : {S : Type 0} → (S → Option (List ℕ)) → (S → Bool) → S → S → ℕ → Type 0
+TellsVersion contents failed old new status =
+    Tells contents failed old new (Ok Done) status
+    ⊎ ((f : WriteFault) × Tells contents failed old new (Err (Write f)) status)
+
+-- a request was answered, and how that ended is told
+pub record WasAnswered {S : Type 0} (contents : S → Option (List ℕ)) (failed : S → Bool)
+    (old new : S) (r : Request) (status : ℕ) : Type 0 where
+  pub ended : Result Status Fault
+  pub is_end : IsEndOf r ended
+  pub told : Tells contents failed old new ended status
+
+-- what these words ask for was done: a request was answered, or the version was printed
+pub data HasEnded {S : Type 0} (contents : S → Option (List ℕ)) (failed : S → Bool) (old new : S)
+    (words : List (List ℕ)) (status : ℕ) : Type 0 where
+  answered : {r : Request} → AsksFor words r → WasAnswered contents failed old new r status
+      → HasEnded contents failed old new words status
+  versioned : AsksForVersion words → TellsVersion contents failed old new status
+      → HasEnded contents failed old new words status

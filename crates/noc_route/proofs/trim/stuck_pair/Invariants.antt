@@ -1,0 +1,11 @@
+use Rattle.std.proofs.Common.{◌+◌, ◌*◌}
+use Rattle.noc_topo.specs.Shape.{nodes}
+use Rattle.noc_route.specs.Entered.{sets_in}
+use Rattle.noc_route.specs.Routes.{width}
+use Rattle.noc_route.specs.Trimming.{routes_in, left_in, IsFirstStuck}
+use Rattle.noc_route.proofs.trim.stuck_pair.Given as goal
+
+abbrev pub invariant-loop-dst : goal.invariant-loop-dst
+invariant-loop-dst l =
+    let f = l.leaving.map.now.sizes in
+    IsFirstStuck (routes_in f (left_in f (sets_in f l.entered) l.leaving.outs.now)) l.leaving.outs.now ((l.pair * nodes f.shape + l.dst) * width f.shape f.vcs) l.first

@@ -1,0 +1,56 @@
+use Rattle.std.proofs.Common.{◌≡◌, ◌+◌, ◌*◌, ◌<◌, ◌≤◌, ◌∙◌, ℕ, List, get_or, subst, sym, ap, arith}
+use Rattle.std.specs.Prelude.{◌⊎◌, if◌then◌else◌}
+use Rattle.std.proofs.Math.Nat.{mul_comm}
+use Rattle.noc_packet.specs.Set.{has_bit}
+use Rattle.noc_topo.specs.Shape.{nodes}
+use Rattle.noc_route.specs.Entered.{AreAll, sets_in}
+use Rattle.noc_route.specs.Routes.{width, pages}
+use Rattle.noc_route.specs.Trimming.{routes_in, page_set}
+use Rattle.noc_route.specs.declared.entered.Entered.{Entered}
+use Rattle.noc_route.proofs.EntryLemmas.{flat-below}
+use Rattle.noc_route.proofs.EnterLemmas.{page_set-pages}
+use Rattle.noc_route.proofs.ColumnLemmas.{row-end}
+use Rattle.noc_route.proofs.trim.trim_column.Goals as goal
+
+pub take_row-requires-clause-sets : goal.take_row-requires-clause-sets
+take_row-requires-clause-sets c =
+    let f = c.args.sizes.now in
+    let n = nodes f.shape in
+    let A : Entered → Type 0 = λ e. AreAll f e in
+    let all : c.in-OfPages.sets.len ≡ pages f.shape f.classes = subst A c.in-OfPages.is c.requires.all in
+    let room = row-end c.args.pair (n * f.classes) n c.requires.pair in
+    let first = ap (λ m. c.args.pair * m) f.all_nodes in
+    omega (arith, room, first, all, c.requires.coming, c.deref.ensures.len)
+
+pub take_row-requires-clause-block : goal.take_row-requires-clause-block
+take_row-requires-clause-block c =
+    let f = c.args.sizes.now in
+    let n = nodes f.shape in
+    let w = width f.shape f.vcs in
+    let room = row-end c.args.input w n c.requires.input in
+    let from = ap (λ m. c.args.input * m) f.all_nodes in
+    omega (arith, room, from, mul_comm w n, c.requires.coming, c.requires.block)
+
+pub returns-in-OfPages-clause-column : goal.returns-in-OfPages-clause-column
+returns-in-OfPages-clause-column c = λ t l.
+    let f = c.args.sizes.now in
+    let n = nodes f.shape in
+    let w = width f.shape f.vcs in
+    let input = c.args.input in
+    let pair = c.args.pair in
+    let coming = c.args.coming.now in
+    let sets = c.in-OfPages.sets.items in
+    let page : pair * n + t < pages f.shape f.classes = flat-below pair (n * f.classes) t n c.requires.pair l in
+    ap (λ m. get_or c.take_row.new.block (input * m + t) 0) (sym f.all_nodes)
+    ∙ c.take_row.ensures.column t (omega (arith, l, c.requires.coming))
+    ∙ ap (λ (xs : List ℕ). if has_bit (get_or coming t 0) input then get_or xs (pair * f.node_count + t) 0 else 0) c.deref.ensures.value
+    ∙ ap (λ m. if has_bit (get_or coming t 0) input then get_or sets (pair * m + t) 0 else 0) f.all_nodes
+    ∙ ap (λ s. if has_bit (get_or coming t 0) input then s else 0)
+    (sym (ap (λ e. page_set (routes_in f (sets_in f e)) (pair * n + t) input) c.in-OfPages.is ∙ page_set-pages f sets (pair * n + t) input page c.requires.input))
+
+pub returns-in-OfPages-clause-others : goal.returns-in-OfPages-clause-others
+returns-in-OfPages-clause-others c = λ j outside.
+    let f = c.args.sizes.now in
+    let P : ℕ → Type 0 = λ m. (j < c.args.input * m) ⊎ (c.args.input * m + m ≤ j) in
+    let Q : ℕ → Type 0 = λ m. (j < c.args.input * f.node_count) ⊎ (c.args.input * f.node_count + m ≤ j) in
+    c.take_row.ensures.others j (subst Q (f.all_nodes ∙ sym c.requires.coming) (subst P (sym f.all_nodes) outside))

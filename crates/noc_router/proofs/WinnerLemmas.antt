@@ -1,0 +1,28 @@
+-- Those who have won are below the sizes of their arbiters.
+use Rattle.std.proofs.Common.{◌≡◌, ℕ, ◌<◌, List, length, get_or, Option, Some, None, refl, arith, subst}
+use Rattle.std.specs.Prelude.{IfSome}
+use Rattle.std.specs.List.{All}
+use Rattle.noc_alloc.specs.Arbiter.{RoundRobin, arbiter_at}
+use Rattle.noc_alloc.specs.Requests.{AllBelow}
+use Rattle.noc_alloc.proofs.RequestLemmas.{below-at}
+
+pub below-size : (xs : List (Option ℕ)) (ts : List RoundRobin) (n k : ℕ) → AllBelow n xs → All (λ (t : RoundRobin). t.size ≡ n) ts → k < length ts → IfSome (get_or xs k None) (λ w. w < (arbiter_at ts k).size)
+below-size xs ts n k below sizes l = at (get_or xs k None) refl
+  where
+    at : (x : Option ℕ) → get_or xs k None ≡ x → IfSome x (λ w. w < (arbiter_at ts k).size)
+    at None e = tt
+    at (Some w) e =
+        let u : w < n = below-at n xs k below w e in
+        let s : (arbiter_at ts k).size ≡ n = sizes k (record { size = 0; pointer = 0 }) l in
+        omega arith
+
+pub all-below : (xs : List (Option ℕ)) (n : ℕ) → AllBelow n xs → All (λ x. IfSome x (λ q. q < n)) xs
+all-below xs n below k d l = at (get_or xs k d) refl
+  where
+    at : (x : Option ℕ) → get_or xs k d ≡ x → IfSome x (λ q. q < n)
+    at None e = tt
+    at (Some q) e = below k d l q e
+
+-- the same, the other way
+pub named-below : (n : ℕ) (xs : List (Option ℕ)) → All (λ x. IfSome x (λ q. q < n)) xs → AllBelow n xs
+named-below n xs all k d l q e = subst (λ x. IfSome x (λ i. i < n)) e (all k d l)
