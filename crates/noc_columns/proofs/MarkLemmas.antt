@@ -1,0 +1,38 @@
+-- What a router keeps of its channels is written.
+use Rattle.std.proofs.Common.{◌≡◌, ℕ, ◌<◌, Bool, true, false, List, length, refl, ap, sym, ◌∙◌, inl, inr, set, slice_index, get_or-set_same, get_or-set_other}
+use Rattle.std.specs.Prelude.{not, nat_eq, if◌then◌else◌}
+use Rattle.std.proofs.lemmas.Bool.{cases_eq, eq-eqb, ne_eqb}
+use Rattle.noc_packet.specs.Set.{has_bit}
+use Rattle.noc_columns.specs.Wants.{asks_of}
+
+-- an entry that is written
+pub entry-put : (table : List ℕ) (i x k : ℕ) → i < length table → slice_index (set table i x) k ≡ (if nat_eq k i then x else slice_index table k)
+entry-put table i x k within = elim (cases_eq k i) [
+  | inl same ↦
+      ap (slice_index (set table i x)) same
+      ∙ get_or-set_same table i x 0 within
+      ∙ sym (ap (λ b. if b then x else slice_index table k) (eq-eqb k i same))
+  | inr other ↦
+      get_or-set_other table i k x 0 other
+      ∙ sym (ap (λ b. if b then x else slice_index table k) (ne_eqb k i other))
+]
+
+-- where an idle output channel is wanted, when one router is written
+pub asked-still : (asking now router w s i : ℕ) (waiting wanted idle waits wants idles : ℕ → ℕ)
+    → ((r : ℕ) → r < 64 → has_bit asking r ≡ not (nat_eq (asks_of (waiting r) (wanted r) (idle r)) 0))
+    → ((r : ℕ) → has_bit now r ≡ (if nat_eq r router then not (nat_eq (asks_of w s i) 0) else has_bit asking r))
+    → ((r : ℕ) → waits r ≡ (if nat_eq r router then w else waiting r))
+    → ((r : ℕ) → wants r ≡ (if nat_eq r router then s else wanted r))
+    → ((r : ℕ) → idles r ≡ (if nat_eq r router then i else idle r))
+    → (r : ℕ) → r < 64 → has_bit now r ≡ not (nat_eq (asks_of (waits r) (wants r) (idles r)) 0)
+asked-still asking now router w s i waiting wanted idle waits wants idles was is ew es ei r few = is r ∙ at (nat_eq r router) ∙ sym written
+  where
+    written : not (nat_eq (asks_of (waits r) (wants r) (idles r)) 0)
+        ≡ not (nat_eq (asks_of (if nat_eq r router then w else waiting r) (if nat_eq r router then s else wanted r) (if nat_eq r router then i else idle r)) 0)
+    written = λ x. not (nat_eq (asks_of (ew r x) (es r x) (ei r x)) 0)
+
+    at : (b : Bool)
+        → (if b then not (nat_eq (asks_of w s i) 0) else has_bit asking r)
+        ≡ not (nat_eq (asks_of (if b then w else waiting r) (if b then s else wanted r) (if b then i else idle r)) 0)
+    at true = refl
+    at false = was r few

@@ -1,0 +1,173 @@
+-- A tree of choices by the bits of a number gives what is at this number.
+use Rattle.std.proofs.Common.{◌≡◌, ◌≢◌, ◌/◌, ◌%◌, inl, inr, ◌∷◌, [], ℕ, ◌+◌, ◌*◌, ◌<◌, ◌≤◌, Bool, true, false, List, arith, ap, ap₂, sym, ◌∙◌, refl, bit_and, bit_xor}
+use Rattle.std.specs.Prelude.{slice_index, ◌⊎◌, nat_eq, not, ◌&&◌, ◌||◌, nat_lt, if◌then◌else◌}
+use Rattle.noc_topo.specs.Lists.{one_if}
+use Rattle.noc_packet.specs.Set.{has_bit}
+use Rattle.noc_packet.proofs.SetLemmas.{both_members}
+use Rattle.noc_sets.specs.Sets.{differ}
+use Rattle.noc_sets.proofs.MemberLemmas.{xor_members}
+use Rattle.std.proofs.lemmas.Bool.{cases_eq, eq-eqb, lt-ltb, ne_eqb}
+use Rattle.noc_columns.specs.Picks.{port_at}
+use Rattle.noc_columns.specs.Supply.{by_four, digits_by, is_fed, is_fed_word, number_in}
+use Rattle.noc_columns.specs.Words.{Numbering, set_of, word}
+use Rattle.noc_columns.specs.declared.ports.Ports.{Ports}
+use Rattle.noc_columns.specs.declared.supply.Digits.{Digits}
+use Rattle.noc_columns.proofs.SetLemmas.{below-members}
+
+-- the number with these bits
+abbrev pub number : Bool → Bool → Bool → ℕ
+number a b c = one_if a + 2 * (one_if b + 2 * (one_if c + 2 * 0))
+
+pub number-few : (a b c : Bool) → number a b c < 8
+number-few true true true = omega arith
+number-few true true false = omega arith
+number-few true false true = omega arith
+number-few true false false = omega arith
+number-few false true true = omega arith
+number-few false true false = omega arith
+number-few false false true = omega arith
+number-few false false false = omega arith
+
+pub either-bit : (bits first second r : ℕ) → has_bit (bit_xor first (bit_and (bit_xor first second) bits)) r ≡ (if has_bit bits r then has_bit second r else has_bit first r)
+either-bit bits first second r =
+    xor_members first (bit_and (bit_xor first second) bits) r
+    ∙ ap (differ (has_bit first r)) (both_members (bit_xor first second) bits r ∙ ap (λ x. x && has_bit bits r) (xor_members first second r))
+    ∙ at (has_bit first r) (has_bit second r) (has_bit bits r)
+  where
+    at : (x y b : Bool) → differ x (differ x y && b) ≡ (if b then y else x)
+    at true true true = refl
+    at true true false = refl
+    at true false true = refl
+    at true false false = refl
+    at false true true = refl
+    at false true false = refl
+    at false false true = refl
+    at false false false = refl
+
+pub low-number : (a b c : Bool) (f : ℕ → Bool) → number a b c < 4 → by_four a b f ≡ f (number a b c)
+low-number true true false f l = refl
+low-number true false false f l = refl
+low-number false true false f l = refl
+low-number false false false f l = refl
+low-number true true true f l = absurd (omega arith)
+low-number true false true f l = absurd (omega arith)
+low-number false true true f l = absurd (omega arith)
+low-number false false true f l = absurd (omega arith)
+
+pub high-number : (a b c : Bool) (f : ℕ → Bool) → (if c then by_four a b (λ k. f (4 + k)) else by_four a b f) ≡ f (number a b c)
+high-number true true false f = refl
+high-number true false false f = refl
+high-number false true false f = refl
+high-number false false false f = refl
+high-number true true true f = refl
+high-number true false true f = refl
+high-number false true true f = refl
+high-number false false true f = refl
+
+-- ---- the ports, of which the last is the local one
+or-false : (a : Bool) → (a || false) ≡ a
+or-false true = refl
+or-false false = refl
+
+or-true : (a : Bool) → (a || true) ≡ true
+or-true true = refl
+or-true false = refl
+
+pub port-two : (a b c : Bool) (f : ℕ → Bool) → number a b c ≤ 2 → ((if a then f 1 else f 0) || b) ≡ (if nat_lt (number a b c) 2 then f (number a b c) else true)
+port-two true true c f l = absurd (omega arith)
+port-two true false true f l = absurd (omega arith)
+port-two false true true f l = absurd (omega arith)
+port-two false false true f l = absurd (omega arith)
+port-two true false false f l = or-false (f 1)
+port-two false true false f l = or-true (f 0)
+port-two false false false f l = or-false (f 0)
+
+pub port-four : (a b c : Bool) (f : ℕ → Bool) → number a b c ≤ 4 → (by_four a b f || c) ≡ (if nat_lt (number a b c) 4 then f (number a b c) else true)
+port-four true true true f l = absurd (omega arith)
+port-four true false true f l = absurd (omega arith)
+port-four false true true f l = absurd (omega arith)
+port-four false false true f l = or-true (f 0)
+port-four true true false f l = or-false (f 3)
+port-four true false false f l = or-false (f 1)
+port-four false true false f l = or-false (f 2)
+port-four false false false f l = or-false (f 0)
+
+pub port-six : (a b c : Bool) (f : ℕ → Bool) → number a b c ≤ 6 → (if c then ((if a then f 5 else f 4) || b) else by_four a b f) ≡ (if nat_lt (number a b c) 6 then f (number a b c) else true)
+port-six true true true f l = absurd (omega arith)
+port-six true false true f l = or-false (f 5)
+port-six false true true f l = or-true (f 4)
+port-six false false true f l = or-false (f 4)
+port-six true true false f l = refl
+port-six true false false f l = refl
+port-six false true false f l = refl
+port-six false false false f l = refl
+
+pub four-same : (a b : Bool) (f g : ℕ → Bool) → f 0 ≡ g 0 → f 1 ≡ g 1 → f 2 ≡ g 2 → f 3 ≡ g 3 → by_four a b f ≡ by_four a b g
+four-same true true f g w x y z = z
+four-same false true f g w x y z = y
+four-same true false f g w x y z = x
+four-same false false f g w x y z = w
+
+pub four-words : (a b : Bool) (r none one two three : ℕ) (g : ℕ → Bool) → has_bit none r ≡ g 0 → has_bit one r ≡ g 1 → has_bit two r ≡ g 2 → has_bit three r ≡ g 3
+    → by_four a b (λ k. has_bit (slice_index (none ∷ one ∷ two ∷ three ∷ []) k) r) ≡ by_four a b g
+four-words a b r none one two three g = four-same a b (λ k. has_bit (slice_index (none ∷ one ∷ two ∷ three ∷ []) k) r) g
+
+pub two-same : (a x y u v : Bool) → x ≡ u → y ≡ v → (if a then y else x) ≡ (if a then v else u)
+two-same true x y u v e f = f
+two-same false x y u v e f = e
+
+-- the number of a channel of a router is that of the router in the words of the channel
+pub member-is : (n : Numbering) (r c : ℕ) (words : List ℕ) → c < n.size → has_bit (set_of n r words) c ≡ has_bit (word (n.index c) words) r
+member-is n r c words l = below-members n.size (λ k. has_bit (word (n.index k) words) r) c ∙ ap (λ b. b && has_bit (word (n.index c) words) r) (lt-ltb c n.size l)
+
+pub number-is : (n : Numbering) (r c : ℕ) (d : Digits (List ℕ)) → c < n.size → number_in (digits_by (set_of n r) d) c ≡ number_in (digits_by (word (n.index c)) d) r
+number-is n r c d l = λ i. number (member-is n r c d.ones l i) (member-is n r c d.twos l i) (member-is n r c d.fours l i)
+
+-- a link channel in the words and in the set of its port
+pub fed-is : (links : Ports) (some : List ℕ) (r q v : ℕ) → links.first ≡ 0 → v < links.vcs → is_fed_word links.width some r q v ≡ is_fed links.width (λ p. set_of (port_at links p) r some) q v
+fed-is links some r q v zero l = ap (λ b. if nat_lt q links.width then b else true) (sym (member-is (port_at links q) r v some l ∙ ap (λ k. has_bit (word k some) r) (let e : links.first + v * links.width + q ≡ v * links.width + q = omega (arith, zero) in e)))
+
+-- ---- a number is told digit by digit
+pub digit-is : (a : Bool) (m n : ℕ) → nat_eq (one_if a + 2 * m) n ≡ ((if nat_eq (n % 2) 1 then a else not a) && nat_eq m (n / 2))
+digit-is a m n = at a (cases_eq (n % 2) 1) (cases_eq m (n / 2))
+  where
+    at : (x : Bool) → (n % 2 ≡ 1) ⊎ (n % 2 ≢ 1) → (m ≡ n / 2) ⊎ (m ≢ n / 2) → nat_eq (one_if x + 2 * m) n ≡ ((if nat_eq (n % 2) 1 then x else not x) && nat_eq m (n / 2))
+    at true (inl odd) (inl same) = eq-eqb (1 + 2 * m) n (omega (arith, odd, same)) ∙ sym (ap₂ (λ b c. (if b then true else false) && c) (eq-eqb (n % 2) 1 odd) (eq-eqb m (n / 2) same))
+    at true (inl odd) (inr other) = ne_eqb (1 + 2 * m) n (λ e. other (omega (arith, odd, e))) ∙ sym (ap₂ (λ b c. (if b then true else false) && c) (eq-eqb (n % 2) 1 odd) (ne_eqb m (n / 2) other))
+    at true (inr even) o = ne_eqb (1 + 2 * m) n (λ e. even (omega (arith, e))) ∙ sym (ap (λ b. (if b then true else false) && nat_eq m (n / 2)) (ne_eqb (n % 2) 1 even))
+    at false (inl odd) o = ne_eqb (0 + 2 * m) n (λ e. absurd (omega (arith, odd, e))) ∙ sym (ap (λ b. (if b then false else true) && nat_eq m (n / 2)) (eq-eqb (n % 2) 1 odd))
+    at false (inr even) (inl same) = eq-eqb (0 + 2 * m) n (omega (arith, even, same)) ∙ sym (ap₂ (λ b c. (if b then false else true) && c) (ne_eqb (n % 2) 1 even) (eq-eqb m (n / 2) same))
+    at false (inr even) (inr other) = ne_eqb (0 + 2 * m) n (λ e. other (omega (arith, e))) ∙ sym (ap₂ (λ b c. (if b then false else true) && c) (ne_eqb (n % 2) 1 even) (ne_eqb m (n / 2) other))
+
+pub having-is : (a b c s x y z : Bool) (n : ℕ) → n < 8 → x ≡ nat_eq (n % 2) 1 → y ≡ nat_eq (n / 2 % 2) 1 → z ≡ nat_eq (n / 2 / 2 % 2) 1
+    → (((s && (if x then a else not a)) && (if y then b else not b)) && (if z then c else not c)) ≡ (s && nat_eq (number a b c) n)
+having-is a b c s x y z n few e f g =
+    (λ i. (((s && (if e i then a else not a)) && (if f i then b else not b)) && (if g i then c else not c)))
+    ∙ group s _ _ _
+    ∙ ap (λ w. s && w)
+    (sym (digit-is a (one_if b + 2 * (one_if c + 2 * 0)) n
+    ∙ ap (λ w. (if nat_eq (n % 2) 1 then a else not a) && w)
+    (digit-is b (one_if c + 2 * 0) (n / 2)
+    ∙ ap (λ w. (if nat_eq (n / 2 % 2) 1 then b else not b) && w)
+    (digit-is c 0 (n / 2 / 2) ∙ ap (λ w. (if nat_eq (n / 2 / 2 % 2) 1 then c else not c) && w) (eq-eqb 0 (n / 2 / 2 / 2) (omega (arith, few))) ∙ and-true (if nat_eq (n / 2 / 2 % 2) 1 then c else not c)))))
+  where
+    group : (s u v w : Bool) → (((s && u) && v) && w) ≡ (s && (u && (v && w)))
+    group true true v w = refl
+    group true false v w = refl
+    group false u v w = refl
+
+    and-true : (b : Bool) → (b && true) ≡ b
+    and-true true = refl
+    and-true false = refl
+
+-- .. and made of its digits
+pub number-of : (n : ℕ) → n < 8 → number (nat_eq (n % 2) 1) (nat_eq (n / 2 % 2) 1) (nat_eq (n / 2 / 2 % 2) 1) ≡ n
+number-of n few = omega (arith, few, odd n, odd (n / 2), odd (n / 2 / 2))
+  where
+    odd : (m : ℕ) → one_if (nat_eq (m % 2) 1) ≡ m % 2
+    odd m = elim (cases_eq (m % 2) 1) [ inl e ↦ ap one_if (eq-eqb (m % 2) 1 e) ∙ sym e | inr o ↦ ap one_if (ne_eqb (m % 2) 1 o) ∙ (let z : 0 ≡ m % 2 = omega (arith, o) in z) ]
+
+-- of three digits, where they are put in one place
+pub number-put : (x a b c d e f : Bool) (n : ℕ) → n < 8 → a ≡ (if x then nat_eq (n % 2) 1 else d) → b ≡ (if x then nat_eq (n / 2 % 2) 1 else e) → c ≡ (if x then nat_eq (n / 2 / 2 % 2) 1 else f) → number a b c ≡ (if x then n else number d e f)
+number-put true a b c d e f n few p q r = (λ i. number (p i) (q i) (r i)) ∙ number-of n few
+number-put false a b c d e f n few p q r = λ i. number (p i) (q i) (r i)

@@ -1,0 +1,53 @@
+use Rattle.std.proofs.Common.{◌≡◌, ◌+◌, ◌*◌, ◌^◌, ◌<◌, ◌∙◌, ap, ap₂, sym, subst, bit_or, slice_index}
+use Rattle.std.specs.Prelude.{◌&&◌, ◌||◌, nat_eq, if◌then◌else◌}
+use Rattle.std.proofs.lemmas.Nat.{pow_pos}
+use Rattle.noc_packet.specs.Set.{has_bit}
+use Rattle.noc_columns.specs.Picks.{channels_of}
+use Rattle.noc_columns.specs.Supply.{digits_by, number_in}
+use Rattle.noc_columns.specs.Words.{set_of, word}
+use Rattle.noc_columns.proofs.BitLemmas.{put-set}
+use Rattle.noc_columns.proofs.ChannelLemmas.{channels-apart}
+use Rattle.noc_columns.proofs.GrantLemmas.{first-is, least-one-is, number-written}
+use Rattle.noc_columns.proofs.grants.grant.Goals as goal
+
+pub least-requires : goal.least-requires
+least-requires c =
+    let size = (c.args.table.now.ports.links.width + 1) * c.args.table.now.ports.links.vcs in
+    let one = first-is size c.args.requests (slice_index c.args.turn.now c.args.out) c.first_in_turn-bit.result c.requires.below c.requires.some c.first_in_turn-bit.ensures in
+    subst (λ x. 0 < x) (sym one.2) (pow_pos one.0)
+
+pub index-index-requires : goal.index-index-requires
+index-index-requires c =
+    let size = (c.args.table.now.ports.links.width + 1) * c.args.table.now.ports.links.vcs in
+    let one = first-is size c.args.requests (slice_index c.args.turn.now c.args.out) c.first_in_turn-bit.result c.requires.below c.requires.some c.first_in_turn-bit.ensures in
+    subst (λ x. x < size) (sym (least-one-is c.first_in_turn-bit.result one.0 c.least.result one.2 c.least.ensures.least)) one.1
+
+pub returns-clause-grants : goal.returns-clause-grants
+returns-clause-grants c = λ r.
+    let ports = c.args.table.now.ports in
+    let n = channels_of ports in
+    let size = (ports.links.width + 1) * ports.links.vcs in
+    let bit = c.first_in_turn-bit.result in
+    let k = c.least.result in
+    let router = c.args.router in
+    let old = c.args.grants.now in
+    let one = first-is size c.args.requests (slice_index c.args.turn.now c.args.out) bit c.requires.below c.requires.some c.first_in_turn-bit.ensures in
+    let it : k ≡ one.0 = least-one-is bit one.0 k one.2 c.least.ensures.least in
+    let few : k < size = subst (λ x. x < size) (sym it) one.1 in
+    let is : bit ≡ 2 ^ k = one.2 ∙ ap (λ x. 2 ^ x) (sym it) in
+    let at = c.index-index.ensures.is in
+    let apart = channels-apart ports in
+    record {
+      granted =
+          put-set n old.granted c.put_router.new.words k router apart few r
+          (λ i s. c.put_router.ensures i s ∙ ap (λ j. (nat_eq i j && nat_eq s router) || has_bit (word i old.granted) s) at)
+          ∙ ap (λ x. if nat_eq r router then bit_or (set_of n r old.granted) x else set_of n r old.granted) (sym is);
+      port = λ d l.
+          number-written n old.sends.port c.put_number.new.self k router c.port.result r d apart few l
+          (λ i s. c.put_number.ensures i s ∙ ap (λ j. if nat_eq i j && nat_eq s router then c.port.result else number_in (digits_by (word i) old.sends.port) s) at)
+          ∙ ap₂ (λ x v. if nat_eq r router && has_bit x d then v else number_in (digits_by (set_of n r) old.sends.port) d) (sym is) c.port.ensures.is;
+      vc = λ d l.
+          number-written n old.sends.vc c.put_number-2.new.self k router c.vc.result r d apart few l
+          (λ i s. c.put_number-2.ensures i s ∙ ap (λ j. if nat_eq i j && nat_eq s router then c.vc.result else number_in (digits_by (word i) old.sends.vc) s) at)
+          ∙ ap₂ (λ x v. if nat_eq r router && has_bit x d then v else number_in (digits_by (set_of n r) old.sends.vc) d) (sym is) c.vc.ensures.is;
+    }

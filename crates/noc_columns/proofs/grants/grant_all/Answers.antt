@@ -1,0 +1,111 @@
+use Rattle.std.proofs.Common.{◌≡◌, ◌≢◌, ℕ, ◌+◌, ◌*◌, ◌^◌, ◌<◌, Bool, true, false, ◌∙◌, ap, ap₂, sym, subst, arith, refl, inl, inr, set, slice_index, get_or-set_same, get_or-set_other}
+use Rattle.std.specs.Prelude.{◌&&◌, ◌||◌, not, nat_eq}
+use Rattle.std.proofs.lemmas.Bool.{and_parts, eq-eqb, eqb-true, true≢false}
+use Rattle.std.proofs.lemmas.List.{length-set}
+use Rattle.noc_packet.specs.Set.{has_bit}
+use Rattle.noc_alloc.specs.Members.{MembersAreBelow}
+use Rattle.noc_sets.specs.Turns.{first_bit, in_turn}
+use Rattle.noc_sets.proofs.MemberLemmas.{lowest-one, or-cases, or-none}
+use Rattle.noc_columns.specs.Grants.{first_of}
+use Rattle.noc_columns.specs.Picks.{channels_of}
+use Rattle.noc_columns.proofs.GrantLemmas.{granted-next, granted-none, granted-same}
+use Rattle.noc_columns.proofs.LoopLemmas.{all-done, left-part, none-left, not-done, not-left}
+use Rattle.noc_columns.proofs.PortLemmas.{lowest-least}
+use Rattle.noc_columns.proofs.RouterLemmas.{first-among}
+use Rattle.noc_columns.proofs.grants.grant_all.Goals as goal
+
+pub loop-rest-init : goal.loop-rest-init
+loop-rest-init c = record {
+  size = omega arith;
+  part = λ k e. e;
+  granted = granted-none _ _ _ _ _ _ _ (λ o. none-left c.args.outs o);
+  left = λ o e. refl;
+  turned = λ o k i a b l. absurd (true≢false (sym a ∙ none-left c.args.outs o));
+  answered = λ o a. absurd (true≢false (sym a ∙ none-left c.args.outs o));
+  unread = λ o e. refl;
+}
+
+pub grant-bit-requires : goal.grant-bit-requires
+grant-bit-requires c =
+    let ports = c.args.table.now.ports in
+    let inv = c.loop-rest.invariant in
+    let t = c.least-out.result in
+    let asked = c.requires.asked t (inv.part t c.least-out.ensures.least.0) in
+    let was : slice_index c.loop-rest.requests t ≡ slice_index c.args.requests.now t = inv.unread t (not-done c.args.outs c.loop-rest.rest t c.least-out.ensures.least.0) in
+    record {
+      router = c.requires.router;
+      out = asked.0;
+      some = subst (λ x. 0 < x) (sym was) asked.1;
+      below = subst (MembersAreBelow ((ports.links.width + 1) * ports.links.vcs)) (sym was) asked.2;
+    }
+
+pub loop-rest-preserved : goal.loop-rest-preserved
+loop-rest-preserved c =
+    let inv = c.loop-rest.invariant in
+    let ports = c.args.table.now.ports in
+    let outs = c.args.outs in
+    let rest = c.loop-rest.rest in
+    let t = c.least-out.result in
+    let least = c.least-out.ensures.least in
+    let requests = λ (o : ℕ). slice_index c.args.requests.now o in
+    let turn = λ (o : ℕ). slice_index c.args.turn.now o in
+    let bit = c.grant-bit.result in
+    let prev = λ (o : ℕ). has_bit outs o && not (has_bit rest o) in
+    let fresh = inv.left t (not-done outs rest t least.0) in
+    let was = inv.unread t (not-done outs rest t least.0) in
+    let is : bit ≡ first_of requests turn t = c.grant-bit.ensures.first ∙ ap₂ first_bit was fresh in
+    let next = λ (o : ℕ). has_bit outs o && not (has_bit c.but_lowest-rest.result o) in
+    let more : (k : ℕ) → next k ≡ (prev k || nat_eq k t) = λ k. ap (λ w. has_bit outs k && not (has_bit w k)) c.but_lowest-rest.ensures.members ∙ not-left outs rest t k least inv.part in
+    let other : (o : ℕ) → prev o ≡ true → o ≢ t = λ o p e. true≢false (sym p ∙ ap prev e ∙ not-done outs rest t least.0) in
+    let few : t < 64 = c.least-out.ensures.within in
+    record {
+      size = length-set c.loop-rest.requests t 0 ∙ inv.size;
+      part = λ k e. left-part outs rest t least inv.part k (ap (λ w. has_bit w k) (sym c.but_lowest-rest.ensures.members) ∙ e);
+      granted = granted-next (channels_of ports) ports.links.vcs c.args.router prev next requests turn c.loop-rest.granted t bit c.args.grants.now c.loop-rest.grants c.grant-bit.new.grants more is
+          (λ o k p b. free o k p b (has_bit bit k) refl)
+          c.grant-bit.ensures.grants inv.granted;
+      left = λ o e.
+          let both = or-none (prev o) (nat_eq o t) (sym (more o) ∙ e) in
+          let far : o ≢ t = λ same. true≢false (sym (eq-eqb o t same) ∙ both.1) in
+          c.grant-bit.ensures.others o far ∙ inv.left o both.0;
+      turned = λ o k i a b l. elim (or-cases (prev o) (nat_eq o t) (sym (more o) ∙ a)) [
+        | inl p ↦ ap (λ w. has_bit w i) (c.grant-bit.ensures.others o (other o p)) ∙ inv.turned o k i p b l
+        | inr e ↦
+            let same = eqb-true o t e in
+            let power : bit ≡ 2 ^ k = is ∙ ap (first_of requests turn) (sym same) ∙ lowest-one (in_turn (requests o) (turn o)) k (lowest-least (in_turn (requests o) (turn o)) k b) in
+            ap (λ x. has_bit (slice_index c.grant-bit.new.turn x) i) same ∙ c.grant-bit.ensures.turn k i power l
+      ];
+      answered = λ o a. elim (or-cases (prev o) (nat_eq o t) (sym (more o) ∙ a)) [
+        | inl p ↦ get_or-set_other c.loop-rest.requests t o 0 0 (other o p) ∙ inv.answered o p
+        | inr e ↦ ap (slice_index (set c.loop-rest.requests t 0)) (eqb-true o t e) ∙ get_or-set_same c.loop-rest.requests t 0 0 (omega (arith, inv.size, few))
+      ];
+      unread = λ o e.
+          let both = or-none (prev o) (nat_eq o t) (sym (more o) ∙ e) in
+          let far : o ≢ t = λ same. true≢false (sym (eq-eqb o t same) ∙ both.1) in
+          get_or-set_other c.loop-rest.requests t o 0 0 far ∙ inv.unread o both.0;
+    }
+  where
+    free : (o k : ℕ) → (has_bit c.args.outs o && not (has_bit c.loop-rest.rest o)) ≡ true → has_bit (first_of (λ x. slice_index c.args.requests.now x) (λ x. slice_index c.args.turn.now x) o) k ≡ true
+        → (b : Bool) → has_bit c.grant-bit.result k ≡ b → has_bit c.grant-bit.result k ≡ false
+    free o k p b false e = e
+    free o k p b true e =
+        let t = c.least-out.result in
+        let least = c.least-out.ensures.least in
+        let parts = and_parts (has_bit c.args.outs o) (not (has_bit c.loop-rest.rest o)) p in
+        let a = first-among (slice_index c.args.requests.now o) (slice_index c.args.turn.now o) k b in
+        let was = c.loop-rest.invariant.unread t (not-done c.args.outs c.loop-rest.rest t least.0) in
+        let d = first-among (slice_index c.loop-rest.requests t) (slice_index c.loop-rest.turn t) k (ap (λ w. has_bit w k) (sym c.grant-bit.ensures.first) ∙ e) in
+        let same = c.requires.apart o t k parts.0 (c.loop-rest.invariant.part t least.0) a (ap (λ w. has_bit w k) (sym was) ∙ d) in
+        absurd (true≢false (sym parts.1 ∙ ap (λ x. not (has_bit c.loop-rest.rest x)) same ∙ ap not least.0))
+
+pub returns : goal.returns
+returns c =
+    let done = λ (o : ℕ). all-done c.args.outs c.loop-rest.rest o (omega arith) in
+    let inv = c.loop-rest.invariant in
+    record {
+      granted = granted-same _ _ _ _ _ _ _ _ _ _ (λ o. sym (done o)) inv.granted;
+      turns = λ o k i a b l. inv.turned o k i (done o ∙ a) b l;
+      others = λ o e. inv.left o (done o ∙ e);
+      answered = λ o a. inv.answered o (done o ∙ a);
+      unasked = λ o e. inv.unread o (done o ∙ e);
+    }

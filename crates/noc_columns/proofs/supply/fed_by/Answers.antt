@@ -1,0 +1,9 @@
+use Rattle.std.proofs.Common.{◌≡◌, ℕ, ◌<◌, ◌≤◌, sym, subst, arith, false, inl, inr}
+use Rattle.noc_packet.specs.Set.{has_bit}
+use Rattle.noc_columns.specs.Supply.{is_fed_word, number_in}
+use Rattle.noc_columns.proofs.supply.fed_by.Goals as goal
+
+pub returns-else-width-eq4 : goal.returns-else-width-eq4
+returns-else-width-eq4 c =
+    let six : c.args.width ≡ 6 = elim c.requires [ inl two ↦ absurd (omega arith) | inr rest ↦ elim rest [ inl four ↦ absurd (omega arith) | inr six ↦ six ] ] in
+    subst (λ w. (r : ℕ) → (c.args.wide ≡ false → number_in c.args.vc.now r < 4) → number_in c.args.port.now r ≤ w → has_bit c.of_six.result r ≡ is_fed_word w c.args.some.now r (number_in c.args.port.now r) (number_in c.args.vc.now r)) (sym six) c.of_six.ensures

@@ -1,0 +1,17 @@
+pub mod Words
+pub mod Planes
+pub mod Channels
+pub mod Steps
+pub mod Picks
+pub mod Tallies
+pub mod Supply
+pub mod Switch
+pub mod Near
+pub mod Places
+pub mod Grants
+pub mod Wants
+pub mod Allotted
+pub mod Routing
+pub mod Heads
+pub mod Arrivals
+pub mod Sources

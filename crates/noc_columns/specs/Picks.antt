@@ -1,0 +1,74 @@
+-- The words of ports, and which of their channels are in turn and picked.
+use Rattle.std.specs.Prelude.{◌≡◌, ℕ, ◌+◌, ◌*◌, ◌/◌, ◌%◌, ◌<◌, Bool, true, false, List, nat_eq, nat_lt, if◌then◌else◌}
+use Rattle.noc_packet.specs.Set.{has_bit}
+use Rattle.noc_sets.specs.Sets.{less}
+use Rattle.noc_sets.specs.Turns.{first_bit, in_turn}
+use Rattle.noc_sets.specs.Unions.{some_below}
+use Rattle.noc_columns.specs.Supply.{digits_by, number_in}
+use Rattle.noc_columns.specs.Words.{Numbering, set_of, word}
+use Rattle.noc_columns.specs.declared.ports.Ports.{Ports}
+use Rattle.noc_columns.specs.declared.ports.RouterPorts.{RouterPorts}
+use Rattle.noc_columns.specs.declared.supply.Sends.{Sends}
+use Rattle.noc_columns.specs.declared.picks.Picks.{Picks}
+
+-- the virtual channels of port j of those that stand side by side
+abbrev pub port_at : Ports → ℕ → Numbering
+port_at ports j = record { size = ports.vcs; index = λ v. ports.first + v * ports.width + j }
+
+-- all channels of these ports
+abbrev pub links_of : Ports → Numbering
+links_of ports = record {
+  size = ports.width * ports.vcs;
+  index = λ c. (port_at ports (c / ports.vcs)).index (c % ports.vcs);
+}
+
+-- the virtual channels of port p of a router, of which the local port is the last
+abbrev pub port_of : RouterPorts → ℕ → Numbering
+port_of ports p = record {
+  size = ports.links.vcs;
+  index = λ v. if nat_lt p ports.links.width then (port_at ports.links p).index v
+      else (port_at ports.local 0).index v;
+}
+
+-- the words of output port q in a switch: one for each input port
+abbrev pub output_of : RouterPorts → ℕ → Numbering
+output_of ports q = record {
+  size = ports.links.width + 1;
+  index = λ p. if nat_lt q ports.links.width then p * ports.links.width + q
+      else (ports.links.width + 1) * ports.links.width + p;
+}
+
+-- all its channels
+abbrev pub channels_of : RouterPorts → Numbering
+channels_of ports = record {
+  size = (ports.links.width + 1) * ports.links.vcs;
+  index = λ c. (port_of ports (c / ports.links.vcs)).index (c % ports.links.vcs);
+}
+
+-- the routers in which a channel is in turn, where these have one at or after the pointer: it is
+-- ready, and at or after the pointer, unless there is no such one
+abbrev pub turn_word : ℕ → ℕ → ℕ → ℕ
+turn_word first ready ahead = less ready (less first ahead)
+
+-- of a port the first channel in turn is picked, and these are past it
+pub record IsPicked (n : Numbering) (r : ℕ) (ready ahead picked past : List ℕ) : Type 0 where
+  pub first : set_of n r picked ≡ first_bit (set_of n r ready) (set_of n r ahead)
+  pub after : (c : ℕ) → c < n.size
+      → has_bit (set_of n r past) c
+      ≡ some_below c (has_bit (in_turn (set_of n r ready) (set_of n r ahead)))
+
+-- .. and it may send where it has a ready channel, and then all its channels are told so
+pub record IsPassedBy (n : Numbering) (r : ℕ) (ready ahead picked past sends : List ℕ)
+    (sending : Bool) : Type 0 where
+  pub picks : IsPicked n r ready ahead picked past
+  pub told : (c : ℕ) → c < n.size → has_bit (set_of n r sends) c ≡ sending
+  pub some : sending ≡ true → nat_eq (set_of n r ready) 0 ≡ false
+
+-- port p of router r picks channel c, which has what `picks` says of the port
+pub record HasPick (n : Numbering) (r p c : ℕ) (last : List ℕ) (sends : Sends (List ℕ))
+    (picks : Picks) : Type 0 where
+  pub any : has_bit (word p picks.any) r ≡ true
+  pub tail : has_bit (word p picks.tail) r ≡ has_bit (set_of n r last) c
+  pub port : number_in (digits_by (word p) picks.port) r
+      ≡ number_in (digits_by (set_of n r) sends.port) c
+  pub vc : number_in (digits_by (word p) picks.vc) r ≡ number_in (digits_by (set_of n r) sends.vc) c

@@ -1,0 +1,28 @@
+-- By which output channel an input channel sends, and whether that has a credit.
+use Rattle.std.specs.Prelude.{ℕ, ◌+◌, ◌*◌, Bool, true, List, [], ◌∷◌, nat_lt, if◌then◌else◌}
+use Rattle.noc_packet.specs.Set.{has_bit}
+use Rattle.noc_sets.specs.Planes.{plane_number}
+use Rattle.noc_columns.specs.Words.{word}
+use Rattle.noc_columns.specs.declared.supply.Digits.{Digits}
+
+-- each digit as what f makes of it
+abbrev pub digits_by : {A B : Type 0} → (A → B) → Digits A → Digits B
+digits_by f d = record { ones = f d.ones; twos = f d.twos; fours = f d.fours }
+
+-- the number of a channel
+abbrev pub number_in : Digits ℕ → ℕ → ℕ
+number_in d c = plane_number (d.ones ∷ d.twos ∷ d.fours ∷ []) c
+
+-- what is at the number of these two bits
+abbrev pub by_four : Bool → Bool → (ℕ → Bool) → Bool
+by_four a b f = if b then (if a then f 3 else f 2) else (if a then f 1 else f 0)
+
+-- whether virtual channel v of port q has a credit, where `some` has those of each link port, or
+-- port q is none of so many link ports
+abbrev pub is_fed : ℕ → (ℕ → ℕ) → ℕ → ℕ → Bool
+is_fed links some q v = if nat_lt q links then has_bit (some q) v else true
+
+-- .. in router r, by the words of all link channels
+abbrev pub is_fed_word : ℕ → List ℕ → ℕ → ℕ → ℕ → Bool
+is_fed_word links some r q v =
+    if nat_lt q links then has_bit (word (v * links + q) some) r else true

@@ -1,0 +1,93 @@
+//! Waiting channels of the routers of a block are granted output channels.
+
+ghost use Rattle.std.specs.Prelude.{◌≡◌, ◌≢◌, ◌<◌, ◌+◌, ◌*◌, ℕ, true, false, slice_index};
+ghost use Rattle.noc_packet.specs.Set.{has_bit};
+ghost use Rattle.noc_alloc.specs.Members.{MembersAreBelow};
+ghost use Rattle.noc_columns.specs.Allotted.{HasAllotted, allotment_at};
+ghost use Rattle.noc_columns.specs.Picks.{channels_of};
+ghost use Rattle.noc_columns.specs.declared.sets.TheConstants.{CHANNELS};
+ghost use Rattle.noc_columns.specs.declared.words.TheConstants.{ROUTERS};
+
+use crate::asks::ask_all;
+use crate::grants::{Grants, grant_all};
+use crate::marks::Marks;
+use crate::planes::less;
+use crate::sets::{CHANNELS, but_lowest, least};
+use crate::table::ChannelTable;
+use crate::words::Words;
+
+/// In the routers in which an idle output channel is wanted the waiting channels ask, and each
+/// output channel that is asked for is granted. It is told who is granted one, and who asks for one
+/// and is not.
+pub fn allocate(
+    table: &ChannelTable,
+    marks: &mut Marks,
+    grants: &mut Grants<Words>,
+    lost: &mut Words,
+)
+    requires waiting { (r : ℕ) → r < ROUTERS
+        → MembersAreBelow ((table.now.ports.links.width + 1) * table.now.ports.links.vcs)
+        (slice_index marks.old.waiting r) }
+    requires idle { (r : ℕ) → r < ROUTERS
+        → MembersAreBelow ((table.now.ports.links.width + 1) * table.now.ports.links.vcs)
+        (slice_index marks.old.idle r) }
+    ensures asked { (r : ℕ) → r < ROUTERS → has_bit marks.old.asking r ≡ true
+        → HasAllotted table.now.ports.links.vcs
+        (allotment_at (channels_of table.now.ports) marks.old grants.old lost.old r)
+        (allotment_at (channels_of table.now.ports) marks.new grants.new lost.new r) }
+    ensures others { (r : ℕ) → has_bit marks.old.asking r ≡ false
+        → allotment_at (channels_of table.now.ports) marks.new grants.new lost.new r
+        ≡ allotment_at (channels_of table.now.ports) marks.old grants.old lost.old r }
+{
+    // (No request is left from one router to the next.)
+    let mut requests = [0; CHANNELS];
+    let mut rest = marks.asking;
+    while rest != 0 {
+        allocate_router(table, least(rest), marks, &mut requests, grants, lost);
+        rest = but_lowest(rest);
+    }
+}
+
+// .. in one router.
+fn allocate_router(
+    table: &ChannelTable,
+    router: usize,
+    marks: &mut Marks,
+    requests: &mut [u64; CHANNELS],
+    grants: &mut Grants<Words>,
+    lost: &mut Words,
+)
+    requires router { router < ROUTERS }
+    requires waiting { MembersAreBelow
+        ((table.now.ports.links.width + 1) * table.now.ports.links.vcs)
+        (slice_index marks.old.waiting router) }
+    requires idle { MembersAreBelow ((table.now.ports.links.width + 1) * table.now.ports.links.vcs)
+        (slice_index marks.old.idle router) }
+    requires none { (o : ℕ) → o < CHANNELS → slice_index requests.old o ≡ 0 }
+    ensures here { HasAllotted table.now.ports.links.vcs
+        (allotment_at (channels_of table.now.ports) marks.old grants.old lost.old router)
+        (allotment_at (channels_of table.now.ports) marks.new grants.new lost.new router) }
+    ensures others { (r : ℕ) → r ≢ router
+        → allotment_at (channels_of table.now.ports) marks.new grants.new lost.new r
+        ≡ allotment_at (channels_of table.now.ports) marks.old grants.old lost.old r }
+    ensures none { (o : ℕ) → o < CHANNELS → slice_index requests.new o ≡ 0 }
+{
+    let waiting = marks.waiting[router];
+    let idle = marks.idle[router];
+    let asks = ask_all(waiting, idle, &marks.sets[router], requests);
+    let granted = grant_all(
+        table,
+        router,
+        asks.outs,
+        requests,
+        &mut marks.turns[router],
+        grants,
+    );
+    table.put(router, less(asks.inputs, granted), lost);
+    marks.put(
+        router,
+        less(waiting, granted),
+        asks.wanted,
+        less(idle, asks.outs),
+    );
+}

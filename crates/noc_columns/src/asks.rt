@@ -1,0 +1,55 @@
+//! The waiting channels of one router ask for output channels.
+
+ghost use Rattle.std.specs.Prelude.{◌≡◌, ◌<◌, ℕ, slice_index};
+ghost use Rattle.noc_packet.specs.Set.{has_bit};
+ghost use Rattle.noc_sets.specs.Grants.{AreAsks};
+ghost use Rattle.noc_columns.specs.declared.sets.TheConstants.{CHANNELS};
+
+use crate::sets::{CHANNELS, but_lowest, least, least_or_any, lowest, where_some};
+
+/// What the waiting channels of a router ask for.
+#[derive(Drop)]
+pub struct Asks {
+    /// The output channels that are asked for.
+    pub outs: u64,
+    /// The input channels that ask.
+    pub inputs: u64,
+    /// The sets of all waiting channels.
+    pub wanted: u64,
+}
+
+/// Each waiting channel of a router asks for the least idle channel of its set. `requests` has none
+/// before, and then by output channel the input channels that ask for it.
+pub fn ask_all(
+    waiting: u64,
+    idle: u64,
+    sets: &[u64; CHANNELS],
+    requests: &mut [u64; CHANNELS],
+) -> Asks
+    requires { (o : ℕ) → o < CHANNELS → slice_index requests.old o ≡ 0 }
+    ensures { AreAsks (has_bit waiting) idle (λ k. slice_index sets.now k)
+        (λ o. slice_index requests.new o) result.outs result.inputs result.wanted }
+{
+    let mut rest = waiting;
+    let mut outs = 0;
+    let mut inputs = 0;
+    let mut wanted = 0;
+    while rest != 0 {
+        let input = least(rest);
+        let set = sets[input];
+        let free = set & idle;
+        let asks = where_some(free, 1 << input as u32);
+        // (Where none is free, nothing is added to what stands there.)
+        let out = least_or_any(free);
+        requests[out] = requests[out] | asks;
+        outs = outs | lowest(free);
+        inputs = inputs | asks;
+        wanted = wanted | set;
+        rest = but_lowest(rest);
+    }
+    Asks {
+        outs,
+        inputs,
+        wanted,
+    }
+}

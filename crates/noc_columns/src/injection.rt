@@ -1,0 +1,133 @@
+//! What the sources inject into the local channels.
+
+ghost use Rattle.std.specs.Prelude.{◌≡◌, ◌⊎◌, ◌+◌, ◌<◌, ◌≤◌, ℕ, bit_or, nat_eq, nat_le, not, if◌then◌else◌};
+ghost use Rattle.noc_packet.specs.Set.{has_bit};
+ghost use Rattle.noc_sets.specs.Column.{Column};
+ghost use Rattle.noc_sets.specs.Passes.{lane_begins, lane_free, lane_injected};
+ghost use Rattle.noc_sets.specs.Sets.{less, lowest};
+ghost use Rattle.noc_columns.specs.Channels.{inputs_by};
+ghost use Rattle.noc_columns.specs.Picks.{port_at};
+ghost use Rattle.noc_columns.specs.Planes.{list_of, planes_by};
+ghost use Rattle.noc_columns.specs.Steps.{with_source};
+ghost use Rattle.noc_columns.specs.Words.{all_of, set_alike, set_of, word};
+
+use crate::channels::{Inputs, Links};
+use crate::frame::Frame;
+use crate::picks::any_side;
+use crate::planes::less;
+use crate::ports::Ports;
+use crate::words::Words;
+
+/// What the sources do with the local channels.
+#[derive(Drop)]
+pub struct Injection<T> {
+    /// The channel of the packet that is being injected.
+    pub injecting: T,
+    /// It, where a flit is injected.
+    pub went: T,
+    /// The channel in which the next packet begins.
+    pub begun: T,
+}
+
+/// Of a packet that is being injected a flit goes into its channel, where that is not full. Of
+/// these routers, whose next packet is due, those that inject none begin it in the first local
+/// channel that is free. The answer is the routers in which one begins.
+#[inline(always)]
+pub fn inject(
+    frame: &Frame,
+    local: &Ports,
+    due: u64,
+    inputs: &Inputs<Words>,
+    injection: &mut Injection<Words>,
+) -> u64
+    requires { local.now.width ≡ 1 }
+    ensures injecting { injection.new.injecting ≡ injection.old.injecting }
+    ensures went { (r : ℕ) (c : Column) → set_of (port_at local.now 0) r injection.new.went
+        ≡ lane_injected
+        (list_of frame.now.deep (planes_by (set_alike (port_at local.now 0) r) frame.now.places))
+        (with_source frame.now.deep (inputs_by (set_of (port_at local.now 0) r) inputs.now)
+        (set_of (port_at local.now 0) r injection.old.injecting) c) }
+    ensures begun { (r cycle due_at : ℕ) (c : Column) → has_bit due r ≡ nat_le due_at cycle
+        → set_of (port_at local.now 0) r injection.new.begun
+        ≡ lowest (lane_begins (all_of (port_at local.now 0)) cycle due_at
+        (with_source frame.now.deep (inputs_by (set_of (port_at local.now 0) r) inputs.now)
+        (set_of (port_at local.now 0) r injection.old.injecting) c)) }
+    ensures some { (r : ℕ) → has_bit result r
+        ≡ not (nat_eq (set_of (port_at local.now 0) r injection.new.begun) 0) }
+{
+    let busy = any_side(local, &injection.injecting, &injection.injecting)[0];
+    let starts = less(due, busy);
+    if frame.deep {
+        inject_all(frame, true, local, starts, inputs, injection)
+    } else {
+        inject_all(frame, false, local, starts, inputs, injection)
+    }
+}
+
+// Sources inject, where it is told whether counts are deep, and which routers may begin a packet.
+#[inline(always)]
+fn inject_all(
+    frame: &Frame,
+    deep: bool,
+    local: &Ports,
+    starts: u64,
+    inputs: &Inputs<Words>,
+    injection: &mut Injection<Words>,
+) -> u64
+    requires { local.now.width ≡ 1 }
+    ensures injecting { injection.new.injecting ≡ injection.old.injecting }
+    ensures went { (r : ℕ) (c : Column) → set_of (port_at local.now 0) r injection.new.went
+        ≡ lane_injected
+        (list_of deep (planes_by (set_alike (port_at local.now 0) r) frame.now.places))
+        (with_source deep (inputs_by (set_of (port_at local.now 0) r) inputs.now)
+        (set_of (port_at local.now 0) r injection.old.injecting) c) }
+    ensures begun { (r : ℕ) (c : Column) → set_of (port_at local.now 0) r injection.new.begun
+        ≡ lowest (lane_free (set_alike (port_at local.now 0) r starts)
+        (with_source deep (inputs_by (set_of (port_at local.now 0) r) inputs.now)
+        (set_of (port_at local.now 0) r injection.old.injecting) c)) }
+    ensures some { (r : ℕ) → has_bit result r
+        ≡ not (nat_eq (set_of (port_at local.now 0) r injection.new.begun) 0) }
+{
+    let mut before = 0;
+    for v in 0..local.vcs {
+        let i = local.first + v;
+        let had = inputs.at(i);
+        let begins = less(starts, had.waiting | had.active | had.len.some(deep, 0));
+        injection.went[i] = injection.injecting[i] & had.len.other_than(deep, &frame.places);
+        injection.begun[i] = less(begins, before);
+        before = before | begins;
+    }
+    before
+}
+
+/// What is injected comes to the local channels. In these routers it is the last flit of its
+/// packet, whose channel injects no more.
+#[inline(always)]
+pub fn bring(local: &Ports, last: u64, injection: &mut Injection<Words>, came: &mut Links<Words>)
+    requires { local.now.width ≡ 1 }
+    ensures flits { (r : ℕ) → set_of (port_at local.now 0) r came.new.flits
+        ≡ bit_or (set_of (port_at local.now 0) r injection.old.went)
+        (set_of (port_at local.now 0) r injection.old.begun) }
+    ensures tails { (r : ℕ) → set_of (port_at local.now 0) r came.new.tails
+        ≡ (if has_bit last r then set_of (port_at local.now 0) r came.new.flits else 0) }
+    ensures injecting { (r : ℕ) → set_of (port_at local.now 0) r injection.new.injecting
+        ≡ less (bit_or (set_of (port_at local.now 0) r injection.old.injecting)
+        (set_of (port_at local.now 0) r injection.old.begun))
+        (set_of (port_at local.now 0) r came.new.tails) }
+    ensures rest { injection.new
+        ≡ record injection.old { injecting = injection.new.injecting } }
+    ensures others { (k : ℕ)
+        → (k < local.now.first) ⊎ (local.now.first + local.now.vcs ≤ k)
+        → (word k came.new.flits ≡ word k came.old.flits)
+        × (word k came.new.tails ≡ word k came.old.tails) }
+    ensures credits { came.new.credits ≡ came.old.credits }
+{
+    for v in 0..local.vcs {
+        let i = local.first + v;
+        let flits = injection.went[i] | injection.begun[i];
+        let tails = flits & last;
+        came.flits[i] = flits;
+        came.tails[i] = tails;
+        injection.injecting[i] = less(injection.injecting[i] | injection.begun[i], tails);
+    }
+}

@@ -1,0 +1,85 @@
+//! Columns: a word is one channel of 64 routers, bit r of it router r.
+//!
+//! A block has a word for each channel, and what is done to a word is done to all its routers. The
+//! records of a block stand once: their fields are `Words` where they are of a block, one word
+//! where they are of one channel, and sets of channels where `specs/` reads one router out of them.
+#![tactic(auto)]
+
+mod allocation;
+mod arrivals;
+mod asks;
+mod by_port;
+mod by_router;
+mod channels;
+mod credits;
+mod due;
+mod effects;
+mod flits;
+mod frame;
+mod grants;
+mod header;
+mod heads;
+mod injection;
+mod laws;
+mod left;
+mod marks;
+mod near;
+mod neighbours;
+mod payments;
+mod picks;
+mod places;
+mod planes;
+mod ports;
+mod sets;
+mod sources;
+mod starts;
+mod supply;
+mod switch;
+mod table;
+mod tally;
+mod words;
+
+pub use allocation::allocate;
+pub use arrivals::{arrive, give_back};
+pub use asks::{Asks, ask_all};
+pub use by_router::{add_channels, add_links};
+pub use channels::{Decided, Inputs, Links, Outputs, Returned, Standing, Verdicts};
+pub use credits::take_credits;
+pub use due::{Due, NEVER};
+pub use effects::settle;
+pub use flits::land;
+pub use frame::Frame;
+pub use grants::{Grants, grant, grant_all};
+pub use header::Header;
+pub use heads::{Guide, route};
+pub use injection::{Injection, bring, inject};
+pub use laws::{
+    a_router_that_is_put_has_the_channel, a_router_that_is_taken_has_the_channel_no_more,
+    allotments_and_routes_are_what_a_router_chooses, allotments_are_what_a_router_allocates,
+    allotments_show_who_owns_a_channel, channels_of_a_router_are_apart,
+    near_and_far_are_the_places, neighbours_stand_at_these_places,
+    picked_channels_are_those_of_the_ports, places_bring_what_comes_over_the_link,
+    ports_pass_what_a_router_passes, ports_pick_what_a_router_picks,
+    ports_switch_what_a_router_switches, sources_send_what_a_router_sends,
+    what_comes_from_the_places_is_near_or_far, what_leaves_by_the_local_port_arrives,
+    what_leaves_gives_its_channel_back,
+};
+pub use left::Left;
+pub use marks::Marks;
+pub use near::{gather, gather_far};
+pub use neighbours::{Far, Near, Neighbours};
+pub use payments::pay;
+pub use picks::{Picks, any_both, pick, pick_each};
+pub use places::{far_of, near_of};
+pub use planes::{Planes, less};
+pub use ports::{PORTS, Ports, RouterPorts};
+pub use sets::{
+    CHANNELS, but_lowest, first_in_turn, least, least_or_any, lowest, past, where_some,
+};
+pub use sources::Sources;
+pub use starts::Start;
+pub use supply::{Digits, Sends, look_up};
+pub use switch::{Switch, traverse};
+pub use table::ChannelTable;
+pub use tally::{Cycles, LEVELS, Tally};
+pub use words::{ROUTERS, WORDS, Words, put, put_router, take_router, with_router};

@@ -1,0 +1,52 @@
+//! What the routers of a block keep of their channels, which is read and written one by one.
+
+ghost use Rattle.std.specs.Prelude.{◌≡◌, ◌<◌, ℕ, nat_eq, not, slice_index, if◌then◌else◌};
+ghost use Rattle.noc_packet.specs.Set.{has_bit};
+ghost use Rattle.noc_columns.specs.Wants.{asks_of};
+ghost use Rattle.noc_columns.specs.declared.words.TheConstants.{ROUTERS};
+
+use crate::sets::{CHANNELS, where_some};
+use crate::words::{ROUTERS, with_router};
+
+/// What the routers of a block keep of their channels.
+#[derive(Drop)]
+pub struct Marks {
+    /// By router, the input channels that wait for an output channel.
+    pub waiting: [u64; ROUTERS],
+    /// By router, the output channels that these want, and maybe more.
+    pub wanted: [u64; ROUTERS],
+    /// By router, the idle output channels.
+    pub idle: [u64; ROUTERS],
+    /// The routers in which an idle output channel is wanted.
+    pub asking: u64,
+    /// By router and waiting input channel, the output channels that it may take.
+    pub sets: [[u64; CHANNELS]; ROUTERS],
+    /// By router and output channel, the input channels at or after the pointer of its arbiter.
+    pub turns: [[u64; CHANNELS]; ROUTERS],
+    ghost asks: { (r : ℕ) → r < ROUTERS → has_bit asking r
+        ≡ not (nat_eq (asks_of (slice_index waiting r) (slice_index wanted r) (slice_index idle r))
+        0) },
+}
+
+impl Marks {
+    /// Writes which input channels of a router wait, which output channels these want, and which
+    /// are idle.
+    #[inline(always)]
+    pub fn put(&mut self, router: usize, waiting: u64, wanted: u64, idle: u64)
+        requires { router < ROUTERS }
+        ensures waiting { (r : ℕ) → slice_index self.new.waiting r
+            ≡ (if nat_eq r router then waiting else slice_index self.old.waiting r) }
+        ensures wanted { (r : ℕ) → slice_index self.new.wanted r
+            ≡ (if nat_eq r router then wanted else slice_index self.old.wanted r) }
+        ensures idle { (r : ℕ) → slice_index self.new.idle r
+            ≡ (if nat_eq r router then idle else slice_index self.old.idle r) }
+        ensures sets { self.new.sets ≡ self.old.sets }
+        ensures turns { self.new.turns ≡ self.old.turns }
+    {
+        let asks = where_some(waiting, wanted & idle);
+        self.asking = with_router(self.asking, router, asks != 0);
+        self.waiting[router] = waiting;
+        self.wanted[router] = wanted;
+        self.idle[router] = idle;
+    }
+}

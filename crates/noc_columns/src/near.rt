@@ -1,0 +1,198 @@
+//! What comes over the links: a word of the channel at the other end, turned and masked.
+
+ghost use Rattle.std.specs.Prelude.{◌≡◌, ◌≢◌, ◌⊎◌, ◌<◌, ◌≤◌, ◌+◌, ◌*◌, ◌%◌, ◌&&◌, ◌||◌, ℕ, bit_or, slice_index};
+ghost use Rattle.noc_packet.specs.Set.{has_bit};
+ghost use Rattle.noc_topo.specs.Shape.{opposite};
+ghost use Rattle.noc_columns.specs.Channels.{links_by};
+ghost use Rattle.noc_columns.specs.Near.{comes_from, comes_near};
+ghost use Rattle.noc_columns.specs.Picks.{port_at};
+ghost use Rattle.noc_columns.specs.Words.{word};
+ghost use Rattle.noc_columns.specs.declared.ports.TheConstants.{PORTS};
+ghost use Rattle.noc_columns.specs.declared.words.TheConstants.{ROUTERS, WORDS};
+
+use crate::channels::Links;
+use crate::frame::Frame;
+use crate::neighbours::{Far, Near, Neighbours};
+use crate::ports::{PORTS, Ports};
+use crate::words::{ROUTERS, WORDS, Words};
+
+/// What has left the routers of a block comes over the links within it.
+#[inline(always)]
+pub fn gather(frame: &Frame, near: &Near, left: &Links<Words>, came: &mut Links<Words>)
+    ensures flits { (k r : ℕ) → k < 4 * frame.now.link_groups → r < ROUTERS
+        → has_bit (word k came.new.flits) r ≡ comes_near near.now left.now.flits k r }
+    ensures tails { (k r : ℕ) → k < 4 * frame.now.link_groups → r < ROUTERS
+        → has_bit (word k came.new.tails) r ≡ comes_near near.now left.now.tails k r }
+    ensures credits { (k r : ℕ) → k < 4 * frame.now.link_groups → r < ROUTERS
+        → has_bit (word k came.new.credits) r ≡ comes_near near.now left.now.credits k r }
+{
+    // (All three stand in one loop. Else the compiler takes the same word of four groups at a time,
+    // and moves words about.)
+    for g in 0..frame.link_groups {
+        let at = 4 * g;
+        gather_four(near, at, &left.flits, &mut came.flits);
+        gather_four(near, at, &left.tails, &mut came.tails);
+        gather_four(near, at, &left.credits, &mut came.credits);
+    }
+}
+
+/// What has left another block comes over the links to these neighbours, besides what has come to
+/// them already.
+#[inline(always)]
+pub fn gather_far(links: &Ports, far: &Far, left: &Links<Words>, came: &mut Links<Words>)
+    requires first { links.now.first ≡ 0 }
+    requires port { far.now.port < links.now.width }
+    requires opposite { opposite far.now.port < links.now.width }
+    ensures flits { (v r : ℕ) → v < links.now.vcs → r < ROUTERS
+        → has_bit (word ((port_at links.now far.now.port).index v) came.new.flits) r
+        ≡ (has_bit (word ((port_at links.now far.now.port).index v) came.old.flits) r
+        || comes_from far.now.distance far.now.mask
+        (word ((port_at links.now (opposite far.now.port)).index v) left.now.flits) r) }
+    ensures tails { (v r : ℕ) → v < links.now.vcs → r < ROUTERS
+        → has_bit (word ((port_at links.now far.now.port).index v) came.new.tails) r
+        ≡ (has_bit (word ((port_at links.now far.now.port).index v) came.old.tails) r
+        || comes_from far.now.distance far.now.mask
+        (word ((port_at links.now (opposite far.now.port)).index v) left.now.tails) r) }
+    ensures credits { (v r : ℕ) → v < links.now.vcs → r < ROUTERS
+        → has_bit (word ((port_at links.now far.now.port).index v) came.new.credits) r
+        ≡ (has_bit (word ((port_at links.now far.now.port).index v) came.old.credits) r
+        || comes_from far.now.distance far.now.mask
+        (word ((port_at links.now (opposite far.now.port)).index v) left.now.credits) r) }
+    ensures others { (k : ℕ)
+        → ((v : ℕ) → v < links.now.vcs → k ≢ (port_at links.now far.now.port).index v)
+        → links_by (word k) came.new ≡ links_by (word k) came.old }
+{
+    join_far(links, far, &left.flits, &mut came.flits);
+    join_far(links, far, &left.tails, &mut came.tails);
+    join_far(links, far, &left.credits, &mut came.credits);
+}
+
+// Four words of one kind, from this index on.
+#[inline(always)]
+fn gather_four(near: &Near, at: usize, from: &Words, to: &mut Words)
+    requires fit { at + 4 ≤ WORDS }
+    requires even { at % 2 ≡ 0 }
+    ensures here { (k r : ℕ) → at ≤ k → k < at + 4 → r < ROUTERS
+        → has_bit (word k to.new) r ≡ comes_near near.now from.now k r }
+    ensures others { (k : ℕ) → (k < at) ⊎ (at + 4 ≤ k) → word k to.new ≡ word k to.old }
+{
+    let sent = opposite_four(from, at);
+    let came = near_four(near, &sent, at);
+    put_four(to, at, &came);
+}
+
+// The words of the channels at the other ends of four links.
+#[inline(always)]
+fn opposite_four(from: &Words, at: usize) -> [u64; 4]
+    requires fit { at + 4 ≤ WORDS }
+    requires even { at % 2 ≡ 0 }
+    ensures { (j : ℕ) → j < 4 → slice_index result j ≡ word (opposite (at + j)) from.now }
+{
+    [from[at + 1], from[at], from[at + 3], from[at + 2]]
+}
+
+// What comes by four links from neighbours at both distances.
+#[inline(always)]
+fn near_four(near: &Near, sent: &[u64; 4], at: usize) -> [u64; 4]
+    requires { at + 4 ≤ WORDS }
+    ensures { (j r : ℕ) → j < 4 → r < ROUTERS
+        → has_bit (slice_index result j) r
+        ≡ (comes_from (word (at + j) near.now.straight.distance)
+        (word (at + j) near.now.straight.mask) (slice_index sent.now j) r
+        || (near.now.rings && comes_from (word (at + j) near.now.round.distance)
+        (word (at + j) near.now.round.mask) (slice_index sent.now j) r)) }
+{
+    let straight = turned_four(&near.straight, sent, at);
+    if near.rings {
+        let round = turned_four(&near.round, sent, at);
+        join_four(&straight, &round)
+    } else {
+        straight
+    }
+}
+
+// What comes by four links from neighbours at one distance.
+#[inline(always)]
+fn turned_four(neighbours: &Neighbours, sent: &[u64; 4], at: usize) -> [u64; 4]
+    requires { at + 4 ≤ WORDS }
+    ensures { (j r : ℕ) → j < 4 → r < ROUTERS
+        → has_bit (slice_index result j) r
+        ≡ comes_from (word (at + j) neighbours.now.distance) (word (at + j) neighbours.now.mask)
+        (slice_index sent.now j) r }
+{
+    let mut all = [0; 4];
+    for j in 0..4 {
+        all[j] = turned(
+            sent[j],
+            neighbours.distance[at + j],
+            neighbours.mask[at + j],
+        );
+    }
+    all
+}
+
+// Four words that are joined.
+#[inline(always)]
+fn join_four(first: &[u64; 4], second: &[u64; 4]) -> [u64; 4]
+    ensures { (j : ℕ) → j < 4
+        → slice_index result j ≡ bit_or (slice_index first.now j) (slice_index second.now j) }
+{
+    let mut all = [0; 4];
+    for j in 0..4 {
+        all[j] = first[j] | second[j];
+    }
+    all
+}
+
+// Writes four words, from this index on.
+#[inline(always)]
+fn put_four(words: &mut Words, at: usize, four: &[u64; 4])
+    requires { at + 4 ≤ WORDS }
+    ensures here { (j : ℕ) → j < 4 → word (at + j) words.new ≡ slice_index four.now j }
+    ensures others { (k : ℕ) → (k < at) ⊎ (at + 4 ≤ k) → word k words.new ≡ word k words.old }
+{
+    for j in 0..4 {
+        words[at + j] = four[j];
+    }
+}
+
+// With the words of one kind from another block.
+#[inline(always)]
+fn join_far(links: &Ports, far: &Far, from: &Words, to: &mut Words)
+    requires first { links.now.first ≡ 0 }
+    requires port { far.now.port < links.now.width }
+    requires opposite { opposite far.now.port < links.now.width }
+    ensures here { (v r : ℕ) → v < links.now.vcs → r < ROUTERS
+        → has_bit (word ((port_at links.now far.now.port).index v) to.new) r
+        ≡ (has_bit (word ((port_at links.now far.now.port).index v) to.old) r
+        || comes_from far.now.distance far.now.mask
+        (word ((port_at links.now (opposite far.now.port)).index v) from.now) r) }
+    ensures others { (k : ℕ)
+        → ((v : ℕ) → v < links.now.vcs → k ≢ (port_at links.now far.now.port).index v)
+        → word k to.new ≡ word k to.old }
+{
+    let other = opposite(far.port);
+    for v in 0..links.vcs {
+        let at = v * links.width;
+        to[at + far.port] = to[at + far.port] | turned(from[at + other], far.distance, far.mask);
+    }
+}
+
+// The port at the other end of a link.
+#[inline(always)]
+fn opposite(port: usize) -> usize
+    requires { port < PORTS }
+    ensures { result ≡ opposite port }
+{
+    if port % 2 == 0 { port + 1 } else { port - 1 }
+}
+
+// Each of these routers gets what the one has that stands so far from it.
+#[inline(always)]
+fn turned(word: u64, distance: u64, mask: u64) -> u64
+    requires { distance < ROUTERS }
+    ensures { (r : ℕ) → r < ROUTERS → has_bit result r ≡ comes_from distance mask word r }
+{
+    let back = (ROUTERS as u64 - distance) % ROUTERS as u64;
+    ((word >> distance) | (word << back)) & mask
+}

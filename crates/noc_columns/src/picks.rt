@@ -1,0 +1,233 @@
+//! Each input port picks one of its channels.
+
+ghost use Rattle.std.specs.Prelude.{◌≡◌, ◌⊎◌, ◌<◌, ◌≤◌, ◌+◌, ◌*◌, ◌&&◌, ℕ, true, not, nat_eq, bit_and, bit_or, slice_index};
+ghost use Rattle.noc_packet.specs.Set.{has_bit};
+ghost use Rattle.noc_sets.specs.Sets.{less};
+ghost use Rattle.noc_sets.specs.Unions.{some_below};
+ghost use Rattle.noc_columns.specs.Picks.{HasPick, IsPicked, port_at, port_of, turn_word};
+ghost use Rattle.noc_columns.specs.Words.{set_of, word};
+
+use crate::by_port::write_side;
+use crate::channels::{Decided, Inputs, Standing};
+use crate::planes::less;
+use crate::ports::{PORTS, Ports, RouterPorts};
+use crate::supply::{Digits, Sends};
+use crate::words::Words;
+
+/// What the picked channel of each input port has, with a word of each port.
+#[derive(Drop)]
+pub struct Picks {
+    /// The routers in which the port picks a channel.
+    pub any: [u64; PORTS],
+    /// Those in which that has a tail in front.
+    pub tail: [u64; PORTS],
+    /// The port of its output channel.
+    pub port: Digits<[u64; PORTS]>,
+    /// The virtual channel of its output channel.
+    pub vc: Digits<[u64; PORTS]>,
+}
+
+/// Of the ready channels of each input port one is picked, the first from the pointer on and
+/// around. The answer is what these channels have.
+#[inline(always)]
+pub fn pick(
+    ports: &RouterPorts,
+    inputs: &Inputs<Words>,
+    standing: &Standing<Words>,
+    sends: &Sends<Words>,
+    decided: &mut Decided<Words>,
+) -> Picks
+    ensures picked { (p r : ℕ) → p < ports.now.links.width + 1
+        → IsPicked (port_of ports.now p) r standing.now.ready inputs.now.ahead decided.new.picked
+        decided.new.past }
+    ensures picks { (p r c : ℕ) → p < ports.now.links.width + 1 → c < ports.now.links.vcs
+        → has_bit (set_of (port_of ports.now p) r decided.new.picked) c ≡ true
+        → HasPick (port_of ports.now p) r p c standing.now.last sends.now result }
+    ensures any { (p r : ℕ) → p < ports.now.links.width + 1
+        → has_bit (slice_index result.any p) r
+        ≡ not (nat_eq (set_of (port_of ports.now p) r standing.now.ready) 0) }
+    ensures rest { decided.new
+        ≡ record decided.old { picked = decided.new.picked; past = decided.new.past } }
+{
+    let any = pick_each(
+        ports,
+        &standing.ready,
+        &inputs.ahead,
+        &mut decided.picked,
+        &mut decided.past,
+    );
+    Picks {
+        any,
+        tail: any_both(ports, &decided.picked, &standing.last),
+        port: numbers(ports, &decided.picked, &sends.port),
+        vc: numbers(ports, &decided.picked, &sends.vc),
+    }
+}
+
+// By port the numbers of the channels of a set that has one of each port at most.
+#[inline(always)]
+fn numbers(ports: &RouterPorts, set: &Words, of: &Digits<Words>) -> Digits<[u64; PORTS]>
+    ensures ones { (p r : ℕ) → p < ports.now.links.width + 1
+        → has_bit (slice_index result.ones p) r
+        ≡ some_below ports.now.links.vcs
+        (λ c. has_bit (word ((port_of ports.now p).index c) set.now) r
+        && has_bit (word ((port_of ports.now p).index c) of.now.ones) r) }
+    ensures twos { (p r : ℕ) → p < ports.now.links.width + 1
+        → has_bit (slice_index result.twos p) r
+        ≡ some_below ports.now.links.vcs
+        (λ c. has_bit (word ((port_of ports.now p).index c) set.now) r
+        && has_bit (word ((port_of ports.now p).index c) of.now.twos) r) }
+    ensures fours { (p r : ℕ) → p < ports.now.links.width + 1
+        → has_bit (slice_index result.fours p) r
+        ≡ some_below ports.now.links.vcs
+        (λ c. has_bit (word ((port_of ports.now p).index c) set.now) r
+        && has_bit (word ((port_of ports.now p).index c) of.now.fours) r) }
+{
+    Digits {
+        ones: any_both(ports, set, &of.ones),
+        twos: any_both(ports, set, &of.twos),
+        fours: any_both(ports, set, &of.fours),
+    }
+}
+
+/// By port the routers of which a channel is in both of two sets.
+#[inline(always)]
+pub fn any_both(ports: &RouterPorts, first: &Words, second: &Words) -> [u64; PORTS]
+    ensures { (p r : ℕ) → p < ports.now.links.width + 1
+        → has_bit (slice_index result p) r
+        ≡ some_below ports.now.links.vcs
+        (λ c. has_bit (word ((port_of ports.now p).index c) first.now) r
+        && has_bit (word ((port_of ports.now p).index c) second.now) r) }
+{
+    let mut any = any_side(&ports.links, first, second);
+    let local = any_side(&ports.local, first, second);
+    any[ports.links.width] = local[0];
+    any
+}
+
+/// Of the ready channels of each port one is picked, the first from the pointer on and around. The
+/// answer is by port the routers in which one is picked.
+#[inline(always)]
+pub fn pick_each(
+    ports: &RouterPorts,
+    ready: &Words,
+    ahead: &Words,
+    picked: &mut Words,
+    past: &mut Words,
+) -> [u64; PORTS]
+    ensures picked { (p r : ℕ) → p < ports.now.links.width + 1
+        → IsPicked (port_of ports.now p) r ready.now ahead.now picked.new past.new }
+    ensures some { (p r : ℕ) → p < ports.now.links.width + 1
+        → has_bit (slice_index result p) r
+        ≡ not (nat_eq (set_of (port_of ports.now p) r ready.now) 0) }
+{
+    let mut any = pick_side(&ports.links, ready, ahead, picked, past);
+    let local = pick_side(&ports.local, ready, ahead, picked, past);
+    any[ports.links.width] = local[0];
+    any
+}
+
+// Of ports that stand side by side, by port the routers that have a ready channel at or after the
+// pointer, and those of which a channel before this one is in turn.
+#[derive(Drop)]
+struct Turn {
+    first: [u64; PORTS],
+    before: [u64; PORTS],
+}
+
+// The ports that stand side by side pick. The answer is by port the routers in which it picks one.
+#[inline(always)]
+fn pick_side(
+    ports: &Ports,
+    ready: &Words,
+    ahead: &Words,
+    picked: &mut Words,
+    past: &mut Words,
+) -> [u64; PORTS]
+    ensures picked { (j r : ℕ) → j < ports.now.width
+        → IsPicked (port_at ports.now j) r ready.now ahead.now picked.new past.new }
+    ensures some { (j r : ℕ) → j < ports.now.width
+        → has_bit (slice_index result j) r
+        ≡ not (nat_eq (set_of (port_at ports.now j) r ready.now) 0) }
+    ensures others { (k : ℕ)
+        → (k < ports.now.first) ⊎ (ports.now.first + ports.now.vcs * ports.now.width ≤ k)
+        → (word k picked.new ≡ word k picked.old) × (word k past.new ≡ word k past.old) }
+{
+    let first = any_side(ports, ready, ahead);
+    let mut turn = Turn {
+        first,
+        before: [0; PORTS],
+    };
+    for v in 0..ports.vcs {
+        write_side(ports, v, &turn.before, past);
+        pick_next(ports, v, ready, ahead, &mut turn, picked);
+    }
+    turn.before
+}
+
+// By port the routers of which a channel is in both of two sets, of ports that stand side by side.
+#[inline(always)]
+pub(crate) fn any_side(ports: &Ports, first: &Words, second: &Words) -> [u64; PORTS]
+    ensures { (j r : ℕ) → j < ports.now.width
+        → has_bit (slice_index result j) r
+        ≡ some_below ports.now.vcs (λ c. has_bit (word ((port_at ports.now j).index c) first.now) r
+        && has_bit (word ((port_at ports.now j).index c) second.now) r) }
+{
+    let mut any = [0; PORTS];
+    for v in 0..ports.vcs {
+        join_both(ports, v, first, second, &mut any);
+    }
+    any
+}
+
+// With virtual channel v of each port.
+#[inline(always)]
+fn join_both(ports: &Ports, v: usize, first: &Words, second: &Words, any: &mut [u64; PORTS])
+    requires { v < ports.now.vcs }
+    ensures { (j : ℕ) → j < ports.now.width
+        → slice_index any.new j
+        ≡ bit_or (slice_index any.old j)
+        (bit_and (word ((port_at ports.now j).index v) first.now)
+        (word ((port_at ports.now j).index v) second.now)) }
+{
+    let at = ports.first + v * ports.width;
+    for j in 0..ports.width {
+        any[j] = any[j] | (first[at + j] & second[at + j]);
+    }
+}
+
+// Virtual channel v of each port is picked where it is the first in turn.
+#[inline(always)]
+fn pick_next(
+    ports: &Ports,
+    v: usize,
+    ready: &Words,
+    ahead: &Words,
+    turn: &mut Turn,
+    picked: &mut Words,
+)
+    requires { v < ports.now.vcs }
+    ensures first { turn.new.first ≡ turn.old.first }
+    ensures before { (j : ℕ) → j < ports.now.width
+        → slice_index turn.new.before j
+        ≡ bit_or (slice_index turn.old.before j)
+        (turn_word (slice_index turn.old.first j) (word ((port_at ports.now j).index v) ready.now)
+        (word ((port_at ports.now j).index v) ahead.now)) }
+    ensures picked { (j : ℕ) → j < ports.now.width
+        → word ((port_at ports.now j).index v) picked.new
+        ≡ less (turn_word (slice_index turn.old.first j)
+        (word ((port_at ports.now j).index v) ready.now)
+        (word ((port_at ports.now j).index v) ahead.now)) (slice_index turn.old.before j) }
+    ensures others { (k : ℕ)
+        → (k < ports.now.first + v * ports.now.width)
+        ⊎ (ports.now.first + v * ports.now.width + ports.now.width ≤ k)
+        → word k picked.new ≡ word k picked.old }
+{
+    let at = ports.first + v * ports.width;
+    for j in 0..ports.width {
+        let before = turn.before[j];
+        let here = less(ready[at + j], less(turn.first[j], ahead[at + j]));
+        picked[at + j] = less(here, before);
+        turn.before[j] = before | here;
+    }
+}

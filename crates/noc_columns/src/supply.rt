@@ -1,0 +1,345 @@
+//! Which active input channels are supplied: their output channel leads out of the network, or has
+//! a credit.
+
+ghost use Rattle.std.specs.Prelude.{◌≡◌, ◌⊎◌, ◌<◌, ◌≤◌, ◌+◌, ◌*◌, ◌&&◌, ℕ, false, not, nat_eq, [], ◌∷◌, if◌then◌else◌, slice_index};
+ghost use Rattle.noc_packet.specs.Set.{has_bit};
+ghost use Rattle.noc_columns.specs.Picks.{port_at};
+ghost use Rattle.noc_columns.specs.Supply.{by_four, digits_by, is_fed, is_fed_word, number_in};
+ghost use Rattle.noc_columns.specs.Words.{IsWithin, Numbering, set_of, word};
+
+use crate::frame::Frame;
+use crate::planes::less;
+use crate::ports::{PORTS, Ports};
+use crate::words::{ROUTERS, WORDS, Words, bit, put_router, take_router};
+
+/// A number of each channel, 0 to 7, bit by bit.
+#[derive(Drop)]
+pub struct Digits<T> {
+    /// The channels whose number has bit 0.
+    pub ones: T,
+    /// The channels whose number has bit 1.
+    pub twos: T,
+    /// The channels whose number has bit 2.
+    pub fours: T,
+}
+
+impl Digits<Words> {
+    /// The numbers of one channel.
+    #[inline(always)]
+    pub fn at(&self, index: usize) -> Digits<u64>
+        requires { index < WORDS }
+        ensures { result ≡ digits_by (word index) self.now }
+    {
+        Digits {
+            ones: self.ones[index],
+            twos: self.twos[index],
+            fours: self.fours[index],
+        }
+    }
+
+    /// Writes the number of a channel of one router.
+    #[inline(always)]
+    pub fn put_number(&mut self, index: usize, router: usize, number: usize)
+        requires index { index < WORDS }
+        requires router { router < ROUTERS }
+        requires number { number < 8 }
+        ensures { (k r : ℕ) → number_in (digits_by (word k) self.new) r
+            ≡ (if nat_eq k index && nat_eq r router
+            then number
+            else number_in (digits_by (word k) self.old) r) }
+    {
+        put_digit(&mut self.ones, index, router, number % 2 == 1);
+        put_digit(&mut self.twos, index, router, number / 2 % 2 == 1);
+        put_digit(&mut self.fours, index, router, number / 2 / 2 % 2 == 1);
+    }
+}
+
+// Puts a router into a word, or takes it out.
+#[inline(always)]
+fn put_digit(words: &mut Words, index: usize, router: usize, inside: bool)
+    requires index { index < WORDS }
+    requires router { router < ROUTERS }
+    ensures { (k r : ℕ) → has_bit (word k words.new) r
+        ≡ (if nat_eq k index && nat_eq r router then inside else has_bit (word k words.old) r) }
+{
+    if inside {
+        put_router(words, index, router);
+    } else {
+        take_router(words, index, router);
+    }
+}
+
+impl Digits<[u64; PORTS]> {
+    /// The numbers of one port.
+    #[inline(always)]
+    pub fn of_port(&self, port: usize) -> Digits<u64>
+        requires { port < PORTS }
+        ensures { result ≡ digits_by (word port) self.now }
+    {
+        Digits {
+            ones: self.ones[port],
+            twos: self.twos[port],
+            fours: self.fours[port],
+        }
+    }
+}
+
+impl Digits<u64> {
+    /// The number of the channel of one router.
+    #[inline(always)]
+    pub fn number(&self, router: usize) -> usize
+        requires { router < ROUTERS }
+        ensures is { result ≡ number_in self.now router }
+        ensures few { result < 8 }
+    {
+        let ones = bit(self.ones, router);
+        let twos = bit(self.twos, router);
+        let fours = bit(self.fours, router);
+        (ones + 2 * twos + 4 * fours) as usize
+    }
+
+    /// Those of a set that have this number.
+    #[inline(always)]
+    pub fn having(&self, number: usize, set: u64) -> u64
+        requires { number < 8 }
+        ensures { (r : ℕ)
+            → has_bit result r ≡ (has_bit set r && nat_eq (number_in self.now r) number) }
+    {
+        let ones = having_bit(number % 2 == 1, self.ones, set);
+        let twos = having_bit(number / 2 % 2 == 1, self.twos, ones);
+        having_bit(number / 2 / 2 % 2 == 1, self.fours, twos)
+    }
+}
+
+// Those of a set that are in another one, or those that are not.
+#[inline(always)]
+fn having_bit(inside: bool, digit: u64, set: u64) -> u64
+    ensures { (r : ℕ)
+        → has_bit result r
+        ≡ (has_bit set r && (if inside then has_bit digit r else not (has_bit digit r))) }
+{
+    if inside {
+        set & digit
+    } else {
+        less(set, digit)
+    }
+}
+
+/// By which output channel each active input channel sends.
+#[derive(Drop)]
+pub struct Sends<T> {
+    /// The port of the output channel.
+    pub port: Digits<T>,
+    /// Its virtual channel.
+    pub vc: Digits<T>,
+}
+
+/// Of each input channel it is told whether the output channel by which it sends has a credit,
+/// where these output channels of the link ports have one, or leads out of the network.
+#[inline(always)]
+pub fn look_up(
+    frame: &Frame,
+    links: &Ports,
+    sends: &Sends<Words>,
+    some: &Words,
+    supplied: &mut Words,
+)
+    requires first { links.now.first ≡ 0 }
+    requires pairs { (links.now.width ≡ 2) ⊎ ((links.now.width ≡ 4) ⊎ (links.now.width ≡ 6)) }
+    ensures { (n : Numbering) (r c : ℕ) → IsWithin (4 * frame.now.groups) n → c < n.size
+        → number_in (digits_by (set_of n r) sends.now.port) c ≤ links.now.width
+        → number_in (digits_by (set_of n r) sends.now.vc) c < links.now.vcs
+        → has_bit (set_of n r supplied.new) c
+        ≡ is_fed links.now.width (λ q. set_of (port_at links.now q) r some.now)
+        (number_in (digits_by (set_of n r) sends.now.port) c)
+        (number_in (digits_by (set_of n r) sends.now.vc) c) }
+{
+    if links.vcs <= 4 {
+        look_up_by::<4>(frame, links.width, sends, some, supplied);
+    } else {
+        look_up_by::<8>(frame, links.width, sends, some, supplied);
+    }
+}
+
+// Looks up who has a credit, where a port has four virtual channels at most, or eight. (These are
+// const parameters, since a function of this size is not inlined.)
+fn look_up_by<const VCS: usize>(
+    frame: &Frame,
+    width: usize,
+    sends: &Sends<Words>,
+    some: &Words,
+    supplied: &mut Words,
+)
+    requires { (width ≡ 2) ⊎ ((width ≡ 4) ⊎ (width ≡ 6)) }
+    ensures { (k r : ℕ) → k < 4 * frame.now.groups
+        → number_in (digits_by (word k) sends.now.vc) r < VCS
+        → number_in (digits_by (word k) sends.now.port) r ≤ width
+        → has_bit (word k supplied.new) r
+        ≡ is_fed_word width some.now r (number_in (digits_by (word k) sends.now.port) r)
+        (number_in (digits_by (word k) sends.now.vc) r) }
+{
+    if width == 2 {
+        look_up_of::<2, VCS>(frame, sends, some, supplied);
+    } else if width == 4 {
+        look_up_of::<4, VCS>(frame, sends, some, supplied);
+    } else {
+        look_up_of::<6, VCS>(frame, sends, some, supplied);
+    }
+}
+
+// Looks up who has a credit, where it is known too how many link ports there are.
+fn look_up_of<const WIDTH: usize, const VCS: usize>(
+    frame: &Frame,
+    sends: &Sends<Words>,
+    some: &Words,
+    supplied: &mut Words,
+)
+    requires { (WIDTH ≡ 2) ⊎ ((WIDTH ≡ 4) ⊎ (WIDTH ≡ 6)) }
+    ensures { (k r : ℕ) → k < 4 * frame.now.groups
+        → number_in (digits_by (word k) sends.now.vc) r < VCS
+        → number_in (digits_by (word k) sends.now.port) r ≤ WIDTH
+        → has_bit (word k supplied.new) r
+        ≡ is_fed_word WIDTH some.now r (number_in (digits_by (word k) sends.now.port) r)
+        (number_in (digits_by (word k) sends.now.vc) r) }
+{
+    // (A value of its own is none of the words that are written. So the compiler takes several
+    // words at a time.)
+    let fed = *some;
+    for i in 0..4 * frame.groups {
+        let port = sends.port.at(i);
+        let vc = sends.vc.at(i);
+        supplied[i] = fed_by(WIDTH, VCS > 4, &port, &vc, &fed);
+    }
+}
+
+// The routers in which the output channel with these numbers leads out of the network or has a
+// credit.
+#[inline(always)]
+fn fed_by(width: usize, wide: bool, port: &Digits<u64>, vc: &Digits<u64>, some: &Words) -> u64
+    requires { (width ≡ 2) ⊎ ((width ≡ 4) ⊎ (width ≡ 6)) }
+    ensures { (r : ℕ) → (wide ≡ false → number_in vc.now r < 4) → number_in port.now r ≤ width
+        → has_bit result r
+        ≡ is_fed_word width some.now r (number_in port.now r) (number_in vc.now r) }
+{
+    if width == 2 {
+        of_two(wide, port, vc, some)
+    } else if width == 4 {
+        of_four(wide, port, vc, some)
+    } else {
+        of_six(wide, port, vc, some)
+    }
+}
+
+// The routers in which that channel leads out or has a credit, of two link ports: the local port
+// has number 2.
+#[inline(always)]
+fn of_two(wide: bool, port: &Digits<u64>, vc: &Digits<u64>, some: &Words) -> u64
+    ensures { (r : ℕ) → (wide ≡ false → number_in vc.now r < 4) → number_in port.now r ≤ 2
+        → has_bit result r ≡ is_fed_word 2 some.now r (number_in port.now r) (number_in vc.now r) }
+{
+    let none = by_vc(2, wide, vc, 0, some);
+    let one = by_vc(2, wide, vc, 1, some);
+    either(port.ones, none, one) | port.twos
+}
+
+// The routers in which it does so, of four link ports: the local port has number 4.
+#[inline(always)]
+fn of_four(wide: bool, port: &Digits<u64>, vc: &Digits<u64>, some: &Words) -> u64
+    ensures { (r : ℕ) → (wide ≡ false → number_in vc.now r < 4) → number_in port.now r ≤ 4
+        → has_bit result r ≡ is_fed_word 4 some.now r (number_in port.now r) (number_in vc.now r) }
+{
+    let none = by_vc(4, wide, vc, 0, some);
+    let one = by_vc(4, wide, vc, 1, some);
+    let two = by_vc(4, wide, vc, 2, some);
+    let three = by_vc(4, wide, vc, 3, some);
+    four(port, none, one, two, three) | port.fours
+}
+
+// The routers in which it does so, of six link ports: the local port has number 6.
+#[inline(always)]
+fn of_six(wide: bool, port: &Digits<u64>, vc: &Digits<u64>, some: &Words) -> u64
+    ensures { (r : ℕ) → (wide ≡ false → number_in vc.now r < 4) → number_in port.now r ≤ 6
+        → has_bit result r ≡ is_fed_word 6 some.now r (number_in port.now r) (number_in vc.now r) }
+{
+    let none = by_vc(6, wide, vc, 0, some);
+    let one = by_vc(6, wide, vc, 1, some);
+    let two = by_vc(6, wide, vc, 2, some);
+    let three = by_vc(6, wide, vc, 3, some);
+    let low = four(port, none, one, two, three);
+    let next = by_vc(6, wide, vc, 4, some);
+    let last = by_vc(6, wide, vc, 5, some);
+    either(port.fours, low, either(port.ones, next, last) | port.twos)
+}
+
+// The routers in which the virtual channel with this number, of one port, is in a set.
+#[inline(always)]
+fn by_vc(width: usize, wide: bool, vc: &Digits<u64>, port: usize, some: &Words) -> u64
+    requires few { width ≤ 6 }
+    requires port { port < width }
+    ensures { (r : ℕ) → (wide ≡ false → number_in vc.now r < 4)
+        → has_bit result r ≡ has_bit (word (number_in vc.now r * width + port) some.now) r }
+{
+    let none = channel(some, 0, width, port);
+    let one = channel(some, 1, width, port);
+    let two = channel(some, 2, width, port);
+    let three = channel(some, 3, width, port);
+    let low = four(vc, none, one, two, three);
+    if wide {
+        high_vc(low, width, vc, port, some)
+    } else {
+        low
+    }
+}
+
+// The routers in which that virtual channel is in the set, where those below four give this.
+#[inline(always)]
+fn high_vc(low: u64, width: usize, vc: &Digits<u64>, port: usize, some: &Words) -> u64
+    requires few { width ≤ 6 }
+    requires port { port < width }
+    ensures { (r : ℕ)
+        → has_bit result r
+        ≡ (if has_bit vc.now.fours r
+        then by_four (has_bit vc.now.ones r) (has_bit vc.now.twos r)
+        (λ v. has_bit (word ((4 + v) * width + port) some.now) r)
+        else has_bit low r) }
+{
+    let none = channel(some, 4, width, port);
+    let one = channel(some, 5, width, port);
+    let two = channel(some, 6, width, port);
+    let three = channel(some, 7, width, port);
+    either(vc.fours, low, four(vc, none, one, two, three))
+}
+
+// The word of a virtual channel of a port.
+#[inline(always)]
+fn channel(words: &Words, vc: usize, width: usize, port: usize) -> u64
+    requires vc { vc < 8 }
+    requires few { width ≤ 6 }
+    requires port { port < width }
+    ensures { result ≡ word (vc * width + port) words.now }
+{
+    words[vc * width + port]
+}
+
+// Of four words that of each router's number, by its two lowest bits.
+#[inline(always)]
+fn four(number: &Digits<u64>, none: u64, one: u64, two: u64, three: u64) -> u64
+    ensures { (r : ℕ)
+        → has_bit result r
+        ≡ by_four (has_bit number.now.ones r) (has_bit number.now.twos r)
+        (λ k. has_bit (slice_index (none ∷ one ∷ two ∷ three ∷ []) k) r) }
+{
+    let low = either(number.ones, none, one);
+    let high = either(number.ones, two, three);
+    either(number.twos, low, high)
+}
+
+// Of two words the second where a bit is set, and else the first.
+#[inline(always)]
+fn either(bits: u64, first: u64, second: u64) -> u64
+    ensures { (r : ℕ)
+        → has_bit result r
+        ≡ (if has_bit bits r then has_bit second r else has_bit first r) }
+{
+    first ^ ((first ^ second) & bits)
+}

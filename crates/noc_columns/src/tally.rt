@@ -1,0 +1,196 @@
+//! How often each channel of a block had one verdict, bit by bit.
+
+ghost use Rattle.std.specs.Prelude.{◌≡◌, ◌+◌, ◌*◌, ◌^◌, ◌<◌, ◌≤◌, ℕ, [], slice_index_or};
+ghost use Rattle.noc_packet.specs.Set.{has_bit};
+ghost use Rattle.noc_topo.specs.Lists.{one_if};
+ghost use Rattle.noc_columns.specs.Tallies.{at_level, carry_over, counted_at, number_by, sum_of, with_four};
+ghost use Rattle.noc_columns.specs.Words.{word};
+
+use crate::words::{ROUTERS, WORDS, Words, bit};
+
+/// How many bits a count has above the lowest two: with them it has 32.
+pub const LEVELS: usize = 30;
+
+/// The counts of one verdict of all channels of a block.
+///
+/// The sets of four cycles are added to the two lowest bits at once. What they carry is pending at
+/// the next bit until the next four cycles, and so on up, so that each bit is added to half as
+/// often as the one below it.
+#[derive(Drop)]
+pub struct Tally {
+    ones: Words,
+    twos: Words,
+    // From the bit that counts four on.
+    bits: [Words; LEVELS],
+    pending: [Words; LEVELS],
+}
+
+/// The sets of four cycles, one after the other.
+#[derive(Drop)]
+pub struct Cycles<'a> {
+    /// Of the first.
+    pub first: &'a Words,
+    /// Of the second.
+    pub second: &'a Words,
+    /// Of the third.
+    pub third: &'a Words,
+    /// Of the fourth.
+    pub fourth: &'a Words,
+}
+
+impl Tally {
+    /// No counts. (They are cleared where they stand, since they take 35 kB.)
+    pub fn clear(&mut self)
+        ensures { (i r : ℕ) → i < WORDS → counted_at self.new 0 i r ≡ 0 }
+    {
+        self.ones = [0; WORDS];
+        self.twos = [0; WORDS];
+        clear_levels(&mut self.bits);
+        clear_levels(&mut self.pending);
+    }
+
+    /// Adds the sets of four cycles to the counts of so many groups of four words, before which the
+    /// sets of four cycles were added so many times. The counts are right for 2^30 - 1 times.
+    #[inline(always)]
+    pub fn add(&mut self, groups: usize, sets: &Cycles<'_>, times: u32)
+        requires { 4 * groups ≤ WORDS }
+        ensures { times + 1 < 2 ^ LEVELS → (i r : ℕ) → i < 4 * groups
+            → counted_at self.new (times + 1) i r
+            ≡ counted_at self.old times i r
+            + one_if (has_bit (word i sets.now.first.now) r)
+            + one_if (has_bit (word i sets.now.second.now) r)
+            + one_if (has_bit (word i sets.now.third.now) r)
+            + one_if (has_bit (word i sets.now.fourth.now) r) }
+    {
+        let mut carry = [0; WORDS];
+        add_four(groups, &mut self.ones, &mut self.twos, sets, &mut carry);
+        add_carry(groups, &mut self.bits, &mut self.pending, &mut carry, times);
+    }
+
+    /// How often a channel of a router had the verdict by now, where sets were added so many times.
+    pub fn total(&self, index: usize, router: usize, times: u32) -> u64
+        requires index { index < WORDS }
+        requires router { router < ROUTERS }
+        ensures count { result ≡ counted_at self.now times index router }
+        ensures small { result < 2 ^ 33 }
+    {
+        let mut upper = 0;
+        for level in 0..LEVELS {
+            upper += self.level(index, router, times, level) << level as u32;
+        }
+        let low = bit(self.ones[index], router);
+        low + 2 * bit(self.twos[index], router) + 4 * upper
+    }
+
+    // What one level has of a channel: its bit, and what is pending there.
+    #[inline(always)]
+    fn level(&self, index: usize, router: usize, times: u32, level: usize) -> u64
+        requires index { index < WORDS }
+        requires router { router < ROUTERS }
+        requires level { level < LEVELS }
+        ensures count { result
+            ≡ at_level self.now.bits self.now.pending times index router level }
+        ensures small { result < 3 }
+    {
+        let counted = bit(self.bits[level][index], router);
+        if bit(times as u64, level) == 1 {
+            counted + bit(self.pending[level][index], router)
+        } else {
+            counted
+        }
+    }
+}
+
+// No bits at any level.
+fn clear_levels(levels: &mut [Words; LEVELS])
+    ensures { (level i : ℕ) → level < LEVELS → i < WORDS
+        → word i (slice_index_or levels.new level []) ≡ 0 }
+{
+    for level in 0..LEVELS {
+        levels[level] = [0; WORDS];
+    }
+}
+
+// What the two lowest bits carry is added to those above, before which it was added so many times.
+#[inline(always)]
+fn add_carry(
+    groups: usize,
+    bits: &mut [Words; LEVELS],
+    pending: &mut [Words; LEVELS],
+    carry: &mut Words,
+    times: u32,
+)
+    requires { 4 * groups ≤ WORDS }
+    ensures { times + 1 < 2 ^ LEVELS → (j k : ℕ) → j < 4 * groups
+        → number_by (at_level bits.new pending.new (times + 1) j k) LEVELS
+        ≡ number_by (at_level bits.old pending.old times j k) LEVELS
+        + one_if (has_bit (word j carry.old) k) }
+{
+    let last = (times.trailing_ones() as usize).min(LEVELS - 1);
+    for level in 0..last {
+        add_pending(groups, &mut bits[level], &pending[level], carry);
+    }
+    copy(groups, carry, &mut pending[last]);
+}
+
+// The sets of four cycles are added to the two lowest bits. What they carry is of the third.
+#[inline(always)]
+fn add_four(groups: usize, ones: &mut Words, twos: &mut Words, sets: &Cycles<'_>, carry: &mut Words)
+    requires { 4 * groups ≤ WORDS }
+    ensures ones { (k : ℕ) → k < 4 * groups
+        → word k ones.new
+        ≡ (with_four (word k ones.old) (word k twos.old) (word k sets.now.first.now)
+        (word k sets.now.second.now) (word k sets.now.third.now)
+        (word k sets.now.fourth.now)).ones }
+    ensures twos { (k : ℕ) → k < 4 * groups
+        → word k twos.new
+        ≡ (with_four (word k ones.old) (word k twos.old) (word k sets.now.first.now)
+        (word k sets.now.second.now) (word k sets.now.third.now)
+        (word k sets.now.fourth.now)).twos }
+    ensures carry { (k : ℕ) → k < 4 * groups
+        → word k carry.new
+        ≡ (with_four (word k ones.old) (word k twos.old) (word k sets.now.first.now)
+        (word k sets.now.second.now) (word k sets.now.third.now)
+        (word k sets.now.fourth.now)).carry }
+{
+    for i in 0..4 * groups {
+        let with_a = ones[i] ^ sets.first[i];
+        let first = (ones[i] & sets.first[i]) | (with_a & sets.second[i]);
+        let with_b = with_a ^ sets.second[i];
+        let with_c = with_b ^ sets.third[i];
+        let second = (with_b & sets.third[i]) | (with_c & sets.fourth[i]);
+        let with_first = twos[i] ^ first;
+        carry[i] = (twos[i] & first) | (with_first & second);
+        ones[i] = with_c ^ sets.fourth[i];
+        twos[i] = with_first ^ second;
+    }
+}
+
+// What is pending at a bit is added, with the carry of the bit below. The carry of this one goes
+// on.
+#[inline(always)]
+fn add_pending(groups: usize, bits: &mut Words, pending: &Words, carry: &mut Words)
+    requires { 4 * groups ≤ WORDS }
+    ensures bits { (k : ℕ) → k < 4 * groups
+        → word k bits.new ≡ sum_of (word k bits.old) (word k pending.now) (word k carry.old) }
+    ensures carry { (k : ℕ) → k < 4 * groups
+        → word k carry.new ≡ carry_over (word k bits.old) (word k pending.now) (word k carry.old) }
+{
+    for i in 0..4 * groups {
+        let with = bits[i] ^ pending[i];
+        let over = (bits[i] & pending[i]) | (with & carry[i]);
+        bits[i] = with ^ carry[i];
+        carry[i] = over;
+    }
+}
+
+// Words become those of another set.
+#[inline(always)]
+fn copy(groups: usize, from: &Words, to: &mut Words)
+    requires { 4 * groups ≤ WORDS }
+    ensures { (k : ℕ) → k < 4 * groups → word k to.new ≡ word k from.now }
+{
+    for i in 0..4 * groups {
+        to[i] = from[i];
+    }
+}

@@ -1,0 +1,85 @@
+//! Words of channels.
+
+ghost use Rattle.std.specs.Prelude.{◌≡◌, ◌≢◌, ◌^◌, ◌<◌, ◌&&◌, ◌||◌, ℕ, nat_eq, not, slice_index, if◌then◌else◌};
+ghost use Rattle.noc_packet.specs.Set.{has_bit};
+ghost use Rattle.noc_topo.specs.Lists.{one_if};
+ghost use Rattle.noc_columns.specs.Words.{word};
+
+use crate::planes::less;
+
+/// How many routers a word has a bit of.
+pub const ROUTERS: usize = 64;
+
+/// For how many words there is room in a block, which has one for each channel of a router, 56 at
+/// most. (They are nine lines of the cache, so that the words of a channel do not all meet in the
+/// same sets of it.)
+pub const WORDS: usize = 72;
+
+/// A word for each channel. Bit `r` of it is router `r` of the block.
+pub type Words = [u64; WORDS];
+
+/// Writes the word with an index.
+#[inline(always)]
+pub fn put(words: &mut Words, index: usize, word: u64)
+    requires { index < WORDS }
+    ensures here { slice_index words.new index ≡ word }
+    ensures others { (k : ℕ) → k ≢ index → slice_index words.new k ≡ slice_index words.old k }
+{
+    words[index] = word;
+}
+
+/// Puts a router into the word with an index.
+#[inline(always)]
+pub fn put_router(words: &mut Words, index: usize, router: usize)
+    requires index { index < WORDS }
+    requires router { router < ROUTERS }
+    ensures { (k r : ℕ) → has_bit (word k words.new) r
+        ≡ ((nat_eq k index && nat_eq r router) || has_bit (word k words.old) r) }
+{
+    words[index] = words[index] | 1 << router as u32;
+}
+
+/// Takes a router out of the word with an index.
+#[inline(always)]
+pub fn take_router(words: &mut Words, index: usize, router: usize)
+    requires index { index < WORDS }
+    requires router { router < ROUTERS }
+    ensures { (k r : ℕ) → has_bit (word k words.new) r
+        ≡ (not (nat_eq k index && nat_eq r router) && has_bit (word k words.old) r) }
+{
+    words[index] = less(words[index], 1 << router as u32);
+}
+
+/// These routers with one of them in or out.
+#[inline(always)]
+pub fn with_router(routers: u64, router: usize, inside: bool) -> u64
+    requires { router < ROUTERS }
+    ensures { (r : ℕ) → has_bit result r
+        ≡ (if nat_eq r router then inside else has_bit routers r) }
+{
+    let alone = 1 << router as u32;
+    if inside {
+        routers | alone
+    } else {
+        less(routers, alone)
+    }
+}
+
+// 1 where a router is in a word, and else 0.
+#[inline(always)]
+pub(crate) fn bit(word: u64, router: usize) -> u64
+    requires { router < ROUTERS }
+    ensures count { result ≡ one_if (has_bit word router) }
+    ensures small { result < 2 }
+{
+    word >> router as u32 & 1
+}
+
+// A word of one router, or of none.
+#[inline(always)]
+pub(crate) fn router_if(inside: bool, router: usize) -> u64
+    requires { router < ROUTERS }
+    ensures { result ≡ (if inside then 2 ^ router else 0) }
+{
+    if inside { 1 << router as u32 } else { 0 }
+}
