@@ -1,5 +1,5 @@
 #!/usr/bin/env python3
-"""Runs the tests of the package with a program: all of tests/test_*.py, or those of these names.
+"""Runs the tests that unittest knows with a program: all of tests/*/test_*.py, or those of these names.
 
     run_tests.py PROGRAM [-k PATTERN].. [NAME..]
 
@@ -13,18 +13,30 @@ import re
 import subprocess
 import sys
 import unittest
+from collections.abc import Iterator, Sequence
 from concurrent.futures import ThreadPoolExecutor
 from pathlib import Path
 
-FOLDER = Path(__file__).resolve().parent
+TOP = Path(__file__).resolve().parent.parent
+MODULES = sorted(TOP.glob("tests/**/test_*.py"))
 COUNTS = re.compile(r"(\d+) passed, (\d+) failed\n\Z")
 
 
-def run_names(names, patterns):
+def loaded(loader: unittest.TestLoader, names: Sequence[str]) -> Iterator[unittest.TestSuite]:
+    """The tests of these names; of a module that is left out as a whole a line says why."""
+    for name in names:
+        try:
+            yield loader.loadTestsFromName(name)
+        except unittest.SkipTest as reason:
+            print(f"left out: {name}: {reason}")
+
+
+def run_names(names: Sequence[str], patterns: Sequence[str]) -> tuple[int, int]:
     """Runs tests in this process, and returns how many passed and how many failed."""
     loader = unittest.TestLoader()
     loader.testNamePatterns = [f"*{word}*" for word in patterns] or None
-    result = unittest.TextTestRunner(stream=sys.stdout, verbosity=0).run(loader.loadTestsFromNames(names))
+    suite = unittest.TestSuite(loaded(loader, names))
+    result = unittest.TextTestRunner(stream=sys.stdout, verbosity=0).run(suite)
     for test, reason in result.skipped:
         print(f"left out: {test.id()}: {reason}")
     # (a part of a test counts as the test, and what is set up for a class is no test that ran)
@@ -33,16 +45,16 @@ def run_names(names, patterns):
     return ran - sum(isinstance(test, unittest.TestCase) for test in failed), len(failed)
 
 
-def run_module(program, module, patterns):
+def run_module(program: Path, module: str, patterns: Sequence[str]) -> str:
     """What a process says that runs one module."""
-    words = [sys.executable, __file__, program, module, *(f"-k{word}" for word in patterns)]
+    words = [sys.executable, __file__, str(program), module, *(f"-k{word}" for word in patterns)]
     return subprocess.run(words, stdin=subprocess.DEVNULL, stdout=subprocess.PIPE, stderr=subprocess.STDOUT,
                           text=True).stdout
 
 
-def run_all(program, patterns):
+def run_all(program: Path, patterns: Sequence[str]) -> tuple[int, int]:
     """Runs all modules, the largest first, and shows what is said where a test failed or was left out."""
-    modules = sorted(FOLDER.glob("test_*.py"), key=lambda path: path.stat().st_size, reverse=True)
+    modules = sorted(MODULES, key=lambda path: path.stat().st_size, reverse=True)
     passed = failed = 0
     with ThreadPoolExecutor(len(os.sched_getaffinity(0))) as pool:
         for said in pool.map(lambda path: run_module(program, path.stem, patterns), modules):
@@ -54,14 +66,15 @@ def run_all(program, patterns):
     return passed, failed
 
 
-def main():
+def main() -> int:
     parser = argparse.ArgumentParser(description=__doc__, formatter_class=argparse.RawDescriptionHelpFormatter)
     parser.add_argument("program", type=Path)
     parser.add_argument("names", metavar="NAME", nargs="*", help="a module, or one of its tests: test_why.Lives")
     parser.add_argument("-k", metavar="PATTERN", action="append", default=[], help="tests with this in their names")
     options = parser.parse_args()
     os.environ["NOC"] = str(options.program.resolve())
-    sys.path[:0] = [str(FOLDER), str(FOLDER.parent)]
+    # (what a test imports stands in the folder of any kind of tests)
+    sys.path[:0] = [str(TOP), str(TOP / "release"), *map(str, dict.fromkeys(path.parent for path in MODULES))]
     if options.names:
         passed, failed = run_names(options.names, options.k)
     else:
