@@ -44,7 +44,7 @@ def add(parser: Any, words: str, told: str, **more: Any) -> None:
 
 def add_length(parser: ArgumentParser) -> None:
     """The lengths of packets."""
-    add(parser, "length LENGTH", "flits of a packet; 1+8: one or eight, alike", type=lengths)
+    add(parser, "length LENGTH", "flits of a packet; with 1+8 each has one or eight, equally often", type=lengths)
 
 
 def add_config(parser: ArgumentParser) -> None:
@@ -108,7 +108,7 @@ def add_measured(parser: ArgumentParser, by_default: str) -> None:
 
 def add_jobs(parser: ArgumentParser) -> None:
     """How many runs are made at a time."""
-    add(parser, "--jobs N", "runs side by side; by default all processors", type=int, default=processors())
+    add(parser, "--jobs N", "make N runs at a time; by default one for each processor", type=int, default=processors())
 
 
 def add_top(parser: ArgumentParser, words: str = "--top NUMBER", told: str = "where the vertical axis ends") -> None:
@@ -124,11 +124,11 @@ def check_top(top: float | None) -> None:
 
 def add_demand(parser: ArgumentParser) -> None:
     """What traffic is asked for, but for its pattern, load and length."""
-    add(parser, "--seed N", "what the packets follow from (1)", type=int, default=1)
+    add(parser, "--seed N", "the seed of all that is random (1)", type=int, default=1)
     add(parser, "--cycles N", "packets are due before this cycle; by default all", type=int)
-    add(parser, "--classes C,..", "the classes that packets have, all alike (0)", type=numbers, default=(0,))
+    add(parser, "--classes C,..", "the classes of the packets, equally often (0)", type=numbers, default=(0,))
     add(parser, "--spots NODE,..", "the nodes of hot-spot; by default the middle one", type=numbers)
-    add(parser, "--share P", f"the part of the packets for them ({SHARE:g})", type=float, default=SHARE)
+    add(parser, "--share P", f"the share of the packets that goes to them ({SHARE:g})", type=float, default=SHARE)
     in_bursts = "make packets in bursts: so many cycles a node is on, and then off, on average"
     add(parser, "--burst ON:OFF", in_bursts, type=burst)
 

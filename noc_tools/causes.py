@@ -8,10 +8,11 @@ import math
 import re
 from bisect import bisect_right
 from collections import Counter, defaultdict
-from collections.abc import Collection, Iterable, Iterator, Sequence
+from collections.abc import Callable, Collection, Iterable, Iterator, Sequence
 from functools import cache
 from itertools import pairwise
 from operator import itemgetter
+from pathlib import Path
 from typing import NamedTuple
 
 from .errors import Refused
@@ -22,7 +23,7 @@ from .findings import (
 from .life import QUEUE, Life, Stay, life_in
 from .network import LOCAL
 from .program import texts
-from .runs import Run
+from .runs import Config, Run, Traffic
 from .statistics import window_within
 from .traffic import Packet
 
@@ -30,6 +31,8 @@ from .traffic import Packet
 Since = tuple[int, int]
 # The routers that are looked at are the same for so many cycles, and so many are before the first that counts.
 STEP, BEFORE = 250, 8
+# The most digits of a number of packets.
+MOST_DIGITS = 15
 # The routers to look at in each step of cycles.
 Watch = dict[int, set[str]]
 
@@ -209,7 +212,7 @@ def number_of(amount: str | int, among: int) -> int:
     words = str(amount)
     number = words.removesuffix("%")
     is_number = number.replace(".", "", words.endswith("%")).isdecimal() and number.isascii()
-    if not is_number or not 0 < float(number) or (number != words and 100 < float(number)):
+    if not is_number or MOST_DIGITS < len(number) or not 0 < float(number) or (number != words and 100 < float(number)):
         raise Refused(f"the slowest are a number of packets, or a part of them as 1%, not '{words}'")
     return int(number) if number == words else math.ceil(float(number) * among / 100)
 
@@ -280,6 +283,53 @@ def blame_of(run: Run, packets: list[Packet]) -> Blame:
                 queued[packet.source].append((packet.due, life.stays[0].end))
     came_in = {node: [*heads.came_in[node], (last + 1, -1)] for node in queued}
     return Blame(packets, shares, {node: flits_per_cycle(run, came_in[node], queued[node]) for node in queued})
+
+
+def blamed(
+    config: Config, traffic: Traffic, amount: str | int, table: str | Path | None = None, drain: bool = False,
+    message_class: int | None = None, window: str | None = None,
+) -> tuple[Run, Blame]:
+    """A run, and the shares of so many of its slowest packets: of a class, and due in a window."""
+    run = Run(config, traffic, table, drain)
+    return run, blame_of(run, slowest(run, amount, candidates(run, message_class, window)))
+
+
+# ---- who was ahead
+
+
+# Of what packets are that were ahead, and how it is called.
+FLOWS: dict[str, Callable[[Packet], int]] = {
+    "class": lambda packet: packet.message_class,
+    "source": lambda packet: packet.source,
+    "destination": lambda packet: packet.destination,
+}
+
+
+class Ahead(NamedTuple):
+    """The packets of a class, a source or a destination, by its number; and in how many cycles one of them was ahead
+    of packets that waited. The part is that of all cycles in which some packet was, from 0 to 1."""
+
+    value: int
+    cycles: int
+    part: float
+
+
+def ahead_of(run: Run, shares: Iterable[Share]) -> dict[str, list[Ahead]]:
+    """Who was there before or instead of the packets of these shares: by class, by source and by destination, each time
+    the most first, and of equals the least number. All of them are empty where nobody was."""
+    cycles: Counter[int] = Counter()
+    for share in shares:
+        if share.by is not None:
+            cycles[share.by] += share.cycles
+    packets = {number: run.packet(number) for number in cycles}
+    found = {}
+    for kind, value_of in FLOWS.items():
+        counts: Counter[int] = Counter()
+        for number, packet in packets.items():
+            counts[value_of(packet)] += cycles[number]
+        ordered = sorted(counts.items(), key=lambda pair: (-pair[1], pair[0]))
+        found[kind] = [Ahead(value, count, count / cycles.total()) for value, count in ordered]
+    return found
 
 
 def merged(spans: list[tuple[int, int]]) -> list[tuple[int, int]]:

@@ -1,9 +1,14 @@
-"""The folder of a certificate: its files are made of a configuration, a table and ranks, and made again to verify it.
+"""The folder of a certificate, whose files are made of a configuration, a table and ranks.
 
-Where a network has no ranks, and gets stuck, the folder shows a jam in the place of ranks.
+Where a network has no ranks, and gets stuck, the folder shows a jam in the place of ranks. All is made of copies of
+the files that were given, each of which is read once: so what is certified is what was checked, whatever is saved
+meanwhile.
 """
+import fcntl
+import os
 import re
 from collections.abc import Iterator, Mapping
+from contextlib import contextmanager, suppress
 from dataclasses import dataclass
 from pathlib import Path
 from tempfile import TemporaryDirectory
@@ -12,10 +17,11 @@ from . import claims, page, replay
 from .claims import GRAPH, REPLAY, TRAFFIC
 from .dependencies import Graph, circle_picture
 from .errors import Refused
-from .jam import Jam, jam_of_circle
+from .files import read_bytes, write
+from .jam import Jam
 from .network import Network
 from .page import Block
-from .program import program_file, report, sha256_of
+from .program import builder_of, program_file, report, sha256_of
 from .ranks import rank_file, read_ranks, ranks_found
 from .relation import checked_relation
 from .runs import Run
@@ -26,23 +32,27 @@ CONFIGURATION, TABLE, RANKS, ANSWER = "configuration.toml", "table.csv", "ranks.
 CIRCLE, PROGRAM, SUMS = "circle.txt", "program.txt", "SHA256SUMS"
 # The pages, without the ends of their names.
 CERTIFICATE, COUNTEREXAMPLE = "certificate", "counterexample"
-# What a folder is made of; all other files follow from these.
-GIVEN = [CONFIGURATION, TABLE, RANKS]
-# The digits of the program logic of the kit, as docs/PROVED.md has them.
-LOGIC = "dac8208d650f15bf"
+# What a folder is made of: ranks, or a circle and a traffic that gets stuck. All other files follow from these.
+GIVEN = [CONFIGURATION, TABLE, RANKS, CIRCLE, TRAFFIC]
 # The cycles that the replay of a jam shows after the last event.
 STILL = 10
-SUM_LINE = re.compile(r"([0-9a-f]{64})  (\S+)")
+# What program.txt says: a few words for each of these.
+VERSION_KEYS = ["noc", "formats", "kit", "built", "sha256"]
+VERSION_WORDS = re.compile(r"[\w. -]{1,64}", re.ASCII)
 Files = dict[str, bytes]
+Version = dict[str, str]
 
 
 @dataclass(frozen=True)
 class Inputs:
-    """The files of which a certificate is made, by their paths."""
+    """The files of which a certificate is made, by the paths of their copies."""
 
     config: str
     table: str | None = None
     ranks: str | None = None
+    # Of a folder that is there and shows a jam.
+    circle: str | None = None
+    traffic: str | None = None
 
     def files(self) -> Files:
         """Their bytes, by their names in the folder."""
@@ -54,14 +64,45 @@ class Inputs:
         return ["--table", name or self.table] if self.table else []
 
 
-def version() -> dict[str, str]:
-    """What tells one program from another: what it says of its version, the logic of its kit, and its digest."""
+@contextmanager
+def copied(given: Files) -> Iterator[Inputs]:
+    """Copies of the files that are given, by their names in the folder of a certificate."""
+    with TemporaryDirectory(prefix="noc-") as name:
+        paths = {each: str(Path(name) / each) for each in GIVEN if each in given}
+        for each, path in paths.items():
+            write(path, given[each])
+        if CONFIGURATION not in paths:
+            raise Refused(f"{CONFIGURATION} is missing")
+        yield Inputs(paths[CONFIGURATION], *map(paths.get, GIVEN[1:]))
+
+
+def read_given(config: str, table: str | None, ranks: str | None) -> Files:
+    """The files that are given, by their names in the folder; each is read once."""
+    paths = dict(zip(GIVEN, (config, table, ranks)))
+    return {name: read_bytes(path) for name, path in paths.items() if path}
+
+
+def version() -> Version:
+    """What tells one program from another: what it says of its version, the kit that built it, and its digest."""
     said = dict(line.split(" ", 1) for line in report("--version").splitlines())
-    return {**said, "logic": LOGIC, "sha256": sha256_of(program_file().read_bytes())}
+    digest = sha256_of(program_file().read_bytes())
+    return {**said, "built": builder_of(program_file(), digest), "sha256": digest}
 
 
-def certified(inputs: Inputs) -> Files:
-    """The files of a certificate. What noc refuses it tells of itself."""
+@dataclass(frozen=True)
+class Content:
+    """What is in a folder but for the program: its files, and of the page its name, title and blocks, and the lines of
+    how to repeat it."""
+
+    files: Files
+    name: str
+    title: str
+    blocks: list[Block]
+    repeated: list[str]
+
+
+def certified(inputs: Inputs) -> Content:
+    """What is in a certificate. What noc refuses it tells of itself."""
     assert inputs.ranks is not None
     relation = checked_relation(inputs.config, inputs.table)
     answer = report("check", inputs.config, *inputs.table_words(), "--ranks", inputs.ranks)
@@ -70,11 +111,11 @@ def certified(inputs: Inputs) -> Files:
     words = " ".join(["$ noc check", CONFIGURATION, *inputs.table_words(TABLE), "--ranks", RANKS])
     blocks = claims.certificate(graph, TABLE if inputs.table else None)
     title = claims.title_of(claims.CERTIFIED, relation.channels.network)
-    return with_pages(files, CERTIFICATE, title, blocks, [words, answer.rstrip("\n")])
+    return Content(files, CERTIFICATE, title, blocks, [words, answer.rstrip("\n")])
 
 
-def stuck(inputs: Inputs, jam: Jam) -> Files:
-    """The files that show a jam."""
+def stuck(inputs: Inputs, jam: Jam) -> Content:
+    """What is in a folder that shows a jam."""
     channels = checked_relation(inputs.config, inputs.table).channels
     lines = "".join(f"{dependency.line(channels)}\n" for dependency in jam.circle)
     files = {
@@ -83,7 +124,7 @@ def stuck(inputs: Inputs, jam: Jam) -> Files:
     }
     with TemporaryDirectory(prefix="noc-") as folder:
         traffic = Path(folder) / TRAFFIC
-        traffic.write_bytes(files[TRAFFIC])
+        write(traffic, files[TRAFFIC])
         run = Run(inputs.config, traffic, inputs.table)
         # (the page tells these names, and no paths)
         run.config.name, run.traffic.name = CONFIGURATION, TRAFFIC
@@ -94,41 +135,86 @@ def stuck(inputs: Inputs, jam: Jam) -> Files:
     blocks = claims.counterexample(channels, jam, waiting, TABLE if inputs.table else None)
     words = " ".join(["$ noc run", CONFIGURATION, TRAFFIC, *inputs.table_words(TABLE), "--report summary > /dev/null"])
     title = claims.title_of(claims.STUCK, channels.network)
-    return with_pages(files, COUNTEREXAMPLE, title, blocks, [words, "$ echo $?", str(run.status)])
+    return Content(files, COUNTEREXAMPLE, title, blocks, [words, "$ echo $?", str(run.status)])
 
 
-def with_pages(files: Files, name: str, title: str, blocks: list[Block], repeated: list[str]) -> Files:
-    """The files with those that tell of the program, the page in two forms, and the digests of all."""
-    of_program = version()
-    made = {**files, PROGRAM: "".join(f"{key} {value}\n" for key, value in of_program.items()).encode()}
-    digests = [("noc", of_program["sha256"]), *((each, sha256_of(made[each])) for each in sorted(made))]
-    ends = [*claims.trusted(of_program), *claims.repeated(repeated), *claims.digest_block(digests)]
-    made[f"{name}.html"] = page.html(title, [*blocks, *ends]).encode()
-    made[f"{name}.md"] = page.markdown(title, [*blocks, *ends]).encode()
-    made[SUMS] = "".join(f"{sha256_of(made[each])}  {each}\n" for each in sorted(made)).encode()
+def with_pages(content: Content, of_program: Version, known: Mapping[str, str] | None = None) -> Files:
+    """All files of a folder that a program of this version makes: the page in two forms, and the digests of all. Of
+    files whose digests are known otherwise these are told."""
+    made = {**content.files, PROGRAM: version_text(of_program)}
+
+    def digest(name: str) -> str:
+        return (known or {}).get(name) or sha256_of(made[name])
+
+    digests = [("noc", of_program["sha256"]), *((each, digest(each)) for each in sorted(made))]
+    ends = [*claims.trusted(of_program), *claims.repeated(content.repeated), *claims.digest_block(digests)]
+    made[f"{content.name}.html"] = page.html(content.title, [*content.blocks, *ends]).encode()
+    made[f"{content.name}.md"] = page.markdown(content.title, [*content.blocks, *ends]).encode()
+    made[SUMS] = "".join(f"{digest(each)}  {each}\n" for each in sorted(made)).encode()
     return made
 
 
-# ---- making a folder, and making it again
+def version_text(of_program: Version) -> bytes:
+    """What program.txt says."""
+    return "".join(f"{key} {value}\n" for key, value in of_program.items()).encode()
 
 
-def check_room(out: str) -> None:
-    """Refuses what is there, but for an empty folder."""
+def version_in(text: bytes) -> Version | None:
+    """What a program.txt says; None where it is none."""
+    lines = (line.partition(" ") for line in text.decode(errors="replace").splitlines())
+    found = {key: value for key, _, value in lines}
+    is_whole = list(found) == VERSION_KEYS and all(map(VERSION_WORDS.fullmatch, found.values()))
+    return found if is_whole and version_text(found) == text else None
+
+
+# ---- making a folder
+
+
+@contextmanager
+def room(out: str) -> Iterator[Path]:
+    """The folder for a certificate, which is made, or is there and empty. No other call has it meanwhile, and what is
+    made of it is gone again where nothing comes into it."""
     folder = Path(out)
-    if folder.exists() and not (folder.is_dir() and not any(folder.iterdir())):
+    made = [path for path in (folder, *folder.parents) if not path.exists()]
+    if folder.exists() and not folder.is_dir():
         raise Refused(f"{out} is there, and is no empty folder")
-
-
-def write(files: Mapping[str, bytes], out: str) -> None:
-    """Puts the files into a folder, which is empty or not there."""
-    folder = Path(out)
     folder.mkdir(parents=True, exist_ok=True)
-    for name, data in files.items():
-        (folder / name).write_bytes(data)
+    handle = os.open(folder, os.O_RDONLY | os.O_DIRECTORY)
+    try:
+        with only_one(folder, handle):
+            try:
+                if any(folder.iterdir()):
+                    raise Refused(f"{out} is there, and is no empty folder")
+                yield folder
+            finally:
+                with suppress(OSError):
+                    for path in made:
+                        path.rmdir()
+    finally:
+        os.close(handle)
 
 
-def made_with_ranks(inputs: Inputs, is_search: bool) -> Files:
-    """The files of a certificate by ranks that are given, or by formula, or found; where there are none, NoRanks."""
+@contextmanager
+def only_one(folder: Path, handle: int) -> Iterator[None]:
+    """Holds a folder that is open, for one call at a time. A call that ended may have taken it away meanwhile."""
+    try:
+        fcntl.flock(handle, fcntl.LOCK_EX | fcntl.LOCK_NB)
+        is_there = os.path.samestat(os.fstat(handle), folder.stat())
+    except (BlockingIOError, FileNotFoundError):
+        is_there = False
+    if not is_there:
+        raise Refused(f"another call makes {folder}")
+    yield
+
+
+def write_all(content: Content, folder: Path) -> None:
+    """Puts the files into a folder."""
+    for name, data in with_pages(content, version()).items():
+        write(folder / name, data)
+
+
+def made_with_ranks(inputs: Inputs, is_search: bool) -> Content:
+    """What is in a certificate by ranks that are given, or by formula, or found; where there are none, NoRanks."""
     if inputs.ranks:
         return certified(inputs)
     relation = checked_relation(inputs.config, inputs.table)
@@ -136,10 +222,8 @@ def made_with_ranks(inputs: Inputs, is_search: bool) -> Files:
         lines = "".join(f"{line}\n" for line in rank_file(relation.channels, ranks_found(relation)))
     else:
         lines = by_formula(inputs, relation.channels.network)
-    with TemporaryDirectory(prefix="noc-") as folder:
-        ranks = Path(folder) / RANKS
-        ranks.write_text(lines)
-        return certified(Inputs(inputs.config, inputs.table, str(ranks)))
+    with copied({**inputs.files(), RANKS: lines.encode()}) as whole:
+        return certified(whole)
 
 
 def by_formula(inputs: Inputs, network: Network) -> str:
@@ -148,60 +232,3 @@ def by_formula(inputs: Inputs, network: Network) -> str:
         rule = "a table has" if network.rule == "table" else "dor on a torus has"
         raise Refused(f"{rule} no ranks by formula: give --ranks F, or --find")
     return report("ranks", inputs.config)
-
-
-def made_again(folder: Path) -> Files:
-    """The files of a folder, made of those that were given."""
-    config, table, ranks = (str(folder / name) if (folder / name).is_file() else None for name in GIVEN)
-    if config is None:
-        raise Refused(f"{CONFIGURATION} is missing")
-    inputs = Inputs(config, table, ranks)
-    return certified(inputs) if ranks else stuck(inputs, jam_of_circle(config, table))
-
-
-def known_sums(folder: Path) -> dict[str, str]:
-    """The digests that a folder has of its files."""
-    try:
-        lines = (folder / SUMS).read_bytes().decode(errors="replace").splitlines()
-    except OSError as error:
-        raise Refused(f"{folder}: {SUMS}: {error.strerror}") from None
-    return {found[2]: found[1] for found in map(SUM_LINE.fullmatch, lines) if found}
-
-
-def differing(folder: Path) -> Iterator[str]:
-    """A line for each file of a folder that is not what it was, or is missing, or does not belong to it.
-
-    Where a file that was given has another digest than the folder knows, all others follow from it, so it is the one
-    that changed; unless the digest is, and then the list of digests alone is another one.
-    """
-    sums = known_sums(folder)
-    there = {path.name: path.read_bytes() for path in folder.iterdir() if path.is_file()}
-    changed = [name for name in GIVEN if (name in there or name in sums) and sums.get(name) != digest_in(there, name)]
-    try:
-        made = made_again(folder)
-    except Refused:
-        if not changed:
-            raise
-        made = {}
-    found = [name for name in sorted({*there, *made}) if there.get(name) != made.get(name)]
-    if {PROGRAM, SUMS} <= set(found) and not changed:
-        yield f"{PROGRAM} differs: this program is another one than that of the folder"
-        return
-    for name in found if not changed or found == [SUMS] else changed:
-        if name not in there:
-            yield f"{name} is missing"
-        else:
-            yield f"{name} differs" if name in made or changed else f"{name} does not belong to it"
-
-
-def digest_in(files: Mapping[str, bytes], name: str) -> str | None:
-    """The digest of a file, where it is there."""
-    return sha256_of(files[name]) if name in files else None
-
-
-def verify(folder: str) -> list[str]:
-    """Makes a folder again; a line for each file that differs."""
-    path = Path(folder)
-    if not path.is_dir():
-        raise Refused(f"{folder} is no folder")
-    return list(differing(path))

@@ -63,21 +63,16 @@ NOT_SAID = [
 ]
 
 
-def shape_of(network: Network) -> str:
-    """Kind and radices."""
-    return f"{network.kind} of {' by '.join(map(str, network.radix))}"
-
-
 def title_of(kind: str, network: Network) -> str:
     """The title of a page."""
-    return f"{kind}: {shape_of(network)}, {network.rule}"
+    return f"{kind}: {network.shape}, {network.rule}"
 
 
 def shape_rows(network: Network, table: str | None) -> list[list[str]]:
     """The rows of the table that says which network it is."""
     routes = f"the rows of `{table}`" if table else f"the rule `{network.rule}`"
     return [
-        ["shape", f"{shape_of(network)}, {counted(network.nodes, 'router')}"],
+        ["shape", f"{network.shape}, {counted(network.nodes, 'router')}"],
         ["routes", routes],
         ["virtual channels of each link", str(network.channels)],
         ["buffer of each channel", counted(network.buffer, "flit")],
@@ -165,8 +160,8 @@ def counterexample(channels: Channels, jam: Jam, waiting: Sequence[str], table: 
 def trusted(version: dict[str, str]) -> list[Block]:
     """What is trusted."""
     return [heading("What is trusted"), listed([
-        f"The Rattle kit `{version['kit']}` (`logic {version['logic']}`): its prover and compilers, what it states of "
-        "C functions, and the contracts of its crates (`docs/PROVED.md`).",
+        f"The Rattle kit that built the program (`{version['built']}`, for sources proved with `{version['kit']}`): "
+        "its prover and compilers, what it states of C functions, and the contracts of its crates (`docs/PROVED.md`).",
         "The C library, and the operating system for what files hold.",
         "That the program with the digest below was built from the proved sources. Who has the kit builds it again, "
         "which proves it.",

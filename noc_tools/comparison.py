@@ -1,19 +1,24 @@
 """Compares the waves of a design with those of the model, cycle by cycle, up to the first that differs."""
 import re
-from collections import defaultdict, deque
+from collections import Counter, defaultdict, deque
 from collections.abc import Iterator
 from functools import cached_property
 from typing import NamedTuple
 
 from .errors import Refused
 from .findings import EMPTY, GRANTED, LOST_CHANNEL, NO_CHANNEL, OWNING, VERDICTS, Finding, Place
-from .network import LOCAL, split
+from .network import LOCAL, MOST_DRAINED, split
 from .signals import EDGES, OF_VERDICTS, OUT, PACKET, VERDICT, SignalMap, port_number
 from .vcd import Changes, Dump, Signal, number_in
 from .words import counted
 
-OF_MODEL = re.compile(r"noc\.router_(\d+)\.(plus_\d+|minus_\d+|local)\.verdict_(\d+)")
+# (waves of version 1.0.0 have no port in the names of their variables)
+OF_MODEL = re.compile(r"noc\.router_(\d{1,3})\.(plus_\d|minus_\d|local)\.(?:\2_)?verdict_(\d)")
 OF_CHANNEL = re.compile(r"([+-]\d|local)\.(\d)")
+# Which offsets are tried where a map has none, or one that does not fit.
+OFFSETS = range(21)
+# An offset may be wrong where at most so many cycles agree, and another one fits by which so many do, and all.
+EARLY, FITS = 64, 16
 # The variables that the model has for each channel, and the verdicts beside which it has an output channel.
 SAID = (VERDICT, PACKET, OUT)
 WITH_OUT = {*OWNING, GRANTED, LOST_CHANNEL}
@@ -64,6 +69,8 @@ class Model:
         changed: set[Place] = set()
         cycle: int | None = None
         for time, changes in self.dump.steps(self.signs):
+            if MOST_DRAINED < time:
+                raise Refused(f"{self.dump.name} has the cycle {time}, and noc runs at most {MOST_DRAINED}")
             for earlier in range(time if cycle is None else cycle, time):
                 yield earlier, changed
                 changed = set()
@@ -134,7 +141,7 @@ class Design:
         """Each cycle, and the channels of which a signal may have changed."""
         latest = max(self.values)
         kept: deque[tuple[int, Changes]] = deque(maxlen=latest + 1)
-        for cycle, sample in enumerate(self.samples(), -self.map.offset - latest):
+        for cycle, sample in enumerate(self.samples(), -(self.map.offset or 0) - latest):
             kept.append(sample)
             changed: set[Place] = set()
             for delay, values in self.values.items():
@@ -160,15 +167,45 @@ class Difference(NamedTuple):
     others: list[Place]
 
 
-class Comparison:
-    """A model and a design, and the cycles in which they were compared."""
+class Coverage:
+    """In how many cycles the channels of each port had each verdict, of those that were compared."""
 
-    def __init__(self, model: Model, design: Design) -> None:
-        self.model, self.design = model, design
+    def __init__(self) -> None:
+        self.counts = Counter[tuple[str, str]]()
+        self.since: dict[Place, tuple[int, str]] = {}
+
+    def add(self, finding: Finding) -> None:
+        """Counts what a channel had up to a cycle, from which on it has what was found there."""
+        self.end(finding.place, finding.cycle)
+        self.since[finding.place] = finding.cycle, finding.verdict
+
+    def end(self, place: Place, cycle: int) -> None:
+        """Counts what a channel had in the cycles before this one."""
+        if place in self.since:
+            first, verdict = self.since.pop(place)
+            self.counts[split(place[1])[0], verdict] += cycle - first
+
+    def end_all(self, cycle: int) -> None:
+        """Counts what all channels had in the cycles before this one."""
+        for place in list(self.since):
+            self.end(place, cycle)
+
+    def of(self, verdict: str) -> int:
+        """In how many cycles channels had a verdict, at all ports."""
+        return sum(count for (_, other), count in self.counts.items() if other == verdict)
+
+
+class Comparison:
+    """A model and a design, and the cycles in which they were compared, from one of them on."""
+
+    def __init__(self, model: Model, design: Design, first: int = 0) -> None:
+        self.model, self.design, self.first = model, design, first
         self.cycles = range(0)
+        self.coverage = Coverage()
 
     def common(self) -> Iterator[tuple[int, set[Place]]]:
-        """The cycles that both have, each with the channels of which something may have changed."""
+        """The cycles that both have, from the first that is compared on, each with the channels of
+        which something may have changed."""
         design = self.design.cycles()
         changed = set(self.model.places)
         ahead, touched = next(design)
@@ -180,7 +217,7 @@ class Comparison:
                     return
                 ahead, touched = following
                 changed |= touched
-            if ahead == cycle:
+            if ahead == cycle and self.first <= cycle:
                 yield cycle, changed
                 changed = set()
 
@@ -208,11 +245,51 @@ class Comparison:
         """The first difference, by cycle and then in the order of the channels."""
         for cycle, changed in self.common():
             self.cycles = range(self.cycles.start if self.cycles else cycle, cycle + 1)
-            findings = (self.model.finding(cycle, place) for place in self.model.places if place in changed)
+            findings = [self.model.finding(cycle, place) for place in self.model.places if place in changed]
+            for finding in findings:
+                self.coverage.add(finding)
             differing = [(finding, found) for finding in findings if (found := self.wrong(finding))]
             if differing:
                 (first, found), *others = differing
                 at_router = [place for place in self.model.places if place[0] == first.router]
                 around = [self.model.finding(cycle, place) for place in at_router]
                 return Difference(first, around, *found, [finding.place for finding, _ in others])
+        self.coverage.end_all(self.cycles.stop)
         return None
+
+
+class Answer(NamedTuple):
+    """A comparison that was made, the map with the offset by which it was, and the first difference, if there is one.
+    Of a map with an offset also the other one by which all cycles agree, if this one does not fit."""
+
+    comparison: Comparison
+    names: SignalMap
+    found: Difference | None
+    fitting: int | None = None
+
+    @property
+    def agreed(self) -> int:
+        """How many cycles agree before the first difference, if there is one."""
+        return len(self.comparison.cycles) - (self.found is not None)
+
+
+def compared_by(reference: str, design: str, names: SignalMap, first: int) -> Answer:
+    """Compares two dumps by a map."""
+    model = Model(Dump(reference))
+    made = Comparison(model, Design(Dump(design), names, model), first)
+    return Answer(made, names, made.difference())
+
+
+def compared(reference: str, design: str, names: SignalMap, first: int = 0) -> Answer:
+    """Compares two dumps by a map. Where it has no offset, by that one of those tried by which most cycles agree; where
+    it has one and an early cycle differs, says which other one fits."""
+    if names.offset is not None:
+        answer = compared_by(reference, design, names, first)
+        if answer.found is None or answer.agreed > EARLY:
+            return answer
+    tried = [compared_by(reference, design, names._replace(offset=offset), first) for offset in OFFSETS]
+    best = max(tried, key=lambda each: (each.agreed, each.found is None))
+    if names.offset is None:
+        return best
+    fits = best.found is None and best.agreed >= max(FITS, answer.agreed)
+    return answer._replace(fitting=best.names.offset if fits else None)

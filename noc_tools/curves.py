@@ -8,10 +8,13 @@ from .errors import Refused, refusing
 from .files import named_rows, read_lines
 from .measure import COLUMNS
 from .picture import BLACK, GREY, WHITE, bold, line, svg, text, upwards
-from .statistics import SOURCES, TOO_MUCH, columns_of
+from .statistics import SOURCES, TOO_MUCH, columns_of, margin_of
 
 HEADER = ["load", *COLUMNS]
-FLITS, BYTES = "flits", "bytes"
+NONE = "-"
+# The columns of the bounds on what lies across.
+BOUNDS = {"load": "bound_load", "offered": "bound", "accepted": "bound"}
+KEPT = "keeps_up_to"
 PARTS = ("mean {}", "median of {}", "95th percentile of {}", "99th percentile of {}", "maximum of {}")
 MEASURED = {
     "latency": ("latency", "in cycles"), "queue": ("queue latency", "in cycles"),
@@ -22,7 +25,9 @@ NODES = ("least accepted load of a source", "mean accepted load of the sources",
 LABELS = {
     **{name: f"{words}, in {{}} per node and cycle" for name, words in (
         ("load", "load"), ("offered", "offered load"), ("accepted", "accepted load"),
-        ("saturation", "greatest accepted load"), ("capacity", "capacity"),
+        ("saturation", "greatest accepted load"), ("capacity", "capacity"), ("bound", "bound of the pattern"),
+        (KEPT, "accepted load up to which a network keeps up"),
+        ("steady_to", "accepted load up to which most runs are steady"),
     )},
     **{
         column: f"{part.format(name)}, {unit}"
@@ -54,14 +59,16 @@ LETTER = 0.62
 
 
 class Point(NamedTuple):
-    """A point of a curve, whether all packets that were measured were out, and where it is a mean of several the least
-    and the most of these."""
+    """A point of a curve, whether all packets that were measured were out, between which figures it lies, as far as
+    this is known, whether its run stood still, and whether the next point is not known."""
 
     x: float
     y: float
     is_whole: bool
     least: float | None = None
     most: float | None = None
+    is_stuck: bool = False
+    is_last: bool = False
 
 
 class Style(NamedTuple):
@@ -92,11 +99,33 @@ STYLES = [Style(colour, dash) for dash in range(len(DASHES)) for colour in range
 
 
 class Curve(NamedTuple):
-    """The points of one name, from left to right."""
+    """The points of one name, from left to right, whether they are of a network that can deadlock, and how far to the
+    right links and ports allow points to lie."""
 
     name: str
     points: list[Point]
     style: Style = STYLES[0]
+    can_deadlock: bool = False
+    bound: float | None = None
+
+    @property
+    def label(self) -> str:
+        """Its name in the legend."""
+        return f"{self.name} (can deadlock)" if self.can_deadlock else self.name
+
+
+def around(height: float, margin: float | None) -> tuple[float | None, float | None]:
+    """From where to where a figure lies with this margin; None where it is not known."""
+    return (None, None) if margin is None else (max(0.0, height - margin), height + margin)
+
+
+def with_ends(points: Iterable[Point | None]) -> list[Point]:
+    """Those points that are known, of which each says whether the next one is not."""
+    some = list(points)
+    return [
+        point._replace(is_last=following is None)
+        for point, following in zip(some, [*some[1:], *some[-1:]]) if point is not None
+    ]
 
 
 class Frame(NamedTuple):
@@ -133,11 +162,23 @@ class Measured(NamedTuple):
         """The curve of two figures in the order of its loads, without those points where one is a dash."""
         with refusing(ValueError, f"{self.path}: "):
             rows = sorted(self.rows, key=lambda row: number_of(row["load"]))
-            shown = [row for row in rows if "-" not in (row[x], row[y])]
-            points = [Point(number_of(row[x]), number_of(row[y]), row["packets"] == row["out"]) for row in shown]
+            known = [self.point(row, x, y) for row in rows]
+            bound = self.rows[0][BOUNDS[x]] if self.rows and x in BOUNDS else NONE
+            limit = None if bound == NONE else number_of(bound)
+        points = with_ends(known)
         if not points:
             raise Refused(f"{self.path} has no '{y}' that is a number")
-        return Curve(self.name or self.path, points, style)
+        can_deadlock = any(row["deadlock_free"] == "no" for row in rows)
+        return Curve(self.name or self.path, points, style, can_deadlock, limit)
+
+    def point(self, row: dict[str, str], x: str, y: str) -> Point | None:
+        """The point of a load; None where a figure is a dash."""
+        if NONE in (row[x], row[y]):
+            return None
+        height, margin = number_of(row[y]), row.get(margin_of(y), NONE)
+        least, most = around(height, None if margin == NONE else number_of(margin))
+        is_whole = row["packets"] == row["out"]
+        return Point(number_of(row[x]), height, is_whole, least, most, row["stuck"] == "yes")
 
     def cycles(self) -> list[float]:
         """The cycles of each run."""
@@ -243,6 +284,23 @@ def axes_of(frames: Sequence[Frame], x: str, y: str, top: float | None, unit: st
 # ---- the picture
 
 
+def standstill(x: float, y: float, colour: str) -> str:
+    """The mark of a run that stood still: two strokes that cross."""
+    corner = 1.3 * SIZE
+    stroke = f'stroke="{colour}" stroke-width="3" class="standstill"'
+    side = 2 * corner
+    path = f"M{x - corner:g} {y - corner:g}l{side:g} {side:g}m0 {-side:g}l{-side:g} {side:g}"
+    return f'<path d="{path}" fill="none" {stroke}/>'
+
+
+def mark_at(point: Point, style: Style, axes: "Axes") -> str:
+    """The mark of a point."""
+    x, y = axes.place(point.x, point.y)
+    if point.is_stuck:
+        return standstill(x, y, style.paint)
+    return mark_of(style.mark, x, y, style.paint, point.is_whole)
+
+
 def mark_of(mark: str, x: float, y: float, colour: str, is_whole: bool) -> str:
     """A mark, which is hollow where not all packets were out."""
     drawn = f'fill="{colour if is_whole else WHITE}" stroke="{colour}" stroke-width="2"'
@@ -261,11 +319,32 @@ def mark_of(mark: str, x: float, y: float, colour: str, is_whole: bool) -> str:
     return f'<polygon points="{corners}" {drawn}/>'
 
 
+def goes_on(x: float, y: float, colour: str) -> str:
+    """The mark of a point behind which the next one is not known: an arrow to the upper right."""
+    side, head = 3.6 * SIZE, 1.2 * SIZE
+    path = f"M{x:g} {y:g}l{side:g} {-side:g}m{-head:g} 0h{head:g}v{head:g}"
+    return f'<path d="{path}" fill="none" stroke="{colour}" stroke-width="1.6" class="goes-on"/>'
+
+
+def bound_lines(curves: Iterable[Curve], axes: Axes) -> list[str]:
+    """The bounds of curves, each once; grey where several curves have it."""
+    colours: dict[float, set[str]] = {}
+    for curve in curves:
+        if curve.bound is not None and curve.bound <= axes.end:
+            colours.setdefault(curve.bound, set()).add(curve.style.paint)
+    parts = []
+    for bound, paints in colours.items():
+        x, _ = axes.place(bound, 0)
+        colour = paints.pop() if len(paints) == 1 else GREY
+        parts.append(line(x, 0, x, axes.height, f'stroke="{colour}" stroke-dasharray="8 3 2 3" class="bound"'))
+    return parts
+
+
 def spread_of(point: Point, axes: Axes, colour: str) -> list[str]:
-    """A bar from the least to the most of what a point is the mean of."""
+    """A bar from the least to the most that a point may be."""
     if point.least is None or point.most is None or point.least == point.most:
         return []
-    x, low = axes.place(point.x, point.least)
+    x, low = axes.place(point.x, min(point.least, axes.top))
     _, high = axes.place(point.x, min(point.most, axes.top))
     return [line(x, low, x, high, f'stroke="{colour}" stroke-width="1.2"')]
 
@@ -278,7 +357,8 @@ def curve_parts(number: int, curve: Curve, axes: Axes) -> list[str]:
     parts.append(f'<polyline points="{points}" fill="none" {style.stroke} clip-path="url(#frame)"/>')
     for point in axes.shown(curve.points):
         parts += spread_of(point, axes, style.paint)
-        parts.append(mark_of(style.mark, *axes.place(point.x, point.y), style.paint, point.is_whole))
+        parts += [goes_on(*axes.place(point.x, point.y), style.paint)] * point.is_last
+        parts.append(mark_at(point, style, axes))
     return [*parts, "</g>"]
 
 
@@ -286,14 +366,15 @@ def frame_parts(frame: Frame, axes: Axes, first: int) -> list[str]:
     """A frame, whose curves are counted on from the first number."""
     parts = [bold(0, -8, frame.name)] if frame.name else []
     parts += axes.parts()
+    parts += bound_lines(frame.curves, axes)
     for number, curve in enumerate(frame.curves, first):
         parts += curve_parts(number, curve, axes)
     return parts
 
 
-def legend(frames: Sequence[Frame], x: float, axes: Axes) -> tuple[list[str], float]:
-    """The names of the curves and what their marks mean, and where this ends."""
-    named = {curve.name: curve.style for frame in frames for curve in frame.curves}
+def legend(frames: Sequence[Frame], x: float, axes: Axes, also: Sequence[str]) -> tuple[list[str], float]:
+    """The names of the curves, what their marks mean, and what is told besides; and where this ends."""
+    named = {curve.label: curve.style for frame in frames for curve in frame.curves}
     parts, y = [], TOP + 10
     for name, style in named.items():
         parts.append(line(x, y - 4, x + 32, y - 4, style.stroke))
@@ -303,14 +384,26 @@ def legend(frames: Sequence[Frame], x: float, axes: Axes) -> tuple[list[str], fl
     curves = [axes.shown(curve.points) for frame in frames for curve in frame.curves]
     points, empty = list(chain.from_iterable(curves)), curves.count([])
     words = []
-    if not all(point.is_whole for point in points):
+    if not all(point.is_whole or point.is_stuck for point in points):
         parts.append(mark_of("circle", x + 16, y + 8, GREY, False))
         words = ["hollow: not all measured packets were", "out at the end of the run"]
+    if any(point.is_stuck for point in points):
+        parts.append(standstill(x + 16, y + 8 + 18 * len(words), GREY))
+        words += ["stood still: packets wait for one", "another in a circle"]
     words += [f"without a point here: {empty} of {len(curves)} curves"] * (empty > 0)
-    words += ["bar: from least to most of the seeds"] * any(spread_of(point, axes, "") for point in points)
+    words += [bar_told(axes.y)] * any(spread_of(point, axes, "") for point in points)
+    words += ["arrow: the next point is not known"] * any(point.is_last for point in points)
+    bounds = [parts for frame in frames for parts in bound_lines(frame.curves, axes)]
+    words += ["dashed upright: the bound of the pattern"] * bool(bounds)
     words += ["dotted: all that is offered"] * (axes.y == "accepted")
+    words += also
     parts += [text(x + 42, y + 12 + 18 * number, told, 13, "start", GREY) for number, told in enumerate(words)]
     return parts, y + 12 + 18 * len(words)
+
+
+def bar_told(y: str) -> str:
+    """What the bars of a picture mean."""
+    return "bar: up to the next load that was tried" if y == KEPT else "bar: 95 percent interval of confidence"
 
 
 def title_of(x: str, y: str) -> str:
@@ -325,8 +418,8 @@ def moved(x: float, y: float, parts: Sequence[str]) -> list[str]:
     return [f'<g transform="translate({x:g} {y:g})">', *parts, "</g>"]
 
 
-def picture(frames: Sequence[Frame], axes: Axes, subtitle: str) -> str:
-    """The picture of these frames, side by side and then below one another."""
+def picture(frames: Sequence[Frame], axes: Axes, subtitle: str, also: Sequence[str] = ()) -> str:
+    """The picture of these frames, side by side and then below one another; the legend tells some lines besides."""
     beside = min(len(frames), 2 if len(frames) == 4 else MOST_BESIDE)
     head = NAME_HEIGHT if frames[0].name else 0
     parts, first = [], 0
@@ -340,8 +433,8 @@ def picture(frames: Sequence[Frame], axes: Axes, subtitle: str) -> str:
     end = TOP + rows * (axes.height + head + GAP) - GAP
     parts.append(text(LEFT + across / 2, end + 44, label_of(axes.x, axes.unit)))
     parts += upwards(22, (TOP + end) / 2, label_of(axes.y, axes.unit))
-    explained, lowest = legend(frames, LEFT + across + LEGEND_GAP, axes)
-    names = max(len(curve.name) for frame in frames for curve in frame.curves)
+    explained, lowest = legend(frames, LEFT + across + LEGEND_GAP, axes, also)
+    names = max(len(curve.label) for frame in frames for curve in frame.curves)
     width = LEFT + across + max(LEGEND_GAP + 60 + math.ceil(13 * LETTER * names), LEAST_LEGEND)
     width = max(width, LEFT + 20 + math.ceil(13 * LETTER * len(subtitle)))
     clip = f'<clipPath id="frame"><rect x="0" y="0" width="{axes.width}" height="{axes.height}"/></clipPath>'

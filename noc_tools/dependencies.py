@@ -4,10 +4,11 @@ A small graph is drawn with a column for each rank, so that each dependency is a
 each cell of a square says how many dependencies lead from channels of one rank to channels of another.
 """
 import math
-from collections import Counter
+from collections import Counter, defaultdict
 from collections.abc import Iterable, Iterator, Sequence
 from dataclasses import dataclass, field
 from html import escape
+from itertools import pairwise
 
 from .errors import Refused
 from .picture import BLACK, GREY, WHITE, bold, colour_of, hexadecimal, line, rectangle, svg, text, upwards
@@ -19,6 +20,8 @@ from .words import counted
 MOST_BOXES, MOST_ARROWS = 200, 500
 BOX_WIDTH, BOX_HEIGHT, ROW, GAP = 84, 20, 30, 58
 LEFT, TOP, BOTTOM = 24, 84, 40
+# Before a box a line ends, where the tip covers it.
+TIP = 5
 SQUARE, CORNER, KEY_WIDTH = 720, 110, 900
 # The ports of each dimension in two shades of a colour that all eyes tell from the others.
 COLOURS = {
@@ -28,7 +31,10 @@ COLOURS = {
 
 @dataclass(eq=False)
 class Box:
-    """Channels of one link that have one rank and depend on the same, and on which the same depend."""
+    """Channels of one link that have one rank and depend on the same, and on which the same depend.
+
+    A box without channels is a place where arrows pass the column of a rank.
+    """
 
     channels: list[int]
     rank: int
@@ -119,23 +125,41 @@ class Columns:
         self.graph = graph
         self.columns = [[box for box in boxes if box.rank == rank] for rank in graph.levels]
         self.place = {rank: number for number, rank in enumerate(graph.levels)}
+        # Where the arrows from a box pass a column, and with what each box and each such place is joined on both sides.
+        self.passed: dict[tuple[Box, int], Box] = {}
+        self.to_left: dict[Box, list[Box]] = defaultdict(list)
+        self.to_right: dict[Box, list[Box]] = defaultdict(list)
+        self.ways = {(box, other): self.way(box, other) for box in boxes for other in box.ahead}
         self.rows = max(map(len, self.columns))
         for column in self.columns:
             self.spread(column)
         for _ in range(4):
-            self.straighten(self.columns, "behind")
-            self.straighten(self.columns[::-1], "ahead")
+            self.straighten(self.columns, self.to_left)
+            self.straighten(self.columns[::-1], self.to_right)
+
+    def way(self, box: Box, other: Box) -> list[Box]:
+        """The boxes by which an arrow goes: its two ends, and a place in each column between them."""
+        way = [box]
+        for place in range(self.place[box.rank] + 1, self.place[other.rank]):
+            if (box, place) not in self.passed:
+                self.passed[box, place] = Box([], self.graph.levels[place])
+                self.columns[place].append(self.passed[box, place])
+            way.append(self.passed[box, place])
+        way.append(other)
+        for one, following in pairwise(way):
+            self.to_right[one].append(following)
+            self.to_left[following].append(one)
+        return way
 
     def spread(self, column: list[Box]) -> None:
         """Gives the boxes of a column their rows, in their order, alike above and below the middle."""
         for number, box in enumerate(column):
             box.row = number + (self.rows - len(column)) / 2
 
-    def straighten(self, columns: list[list[Box]], side: str) -> None:
+    def straighten(self, columns: list[list[Box]], joined: dict[Box, list[Box]]) -> None:
         """Puts the boxes of each column in the order of the boxes with which they are joined on one side."""
         for column in columns:
-            joined = {box: getattr(box, side) for box in column}
-            middle = {box: sum(one.row for one in some) / len(some) for box, some in joined.items() if some}
+            middle = {box: sum(one.row for one in joined[box]) / len(joined[box]) for box in column if box in joined}
             column.sort(key=lambda box: middle.get(box, box.row))
             self.spread(column)
 
@@ -145,14 +169,18 @@ class Columns:
 
     def arrow(self, box: Box, other: Box) -> str:
         """A dependency from one box to another."""
-        (x, y), (to, end) = self.corner(box), self.corner(other)
-        x, bend = x + BOX_WIDTH, (to - x - BOX_WIDTH) / 2
-        path = f"M{x:g},{y:g} C{x + bend:g},{y:g} {to - bend:g},{end:g} {to - 5:g},{end:g}"
+        curves = []
+        for one, following in pairwise(self.ways[box, other]):
+            (x, y), (to, end) = self.corner(one), self.corner(following)
+            x, stop = x + BOX_WIDTH, to - (TIP if following is other else 0)
+            bend = (to - x) / 2
+            curves.append(f"{x:g},{y:g} C{x + bend:g},{y:g} {to - bend:g},{end:g} {stop:g},{end:g}")
+        path = " L".join(curves)
         colour = COLOURS[self.graph.channels.parts(box.channels[0])[1]]
         names = " -> ".join(short(self.graph.channels, one.channels) for one in (box, other))
         tip = f'<path d="M{to - 7:g},{end - 3:g} L{to:g},{end:g} L{to - 7:g},{end + 3:g} z" fill="{colour}"/>'
         drawn = f'fill="none" stroke="{colour}" stroke-opacity="0.6" stroke-width="1.2"'
-        return f'<g class="dependency"><title>{escape(names)}</title><path d="{path}" {drawn}/>{tip}</g>'
+        return f'<g class="dependency"><title>{escape(names)}</title><path d="M{path}" {drawn}/>{tip}</g>'
 
     def title(self, box: Box) -> str:
         """All of a box in words."""
@@ -161,7 +189,7 @@ class Columns:
 
     def picture(self) -> Iterator[str]:
         """The picture."""
-        channels, boxes = self.graph.channels, [box for column in self.columns for box in column]
+        channels, boxes = self.graph.channels, [box for column in self.columns for box in column if box.channels]
         width = max(LEFT * 2 + len(self.columns) * (BOX_WIDTH + GAP) - GAP, KEY_WIDTH)
         parts = [bold(LEFT, 24, f"The channel dependency graph in the order of the ranks: {self.graph.size()}", 15)]
         parts += key_of(channels, LEFT, 46)

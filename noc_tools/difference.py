@@ -4,7 +4,7 @@ from contextlib import suppress
 
 from .comparison import Difference
 from .findings import (
-    EMPTY, GRANTED, LOST_CHANNEL, MOVED, NO_IDLE_CHANNEL, REASONS, ROUTED, WINNING, Finding, snake, winner_of,
+    EMPTY, GRANTED, LOST_CHANNEL, MOVED, NO_IDLE_CHANNEL, REASONS, ROUTED, WINNING, Finding, winner_of,
 )
 from .network import LOCAL
 from .signals import OF_VERDICTS, OUT, VERDICT
@@ -37,7 +37,7 @@ def reason(finding: Finding, around: Sequence[Finding]) -> str:
     if verdict == MOVED:
         return f"{packet} has {out} there, a flit{'' if out.startswith(LOCAL) else ', a credit'}, and wins the switch"
     before = "waits" if verdict == NO_IDLE_CHANNEL else f"{'asks for' if verdict == LOST_CHANNEL else 'has'} {out}"
-    return f"{packet} {before} there, but {REASONS[snake(verdict)]}{winner(finding, around)}"
+    return f"{packet} {before} there, but {REASONS[verdict]}{winner(finding, around)}"
 
 
 def sides(found: Difference, verdicts: Sequence[str]) -> str:

@@ -4,11 +4,17 @@ from contextlib import contextmanager
 
 
 class Refused(Exception):
-    """Why something cannot be had, in a sentence. Above 1 `status` is that of noc, and the sentence its line."""
+    """Why something cannot be had, in a sentence. Above 1 `status` is that of noc, and the sentence its line, with a
+    line behind it of what that means where this is known."""
 
     def __init__(self, reason: str, status: int = 1) -> None:
         super().__init__(reason)
         self.status = status
+
+    @property
+    def in_line(self) -> str:
+        """The reason in one line."""
+        return str(self).replace("\n", ": ", 1)
 
 
 @contextmanager

@@ -1,5 +1,6 @@
-"""Files as texts and as rows of CSV; what cannot be read is refused with a sentence."""
+"""Files as texts and as rows of CSV, and texts into files; what cannot be had is refused with a sentence."""
 import csv
+import os
 import sys
 from collections.abc import Iterable, Iterator, Sequence
 from io import StringIO
@@ -56,6 +57,40 @@ def named_rows(lines: Iterable[str], header: Sequence[str], kind: str, name: str
         if len(row) != len(found):
             raise Refused(f"{name}: line {number} has not the {len(found)} fields of the header")
     return [dict(zip(found, row)) for row in rows]
+
+
+# ---- writing
+
+
+def write(path: str | Path, content: str | bytes) -> None:
+    """Writes a file, a text in UTF-8; a sentence names it where there is no room for it."""
+    with refusing(OSError, f"{path}: "):
+        Path(path).write_bytes(content if isinstance(content, bytes) else content.encode())
+
+
+def put(path: str | Path, text: str) -> None:
+    """Puts a text in UTF-8 in the place of a file, or of a link, at once: whoever reads finds all of it or what was
+    there before. Into a device or a pipe it is written."""
+    goal, part = Path(path), Path(f"{path}.{os.getpid()}.part")
+    with refusing(OSError, f"{path}: "):
+        if goal.exists() and not goal.is_file():
+            goal.write_text(text, encoding="utf-8")
+            return
+        try:
+            part.write_text(text, encoding="utf-8")
+            part.replace(goal)
+        finally:
+            part.unlink(missing_ok=True)
+
+
+def check_output(path: str, begins: str, inputs: Iterable[str | None]) -> None:
+    """Refuses to write where an input is, or in the place of a file that does not begin as what is to be written."""
+    if not os.path.exists(path):
+        return
+    if any(given is not None and os.path.exists(given) and os.path.samefile(path, given) for given in inputs):
+        raise Refused(f"{path} is an input: name another file")
+    if os.path.isfile(path) and not read_bytes(path).startswith(begins.encode()):
+        raise Refused(f"{path} is there, and is none of those that are written here: name another file")
 
 
 def csv_line(fields: Iterable[str]) -> str:

@@ -8,25 +8,29 @@ from .network import split
 from .program import Process
 
 TRACE_HEADER = "cycle,router,port,vc,verdict,packet,out,permitted"
-EMPTY, ROUTED, GRANTED, MOVED, NO_FLIT, NO_CREDIT = "Empty", "Routed", "Granted", "Moved", "NoFlit", "NoCredit"
-NO_IDLE_CHANNEL, LOST_CHANNEL, LOST_INPUT, LOST_SWITCH = "NoIdleChannel", "LostChannel", "LostInput", "LostSwitch"
-# The verdicts, in the order of the reports.
-VERDICTS = [
-    EMPTY, ROUTED, GRANTED, MOVED, NO_FLIT, NO_IDLE_CHANNEL, LOST_CHANNEL, NO_CREDIT, LOST_INPUT, LOST_SWITCH,
-]
+EMPTY, ROUTED, GRANTED, MOVED = "Empty", "Routed", "Granted", "Moved"
+NO_FLIT, NO_IDLE_CHANNEL, LOST_CHANNEL = "NoFlit", "NoIdleChannel", "LostChannel"
+NO_CREDIT, LOST_INPUT, LOST_SWITCH = "NoCredit", "LostInput", "LostSwitch"
+# The verdicts in the order of the reports, each with the name of its column there.
+COLUMNS = {
+    EMPTY: "empty", ROUTED: "routed", GRANTED: "granted", MOVED: "moved", NO_FLIT: "no_flit",
+    NO_IDLE_CHANNEL: "no_idle_channel", LOST_CHANNEL: "lost_channel", NO_CREDIT: "no_credit",
+    LOST_INPUT: "lost_input", LOST_SWITCH: "lost_switch",
+}
+VERDICTS = [*COLUMNS]
 STALLS = VERDICTS[4:]
 # The verdicts of a channel whose packet has the output channel that stands beside it.
 OWNING = {MOVED, NO_FLIT, NO_CREDIT, LOST_INPUT, LOST_SWITCH}
 # What the one says that wins what another loses.
 WINNING = {LOST_CHANNEL: {GRANTED}, LOST_INPUT: {MOVED, LOST_SWITCH}, LOST_SWITCH: {MOVED}}
-# What each stall means, by its name in the headers of reports and in their order.
+# What each stall means, in the order of the reports.
 REASONS = {
-    "no_flit": "its next flit has not come yet",
-    "no_idle_channel": "no channel that it may take is free",
-    "lost_channel": "another packet was granted the channel",
-    "no_credit": "the next buffer has no place for it",
-    "lost_input": "another channel of its port went first",
-    "lost_switch": "another port went first",
+    NO_FLIT: "its next flit has not come yet",
+    NO_IDLE_CHANNEL: "no channel that it may take is free",
+    LOST_CHANNEL: "another packet was granted the channel",
+    NO_CREDIT: "the next buffer has no free slot",
+    LOST_INPUT: "another channel of its port went first",
+    LOST_SWITCH: "another port went first",
 }
 NO_CHANNEL = "-"
 # A router and the name of one of its input channels.
@@ -69,11 +73,6 @@ def finding_of(line: str) -> Finding:
     holder = None if packet == "-" else int(packet)
     names = () if permitted == NO_CHANNEL else tuple(permitted.split(" "))
     return Finding(int(cycle), int(router), f"{port}.{number}", verdict, holder, out, names)
-
-
-def snake(verdict: str) -> str:
-    """A verdict as the headers of reports call it: no_idle_channel for NoIdleChannel."""
-    return "".join("_" + letter.lower() if letter.isupper() else letter for letter in verdict).removeprefix("_")
 
 
 class Selection(NamedTuple):

@@ -3,23 +3,27 @@
 It is cut from a traffic with which the network gets stuck, by delta debugging: halves of it are left out, then quarters
 and so on. The first such traffic is made for a circle of dependencies: of packets that are permitted one of its steps.
 """
+import re
 from collections.abc import Callable, Iterable, Iterator, Sequence
 from concurrent.futures import ThreadPoolExecutor
 from dataclasses import dataclass
 from functools import cache, partial
-from itertools import compress, islice, product
+from itertools import chain, compress, islice, product
 from pathlib import Path
 from random import Random
 from tempfile import TemporaryDirectory
 from threading import Lock
 
-from .errors import Refused
+from .errors import Refused, refusing
+from .files import read_text, write
 from .network import LOCAL, Network
 from .program import STUCK, call, free_processors
 from .ranks import Dependency, NoRanks, ranks_found
-from .relation import TABLE_HEADER, Channels, Goal, Relation, Steps, checked_relation, of_network
+from .relation import NOWHERE, TABLE_HEADER, Channels, Goal, Relation, Steps, checked_relation, of_network
 from .runs import Config, Run, config_file
-from .traffic import LONGEST, MOST_PACKETS, UNIFORM, Demand, Packet, Row, below, traffic_text
+from .traffic import (
+    LONGEST, MOST_PACKETS, UNIFORM, Demand, Packet, Row, below, numbers_in, read_traffic, traffic_text,
+)
 from .words import counted
 
 # The traffics that are tried for a circle: so many packets for each of its dependencies and each channel of a link, of
@@ -72,7 +76,7 @@ class Excerpt:
                 sources[message_class, destination].add(source)
             parts = (self.part(goal, frozenset(some)) for goal, some in sources.items())
             self.paths.append(Path(self.folder.name) / f"table_{len(self.paths)}.csv")
-            self.paths[-1].write_text("".join([f"{TABLE_HEADER}\n", *parts]))
+            write(self.paths[-1], "".join([f"{TABLE_HEADER}\n", *parts]))
         return self.paths[-1]
 
 
@@ -264,6 +268,68 @@ def jam_of_circle(config: str, table: str | None = None) -> Jam:
         trials = Trials(config, relation)
         return cut(trials, jam_on(relation, reason.circle, trials.first_stuck), reason.circle)
     raise Refused("no traffic gets stuck: the network has ranks (noc-tools certify --find)")
+
+
+# ---- a jam in files
+
+# So many packets has a jam at most of which it is looked at whether anything can be left out: that takes up to two runs
+# for each of them.
+MOST_TRIED = 2000
+# A dependency of a circle, as `Dependency.line` has it.
+STEP = re.compile(r"class (\d{1,9}) to node (\d{1,9}): (.+)", re.ASCII)
+
+
+def circle_in(relation: Relation, path: str) -> list[Dependency]:
+    """The circle of dependencies in a file, one in each line."""
+    channels, name = relation.channels, Path(path).name
+    numbers = {channels.name(channel): channel for channel in channels.links()}
+    found = []
+    for line in read_text(path, "circle", name).splitlines():
+        parts = STEP.fullmatch(line)
+        way = [numbers.get(word, NOWHERE) for word in parts[3].split(" -> ")] if parts else []
+        found.append(Dependency(int(parts[1]), int(parts[2]), way) if parts else Dependency(0, 0, way))
+    ways = [one.way for one in found]
+    is_whole = all(1 < len(way) for way in ways) and len({way[0] for way in ways}) == len(ways)
+    if not ways or not is_whole or any(way[-1] != after[0] for way, after in zip(ways, [*ways[1:], ways[0]])):
+        raise Refused(f"the lines of {name} close no circle")
+    if not all(are_permitted(relation, goal, found) for goal in {one[:2] for one in found}):
+        raise Refused(f"{name} has a line that is no dependency of this network")
+    return found
+
+
+def are_permitted(relation: Relation, goal: Goal, circle: Iterable[Dependency]) -> bool:
+    """Whether packets of a class to a destination may go their ways of a circle."""
+    network = relation.channels.network
+    if network.classes <= goal[0] or network.nodes <= goal[1]:
+        return False
+    steps = relation.steps(*goal)
+    ways = [one.way for one in circle if one[:2] == goal]
+    return all(onward in steps.get(channel, ()) for way in ways for channel, onward in zip(way, way[1:]))
+
+
+def jam_in(config: str, circle: str, traffic: str, table: str | None = None) -> Jam:
+    """The jam of a circle and a traffic in files, of which nothing can be left out.
+
+    What is looked at takes a run of the traffic and up to two for each packet, and of packets as a search makes them:
+    so their number, and the cycles of the configuration, say how long it takes.
+    """
+    name = Path(traffic).name
+    with refusing(ValueError, f"{name} has a packet that is not five numbers: "):
+        rows = [numbers_in(row) for row in read_traffic(traffic, name)]
+    if MOST_TRIED < len(rows):
+        raise Refused(f"{name} has {len(rows)} packets: of more than {MOST_TRIED} it is not tried what can be left out")
+    if any(SPAN <= due for *_, due in rows):
+        raise Refused(f"{name} has a packet that is due in cycle {SPAN} or later, as no jam has that was searched")
+    given = ["--table", table] if table else []
+    if call("run", config, traffic, *given, "--report", "summary")[0] != STUCK:
+        raise Refused(f"a run of {name} does not get stuck")
+    relation = checked_relation(config, table)
+    found = circle_in(relation, circle)
+    changes: list[Change] = [lambda part: [], partial(shorter, by=1)]
+    less = chain.from_iterable(variants(rows, 0, 1, change) for change in changes)
+    if Trials(config, relation).first_stuck(less):
+        raise Refused(f"a run of {name} gets stuck without one of its packets too, or with one that is a flit shorter")
+    return Jam(rows, rows, found)
 
 
 def jam_within(config: str, traffic: str, table: str | None = None) -> Jam:

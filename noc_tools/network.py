@@ -26,15 +26,22 @@ LOCAL = "local"
 
 @dataclass(frozen=True)
 class Network:
-    """A configuration, and what follows from it."""
+    """A configuration, and what follows from it. A radix may also be a list.
 
-    kind: str
-    radix: tuple[int, ...]
-    channels: int
-    buffer: int
-    classes: int
-    rule: str
-    cycles: int
+    `channels` are the virtual channels of each link, and `buffer` the flits for which each of them has room. By default
+    it is a mesh of 64 nodes. A torus wants another rule: with dor packets may wait for one another in a circle there.
+    """
+
+    kind: str = "mesh"
+    radix: tuple[int, ...] = (8, 8)
+    channels: int = 2
+    buffer: int = 4
+    classes: int = 1
+    rule: str = "dor"
+    cycles: int = 3000
+
+    def __post_init__(self) -> None:
+        object.__setattr__(self, "radix", tuple(self.radix))
 
     @classmethod
     def read(cls, path: str | Path) -> "Network":
@@ -57,9 +64,15 @@ class Network:
         ]
         return self.kind in KINDS and all(number <= most for number, most in pairs)
 
+    @property
+    def shape(self) -> str:
+        """Its kind and its radices in words."""
+        return f"{self.kind} of {' by '.join(map(str, self.radix))}"
+
     def text(self) -> str:
         """The text of the configuration."""
-        return "".join(f"{key} = {json.dumps(value)}\n" for key, value in asdict(self).items())
+        # (numbers of other libraries are whole numbers too)
+        return "".join(f"{key} = {json.dumps(value, default=int)}\n" for key, value in asdict(self).items())
 
     @cached_property
     def nodes(self) -> int:
@@ -184,8 +197,7 @@ def network_of(settings: dict[str, Any]) -> Network:
             raise ValueError(f"the key '{key}' is missing")
         if not has_type(settings[key], wanted):
             raise ValueError(f"the value of '{key}' is not {NAMES[wanted]}")
-    values: dict[str, Any] = {**settings, "radix": tuple(settings["radix"])}
-    return Network(**values)
+    return Network(**settings)
 
 
 def read_bounded_network(path: str | Path) -> Network:

@@ -3,7 +3,8 @@ import hashlib
 import os
 import shutil
 import subprocess
-from collections.abc import Iterable, Iterator
+import sysconfig
+from collections.abc import Iterable, Iterator, Sequence
 from functools import cache
 from itertools import chain
 from pathlib import Path
@@ -15,23 +16,36 @@ from .errors import Refused, refusing
 from .files import read_bytes
 
 DONE, STUCK = 0, 5
-# A joined text that noc takes. A script named noc builds its program for it where that is old.
+# A joined text that noc takes.
 SMALLEST = (
     'kind = "mesh"\nradix = [2]\nchannels = 1\nbuffer = 1\nclasses = 1\nrule = "dor"\ncycles = 1\n'
     "---\nsource,destination,class,length,due\n"
 )
+# The kit of a program of which nothing says which kit built it.
+UNKNOWN = "unknown"
 # How many digits of a digest tell one file from another here.
 DIGITS = 16
 # The most bytes that are taken from a pipe at once.
 ROOM = 1 << 16
 
 
+def places() -> Iterator[Path]:
+    """Where noc stands that belongs to this package: beside it, where pip puts what may be run, for all or for one
+    user, and where it does so with --target."""
+    beside = Path(__file__).resolve().parent.parent
+    yield beside / "noc"
+    for scheme in (sysconfig.get_default_scheme(), sysconfig.get_preferred_scheme("user")):
+        yield Path(sysconfig.get_path("scripts", scheme)) / "noc"
+    yield beside / "bin/noc"
+
+
 def found_program() -> Path:
-    """The program of this package: that of $NOC, else the file noc beside the package, else noc on PATH."""
-    beside = Path(__file__).resolve().parent.parent / "noc"
-    found = os.environ.get("NOC") or (str(beside) if beside.is_file() else shutil.which("noc"))
+    """The program of this package: that of $NOC, else the one that belongs to it, else noc on PATH."""
+    own = next((str(place) for place in places() if place.is_file()), None)
+    found = os.environ.get("NOC") or own or shutil.which("noc")
     if not found:
-        raise Refused("there is no noc: it is looked for in $NOC, beside the folder of this package, and on PATH")
+        raise Refused("there is no noc: it is looked for in $NOC, beside the folder of this package, where pip puts "
+                      "programs, and on PATH")
     return Path(found).absolute()
 
 
@@ -48,14 +62,43 @@ def program() -> Path:
 
 @cache
 def chosen_by(found: Path) -> Path:
-    """What runs where this is called: of the script ./noc the program for this processor, and it is built first."""
+    """What runs where this is called: of the script ./noc the program for this processor. Nothing is built here."""
     if not is_script(found):
         return found
-    ready = subprocess.run([found], input=SMALLEST.encode(), stdout=subprocess.DEVNULL)
+    asked = asked_of(found, "--which")
+    if asked.returncode:
+        check_script(found)
+        return found
+    chosen = Path(os.fsdecode(asked.stdout.removesuffix(b"\n")))
+    told = f"call {found} once, which proves and builds it in some half an hour, or set NOC to a program"
+    if not chosen.is_file():
+        raise Refused(f"no program is built, there is no {chosen}: {told}")
+    if not is_current(found, chosen):
+        raise Refused(f"{chosen} is not of the sources as they stand: {told}")
+    return chosen
+
+
+def asked_of(script: Path, words: str) -> subprocess.CompletedProcess[bytes]:
+    """What a script answers to words that build and run nothing."""
+    return subprocess.run([script, words], stdin=subprocess.DEVNULL, capture_output=True)
+
+
+def check_script(script: Path) -> None:
+    """Refuses a script that names no program, and runs none."""
+    ready = subprocess.run([script], input=SMALLEST.encode(), stdout=subprocess.DEVNULL)
     if ready.returncode:
-        raise Refused(f"{found} runs no program", ready.returncode)
-    asked = subprocess.run([found, "--which"], stdin=subprocess.DEVNULL, capture_output=True)
-    return Path(os.fsdecode(asked.stdout.removesuffix(b"\n"))) if asked.returncode == 0 else found
+        raise Refused(f"{script} runs no program", ready.returncode)
+
+
+def is_current(script: Path, chosen: Path) -> bool:
+    """Whether a program is of the sources as they stand, as far as the script tells of sources: those of which it was
+    made stand in a file beside it, which has its time."""
+    asked = asked_of(script, "--sources")
+    if asked.returncode or not asked.stdout:
+        return True
+    kept = chosen.with_name(f"{chosen.name}.sources")
+    is_its_own = kept.is_file() and kept.stat().st_mtime_ns == chosen.stat().st_mtime_ns
+    return is_its_own and kept.read_bytes() == asked.stdout
 
 
 def sha256_of(data: bytes) -> str:
@@ -93,6 +136,16 @@ def program_digest() -> str:
     return known_digest(path, path.stat().st_mtime_ns)
 
 
+def builder_of(program: Path, digest: str) -> str:
+    """The line of the kit that built a program of this SHA-256. A file beside the program has both; where that is not
+    there, or of another program, the kit is unknown."""
+    try:
+        built, of = Path(f"{program.resolve()}.kit").read_text(errors="replace").splitlines()
+    except (OSError, ValueError):
+        return UNKNOWN
+    return built.removeprefix("built ") if of == f"sha256 {digest}" else UNKNOWN
+
+
 def processors() -> int:
     """How many processors this process may use."""
     return len(os.sched_getaffinity(0))
@@ -107,19 +160,23 @@ def free_processors() -> int:
     return max(1, (os.cpu_count() or 1) - running)
 
 
-def ended(status: int, error: str) -> None:
-    """Refuses what noc refused, with its line and its status."""
+def ended(status: int, error: str, words: Sequence[str]) -> None:
+    """Refuses what noc refused of a call with these words: with its line and its status, and in a line behind it what
+    that means for the files of the call, where this can be told."""
     if status not in (DONE, STUCK):
-        raise Refused(error.rstrip("\n") or f"noc ended with the status {status}", max(status, 1))
+        from .faults import sentence
+        line = error.rstrip("\n") or f"noc ended with the status {status}"
+        raise Refused("\n".join(filter(None, [line, sentence(line, words)])), max(status, 1))
 
 
 def called(words: Iterable[str], given: bytes | None = None) -> tuple[int, bytes]:
     """The status and what noc writes, as it is; where it refuses, its line is the reason."""
+    words = list(words)
     # (one pipe is read at once, and two by turns, which takes far longer)
     with TemporaryFile() as error:
         ran = subprocess.run([program(), *words], input=given, stdout=subprocess.PIPE, stderr=error)
         error.seek(0)
-        ended(ran.returncode, error.read().decode(errors="replace"))
+        ended(ran.returncode, error.read().decode(errors="replace"), words)
     return ran.returncode, ran.stdout
 
 
@@ -170,7 +227,7 @@ def texts(*words: str) -> Iterator[str]:
             noc.kill()
             return
         error = error_of(noc)
-    ended(noc.returncode, error)
+    ended(noc.returncode, error, words)
 
 
 def lines_in(texts: Iterable[str]) -> Iterator[str]:
@@ -182,7 +239,7 @@ class Process:
     """A call of noc beside others. What it writes is taken in as it comes, so that it never waits for its reader."""
 
     def __init__(self, *words: str) -> None:
-        self.noc = start(*words)
+        self.noc, self.words = start(*words), words
         self.chunks: SimpleQueue[bytes] = SimpleQueue()
         self.reader = Thread(target=self.take_in, daemon=True)
         try:
@@ -203,7 +260,7 @@ class Process:
         """Its lines, without their ends."""
         yield from lines_in(whole_lines(iter(self.chunks.get, b"")))
         error = error_of(self.noc)
-        ended(self.noc.wait(), error)
+        ended(self.noc.wait(), error, self.words)
 
     def end(self) -> None:
         """Ends it, where it still runs."""

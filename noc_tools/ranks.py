@@ -10,7 +10,7 @@ from pathlib import Path
 from typing import NamedTuple
 
 from .errors import Refused
-from .files import named_rows, read_lines
+from .files import named_rows, read_lines, write
 from .network import Network
 from .program import report
 from .relation import TABLE_HEADER, Channels, Goal, Relation, Steps, of_table_rule
@@ -242,9 +242,9 @@ def checked_table(network: Network, rule: str, folder: Path) -> str:
     name = f"{rule}_{network.kind}_{shape}_channels_{network.channels}_classes_{network.classes}"
     folder.mkdir(parents=True, exist_ok=True)
     table, config, ranks = (folder / f"{name}{end}" for end in (".csv", ".toml", "_ranks.csv"))
-    table.write_text("".join(f"{line}\n" for line in table_file(relation)))
-    config.write_text(replace(network, rule="table").text())
+    write(table, "".join(f"{line}\n" for line in table_file(relation)))
+    write(config, replace(network, rule="table").text())
     found = find_ranks(relation, set(range(network.channels)))
-    ranks.write_text("".join(f"{line}\n" for line in rank_file(channels, found)))
+    write(ranks, "".join(f"{line}\n" for line in rank_file(channels, found)))
     report("check", str(config), "--table", str(table), "--ranks", str(ranks))
     return str(table)

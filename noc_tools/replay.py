@@ -8,12 +8,11 @@ from pathlib import Path
 from typing import Any
 
 from .errors import Refused
-from .findings import NO_CHANNEL, OWNING, ROUTED, VERDICTS, WINNING, Finding, Place, finding_of, snake
+from .findings import NO_CHANNEL, OWNING, ROUTED, VERDICTS, WINNING, Finding, Place, finding_of
 from .life import QUEUE
 from .network import LOCAL, Network, split
-from .picture import WHITE
+from .palette import KINDS, STROKE, TILE
 from .runs import Run
-from .timeline import KINDS
 
 # The parts of the page: a frame, which says by their names where the others go.
 PARTS = Path(__file__).resolve().with_name("replay_page")
@@ -67,13 +66,14 @@ def data_of(run: Run, first: int, last: int) -> dict[str, Any]:
     network = run.network
     names = Names(NO_CHANNEL)
     changes, came = changes_of(changes_within(run, first, last), network.places, first, names)
-    kinds = [KINDS.get(snake(verdict), (WHITE, "it holds no packet")) for verdict in VERDICTS]
+    kinds = [KINDS[verdict] for verdict in VERDICTS]
     places = ((router, *split(channel)) for router, channel in network.places)
     return {
         "radix": network.radix, "nodes": network.nodes, "vcs": network.channels, "ports": network.ports,
         "first": first, "last": last,
-        "verdicts": VERDICTS, "colours": [colour for colour, _ in kinds], "meanings": [meaning for _, meaning in kinds],
-        "queue": KINDS[QUEUE][0],
+        "verdicts": VERDICTS, "colours": [kind.colour for kind in kinds], "meanings": [kind.meaning for kind in kinds],
+        "signs": [[kind.sign, kind.ink] for kind in kinds], "tile": [TILE, STROKE],
+        "queue": KINDS[QUEUE].colour,
         "owning": sorted(OWNING), "winning": {lost: sorted(winning) for lost, winning in WINNING.items()},
         "links": links_of(network),
         "channels": [[router, network.ports.index(port), number] for router, port, number in places],
@@ -109,9 +109,8 @@ def links_of(network: Network) -> list[tuple[int, str, int]]:
 def title_of(run: Run, first: int, last: int) -> str:
     """What the page plays, in one line."""
     network = run.network
-    shape = " by ".join(map(str, network.radix))
     return (
-        f"{run.config.name}, {run.traffic.name}: {network.kind} of {shape}, {network.rule}, "
+        f"{run.config.name}, {run.traffic.name}: {network.shape}, {network.rule}, "
         f"channels {network.channels}, buffer {network.buffer}, cycles {first} to {last}"
     )
 

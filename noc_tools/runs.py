@@ -1,4 +1,5 @@
 """A run: a network with its traffic, and what noc says of it."""
+import csv
 import shutil
 import tempfile
 from collections.abc import Iterable, Iterator, Sequence
@@ -6,15 +7,21 @@ from dataclasses import replace
 from functools import cached_property
 from io import BytesIO
 from pathlib import Path
-from typing import IO, Any
+from typing import IO, TYPE_CHECKING, Any
 
+from . import shown
 from .errors import Refused, refusing
 from .files import STANDARD_INPUT, standard_input
 from .findings import ROUTED, Finding, ParallelTrace, Selection, finding_of, without_header
 from .network import MOST_CYCLES, Network
-from .program import Process, call, free_processors, lines_in, output, report, texts
-from .statistics import NEVER, Columns, entries_in, outs_in
+from .program import Process, call, called, free_processors, lines_in, output, report, texts
+from .statistics import (
+    NEVER, Columns, Figures, Window, end_of, entries_in, grouped_figures, outs_in, window_within,
+)
 from .traffic import Demand, Packet, Row, numbers_in, read_latencies, read_traffic, traffic_text
+
+if TYPE_CHECKING:
+    import pandas
 
 # A span is long where it has so many cycles, each router counted by itself: noc takes some tenth of a second for it.
 # A trace of a long span has several parts, three at most.
@@ -79,6 +86,7 @@ class Run:
         self.table = InputFile(table) if table else None
         self.free = free_processors()
         self.rows = read_traffic(self.traffic.path, self.traffic.name)
+        self.ended: tuple[int, list[Packet]] | None = None
         if drain:
             self.drain()
 
@@ -125,11 +133,22 @@ class Run:
 
     # ---- what noc says
 
-    @cached_property
+    def finish(self) -> tuple[int, list[Packet]]:
+        """Makes the run where no question has had it made yet, and returns its outcome."""
+        if self.ended is None:
+            status, text = call("run", *self.files)
+            self.ended = status, read_latencies(text.splitlines(), self.network, "the report of noc")
+        return self.ended
+
+    @property
     def outcome(self) -> tuple[int, list[Packet]]:
         """The status of the run, and its packets with the cycles in which they were out."""
-        status, text = call("run", *self.files)
-        return status, read_latencies(text.splitlines(), self.network, "the report of noc")
+        return self.finish()
+
+    @property
+    def is_made(self) -> bool:
+        """Whether noc was asked for its packets yet."""
+        return self.ended is not None
 
     @property
     def status(self) -> int:
@@ -160,6 +179,48 @@ class Run:
         """The numbers of the summary report by their names."""
         return summary_of(report("run", *self.files, "--report", "summary"))
 
+    @cached_property
+    def stalls(self) -> list[dict[str, Any]]:
+        """The counts of each input channel: a row with its router, port and number, and in how many cycles it said each
+        verdict, by the names of the stall report."""
+        rows = csv.DictReader(report("run", *self.files, "--report", "stalls").splitlines())
+        return [{name: word if name == "port" else int(word) for name, word in row.items()} for row in rows]
+
+    def figures(self, window: tuple[int, int] | None = None) -> Figures:
+        """What is measured of the packets that are due in the cycles from the first of these to before the second, or
+        in all. These are loads in flits for each node and cycle, latencies and their parts in cycles, hops, and
+        fairness."""
+        return grouped_figures(*self.measured(window))["all"]
+
+    def grouped(self, by: str, window: tuple[int, int] | None = None) -> dict[int, Figures]:
+        """The same for each class, source, destination or distance, as 'by' says: by its number."""
+        found = grouped_figures(*self.measured(window), [by])
+        return {int(name.removeprefix(by)): figures for name, figures in found.items() if name != "all"}
+
+    def measured(self, window: tuple[int, int] | None) -> tuple[Columns, Window, Network]:
+        """The packets, the window in which they are measured, and the network."""
+        packets = Columns.of_packets(self.timed_packets)
+        if window is None:
+            return packets, Window(0, self.network.cycles), self.network
+        first, end = window
+        return packets, window_within(f"{first}:{end}", end_of(packets, self.network)), self.network
+
+    # ---- in a notebook
+
+    def frame(self, of: str = "packets", **chosen: Any) -> "pandas.DataFrame":
+        """A frame of pandas, which has to be installed: a row for each packet, channel or line of a trace, as 'of' says
+        ('packets', 'stalls' or 'trace'). Of a trace some lines are chosen by the names of a selection."""
+        from . import frames
+        return frames.of_run(self, of, **chosen)
+
+    def __repr__(self) -> str:
+        return f"<{shown.run_in_words(self)}>"
+
+    def _repr_html_(self) -> str:
+        return shown.run_as_table(self)
+
+    # ---- further questions
+
     def is_long(self, cycles: int) -> bool:
         """Whether noc takes a while for so many cycles."""
         return LONG <= cycles * self.network.nodes
@@ -178,11 +239,12 @@ class Run:
         return ParallelTrace(self.files, Selection(**chosen), first, last, number)
 
 
-def columns_of_run(files: Sequence[str], rows: Sequence[Row]) -> Columns:
-    """The packets of a run of these files column by column, but for when they came in."""
+def columns_of_run(files: Sequence[str], rows: Sequence[Row]) -> tuple[int, Columns]:
+    """The status of a run of these files, and its packets column by column, but for when they came in."""
     sources, destinations, classes, lengths, dues = list(zip(*rows)) or [()] * 5
-    outs = outs_in(output("run", *files), dues)
-    return Columns(sources, destinations, classes, lengths, dues, outs, [NEVER] * len(rows))
+    status, written = called(["run", *files])
+    outs = outs_in(written, dues)
+    return status, Columns(sources, destinations, classes, lengths, dues, outs, [NEVER] * len(rows))
 
 
 def with_entries(packets: Columns, files: Sequence[str], first: int, end: int) -> Columns:

@@ -9,13 +9,13 @@ from typing import Any, NamedTuple
 
 from .errors import refusing
 from .files import read_text
-from .findings import VERDICTS, snake
+from .findings import COLUMNS, VERDICTS
 from .network import LOCAL, split
 
 # What a signal may say of an input channel: whether it has a verdict, or the code of that, its packet, or its output
 # channel.
 VERDICT, PACKET, OUT = "verdict", "packet", "out"
-OF_VERDICTS = {snake(verdict): verdict for verdict in VERDICTS}
+OF_VERDICTS = {column: verdict for verdict, column in COLUMNS.items()}
 KINDS = [*OF_VERDICTS, VERDICT, PACKET, OUT]
 KEYS = {"clock": str, "edge": str, "offset": int, "scope": str, "ports": list, "verdicts": list, "signals": dict}
 EDGES = {"rising": "1", "falling": "0"}
@@ -24,6 +24,8 @@ OPERATORS: dict[type, Callable[[int, int], int]] = {
     ast.Add: operator.add, ast.Sub: operator.sub, ast.Mult: operator.mul, ast.Div: operator.floordiv,
     ast.Mod: operator.mod,
 }
+# The most edges by which a signal shows a cycle later than others.
+LONGEST_DELAY = 1000
 NO_ARITHMETIC = (ValueError, SyntaxError, ZeroDivisionError, RecursionError)
 Names = dict[str, int | str]
 
@@ -64,11 +66,12 @@ class Pattern(NamedTuple):
 
 
 class SignalMap(NamedTuple):
-    """A map: the clock, which edge of it ends cycle 0, and the patterns of the signals."""
+    """A map: the clock, which edge of it ends cycle 0 (None where the map does not say it), and the patterns of the
+    signals."""
 
     clock: str
     edge: str
-    offset: int
+    offset: int | None
     scope: str
     ports: tuple[int | str, ...] | None
     verdicts: tuple[str, ...]
@@ -106,8 +109,8 @@ def pattern_of(kind: str, value: Any) -> Pattern:
     if isinstance(value, str):
         value = {"name": value}
     is_whole = isinstance(value, dict) and set(value) <= {"name", "delay"} and isinstance(value.get("name"), str)
-    if not is_whole or type(value.get("delay", 0)) is not int or value.get("delay", 0) < 0:
-        raise ValueError(f"the signal '{kind}' is no name, nor a name with a delay of 0 or more")
+    if not is_whole or type(value.get("delay", 0)) is not int or not 0 <= value.get("delay", 0) <= LONGEST_DELAY:
+        raise ValueError(f"the signal '{kind}' is no name, nor a name with a delay of 0 to {LONGEST_DELAY}")
     return Pattern(**value)
 
 
@@ -139,7 +142,7 @@ def map_of(settings: dict[str, Any]) -> SignalMap:
             raise ValueError(f"there is no signal '{kind}', the signals are {', '.join(KINDS)}")
     ports = settings.get("ports")
     return SignalMap(
-        settings["clock"], settings.get("edge", "rising"), settings.get("offset", 0), settings.get("scope", ""),
+        settings["clock"], settings.get("edge", "rising"), settings.get("offset"), settings.get("scope", ""),
         None if ports is None else tuple(ports), tuple(settings.get("verdicts", VERDICTS)),
         {kind: pattern_of(kind, value) for kind, value in signals.items()},
     )

@@ -1,22 +1,9 @@
 """The picture of a packet's life: a row for each router on its way, and a bar for each stretch with one verdict."""
-from .findings import REASONS, STALLS, snake
+from .findings import EMPTY, STALLS
 from .life import QUEUE, Bar, Life, Stay
+from .palette import KINDS, fill_of, patterns
 from .picture import BLACK, GREY, bold, line, rectangle, svg, text
 from .words import counted, stretch
-
-# Colours that can be told apart by colour-blind eyes too; what is no stall is grey or green.
-KINDS = {
-    QUEUE: ("#332288", "it is due, and waits in the queue of its source"),
-    "routed": ("#cccccc", "its head is routed"),
-    "granted": ("#8c8c8c", "it is granted its next channel"),
-    "moved": ("#009e73", "a flit moves on"),
-    "no_flit": ("#56b4e9", REASONS["no_flit"]),
-    "no_idle_channel": ("#d55e00", REASONS["no_idle_channel"]),
-    "lost_channel": ("#cc79a7", REASONS["lost_channel"]),
-    "no_credit": ("#e69f00", REASONS["no_credit"]),
-    "lost_input": ("#0072b2", REASONS["lost_input"]),
-    "lost_switch": ("#f0e442", REASONS["lost_switch"]),
-}
 
 LEFT, TOP, PLOT_WIDTH, RIGHT = 150, 84, 860, 230
 ROW, BAR = 34, 22
@@ -38,7 +25,7 @@ def summary(stay: Stay) -> str:
     cycles, counts = stay.end - stay.first, stay.counts()
     words = counted(cycles, "cycle")
     reason = max(STALLS, key=lambda reason: counts[reason])
-    return f"{words}, {snake(reason)} in {counts[reason]}" if counts[reason] else words
+    return f"{words}, {reason} in {counts[reason]}" if counts[reason] else words
 
 
 def step_of(span: int) -> int:
@@ -81,9 +68,9 @@ class Axis:
         """A bar, with its cycles and its verdict."""
         # (white edges would hide bars that are a few points wide)
         edge = ' stroke="#ffffff" stroke-width="0.5"' if LEAST_EDGED < self.scale else ""
-        kind, x = snake(bar.verdict), self.x(bar.first)
+        kind, x = bar.verdict, self.x(bar.first)
         width = round(self.x(bar.end) - x, 2)
-        drawn = f'<rect x="{x:g}" y="{y}" width="{width:g}" height="{BAR}" fill="{KINDS[kind][0]}"{edge}>'
+        drawn = f'<rect x="{x:g}" y="{y}" width="{width:g}" height="{BAR}" fill="{fill_of(kind)}"{edge}>'
         return f"{drawn}<title>{stretch(bar.first, bar.end - 1)}: {kind}</title></rect>"
 
 
@@ -104,15 +91,17 @@ def row_parts(axis: Axis, number: int, stay: Stay) -> list[str]:
 def legend(y: int, stays: list[Stay]) -> tuple[list[str], int]:
     """Each verdict with its colour and meaning, those that the packet never had in grey; in columns, read downwards.
     And where it ends."""
-    present = {snake(bar.verdict) for stay in stays for bar in stay.bars}
-    rows = -(-len(KINDS) // LEGEND_COLUMNS)
+    present = {bar.verdict for stay in stays for bar in stay.bars}
+    # (no packet is in a channel that is empty)
+    kinds = [(name, kind) for name, kind in KINDS.items() if name != EMPTY]
+    rows = -(-len(kinds) // LEGEND_COLUMNS)
     parts = []
-    for number, (kind, (colour, meaning)) in enumerate(KINDS.items()):
+    for number, (name, kind) in enumerate(kinds):
         column, row = divmod(number, rows)
         x, at = LEFT + column * PLOT_WIDTH // LEGEND_COLUMNS, y + row * LEGEND_ROW
-        fill = BLACK if kind in present else GREY
-        parts.append(rectangle(x, at - 11, 22, 13, f'fill="{colour}" {OUTLINE}'))
-        parts.append(text(x + 30, at, f"{kind}: {meaning}", 13, "start", fill))
+        fill = BLACK if name in present else GREY
+        parts.append(rectangle(x, at - 11, 22, 13, f'fill="{fill_of(name)}" {OUTLINE}'))
+        parts.append(text(x + 30, at, f"{name}: {kind.meaning}", 13, "start", fill))
     return parts, y + rows * LEGEND_ROW
 
 
@@ -133,4 +122,4 @@ def picture(life: Life) -> str:
     parts = [bold(20, 32, title(life), 16), text(20, 56, said, 13, "start", GREY), *axis.parts(bottom)]
     for number, stay in enumerate(stays):
         parts += row_parts(axis, number, stay)
-    return svg(LEFT + PLOT_WIDTH + RIGHT, lowest + 8, [*parts, *explained])
+    return svg(LEFT + PLOT_WIDTH + RIGHT, lowest + 8, [*patterns(), *parts, *explained])

@@ -1,6 +1,6 @@
 """Packets and traffic: reading and writing them, patterns, and making traffic of a pattern and a load."""
 from collections.abc import Callable, Iterable, Iterator, Sequence
-from dataclasses import dataclass
+from dataclasses import dataclass, field
 from itertools import islice, repeat
 from operator import itemgetter
 from pathlib import Path
@@ -109,6 +109,8 @@ def middle(network: Network) -> int:
 
 COLUMNS = ["source", "destination", "class", "length", "due"]
 HEADER = ",".join(COLUMNS)
+# The column of a traffic whose packets wait for others (noc_tools/precedence.py).
+AFTER = "after"
 fields = itemgetter(*COLUMNS)
 REPORT_COLUMNS = ["packet", *COLUMNS, "out", "latency"]
 MOST_PACKETS, LATEST_DUE, LONGEST = 20000, 1000000, 64
@@ -119,7 +121,10 @@ Row = tuple[int, int, int, int, int]
 
 @dataclass(frozen=True)
 class Packet:
-    """A packet of a traffic; of a run also when it came in and was out, where it did, and where this is known."""
+    """A packet of a traffic; of a run also when it came in and was out, where it did, and where this is known.
+
+    `latency` is the cycles from the due one to that in which it was out, and None where it was not.
+    """
 
     number: int
     source: int
@@ -129,11 +134,11 @@ class Packet:
     due: int
     out: int | None = None
     came_in: int | None = None
+    # (a field, so that it is a column of a table of packets)
+    latency: int | None = field(init=False)
 
-    @property
-    def latency(self) -> int | None:
-        """The cycles from the due one to that in which it was out."""
-        return None if self.out is None else self.out - self.due
+    def __post_init__(self) -> None:
+        object.__setattr__(self, "latency", None if self.out is None else self.out - self.due)
 
     @property
     def queue_latency(self) -> int | None:
@@ -168,11 +173,16 @@ def numbers_in(row: Iterable[str]) -> Row:
     return source, destination, message_class, length, due
 
 
-def read_traffic(path: str | Path, name: str | None = None) -> list[list[str]]:
-    """The rows of a traffic file, as texts. What they say is looked at by noc."""
+def read_traffic(path: str | Path, name: str | None = None, can_wait: bool = False) -> list[list[str]]:
+    """The rows of a traffic file, as texts. What they say is looked at by noc. A file with a column `after`, whose
+    packets wait for others, is taken where these can be worked out."""
     name = name or str(path)
     rows = csv_rows(read_lines(path, "traffic", name), "traffic", name)
-    if rows[:1] != [COLUMNS]:
+    if rows[:1] == [[*COLUMNS, AFTER]]:
+        if not can_wait:
+            settled = "'noc-tools settle' works out when they are due"
+            raise Refused(f"{name} has packets that wait for others: {settled}")
+    elif rows[:1] != [COLUMNS]:
         raise Refused(f"{name} is no traffic: its first line is not {HEADER}")
     return rows[1:]
 
@@ -242,7 +252,7 @@ class Played:
     def first_rows(self, network: Network) -> list[Row]:
         """Its packets."""
         with refusing(ValueError, f"{self.path} is no traffic: a row is not five numbers"):
-            rows = list(map(numbers_in, read_traffic(self.path)))
+            rows = [numbers_in(row[:len(COLUMNS)]) for row in read_traffic(self.path, can_wait=True)]
         with refusing(OverflowError, f"{self.path}: at a load of {self.speed:g} its packets never come"):
             return [(*row[:4], int(row[4] / self.speed)) for row in rows]
 

@@ -1,19 +1,32 @@
-"""Draws latency against load, or another figure: curves of 'noc-tools load' in one picture.
+"""Draws curves of 'noc-tools load' in one picture.
 
-A curve for each NAME, as a file that 'noc-tools load' wrote, with a mark for each of its loads, goes to standard output
-as SVG. Along the vertical axis are the columns of such a file: the latency (mean, median, p95, p99, max), the same of
-its parts (queue_mean, .., network_mean, ..) and of the hops (hops_mean, ..), the accepted load, and that of the sources
-(sources_least, sources_mean, sources_most).
+There is a curve for each NAME, with a mark for each load in the file behind it. The picture is SVG, and goes to
+standard output. Along the vertical axis are the columns of such a file: the latency (mean, median, p95, p99, max),
+the same of its parts (queue_mean, .., network_mean, ..) and of the hops (hops_mean, ..), the accepted load, and that
+of the sources (sources_least, sources_mean, sources_most).
 
-At a hollow mark not all packets that were measured were out at the end, so the mean is too low; a percentile that falls
-among those has no mark. Curves end where they leave the picture, at the NUMBER on the vertical axis: by default four
-times the lowest latency, and all of the other figures. The line below the title says how many cycles the runs had.
+At a hollow mark not all packets that were measured were out at the end, so the mean is too low; a percentile that
+falls among those has no mark. A mark of two strokes that cross is of a run that stood still, since its packets wait
+for one another in a circle. The name of a network that has no ranks goes on with "(can deadlock)". Curves end where
+they leave the picture, at the NUMBER on the vertical axis: by default four times the lowest latency, and all of the
+other figures. The line below the title says how many cycles the runs had.
+
+A bar is the 95 percent interval of confidence, a dashed upright line the bound of the pattern, and an arrow at a point
+says that the next one is not known.
+
+For example:
+
+    noc-tools curves mesh=mesh.csv torus=torus.csv --y p99 > curves.svg
 """
 from argparse import ArgumentParser, Namespace
 
 from ..arguments import add, add_top, check_top
-from ..curves import FLITS, HEADER, STYLES, Frame, axes_of, picture, read_curve, subtitle_of
+from ..curves import HEADER, STYLES, Frame, axes_of, picture, read_curve, subtitle_of
 from ..errors import Refused
+from ..units import FLITS
+
+# The columns that are no heights of a point.
+NO_HEIGHTS = "load", "ran", "steady", "packets", "flits", "out", "offered", "stuck", "deadlock_free"
 
 
 def add_arguments(parser: ArgumentParser) -> None:
@@ -21,7 +34,7 @@ def add_arguments(parser: ArgumentParser) -> None:
     across = "what lies along the horizontal axis; by default load"
     parser.add_argument("--x", choices=("load", "offered", "accepted"), default="load", help=across)
     upwards = "what lies along the vertical axis, such as p95 or queue_mean; by default mean"
-    figures = [name for name in HEADER if name not in ("load", "ran", "steady", "packets", "flits", "out", "offered")]
+    figures = [name for name in HEADER if name not in NO_HEIGHTS]
     add(parser, "--y FIGURE", upwards, choices=figures, default="mean")
     add_top(parser)
 

@@ -1,26 +1,37 @@
-"""Draws results of a study again: any column against any other, of all runs or of some.
+"""Draws the results of a study again, any column against any other.
 
-FILE is results.csv or saturation.csv of a study. A curve goes along a setting, from point to point by its value. Along
-buffer, as one example, a curve goes over the lines of saturation.csv that differ by buffer. Along traffic it goes from
-file to file by their names, as where each has its own load. The other settings by which lines differ make the curves,
-and the seeds make a mean with a bar from the least to the most.
+FILE is results.csv or saturation.csv of a study. The picture is SVG, and goes to standard output. --along names what
+varies along a curve, by default the load. With --along buffer a curve joins the lines that differ in buffer alone.
+Along traffic it goes from file to file by their names, as where each has its own load. The other settings by which
+lines differ make the curves, and the seeds make a mean.
+
+A bar is the 95 percent interval of confidence, where this is known, and of keeps_up_to it goes up to the next load that
+was tried. A dashed upright line is the bound of a pattern, and an arrow at a point says that the next one is not known.
+Marks of deadlock are those of 'noc-tools curves'.
 
 --frames names settings of which each value has a frame of its own, --colour and --dash the settings by which curves
 have their colours and dashes. None of them can be the setting along which curves go, nor the seed. Without these,
-patterns and traffics have frames, and so have further settings until no frame has more than eight curves. --where takes
-only lines with this value of a setting, and with several words for one setting those that have any of them.
+patterns and traffics have frames, and so have further settings until no frame has more than eight curves. --where
+takes only lines with this value of a setting, and with several words for one setting those that have any of them.
+
+For example:
+
+    noc-tools draw study/saturation.csv --along buffer --x buffer --y keeps_up_to > buffer.svg
 """
 from argparse import ArgumentParser, Namespace
 from collections.abc import Iterable
 
 from ..arguments import add, add_top, check_top
 from ..curves import number_of
-from ..drawing import pictures_of
+from ..study.drawing import pictures_of
 from ..errors import Refused, refusing
 from ..files import named_rows, read_lines
-from ..plan import LOAD, NONE, SETTINGS, View
+from ..study.plan import LOAD, NONE, SETTINGS, View
 from ..statistics import columns_of
-from ..table import Row
+from ..study.combinations import Row
+
+# The columns that are whole numbers, which a picture may tell of.
+WHOLE = ["ran", "cycles"]
 
 
 def add_arguments(parser: ArgumentParser) -> None:
@@ -66,7 +77,12 @@ def check(rows: list[dict[str, str]], options: Namespace) -> None:
             raise Refused(f"{options.file} has no column '{name}': its columns are {', '.join(rows[0])}")
         for row in rows:
             with refusing(ValueError, f"{options.file}: '{row[name]}' of the column '{name}' is no number"):
-                row[name] == NONE or number_of(row[name])
+                if row[name] != NONE:
+                    number_of(row[name])
+    for name in WHOLE:
+        for row in rows:
+            with refusing(ValueError, f"{options.file}: '{row.get(name)}' of the column '{name}' is no whole number"):
+                int(row.get(name, 0))
     along = [options.along] if options.along != LOAD else []
     for key in [*(options.frames or []), options.colour, options.dash, *along]:
         if key is not None and (key not in SETTINGS or key not in rows[0]):
@@ -87,4 +103,4 @@ def main(options: Namespace) -> None:
     if len(drawn) != 1:
         told = f"{len(drawn)} pictures are needed for all curves: --where takes some lines alone"
         raise Refused(told if drawn else "there is no point to draw")
-    print(drawn[0], end="")
+    print(drawn[0][1], end="")

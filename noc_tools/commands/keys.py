@@ -4,6 +4,10 @@ A value is written as in TOML, as in channels=4 or 'radix=[8, 8]'; a word needs 
 that no configuration has is refused, and so is a value of another type; of a key that is given twice the last value
 counts. All seven keys are printed, a line for each, without the comments of CONFIG. A key that CONFIG lacks has to be
 set. Where CONFIG is a joined text (docs/FORMATS.md), its dividing line and its traffic follow as they are.
+
+For example:
+
+    noc-tools keys config.toml channels=4 rule=dateline > other.toml
 """
 import re
 import tomllib

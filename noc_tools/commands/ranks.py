@@ -1,8 +1,9 @@
-"""Finds ranks for the channels of a network, as a rank file for 'noc check'; or shows why there are none.
+"""Finds ranks that rule out deadlock, or shows why there are none.
 
-Ranks rise along every step from one link channel to the next that the routing relation permits (docs/FORMATS.md,
-Ranks). Where such steps close a circle there are none: it is shown step by step, each with a class and a destination
-whose packets may take it, and the status is 1.
+Ranks are numbers on channels, a rank file for 'noc check' which goes to standard output. They rise along every step
+from one link channel to the next that the routing relation permits (docs/FORMATS.md, Ranks). Where such steps close a
+circle there are none: it is shown step by step, each with a class and a destination whose packets may take it, and
+the status is 1.
 
 With --escape the channels with the numbers C of each link are its escape channels, and all others are 'adaptive':
 packets must always be permitted an escape channel, and ranks rise from one escape channel to the next that packets
@@ -10,6 +11,10 @@ come to, directly or by adaptive channels. Without numbers the lowest channel of
 then the lowest two, and so on; where none of these will do, it says why the lowest alone does not.
 
 CONFIG and F are read twice, so they are files and no pipes.
+
+For example:
+
+    noc-tools ranks config.toml > ranks.csv
 """
 from argparse import ArgumentParser, Namespace
 

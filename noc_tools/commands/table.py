@@ -1,7 +1,7 @@
-"""Makes a routing table of a rule that noc does not have itself, as a table file for the rule 'table'.
+"""Makes the routing table of a rule that noc does not have itself.
 
-The table has the rows of all entries that packets reach on the network CONFIG. Columns, rows and channels are counted
-from 0. The rules are:
+The table is a file for the rule 'table', and goes to standard output. It has a row for each entry that packets reach
+on the network CONFIG. Columns, rows and channels are counted from 0. The rules are:
 
     odd-even           on a mesh of two dimensions: packets choose between their row and their column, but turn from
                        east to north or south in odd columns alone, and from north or south to west in even ones
@@ -10,6 +10,10 @@ from 0. The rules are:
                        crosses none takes either half, until it has once taken the high one
     dateline-even      on a torus, as dateline: but where both ways round a dimension are equally long, packets go up
                        from even coordinates and down from odd ones, so that both ways carry the same
+
+For example:
+
+    noc-tools table config.toml odd-even > table.csv
 """
 from argparse import ArgumentParser, Namespace
 

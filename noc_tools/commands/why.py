@@ -1,10 +1,12 @@
-"""Tells why a packet takes so long, what it waits for in a cycle, or where the cycles of the slowest packets went.
+"""Tells why a packet waits, or what the slowest packets waited for.
 
 Without CYCLE it tells the whole life of the packet: a line for each place on its way, with the cycles that it had
-each verdict there ('noc explain' gives these). Then each cycle from the due one on is charged once, so that the parts
-add up to the life. That is read from the end backwards, beginning with the last flit: where a channel had no flit,
-the channel before it counts; where it had no credit, the next one counts, unless that moved a flit. At last, for the
-longest of these waits, it tells which packets held what was waited for, or won it, and in how many cycles.
+each verdict there. A verdict says what an input channel did in a cycle, or what it lacked, as 'noc explain' gives it.
+Then each cycle from the due one on is charged once, so that the parts add up to the life. That is read from the end
+backwards, beginning with the last flit: where a channel had no flit, the channel before it counts; where it had no
+credit, the next one counts, unless that moved a flit. At last, for the longest of these waits, it tells which packets
+held what was waited for, or won it, and in how many cycles. Where they are more than three, it also says of which
+class, from where and to where most of them were.
 
 With CYCLE each line is a step: a packet, the router and the input channel where it stands, the verdict of that
 channel in CYCLE, and what it waits for. The next line says where that stands. The last step is a packet that moves,
@@ -13,8 +15,9 @@ channels, the steps follow the one that leads to a packet that moves in the fewe
 
 With --slowest in place of PACKET it tells to what the cycles of many packets went: those with the longest latencies,
 so many or a part of them as 1%, of one class, or due in the cycles A to B - 1. Each cycle of each of them is charged
-once, as above, from the due one to that in which it was out, or to the last one of the run. First come the causes, and
-then the places, each with the packets that were there before or instead, and how many cycles of the waiting each had:
+once, as above, from the due one to that in which it was out, or to the last one of the run. First come the causes.
+Then three lines say who was ahead: of which classes, sources and destinations the packets were that were there before
+or instead. At last come the places, each with these packets, and how many cycles of the waiting each had:
 
     queue of node      who came in last at the node; and how many flits came in in a cycle, which is one at most
     NoIdleChannel      who had the channel that the packet got in the end, or else the first that it may take
@@ -34,6 +37,12 @@ takes long. A life takes a run for the packet, and then one for each router wher
 side by side; a run that takes long is shared by several processes, as far as processors are free. For the slowest
 packets the run is traced twice: first what the heads of all packets do, and then what is done where these packets are,
 once for each thousand of them.
+
+For example:
+
+    noc-tools why config.toml traffic.csv 3
+    noc-tools why config.toml traffic.csv 3 20
+    noc-tools why config.toml traffic.csv --slowest 1%
 """
 import sys
 from argparse import ArgumentParser, Namespace
@@ -41,7 +50,7 @@ from collections import Counter
 from collections.abc import Callable, Iterable, Iterator
 
 from ..arguments import PACKET_HELP, add, add_run, run_of
-from ..causes import Blame, Share, blame_of, candidates, slowest
+from ..causes import Ahead, Blame, Share, ahead_of, blame_of, candidates, slowest
 from ..errors import Refused
 from ..findings import GRANTED, MOVED, NO_CHANNEL, ROUTED
 from ..life import QUEUE, Holders, Life, Stay, Wait, held_waits, life_of
@@ -84,17 +93,28 @@ def title(run: Run, life: Life) -> str:
     return f"packet {packet.number}, {packet.way}: due in cycle {packet.due}, {end}."
 
 
-def wait_line(wait: Wait, held: Holders) -> str:
-    """A wait, and how many cycles each packet held what it was for."""
+def mostly(run: Run, held: Holders) -> str:
+    """Of which class, from where and to where most of the packets were that held something, by cycles."""
+    shares = [Share(0, "", 0, "", packet, count) for (packet, _), count in held.items()]
+    words = {"class": "of class", "source": "from node", "destination": "to node"}
+    firsts = {kind: flows[0] for kind, flows in ahead_of(run, shares).items()}
+    said = [f"{words[kind]} {first.value} ({100 * first.part:.0f} %)" for kind, first in firsts.items()]
+    return f"mostly {', '.join(said)}"
+
+
+def wait_line(run: Run, wait: Wait, held: Holders) -> str:
+    """A wait, and how many cycles each packet held what it was for; where they are many, of what kind most are."""
     first, last = wait.cycles[0], wait.cycles[-1]
     span = f"({first})" if first == last else f"({first} to {last})"
     what = f"of {wait.verdict} at router {wait.router}, {wait.channel}"
     if wait.channel == QUEUE:
         what = f"in the queue of node {wait.router}"
     said = [f"packet {packet} {words} in {count}" for (packet, words), count in held.most_common(HOLDERS)]
+    more = ""
     if len(said) < len(held):
         said.append(f"{len(held) - len(said)} more")
-    return f"{counted(len(wait.cycles), 'cycle')} {what} {span}: {', '.join(said)}."
+        more = f"; {mostly(run, held)}"
+    return f"{counted(len(wait.cycles), 'cycle')} {what} {span}: {', '.join(said)}{more}."
 
 
 def life_lines(run: Run, number: int) -> Iterator[str]:
@@ -106,7 +126,7 @@ def life_lines(run: Run, number: int) -> Iterator[str]:
         yield f"{place_name(stay)}, {stretch(stay.first, stay.end - 1)}{counts}."
     charged = Counter(bar.verdict for _, bar in life.charged())
     yield f"Where its {counted(charged.total(), 'cycle')} went: {listed(charged)}."
-    yield from (wait_line(*held) for held in held_waits(run, life))
+    yield from (wait_line(run, *held) for held in held_waits(run, life))
 
 
 def may_be_out(packet: Packet, cycle: int) -> bool:
@@ -168,7 +188,25 @@ def added_up(shares: list[Share], name_of: Callable[[Share], str]) -> list[tuple
     return sorted(sums, key=lambda group: -group[1])
 
 
-def blame_lines(blame: Blame, among: int) -> Iterator[str]:
+def flows_in_words(kind: str, flows: list[Ahead]) -> str:
+    """The classes, sources or destinations of packets that were ahead."""
+    name = "class" if kind == "class" else "node"
+    said = [f"{name} {flow.value} in {flow.cycles} ({100 * flow.part:.1f} %)" for flow in flows[:HOLDERS]]
+    more = [f"{len(flows) - len(said)} more"] if len(said) < len(flows) else []
+    return f"  by {kind}: {', '.join(said + more)}"
+
+
+def ahead_lines(ahead: dict[str, list[Ahead]]) -> Iterator[str]:
+    """Who was ahead of these packets."""
+    cycles = sum(flow.cycles for flow in ahead["class"])
+    if not cycles:
+        yield "Nobody was ahead of them."
+        return
+    yield f"Who was ahead in {cycles} of these cycles:"
+    yield from (flows_in_words(kind, flows) for kind, flows in ahead.items())
+
+
+def blame_lines(run: Run, blame: Blame, among: int) -> Iterator[str]:
     """To what the cycles of these packets went, the causes and the places with the most cycles first."""
     whole = sum(share.cycles for share in blame.shares)
 
@@ -178,6 +216,7 @@ def blame_lines(blame: Blame, among: int) -> Iterator[str]:
     yield f"Where the cycles went of {what_packets(blame, among)}:"
     for name, cycles, _ in added_up(blame.shares, cause_of):
         yield line(cycles, name)
+    yield from ahead_lines(ahead_of(run, blame.shares))
     yield "At which places, and who was ahead there:"
     places = added_up(blame.shares, place_of)
     for name, cycles, shares in places[:PLACES]:
@@ -201,7 +240,7 @@ def slowest_lines(run: Run, options: Namespace) -> Iterator[str]:
         raise Refused("a packet and --slowest are two questions: ask one of them")
     among = candidates(run, options.message_class, options.window)
     blame = blame_of(run, slowest(run, options.slowest, among))
-    return blame_rows(blame) if options.csv else blame_lines(blame, len(among))
+    return blame_rows(blame) if options.csv else blame_lines(run, blame, len(among))
 
 
 def lines_of(run: Run, options: Namespace) -> Iterable[str]:

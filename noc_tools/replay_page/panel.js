@@ -150,11 +150,11 @@ const showCircles = (now, circles, since) => {
   byId("circles").replaceChildren("Packets wait for one another from cycle ", from, " on (red)", end);
 };
 
-const keyOf = (colour, size) => {
+// A white square with a black middle of this part of it.
+const keyOf = (size) => {
   const key = document.createElement("span");
   key.className = "key";
-  const middle = size ? `linear-gradient(#000, #000) center / ${100 * size}% ${100 * size}% no-repeat ` : "";
-  key.style.background = middle + colour;
+  key.style.background = `linear-gradient(#000, #000) center / ${100 * size}% ${100 * size}% no-repeat #fff`;
   return key;
 };
 
@@ -163,9 +163,14 @@ const legendRow = (...cells) => {
   for (const cell of cells) put(row, cell);
   byId("legend").append(row);
 };
-data.verdicts.forEach((verdict, number) => legendRow(keyOf(data.colours[number]), verdict, data.meanings[number]));
+const keyOfVerdict = (number) => {
+  const key = element("svg", { class: "key", width: 16, height: 11 });
+  element("rect", { width: 16, height: 11, fill: fills[number] }, key);
+  return key;
+};
+data.verdicts.forEach((verdict, number) => legendRow(keyOfVerdict(number), verdict, data.meanings[number]));
 for (const [least, size] of [...STANDING].reverse()) {
-  legendRow(keyOf("#fff", size), "stands", `its packet has stood still for ${least} cycles or more`);
+  legendRow(keyOf(size), "stands", `its packet has stood still for ${least} cycles or more`);
 }
 
 // Which of the two lines of a link leads where.

@@ -12,7 +12,10 @@ const [columns, rows, planes] = [data.radix[0], data.radix[1] || 1, data.radix[2
 const HALF = planes > 1 ? 36 : 28, GAP = 30, STEP = 2 * HALF + GAP;
 const SIDE = Math.min(planes > 1 ? 7 : 10, (HALF - 2) / (data.vcs / 2 + 1));
 const MIDDLE_ROWS = { "+2": -1.5 * SIDE - 1, local: planes > 1 ? -SIDE / 2 : 3, "-2": SIDE / 2 + 1 };
-const WIDE = planes * (columns * STEP + GAP), HIGH = rows * STEP + GAP;
+// The planes of three dimensions stand in a square, each below its name.
+const BESIDE = Math.ceil(Math.sqrt(planes)), NAMED = planes > 1 ? 18 : 0;
+const PLANE_WIDE = columns * STEP + GAP, PLANE_HIGH = rows * STEP + GAP + NAMED;
+const WIDE = BESIDE * PLANE_WIDE, HIGH = Math.ceil(planes / BESIDE) * PLANE_HIGH;
 // A square has a black middle of these parts of it, from so many cycles on that its packet stands still.
 const STANDING = [[1000, 0.75], [100, 0.55], [10, 0.35]];
 // An arrow that is longer is bent so far that most of it is beside the routers between its ends.
@@ -21,7 +24,8 @@ const TIPS = { own: 5, other: 5, followed: 7.5, circle: 10 };
 
 const centre = (router) => {
   const x = router % columns, y = Math.floor(router / columns) % rows, z = Math.floor(router / (columns * rows));
-  return [GAP + HALF + x * STEP + z * (columns * STEP + GAP), GAP + HALF + (rows - 1 - y) * STEP];
+  const [left, top] = [z % BESIDE * PLANE_WIDE, Math.floor(z / BESIDE) * PLANE_HIGH + NAMED];
+  return [left + GAP + HALF + x * STEP, top + GAP + HALF + (rows - 1 - y) * STEP];
 };
 
 const squareOf = (port, number) => {
@@ -35,6 +39,17 @@ const squareOf = (port, number) => {
 
 const picture = document.getElementById("picture");
 picture.setAttribute("viewBox", `0 0 ${WIDE} ${HIGH}`);
+
+// What fills a square with a verdict: its colour, and over that the strokes of its sign, where it has one.
+const patterns = element("defs", {}, picture);
+const fills = data.colours.map((colour, number) => {
+  const [sign, ink] = data.signs[number], [side, stroke] = data.tile, id = "verdict-" + number;
+  if (!sign) return colour;
+  const tile = element("pattern", { id, width: side, height: side, patternUnits: "userSpaceOnUse" }, patterns);
+  element("rect", { width: side, height: side, fill: colour }, tile);
+  element("path", { d: sign, stroke: ink, "stroke-width": stroke, fill: "none" }, tile);
+  return `url(#${id})`;
+});
 
 const wires = new Map();
 const drawWire = (router, port, other) => {
@@ -51,10 +66,17 @@ const drawWire = (router, port, other) => {
 };
 for (const [router, port, other] of data.links) drawWire(router, port, other);
 
+for (let z = 0; NAMED && z < planes; z++) {
+  const [x, y] = centre(z * columns * rows + (rows - 1) * columns);
+  const name = { x: x - HALF, y: y - HALF - GAP / 2 - 4, "font-size": 13, "font-weight": "bold" };
+  element("text", { class: "plane", ...name }, picture).textContent = `plane ${z} of dimension 2`;
+}
+
 const routers = [];
 for (let number = 0; number < data.nodes; number++) {
   const [x, y] = centre(number);
-  const group = element("g", { class: "router", id: "router-" + number }, picture);
+  const place = { class: "router", id: "router-" + number, role: "button", tabindex: 0, "aria-label": "router " + number };
+  const group = element("g", place, picture);
   const size = { x: x - HALF, y: y - HALF, width: 2 * HALF, height: 2 * HALF, rx: 4 };
   const body = element("rect", { class: "body", ...size, fill: "#ffffff" }, group);
   const label = element("text", { x: x - HALF, y: y - HALF - 3, "font-size": 10 }, group);
@@ -111,6 +133,20 @@ const drawArrows = (kind, pairs) => {
 const pairsOf = (places, isClosed) => places.map((place, at) => [place, places[at + 1]]).slice(0, -1)
   .concat(isClosed ? [[places[places.length - 1], places[0]]] : []);
 
+// Of each router the channel that has stood longest, with who keeps it in the end, where that is not its own router.
+const rootPairs = (now) => {
+  const found = [];
+  for (const router of routers) {
+    const stands = router.channels.map((channel) => standsFor(channel, now.changes[channel.index], now.cycle));
+    const longest = Math.max(...stands);
+    if (!longest) continue;
+    const { index } = router.channels[stands.indexOf(longest)];
+    const steps = toARoot(now, index), root = steps[steps.length - 1];
+    if (steps.length && root !== index) found.push([index, root]);
+  }
+  return found;
+};
+
 const showArrows = (now, wanted, steps, circles) => {
   const name = ([from, to]) => from + " " + to;
   const pairs = { own: [], other: [], followed: [], circle: [] };
@@ -120,6 +156,7 @@ const showArrows = (now, wanted, steps, circles) => {
     const drawn = new Set(pairs.circle.map(name));
     pairs.followed = pairs.followed.filter((pair) => !drawn.has(name(pair)));
     pairs.followed.forEach((pair) => drawn.add(name(pair)));
+    if (wanted === "roots") pairs.other = rootPairs(now).filter((pair) => !drawn.has(name(pair)));
     for (const { index } of wanted === "all" ? channels : []) {
       for (const ahead of now.waitsFor(index)) {
         const kind = now.packet(ahead) === now.packet(index) ? "own" : "other";
@@ -130,7 +167,7 @@ const showArrows = (now, wanted, steps, circles) => {
   for (const [kind, some] of Object.entries(pairs)) drawArrows(kind, some);
 };
 
-const colourOfRouter = (router, now) => {
+const verdictOfRouter = (router, now) => {
   const counts = new Array(data.verdicts.length).fill(0);
   for (const { index } of router.channels) counts[now.found[index].verdict] += 1;
   let most = EMPTY;
@@ -138,7 +175,7 @@ const colourOfRouter = (router, now) => {
     if (counts[verdict] > (most ? counts[most] : 0)) most = verdict;
   }
   if (!most) most = [MOVED, MOVED - 1, MOVED - 2].find((verdict) => counts[verdict]) || EMPTY;
-  return data.colours[most];
+  return most;
 };
 
 const showChannels = (now, followed) => {
@@ -149,12 +186,16 @@ const showChannels = (now, followed) => {
     if (change === channel.shown) continue;
     channel.shown = change;
     const verdict = now.verdict(channel.index);
-    channel.square.setAttribute("fill", data.colours[says.verdict]);
+    channel.square.setAttribute("fill", fills[says.verdict]);
     channel.square.setAttribute("data-verdict", verdict);
     channel.title.textContent = channel.name + ": " + verdict + (says.packet < 0 ? "" : ", packet " + says.packet);
     changed.add(channel.router);
   }
-  for (const number of changed) routers[number].body.setAttribute("fill", colourOfRouter(routers[number], now));
+  for (const number of changed) {
+    const verdict = verdictOfRouter(routers[number], now);
+    routers[number].body.setAttribute("fill", data.colours[verdict]);
+    routers[number].group.setAttribute("aria-label", `router ${number}: ${data.verdicts[verdict]}`);
+  }
 };
 
 // A black middle in the squares of channels that stand still for long.
@@ -200,6 +241,10 @@ const savedPicture = (titles, keys) => {
   const size = { viewBox: `0 ${-HEAD} ${wide} ${high}`, width: Math.round(SCALE * wide), height: Math.round(SCALE * high) };
   for (const [name, value] of Object.entries(size)) copy.setAttribute(name, value);
   copy.removeAttribute("id");
+  // (what is said to readers of a page is of no use in a file)
+  for (const each of [copy, ...copy.querySelectorAll("[role]")]) {
+    for (const name of ["role", "tabindex", "aria-label"]) each.removeAttribute(name);
+  }
   const paper = element("rect", { x: 0, y: -HEAD, width: wide, height: high, fill: "#ffffff" });
   const style = element("style", {});
   style.textContent = document.getElementById("picture-style").textContent;
@@ -208,9 +253,9 @@ const savedPicture = (titles, keys) => {
     const style = { "font-size": 12, "font-weight": number ? "normal" : "bold" };
     element("text", { x: 12, y: number * 17 - HEAD + 18, ...style }, copy).textContent = words;
   });
-  keys.forEach(([colour, words], number) => {
+  keys.forEach(([fill, words], number) => {
     const y = GAP + number * KEY_STEP;
-    element("rect", { x: WIDE, y, width: 16, height: 11, fill: colour, stroke: "#666666" }, copy);
+    element("rect", { x: WIDE, y, width: 16, height: 11, fill, stroke: "#666666" }, copy);
     element("text", { x: WIDE + 24, y: y + 10, "font-size": 12 }, copy).textContent = words;
   });
   return new XMLSerializer().serializeToString(copy) + "\n";

@@ -3,9 +3,14 @@ import re
 from collections.abc import Callable, Iterable, Iterator, Sequence
 from pathlib import Path
 
-from .curves import BYTES, COLOURS, DASHES, FLITS, STYLES, Curve, Frame, Point, Style, axes_of, picture
-from .plan import NONE, SEED, View, name_of
-from .table import Combination, Row, combinations_of, place_of, varying
+from ..curves import (
+    BOUNDS, COLOURS, DASHES, KEPT, STYLES, Curve, Frame, Point, Style, around, axes_of, picture,
+    with_ends,
+)
+from ..files import put
+from ..units import FLITS, NAMES
+from .combinations import Combination, Line, Row, combinations_of, place_of, varying
+from .plan import SEED, View, name_of
 
 # What a picture says of all its combinations, where they do not differ by it.
 NAMED_ONCE = ["kind", "radix", "rule", "channels", "buffer", "traffic", "pattern", "length", "cycles", "window"]
@@ -20,12 +25,21 @@ MOST_CURVES, MOST_FRAMES = 8, 9
 
 def curve_of(combination: Combination, name: str, style: Style, x: str, y: str) -> Curve:
     """The curve of a combination, of those points that have both figures."""
-    points = []
-    for line in combination.lines:
-        across, figures = line.at(x), line.figures(y)
-        if across is not None and figures:
-            points.append(Point(across, sum(figures) / len(figures), line.is_whole, min(figures), max(figures)))
-    return Curve(name or "all", points, style)
+    points = with_ends(point_of(line, x, y) for line in combination.lines)
+    bound = combination.lines[-1].least(BOUNDS[x]) if x in BOUNDS else None
+    return Curve(name or "all", points, style, combination.can_deadlock, bound)
+
+
+def point_of(line: Line, x: str, y: str) -> Point | None:
+    """The point of a line; None where it has not both figures."""
+    across, height = line.at(x), line.at(y)
+    if across is None or height is None:
+        return None
+    least, most = around(height, line.margin(y))
+    step, load = (line.at(name) if name in line.rows[0] else None for name in ("keeps_up_step", "keeps_up_load"))
+    if y == KEPT and step and load:
+        least, most = height, height * (1 + step / load)
+    return Point(across, height, line.is_whole, least, most, line.is_stuck)
 
 
 # ---- frames and styles
@@ -142,22 +156,43 @@ def subtitle_of(rows: Sequence[Row], keys: Iterable[str]) -> str:
     return "; ".join(part for part in parts if part)
 
 
-def pictures_of(rows: Sequence[Row], view: View, x: str, y: str, top: float | None) -> Iterator[str]:
-    """The pictures of one figure against another, several where there are too many curves for one."""
+def pictures_of(
+    rows: Sequence[Row], view: View, x: str, y: str, top: float | None, name: str = "picture"
+) -> Iterator[tuple[str, str]]:
+    """The pictures of one figure against another with the names of their files, several where there are too many curves
+    for one; then each says which frames stand in the others."""
     combinations = combinations_of(rows, view.along)
-    unit = FLITS if rows[0].get("flit_bytes", NONE) == NONE else BYTES
+    unit = NAMES[rows[0].get("unit", FLITS)]
     subtitle = subtitle_of(rows, [*varying(combinations, view.along), view.along])
-    for frames in frames_of(combinations, view, x, y):
-        yield picture(frames, axes_of(frames, x, y, top, unit), subtitle)
+    drawn = {
+        f"{name}.svg" if number == 1 else f"{name}_{number}.svg": frames
+        for number, frames in enumerate(frames_of(combinations, view, x, y), 1)
+    }
+    for file, frames in drawn.items():
+        told = [words for other, some in drawn.items() if other != file for words in also_told(other, some)]
+        yield file, picture(frames, axes_of(frames, x, y, top, unit), subtitle, told)
+
+
+def also_told(file: str, frames: Iterable[Frame]) -> list[str]:
+    """Which frames stand in another file, line by line."""
+    names = list(dict.fromkeys(frame.name for frame in frames if frame.name))
+    return [f"also in {file}:", *(f"  {name}" for name in names)] if names else [f"more curves in {file}"]
+
+
+def pictures_in(folder: Path) -> list[Path]:
+    """The pictures of a study that are in a folder. Other files of such a name are not a study's."""
+    names = "|".join(PICTURES)
+    return [path for path in folder.glob("*.svg") if re.fullmatch(rf"({names})(_[1-9][0-9]*)?\.svg", path.name)]
 
 
 def draw_study(folder: Path, rows: Sequence[Row], view: View, top: float | None) -> None:
-    """Writes the pictures of a study in place of those of an earlier sweep, which may have been more. Other files of
-    such a name are not a sweep's."""
+    """Writes the pictures of a study in place of those of an earlier sweep, which may have been more; these stay where
+    one cannot be drawn."""
+    drawn: dict[str, str] = {}
     for name, (x, y) in PICTURES.items():
-        for path in folder.glob(f"{name}*.svg"):
-            if re.fullmatch(rf"{name}(_[1-9][0-9]*)?\.svg", path.name):
-                path.unlink()
-        for number, drawn in enumerate(pictures_of(rows, view, x, y, None if y == "accepted" else top), 1):
-            path = folder / (f"{name}.svg" if number == 1 else f"{name}_{number}.svg")
-            path.write_text(drawn, encoding="utf-8")
+        drawn.update(pictures_of(rows, view, x, y, None if y == "accepted" else top, name))
+    for path in pictures_in(folder):
+        if path.name not in drawn:
+            path.unlink()
+    for name, made in drawn.items():
+        put(folder / name, made)

@@ -14,6 +14,9 @@ from typing import Any, Generic, TypeVar
 
 from .errors import Refused
 
+# The numbers of open files mean the same in a process only where it is forked, which is not how Python begins one by
+# itself from 3.14 on.
+FORKED = multiprocessing.get_context("fork")
 Item = TypeVar("Item")
 Made = TypeVar("Made")
 # What makes something of an item, with a folder of its process. What stands beside that folder is shared by all.
@@ -68,13 +71,13 @@ def end_after(script: BaseProcess, shared: Path) -> None:
 # ---- in the script
 
 
-class Worker:
+class Member:
     """A process that makes one thing after the other."""
 
     def __init__(self, make: Make[Any, Any], shared: Path, locked: Iterable[int]) -> None:
         self.group: Hashable = None
         self.pipe, end = multiprocessing.Pipe()
-        self.process = multiprocessing.Process(target=serve, args=(make, end, shared, locked))
+        self.process = FORKED.Process(target=serve, args=(make, end, shared, locked))
         self.process.start()
         end.close()
 
@@ -116,7 +119,7 @@ class Waiting(Generic[Item]):
         return item
 
 
-class Workers(Generic[Item, Made]):
+class Pool(Generic[Item, Made]):
     """So many processes; of a `with` none is left when it is over, nor any of their files.
 
     The files that the script has locked are not theirs, so they let go of them. A process that has made one of a group
@@ -130,26 +133,26 @@ class Workers(Generic[Item, Made]):
         check_jobs(jobs)
         self.make, self.jobs, self.locked, self.group_of = make, jobs, locked, group_of
         self.folder = TemporaryDirectory(prefix="noc-tools-")
-        self.idle: list[Worker] = []
-        self.busy: dict[Connection, tuple[Worker, int]] = {}
+        self.idle: list[Member] = []
+        self.busy: dict[Connection, tuple[Member, int]] = {}
 
-    def __enter__(self) -> "Workers[Item, Made]":
+    def __enter__(self) -> "Pool[Item, Made]":
         return self
 
     def __exit__(self, *details: object) -> None:
-        for worker in [*self.idle, *(worker for worker, _ in self.busy.values())]:
-            worker.end()
+        for member in [*self.idle, *(member for member, _ in self.busy.values())]:
+            member.end()
         self.folder.cleanup()
 
     def begin(self, waiting: Waiting[Item]) -> None:
         """Gives an item to a process that has none."""
-        worker = self.idle.pop() if self.idle else Worker(self.make, Path(self.folder.name), self.locked)
-        number, item = waiting.next(worker.group)
-        worker.group = self.group_of(item)
-        self.busy[worker.pipe] = worker, number
+        member = self.idle.pop() if self.idle else Member(self.make, Path(self.folder.name), self.locked)
+        number, item = waiting.next(member.group)
+        member.group = self.group_of(item)
+        self.busy[member.pipe] = member, number
         with suppress(BrokenPipeError):
             # (of a process that was killed the answer says so)
-            worker.pipe.send(item)
+            member.pipe.send(item)
 
     def made(
         self, items: Sequence[Item], is_over: Callable[[], bool] = lambda: False
@@ -172,10 +175,10 @@ class Workers(Generic[Item, Made]):
         """The first that comes of those that are begun."""
         pipe = wait(list(self.busy))[0]
         assert isinstance(pipe, Connection)
-        worker, number = self.busy.pop(pipe)
-        found = worker.answer()
-        if worker.process.exitcode is None:
-            self.idle.append(worker)
+        member, number = self.busy.pop(pipe)
+        found = member.answer()
+        if member.process.exitcode is None:
+            self.idle.append(member)
         return number, found
 
 
@@ -183,8 +186,8 @@ def made_in_order(make: Make[Item, Made], items: Sequence[Item], jobs: int) -> I
     """What is made of the items, in their order, so many at a time; why one of them is not made is raised."""
     found: dict[int, Made | Exception] = {}
     place = 0
-    with Workers(make, jobs) as workers:
-        for number, found[number] in workers.made(items):
+    with Pool(make, jobs) as pool:
+        for number, found[number] in pool.made(items):
             while place in found:
                 made = found.pop(place)
                 if isinstance(made, Exception):

@@ -9,32 +9,36 @@ from itertools import product
 from pathlib import Path
 from typing import Any, NamedTuple
 
-from .errors import Refused, refusing
-from .files import read_text
-from .measure import Experiment, Replies
-from .network import Network
-from .program import DIGITS, digest
-from .ranks import checked_table
-from .rules import TABLE_RULES
-from .statistics import TOLERANCE, TOO_MUCH, Window, middle_window
-from .traffic import HOT_SPOT, SHARE, Demand, Played, lengths_in
+from ..errors import Refused, refusing
+from ..files import read_text
+from ..measure import Experiment, Known
+from ..network import Network
+from ..program import DIGITS, digest
+from ..ranks import checked_table
+from ..replies import Levels, Replies
+from ..rules import TABLE_RULES
+from ..statistics import TOLERANCE, TOO_MUCH, Window, middle_window
+from ..traffic import HOT_SPOT, SHARE, Demand, Played, lengths_in
+from ..units import BYTES, FLITS, PAYLOAD, Unit, checked, flits_of
 
 # What is between the numbers of a setting that has several.
 SEPARATORS = {
-    "radix": "x", "spots": "+", "packet_classes": "+", "measured_classes": "+", "burst": ":", "replies": ":",
-    "window": ":",
+    "radix": "x", "spots": "+", "packet_classes": "+", "packet_bytes": "+", "measured_classes": "+", "burst": ":",
+    "replies": ":", "window": ":",
 }
 # Of these a study may name files beside it; a run is known by what is in them.
 PATHS = ["table", "traffic"]
-WORDS = ["kind", "rule", "pattern", *PATHS]
+WORDS = ["kind", "rule", "pattern", "unit", *PATHS]
 AMOUNTS = ["load", "share", "tolerance"]
+# Of these a packet has one, as a text such as "1+8" says.
+SEVERAL = ["length", "packet_bytes"]
 SETTINGS = [
-    "kind", "radix", "rule", "table", "channels", "buffer", "classes", "flit_bytes", "traffic", "pattern", "spots",
-    "share", "burst", "packet_classes", "length", "replies", "cycles", "window", "measured_classes", "parts",
-    "tolerance", "load", "seed",
+    "kind", "radix", "rule", "table", "channels", "buffer", "classes", "flit_bytes", "unit", "traffic", "pattern",
+    "spots", "share", "burst", "packet_classes", "packet_bytes", "length", "replies", "cycles", "window",
+    "measured_classes", "parts", "tolerance", "load", "seed",
 ]
 # What says nothing of a traffic that is a file.
-OF_DEMANDS = ["pattern", "spots", "share", "burst", "packet_classes", "length", "seed"]
+OF_DEMANDS = ["pattern", "spots", "share", "burst", "packet_classes", "packet_bytes", "length", "seed"]
 # For which runs a setting is that does not go with all.
 MEANT = {
     **dict.fromkeys(OF_DEMANDS, "runs whose traffic is no file"), "table": "the rule 'table'",
@@ -46,8 +50,9 @@ LOAD, SEED = "load", "seed"
 MOST_LOADS = 1000
 BY_DEFAULT = {
     "table": NONE, "classes": "1", "flit_bytes": NONE, "traffic": NONE, "pattern": "uniform", "spots": NONE,
-    "share": f"{SHARE:g}", "burst": NONE, "packet_classes": "0", "replies": NONE, "cycles": "3000", "window": NONE,
-    "measured_classes": NONE, "parts": "no", "tolerance": f"{TOLERANCE:g}", "seed": "1",
+    "share": f"{SHARE:g}", "burst": NONE, "packet_classes": "0", "packet_bytes": NONE, "replies": NONE,
+    "cycles": "3000", "window": NONE, "measured_classes": NONE, "parts": "no", "tolerance": f"{TOLERANCE:g}",
+    "seed": "1",
 }
 # How a run is named by its settings: by the value alone, or by how many there are of what; else by the setting and its
 # value.
@@ -55,7 +60,7 @@ BY_VALUE = ["kind", "radix", "rule", "pattern", "traffic"]
 COUNTED = {
     "channels": ("channel", "channels"), "buffer": ("slot", "slots"), "length": ("flit", "flits"),
     "classes": ("class", "classes"), "cycles": ("cycle", "cycles"),
-    "flit_bytes": ("byte for a flit", "bytes for a flit"),
+    "flit_bytes": ("byte for a flit", "bytes for a flit"), "packet_bytes": ("byte", "bytes"),
 }
 
 
@@ -81,8 +86,10 @@ def word_of(key: str, value: Any) -> str:
         if not isinstance(value, bool):
             raise Refused(f"'parts' is true or false, not {value!r}")
         return "yes" if value else "no"
-    if key == "length" and isinstance(value, str):
+    if key in SEVERAL and isinstance(value, str):
         return "+".join(map(str, lengths_in(value)))
+    if key == "packet_bytes":
+        return number_word(key, value)
     if key not in SEPARATORS:
         return number_word(key, value)
     if not isinstance(value, list) or not value:
@@ -103,7 +110,7 @@ def load_range(words: str) -> list[str]:
 def words_of(key: str, value: Any) -> list[str]:
     """The values of a setting, one or a list of them, as words."""
     has_several = isinstance(value, list)
-    if key in SEPARATORS:
+    if key in SEPARATORS and key not in SEVERAL:
         has_several = has_several and any(isinstance(part, list) for part in value)
     words: list[str] = []
     for one in value if has_several else [value]:
@@ -133,10 +140,12 @@ def numbers_in(key: str, word: str, count: int | None = None) -> tuple[int, ...]
 
 @dataclass(frozen=True)
 class Case:
-    """One run: a word for each setting, a dash for one that says nothing here; and a table that was made for it."""
+    """One run: a word for each setting, a dash for one that says nothing here; a table that was made for it; and
+    what is asked once of its network and its traffic, where this has been done."""
 
     words: dict[str, str]
     made_table: str | None = None
+    known: Known | None = None
 
     def whole(self, key: str) -> int:
         """A setting that is a whole number."""
@@ -176,6 +185,10 @@ class Case:
             return self
         return replace(self, made_table=checked_table(self.network, self.made_rule, folder))
 
+    def asked(self) -> "Case":
+        """The case with what is asked once, where noc takes its network. A table that is made for a rule has ranks."""
+        return replace(self, known=self.experiment.learnt(is_free=self.made_table is not None))
+
     @property
     def table_digest(self) -> str:
         """The digest of its table."""
@@ -190,25 +203,34 @@ class Case:
         lengths, classes = lengths_in(words["length"]), numbers_in("packet_classes", words["packet_classes"])
         share = SHARE if words["share"] == NONE else self.amount("share")
         burst = self.several("burst", 2)
+        flits = load / self.unit.of_a_flit(classes[0], lengths)
         return Demand(
-            words["pattern"], load / (self.flit_bytes or 1), lengths, self.whole("seed"), None, classes,
-            self.several("spots"), share, (burst[0], burst[1]) if burst else None,
+            words["pattern"], flits, lengths, self.whole("seed"), None, classes, self.several("spots"), share,
+            (burst[0], burst[1]) if burst else None,
         )
 
     @property
-    def flit_bytes(self) -> int | None:
-        """How many bytes a flit has, where loads are in bytes."""
-        return None if self.words["flit_bytes"] == NONE else self.whole("flit_bytes")
+    def unit(self) -> Unit:
+        """In what loads are told."""
+        flit_bytes = 1 if self.words["flit_bytes"] == NONE else self.whole("flit_bytes")
+        classes = self.several("packet_classes") or ()
+        return Unit(self.words["unit"], flit_bytes, self.several("packet_bytes") or (), classes)
+
+    @property
+    def levels(self) -> Levels:
+        """The replies to its traffic, and the replies to these."""
+        numbers = self.several("replies") or ()
+        if len(numbers) % 4:
+            raise Refused(f"'replies' is 4 numbers for each level of replies, not {len(numbers)}")
+        return tuple(Replies(*numbers[first:first + 4]) for first in range(0, len(numbers), 4))
 
     @cached_property
     def experiment(self) -> Experiment:
         """What is measured."""
         window = Window(*numbers_in("window", self.words["window"]))
-        replies = self.several("replies", 4)
         return Experiment(
             self.network, self.traffic, window, self.table, self.amount("tolerance"),
-            Replies(*replies) if replies else None, self.several("measured_classes"), self.flit_bytes,
-            self.words["parts"] == "yes",
+            self.levels, self.several("measured_classes"), self.unit, self.words["parts"] == "yes", self.known,
         )
 
     @cached_property
@@ -232,6 +254,8 @@ def normal(given: dict[str, str]) -> Case:
         words = {"load": "1", **words, **dict.fromkeys(OF_DEMANDS, NONE)}
     elif words["pattern"] != HOT_SPOT:
         words["spots"] = words["share"] = NONE
+    words = with_lengths(words)
+    words["unit"] = unit_word(words)
     missing = [key for key in SETTINGS if key not in words]
     if missing:
         raise Refused(f"'{missing[0]}' is not set")
@@ -249,6 +273,46 @@ def normal(given: dict[str, str]) -> Case:
         wanted = f"[A, B] with A below B, and B at most the {cycles} cycles of the run"
         raise Refused(f"a window is {wanted}, not {list(bounds)}")
     return case
+
+
+def unit_word(words: Mapping[str, str]) -> str:
+    """The unit of loads: the one that is asked for, or what the other settings say."""
+    has_bytes, has_payload = (words[key] != NONE for key in ("flit_bytes", "packet_bytes"))
+    unit = checked(words.get("unit", PAYLOAD if has_payload else BYTES if has_bytes else FLITS))
+    if unit in (BYTES, PAYLOAD) and not has_bytes:
+        raise Refused(f"the unit '{unit}' needs 'flit_bytes'")
+    if unit == PAYLOAD and not has_payload:
+        raise Refused("the unit 'payload' needs 'packet_bytes'")
+    return unit
+
+
+def worth_of_a_flit(words: Mapping[str, str]) -> float | None:
+    """For what a flit counts in loads; None where lengths are not known."""
+    unit = words.get("unit", FLITS)
+    if unit == FLITS:
+        return 1
+    if unit == BYTES:
+        return whole_in(words["flit_bytes"])
+    if words["length"] == NONE:
+        return None
+    case = Case(dict(words))
+    return case.unit.of_a_flit(numbers_in("packet_classes", words["packet_classes"])[0], lengths_in(words["length"]))
+
+
+def with_lengths(words: dict[str, str]) -> dict[str, str]:
+    """The words with the lengths of packets, where these have so many bytes of payload."""
+    if words["packet_bytes"] == NONE:
+        return words
+    if words["flit_bytes"] == NONE:
+        raise Refused("'packet_bytes' needs 'flit_bytes', which says into how many flits they go")
+    sizes = numbers_in("packet_bytes", words["packet_bytes"])
+    flit_bytes = Case(words).whole("flit_bytes")
+    if min(*sizes, flit_bytes) < 1:
+        raise Refused("'packet_bytes' and 'flit_bytes' are whole numbers of 1 or more")
+    length = SEPARATORS["packet_bytes"].join(str(flits_of(size, flit_bytes)) for size in sizes)
+    if words.get("length", length) != length:
+        raise Refused(f"'length' is {length} by 'packet_bytes', so it is not said, or as {length}")
+    return {**words, "length": length}
 
 
 def case_of(settings: list[str]) -> Case:
@@ -360,8 +424,10 @@ def cases_of(path: str, document: Mapping[str, Any], tables: Any) -> list[Case]:
         check_meant(own, made, name)
         found += made
     check_meant(common, found, path)
-    if len({case.flit_bytes is None for case in found}) > 1:
-        raise Refused(f"{path}: 'flit_bytes' is said of some runs and not of others, which have loads in flits")
+    units = list(dict.fromkeys(case.words["unit"] for case in found))
+    if len(units) > 1:
+        raise Refused(f"{path}: loads are in {units[0]} in some runs and in {units[1]} in others: say 'unit', or"
+                      " 'flit_bytes' and 'packet_bytes' of all")
     # (settings that say nothing in some combinations give the same run twice)
     return list({case.run: case for case in found}.values())
 
@@ -387,9 +453,23 @@ def view_of(document: dict[str, Any]) -> View:
     return view
 
 
+def plain(value: Any) -> Any:
+    """A value of Python as a file has it: lists for tuples, and Python's own numbers for those of other libraries."""
+    if hasattr(value, "tolist"):
+        value = value.tolist()
+    if isinstance(value, Mapping):
+        return {key: plain(one) for key, one in value.items()}
+    return [plain(one) for one in value] if isinstance(value, (list, tuple)) else value
+
+
 def read_plan(path: str) -> Plan:
     """What a file asks for."""
-    document = read_document(path)
+    return plan_of(read_document(path), path)
+
+
+def plan_of(settings: Mapping[str, Any], path: str) -> Plan:
+    """What settings ask for; the files that they name lie beside a path, by which sentences call them."""
+    document = plain(settings)
     search, at = (amount_of(path, key, document.pop(key, None)) for key in ("search", "at"))
     try:
         view, tables = view_of(document), document.pop("cases", [{}])
