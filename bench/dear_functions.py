@@ -1,7 +1,7 @@
 #!/usr/bin/env python3
 """Lists the functions of crates that cost most to check, dearest first.
 
-    dear_functions.py [--most N] [--kept | --goals] [--page] [CRATE..]
+    dear_functions.py [--most N] [--kept | --goals] [CRATE..]
 
 Each crate is checked from nothing by one job in a copy, whose libraries are those of this checkout; with --kept
 nothing is checked, and the last check from nothing is read, which has to have been by one job. A check keeps what it
@@ -12,8 +12,7 @@ has a line of its own. The last line of a crate has the sum.
 With --goals the last check from nothing is read too, by however many jobs, but only what the goals of each function
 cost: the time from the file kept before them, of the same function, to theirs, answers included.
 
-Where no crate is named, all of crates.txt are taken that have something to read. With --page a page is printed; DEAR.md
-beside this script is what '--goals --page' printed last.
+Where no crate is named, all of crates.txt are taken that have something to read.
 """
 import argparse
 import re
@@ -21,8 +20,7 @@ import shutil
 import subprocess
 import sys
 import tempfile
-from collections import Counter
-from datetime import date
+from collections import defaultdict
 from pathlib import Path
 
 TOP = Path(__file__).resolve().parent.parent
@@ -30,7 +28,7 @@ TOP = Path(__file__).resolve().parent.parent
 BETWEEN_CHECKS = 120
 
 
-def function_of(module, crate):
+def function_of(module: str, crate: str) -> str:
     """The function, the type or the file of lemmas that a kept file is about."""
     name = module.removeprefix(f"Rattle-{crate}").lstrip(".-")
     parts = re.sub(r"^(proofs|specs\.contracts|specs\.declared|specs)\.?", "", name).split(".")
@@ -42,23 +40,23 @@ def function_of(module, crate):
     return "::".join(it for it in parts if it) or "the crate's root"
 
 
-def seconds_of(out, crate):
+def seconds_of(out: Path, crate: str) -> dict[str, float]:
     """What each function cost, by the times at which its files were kept."""
     kept = sorted((it.stat().st_mtime, it.stem) for it in out.glob("incremental/*/*.oantt"))
-    cost = Counter()
+    cost: defaultdict[str, float] = defaultdict(float)
     for (before, _), (after, module) in zip(kept, kept[1:]):
         cost[function_of(module, crate)] += after - before
     return cost
 
 
-def goals_of(out, crate):
+def goals_of(out: Path, crate: str) -> dict[str, float]:
     """What the goals of each function cost, by the same times: a function is checked by one process, whatever the
     number of jobs."""
-    kept = {}
+    kept: dict[str, list[tuple[float, str]]] = {}
     for it in out.glob("incremental/*/*.oantt"):
         module = it.stem.removesuffix(".decls")
         kept.setdefault(function_of(module, crate), []).append((it.stat().st_mtime, module.rpartition(".")[2]))
-    cost = Counter()
+    cost: defaultdict[str, float] = defaultdict(float)
     for function, files in kept.items():
         files.sort()
         for (before, kind), (after, next_kind) in zip(files, files[1:]):
@@ -69,7 +67,7 @@ def goals_of(out, crate):
     return cost
 
 
-def checked(crate, room):
+def checked(crate: str, room: str) -> Path:
     """Checks a copy of the crate from nothing, and returns its folder out/."""
     copy = Path(room) / "crates"
     shutil.copytree(TOP / "crates", copy, symlinks=True, ignore=shutil.ignore_patterns("must-fail"))
@@ -83,62 +81,36 @@ def checked(crate, room):
     return copy / crate / "out"
 
 
-PAGE = """# The functions whose goals cost most to check
-
-`bench/dear_functions.py --goals --page` printed this page on {day}, from what `rt check` had kept in `out/`. A row
-has the seconds that one process took for the goals of a function when its crate was last checked from nothing. What the
-function's code costs, and its crate as a whole, is not in them. Other work on the machine makes them higher, so compare
-them with one another. Crates of which no check is kept are missing. Where a trait is derived for a type, the name is of
-both, as `CommandPartialEq` for `PartialEq` of `Command`. The page says where to look first when a crate is slow. It is
-not kept up with the code, but printed anew when somebody needs it.
-
-| Function | Crate | Seconds |
-|---|---|--:|
-{functions}
-
-These are the sums over all functions of a crate:
-
-| Crate | Seconds |
-|---|--:|
-{crates}"""
-
-
-def crates_with_goals():
+def crates_with_goals() -> list[str]:
     """The crates of which a check has kept something, in the order of crates.txt."""
     names = re.findall(r"^(\w+):", (TOP / "crates.txt").read_text(), re.MULTILINE)
     return [name for name in names if any((TOP / "crates" / name / "out").glob("incremental/*/*.oantt"))]
 
 
-def show(rows, crates, most, is_page):
-    dear = sorted(rows, reverse=True)[:most]
-    sums = [(sum(it[0] for it in rows if it[1] == crate), crate) for crate in crates]
-    if is_page:
-        functions = "\n".join(f"| `{function}` | `{crate}` | {seconds:.1f} |" for seconds, crate, function in dear)
-        print(PAGE.format(day=date.today(), functions=functions,
-                          crates="\n".join(f"| `{crate}` | {seconds:.1f} |" for seconds, crate in sums)))
-        return
-    for seconds, crate, function in dear:
+def show(rows: list[tuple[float, str, str]], crates: list[str], most: int) -> None:
+    """Prints the dearest functions, and what each crate cost."""
+    for seconds, crate, function in sorted(rows, reverse=True)[:most]:
         print(f"{seconds:7.1f} s  {crate}  {function}")
-    for seconds, crate in sums:
-        print(f"{seconds:7.1f} s  {crate} in all")
+    for crate in crates:
+        print(f"{sum(it[0] for it in rows if it[1] == crate):7.1f} s  {crate} in all")
 
 
-def main():
+def main() -> None:
     options = argparse.ArgumentParser(description=__doc__, formatter_class=argparse.RawDescriptionHelpFormatter)
     options.add_argument("crates", nargs="*", metavar="CRATE")
     options.add_argument("--most", type=int, default=60, help="how many functions to list (60)")
     options.add_argument("--kept", action="store_true", help="read what the last check kept")
     options.add_argument("--goals", action="store_true", help="read of it what goals cost, whatever the number of jobs")
-    options.add_argument("--page", action="store_true", help="print a page")
     asked = options.parse_args()
-    crates, rows = asked.crates or crates_with_goals(), []
+    crates: list[str] = asked.crates or crates_with_goals()
+    rows: list[tuple[float, str, str]] = []
     for crate in crates:
         kept = TOP / "crates" / crate / "out"
         with tempfile.TemporaryDirectory() as room:
             cost = goals_of(kept, crate) if asked.goals else seconds_of(kept if asked.kept else checked(crate, room),
                                                                         crate)
         rows += [(seconds, crate, function) for function, seconds in cost.items()]
-    show(rows, crates, asked.most, asked.page)
+    show(rows, crates, asked.most)
 
 
 if __name__ == "__main__":

@@ -14,14 +14,14 @@ from pathlib import Path
 from tempfile import TemporaryDirectory
 
 TOP = Path(__file__).resolve().parent.parent
-sys.path += [str(TOP), str(TOP / "tests")]
+sys.path += [str(TOP), str(TOP / "tests/package")]
 from noc_tools.network import Network  # noqa: E402
 from test_shrink import minimal_adaptive  # noqa: E402
 
 TOOLS = TOP / "noc-tools"
 
 
-def measure(channels, folder):
+def measure(channels: int, folder: Path) -> None:
     """Measures it on one network."""
     network = Network("mesh", (8, 8), channels, 2, 1, "table", 500)
     config, table, jam = (folder / name for name in ("c.toml", "table.csv", "jam.csv"))
@@ -37,7 +37,7 @@ def measure(channels, folder):
           end="", flush=True)
 
 
-def main():
+def main() -> None:
     with TemporaryDirectory() as folder:
         for channels in map(int, sys.argv[1:] or ["1", "2", "4", "8"]):
             measure(channels, Path(folder))

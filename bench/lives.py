@@ -12,10 +12,11 @@ import argparse
 import subprocess
 import sys
 import time
+from collections.abc import Sequence
 from pathlib import Path
 
 sys.path.append(str(Path(__file__).resolve().parent.parent))
-from noc_tools import Run  # noqa: E402
+from noc_tools import Packet, Run  # noqa: E402
 from noc_tools.program import DONE, STUCK, program  # noqa: E402
 
 TOOLS = Path(__file__).resolve().parent.parent / "noc-tools"
@@ -26,10 +27,11 @@ SLOWEST = 5
 class Calls:
     """Calls, each with the least of some times."""
 
-    def __init__(self, files, times):
-        self.files, self.times, self.took = files, times, []
+    def __init__(self, files: list[str], times: int) -> None:
+        self.files, self.times = files, times
+        self.took: list[tuple[float, str]] = []
 
-    def time(self, name, command, *words):
+    def time(self, name: str, command: Sequence[str], *words: object) -> str:
         """Times a call on the files, says how long it took, and returns what it prints."""
         called = [*command, *self.files, *map(str, words)]
         best = float("inf")
@@ -43,9 +45,9 @@ class Calls:
         print(f"{best:6.2f} s  {'ok  ' if best <= LIMIT else 'SLOW'}  {name}", flush=True)
         return ran.stdout
 
-    def time_packet(self, kind, packet, last):
+    def time_packet(self, kind: str, packet: Packet, last: int) -> None:
         """Times all that can be asked about a packet."""
-        why, timeline = ([TOOLS, command] for command in ("why", "timeline"))
+        why, timeline = ([str(TOOLS), command] for command in ("why", "timeline"))
         number, end = packet.number, last if packet.out is None else packet.out
         said = self.time(f"why {number}, {kind}", why, number).splitlines()
         waits = [line for line in said if " cycles of " in line and f" at router {packet.source}," not in line]
@@ -55,17 +57,18 @@ class Calls:
         self.time(f"timeline {number}, {kind}", timeline, number)
 
 
-def spread(packets, number):
+def spread(packets: Sequence[Packet], number: int) -> list[Packet]:
     """So many of these, from the first to the last."""
     return [packets[at * (len(packets) - 1) // max(1, number - 1)] for at in range(min(number, len(packets)))]
 
 
-def kinds(run, last, each):
+def kinds(run: Run, last: int, each: int) -> dict[str, list[Packet]]:
     """Packets by kind."""
-    out = sorted((packet for packet in run.packets if packet.out is not None), key=lambda packet: packet.latency)
-    stands = {}
+    out = sorted((packet for packet in run.packets if packet.out is not None), key=lambda packet: packet.latency or 0)
+    stands: dict[int, set[int]] = {}
     for finding in run.trace(first=last, last=last):
-        stands.setdefault(finding.packet, set()).add(finding.router)
+        if finding.packet is not None:
+            stands.setdefault(finding.packet, set()).add(finding.router)
     behind = [run.packets[number] for number in sorted(stands) if stands[number] != {run.packets[number].source}]
     never = [packet for packet in run.packets if packet.out is None and packet.number not in stands]
     return {
@@ -76,14 +79,14 @@ def kinds(run, last, each):
     }
 
 
-def main():
+def main() -> None:
     parser = argparse.ArgumentParser(description=__doc__, formatter_class=argparse.RawDescriptionHelpFormatter)
     parser.add_argument("folder", type=Path)
     parser.add_argument("--each", type=int, default=3)
     parser.add_argument("--times", type=int, default=2)
     options = parser.parse_args()
-    files = [str(options.folder / f"saturated.{end}") for end in ("toml", "csv")]
-    run, noc, calls = Run(*files), program(), Calls(files, options.times)
+    config, traffic = (str(options.folder / f"saturated.{end}") for end in ("toml", "csv"))
+    run, noc, calls = Run(config, traffic), str(program()), Calls([config, traffic], options.times)
     last = run.network.cycles - 1
     asked = kinds(run, last, options.each)
     first = asked["took longest"][-1]

@@ -8,19 +8,21 @@ by transpose and half of them uniform, at more than the network takes (4.7 flits
 bytes on every machine. bench/lives.py measures with it.
 """
 import sys
+from collections.abc import Iterator
 from itertools import islice
 from pathlib import Path
 from random import Random
 
 sys.path.append(str(Path(__file__).resolve().parent.parent))
 from noc_tools.network import Network  # noqa: E402
-from noc_tools.traffic import LONGEST, MOST_PACKETS, below, traffic_text  # noqa: E402
+from noc_tools.traffic import LONGEST, MOST_PACKETS, Row, below, traffic_text  # noqa: E402
 
 NETWORK = Network("mesh", (16, 16), 2, 4, 1, "dor", 20000)
 LOAD = 0.235
 
 
-def packets(random):
+def packets(random: Random) -> Iterator[Row]:
+    """The rows of the packets."""
     for due in range(NETWORK.cycles):
         for source in range(NETWORK.nodes):
             if random.random() < LOAD / LONGEST:
@@ -31,7 +33,7 @@ def packets(random):
                     yield source, goes_to, 0, LONGEST, due
 
 
-def main():
+def main() -> None:
     folder = Path(sys.argv[1])
     folder.mkdir(parents=True, exist_ok=True)
     rows = list(islice(packets(Random(41)), MOST_PACKETS))

@@ -7,14 +7,14 @@ What is random comes from the generator below alone, so the files never differ f
 workload stays within the simulator's limits. The load that is offered is in flits per node and cycle.
 """
 import sys
-from collections.abc import Callable
+from collections.abc import Callable, Sequence
 from dataclasses import dataclass, replace
 from functools import cached_property
 from pathlib import Path
 
 sys.path.append(str(Path(__file__).resolve().parent.parent))
 from noc_tools.network import Network  # noqa: E402
-from noc_tools.traffic import MOST_PACKETS, traffic_text  # noqa: E402
+from noc_tools.traffic import MOST_PACKETS, Row, traffic_text  # noqa: E402
 
 MULTIPLIER = 6364136223846793005
 INCREMENT = 1442695040888963407
@@ -24,47 +24,48 @@ WORD = 1 << 64
 class Random:
     """A linear congruential generator over 64 bits, of which the upper 31 are used."""
 
-    def __init__(self, seed):
+    def __init__(self, seed: int) -> None:
         self.state = (seed * 2862933555777941757 + 3037000493) % WORD
         for _ in range(8):
             self.below(2)
 
-    def below(self, bound):
+    def below(self, bound: int) -> int:
         self.state = (self.state * MULTIPLIER + INCREMENT) % WORD
         return (self.state >> 33) % bound
 
-    def one_of(self, values):
+    def one_of(self, values: Sequence[int]) -> int:
         return values[self.below(len(values))]
 
 
 # A pattern gives the destination of a packet from its source, or None where the source sends nothing.
+Pattern = Callable[[Random, int], int | None]
 
 
-def uniform(nodes):
+def uniform(nodes: int) -> Pattern:
     """Every other node alike."""
 
-    def destination(random, source):
+    def destination(random: Random, source: int) -> int | None:
         other = random.below(nodes - 1)
         return other + 1 if other >= source else other
 
     return destination
 
 
-def transpose(radix):
+def transpose(radix: int) -> Pattern:
     """From column x and row y to column y and row x."""
 
-    def destination(_, source):
+    def destination(_: Random, source: int) -> int | None:
         y, x = divmod(source, radix)
         return None if x == y else x * radix + y
 
     return destination
 
 
-def hotspot(nodes, spots, percent):
+def hotspot(nodes: int, spots: Sequence[int], percent: int) -> Pattern:
     """One of a few nodes for so many packets in a hundred, else uniform."""
     elsewhere = uniform(nodes)
 
-    def destination(random, source):
+    def destination(random: Random, source: int) -> int | None:
         if random.below(100) < percent:
             spot = random.one_of(spots)
             if spot != source:
@@ -81,16 +82,16 @@ class Workload:
     name: str
     network: Network
     seed: int
-    lengths: list
+    lengths: list[int]
     span: int
-    pattern: Callable
+    pattern: Pattern
     packets: int = MOST_PACKETS
 
     @cached_property
-    def rows(self):
+    def rows(self) -> list[Row]:
         """The rows of the packets."""
         random = Random(self.seed)
-        rows = []
+        rows: list[Row] = []
         while len(rows) < self.packets:
             source = random.below(self.network.nodes)
             destination = self.pattern(random, source)
@@ -100,16 +101,16 @@ class Workload:
                 rows.append((source, destination, message_class, length, random.below(self.span)))
         return rows
 
-    def config(self, cycles=None):
+    def config(self, cycles: int | None = None) -> str:
         """The configuration's text, by default with the workload's own number of cycles."""
         return replace(self.network, cycles=cycles or self.network.cycles).text()
 
-    def traffic(self):
+    def traffic(self) -> str:
         """The text of the traffic."""
         return traffic_text(self.rows)
 
 
-def texts_in(folder, load):
+def texts_in(folder: Path, load: Workload) -> list[str]:
     """Writes the two texts of a workload into files; returns their names."""
     names = [folder / f"{load.name}.toml", folder / f"{load.name}.csv"]
     for name, text in zip(names, (load.config(), load.traffic())):
@@ -117,7 +118,7 @@ def texts_in(folder, load):
     return [str(name) for name in names]
 
 
-def workloads():
+def workloads() -> list[Workload]:
     mesh8, mesh16 = Network("mesh", (8, 8), 4, 4, 1, "dor", 0), Network("mesh", (16, 16), 4, 8, 1, "dor", 44000)
     return [
         # 0.11, some 30% of what the network takes
@@ -146,7 +147,7 @@ def workloads():
     ]
 
 
-def large_workloads():
+def large_workloads() -> list[Workload]:
     """Two more of 256 routers, with which bench/workers.py measures."""
     return [
         # 0.42, more than it takes
@@ -158,7 +159,7 @@ def large_workloads():
     ]
 
 
-def main():
+def main() -> None:
     if len(sys.argv) != 2:
         sys.exit("usage: make_workloads.py FOLDER")
     folder = Path(sys.argv[1])

@@ -21,16 +21,17 @@ import subprocess
 import sys
 import tempfile
 import time
+from collections.abc import Sequence
 from dataclasses import replace
 from pathlib import Path
 
 sys.dont_write_bytecode = True
-from make_workloads import texts_in, workloads  # noqa: E402
+from make_workloads import Workload, texts_in, workloads  # noqa: E402
 
 ENDED_WELL = (0, 5)
 
 
-def timed_run(words, text):
+def timed_run(words: list[str], text: bytes) -> tuple[float, bytes, str]:
     """Runs a program; returns its seconds, its standard output and its standard error."""
     start = time.perf_counter()
     ran = subprocess.run(words, input=text, capture_output=True)
@@ -40,7 +41,7 @@ def timed_run(words, text):
     return seconds, ran.stdout, ran.stderr.decode(errors="replace")
 
 
-def stalls(program, load, folder):
+def stalls(program: str, load: Workload, folder: Path) -> bytes:
     """The stall report of a program."""
     return timed_run([program, "run", *texts_in(folder, load), "--report", "stalls"], b"")[1]
 
@@ -48,45 +49,51 @@ def stalls(program, load, folder):
 class Joined:
     """A program that is measured by two runs on joined texts, with all cycles and with one."""
 
-    def __init__(self, program):
+    def __init__(self, program: str) -> None:
         self.program = str(Path(program).resolve())
         self.words = [self.program]
 
-    def start(self, load, _, tail=None):
-        tail = "---\n" + load.traffic() if tail is None else tail
+    def start(self, load: Workload, folder: Path) -> None:
+        """Makes the texts of a workload ready."""
+        self.start_with(load, "---\n" + load.traffic())
+
+    def start_with(self, load: Workload, tail: str) -> None:
+        """Makes the texts ready, which are the configurations and something behind them."""
         self.texts = [(load.config(cycles) + tail).encode() for cycles in (load.network.cycles, 1)]
         self.best = [float("inf"), float("inf")]
 
-    def round(self):
+    def round(self) -> bytes:
         """Makes one measurement; returns the report."""
         runs = [timed_run(self.words, text) for text in self.texts]
         self.best = [min(best, run[0]) for best, run in zip(self.best, runs)]
         return runs[0][1]
 
-    def speed(self, load):
+    def speed(self, load: Workload) -> float:
         return load.network.nodes * (load.network.cycles - 1) / max(self.best[0] - self.best[1], 1e-9)
 
 
 class OwnClock(Joined):
     """A program that measures its cycle loop itself."""
 
-    def start(self, load, folder):
+    def start(self, load: Workload, folder: Path) -> None:
         self.words = [self.program, "run", *texts_in(folder, load), "--time"]
-        self.best = float("inf")
+        self.least = float("inf")
 
-    def round(self):
+    def round(self) -> bytes:
         _, report, said = timed_run(self.words, b"")
         found = re.search(r"seconds ([0-9.]+)", said)
         if not found:
             sys.exit(f"measure: {self.program} wrote no 'seconds S' to standard error")
-        self.best = min(self.best, float(found[1]))
+        self.least = min(self.least, float(found[1]))
         return report
 
-    def speed(self, load):
-        return load.network.nodes * load.network.cycles / self.best
+    def speed(self, load: Workload) -> float:
+        return load.network.nodes * load.network.cycles / self.least
 
 
-def measure(load, sides, repeat, folder):
+def measure(
+    load: Workload, sides: Sequence[Joined], repeat: int, folder: Path
+) -> tuple[list[float], set[bytes]]:
     """Returns the router-cycles per second of each side, and the different reports that were written."""
     for side in sides:
         side.start(load, folder)
@@ -94,12 +101,12 @@ def measure(load, sides, repeat, folder):
     return [side.speed(load) for side in sides], reports
 
 
-def write_same_stalls(load, sides, folder):
+def write_same_stalls(load: Workload, sides: Sequence[Joined], folder: Path) -> bool:
     """Whether all sides write the same stall report."""
     return len(sides) == 1 or len({stalls(side.program, load, folder) for side in sides}) == 1
 
 
-def main():
+def main() -> int:
     parser = argparse.ArgumentParser(description="Measures how fast a program simulates.")
     parser.add_argument("program")
     parser.add_argument("--against", metavar="OTHER", help="a second program to compare with")

@@ -7,14 +7,15 @@ For each page, or for all pages of the repository where none is named: how many 
 sentence has on average, the share of sentences of six words or fewer, and the words of the longest one. Blocks of code,
 tables, headings, names in brackets and items of lists that are no sentences are left out, and a span of code counts
 as one word. With --show, each sentence of six words or fewer and each of more than 35 follows. The aim is an average
-of 13 to 18 words, a share of short ones under 10 percent, and none above 35. Nothing of it is tested.
+of 14 to 18 words, a share of short ones under 10 percent, and none above 35. The last is tested (./test names).
 """
 import argparse
 import re
 from pathlib import Path
 
 TOP = Path(__file__).resolve().parent.parent
-PAGES = ("README.md", "CHANGELOG.md", "CONTRIBUTING.md", "docs/*.md", "examples/README.md", "bench/*.md")
+PAGES = ("README.md", "CHANGELOG.md", "CONTRIBUTING.md", "crates/README.md", "docs/*.md", "examples/README.md",
+         "bench/*.md")
 SHORT, LONG = 6, 35
 FENCED = re.compile(r"^( *```+).*?^\1 *$", re.MULTILINE | re.DOTALL)
 ITEM = re.compile(r"^ *(?:[-*]|\d+\.) +")

@@ -15,10 +15,13 @@ as measure.py does. A table in Markdown goes to standard output.
 import argparse
 import csv
 import sys
+from collections.abc import Iterator
+from pathlib import Path
 
 sys.dont_write_bytecode = True
-from make_workloads import Network, Workload, uniform  # noqa: E402
+from make_workloads import Workload, uniform  # noqa: E402
 from measure import Joined, measure  # noqa: E402
+from noc_tools.network import Network  # noqa: E402
 from noc_tools.traffic import MOST_PACKETS  # noqa: E402
 
 RADICES = (4, 8, 16)
@@ -27,7 +30,7 @@ LOADS = {"low": 0.05, "middle": 0.2, "saturated": 1.0}
 LENGTH = 16
 
 
-def workload(radix, channels, part):
+def workload(radix: int, channels: int, part: float) -> Workload:
     """A mesh whose nodes offer this part of what its middle can carry; as long as the packets allow at full load."""
     nodes = radix * radix
     flits_per_cycle = nodes * 4 / radix
@@ -36,25 +39,25 @@ def workload(radix, channels, part):
     return Workload(network.kind, network, radix, [LENGTH], cycles, uniform(nodes), int(MOST_PACKETS * part))
 
 
-def flits_out(load, report):
+def flits_out(load: Workload, report: bytes) -> float:
     """The flits of the packets that came out, per node and cycle."""
     rows = csv.DictReader(report.decode().splitlines())
     flits = sum(int(row["length"]) for row in rows if row["out"] != "-")
     return flits / load.network.nodes / load.network.cycles
 
 
-def cells(program, radix, channels, repeat):
+def cells(program: str, radix: int, channels: int, repeat: int) -> Iterator[str]:
     """The two columns of each load."""
     for part in LOADS.values():
         load = workload(radix, channels, part)
-        speeds, reports = measure(load, [Joined(program)], repeat, None)
+        speeds, reports = measure(load, [Joined(program)], repeat, Path())
         if len(reports) > 1:
             sys.exit("series: the program's reports on the same texts differ")
         yield f"{flits_out(load, reports.pop()):.3f}"
         yield f"{1e9 / speeds[0]:.0f}"
 
 
-def main():
+def main() -> None:
     parser = argparse.ArgumentParser(description="Measures how the cost grows with routers, channels and load.")
     parser.add_argument("program")
     parser.add_argument("--repeat", type=int, default=5, metavar="N", help="runs of which the best counts")

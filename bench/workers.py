@@ -17,12 +17,13 @@ import os
 import subprocess
 import sys
 import tempfile
+from collections.abc import Iterator
 from contextlib import contextmanager
 from dataclasses import replace
 from pathlib import Path
 
 sys.dont_write_bytecode = True
-from make_workloads import large_workloads, texts_in, workloads  # noqa: E402
+from make_workloads import Workload, large_workloads, texts_in, workloads  # noqa: E402
 from measure import Joined, measure  # noqa: E402
 
 LOADS = {load.name: load for load in workloads() + large_workloads()}
@@ -34,17 +35,17 @@ WORKLOADS = ["a_long", "b_long", "c_torus8", "f_hotspot8", "g_mesh444", "d_trans
 class Workers(Joined):
     """A program with so many workers, which gets the configuration on standard input and the traffic by a file."""
 
-    def __init__(self, program, workers):
+    def __init__(self, program: str, workers: int) -> None:
         super().__init__(program)
         self.workers = str(workers)
 
-    def start(self, load, folder):
-        super().start(load, folder, tail="")
+    def start(self, load: Workload, folder: Path) -> None:
+        self.start_with(load, "")
         self.words = [self.program, "run", "/dev/stdin", texts_in(folder, load)[1], "--workers", self.workers]
 
 
 @contextmanager
-def busy(count):
+def busy(count: int) -> Iterator[None]:
     """So many processes that are always busy."""
     started = [subprocess.Popen([sys.executable, "-c", "while True: pass"]) for _ in range(count)]
     try:
@@ -55,14 +56,14 @@ def busy(count):
             process.wait()
 
 
-def table(options, folder):
+def table(options: argparse.Namespace, folder: Path) -> bool:
     """Writes the table; returns whether no report differed."""
     least, *others = options.workers
     heads = ["workload", "routers", "cycles", f"M router-cycles/s by {least}", *(f"by {workers}" for workers in others)]
     print("|", " | ".join(heads), "|")
     print("|---|" + "--:|" * (len(heads) - 1))
     well = True
-    for load in map(LOADS.get, options.only):
+    for load in (LOADS[name] for name in options.only):
         if options.channels:
             load = replace(load, network=replace(load.network, channels=options.channels))
         sides = [Workers(options.program, workers) for workers in options.workers]
@@ -76,7 +77,7 @@ def table(options, folder):
     return well
 
 
-def main():
+def main() -> int:
     parser = argparse.ArgumentParser(description="Measures what several workers gain.")
     parser.add_argument("program")
     parser.add_argument("--workers", nargs="+", type=int, default=[1, 2, 4], metavar="W", help="numbers of workers")
