@@ -396,10 +396,20 @@ class Example(FolderTest):
 
 
 def shown_by(notebook):
-    """What the cells of a notebook show: the kinds of each output, and its words."""
-    found = []
+    """What the cells of a notebook show: the kinds of each output, and its words.
+
+    Neighbouring words of one stream count as one output, since a kernel sends them in as
+    many pieces as the time between two of them makes."""
+    found: list[tuple[list[str], str]] = []
     for cell in notebook["cells"]:
+        before = None
         for output in cell.get("outputs", []):
             data = output.get("data", {})
-            found.append((sorted(data), "".join(data.get("text/plain", output.get("text", [])))))
+            words = "".join(data.get("text/plain", output.get("text", [])))
+            stream = output.get("name")
+            if stream is not None and stream == before:
+                found[-1] = ([], found[-1][1] + words)
+            else:
+                found.append((sorted(data), words))
+            before = stream
     return found
