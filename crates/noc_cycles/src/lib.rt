@@ -1,0 +1,12 @@
+//! One cycle of the routers of a block: what comes is taken, it is decided what each channel does,
+//! and that takes effect.
+//!
+//! The passes are those of `noc_columns`. Here stands what a block holds from cycle to cycle, what
+//! it works out in one, and the three parts of a cycle, each with what it is of one router.
+#![tactic(auto)]
+
+mod block;
+mod pattern;
+
+pub use block::{Block, Work};
+pub use pattern::Pattern;
