@@ -30,14 +30,13 @@ pub record MayTake (pattern : Pattern) (starts : List Start) (h : Held) (b : Rou
       && is_fed pattern.table.ports.links.width
       (with_credit pattern.table.ports.links.vcs (list_of pattern.frame.deep h.outputs.credit))
       (h.out_port i) (h.out_vc i))
-  pub supplied_below : MembersAreBelow
-      ((pattern.table.ports.links.width + 1) * pattern.table.ports.links.vcs) b.column.supplied
   -- who is active owns a channel that is not idle and does not drain
   pub busy : (i : ℕ) → has_bit h.inputs.active i ≡ true
       → (has_bit h.idle (owned_by pattern.table.ports.links.vcs h i) ≡ false)
       × (has_bit h.outputs.draining (owned_by pattern.table.ports.links.vcs h i) ≡ false)
-  -- and each link channel that is not idle and does not drain is owned
+  -- and each link channel to which a credit comes, and that is not idle and does not drain, is owned
   pub owned : (o : ℕ) → o < pattern.table.ports.links.width * pattern.table.ports.links.vcs
+      → has_bit b.links.credits o ≡ true
       → has_bit h.idle o ≡ false → has_bit h.outputs.draining o ≡ false
       → (i : ℕ) × (has_bit h.inputs.active i ≡ true)
       × (owned_by pattern.table.ports.links.vcs h i ≡ o)
