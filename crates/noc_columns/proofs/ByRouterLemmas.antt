@@ -1,31 +1,22 @@
 -- The channels of a router, port by port, the local port behind the link ports.
-use Rattle.std.proofs.Common.{◌≡◌, ℕ, ◌+◌, ◌*◌, ◌/◌, ◌%◌, ◌^◌, ◌<◌, ◌≤◌, Bool, List, arith, ap, ap₂, sym, ◌∙◌, inl, inr, bit_or}
+use Rattle.std.proofs.Common.{◌≡◌, ℕ, ◌+◌, ◌*◌, ◌^◌, ◌<◌, ◌≤◌, List, arith, ap, ap₂, sym, ◌∙◌}
 use Rattle.std.specs.Prelude.{if◌then◌else◌}
-use Rattle.std.proofs.lemmas.Bool.{cases_lt}
 use Rattle.std.proofs.lemmas.Nat.{div-mul-add, mod-mul-add, mul-le}
 use Rattle.noc_packet.specs.Set.{has_bit}
 use Rattle.noc_sets.specs.Unions.{union_from}
 use Rattle.noc_columns.specs.Arrivals.{given_back}
-use Rattle.noc_columns.specs.Picks.{channels_of, links_of, port_at, port_of}
+use Rattle.noc_columns.specs.Picks.{channels_of, port_at, port_of}
 use Rattle.noc_columns.specs.Supply.{digits_by, number_in}
 use Rattle.noc_columns.specs.Words.{set_of, word}
 use Rattle.noc_columns.specs.declared.ports.RouterPorts.{RouterPorts}
 use Rattle.noc_columns.specs.declared.supply.Digits.{Digits}
-use Rattle.noc_columns.proofs.ChannelLemmas.{port-below}
 use Rattle.noc_columns.proofs.PortLemmas.{link-index, local-index}
-use Rattle.noc_columns.proofs.SetLemmas.{below-same}
 use Rattle.noc_columns.proofs.SupplyLemmas.{member-is, number-is}
-use Rattle.noc_columns.proofs.WalkLemmas.{port-next, union-alike, union-set}
+use Rattle.noc_columns.proofs.WalkLemmas.{port-next, union-alike}
 
 -- there is room for eight local channels behind the link channels
 pub links-few : (width vcs : ℕ) → width < 8 → vcs ≤ 8 → width * vcs ≤ 56
 links-few width vcs l m = mul-le width vcs 7 8 (omega (arith, l)) m
-
-some-vcs : (width vcs c : ℕ) → c < width * vcs → 0 < vcs
-some-vcs width vcs c l = elim (cases_lt 0 vcs) [
-  | inl some ↦ some
-  | inr none ↦ (let z : vcs ≡ 0 = omega (arith, none) in let f : width * vcs ≡ width * 0 = ap (λ y. width * y) z in absurd (omega (arith, l, f)))
-]
 
 module _ (ports : RouterPorts) where
   pub link-word : (j v : ℕ) → j < ports.links.width → v < ports.links.vcs → (channels_of ports).index (j * ports.links.vcs + v) ≡ (port_at ports.links j).index v
@@ -38,30 +29,11 @@ module _ (ports : RouterPorts) where
       ap₂ (λ p w. (port_of ports p).index w) (div-mul-add ports.links.width ports.links.vcs v m) (mod-mul-add ports.links.width ports.links.vcs v m)
       ∙ local-index ports ports.links.width v (omega arith)
 
-  -- the link channels are the first
-  links-same : (r : ℕ) (words : List ℕ) (c : ℕ) → c < ports.links.width * ports.links.vcs → has_bit (word ((links_of ports.links).index c) words) r ≡ has_bit (word ((channels_of ports).index c) words) r
-  links-same r words c l =
-      ap (λ i. has_bit (word i words) r)
-      (sym (link-index ports (c / ports.links.vcs) (c % ports.links.vcs) (port-below ports.links.width ports.links.vcs (some-vcs ports.links.width ports.links.vcs c l) c l)))
-
   -- ---- what comes from the local port behind that of the link ports
   local-next : (old mid new : ℕ) (by of : ℕ → ℕ) → new ≡ union_from mid ports.local.vcs by → ((v : ℕ) → v < ports.links.vcs → by v ≡ of (ports.links.width * ports.links.vcs + v))
       → mid ≡ union_from old (ports.links.width * ports.links.vcs) of → new ≡ union_from old ((ports.links.width + 1) * ports.links.vcs) of
   local-next old mid new by of is same before =
       port-next ports.links.vcs ports.links.width old mid new by of (is ∙ ap (λ n. union_from mid n by) ports.alike) same before
-
-  pub all-added : (r : ℕ) (words : List ℕ) (old mid new : ℕ) → mid ≡ bit_or old (set_of (links_of ports.links) r words)
-      → new ≡ union_from mid ports.local.vcs (λ v. if has_bit (word ((port_at ports.local 0).index v) words) r then 2 ^ (ports.links.width * ports.local.vcs + v) else 0)
-      → new ≡ bit_or old (set_of (channels_of ports) r words)
-  all-added r words old mid new first last =
-      local-next old mid new (λ v. if has_bit (word ((port_at ports.local 0).index v) words) r then 2 ^ (ports.links.width * ports.local.vcs + v) else 0) (λ c. if has c then 2 ^ c else 0) last
-      (λ v l.
-      ap₂ (λ i n. if has_bit (word i words) r then 2 ^ (ports.links.width * n + v) else 0) (sym (local-word v l)) ports.alike)
-      (first ∙ ap (bit_or old) (below-same (ports.links.width * ports.links.vcs) _ _ (links-same r words)) ∙ sym (union-set old (ports.links.width * ports.links.vcs) has))
-      ∙ union-set old ((ports.links.width + 1) * ports.links.vcs) has
-    where
-      has : ℕ → Bool
-      has c = has_bit (word ((channels_of ports).index c) words) r
 
   -- ---- channels that are given back
   -- that of an input channel

@@ -1,9 +1,11 @@
 -- What a router keeps of its channels is written.
-use Rattle.std.proofs.Common.{◌≡◌, ℕ, ◌<◌, Bool, true, false, List, length, refl, ap, sym, ◌∙◌, inl, inr, set, slice_index, get_or-set_same, get_or-set_other}
+use Rattle.std.proofs.Common.{◌≡◌, ℕ, ◌<◌, Bool, true, false, List, length, refl, ap, sym, ◌∙◌, inl, inr, bit_or, set, slice_index, get_or-set_same, get_or-set_other}
 use Rattle.std.specs.Prelude.{not, nat_eq, if◌then◌else◌}
 use Rattle.std.proofs.lemmas.Bool.{cases_eq, eq-eqb, ne_eqb}
 use Rattle.noc_packet.specs.Set.{has_bit}
+use Rattle.noc_columns.specs.Marks.{ChangesIdle}
 use Rattle.noc_columns.specs.Wants.{asks_of}
+use Rattle.noc_columns.specs.declared.marks.Marks.{Marks}
 
 -- an entry that is written
 pub entry-put : (table : List ℕ) (i x k : ℕ) → i < length table → slice_index (set table i x) k ≡ (if nat_eq k i then x else slice_index table k)
@@ -36,3 +38,29 @@ asked-still asking now router w s i waiting wanted idle waits wants idles was is
         ≡ not (nat_eq (asks_of (if b then w else waiting r) (if b then s else wanted r) (if b then i else idle r)) 0)
     at true = refl
     at false = was r few
+
+-- .. and has these bits besides
+pub entry-put-more : (table : List ℕ) (i x k : ℕ) → i < length table
+    → slice_index (set table i (bit_or (slice_index table i) x)) k ≡ (if nat_eq k i then bit_or (slice_index table k) x else slice_index table k)
+entry-put-more table i x k within = elim (cases_eq k i) [
+  | inl same ↦
+      entry-put table i (bit_or (slice_index table i) x) k within
+      ∙ ap (λ j. if nat_eq k i then bit_or (slice_index table j) x else slice_index table k) (sym same)
+  | inr other ↦
+      get_or-set_other table i k (bit_or (slice_index table i) x) 0 other
+      ∙ sym (ap (λ b. if b then bit_or (slice_index table k) x else slice_index table k) (ne_eqb k i other))
+]
+
+-- one entry of a list is as it was, where it is written again
+pub same-entry : (table : List ℕ) (i k : ℕ) → slice_index table k ≡ (if nat_eq k i then slice_index table i else slice_index table k)
+same-entry table i k = elim (cases_eq k i) [
+  | inl same ↦ ap (slice_index table) same ∙ sym (ap (λ b. if b then slice_index table i else slice_index table k) (eq-eqb k i same))
+  | inr other ↦ sym (ap (λ b. if b then slice_index table i else slice_index table k) (ne_eqb k i other))
+]
+
+-- ---- a walk that only changes which output channels are idle
+pub idle-start : (m : Marks) → ChangesIdle m m
+idle-start m = record { waiting = refl; wanted = refl; sets = refl; turns = refl }
+
+pub idle-next : {a b c : Marks} → ChangesIdle a b → ChangesIdle b c → ChangesIdle a c
+idle-next p q = record { waiting = q.waiting ∙ p.waiting; wanted = q.wanted ∙ p.wanted; sets = q.sets ∙ p.sets; turns = q.turns ∙ p.turns }

@@ -1,8 +1,7 @@
 -- A walk over the routers of a word adds a bit to the set of each.
-use Rattle.std.proofs.Common.{◌≡◌, ◌≢◌, ℕ, zero, suc, ◌+◌, ◌*◌, ◌^◌, ◌<◌, ◌≤◌, Bool, true, false, List, Some, length, arith, ap, ap₂, sym, ◌∙◌, subst, refl, inl, inr, bit_and, bit_or, set, slice_index, get_or-set_same}
+use Rattle.std.proofs.Common.{◌≡◌, ◌≢◌, ℕ, zero, suc, ◌+◌, ◌*◌, ◌^◌, ◌<◌, ◌≤◌, Bool, true, false, List, Some, arith, ap, ap₂, sym, ◌∙◌, subst, refl, inl, inr, bit_and, bit_or, slice_index}
 use Rattle.std.specs.Prelude.{◌⊎◌, ◌&&◌, ◌||◌, not, nat_eq, if◌then◌else◌}
 use Rattle.std.proofs.lemmas.Bool.{cases_eq, cases_lt, eq-eqb, le-ltb, ne_eqb}
-use Rattle.std.proofs.lemmas.List.{length-set}
 use Rattle.noc_packet.specs.Set.{has_bit, IsLeast}
 use Rattle.noc_packet.proofs.SetLemmas.{both_members, either_members, has_bit-zero, same_set}
 use Rattle.noc_sets.specs.Sets.{less, lowest}
@@ -12,24 +11,21 @@ use Rattle.noc_sets.proofs.UnionLemmas.{or-assoc}
 use Rattle.noc_columns.specs.Arrivals.{leaves_from}
 use Rattle.noc_columns.specs.Words.{Numbering, set_below, set_of, word}
 use Rattle.noc_columns.proofs.LoopLemmas.{all-done, left-part, none-left, not-done, not-left}
-use Rattle.noc_columns.proofs.PassLemmas.{word-other}
 use Rattle.noc_columns.proofs.SetLemmas.{below-members}
 
 -- the routers of a word have got their bits, but for those that are left
 pub record AreAdded (routers rest : ℕ) (bit : ℕ → ℕ) (old now : List ℕ) : Type 0 where
-  pub size : length now ≡ 64
   pub part : (k : ℕ) → has_bit rest k ≡ true → has_bit routers k ≡ true
   pub done : (r : ℕ) → r < 64 → slice_index now r ≡ bit_or (slice_index old r) (if has_bit routers r && not (has_bit rest r) then bit r else 0)
 
-pub added-start : (routers : ℕ) (bit : ℕ → ℕ) (old : List ℕ) → length old ≡ 64 → AreAdded routers routers bit old old
-added-start routers bit old long = record {
-  size = long;
+pub added-start : (routers : ℕ) (bit : ℕ → ℕ) (old : List ℕ) → AreAdded routers routers bit old old
+added-start routers bit old = record {
   part = λ k e. e;
   done = λ r l. sym (ap (λ b. bit_or (slice_index old r) (if b then bit r else 0)) (none-left routers r) ∙ or-zero (slice_index old r));
 }
 
-module _ (routers rest after t x : ℕ) (bit : ℕ → ℕ) (old now : List ℕ) (are : AreAdded routers rest bit old now) (least : IsLeast (has_bit rest) (Some t)) (few : t < 64)
-    (after_is : after ≡ less rest (lowest rest)) (x_is : x ≡ bit_or (slice_index now t) (bit t)) where
+module _ (routers rest after t : ℕ) (bit : ℕ → ℕ) (old now new : List ℕ) (are : AreAdded routers rest bit old now) (least : IsLeast (has_bit rest) (Some t)) (few : t < 64)
+    (after_is : after ≡ less rest (lowest rest)) (new_is : (r : ℕ) → slice_index new r ≡ (if nat_eq r t then bit_or (slice_index now r) (bit t) else slice_index now r)) where
   abbrev gone : ℕ → Bool
   gone r = has_bit routers r && not (has_bit rest r)
 
@@ -39,21 +35,22 @@ module _ (routers rest after t x : ℕ) (bit : ℕ → ℕ) (old now : List ℕ)
   more : (r : ℕ) → (has_bit routers r && not (has_bit after r)) ≡ (gone r || nat_eq r t)
   more r = ap (λ w. has_bit routers r && not (has_bit w r)) after_is ∙ not-left routers rest t r least are.part
 
-  here : slice_index (set now t x) t ≡ with_bit t (has_bit routers t && not (has_bit after t))
+  abbrev written : ℕ → Bool → ℕ
+  written r b = if b then bit_or (slice_index now r) (bit t) else slice_index now r
+
+  here : slice_index new t ≡ with_bit t (has_bit routers t && not (has_bit after t))
   here =
-      let long = are.size in
-      get_or-set_same now t x 0 (omega (arith, long, few))
-      ∙ x_is
+      new_is t
+      ∙ ap (written t) (eq-eqb t t refl)
       ∙ ap (λ w. bit_or w (bit t)) (are.done t few ∙ ap (with_bit t) (not-done routers rest t least.0) ∙ or-zero (slice_index old t))
       ∙ sym (ap (with_bit t) (more t ∙ ap (λ b. gone t || b) (eq-eqb t t refl) ∙ or-right (gone t) true refl))
 
-  pub added-next : AreAdded routers after bit old (set now t x)
+  pub added-next : AreAdded routers after bit old new
   added-next = record {
-    size = length-set now t x ∙ are.size;
     part = λ k e. left-part routers rest t least are.part k (ap (λ w. has_bit w k) (sym after_is) ∙ e);
     done = λ r l. elim (cases_eq r t) [
-      | inl same ↦ subst (λ k. slice_index (set now t x) k ≡ with_bit k (has_bit routers k && not (has_bit after k))) (sym same) here
-      | inr other ↦ word-other now t x r other ∙ are.done r l ∙ ap (with_bit r) (sym (more r ∙ ap (λ b. gone r || b) (ne_eqb r t other) ∙ or-false (gone r)))
+      | inl same ↦ subst (λ k. slice_index new k ≡ with_bit k (has_bit routers k && not (has_bit after k))) (sym same) here
+      | inr other ↦ new_is r ∙ ap (written r) (ne_eqb r t other) ∙ are.done r l ∙ ap (with_bit r) (sym (more r ∙ ap (λ b. gone r || b) (ne_eqb r t other) ∙ or-false (gone r)))
     ];
   }
 

@@ -10,6 +10,7 @@ pub mod Near
 pub mod Places
 pub mod Grants
 pub mod Wants
+pub mod Marks
 pub mod Allotted
 pub mod Routing
 pub mod Heads

@@ -42,7 +42,7 @@ mod words;
 pub use allocation::allocate;
 pub use arrivals::{arrive, give_back};
 pub use asks::{Asks, ask_all};
-pub use by_router::{add_channels, add_links};
+pub use by_router::add_links;
 pub use channels::{Decided, Inputs, Links, Outputs, Returned, Standing, Verdicts};
 pub use credits::take_credits;
 pub use due::{Due, NEVER};

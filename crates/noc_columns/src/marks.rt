@@ -1,6 +1,6 @@
 //! What the routers of a block keep of their channels, which is read and written one by one.
 
-ghost use Rattle.std.specs.Prelude.{◌≡◌, ◌<◌, ℕ, nat_eq, not, slice_index, if◌then◌else◌};
+ghost use Rattle.std.specs.Prelude.{◌≡◌, ◌<◌, ℕ, nat_eq, not, bit_or, slice_index, if◌then◌else◌};
 ghost use Rattle.noc_packet.specs.Set.{has_bit};
 ghost use Rattle.noc_columns.specs.Wants.{asks_of};
 ghost use Rattle.noc_columns.specs.declared.words.TheConstants.{ROUTERS};
@@ -47,6 +47,25 @@ impl Marks {
         self.asking = with_router(self.asking, router, asks != 0);
         self.waiting[router] = waiting;
         self.wanted[router] = wanted;
+        self.idle[router] = idle;
+    }
+
+    /// These output channels of a router are idle too.
+    #[inline(always)]
+    pub fn add_idle(&mut self, router: usize, channels: u64)
+        requires { router < ROUTERS }
+        ensures idle { (r : ℕ) → slice_index self.new.idle r
+            ≡ (if nat_eq r router
+            then bit_or (slice_index self.old.idle r) channels
+            else slice_index self.old.idle r) }
+        ensures waiting { self.new.waiting ≡ self.old.waiting }
+        ensures wanted { self.new.wanted ≡ self.old.wanted }
+        ensures sets { self.new.sets ≡ self.old.sets }
+        ensures turns { self.new.turns ≡ self.old.turns }
+    {
+        let idle = self.idle[router] | channels;
+        let asks = where_some(self.waiting[router], self.wanted[router] & idle);
+        self.asking = with_router(self.asking, router, asks != 0);
         self.idle[router] = idle;
     }
 }
