@@ -1,3 +1,4 @@
 pub mod Held
 pub mod Deciding
 pub mod May
+pub mod Around

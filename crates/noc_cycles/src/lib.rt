@@ -5,8 +5,10 @@
 //! it works out in one, and the three parts of a cycle, each with what it is of one router.
 #![tactic(auto)]
 
+mod around;
 mod block;
 mod pattern;
 
+pub use around::Around;
 pub use block::{Block, Work};
 pub use pattern::Pattern;

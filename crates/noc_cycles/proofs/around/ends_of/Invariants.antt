@@ -1,0 +1,10 @@
+use Rattle.std.proofs.Common.{◌≡◌, ◌<◌, ◌+◌, ◌*◌, ℕ, length}
+use Rattle.noc_topo.specs.Shape.{local_port, neighbour, nodes}
+use Rattle.noc_cycles.specs.Around.{end_by, number_or_nowhere}
+use Rattle.noc_cycles.proofs.around.ends_of.Given as goal
+
+abbrev pub invariant-loop-r : goal.invariant-loop-r
+invariant-loop-r l = record {
+  size : length l.ends ≡ 64;
+  done : (r p : ℕ) → r < l.r → 64 * l.block + r < nodes l.shape → p < local_port l.shape → end_by l.ends r p ≡ number_or_nowhere (neighbour l.shape (64 * l.block + r) p);
+}
