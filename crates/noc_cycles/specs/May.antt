@@ -34,7 +34,7 @@ pub record MayTake (pattern : Pattern) (starts : List Start) (h : Held) (b : Rou
   pub busy : (i : ℕ) → has_bit h.inputs.active i ≡ true
       → (has_bit h.idle (owned_by pattern.table.ports.links.vcs h i) ≡ false)
       × (has_bit h.outputs.draining (owned_by pattern.table.ports.links.vcs h i) ≡ false)
-  -- and each link channel to which a credit comes, and that is not idle and does not drain, is owned
+  -- and each link channel to which a credit comes is owned, where it is not idle and does not drain
   pub owned : (o : ℕ) → o < pattern.table.ports.links.width * pattern.table.ports.links.vcs
       → has_bit b.links.credits o ≡ true
       → has_bit h.idle o ≡ false → has_bit h.outputs.draining o ≡ false

@@ -1,0 +1,4 @@
+pub mod ShownLemmas
+pub mod SourceLemmas
+pub mod HeadLemmas
+pub mod RouterLemmas
