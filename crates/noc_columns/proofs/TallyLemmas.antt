@@ -10,7 +10,7 @@ use Rattle.noc_packet.proofs.SetLemmas.{both_members, either_members, has_bit-on
 use Rattle.noc_topo.specs.Lists.{one_if}
 use Rattle.noc_columns.specs.Words.{word}
 use Rattle.noc_sets.specs.Sets.{differ}
-use Rattle.noc_columns.specs.Tallies.{at_level, carry_over, number_by, sum_of, with_four}
+use Rattle.noc_columns.specs.Tallies.{at_level, bit_level, carry_over, number_by, sum_of, with_four}
 use Rattle.noc_sets.proofs.MemberLemmas.{xor_members}
 
 three : (s p x : Bool) → one_if (differ (differ s p) x) + 2 * one_if ((s && p) || (differ s p && x)) ≡ one_if s + one_if p + one_if x
@@ -53,7 +53,7 @@ pub number-none : (f : ℕ → ℕ) → 0 ≡ number_by f 0
 unfolding number_by
 number-none f = refl
 
-number-next : (f : ℕ → ℕ) (n : ℕ) → number_by f (suc n) ≡ number_by f n + 2 ^ n * f n
+pub number-next : (f : ℕ → ℕ) (n : ℕ) → number_by f (suc n) ≡ number_by f n + 2 ^ n * f n
 unfolding number_by
 number-next f n = refl
 
@@ -141,9 +141,6 @@ module _ (n t : ℕ) (ones : (i : ℕ) → i < t → bit_at n i ≡ 1) (none : b
       ap (λ x. x % 2) (f (n + 1) ∙ ap (λ x. x / 2 ^ d) h ∙ sym (f n))
 
 -- ---- what is carried goes up
-abbrev pub bit_level : List (List ℕ) → ℕ → ℕ → ℕ → ℕ
-bit_level bits j k level = one_if (has_bit (word j (slice_index_or bits level [])) k)
-
 -- the levels below this one have taken what was pending at them, and what is carried on
 pub record IsCarried (size : ℕ) (bits0 pending : List (List ℕ)) (carry0 : List ℕ) (times : ℕ) (bits : List (List ℕ)) (carry : List ℕ) (level : ℕ) : Type 0 where
   pub low : (j k : ℕ) → j < size
@@ -156,12 +153,14 @@ module _ (size : ℕ) (bits0 pending : List (List ℕ)) (carry0 : List ℕ) (tim
   unfolding number_by
   carried-none = record { low = λ j k l. omega arith; left = λ i l. refl }
 
-  pub carried-next : (bits : List (List ℕ)) (carry sum_words next : List ℕ) (level : ℕ) → IsCarried size bits0 pending carry0 times bits carry level
-      → level < length bits → bit_at times level ≡ 1
-      → ((j : ℕ) → j < size → word j sum_words ≡ sum_of (word j (slice_index_or bits level [])) (word j (slice_index_or pending level [])) (word j carry))
-      → ((j : ℕ) → j < size → word j next ≡ carry_over (word j (slice_index_or bits level [])) (word j (slice_index_or pending level [])) (word j carry))
+  -- where this is what is pending at the level
+  pub carried-next : (bits : List (List ℕ)) (carry more sum_words next : List ℕ) (level : ℕ) → IsCarried size bits0 pending carry0 times bits carry level
+      → level < length bits
+      → ((j k : ℕ) → one_if (has_bit times level && has_bit (word j (slice_index_or pending level [])) k) ≡ one_if (has_bit (word j more) k))
+      → ((j : ℕ) → j < size → word j sum_words ≡ sum_of (word j (slice_index_or bits level [])) (word j more) (word j carry))
+      → ((j : ℕ) → j < size → word j next ≡ carry_over (word j (slice_index_or bits level [])) (word j more) (word j carry))
       → IsCarried size bits0 pending carry0 times (set bits level sum_words) next (level + 1)
-  carried-next bits carry sum_words next level carried fits one sum over = record {
+  carried-next bits carry more sum_words next level carried fits is sum over = record {
     low = λ j k l. subst
         (λ n. number_by (bit_level (set bits level sum_words) j k) n + 2 ^ n * one_if (has_bit (word j next) k)
         ≡ number_by (at_level bits0 pending times j k) n + one_if (has_bit (word j carry0) k))
@@ -174,7 +173,7 @@ module _ (size : ℕ) (bits0 pending : List (List ℕ)) (carry0 : List ℕ) (tim
           ≡ number_by (at_level bits0 pending times j k) (suc level) + one_if (has_bit (word j carry0) k)
       at j k l =
           let s = word j (slice_index_or bits level []) in
-          let p = word j (slice_index_or pending level []) in
+          let p = word j more in
           let x = word j carry in
           let below : number_by (bit_level (set bits level sum_words) j k) level ≡ number_by (bit_level bits j k) level =
           number-same (bit_level (set bits level sum_words) j k) (bit_level bits j k) level (λ i b. ap (λ r. one_if (has_bit (word j r) k))
@@ -183,8 +182,9 @@ module _ (size : ℕ) (bits0 pending : List (List ℕ)) (carry0 : List ℕ) (tim
           ap (λ r. one_if (has_bit (word j r) k)) (get_or-set_same bits level sum_words [] fits) ∙ ap (λ w. one_if (has_bit w k)) (sum j l) in
           let on : one_if (has_bit (word j next) k) ≡ one_if (has_bit (carry_over s p x) k) = ap (λ w. one_if (has_bit w k)) (over j l) in
           let had : at_level bits0 pending times j k level ≡ one_if (has_bit s k) + one_if (has_bit p k) =
-          ap (λ r. one_if (has_bit (word j r) k) + one_if (has_bit times level && has_bit p k)) (sym (carried.left level (omega arith)))
-          ∙ ap (λ b. one_if (has_bit s k) + one_if (b && has_bit p k)) (has_bit-one times level one) in
+          ap (λ r. one_if (has_bit (word j r) k) + one_if (has_bit times level && has_bit (word j (slice_index_or pending level [])) k))
+          (sym (carried.left level (omega arith)))
+          ∙ ap (λ n. one_if (has_bit s k) + n) (is j k) in
           ap (λ n. n + 2 ^ suc level * one_if (has_bit (word j next) k)) (number-next (bit_level (set bits level sum_words) j k) level)
           ∙ step (2 ^ level) (2 ^ suc level) (bit_level (set bits level sum_words) j k level) (one_if (has_bit (word j next) k))
           (at_level bits0 pending times j k level) (one_if (has_bit x k)) _ _ _ _

@@ -39,11 +39,15 @@ unfoldable pub number_by : (ℕ → ℕ) → ℕ → ℕ
 number_by digit zero = 0
 number_by digit (suc n) = number_by digit n + 2 ^ n * digit n
 
--- what a level has of router k in word j, where sets of four cycles were added `times` times:
--- its bit, and what is pending at it in the times whose number has that bit
+-- the bit that a level has of router k in word j
+abbrev pub bit_level : List (List ℕ) → ℕ → ℕ → ℕ → ℕ
+bit_level bits j k level = one_if (has_bit (word j (slice_index_or bits level [])) k)
+
+-- what it has, where sets of four cycles were added `times` times: its bit, and what is pending at
+-- it in the times whose number has that bit
 abbrev pub at_level : List (List ℕ) → List (List ℕ) → ℕ → ℕ → ℕ → ℕ → ℕ
 at_level bits pending times j k level =
-    one_if (has_bit (word j (slice_index_or bits level [])) k)
+    bit_level bits j k level
     + one_if (has_bit times level && has_bit (word j (slice_index_or pending level [])) k)
 
 -- the count of router k in word j

@@ -1,9 +1,9 @@
 //! How often each channel of a block had one verdict, bit by bit.
 
-ghost use Rattle.std.specs.Prelude.{◌≡◌, ◌+◌, ◌*◌, ◌^◌, ◌<◌, ◌≤◌, ℕ, [], slice_index_or};
+ghost use Rattle.std.specs.Prelude.{◌≡◌, ◌+◌, ◌*◌, ◌^◌, ◌<◌, ◌≤◌, ℕ, [], slice_index_or, if◌then◌else◌};
 ghost use Rattle.noc_packet.specs.Set.{has_bit};
 ghost use Rattle.noc_topo.specs.Lists.{one_if};
-ghost use Rattle.noc_columns.specs.Tallies.{at_level, carry_over, counted_at, number_by, sum_of, with_four};
+ghost use Rattle.noc_columns.specs.Tallies.{at_level, bit_level, carry_over, counted_at, number_by, sum_of, with_four};
 ghost use Rattle.noc_columns.specs.Words.{word};
 
 use crate::words::{ROUTERS, WORDS, Words, bit};
@@ -67,6 +67,24 @@ impl Tally {
         add_carry(groups, &mut self.bits, &mut self.pending, &mut carry, times);
     }
 
+    /// Adds one set so many times, also between two sets of four cycles. The counts are right where
+    /// they stay below 2^32.
+    pub fn repeat(&mut self, groups: usize, set: &Words, cycles: u32)
+        requires { 4 * groups ≤ WORDS }
+        ensures { (times i r : ℕ) → i < 4 * groups
+            → counted_at self.old times i r + cycles < 2 ^ 32
+            → counted_at self.new times i r
+            ≡ counted_at self.old times i r + cycles * one_if (has_bit (word i set.now) r) }
+    {
+        let none = [0; WORDS];
+        let mut carry = [0; WORDS];
+        let first = where_bit(cycles, 0, set, &none);
+        add_pending(groups, &mut self.ones, first, &mut carry);
+        let second = where_bit(cycles, 1, set, &none);
+        add_pending(groups, &mut self.twos, second, &mut carry);
+        add_number(groups, &mut self.bits, set, cycles / 4, &mut carry);
+    }
+
     /// How often a channel of a router had the verdict by now, where sets were added so many times.
     pub fn total(&self, index: usize, router: usize, times: u32) -> u64
         requires index { index < WORDS }
@@ -98,6 +116,35 @@ impl Tally {
         } else {
             counted
         }
+    }
+}
+
+// A set is added so many times to the bits above the lowest two, with what these carry.
+fn add_number(groups: usize, bits: &mut [Words; LEVELS], set: &Words, times: u32, carry: &mut Words)
+    requires { 4 * groups ≤ WORDS }
+    ensures { times < 2 ^ LEVELS → (j k : ℕ) → j < 4 * groups
+        → number_by (bit_level bits.new j k) LEVELS
+        + 2 ^ LEVELS * one_if (has_bit (word j carry.new) k)
+        ≡ number_by (bit_level bits.old j k) LEVELS + times * one_if (has_bit (word j set.now) k)
+        + one_if (has_bit (word j carry.old) k) }
+{
+    let none = [0; WORDS];
+    for level in 0..LEVELS {
+        let more = where_bit(times, level, set, &none);
+        add_pending(groups, &mut bits[level], more, carry);
+    }
+}
+
+// A set, where a number has a bit, and else none.
+#[inline(always)]
+fn where_bit<'a>(number: u32, level: usize, set: &'a Words, none: &'a Words) -> &'a Words
+    requires { level < LEVELS }
+    ensures { result.now ≡ (if has_bit number level then set.now else none.now) }
+{
+    if bit(number as u64, level) == 1 {
+        set
+    } else {
+        none
     }
 }
 

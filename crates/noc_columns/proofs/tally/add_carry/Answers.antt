@@ -1,10 +1,11 @@
-use Rattle.std.proofs.Common.{◌≡◌, ◌+◌, subst, arith, ◌∙◌, w32}
+use Rattle.std.proofs.Common.{◌≡◌, ◌+◌, ap, subst, arith, ◌∙◌, w32}
 use Rattle.std.proofs.lemmas.List.{length-set}
-use Rattle.std.specs.Prelude.{slice_set}
+use Rattle.std.specs.Prelude.{[], ◌&&◌, slice_index_or, slice_set}
 use Rattle.std.specs.Int.{bit_at, trailing_ones}
 use Rattle.std.proofs.lemmas.Nat.Bits.{bit_at-trailing_ones}
 use Rattle.noc_topo.specs.Lists.{one_if}
 use Rattle.noc_packet.specs.Set.{has_bit}
+use Rattle.noc_packet.proofs.SetLemmas.{has_bit-one}
 use Rattle.noc_columns.specs.Words.{word}
 use Rattle.noc_columns.specs.Tallies.{at_level, number_by}
 use Rattle.noc_columns.proofs.TallyLemmas.{carried-all, carried-next, carried-none, last-small}
@@ -19,7 +20,9 @@ loop-level-preserved c = record {
   carried = λ few.
       let e : c.trailing_ones.result ≡ trailing_ones w32 c.args.times = c.trailing_ones.ensures in
       let ones = (bit_at-trailing_ones w32 c.args.times (omega arith)).2 c.loop-level.level (omega (arith, e)) in
-      carried-next _ _ _ _ _ _ _ _ _ _ (c.loop-level.invariant.carried few) (omega arith) ones c.add_pending.ensures.bits c.add_pending.ensures.carry;
+      carried-next _ _ _ _ _ _ _ _ _ _ _ (c.loop-level.invariant.carried few) (omega arith)
+      (λ j k. ap (λ b. one_if (b && has_bit (word j (slice_index_or c.args.pending.now c.loop-level.level [])) k)) (has_bit-one c.args.times c.loop-level.level ones))
+      c.add_pending.ensures.bits c.add_pending.ensures.carry;
 }
 
 pub returns : goal.returns

@@ -1,6 +1,4 @@
-use Rattle.std.proofs.Common.{◌≡◌, ◌+◌, ◌∙◌, ap, subst, arith}
-use Rattle.noc_packet.specs.Set.{has_bit}
-use Rattle.noc_topo.specs.Lists.{one_if}
+use Rattle.std.proofs.Common.{◌≡◌, ◌+◌, subst, arith}
 use Rattle.noc_columns.specs.Tallies.{at_level, number_by}
 use Rattle.noc_columns.proofs.TallyLemmas.{level-small, number-fits, number-none, number-up}
 use Rattle.noc_columns.proofs.tally.Tally.total.Goals as goal
