@@ -42,7 +42,6 @@ standing_by f r = record {
 
 abbrev pub decided_by : {A B : Type 0} → (A → B) → Decided A → Decided B
 decided_by f r = record {
-  granted = f r.granted;
   picked = f r.picked;
   past = f r.past;
   sends = f r.sends;

@@ -60,22 +60,23 @@ pub record Lands (deep : Bool) (links : Links ℕ) (i j : Inputs ℕ) (s t : Sta
       → short ≡ lane_no_credit (filled_by deep i links.flits) (with_inputs deep i s.supplied c)
 
 -- ---- what is decided takes effect
--- the effects on the input channels
-abbrev pub effects_of : Standing ℕ → Decided ℕ → ℕ → Effects
-effects_of s d moved = record {
+-- the effects on the input channels, of which these are granted an output channel, and these move
+-- a flit
+abbrev pub effects_of : Standing ℕ → ℕ → ℕ → Effects
+effects_of s granted moved = record {
   heads = s.heads;
-  granted = d.granted;
+  granted = granted;
   moved = moved;
   out = 0;
   released = bit_and moved s.last;
   freed = 0;
 }
 
-pub record Settles (deep : Bool) (s : Standing ℕ) (d : Decided ℕ) (i j : Inputs ℕ)
+pub record Settles (deep : Bool) (s : Standing ℕ) (d : Decided ℕ) (granted : ℕ) (i j : Inputs ℕ)
     (v w : Verdicts ℕ) : Type 0 where
   pub column : (links local supplied : ℕ) (c : Column)
       → with_inputs deep j supplied c
-      ≡ record (settled_lane j.ahead links local (effects_of s d w.moved)
+      ≡ record (settled_lane j.ahead links local (effects_of s granted w.moved)
       (with_inputs deep i supplied c)) {
         supplied = supplied;
         draining = c.draining;

@@ -52,7 +52,8 @@ pub fn arrive(
 /// again.
 pub fn give_back(ports: &RouterPorts, arrived: &Words, vc: &Digits<Words>, marks: &mut Marks)
     ensures idle { (r : ℕ) → r < ROUTERS → slice_index marks.new.idle r
-        ≡ given_back (slice_index marks.old.idle r) ((ports.now.links.width + 1) * ports.now.links.vcs)
+        ≡ given_back (slice_index marks.old.idle r)
+        ((ports.now.links.width + 1) * ports.now.links.vcs)
         (ports.now.links.width * ports.now.links.vcs)
         (set_of (channels_of ports.now) r arrived.now)
         (number_in (digits_by (set_of (channels_of ports.now) r) vc.now)) }

@@ -144,8 +144,6 @@ impl Standing<Words> {
 /// What is decided of the input channels.
 #[derive(Drop)]
 pub struct Decided<T> {
-    /// Those that are granted an output channel.
-    pub granted: T,
     /// Of each input port the one that is first in turn.
     pub picked: T,
     /// Those after it in their port.
@@ -162,7 +160,6 @@ impl Decided<Words> {
         ensures { result ≡ decided_by (word index) self.now }
     {
         Decided {
-            granted: self.granted[index],
             picked: self.picked[index],
             past: self.past[index],
             sends: self.sends[index],
