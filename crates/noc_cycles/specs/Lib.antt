@@ -2,3 +2,4 @@ pub mod Held
 pub mod Deciding
 pub mod May
 pub mod Around
+pub mod Taking

@@ -48,6 +48,14 @@ pub record MayTake (pattern : Pattern) (starts : List Start) (h : Held) (b : Rou
       → h.source.queue + 1 < length starts
   pub due : h.injecting ≢ 0 → (cycle : ℕ) × (h.source.due ≤ cycle) × (cycle < 2 ^ 32 - 1)
 
+-- to inject in a cycle: so may all 64 routers of a block, also where the network has fewer. (Packets
+-- of the others are never due.)
+pub record MayInject (starts : List Start) (cycle : ℕ) (h : Held) : Type 0 where
+  pub one : (v w : ℕ) → has_bit h.injecting v ≡ true → has_bit h.injecting w ≡ true → v ≡ w
+  pub left : h.injecting ≢ 0 → 0 < h.source.left
+  -- there is a start behind that of a packet that is due
+  pub queue : h.source.due ≤ cycle → h.source.queue + 1 < length starts
+
 -- to decide, where so many packets have headers, and it is a router of the network if it has a head
 pub record MayDecide (pattern : Pattern) (headers nodes node : ℕ) (h : Held) (standing : Standing ℕ)
     : Type 0 where

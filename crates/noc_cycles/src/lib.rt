@@ -6,9 +6,11 @@
 #![tactic(auto)]
 
 mod around;
+mod begins;
 mod block;
 mod pattern;
 
 pub use around::Around;
+pub use begins::{begin_packets, some_in};
 pub use block::{Block, Work};
 pub use pattern::Pattern;
