@@ -2,11 +2,16 @@
 //!
 //! `noc_cycles` has the parts of a cycle of a block, and what each asks for of its routers, and
 //! `noc_theory_bits` what the words of all routers show of a network. `specs/` has what it means
-//! that a block fits a network (`Fits`). The laws are the contracts of the functions here.
+//! that a block fits a network (`Fits`), and what routers hold that the network does not have
+//! (`Blank`). The laws are the contracts of the functions here.
 #![tactic(auto)]
 
+mod blank;
 mod heads;
 mod routers;
 
+pub use blank::{
+    blank_routers_have_what_is_asked_for, blank_routers_hold_nothing, blank_routers_stay_blank,
+};
 pub use heads::{heads_are_routed_as_permitted, packets_are_routable};
 pub use routers::routers_have_what_is_asked_for;

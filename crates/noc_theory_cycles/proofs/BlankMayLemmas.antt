@@ -1,0 +1,137 @@
+-- A router of a block that the network does not have has what each part of a cycle asks for, and
+-- what it holds shows that.
+use Rattle.std.proofs.Common.{◌≡◌, ℕ, ◌+◌, ◌-◌, ◌*◌, ◌<◌, true, false, List, ap, arith, refl, sym, ◌∙◌}
+use Rattle.std.proofs.lemmas.Bool.{and_left, false≢true}
+use Rattle.noc_packet.specs.Set.{has_bit}
+use Rattle.noc_packet.proofs.SetLemmas.{has_bit-zero, zero_from_none}
+use Rattle.noc_sets.specs.Column.{Column}
+use Rattle.noc_sets.specs.Cycle.{Router, still_of}
+use Rattle.noc_sets.specs.Layout.{Layout}
+use Rattle.noc_sets.specs.Passes.{AreOwners, lane_raised}
+use Rattle.noc_sets.specs.Planes.{any_from}
+use Rattle.noc_sets.specs.Sets.{up_by}
+use Rattle.noc_sets.specs.Source.{NEVER, Source, Start}
+use Rattle.noc_sets.proofs.MemberLemmas.{up_members}
+use Rattle.noc_columns.specs.declared.channels.Decided.{Decided}
+use Rattle.noc_columns.specs.declared.channels.Links.{Links}
+use Rattle.noc_columns.specs.declared.channels.Standing.{Standing}
+use Rattle.noc_cycles.specs.Deciding.{HasDecidedHeld}
+use Rattle.noc_cycles.specs.Held.{Held, ShowsHeld, ShowsStill}
+use Rattle.noc_cycles.specs.May.{MayConclude, MayDecide, MayTake}
+use Rattle.noc_cycles.specs.declared.pattern.Pattern.{Pattern}
+use Rattle.noc_theory_cycles.specs.Blank.{HoldsNothing, IsBlank, words_of}
+use Rattle.noc_theory_cycles.proofs.BlankLemmas.{no-heads, not-idle, nothing-ready}
+use Rattle.noc_theory_cycles.proofs.NoneLemmas.{no-member}
+
+-- ---- what it holds
+-- a set is empty where it is after it has moved up
+up-empty : (a links : ℕ) → up_by a links ≡ 0 → a ≡ 0
+up-empty a links none = zero_from_none a (λ k.
+    let back : links + k - links ≡ k = omega arith in
+    sym (ap (has_bit a) back) ∙ sym (up_members a links (links + k) (omega arith)) ∙ ap (λ w. has_bit w (links + k)) none ∙ has_bit-zero (links + k))
+
+no-shift : (links : ℕ) → up_by 0 links ≡ 0
+no-shift links = omega arith
+
+module _ (pattern : Pattern) (h : Held) (links : Links ℕ) (b : Router) (held : ShowsHeld pattern h links b) (blank : IsBlank b) where
+  pub holds-nothing : HoldsNothing pattern.frame.deep h
+  holds-nothing = record {
+    waiting = held.waiting ∙ sym (ap (λ (c : Column). c.waiting) held.column) ∙ blank.waiting;
+    inputs = sym (ap (λ (c : Column). c.waiting) held.column) ∙ blank.waiting;
+    active = sym (ap (λ (c : Column). c.active) held.column) ∙ blank.active;
+    flits = sym (ap (λ (c : Column). any_from 0 c.len) held.column) ∙ blank.flits;
+    idle = sym (ap (λ (c : Column). c.idle) held.column) ∙ blank.idle;
+    draining = sym (ap (λ (c : Column). c.draining) held.column) ∙ blank.draining;
+    injecting = up-empty h.injecting (pattern.table.ports.links.width * pattern.table.ports.links.vcs) (sym (ap (λ (c : Column). c.injecting) held.column) ∙ blank.injecting);
+    due = sym (ap (λ (s : Source). s.due) held.source) ∙ blank.due;
+  }
+
+  -- ---- to take what comes
+  pub blank-may-take : (starts : List Start) → MayTake pattern starts h b
+  blank-may-take starts = record {
+    supplied = λ i u.
+        ap (λ w. has_bit w i) blank.supplied ∙ has_bit-zero i
+        ∙ sym (and_left (has_bit h.inputs.active i) _ (ap (λ w. has_bit w i) holds-nothing.active ∙ has_bit-zero i));
+    busy = λ i e. absurd (false≢true (no-member h.inputs.active i holds-nothing.active e));
+    owned = λ o u came idle draining. absurd (false≢true (no-member b.links.credits o blank.credits_come came));
+    one = λ x y ex ey. absurd (false≢true (no-member h.injecting x holds-nothing.injecting ex));
+    left = λ some. absurd (some holds-nothing.injecting);
+    queue = λ cycle due soon. let never = holds-nothing.due in absurd (omega (arith, due, soon, never));
+    due = λ some. absurd (some holds-nothing.injecting);
+  }
+
+-- what holds nothing is of a blank router
+module _ (pattern : Pattern) (h : Held) (links : Links ℕ) (holds : HoldsNothing pattern.frame.deep h) where
+  none-active : (i : ℕ) → has_bit h.inputs.active i ≡ true → false ≡ true
+  none-active i e = no-member h.inputs.active i holds.active e
+
+  pub words-show : ShowsHeld pattern h links (words_of pattern h links)
+  words-show = record {
+    column = refl;
+    marks = record {
+      set = refl;
+      turn = refl;
+      packet = refl;
+      owned = record {
+        sends = record {
+          port = λ i e. absurd (false≢true (none-active i e));
+          vc = λ i e. absurd (false≢true (none-active i e));
+          taken = λ i e. absurd (false≢true (none-active i e));
+          to_port = λ i q e l. absurd (false≢true (none-active i e));
+        };
+        only = λ q i e. absurd (false≢true (no-member 0 i refl e));
+        owner = λ i e. absurd (false≢true (none-active i e));
+      };
+      outputs = λ q l. refl;
+    };
+    waiting = holds.waiting ∙ sym holds.inputs;
+    ended = refl;
+    links_are = refl;
+    source = refl;
+  }
+
+  pub words-blank : links.flits ≡ 0 → links.credits ≡ 0 → IsBlank (words_of pattern h links)
+  words-blank flits credits = record {
+    waiting = holds.inputs;
+    active = holds.active;
+    flits = holds.flits;
+    supplied = refl;
+    idle = holds.idle;
+    draining = holds.draining;
+    injecting = ap (λ w. up_by w (pattern.table.ports.links.width * pattern.table.ports.links.vcs)) holds.injecting ∙ no-shift (pattern.table.ports.links.width * pattern.table.ports.links.vcs);
+    due = holds.due;
+    flits_come = flits;
+    credits_come = credits;
+  }
+
+-- ---- once it has taken what comes
+module _ (pattern : Pattern) (layout : Layout) (starts : List Start) (n up : ℕ) (b : Router) (h : Held) (standing : Standing ℕ) (no_credit : ℕ) (soon : n < NEVER) (blank : IsBlank b)
+    (ups : AreOwners (lane_raised b.links.credits b.column) b.marks.owner up) (held : ShowsStill pattern h standing no_credit (still_of layout starts n up b)) where
+  heads-none : standing.heads ≡ 0
+  heads-none = held.heads ∙ no-heads layout starts n up b soon blank ups
+
+  waiting-none : h.waiting ≡ 0
+  waiting-none = held.waiting ∙ sym (ap (λ (c : Column). c.waiting) held.column) ∙ blank.waiting
+
+  active-none : h.inputs.active ≡ 0
+  active-none = sym (ap (λ (c : Column). c.active) held.column) ∙ blank.active
+
+  idle-none : h.idle ≡ 0
+  idle-none = sym (ap (λ (c : Column). c.idle) held.column) ∙ not-idle layout starts n up b soon blank ups
+
+  pub blank-may-decide : (packets nodes node : ℕ) → MayDecide pattern packets nodes node h standing
+  blank-may-decide packets nodes node = record {
+    waiting = λ k e. absurd (false≢true (no-member h.waiting k waiting-none e));
+    idle = λ k e. absurd (false≢true (no-member h.idle k idle-none e));
+    apart = λ i e. absurd (false≢true (no-member h.inputs.active i active-none e));
+    busy = λ i e. absurd (false≢true (no-member h.inputs.active i active-none e));
+    node_is = λ some. absurd (some heads-none);
+    heads = λ k e. absurd (false≢true (no-member standing.heads k heads-none e));
+  }
+
+  pub blank-may-conclude : (sets : ℕ → ℕ → ℕ) (d : Held) (decided : Decided ℕ) (granted lost released packets : ℕ) (left : Links ℕ)
+      → HasDecidedHeld pattern layout sets (still_of layout starts n up b) h d standing decided granted lost left
+      → ((i : ℕ) → has_bit released i ≡ true → has_bit decided.picked i ≡ true) → MayConclude packets d released
+  blank-may-conclude sets d decided granted lost released packets left has among = record {
+    packet = λ i e. absurd (false≢true (nothing-ready layout starts n up b soon blank ups i (has.picks.among i (among i e))));
+  }
