@@ -3,3 +3,4 @@ pub mod Deciding
 pub mod May
 pub mod Around
 pub mod Taking
+pub mod Gathered

@@ -8,9 +8,11 @@
 mod around;
 mod begins;
 mod block;
+mod gather;
 mod pattern;
 
 pub use around::Around;
 pub use begins::{begin_packets, some_in};
 pub use block::{Block, Work};
+pub use gather::gather_links;
 pub use pattern::Pattern;

@@ -1,0 +1,193 @@
+-- What comes over the links of all ports is what the links bring.
+use Rattle.std.proofs.Common.{◌≡◌, ◌≢◌, ◌⊎◌, ℕ, zero, suc, ◌+◌, ◌-◌, ◌*◌, ◌/◌, ◌%◌, ◌<◌, ◌≤◌, Bool, true, false, List, [], ◌∷◌, Vec, Global, Option, Some, None, length, get_or, ap, ap₂, sym, subst, ◌∙◌, refl, arith, inl, inr}
+use Rattle.std.specs.Prelude.{◌&&◌, ◌||◌, if◌then◌else◌}
+use Rattle.std.proofs.lemmas.Bool.{cases_eq, cases_lt, eq-eqb, le-ltb, lt-ltb, ne_eqb}
+use Rattle.std.proofs.lemmas.Nat.{div-add-mod', div-mul-add, div_below, le-div, mod-mul-add, mod_below}
+use Rattle.noc_packet.specs.Set.{has_bit}
+use Rattle.noc_topo.specs.Shape.{Grid, IsGrid, local_port, neighbour, nodes, opposite}
+use Rattle.noc_topo.proofs.LinkLemmas.{link_back}
+use Rattle.noc_sets.specs.Gather.{gathered, is_over}
+use Rattle.noc_sets.proofs.GatherLemmas.{gathered-is, gathered-links}
+use Rattle.noc_sets.proofs.MemberLemmas.{same-word}
+use Rattle.noc_columns.specs.Near.{comes_by, comes_from, comes_near}
+use Rattle.noc_columns.specs.Picks.{links_of, port_at}
+use Rattle.noc_columns.specs.Places.{AreFar, IsNear, far_places, places_by}
+use Rattle.noc_columns.specs.Words.{set_of, word}
+use Rattle.noc_columns.specs.declared.neighbours.Far.{Far}
+use Rattle.noc_columns.specs.declared.neighbours.Near.{Near}
+use Rattle.noc_columns.specs.declared.ports.Ports.{Ports}
+use Rattle.noc_columns.proofs.NearLemmas.{are-places, brought-is}
+use Rattle.noc_columns.proofs.PickLemmas.{apart}
+use Rattle.noc_columns.proofs.PlaceLemmas.{near-and-far, near-or-far}
+use Rattle.noc_columns.proofs.SetLemmas.{below-members}
+use Rattle.noc_cycles.specs.Around.{far_by}
+use Rattle.noc_cycles.specs.Gathered.{LeadBy}
+
+-- ---- opposite ports
+pub opposite-below : (q w : ℕ) → w % 2 ≡ 0 → q < w → opposite q < w
+opposite-below q w pairs l = elim (cases_eq (q % 2) 0) [
+  | inl even ↦ subst (λ n. n < w) (sym (ap (λ b. if b then q + 1 else q - 1) (eq-eqb (q % 2) 0 even))) (omega (arith, pairs, l, even))
+  | inr odd ↦ subst (λ n. n < w) (sym (ap (λ b. if b then q + 1 else q - 1) (ne_eqb (q % 2) 0 odd))) (omega (arith, l))
+]
+
+even-rows : (v w : ℕ) → w % 2 ≡ 0 → v * w % 2 ≡ 0
+even-rows zero w pairs = let z : 0 * w ≡ 0 = omega arith in ap (λ n. n % 2) z
+even-rows (suc v) w pairs = let r = even-rows v w pairs in omega (arith, r, pairs)
+
+opposite-up : (m q : ℕ) → m % 2 ≡ 0 → opposite (m + q) ≡ m + opposite q
+opposite-up m q even = elim (cases_eq (q % 2) 0) [
+  | inl low ↦
+      ap (λ b. if b then m + q + 1 else m + q - 1) (eq-eqb ((m + q) % 2) 0 (omega (arith, even, low)))
+      ∙ (let e : m + q + 1 ≡ m + (q + 1) = omega arith in e)
+      ∙ sym (ap (λ b. m + (if b then q + 1 else q - 1)) (eq-eqb (q % 2) 0 low))
+  | inr high ↦
+      let some : 0 < q = omega (arith, high) in
+      ap (λ b. if b then m + q + 1 else m + q - 1) (ne_eqb ((m + q) % 2) 0 (λ z. high (let f : q % 2 ≡ 0 = omega (arith, even, z) in f)))
+      ∙ (let e : m + q - 1 ≡ m + (q - 1) = omega (arith, some) in e)
+      ∙ sym (ap (λ b. m + (if b then q + 1 else q - 1)) (ne_eqb (q % 2) 0 high))
+]
+
+-- ---- port after port
+-- of words of one kind those of the ports below n have what comes from all blocks, and the others
+-- what comes from block b
+pub record ArePorts (links : Ports) (near : Near) (far : ℕ → List Far) (sent : ℕ → List ℕ) (b n : ℕ) (now : List ℕ) : Type 0 where
+  pub done : (q v r : ℕ) → q < n → q < links.width → v < links.vcs → r < 64
+      → has_bit (word ((port_at links q).index v) now) r ≡ (comes_near near (sent b) ((port_at links q).index v) r || comes_by (far_places (far q)) (λ c. word ((port_at links (opposite q)).index v) (sent c)) r)
+  pub left : (q v r : ℕ) → n ≤ q → q < links.width → v < links.vcs → r < 64
+      → has_bit (word ((port_at links q).index v) now) r ≡ comes_near near (sent b) ((port_at links q).index v) r
+
+other-port : (first width p q v w : ℕ) → p < width → q < width → p ≢ q → first + v * width + q ≢ first + w * width + p
+other-port first width p q v w l m other e =
+    let same : v * width + q ≡ w * width + p = omega (arith, e) in
+    other (sym (sym (mod-mul-add v width q m) ∙ ap (λ n. n % width) same ∙ mod-mul-add w width p l))
+
+pub ports-first : (links : Ports) (near : Near) (far : ℕ → List Far) (sent : ℕ → List ℕ) (b groups : ℕ) (now from : List ℕ) → from ≡ sent b → links.first ≡ 0 → links.vcs * links.width ≤ 4 * groups
+    → ((k r : ℕ) → k < 4 * groups → r < 64 → has_bit (word k now) r ≡ comes_near near from k r) → ArePorts links near far sent b 0 now
+ports-first links near far sent b groups now from same first fit here = record {
+  done = λ q v r l. absurd (omega (arith, l));
+  left = λ q v r l m few low.
+      let inside = apart v links.vcs links.width q few m in
+      here ((port_at links q).index v) r (omega (arith, inside, fit, first)) low ∙ ap (λ w. comes_near near w ((port_at links q).index v) r) same;
+}
+
+pub ports-next : (links : Ports) (near : Near) (far : ℕ → List Far) (sent : ℕ → List ℕ) (b n : ℕ) (now new : List ℕ) (row : List Far) → row ≡ far n → n < links.width → ArePorts links near far sent b n now
+    → ((v r : ℕ) → v < links.vcs → r < 64 → has_bit (word ((port_at links n).index v) new) r ≡ (has_bit (word ((port_at links n).index v) now) r || comes_by (far_places row) (λ c. word ((port_at links (opposite n)).index v) (sent c)) r))
+    → ((k : ℕ) → ((v : ℕ) → v < links.vcs → k ≢ (port_at links n).index v) → word k new ≡ word k now)
+    → ArePorts links near far sent b (n + 1) new
+ports-next links near far sent b n now new row is inside are here others = record {
+  done = λ q v r l m few low. elim (cases_eq n q) [
+    | inl same ↦ subst (λ p. has_bit (word ((port_at links p).index v) new) r ≡ (comes_near near (sent b) ((port_at links p).index v) r || comes_by (far_places (far p)) (λ c. word ((port_at links (opposite p)).index v) (sent c)) r)) same
+        (here v r few low ∙ ap₂ (λ x f. x || comes_by (far_places f) (λ c. word ((port_at links (opposite n)).index v) (sent c)) r) (are.left n v r (omega arith) inside few low) is)
+    | inr other ↦ stays q v r m other ∙ are.done q v r (omega (arith, l, other)) m few low
+  ];
+  left = λ q v r l m few low. stays q v r m (λ e. absurd (omega (arith, e, l))) ∙ are.left q v r (omega (arith, l)) m few low;
+}
+  where
+    stays : (q v r : ℕ) → q < links.width → n ≢ q → has_bit (word ((port_at links q).index v) new) r ≡ has_bit (word ((port_at links q).index v) now) r
+    stays q v r m other = ap (λ w. has_bit w r) (others ((port_at links q).index v) (λ w few. other-port links.first links.width n q v w inside m other))
+
+-- ---- of one router
+module _ (g : Grid) (sound : IsGrid g) (links : Ports) (near : Near) (far : ℕ → List Far) (sent : ℕ → List ℕ) (b s : ℕ) (now : List ℕ) (leaves : ℕ → ℕ)
+    (some : 0 < links.vcs) (pairs : links.width % 2 ≡ 0) (first : links.first ≡ 0) (width : links.width ≡ local_port g) (home : s / 64 ≡ b) (known : s < nodes g)
+    (own : IsNear g links.vcs b near) (others : (p : ℕ) → p < local_port g → AreFar g b p (far p)) (are : ArePorts links near far sent b links.width now)
+    (shows : (t : ℕ) → t < nodes g → (o : ℕ) → o < links.width * links.vcs → has_bit (set_of (links_of links) (t % 64) (sent (t / 64))) o ≡ has_bit (leaves t) o) where
+  -- what leaves a router, by the words
+  abbrev words : ℕ → ℕ
+  words t = set_of (links_of links) (t % 64) (sent (t / 64))
+
+  -- what leaves the other ends of the links by port q, by block
+  abbrev to : ℕ → ℕ → ℕ → ℕ
+  to q v c = word ((port_at links (opposite q)).index v) (sent c)
+
+  channel : (p v : ℕ) → p < links.width → v < links.vcs → p * links.vcs + v < links.width * links.vcs
+  channel p v l few = apart p links.width links.vcs v l few
+
+  member : (w : List ℕ) (r p v : ℕ) → p < links.width → v < links.vcs → has_bit (set_of (links_of links) r w) (p * links.vcs + v) ≡ has_bit (word ((port_at links p).index v) w) r
+  member w r p v l few =
+      below-members (links.width * links.vcs) (λ c. has_bit (word ((links_of links).index c) w) r) (p * links.vcs + v)
+      ∙ ap (λ x. x && has_bit (word ((links_of links).index (p * links.vcs + v)) w) r) (lt-ltb (p * links.vcs + v) (links.width * links.vcs) (channel p v l few))
+      ∙ ap₂ (λ q u. has_bit (word ((port_at links q).index u) w) r) (div-mul-add p links.vcs v few) (mod-mul-add p links.vcs v few)
+
+  -- at the other end of a link the words are right
+  over : (v : ℕ) → v < links.vcs → (o : Option (ℕ × ℕ)) (q : ℕ) → neighbour g s q ≡ o → is_over links.vcs words v o ≡ is_over links.vcs leaves v o
+  over v few None q e = refl
+  over v few (Some (t, port)) q e =
+      let back = link_back g s q t port sound known e in
+      shows t back.node (port * links.vcs + v) (channel port v (subst (λ n. port < n) (sym width) back.port) few)
+
+  comes : (q v : ℕ) → q < links.width → v < links.vcs → has_bit (word ((port_at links q).index v) now) (s % 64) ≡ is_over links.vcs leaves v (neighbour g s q)
+  comes q v l few =
+      are.done q v (s % 64) l l few low
+      ∙ ap (λ x. x || comes_by (far_places (far q)) (λ c. word ((port_at links (opposite q)).index v) (sent c)) (s % 64)) near-is
+      ∙ sym (near-or-far g links.vcs b (v * local_port g + q) (s % 64) near (far q) (to q v) (apart v links.vcs (local_port g) q few link) low own)
+      ∙ brought-is g s q v links.vcs (places_by near (far q) b (v * local_port g + q)) (to q v) words
+      (are-places g b q s _ (places_by near (far q) b (v * local_port g + q)) sound link (near-and-far g links.vcs b v q near (far q) (others q link) few link own) home known)
+      stands
+      ∙ over v few (neighbour g s q) q refl
+    where
+      low : s % 64 < 64
+      low = omega arith
+
+      link : q < local_port g
+      link = subst (λ n. q < n) width l
+
+      index : (port_at links q).index v ≡ v * local_port g + q
+      index = ap₂ (λ a w. a + v * w + q) first width ∙ (let e : 0 + v * local_port g + q ≡ v * local_port g + q = omega arith in e)
+
+      -- the word at the other end stands beside that of the channel
+      beside : opposite ((port_at links q).index v) ≡ (port_at links (opposite q)).index v
+      beside = opposite-up (links.first + v * links.width) q (let even = even-rows v links.width pairs in omega (arith, first, even))
+
+      near-is : comes_near near (sent b) ((port_at links q).index v) (s % 64)
+          ≡ (comes_from (word (v * local_port g + q) near.straight.distance) (word (v * local_port g + q) near.straight.mask) (to q v b) (s % 64)
+          || (near.rings && comes_from (word (v * local_port g + q) near.round.distance) (word (v * local_port g + q) near.round.mask) (to q v b) (s % 64)))
+      near-is =
+          ap (λ i. comes_from (word ((port_at links q).index v) near.straight.distance) (word ((port_at links q).index v) near.straight.mask) (word i (sent b)) (s % 64)
+          || (near.rings && comes_from (word ((port_at links q).index v) near.round.distance) (word ((port_at links q).index v) near.round.mask) (word i (sent b)) (s % 64))) beside
+          ∙ ap (λ j. comes_from (word j near.straight.distance) (word j near.straight.mask) (to q v b) (s % 64) || (near.rings && comes_from (word j near.round.distance) (word j near.round.mask) (to q v b) (s % 64))) index
+
+      stands : (c r : ℕ) → r < 64 → has_bit (words (64 * c + r)) (opposite q * links.vcs + v) ≡ has_bit (to q v c) r
+      stands c r small =
+          ap₂ (λ t d. has_bit (set_of (links_of links) t (sent d)) (opposite q * links.vcs + v)) (let e : (64 * c + r) % 64 ≡ r = omega (arith, small) in e) (let e : (64 * c + r) / 64 ≡ c = omega (arith, small) in e)
+          ∙ member (sent c) r (opposite q) v (opposite-below q links.width pairs l) few
+
+  -- the set of the router is what the links bring
+  pub brought-set : set_of (links_of links) (s % 64) now ≡ gathered g links.vcs leaves s
+  brought-set = same-word _ _ (λ i. at i (cases_lt i (links.width * links.vcs)))
+    where
+      none : (b : Bool) (i : ℕ) → links.width * links.vcs ≤ i → has_bit (gathered g links.vcs leaves s) i ≡ b → has_bit (gathered g links.vcs leaves s) i ≡ false
+      none false i u e = e
+      none true i u e =
+          let l : i / links.vcs < local_port g = gathered-links g sound links.vcs some leaves s known i e in
+          let m : links.width ≤ i / links.vcs = le-div links.width i links.vcs some u in
+          absurd (omega (arith, l, m, width))
+
+      at : (i : ℕ) → (i < links.width * links.vcs) ⊎ (links.width * links.vcs ≤ i) → has_bit (set_of (links_of links) (s % 64) now) i ≡ has_bit (gathered g links.vcs leaves s) i
+      at i (inl l) =
+          let q : i / links.vcs < links.width = div_below i links.vcs links.width some l in
+          let v : i % links.vcs < links.vcs = mod_below i links.vcs some in
+          ap (has_bit (set_of (links_of links) (s % 64) now)) (sym (div-add-mod' i links.vcs))
+          ∙ member now (s % 64) (i / links.vcs) (i % links.vcs) q v
+          ∙ comes (i / links.vcs) (i % links.vcs) q v
+          ∙ sym (gathered-is g sound links.vcs some leaves s known i)
+      at i (inr u) =
+          below-members (links.width * links.vcs) (λ c. has_bit (word ((links_of links).index c) now) (s % 64)) i
+          ∙ ap (λ x. x && has_bit (word ((links_of links).index i) now) (s % 64)) (le-ltb i (links.width * links.vcs) u)
+          ∙ sym (none (has_bit (gathered g links.vcs leaves s) i) i u refl)
+
+-- ---- what is asked for
+abbrev pub items_of : Vec Far Global → List Far
+items_of far = far.items
+
+pub far-at : (far : List (Vec Far Global)) (p : ℕ) (d : Vec Far Global) → p < length far → (get_or far p d).items ≡ far_by far p
+far-at [] p d l = absurd (omega (arith, l))
+far-at (x ∷ far) zero d l = refl
+far-at (x ∷ far) (suc p) d l = far-at far p d (omega (arith, l))
+
+pub lead-by : (g : Grid) (links : Ports) (b p count : ℕ) (far : List Far) → links.width ≡ local_port g → links.width % 2 ≡ 0 → p < links.width → nodes g ≤ 64 * count → AreFar g b p far → LeadBy links p count far
+lead-by g links b p count far width pairs l blocks are = record {
+  port = l;
+  opposite = opposite-below p links.width pairs l;
+  each = are.port;
+  blocks = λ j m. let n = (are.block j m).1 in omega (arith, n, blocks);
+}
