@@ -1,3 +1,4 @@
 pub mod BeginLemmas
 pub mod GatherLemmas
 pub mod BroughtLemmas
+pub mod OpeningLemmas

@@ -4,3 +4,6 @@ pub mod May
 pub mod Around
 pub mod Taking
 pub mod Gathered
+pub mod Alike
+pub mod Patterns
+pub mod Opened

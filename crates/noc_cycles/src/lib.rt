@@ -8,11 +8,15 @@
 mod around;
 mod begins;
 mod block;
+mod first;
 mod gather;
+mod opening;
 mod pattern;
 
 pub use around::Around;
 pub use begins::{begin_packets, some_in};
 pub use block::{Block, Work};
+pub use first::First;
 pub use gather::gather_links;
-pub use pattern::Pattern;
+pub use opening::open_blocks;
+pub use pattern::{Pattern, SHALLOW};

@@ -1,0 +1,10 @@
+use Rattle.noc_cycles.proofs.OpeningLemmas.{nobody-asks, opened-next}
+use Rattle.noc_cycles.proofs.opening.open_blocks.Goals as goal
+
+pub invariant_of-push : goal.invariant_of-push
+invariant_of-push c = record { asks = λ r few. nobody-asks r _ _ few }
+
+pub loop-number-preserved : goal.loop-number-preserved
+loop-number-preserved c =
+    opened-next c.args.pattern.now c.args.firsts.now c.loop-number.number c.loop-number.blocks.items c.push.new.self.items _ c.open.new.self
+    c.in_ok-push.ensures.items c.loop-number.invariant c.open.ensures

@@ -1,0 +1,231 @@
+//! Blocks before the first cycle.
+
+ghost use Rattle.std.specs.Prelude.{◌≡◌, ℕ, ◌+◌, ◌-◌, ◌*◌, ◌^◌, ◌<◌, ◌≤◌, IfOk, [], length, replicate, slice_index, slice_index_or};
+ghost use Rattle.noc_topo.specs.declared.limits.TheConstants.{MAX_NODES};
+ghost use Rattle.noc_columns.specs.Channels.{inputs_by, outputs_by};
+ghost use Rattle.noc_columns.specs.Sources.{AreDue, source_in};
+ghost use Rattle.noc_columns.specs.declared.sets.TheConstants.{CHANNELS};
+ghost use Rattle.noc_columns.specs.declared.words.TheConstants.{ROUTERS, WORDS};
+ghost use Rattle.noc_cycles.specs.Opened.{AreOpened, IsOpened, first_in, free_outputs, no_inputs};
+
+use crate::block::Block;
+use crate::first::First;
+use crate::pattern::Pattern;
+use noc_columns::{
+    CHANNELS, Digits, Due, Frame, Grants, Injection, Inputs, Left, Marks, NEVER, Outputs, Planes,
+    ROUTERS, Sends, Sources, Switch, WORDS, Words,
+};
+use noc_packet::Memory;
+use std::alloc::Global;
+
+/// So many blocks before the first cycle, where these are the first packets of all routers. (Each
+/// is opened where it stands, since it takes 100 kB.)
+pub fn open_blocks(
+    alloc: Global,
+    pattern: &Pattern,
+    firsts: &[First],
+    count: usize,
+) -> Result<Vec<Block>, Memory>
+    requires { ROUTERS * count ≤ MAX_NODES }
+    ensures { IfOk result (λ blocks. AreOpened pattern.now firsts.now count blocks.items) }
+{
+    let mut blocks = Vec::with_capacity(alloc, count)?;
+    for number in 0..count {
+        blocks.push(NOTHING)?;
+        blocks[number].open(pattern, firsts, number);
+    }
+    Ok(blocks)
+}
+
+impl Block {
+    /// Opens the block with a number: no packet is in its routers, and each source is at its first
+    /// one. (What was in the block does not matter.)
+    pub fn open(&mut self, pattern: &Pattern, firsts: &[First], number: usize)
+        requires { ROUTERS * number < MAX_NODES }
+        ensures { IsOpened pattern.now firsts.now number self.new }
+    {
+        let ports = &pattern.table.ports;
+        let channels = (ports.links.width + 1) * ports.links.vcs;
+        open_inputs(&mut self.inputs);
+        open_outputs(&pattern.frame, &mut self.outputs);
+        self.switch.ahead = [u64::MAX; WORDS];
+        self.injection.injecting = [0; WORDS];
+        open_marks(channels, &mut self.marks);
+        open_sources(firsts, ROUTERS * number, &mut self.sources);
+    }
+}
+
+// No flit, and each pointer at the first channel.
+fn open_inputs(inputs: &mut Inputs<Words>)
+    ensures { inputs.new ≡ inputs_by (replicate WORDS) (no_inputs (2 ^ 64 - 1)) }
+{
+    inputs.waiting = [0; WORDS];
+    inputs.active = [0; WORDS];
+    inputs.ended = [0; WORDS];
+    inputs.ahead = [u64::MAX; WORDS];
+    inputs.len.ones = [0; WORDS];
+    inputs.len.twos = [0; WORDS];
+    inputs.len.fours = [0; WORDS];
+    inputs.len.eights = [0; WORDS];
+    inputs.len.sixteens = [0; WORDS];
+}
+
+// All credits.
+fn open_outputs(frame: &Frame, outputs: &mut Outputs<Words>)
+    ensures { outputs.new ≡ outputs_by (replicate WORDS) (free_outputs frame.now.places) }
+{
+    outputs.draining = [0; WORDS];
+    outputs.credit.ones = [frame.places.ones; WORDS];
+    outputs.credit.twos = [frame.places.twos; WORDS];
+    outputs.credit.fours = [frame.places.fours; WORDS];
+    outputs.credit.eights = [frame.places.eights; WORDS];
+    outputs.credit.sixteens = [frame.places.sixteens; WORDS];
+}
+
+// Of so many channels none waits and all are idle, and each pointer is at the first channel.
+fn open_marks(channels: usize, marks: &mut Marks)
+    requires { channels < CHANNELS }
+    ensures waiting { (r : ℕ) → r < ROUTERS → slice_index marks.new.waiting r ≡ 0 }
+    ensures wanted { (r : ℕ) → r < ROUTERS → slice_index marks.new.wanted r ≡ 0 }
+    ensures idle { (r : ℕ) → r < ROUTERS → slice_index marks.new.idle r ≡ 2 ^ channels - 1 }
+    ensures turns { (r o : ℕ) → r < ROUTERS → o < CHANNELS
+        → slice_index (slice_index_or marks.new.turns r []) o ≡ 2 ^ 64 - 1 }
+{
+    marks.waiting = [0; ROUTERS];
+    marks.wanted = [0; ROUTERS];
+    marks.idle = [(1 << channels as u32) - 1; ROUTERS];
+    marks.asking = 0;
+    open_turns(&mut marks.turns);
+}
+
+// Each pointer at the first channel.
+fn open_turns(turns: &mut [[u64; CHANNELS]; ROUTERS])
+    ensures { (r o : ℕ) → r < ROUTERS → o < CHANNELS
+        → slice_index (slice_index_or turns.new r []) o ≡ 2 ^ 64 - 1 }
+{
+    for r in 0..ROUTERS {
+        turns[r] = [u64::MAX; CHANNELS];
+    }
+}
+
+// The sources of these routers, from the first on, are at their first packets.
+fn open_sources(firsts: &[First], first: usize, sources: &mut Sources)
+    requires { first < MAX_NODES }
+    ensures sources { (r : ℕ) → r < ROUTERS → source_in sources.new r
+        ≡ record {
+          due = (first_in firsts.now (first + r)).due;
+          left = 0;
+          queue = (first_in firsts.now (first + r)).place;
+        } }
+    ensures due { AreDue 0 sources.new.due }
+{
+    sources.left = NONE_LEFT;
+    open_queues(firsts, first, &mut sources.queue, &mut sources.due.at);
+    sources.due.look(0);
+}
+
+// Where these packets are, and when they are due.
+fn open_queues(firsts: &[First], first: usize, queue: &mut [u32; ROUTERS], due: &mut [u32; ROUTERS])
+    requires { first < MAX_NODES }
+    ensures queue { (r : ℕ) → r < ROUTERS
+        → slice_index queue.new r ≡ (first_in firsts.now (first + r)).place }
+    ensures due { (r : ℕ) → r < ROUTERS
+        → slice_index due.new r ≡ (first_in firsts.now (first + r)).due }
+{
+    for r in 0..ROUTERS {
+        let one = first_at(firsts, first + r);
+        queue[r] = one.place;
+        due[r] = one.due;
+    }
+}
+
+// The first packet of a router, or none.
+fn first_at(firsts: &[First], router: usize) -> First
+    ensures { result ≡ first_in firsts.now router }
+{
+    if router < firsts.len() {
+        firsts[router]
+    } else {
+        First {
+            place: 0,
+            due: NEVER,
+        }
+    }
+}
+
+// Nothing at all. (It is copied from here to where it stands, so that it takes no room on the
+// stack.)
+const NOTHING: Block = Block {
+    inputs: Inputs {
+        waiting: NO_WORDS,
+        active: NO_WORDS,
+        ended: NO_WORDS,
+        ahead: NO_WORDS,
+        len: NO_PLANES,
+    },
+    outputs: Outputs {
+        draining: NO_WORDS,
+        credit: NO_PLANES,
+    },
+    grants: Grants {
+        granted: NO_WORDS,
+        sends: Sends {
+            port: NO_DIGITS,
+            vc: NO_DIGITS,
+        },
+    },
+    switch: Switch {
+        ahead: NO_WORDS,
+        asks: NO_WORDS,
+        taken: NO_WORDS,
+        past: NO_WORDS,
+    },
+    injection: Injection {
+        injecting: NO_WORDS,
+        went: NO_WORDS,
+        begun: NO_WORDS,
+    },
+    marks: Marks {
+        waiting: [0; ROUTERS],
+        wanted: [0; ROUTERS],
+        idle: [0; ROUTERS],
+        asking: 0,
+        sets: [[0; CHANNELS]; ROUTERS],
+        turns: [[0; CHANNELS]; ROUTERS],
+    },
+    packets: [[0; CHANNELS]; ROUTERS],
+    sources: Sources {
+        left: NONE_LEFT,
+        due: Due {
+            at: [0; ROUTERS],
+            ready: 0,
+            next: 0,
+        },
+        queue: [0; ROUTERS],
+    },
+};
+
+const NO_WORDS: Words = [0; WORDS];
+
+const NO_PLANES: Planes<Words> = Planes {
+    ones: NO_WORDS,
+    twos: NO_WORDS,
+    fours: NO_WORDS,
+    eights: NO_WORDS,
+    sixteens: NO_WORDS,
+};
+
+const NO_DIGITS: Digits<Words> = Digits {
+    ones: NO_WORDS,
+    twos: NO_WORDS,
+    fours: NO_WORDS,
+};
+
+const NONE_LEFT: Left = Left {
+    ones: 0,
+    twos: 0,
+    fours: 0,
+    eights: 0,
+    sixteens: 0,
+    thirty_twos: 0,
+};
