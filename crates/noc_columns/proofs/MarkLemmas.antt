@@ -1,5 +1,5 @@
 -- What a router keeps of its channels is written.
-use Rattle.std.proofs.Common.{◌≡◌, ℕ, ◌<◌, Bool, true, false, List, length, refl, ap, sym, ◌∙◌, inl, inr, bit_or, set, slice_index, get_or-set_same, get_or-set_other}
+use Rattle.std.proofs.Common.{◌≡◌, ℕ, subst, ◌^◌, ◌<◌, Bool, true, false, List, length, refl, ap, sym, ◌∙◌, inl, inr, bit_or, set, slice_index, get_or-set_same, get_or-set_other}
 use Rattle.std.specs.Prelude.{not, nat_eq, if◌then◌else◌}
 use Rattle.std.proofs.lemmas.Bool.{cases_eq, eq-eqb, ne_eqb}
 use Rattle.noc_packet.specs.Set.{has_bit}
@@ -64,3 +64,11 @@ idle-start m = record { waiting = refl; wanted = refl; sets = refl; turns = refl
 
 pub idle-next : {a b c : Marks} → ChangesIdle a b → ChangesIdle b c → ChangesIdle a c
 idle-next p q = record { waiting = q.waiting ∙ p.waiting; wanted = q.wanted ∙ p.wanted; sets = q.sets ∙ p.sets; turns = q.turns ∙ p.turns }
+
+-- words of which one is written are words
+pub fits-put : (now : ℕ → ℕ) (i x : ℕ) (old : ℕ → ℕ) → x < 2 ^ 64 → ((r : ℕ) → now r ≡ (if nat_eq r i then x else old r)) → ((r : ℕ) → r < 64 → old r < 2 ^ 64) → (r : ℕ) → r < 64 → now r < 2 ^ 64
+fits-put now i x old fits is each r few = subst (λ w. w < 2 ^ 64) (sym (is r)) (at (nat_eq r i))
+  where
+    at : (b : Bool) → (if b then x else old r) < 2 ^ 64
+    at true = fits
+    at false = each r few

@@ -32,6 +32,10 @@ use Rattle.noc_cycles.specs.declared.pattern.Pattern.{Pattern}
 pub nobody-asks : (r wanted idle : ℕ) → r < 64 → has_bit 0 r ≡ not (nat_eq (asks_of (slice_index (replicate 64 0) r) wanted idle) 0)
 nobody-asks r wanted idle few = has_bit-zero r ∙ sym (ap (λ n. not (nat_eq (asks_of n wanted idle) 0)) (get_or-replicate 64 r 0 0 few))
 
+-- nothing is a word
+pub nothing-fits : (r : ℕ) → r < 64 → slice_index (replicate 64 0) r < 2 ^ 64
+nothing-fits r few = subst (λ w. w < 2 ^ 64) (sym (get_or-replicate 64 r 0 0 few)) (omega arith)
+
 -- so many bits, as a shift makes them
 pub low-bits : (n : ℕ) → n < 64 → 1 * 2 ^ n % 2 ^ 64 - 1 ≡ 2 ^ n - 1
 low-bits n few = ap (λ m. m - 1) (shl_whole 1 1 n 64 (omega arith) (omega (arith, few)) ∙ (let e : 1 * 2 ^ n ≡ 2 ^ n = omega arith in e))

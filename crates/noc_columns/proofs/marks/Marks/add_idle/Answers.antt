@@ -18,6 +18,7 @@ invariant_of-self c =
           (same-entry self.waiting router)
           (same-entry self.wanted router)
           (λ r. entry-put self.idle router idle r (omega arith));
+      fit = self.fit;
     }
 
 pub returns-clause-idle : goal.returns-clause-idle

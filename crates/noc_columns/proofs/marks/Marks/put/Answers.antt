@@ -1,7 +1,7 @@
 use Rattle.std.proofs.Common.{◌∙◌, ap, arith, set, slice_index}
 use Rattle.std.specs.Prelude.{not, nat_eq, if◌then◌else◌}
 use Rattle.noc_packet.specs.Set.{has_bit}
-use Rattle.noc_columns.proofs.MarkLemmas.{asked-still, entry-put}
+use Rattle.noc_columns.proofs.MarkLemmas.{asked-still, entry-put, fits-put}
 use Rattle.noc_columns.proofs.marks.Marks.put.Goals as goal
 
 pub invariant_of-self : goal.invariant_of-self
@@ -17,6 +17,9 @@ invariant_of-self c =
           (λ r. entry-put self.waiting router c.args.waiting r (omega arith))
           (λ r. entry-put self.wanted router c.args.wanted r (omega arith))
           (λ r. entry-put self.idle router c.args.idle r (omega arith));
+      fit =
+          fits-put (λ r. slice_index (set self.wanted router c.args.wanted) r) router c.args.wanted (λ r. slice_index self.wanted r) c.ranges.wanted.fits
+          (λ r. entry-put self.wanted router c.args.wanted r (omega arith)) self.fit;
     }
 
 pub returns-clause-waiting : goal.returns-clause-waiting
