@@ -8,6 +8,7 @@
 mod around;
 mod begins;
 mod block;
+mod deciding;
 mod first;
 mod gather;
 mod opening;
@@ -16,6 +17,7 @@ mod pattern;
 pub use around::Around;
 pub use begins::{begin_packets, some_in};
 pub use block::{Block, Work};
+pub use deciding::{Routing, decide};
 pub use first::First;
 pub use gather::gather_links;
 pub use opening::open_blocks;
