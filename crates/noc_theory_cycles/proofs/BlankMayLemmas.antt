@@ -1,13 +1,12 @@
 -- A router of a block that the network does not have has what each part of a cycle asks for, and
 -- what it holds shows that.
-use Rattle.std.proofs.Common.{◌≡◌, ℕ, ◌+◌, ◌-◌, ◌*◌, ◌<◌, true, false, List, ap, arith, refl, sym, ◌∙◌}
+use Rattle.std.proofs.Common.{◌≡◌, ℕ, ◌+◌, ◌-◌, ◌*◌, ◌<◌, Bool, true, false, List, ap, arith, refl, sym, ◌∙◌}
 use Rattle.std.proofs.lemmas.Bool.{and_left, false≢true}
 use Rattle.noc_packet.specs.Set.{has_bit}
 use Rattle.noc_packet.proofs.SetLemmas.{has_bit-zero, zero_from_none}
 use Rattle.noc_sets.specs.Column.{Column}
 use Rattle.noc_sets.specs.Cycle.{Router, still_of}
 use Rattle.noc_sets.specs.Layout.{Layout}
-use Rattle.noc_sets.specs.Passes.{AreOwners, lane_raised}
 use Rattle.noc_sets.specs.Planes.{any_from}
 use Rattle.noc_sets.specs.Sets.{up_by}
 use Rattle.noc_sets.specs.Source.{NEVER, Source, Start}
@@ -16,8 +15,9 @@ use Rattle.noc_columns.specs.declared.channels.Decided.{Decided}
 use Rattle.noc_columns.specs.declared.channels.Links.{Links}
 use Rattle.noc_columns.specs.declared.channels.Standing.{Standing}
 use Rattle.noc_cycles.specs.Deciding.{HasDecidedHeld}
-use Rattle.noc_cycles.specs.Held.{Held, ShowsHeld, ShowsStill}
-use Rattle.noc_cycles.specs.May.{MayConclude, MayDecide, MayTake}
+use Rattle.noc_cycles.specs.Held.{Held, ShowsHeld}
+use Rattle.noc_cycles.specs.Taking.{HasTaken}
+use Rattle.noc_cycles.specs.May.{MayConclude, MayDecide, MayInject, MayTake}
 use Rattle.noc_cycles.specs.declared.pattern.Pattern.{Pattern}
 use Rattle.noc_theory_cycles.specs.Blank.{HoldsNothing, IsBlank, words_of}
 use Rattle.noc_theory_cycles.proofs.BlankLemmas.{no-heads, not-idle, nothing-ready}
@@ -58,6 +58,13 @@ module _ (pattern : Pattern) (h : Held) (links : Links ℕ) (b : Router) (held :
     left = λ some. absurd (some holds-nothing.injecting);
     queue = λ cycle due soon. let never = holds-nothing.due in absurd (omega (arith, due, soon, never));
     due = λ some. absurd (some holds-nothing.injecting);
+  }
+
+  pub blank-may-inject : (starts : List Start) (n : ℕ) → n < NEVER → MayInject starts n h
+  blank-may-inject starts n soon = record {
+    one = (blank-may-take starts).one;
+    left = (blank-may-take starts).left;
+    queue = λ due. (blank-may-take starts).queue n due soon;
   }
 
 -- what holds nothing is of a blank router
@@ -105,19 +112,19 @@ module _ (pattern : Pattern) (h : Held) (links : Links ℕ) (holds : HoldsNothin
   }
 
 -- ---- once it has taken what comes
-module _ (pattern : Pattern) (layout : Layout) (starts : List Start) (n up : ℕ) (b : Router) (h : Held) (standing : Standing ℕ) (no_credit : ℕ) (soon : n < NEVER) (blank : IsBlank b)
-    (ups : AreOwners (lane_raised b.links.credits b.column) b.marks.owner up) (held : ShowsStill pattern h standing no_credit (still_of layout starts n up b)) where
+module _ (pattern : Pattern) (layout : Layout) (starts : List Start) (n : ℕ) (b : Router) (h : Held) (standing : Standing ℕ) (no_credit : ℕ) (comes : Bool) (soon : n < NEVER) (blank : IsBlank b)
+    (taken : HasTaken pattern layout starts n b h standing no_credit comes) where
   heads-none : standing.heads ≡ 0
-  heads-none = held.heads ∙ no-heads layout starts n up b soon blank ups
+  heads-none = taken.shows.heads ∙ no-heads layout starts n taken.up b soon blank taken.ups
 
   waiting-none : h.waiting ≡ 0
-  waiting-none = held.waiting ∙ sym (ap (λ (c : Column). c.waiting) held.column) ∙ blank.waiting
+  waiting-none = taken.shows.waiting ∙ sym (ap (λ (c : Column). c.waiting) taken.shows.column) ∙ blank.waiting
 
   active-none : h.inputs.active ≡ 0
-  active-none = sym (ap (λ (c : Column). c.active) held.column) ∙ blank.active
+  active-none = sym (ap (λ (c : Column). c.active) taken.shows.column) ∙ blank.active
 
   idle-none : h.idle ≡ 0
-  idle-none = sym (ap (λ (c : Column). c.idle) held.column) ∙ not-idle layout starts n up b soon blank ups
+  idle-none = sym (ap (λ (c : Column). c.idle) taken.shows.column) ∙ not-idle layout starts n taken.up b soon blank taken.ups
 
   pub blank-may-decide : (packets nodes node : ℕ) → MayDecide pattern packets nodes node h standing
   blank-may-decide packets nodes node = record {
@@ -130,8 +137,8 @@ module _ (pattern : Pattern) (layout : Layout) (starts : List Start) (n up : ℕ
   }
 
   pub blank-may-conclude : (sets : ℕ → ℕ → ℕ) (d : Held) (decided : Decided ℕ) (granted lost released packets : ℕ) (left : Links ℕ)
-      → HasDecidedHeld pattern layout sets (still_of layout starts n up b) h d standing decided granted lost left
+      → HasDecidedHeld pattern layout sets (still_of layout starts n taken.up b) h d standing decided granted lost left
       → ((i : ℕ) → has_bit released i ≡ true → has_bit decided.picked i ≡ true) → MayConclude packets d released
   blank-may-conclude sets d decided granted lost released packets left has among = record {
-    packet = λ i e. absurd (false≢true (nothing-ready layout starts n up b soon blank ups i (has.picks.among i (among i e))));
+    packet = λ i e. absurd (false≢true (nothing-ready layout starts n taken.up b soon blank taken.ups i (has.picks.among i (among i e))));
   }

@@ -1,13 +1,18 @@
 -- Heads are routed as the relation permits it to their packets.
-use Rattle.std.proofs.Common.{◌≡◌, ℕ, ◌/◌, ◌%◌, ◌<◌, map, ap, subst, sym}
+use Rattle.std.proofs.Common.{◌≡◌, ℕ, ◌+◌, ◌/◌, ◌%◌, ◌<◌, List, map, ap, subst, sym}
 use Rattle.std.proofs.Math.ListN.{get_or-map}
 use Rattle.std.proofs.Math.Path.{fun_ext}
 use Rattle.std.proofs.lemmas.List.{length-map}
+use Rattle.noc_topo.specs.Shape.{ports}
 use Rattle.noc_packet.specs.declared.packet.Packet.{Packet}
+use Rattle.noc_sets.specs.Cycle.{HasWorked, Router, Turn}
+use Rattle.noc_sets.specs.Layout.{Layout}
+use Rattle.noc_sets.specs.Source.{Start}
 use Rattle.noc_theory.specs.Good.{IsGoodPacket, IsGoodSetup}
 use Rattle.noc_theory.specs.Network.{Setup, packet_at}
 use Rattle.noc_theory_bits.specs.Network.{permitted}
-use Rattle.noc_columns.specs.Routing.{AreRoutable, IsRoutable, header_in, header_of, set_by, sets_by}
+use Rattle.noc_columns.specs.Routing.{AreRoutable, IsOfPorts, IsRoutable, header_in, header_of, set_by, sets_by}
+use Rattle.noc_columns.specs.declared.ports.RouterPorts.{RouterPorts}
 use Rattle.noc_columns.specs.declared.header.Header.{Header}
 
 abbrev NO_PACKET : Packet
@@ -26,3 +31,12 @@ routable net setup = record {
 
 pub sets-permitted : (net : Setup) (r : ℕ) → sets_by net.relation (map header_of net.packets) r ≡ permitted net r
 sets-permitted net r = fun_ext (λ k. fun_ext (λ p. ap (λ (h : Header). set_by net.relation h r (k / net.relation.vcs) (k % net.relation.vcs)) (header-is net p)))
+
+-- the same for a whole cycle
+pub works-as-permitted : (net : Setup) (all : RouterPorts) (layout : Layout) (starts : List Start) (n r : ℕ) (b : Router) (t : Turn) → IsOfPorts all net.relation
+    → HasWorked (all.links.width + 1) all.links.vcs layout starts (sets_by net.relation (map header_of net.packets) r) n b t
+    → HasWorked (ports net.relation.grid) net.relation.vcs layout starts (permitted net r) n b t
+works-as-permitted net all layout starts n r b t of works =
+    subst (λ p. HasWorked p net.relation.vcs layout starts (permitted net r) n b t) (sym of.count)
+    (subst (λ v. HasWorked (all.links.width + 1) v layout starts (permitted net r) n b t) (sym of.vcs)
+    (subst (λ (sets : ℕ → ℕ → ℕ). HasWorked (all.links.width + 1) all.links.vcs layout starts sets n b t) (sets-permitted net r) works))

@@ -5,3 +5,4 @@ pub mod RouterLemmas
 pub mod NoneLemmas
 pub mod BlankLemmas
 pub mod BlankMayLemmas
+pub mod LayoutLemmas

@@ -1,5 +1,5 @@
 -- A router of a block that shows a router of a network has what each part of a cycle asks for.
-use Rattle.std.proofs.Common.{◌≡◌, ℕ, ◌+◌, ◌-◌, ◌*◌, ◌^◌, ◌<◌, ◌≤◌, true, false, List, length, ap, ap₂, arith, subst, sym, ◌∙◌, bit_and, bit_or}
+use Rattle.std.proofs.Common.{◌≡◌, ℕ, ◌+◌, ◌-◌, ◌*◌, ◌^◌, ◌<◌, ◌≤◌, Bool, true, false, List, length, ap, ap₂, arith, subst, sym, ◌∙◌, bit_and, bit_or}
 use Rattle.std.specs.Prelude.{◌&&◌, not}
 use Rattle.std.proofs.lemmas.Bool.{and_parts}
 use Rattle.noc_topo.specs.Shape.{nodes, ports}
@@ -9,7 +9,6 @@ use Rattle.noc_view.specs.View.{Site, View, size_of}
 use Rattle.noc_sets.specs.Column.{Column, IsColumn}
 use Rattle.noc_sets.specs.Cycle.{Router, Still, still_of}
 use Rattle.noc_sets.specs.Layout.{Layout}
-use Rattle.noc_sets.specs.Passes.{AreOwners, lane_raised}
 use Rattle.noc_sets.specs.Sets.{less}
 use Rattle.noc_sets.specs.Source.{Source, Start}
 use Rattle.noc_sets.proofs.MemberLemmas.{less_members}
@@ -28,8 +27,9 @@ use Rattle.noc_columns.specs.declared.channels.Decided.{Decided}
 use Rattle.noc_columns.specs.declared.channels.Links.{Links}
 use Rattle.noc_columns.specs.declared.channels.Standing.{Standing}
 use Rattle.noc_cycles.specs.Deciding.{HasDecidedHeld}
-use Rattle.noc_cycles.specs.Held.{Held, ShowsHeld, ShowsStill}
-use Rattle.noc_cycles.specs.May.{MayConclude, MayDecide, MayTake, owned_by, with_credit}
+use Rattle.noc_cycles.specs.Held.{Held, ShowsHeld}
+use Rattle.noc_cycles.specs.Taking.{HasTaken}
+use Rattle.noc_cycles.specs.May.{MayConclude, MayDecide, MayInject, MayTake, owned_by, with_credit}
 use Rattle.noc_cycles.specs.declared.pattern.Pattern.{Pattern}
 use Rattle.noc_theory_cycles.specs.Fits.{FitsNetwork}
 use Rattle.noc_theory_cycles.proofs.ShownLemmas.{active-apart, busy-owned, owner-busy, supplied-fed}
@@ -93,12 +93,19 @@ module _ (count : ℕ) (net : Setup) (layout : Layout) (pattern : Pattern) (star
         (h.source.due, omega arith, before);
   }
 
+  pub may-inject : n < CYCLE_LIMIT → MayInject starts n h
+  may-inject few = record {
+    one = may-take.one;
+    left = may-take.left;
+    queue = λ due. may-take.queue n due (omega (arith, few));
+  }
+
 -- ---- once it has taken what comes
-module _ (count : ℕ) (net : Setup) (layout : Layout) (pattern : Pattern) (starts : List Start) (n r up : ℕ) (b : Router) (h : Held) (standing : Standing ℕ) (no_credit : ℕ)
+module _ (count : ℕ) (net : Setup) (layout : Layout) (pattern : Pattern) (starts : List Start) (n r : ℕ) (b : Router) (h : Held) (standing : Standing ℕ) (no_credit : ℕ) (comes : Bool)
     (setup : IsGoodSetup net) (few : n < CYCLE_LIMIT) (fits : FitsNetwork count net layout pattern) (l : r < nodes net.relation.grid) (shows : ShowsRouter count net n r starts b)
-    (ups : AreOwners (lane_raised b.links.credits b.column) b.marks.owner up) (up_fits : up < 2 ^ 64) (held : ShowsStill pattern h standing no_credit (still_of layout starts n up b)) where
+    (taken : HasTaken pattern layout starts n b h standing no_credit comes) where
   abbrev s : Still
-  s = still_of layout starts n up b
+  s = still_of layout starts n taken.up b
 
   abbrev x : View
   x = frozen_view net setup n r l
@@ -112,44 +119,44 @@ module _ (count : ℕ) (net : Setup) (layout : Layout) (pattern : Pattern) (star
   x-site : (frozen_view net setup n r l).site ≡ site_at net r
   x-site = (frozen-seen net setup n r l).site
 
-  column : IsColumn count (still_of layout starts n up b).column (still_of layout starts n up b).marks (frozen_view net setup n r l)
-  column = (shows-still net setup n r l starts b shows few layout up fits.layout_is ups up_fits).column
+  column : IsColumn count (still_of layout starts n taken.up b).column (still_of layout starts n taken.up b).marks (frozen_view net setup n r l)
+  column = (shows-still net setup n r l starts b shows few layout taken.up fits.layout_is taken.ups taken.up_fits).column
 
-  now-owned : ShowsOwned (pattern.table.ports.links.width + 1) pattern.table.ports.links.vcs (still_of layout starts n up b).column.active h.out_port h.out_vc (still_of layout starts n up b).marks
-  now-owned = subst (λ a. ShowsOwned (wd + 1) vs a h.out_port h.out_vc s.marks) (sym (ap (λ (c : Column). c.active) held.column)) held.marks.owned
+  now-owned : ShowsOwned (pattern.table.ports.links.width + 1) pattern.table.ports.links.vcs (still_of layout starts n taken.up b).column.active h.out_port h.out_vc (still_of layout starts n taken.up b).marks
+  now-owned = subst (λ a. ShowsOwned (wd + 1) vs a h.out_port h.out_vc s.marks) (sym (ap (λ (c : Column). c.active) taken.shows.column)) taken.shows.marks.owned
 
-  active-there : (i : ℕ) → has_bit h.inputs.active i ≡ true → has_bit (still_of layout starts n up b).column.active i ≡ true
-  active-there i e = ap (λ (c : Column). has_bit c.active i) held.column ∙ e
+  active-there : (i : ℕ) → has_bit h.inputs.active i ≡ true → has_bit (still_of layout starts n taken.up b).column.active i ≡ true
+  active-there i e = ap (λ (c : Column). has_bit c.active i) taken.shows.column ∙ e
 
-  waiting-same : h.waiting ≡ (still_of layout starts n up b).column.waiting
-  waiting-same = held.waiting ∙ sym (ap (λ (c : Column). c.waiting) held.column)
+  waiting-same : h.waiting ≡ (still_of layout starts n taken.up b).column.waiting
+  waiting-same = taken.shows.waiting ∙ sym (ap (λ (c : Column). c.waiting) taken.shows.column)
 
   -- a channel with a flit is held by a packet
-  pub flit-known : (k : ℕ) → has_bit (still_of layout starts n up b).filled k ≡ true → h.packet k < length net.packets
+  pub flit-known : (k : ℕ) → has_bit (still_of layout starts n taken.up b).filled k ≡ true → h.packet k < length net.packets
   flit-known k e =
-      subst (λ (f : ℕ → ℕ). f k < length net.packets) held.marks.packet
-      (filled-known count net layout starts n r k up b setup few fits.layout_is l shows ups up_fits e).1
+      subst (λ (f : ℕ → ℕ). f k < length net.packets) taken.shows.marks.packet
+      (filled-known count net layout starts n r k taken.up b setup few fits.layout_is l shows taken.ups taken.up_fits e).1
 
   pub may-decide : MayDecide pattern (length net.packets) (nodes net.relation.grid) r h standing
   may-decide = record {
     waiting = λ k e. subst (λ m. k < m) (all count net layout pattern fits r x x-site) (column.channels.waiting_below k (ap (λ w. has_bit w k) (sym waiting-same) ∙ e));
-    idle = λ k e. subst (λ m. k < m) (all count net layout pattern fits r x x-site) (column.channels.idle_below k (ap (λ (c : Column). has_bit c.idle k) held.column ∙ e));
+    idle = λ k e. subst (λ m. k < m) (all count net layout pattern fits r x x-site) (column.channels.idle_below k (ap (λ (c : Column). has_bit c.idle k) taken.shows.column ∙ e));
     apart = λ i e.
         ap (λ w. has_bit w i) waiting-same
         ∙ active-apart count s.column s.marks x column (frozen-tidy net setup n r l) wd vs h.out_port h.out_vc (wide count net layout pattern fits r x x-site) (many count net layout pattern fits r x x-site) now-owned i (active-there i e);
     busy = λ i e.
-        sym (ap (λ (c : Column). has_bit c.idle (owned_by vs h i)) held.column)
+        sym (ap (λ (c : Column). has_bit c.idle (owned_by vs h i)) taken.shows.column)
         ∙ (owner-busy count s.column s.marks x column (frozen-tidy net setup n r l) wd vs h.out_port h.out_vc (wide count net layout pattern fits r x x-site) (many count net layout pattern fits r x x-site) now-owned i (active-there i e)).0;
     node_is = λ some. l;
     heads = λ k e.
-        let head : has_bit (less s.filled (bit_or s.column.waiting s.column.active)) k ≡ true = ap (λ w. has_bit w k) (sym held.heads) ∙ e in
+        let head : has_bit (less s.filled (bit_or s.column.waiting s.column.active)) k ≡ true = ap (λ w. has_bit w k) (sym taken.shows.heads) ∙ e in
         flit-known k (and_parts (has_bit s.filled k) (not (has_bit (bit_or s.column.waiting s.column.active) k)) (sym (less_members s.filled (bit_or s.column.waiting s.column.active) k) ∙ head)).0;
   }
 
   -- ---- once it has decided
   -- what leaves it is picked
   pub may-conclude : (sets : ℕ → ℕ → ℕ) (d : Held) (decided : Decided ℕ) (granted lost released : ℕ) (left : Links ℕ)
-      → HasDecidedHeld pattern layout sets (still_of layout starts n up b) h d standing decided granted lost left
+      → HasDecidedHeld pattern layout sets (still_of layout starts n taken.up b) h d standing decided granted lost left
       → ((i : ℕ) → has_bit released i ≡ true → has_bit decided.picked i ≡ true) → MayConclude (length net.packets) d released
   may-conclude sets d decided granted lost released left has among = record {
     packet = λ i e.

@@ -1,11 +1,10 @@
 //! The routers of the last block that the network does not have.
 
-ghost use Rattle.std.specs.Prelude.{◌≡◌, ℕ, ◌*◌, ◌<◌, true, List};
+ghost use Rattle.std.specs.Prelude.{◌≡◌, ℕ, ◌*◌, ◌<◌, Bool, true, List};
 ghost use Rattle.noc_topo.specs.Shape.{ports};
 ghost use Rattle.noc_packet.specs.Set.{has_bit};
 ghost use Rattle.noc_sets.specs.Cycle.{HasWorked, Router, Turn, still_of};
 ghost use Rattle.noc_sets.specs.Layout.{IsLayoutOf, Layout};
-ghost use Rattle.noc_sets.specs.Passes.{AreOwners, lane_raised};
 ghost use Rattle.noc_sets.specs.Source.{NEVER, Start};
 ghost use Rattle.noc_theory.specs.Network.{Setup};
 ghost use Rattle.noc_theory_bits.specs.Network.{HasTurned};
@@ -13,8 +12,9 @@ ghost use Rattle.noc_columns.specs.declared.channels.Decided.{Decided};
 ghost use Rattle.noc_columns.specs.declared.channels.Links.{Links};
 ghost use Rattle.noc_columns.specs.declared.channels.Standing.{Standing};
 ghost use Rattle.noc_cycles.specs.Deciding.{HasDecidedHeld};
-ghost use Rattle.noc_cycles.specs.Held.{Held, ShowsHeld, ShowsStill};
-ghost use Rattle.noc_cycles.specs.May.{MayConclude, MayDecide, MayTake};
+ghost use Rattle.noc_cycles.specs.Held.{Held, ShowsHeld};
+ghost use Rattle.noc_cycles.specs.May.{MayConclude, MayDecide, MayInject, MayTake};
+ghost use Rattle.noc_cycles.specs.Taking.{HasTaken};
 ghost use Rattle.noc_cycles.specs.declared.pattern.Pattern.{Pattern};
 ghost use Rattle.noc_theory_cycles.specs.Blank.{DoesNothing, HoldsNothing, IsBlank, words_of};
 
@@ -34,20 +34,21 @@ pub fn blank_routers_hold_nothing()
 pub fn blank_routers_have_what_is_asked_for()
     ensures taking { (pattern : Pattern) (starts : List Start) (h : Held) (links : Links ℕ)
         (b : Router) → ShowsHeld pattern h links b → IsBlank b → MayTake pattern starts h b }
-    ensures deciding { (pattern : Pattern) (layout : Layout) (starts : List Start) (n up : ℕ)
-        (b : Router) (h : Held) (standing : Standing ℕ) (no_credit packets nodes node : ℕ)
-        → n < NEVER → IsBlank b
-        → AreOwners (lane_raised b.links.credits b.column) b.marks.owner up
-        → ShowsStill pattern h standing no_credit (still_of layout starts n up b)
+    ensures injecting { (pattern : Pattern) (starts : List Start) (n : ℕ) (h : Held)
+        (links : Links ℕ) (b : Router) → n < NEVER → ShowsHeld pattern h links b → IsBlank b
+        → MayInject starts n h }
+    ensures deciding { (pattern : Pattern) (layout : Layout) (starts : List Start) (n : ℕ)
+        (b : Router) (h : Held) (standing : Standing ℕ) (no_credit : ℕ) (comes : Bool)
+        (packets nodes node : ℕ) → n < NEVER → IsBlank b
+        → HasTaken pattern layout starts n b h standing no_credit comes
         → MayDecide pattern packets nodes node h standing }
-    ensures concluding { (pattern : Pattern) (layout : Layout) (starts : List Start) (n up : ℕ)
-        (b : Router) (a : Held) (standing : Standing ℕ) (no_credit : ℕ) (sets : ℕ → ℕ → ℕ)
-        (h : Held) (decided : Decided ℕ) (granted lost released packets : ℕ) (left : Links ℕ)
+    ensures concluding { (pattern : Pattern) (layout : Layout) (starts : List Start) (n : ℕ)
+        (b : Router) (a : Held) (standing : Standing ℕ) (no_credit : ℕ) (comes : Bool)
+        (sets : ℕ → ℕ → ℕ) (h : Held) (decided : Decided ℕ) (granted lost released packets : ℕ)
+        (left : Links ℕ) (taken : HasTaken pattern layout starts n b a standing no_credit comes)
         → n < NEVER → IsBlank b
-        → AreOwners (lane_raised b.links.credits b.column) b.marks.owner up
-        → ShowsStill pattern a standing no_credit (still_of layout starts n up b)
-        → HasDecidedHeld pattern layout sets (still_of layout starts n up b) a h standing decided
-        granted lost left
+        → HasDecidedHeld pattern layout sets (still_of layout starts n taken.up b) a h standing
+        decided granted lost left
         → ((i : ℕ) → has_bit released i ≡ true → has_bit decided.picked i ≡ true)
         → MayConclude packets h released }
 {}

@@ -8,10 +8,14 @@
 
 mod blank;
 mod heads;
+mod layouts;
 mod routers;
 
 pub use blank::{
     blank_routers_have_what_is_asked_for, blank_routers_hold_nothing, blank_routers_stay_blank,
 };
-pub use heads::{heads_are_routed_as_permitted, packets_are_routable};
+pub use heads::{
+    heads_are_routed_as_permitted, packets_are_routable, routers_work_as_the_relation_permits,
+};
+pub use layouts::patterns_have_a_layout;
 pub use routers::routers_have_what_is_asked_for;

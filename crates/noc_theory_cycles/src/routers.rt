@@ -1,11 +1,10 @@
 //! The routers of a block that show routers of a network.
 
-ghost use Rattle.std.specs.Prelude.{◌≡◌, ℕ, ◌^◌, ◌<◌, true, List, length};
+ghost use Rattle.std.specs.Prelude.{◌≡◌, ℕ, ◌<◌, Bool, true, List, length};
 ghost use Rattle.noc_topo.specs.Shape.{nodes};
 ghost use Rattle.noc_packet.specs.Set.{has_bit};
 ghost use Rattle.noc_sets.specs.Cycle.{Router, still_of};
 ghost use Rattle.noc_sets.specs.Layout.{Layout};
-ghost use Rattle.noc_sets.specs.Passes.{AreOwners, lane_raised};
 ghost use Rattle.noc_sets.specs.Source.{Start};
 ghost use Rattle.noc_theory.specs.Good.{IsGoodSetup};
 ghost use Rattle.noc_theory.specs.Network.{Setup};
@@ -15,8 +14,9 @@ ghost use Rattle.noc_columns.specs.declared.channels.Decided.{Decided};
 ghost use Rattle.noc_columns.specs.declared.channels.Links.{Links};
 ghost use Rattle.noc_columns.specs.declared.channels.Standing.{Standing};
 ghost use Rattle.noc_cycles.specs.Deciding.{HasDecidedHeld};
-ghost use Rattle.noc_cycles.specs.Held.{Held, ShowsHeld, ShowsStill};
-ghost use Rattle.noc_cycles.specs.May.{MayConclude, MayDecide, MayTake};
+ghost use Rattle.noc_cycles.specs.Held.{Held, ShowsHeld};
+ghost use Rattle.noc_cycles.specs.May.{MayConclude, MayDecide, MayInject, MayTake};
+ghost use Rattle.noc_cycles.specs.Taking.{HasTaken};
 ghost use Rattle.noc_cycles.specs.declared.pattern.Pattern.{Pattern};
 ghost use Rattle.noc_theory_cycles.specs.Fits.{FitsNetwork};
 
@@ -28,24 +28,27 @@ pub fn routers_have_what_is_asked_for()
         → IsGoodSetup net → FitsNetwork count net layout pattern → r < nodes net.relation.grid
         → ShowsRouter count net n r starts b → ShowsHeld pattern h links b
         → MayTake pattern starts h b }
-    ensures deciding { (count : ℕ) (net : Setup) (layout : Layout) (pattern : Pattern)
-        (starts : List Start) (n r up : ℕ) (b : Router) (h : Held) (standing : Standing ℕ)
-        (no_credit : ℕ)
+    ensures injecting { (count : ℕ) (net : Setup) (layout : Layout) (pattern : Pattern)
+        (starts : List Start) (n r : ℕ) (links : Links ℕ) (h : Held) (b : Router)
         → IsGoodSetup net → n < CYCLE_LIMIT → FitsNetwork count net layout pattern
         → r < nodes net.relation.grid → ShowsRouter count net n r starts b
-        → AreOwners (lane_raised b.links.credits b.column) b.marks.owner up → up < 2 ^ 64
-        → ShowsStill pattern h standing no_credit (still_of layout starts n up b)
+        → ShowsHeld pattern h links b → MayInject starts n h }
+    ensures deciding { (count : ℕ) (net : Setup) (layout : Layout) (pattern : Pattern)
+        (starts : List Start) (n r : ℕ) (b : Router) (h : Held) (standing : Standing ℕ)
+        (no_credit : ℕ) (comes : Bool)
+        → IsGoodSetup net → n < CYCLE_LIMIT → FitsNetwork count net layout pattern
+        → r < nodes net.relation.grid → ShowsRouter count net n r starts b
+        → HasTaken pattern layout starts n b h standing no_credit comes
         → MayDecide pattern (length net.packets) (nodes net.relation.grid) r h standing }
     ensures concluding { (count : ℕ) (net : Setup) (layout : Layout) (pattern : Pattern)
-        (starts : List Start) (n r up : ℕ) (b : Router) (a : Held) (standing : Standing ℕ)
-        (no_credit : ℕ) (sets : ℕ → ℕ → ℕ) (h : Held) (decided : Decided ℕ)
+        (starts : List Start) (n r : ℕ) (b : Router) (a : Held) (standing : Standing ℕ)
+        (no_credit : ℕ) (comes : Bool) (sets : ℕ → ℕ → ℕ) (h : Held) (decided : Decided ℕ)
         (granted lost released : ℕ) (left : Links ℕ)
+        (taken : HasTaken pattern layout starts n b a standing no_credit comes)
         → IsGoodSetup net → n < CYCLE_LIMIT → FitsNetwork count net layout pattern
         → r < nodes net.relation.grid → ShowsRouter count net n r starts b
-        → AreOwners (lane_raised b.links.credits b.column) b.marks.owner up → up < 2 ^ 64
-        → ShowsStill pattern a standing no_credit (still_of layout starts n up b)
-        → HasDecidedHeld pattern layout sets (still_of layout starts n up b) a h standing decided
-        granted lost left
+        → HasDecidedHeld pattern layout sets (still_of layout starts n taken.up b) a h standing
+        decided granted lost left
         → ((i : ℕ) → has_bit released i ≡ true → has_bit decided.picked i ≡ true)
         → MayConclude (length net.packets) h released }
 {}

@@ -1,0 +1,8 @@
+use Rattle.noc_theory_cycles.proofs.LayoutLemmas.{fits-layout, fits-network}
+use Rattle.noc_theory_cycles.proofs.layouts.patterns_have_a_layout.Goals as goal
+
+pub returns-clause-network : goal.returns-clause-network
+returns-clause-network c = λ net pattern setup of has. fits-network net setup pattern of has
+
+pub returns-clause-block : goal.returns-clause-block
+returns-clause-block c = fits-layout
