@@ -1,0 +1,54 @@
+-- The counts of the channels of a block by verdict.
+use Rattle.std.specs.Prelude.{ℕ, ◌<◌, ◌^◌}
+use Rattle.noc_sets.specs.Counts.{ByVerdict}
+use Rattle.noc_columns.specs.Words.{Numbering, set_of}
+use Rattle.noc_counts.specs.Counted.{count_in, last_of}
+use Rattle.noc_counts.specs.declared.count.Count.{Count}
+use Rattle.noc_counts.specs.declared.counts.Counts.{Counts}
+use Rattle.noc_counts.specs.declared.nine.Nine.{Nine}
+
+-- what f makes of each
+abbrev pub nine_by : {A : Type 0} → (A → ℕ) → Nine A → ByVerdict
+nine_by f nine = record {
+  routed = f nine.routed;
+  granted = f nine.granted;
+  moved = f nine.moved;
+  no_flit = f nine.no_flit;
+  no_idle_channel = f nine.no_idle_channel;
+  lost_channel = f nine.lost_channel;
+  no_credit = f nine.no_credit;
+  lost_input = f nine.lost_input;
+  lost_switch = f nine.lost_switch;
+}
+
+-- the numbers themselves
+abbrev pub numbers_of : Nine ℕ → ByVerdict
+numbers_of = nine_by (λ n. n)
+
+-- each is small enough that they can be added
+pub record AreSmall (n : ByVerdict) : Type 0 where
+  pub routed : n.routed < 2 ^ 34
+  pub granted : n.granted < 2 ^ 34
+  pub moved : n.moved < 2 ^ 34
+  pub no_flit : n.no_flit < 2 ^ 34
+  pub no_idle_channel : n.no_idle_channel < 2 ^ 34
+  pub lost_channel : n.lost_channel < 2 ^ 34
+  pub no_credit : n.no_credit < 2 ^ 34
+  pub lost_input : n.lost_input < 2 ^ 34
+  pub lost_switch : n.lost_switch < 2 ^ 34
+
+-- how many cycles were counted one by one
+abbrev pub counted_in : Counts → ℕ
+counted_in counts = counts.cycles
+
+-- how often router r had each verdict in word j
+abbrev pub word_counts : Counts → ℕ → ℕ → ByVerdict
+word_counts counts j r = nine_by (λ (c : Count). count_in c counts.cycles j r) counts.by
+
+-- how often input channel i of router r had it
+abbrev pub counts_at : Numbering → Counts → ℕ → ℕ → ByVerdict
+counts_at n counts r i = word_counts counts (n.index i) r
+
+-- the verdicts of router r in the cycle that was counted last
+abbrev pub last_at : Numbering → Counts → ℕ → ByVerdict
+last_at n counts r = nine_by (λ (c : Count). set_of n r (last_of c counts.cycles)) counts.by

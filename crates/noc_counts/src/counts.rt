@@ -1,0 +1,170 @@
+//! The counts of a block by verdict.
+
+ghost use Rattle.std.specs.Prelude.{◌≡◌, ◌+◌, ◌*◌, ◌%◌, ◌^◌, ◌<◌, ◌≤◌, ℕ, sum};
+ghost use Rattle.noc_sets.specs.Counts.{ByVerdict, RunOn, nine_counts, no_counts, ten_counts, with_verdicts};
+ghost use Rattle.noc_columns.specs.Picks.{channels_of};
+ghost use Rattle.noc_columns.specs.Words.{IsWithin, Numbering};
+ghost use Rattle.noc_columns.specs.declared.words.TheConstants.{ROUTERS, WORDS};
+ghost use Rattle.noc_counts.specs.Counts.{AreSmall, counted_in, counts_at, last_at, numbers_of, word_counts};
+ghost use Rattle.noc_counts.specs.Told.{told_at, verdicts_of};
+
+use crate::count::Count;
+use crate::nine::Nine;
+use crate::told::{no_flit, no_idle_channel};
+use noc_columns::{ChannelTable, Frame, ROUTERS, WORDS};
+use noc_cycles::{Block, Work};
+
+/// How often each input channel of the routers of a block had each verdict.
+#[derive(Drop)]
+pub struct Counts {
+    // By verdict.
+    by: Nine<Count>,
+    // How many cycles were counted one by one.
+    cycles: u32,
+}
+
+impl Counts {
+    /// No counts.
+    pub fn clear(&mut self)
+        ensures counts { (n : Numbering) (r i : ℕ) → IsWithin WORDS n → i < n.size
+            → counts_at n self.new r i ≡ no_counts }
+        ensures cycles { counted_in self.new ≡ 0 }
+    {
+        let Nine {
+            routed,
+            granted,
+            moved,
+            no_flit,
+            no_idle_channel,
+            lost_channel,
+            no_credit,
+            lost_input,
+            lost_switch,
+        } = &mut self.by;
+        routed.clear();
+        granted.clear();
+        moved.clear();
+        no_flit.clear();
+        no_idle_channel.clear();
+        lost_channel.clear();
+        no_credit.clear();
+        lost_input.clear();
+        lost_switch.clear();
+        self.cycles = 0;
+    }
+
+    /// Counts a cycle more, after it has taken effect.
+    pub fn count(&mut self, frame: &Frame, block: &Block, work: &Work)
+        ensures counts { (n : Numbering) (r i : ℕ) → IsWithin (4 * frame.now.groups) n → i < n.size
+            → counted_in self.old + 1 < 2 ^ 32
+            → counts_at n self.new r i
+            ≡ with_verdicts (verdicts_of (told_at n block.now work.now r)) i
+            (counts_at n self.old r i) }
+        ensures last { (n : Numbering) (r : ℕ) → IsWithin (4 * frame.now.groups) n
+            → counted_in self.old + 1 < 2 ^ 32
+            → last_at n self.new r ≡ verdicts_of (told_at n block.now work.now r) }
+        ensures cycles { counted_in self.new ≡ (counted_in self.old + 1) % 2 ^ 32 }
+    {
+        let groups = frame.groups;
+        let cycles = self.cycles;
+        let heads = &work.standing.heads;
+        let verdicts = &work.verdicts;
+        let flitless = no_flit(groups, verdicts);
+        let channelless = no_idle_channel(groups, &block.inputs.waiting, heads, &work.lost);
+        self.by.routed.count(groups, cycles, heads);
+        self.by.granted.count(groups, cycles, &block.grants.granted);
+        self.by.moved.count(groups, cycles, &verdicts.moved);
+        self.by.no_flit.count(groups, cycles, &flitless);
+        self.by.no_idle_channel.count(groups, cycles, &channelless);
+        self.by.lost_channel.count(groups, cycles, &work.lost);
+        self.by.no_credit.count(groups, cycles, &verdicts.no_credit);
+        self.by
+            .lost_input
+            .count(groups, cycles, &verdicts.lost_input);
+        self.by
+            .lost_switch
+            .count(groups, cycles, &verdicts.lost_switch);
+        self.cycles = cycles.wrapping_add(1);
+    }
+
+    /// Counts so many cycles more that are like the last one, in which nothing happened.
+    pub fn repeat(&mut self, frame: &Frame, times: u32)
+        ensures counts { (n : Numbering) (r i : ℕ) (before : ByVerdict)
+            → IsWithin (4 * frame.now.groups) n → i < n.size
+            → counts_at n self.old r i ≡ with_verdicts (last_at n self.old r) i before
+            → sum (nine_counts (counts_at n self.old r i)) + times < 2 ^ 32
+            → RunOn times before (counts_at n self.old r i) (counts_at n self.new r i) }
+        ensures last { (n : Numbering) (r : ℕ) → last_at n self.new r ≡ last_at n self.old r }
+        ensures cycles { counted_in self.new ≡ counted_in self.old }
+    {
+        let groups = frame.groups;
+        let cycles = self.cycles;
+        self.by.no_flit.repeat(groups, cycles, times);
+        self.by.no_idle_channel.repeat(groups, cycles, times);
+        self.by.no_credit.repeat(groups, cycles, times);
+    }
+
+    /// How often a channel of a router had each verdict after so many cycles, in the order of the
+    /// stall report.
+    pub fn counts_of(
+        &self,
+        table: &ChannelTable,
+        router: usize,
+        channel: usize,
+        cycles: u32,
+    ) -> [u64; 10]
+        requires router { router < ROUTERS }
+        requires channel { channel < (table.now.ports.links.width + 1)
+            * table.now.ports.links.vcs }
+        ensures { result
+            ≡ ten_counts cycles (counts_at (channels_of table.now.ports) self.now router channel) }
+    {
+        let index = table.index(channel);
+        let nine = self.totals(index, router);
+        ten(cycles, &nine)
+    }
+
+    // How often one channel of a router had each of the nine.
+    fn totals(&self, index: usize, router: usize) -> Nine<u64>
+        requires index { index < WORDS }
+        requires router { router < ROUTERS }
+        ensures counts { numbers_of result ≡ word_counts self.now index router }
+        ensures small { AreSmall (numbers_of result) }
+    {
+        let by = &self.by;
+        let cycles = self.cycles;
+        Nine {
+            routed: by.routed.total(index, router, cycles),
+            granted: by.granted.total(index, router, cycles),
+            moved: by.moved.total(index, router, cycles),
+            no_flit: by.no_flit.total(index, router, cycles),
+            no_idle_channel: by.no_idle_channel.total(index, router, cycles),
+            lost_channel: by.lost_channel.total(index, router, cycles),
+            no_credit: by.no_credit.total(index, router, cycles),
+            lost_input: by.lost_input.total(index, router, cycles),
+            lost_switch: by.lost_switch.total(index, router, cycles),
+        }
+    }
+}
+
+// All ten after so many cycles: Empty in those in which no other verdict was.
+fn ten(cycles: u32, nine: &Nine<u64>) -> [u64; 10]
+    requires { AreSmall (numbers_of nine.now) }
+    ensures { result ≡ ten_counts cycles (numbers_of nine.now) }
+{
+    let waited = nine.no_flit + nine.no_idle_channel + nine.no_credit;
+    let lost = nine.lost_channel + nine.lost_input + nine.lost_switch;
+    let others = nine.routed + nine.granted + nine.moved + waited + lost;
+    [
+        u64::from(cycles).saturating_sub(others),
+        nine.routed,
+        nine.granted,
+        nine.moved,
+        nine.no_flit,
+        nine.no_idle_channel,
+        nine.lost_channel,
+        nine.no_credit,
+        nine.lost_input,
+        nine.lost_switch,
+    ]
+}

@@ -1,0 +1,15 @@
+//! How often each channel of the routers of a block had each of the ten verdicts, and what is found
+//! of each in a cycle.
+//!
+//! Nine verdicts are counted by bits, for all channels of a block at once. Empty is the rest. Many
+//! cycles that are like the last one, in which nothing happened, are counted together.
+#![tactic(auto)]
+
+mod count;
+mod counts;
+mod nine;
+mod told;
+
+pub use count::Count;
+pub use counts::Counts;
+pub use nine::Nine;
