@@ -5,6 +5,7 @@ use Rattle.std.proofs.lemmas.Bool.{and_parts, eq-eqb, lt-leb, ltb-true}
 use Rattle.noc_topo.specs.Shape.{local_port, ports}
 use Rattle.noc_packet.specs.Set.{has_bit}
 use Rattle.noc_packet.proofs.SetLemmas.{has_bit-zero}
+use Rattle.noc_alloc.specs.Members.{MembersAreBelow}
 use Rattle.noc_sets.specs.Column.{Column}
 use Rattle.noc_sets.specs.Cycle.{HasWorked, Router, Still, Turn, begins_in, came_in, ready_source, still_of, went_in}
 use Rattle.noc_sets.specs.Ended.{leads_tail}
@@ -15,14 +16,15 @@ use Rattle.noc_sets.specs.Passes.{AreOwners, lane_asks, lane_filled, lane_free, 
 use Rattle.noc_sets.specs.Planes.{any_from, more_than_one, raised_by, wrong_from}
 use Rattle.noc_sets.specs.Sets.{least, less, lowest, of_one}
 use Rattle.noc_sets.specs.Source.{NEVER, Source, Start, first_source, next_source, start_in}
+use Rattle.noc_sets.proofs.MemberLemmas.{or-zero}
 use Rattle.noc_sets.proofs.TurnLemmas.{first-among}
 use Rattle.noc_theory.specs.Network.{Setup}
 use Rattle.noc_theory_bits.specs.Network.{HasTurned}
 use Rattle.noc_theory_cycles.specs.Blank.{DoesNothing, IsBlank}
-use Rattle.noc_theory_cycles.proofs.NoneLemmas.{and-none, empty-set, first-none, if-none, in-both, in-less, less-none, lowered-none, lowest-none, no-member, or-none, raised-none, rest-none, union-none, xor-none}
+use Rattle.noc_theory_cycles.proofs.NoneLemmas.{and-none, empty-set, first-none, if-none, in-both, in-less, less-none, less-same, lowered-none, lowest-none, no-member, or-none, raised-none, rest-none, union-none, xor-none}
 
 -- ---- once it has taken what comes
-module _ (layout : Layout) (starts : List Start) (n up : ℕ) (b : Router) (soon : n < NEVER) (blank : IsBlank b) (ups : AreOwners (lane_raised b.links.credits b.column) b.marks.owner up) where
+module _ (layout : Layout) (starts : List Start) (n up : ℕ) (b : Router) (soon : n < NEVER) (size : ℕ) (blank : IsBlank size b) (ups : AreOwners (lane_raised b.links.credits b.column) b.marks.owner up) where
   abbrev s : Still
   s = still_of layout starts n up b
 
@@ -71,8 +73,8 @@ module _ (layout : Layout) (starts : List Start) (n up : ℕ) (b : Router) (soon
   pub not-supplied : (still_of layout starts n up b).column.supplied ≡ 0
   not-supplied = or-none b.column.supplied up blank.supplied nobody-up
 
-  pub not-idle : (still_of layout starts n up b).column.idle ≡ 0
-  not-idle = or-none b.column.idle (lane_home layout.places b.links.credits b.column) blank.idle none-home
+  pub idle-stays : (still_of layout starts n up b).column.idle ≡ b.column.idle
+  idle-stays = ap (bit_or b.column.idle) none-home ∙ or-zero b.column.idle
 
   pub not-draining : (still_of layout starts n up b).column.draining ≡ 0
   not-draining = xor-none b.column.draining (lane_home layout.places b.links.credits b.column) none-home ∙ blank.draining
@@ -87,7 +89,7 @@ module _ (layout : Layout) (starts : List Start) (n up : ℕ) (b : Router) (soon
   nothing-ready k e = no-member b.column.active k blank.active (in-both b.column.active s.filled k (in-both (bit_and b.column.active s.filled) s.column.supplied k e).0).0
 
 -- ---- after the cycle
-module _ (count : ℕ) (net : Setup) (layout : Layout) (laid : IsLayoutOf count net.relation net.depth layout) (starts : List Start) (sets : ℕ → ℕ → ℕ) (n : ℕ) (b : Router) (t : Turn) (soon : n < NEVER) (blank : IsBlank b)
+module _ (count : ℕ) (net : Setup) (layout : Layout) (laid : IsLayoutOf count net.relation net.depth layout) (starts : List Start) (sets : ℕ → ℕ → ℕ) (n : ℕ) (b : Router) (t : Turn) (soon : n < NEVER) (room : ℕ) (blank : IsBlank room b)
     (works : HasWorked (ports net.relation.grid) net.relation.vcs layout starts sets n b t) where
   abbrev size : ℕ
   size = ports net.relation.grid * net.relation.vcs
@@ -118,7 +120,7 @@ module _ (count : ℕ) (net : Setup) (layout : Layout) (laid : IsLayoutOf count 
   granted-none = ap (λ (g : Allocation). g.granted) chosen-is ∙ works.decided.no_grant
 
   heads-none : works.effects.heads ≡ 0
-  heads-none = works.decided.heads ∙ less-none still.filled (bit_or start.waiting start.active) (not-filled layout starts n works.up b soon blank works.ups)
+  heads-none = works.decided.heads ∙ less-none still.filled (bit_or start.waiting start.active) (not-filled layout starts n works.up b soon room blank works.ups)
 
   given-none : works.effects.granted ≡ 0
   given-none = works.decided.granted ∙ granted-none
@@ -148,7 +150,7 @@ module _ (count : ℕ) (net : Setup) (layout : Layout) (laid : IsLayoutOf count 
   supplied-none =
       works.decided.switched.supplied
       ∙ rest-none works.chosen.column.supplied (ports net.relation.grid) (λ q. dry_by (single_in layout.links start) works.chosen.marks.taken (chosen_by works.picked works.chosen.marks q))
-      (ap (λ (g : Allocation). g.column.supplied) chosen-is ∙ ap (λ (c : Column). c.supplied) start-is ∙ not-supplied layout starts n works.up b soon blank works.ups)
+      (ap (λ (g : Allocation). g.column.supplied) chosen-is ∙ ap (λ (c : Column). c.supplied) start-is ∙ not-supplied layout starts n works.up b soon room blank works.ups)
 
   abbrev tail : ℕ → Bool
   tail = leads_tail (still_of layout starts n works.up b).ended works.before.column.len
@@ -189,7 +191,7 @@ module _ (count : ℕ) (net : Setup) (layout : Layout) (laid : IsLayoutOf count 
     credits = ap (λ l. l.credits) works.left_is ∙ moved-none;
     grants = λ o l.
         works.grants_are o l
-        ∙ ap (λ w. if has_bit w o then Some (works.chosen.marks.owner o) else None) (less-none start.idle chosen.idle (ap (λ (c : Column). c.idle) start-is ∙ not-idle layout starts n works.up b soon blank works.ups))
+        ∙ ap (λ w. if has_bit w o then Some (works.chosen.marks.owner o) else None) (less-same start.idle chosen.idle (sym (ap (λ (g : Allocation). g.column.idle) chosen-is)))
         ∙ ap (λ x. if x then Some (works.chosen.marks.owner o) else None) (has_bit-zero o);
     arrived = works.arrived_are ∙ and-none works.effects.released _ released-none;
     happened = works.happened_is ∙ ap (λ w. not (nat_eq w 0)) (or-none _ works.effects.moved (or-none _ works.effects.granted (or-none _ works.effects.heads came-none heads-none) given-none) moved-none);
@@ -198,19 +200,19 @@ module _ (count : ℕ) (net : Setup) (layout : Layout) (laid : IsLayoutOf count 
       came-none : came_in layout n b ≡ 0
       came-none =
           or-none (bit_or (lane_landed layout.places b.links.flits b.column) (lowest (begins_in layout n b))) b.links.credits
-          (or-none (lane_landed layout.places b.links.flits b.column) (lowest (begins_in layout n b)) (nothing-lands layout starts n works.up b soon blank works.ups) (no-begins layout starts n works.up b soon blank works.ups))
+          (or-none (lane_landed layout.places b.links.flits b.column) (lowest (begins_in layout n b)) (nothing-lands layout starts n works.up b soon room blank works.ups) (no-begins layout starts n works.up b soon room blank works.ups))
           blank.credits_come
 
-  pub stays-blank : (next : Router) → HasTurned t next → next.links.flits ≡ 0 → next.links.credits ≡ 0 → IsBlank next
+  pub stays-blank : (next : Router) → HasTurned t next → next.links.flits ≡ 0 → next.links.credits ≡ 0 → IsBlank room next
   stays-blank next turned flits credits = record {
     waiting = ap (λ (c : Column). c.waiting) settled ∙ or-none (less chosen.waiting works.effects.granted) works.effects.heads (less-none chosen.waiting works.effects.granted (kept (λ c. c.waiting) (λ c w. refl) ∙ blank.waiting)) heads-none;
     active = ap (λ (c : Column). c.active) settled ∙ less-none (bit_or chosen.active works.effects.granted) works.effects.released (or-none chosen.active works.effects.granted (kept (λ c. c.active) (λ c w. refl) ∙ blank.active) given-none);
-    flits = ap (λ (c : Column). any_from 0 c.len) settled ∙ ap (any_from 0) (lowered-none chosen.len works.effects.moved moved-none) ∙ kept (λ c. any_from 0 c.len) (λ c w. refl) ∙ ap (any_from 0) (len-stays layout starts n works.up b soon blank works.ups) ∙ blank.flits;
+    flits = ap (λ (c : Column). any_from 0 c.len) settled ∙ ap (any_from 0) (lowered-none chosen.len works.effects.moved moved-none) ∙ kept (λ c. any_from 0 c.len) (λ c w. refl) ∙ ap (any_from 0) (len-stays layout starts n works.up b soon room blank works.ups) ∙ blank.flits;
     supplied = ap (λ (c : Column). c.supplied) settled ∙ less-none works.decided.supplied works.effects.released supplied-none;
-    idle = ap (λ (c : Column). c.idle) settled ∙ or-none chosen.idle (bit_and works.effects.freed layout.local) (kept (λ c. c.idle) (λ c w. refl) ∙ not-idle layout starts n works.up b soon blank works.ups) (freed-here layout.local local-below);
-    draining = ap (λ (c : Column). c.draining) settled ∙ or-none chosen.draining (bit_and works.effects.freed layout.links) (kept (λ c. c.draining) (λ c w. refl) ∙ not-draining layout starts n works.up b soon blank works.ups) (freed-here layout.links links-below);
-    injecting = ap (λ (c : Column). c.injecting) settled ∙ kept (λ c. c.injecting) (λ c w. refl) ∙ not-injecting layout starts n works.up b soon blank works.ups;
-    due = ap (λ (y : Source). y.due) (turned.source ∙ works.source_is ∙ source-waits layout starts n works.up b soon blank works.ups) ∙ blank.due;
+    idle = subst (MembersAreBelow room) (sym (ap (λ (c : Column). c.idle) settled ∙ ap (bit_or chosen.idle) (freed-here layout.local local-below) ∙ or-zero chosen.idle ∙ kept (λ c. c.idle) (λ c w. refl) ∙ idle-stays layout starts n works.up b soon room blank works.ups)) blank.idle;
+    draining = ap (λ (c : Column). c.draining) settled ∙ or-none chosen.draining (bit_and works.effects.freed layout.links) (kept (λ c. c.draining) (λ c w. refl) ∙ not-draining layout starts n works.up b soon room blank works.ups) (freed-here layout.links links-below);
+    injecting = ap (λ (c : Column). c.injecting) settled ∙ kept (λ c. c.injecting) (λ c w. refl) ∙ not-injecting layout starts n works.up b soon room blank works.ups;
+    due = ap (λ (y : Source). y.due) (turned.source ∙ works.source_is ∙ source-waits layout starts n works.up b soon room blank works.ups) ∙ blank.due;
     flits_come = flits;
     credits_come = credits;
   }

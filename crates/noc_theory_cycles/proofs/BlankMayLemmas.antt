@@ -1,9 +1,10 @@
 -- A router of a block that the network does not have has what each part of a cycle asks for, and
 -- what it holds shows that.
-use Rattle.std.proofs.Common.{◌≡◌, ℕ, ◌+◌, ◌-◌, ◌*◌, ◌<◌, Bool, true, false, List, ap, arith, refl, sym, ◌∙◌}
+use Rattle.std.proofs.Common.{◌≡◌, ℕ, ◌+◌, ◌-◌, ◌*◌, ◌<◌, Bool, true, false, List, ap, arith, refl, subst, sym, ◌∙◌}
 use Rattle.std.proofs.lemmas.Bool.{and_left, false≢true}
 use Rattle.noc_packet.specs.Set.{has_bit}
 use Rattle.noc_packet.proofs.SetLemmas.{has_bit-zero, zero_from_none}
+use Rattle.noc_alloc.specs.Members.{MembersAreBelow}
 use Rattle.noc_sets.specs.Column.{Column}
 use Rattle.noc_sets.specs.Cycle.{Router, still_of}
 use Rattle.noc_sets.specs.Layout.{Layout}
@@ -19,8 +20,8 @@ use Rattle.noc_cycles.specs.Held.{Held, ShowsHeld}
 use Rattle.noc_cycles.specs.Taking.{HasTaken}
 use Rattle.noc_cycles.specs.May.{MayConclude, MayDecide, MayInject, MayTake}
 use Rattle.noc_cycles.specs.declared.pattern.Pattern.{Pattern}
-use Rattle.noc_theory_cycles.specs.Blank.{HoldsNothing, IsBlank, words_of}
-use Rattle.noc_theory_cycles.proofs.BlankLemmas.{no-heads, not-idle, nothing-ready}
+use Rattle.noc_theory_cycles.specs.Blank.{HoldsBlank, IsBlank, channels_count, words_of}
+use Rattle.noc_theory_cycles.proofs.BlankLemmas.{no-heads, idle-stays, nothing-ready}
 use Rattle.noc_theory_cycles.proofs.NoneLemmas.{no-member}
 
 -- ---- what it holds
@@ -33,14 +34,14 @@ up-empty a links none = zero_from_none a (λ k.
 no-shift : (links : ℕ) → up_by 0 links ≡ 0
 no-shift links = omega arith
 
-module _ (pattern : Pattern) (h : Held) (links : Links ℕ) (b : Router) (held : ShowsHeld pattern h links b) (blank : IsBlank b) where
-  pub holds-nothing : HoldsNothing pattern.frame.deep h
-  holds-nothing = record {
+module _ (pattern : Pattern) (h : Held) (links : Links ℕ) (b : Router) (held : ShowsHeld pattern h links b) (blank : IsBlank (channels_count pattern) b) where
+  pub holds-blank : HoldsBlank pattern h
+  holds-blank = record {
     waiting = held.waiting ∙ sym (ap (λ (c : Column). c.waiting) held.column) ∙ blank.waiting;
     inputs = sym (ap (λ (c : Column). c.waiting) held.column) ∙ blank.waiting;
     active = sym (ap (λ (c : Column). c.active) held.column) ∙ blank.active;
     flits = sym (ap (λ (c : Column). any_from 0 c.len) held.column) ∙ blank.flits;
-    idle = sym (ap (λ (c : Column). c.idle) held.column) ∙ blank.idle;
+    idle = subst (MembersAreBelow (channels_count pattern)) (ap (λ (c : Column). c.idle) held.column) blank.idle;
     draining = sym (ap (λ (c : Column). c.draining) held.column) ∙ blank.draining;
     injecting = up-empty h.injecting (pattern.table.ports.links.width * pattern.table.ports.links.vcs) (sym (ap (λ (c : Column). c.injecting) held.column) ∙ blank.injecting);
     due = sym (ap (λ (s : Source). s.due) held.source) ∙ blank.due;
@@ -51,13 +52,13 @@ module _ (pattern : Pattern) (h : Held) (links : Links ℕ) (b : Router) (held :
   blank-may-take starts = record {
     supplied = λ i u.
         ap (λ w. has_bit w i) blank.supplied ∙ has_bit-zero i
-        ∙ sym (and_left (has_bit h.inputs.active i) _ (ap (λ w. has_bit w i) holds-nothing.active ∙ has_bit-zero i));
-    busy = λ i e. absurd (false≢true (no-member h.inputs.active i holds-nothing.active e));
+        ∙ sym (and_left (has_bit h.inputs.active i) _ (ap (λ w. has_bit w i) holds-blank.active ∙ has_bit-zero i));
+    busy = λ i e. absurd (false≢true (no-member h.inputs.active i holds-blank.active e));
     owned = λ o u came idle draining. absurd (false≢true (no-member b.links.credits o blank.credits_come came));
-    one = λ x y ex ey. absurd (false≢true (no-member h.injecting x holds-nothing.injecting ex));
-    left = λ some. absurd (some holds-nothing.injecting);
-    queue = λ cycle due soon. let never = holds-nothing.due in absurd (omega (arith, due, soon, never));
-    due = λ some. absurd (some holds-nothing.injecting);
+    one = λ x y ex ey. absurd (false≢true (no-member h.injecting x holds-blank.injecting ex));
+    left = λ some. absurd (some holds-blank.injecting);
+    queue = λ cycle due soon. let never = holds-blank.due in absurd (omega (arith, due, soon, never));
+    due = λ some. absurd (some holds-blank.injecting);
   }
 
   pub blank-may-inject : (starts : List Start) (n : ℕ) → n < NEVER → MayInject starts n h
@@ -68,7 +69,7 @@ module _ (pattern : Pattern) (h : Held) (links : Links ℕ) (b : Router) (held :
   }
 
 -- what holds nothing is of a blank router
-module _ (pattern : Pattern) (h : Held) (links : Links ℕ) (holds : HoldsNothing pattern.frame.deep h) where
+module _ (pattern : Pattern) (h : Held) (links : Links ℕ) (holds : HoldsBlank pattern h) where
   none-active : (i : ℕ) → has_bit h.inputs.active i ≡ true → false ≡ true
   none-active i e = no-member h.inputs.active i holds.active e
 
@@ -97,7 +98,7 @@ module _ (pattern : Pattern) (h : Held) (links : Links ℕ) (holds : HoldsNothin
     source = refl;
   }
 
-  pub words-blank : links.flits ≡ 0 → links.credits ≡ 0 → IsBlank (words_of pattern h links)
+  pub words-blank : links.flits ≡ 0 → links.credits ≡ 0 → IsBlank (channels_count pattern) (words_of pattern h links)
   words-blank flits credits = record {
     waiting = holds.inputs;
     active = holds.active;
@@ -112,10 +113,10 @@ module _ (pattern : Pattern) (h : Held) (links : Links ℕ) (holds : HoldsNothin
   }
 
 -- ---- once it has taken what comes
-module _ (pattern : Pattern) (layout : Layout) (starts : List Start) (n : ℕ) (b : Router) (h : Held) (standing : Standing ℕ) (no_credit : ℕ) (comes : Bool) (soon : n < NEVER) (blank : IsBlank b)
+module _ (pattern : Pattern) (layout : Layout) (starts : List Start) (n : ℕ) (b : Router) (h : Held) (standing : Standing ℕ) (no_credit : ℕ) (comes : Bool) (soon : n < NEVER) (blank : IsBlank (channels_count pattern) b)
     (taken : HasTaken pattern layout starts n b h standing no_credit comes) where
   heads-none : standing.heads ≡ 0
-  heads-none = taken.shows.heads ∙ no-heads layout starts n taken.up b soon blank taken.ups
+  heads-none = taken.shows.heads ∙ no-heads layout starts n taken.up b soon (channels_count pattern) blank taken.ups
 
   waiting-none : h.waiting ≡ 0
   waiting-none = taken.shows.waiting ∙ sym (ap (λ (c : Column). c.waiting) taken.shows.column) ∙ blank.waiting
@@ -123,13 +124,13 @@ module _ (pattern : Pattern) (layout : Layout) (starts : List Start) (n : ℕ) (
   active-none : h.inputs.active ≡ 0
   active-none = sym (ap (λ (c : Column). c.active) taken.shows.column) ∙ blank.active
 
-  idle-none : h.idle ≡ 0
-  idle-none = sym (ap (λ (c : Column). c.idle) taken.shows.column) ∙ not-idle layout starts n taken.up b soon blank taken.ups
+  idle-same : b.column.idle ≡ h.idle
+  idle-same = sym (sym (ap (λ (c : Column). c.idle) taken.shows.column) ∙ idle-stays layout starts n taken.up b soon (channels_count pattern) blank taken.ups)
 
   pub blank-may-decide : (packets nodes node : ℕ) → MayDecide pattern packets nodes node h standing
   blank-may-decide packets nodes node = record {
     waiting = λ k e. absurd (false≢true (no-member h.waiting k waiting-none e));
-    idle = λ k e. absurd (false≢true (no-member h.idle k idle-none e));
+    idle = subst (MembersAreBelow (channels_count pattern)) idle-same blank.idle;
     apart = λ i e. absurd (false≢true (no-member h.inputs.active i active-none e));
     busy = λ i e. absurd (false≢true (no-member h.inputs.active i active-none e));
     node_is = λ some. absurd (some heads-none);
@@ -140,5 +141,5 @@ module _ (pattern : Pattern) (layout : Layout) (starts : List Start) (n : ℕ) (
       → HasDecidedHeld pattern layout sets (still_of layout starts n taken.up b) h d standing decided granted lost left
       → ((i : ℕ) → has_bit released i ≡ true → has_bit decided.picked i ≡ true) → MayConclude packets d released
   blank-may-conclude sets d decided granted lost released packets left has among = record {
-    packet = λ i e. absurd (false≢true (nothing-ready layout starts n taken.up b soon blank taken.ups i (has.picks.among i (among i e))));
+    packet = λ i e. absurd (false≢true (nothing-ready layout starts n taken.up b soon (channels_count pattern) blank taken.ups i (has.picks.among i (among i e))));
   }

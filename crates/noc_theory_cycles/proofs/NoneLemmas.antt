@@ -35,6 +35,11 @@ and-none a b none = empty-set (bit_and a b) (λ k e. no-member a k none (in-both
 pub less-none : (a b : ℕ) → a ≡ 0 → less a b ≡ 0
 less-none a b none = empty-set (less a b) (λ k e. no-member a k none (in-less a b k e))
 
+pub less-same : (a b : ℕ) → a ≡ b → less a b ≡ 0
+less-same a b same = empty-set (less a b) (λ k e.
+    let both = and_parts (has_bit a k) (not (has_bit b k)) (sym (less_members a b k) ∙ e) in
+    sym (ap not (ap (λ n. has_bit n k) (sym same) ∙ both.0)) ∙ both.1)
+
 pub or-none : (a b : ℕ) → a ≡ 0 → b ≡ 0 → bit_or a b ≡ 0
 or-none a b first second = ap₂ (λ x y. bit_or x y) first second ∙ or-zero 0
 

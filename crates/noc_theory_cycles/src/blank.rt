@@ -16,37 +16,40 @@ ghost use Rattle.noc_cycles.specs.Held.{Held, ShowsHeld};
 ghost use Rattle.noc_cycles.specs.May.{MayConclude, MayDecide, MayInject, MayTake};
 ghost use Rattle.noc_cycles.specs.Taking.{HasTaken};
 ghost use Rattle.noc_cycles.specs.declared.pattern.Pattern.{Pattern};
-ghost use Rattle.noc_theory_cycles.specs.Blank.{DoesNothing, HoldsNothing, IsBlank, words_of};
+ghost use Rattle.noc_theory_cycles.specs.Blank.{DoesNothing, HoldsBlank, IsBlank, channels_count, words_of};
 
 /// A router of a block that holds nothing, and to which nothing comes, is blank, and a blank one
 /// holds nothing.
 pub fn blank_routers_hold_nothing()
     ensures words { (pattern : Pattern) (h : Held) (links : Links ℕ)
-        → HoldsNothing pattern.frame.deep h → ShowsHeld pattern h links (words_of pattern h links) }
+        → HoldsBlank pattern h → ShowsHeld pattern h links (words_of pattern h links) }
     ensures blank { (pattern : Pattern) (h : Held) (links : Links ℕ)
-        → HoldsNothing pattern.frame.deep h → links.flits ≡ 0 → links.credits ≡ 0
-        → IsBlank (words_of pattern h links) }
+        → HoldsBlank pattern h → links.flits ≡ 0 → links.credits ≡ 0
+        → IsBlank (channels_count pattern) (words_of pattern h links) }
     ensures nothing { (pattern : Pattern) (h : Held) (links : Links ℕ) (b : Router)
-        → ShowsHeld pattern h links b → IsBlank b → HoldsNothing pattern.frame.deep h }
+        → ShowsHeld pattern h links b → IsBlank (channels_count pattern) b
+        → HoldsBlank pattern h }
 {}
 
 /// It has what each part of a cycle asks for too.
 pub fn blank_routers_have_what_is_asked_for()
     ensures taking { (pattern : Pattern) (starts : List Start) (h : Held) (links : Links ℕ)
-        (b : Router) → ShowsHeld pattern h links b → IsBlank b → MayTake pattern starts h b }
+        (b : Router) → ShowsHeld pattern h links b → IsBlank (channels_count pattern) b
+        → MayTake pattern starts h b }
     ensures injecting { (pattern : Pattern) (starts : List Start) (n : ℕ) (h : Held)
-        (links : Links ℕ) (b : Router) → n < NEVER → ShowsHeld pattern h links b → IsBlank b
+        (links : Links ℕ) (b : Router) → n < NEVER → ShowsHeld pattern h links b
+        → IsBlank (channels_count pattern) b
         → MayInject starts n h }
     ensures deciding { (pattern : Pattern) (layout : Layout) (starts : List Start) (n : ℕ)
         (b : Router) (h : Held) (standing : Standing ℕ) (no_credit : ℕ) (comes : Bool)
-        (packets nodes node : ℕ) → n < NEVER → IsBlank b
+        (packets nodes node : ℕ) → n < NEVER → IsBlank (channels_count pattern) b
         → HasTaken pattern layout starts n b h standing no_credit comes
         → MayDecide pattern packets nodes node h standing }
     ensures concluding { (pattern : Pattern) (layout : Layout) (starts : List Start) (n : ℕ)
         (b : Router) (a : Held) (standing : Standing ℕ) (no_credit : ℕ) (comes : Bool)
         (sets : ℕ → ℕ → ℕ) (h : Held) (decided : Decided ℕ) (granted lost released packets : ℕ)
         (left : Links ℕ) (taken : HasTaken pattern layout starts n b a standing no_credit comes)
-        → n < NEVER → IsBlank b
+        → n < NEVER → IsBlank (channels_count pattern) b
         → HasDecidedHeld pattern layout sets (still_of layout starts n taken.up b) a h standing
         decided granted lost left
         → ((i : ℕ) → has_bit released i ≡ true → has_bit decided.picked i ≡ true)
@@ -56,13 +59,13 @@ pub fn blank_routers_have_what_is_asked_for()
 /// Through a cycle it stays blank, and it does nothing.
 pub fn blank_routers_stay_blank()
     ensures blank { (count : ℕ) (net : Setup) (layout : Layout) (starts : List Start)
-        (sets : ℕ → ℕ → ℕ) (n : ℕ) (b : Router) (t : Turn) (next : Router)
-        → IsLayoutOf count net.relation net.depth layout → n < NEVER → IsBlank b
+        (sets : ℕ → ℕ → ℕ) (n size : ℕ) (b : Router) (t : Turn) (next : Router)
+        → IsLayoutOf count net.relation net.depth layout → n < NEVER → IsBlank size b
         → HasWorked (ports net.relation.grid) net.relation.vcs layout starts sets n b t
-        → HasTurned t next → next.links.flits ≡ 0 → next.links.credits ≡ 0 → IsBlank next }
+        → HasTurned t next → next.links.flits ≡ 0 → next.links.credits ≡ 0 → IsBlank size next }
     ensures nothing { (count : ℕ) (net : Setup) (layout : Layout) (starts : List Start)
-        (sets : ℕ → ℕ → ℕ) (n : ℕ) (b : Router) (t : Turn)
-        → IsLayoutOf count net.relation net.depth layout → n < NEVER → IsBlank b
+        (sets : ℕ → ℕ → ℕ) (n size : ℕ) (b : Router) (t : Turn)
+        → IsLayoutOf count net.relation net.depth layout → n < NEVER → IsBlank size b
         → HasWorked (ports net.relation.grid) net.relation.vcs layout starts sets n b t
         → DoesNothing (ports net.relation.grid * net.relation.vcs) t }
 {}

@@ -1,4 +1,4 @@
-use Rattle.noc_theory_cycles.proofs.BlankMayLemmas.{holds-nothing, words-blank, words-show}
+use Rattle.noc_theory_cycles.proofs.BlankMayLemmas.{holds-blank, words-blank, words-show}
 use Rattle.noc_theory_cycles.proofs.blank.blank_routers_hold_nothing.Goals as goal
 
 pub returns-clause-words : goal.returns-clause-words
@@ -8,4 +8,4 @@ pub returns-clause-blank : goal.returns-clause-blank
 returns-clause-blank c = words-blank
 
 pub returns-clause-nothing : goal.returns-clause-nothing
-returns-clause-nothing c = holds-nothing
+returns-clause-nothing c = holds-blank
