@@ -5,3 +5,5 @@ pub mod OpeningLemmas
 pub mod ChoiceLemmas
 pub mod SwitchedLemmas
 pub mod DecidingLemmas
+pub mod ConcludingLemmas
+pub mod ArrivalLemmas

@@ -7,3 +7,4 @@ pub mod Gathered
 pub mod Alike
 pub mod Patterns
 pub mod Opened
+pub mod Concluding

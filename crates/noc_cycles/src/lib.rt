@@ -6,15 +6,18 @@
 #![tactic(auto)]
 
 mod around;
+mod arrivals;
 mod begins;
 mod block;
 mod deciding;
 mod first;
 mod gather;
 mod opening;
+mod concluding;
 mod pattern;
 
 pub use around::Around;
+pub use arrivals::arrive_all;
 pub use begins::{begin_packets, some_in};
 pub use block::{Block, Work};
 pub use deciding::{Routing, decide};
@@ -22,3 +25,5 @@ pub use first::First;
 pub use gather::gather_links;
 pub use opening::open_blocks;
 pub use pattern::{Pattern, SHALLOW};
+pub use concluding::conclude;
+pub use pattern::Pattern;

@@ -1,0 +1,92 @@
+-- Packets arrive channel by channel, and in each channel router by router.
+use Rattle.std.proofs.Common.{◌≡◌, ◌≢◌, ℕ, ◌+◌, ◌<◌, Bool, true, false, List, Some, length, arith, ap, ap₂, refl, sym, ◌∙◌, inl, inr, set, slice_index}
+use Rattle.std.specs.Prelude.{◌⊎◌, ◌&&◌, nat_eq, if◌then◌else◌}
+use Rattle.std.proofs.lemmas.Bool.{and_parts, cases_eq, eq-eqb, eqb-true, ne_eqb, true≢false}
+use Rattle.noc_packet.specs.Set.{has_bit, IsLeast}
+use Rattle.noc_packet.proofs.SetLemmas.{has_bit-zero}
+use Rattle.noc_sets.specs.Sets.{less, lowest}
+use Rattle.noc_sets.specs.Unions.{some_below}
+use Rattle.noc_columns.specs.Words.{Numbering, set_of, word}
+use Rattle.noc_columns.proofs.LoopLemmas.{left-part, was-left}
+use Rattle.noc_columns.proofs.MarkLemmas.{entry-put}
+use Rattle.noc_columns.proofs.PickLemmas.{find-first, none-each}
+use Rattle.noc_columns.proofs.PortLemmas.{member-below}
+use Rattle.noc_columns.proofs.SupplyLemmas.{member-is}
+use Rattle.noc_cycles.specs.Concluding.{HaveArrived}
+
+-- ---- in one channel: the packets of the routers of a set that are not left have arrived
+pub record HaveArrivedBut (cycle set rest : ℕ) (packet : ℕ → ℕ) (old now : ℕ → ℕ) : Type 0 where
+  pub part : (r : ℕ) → has_bit rest r ≡ true → has_bit set r ≡ true
+  pub some : (r : ℕ) → has_bit set r ≡ true → has_bit rest r ≡ false → now (packet r) ≡ cycle
+  pub others : (p : ℕ) → ((r : ℕ) → r < 64 → has_bit set r ≡ true → packet r ≢ p) → now p ≡ old p
+
+pub arrivals-start : (cycle set : ℕ) (packet : ℕ → ℕ) (old : ℕ → ℕ) → HaveArrivedBut cycle set set packet old old
+arrivals-start cycle set packet old = record {
+  part = λ r e. e;
+  some = λ r a b. absurd (true≢false (sym a ∙ b));
+  others = λ p none. refl;
+}
+
+pub arrivals-next : (cycle members rest left t : ℕ) (packet : ℕ → ℕ) (old : ℕ → ℕ) (table : List ℕ) → IsLeast (has_bit rest) (Some t) → t < 64 → left ≡ less rest (lowest rest) → packet t < length table
+    → HaveArrivedBut cycle members rest packet old (slice_index table) → HaveArrivedBut cycle members left packet old (slice_index (set table (packet t) cycle))
+arrivals-next cycle members rest left t packet old table is few left_is within are = record {
+  part = λ r e. left-part members rest t is are.part r (ap (λ n. has_bit n r) (sym left_is) ∙ e);
+  some = λ r a b. some r a (ap (λ n. has_bit n r) (sym left_is) ∙ b) (cases_eq (packet r) (packet t)) (cases_eq r t);
+  others = λ p none. written p ∙ ap (λ b. if b then cycle else slice_index table p) (ne_eqb p (packet t) (λ same. none t few (are.part t is.0) (sym same))) ∙ are.others p none;
+}
+  where
+    written : (p : ℕ) → slice_index (set table (packet t) cycle) p ≡ (if nat_eq p (packet t) then cycle else slice_index table p)
+    written p = entry-put table (packet t) cycle p within
+
+    some : (r : ℕ) → has_bit members r ≡ true → has_bit (less rest (lowest rest)) r ≡ false → (packet r ≡ packet t) ⊎ (packet r ≢ packet t) → (r ≡ t) ⊎ (r ≢ t) → slice_index (set table (packet t) cycle) (packet r) ≡ cycle
+    some r a b (inl same) one = written (packet r) ∙ ap (λ x. if x then cycle else slice_index table (packet r)) (eq-eqb (packet r) (packet t) same)
+    some r a b (inr other) (inl one) = absurd (other (ap packet one))
+    some r a b (inr other) (inr apart) = written (packet r) ∙ ap (λ x. if x then cycle else slice_index table (packet r)) (ne_eqb (packet r) (packet t) other) ∙ are.some r a (was-left rest t r is apart b)
+
+pub arrivals-all : (cycle set rest : ℕ) (packet : ℕ → ℕ) (old now : ℕ → ℕ) → rest ≡ 0 → HaveArrivedBut cycle set rest packet old now → (r : ℕ) → has_bit set r ≡ true → now (packet r) ≡ cycle
+arrivals-all cycle set rest packet old now none are r e = are.some r e (ap (λ n. has_bit n r) none ∙ has_bit-zero r)
+
+-- ---- in the channels below n, where these routers have each
+pub record HaveArrivedBelow (cycle n : ℕ) (routers : ℕ → ℕ) (packet : ℕ → ℕ → ℕ) (old now : ℕ → ℕ) : Type 0 where
+  pub some : (r k : ℕ) → k < n → r < 64 → has_bit (routers k) r ≡ true → now (packet r k) ≡ cycle
+  pub others : (p : ℕ) → ((r k : ℕ) → k < n → r < 64 → has_bit (routers k) r ≡ true → packet r k ≢ p) → now p ≡ old p
+
+pub below-start : (cycle : ℕ) (routers : ℕ → ℕ) (packet : ℕ → ℕ → ℕ) (old : ℕ → ℕ) → HaveArrivedBelow cycle 0 routers packet old old
+below-start cycle routers packet old = record { some = λ r k l few e. absurd (omega arith); others = λ p none. refl }
+
+pub below-next : (cycle n : ℕ) (routers : ℕ → ℕ) (packet : ℕ → ℕ → ℕ) (old now new : ℕ → ℕ) → HaveArrivedBelow cycle n routers packet old now
+    → ((r : ℕ) → r < 64 → has_bit (routers n) r ≡ true → new (packet r n) ≡ cycle) → ((p : ℕ) → ((r : ℕ) → r < 64 → has_bit (routers n) r ≡ true → packet r n ≢ p) → new p ≡ now p)
+    → HaveArrivedBelow cycle (n + 1) routers packet old new
+below-next cycle n routers packet old now new are here others = record {
+  some = λ r k l few e. elim (cases_eq k n) [
+    | inl same ↦ ap (λ j. new (packet r j)) same ∙ here r few (ap (λ j. has_bit (routers j) r) (sym same) ∙ e)
+    | inr other ↦ at r k (omega (arith, l, other)) few e (find-first 64 (test (packet r k)))
+  ];
+  others = λ p none. others p (λ r few e. none r n (omega arith) few e) ∙ are.others p (λ r k l few e. none r k (omega (arith, l)) few e);
+}
+  where
+    test : ℕ → ℕ → Bool
+    test p j = has_bit (routers n) j && nat_eq (packet j n) p
+
+    at : (r k : ℕ) → k < n → r < 64 → has_bit (routers k) r ≡ true
+        → (some_below 64 (test (packet r k)) ≡ false) ⊎ ((t : ℕ) × (t < 64) × (test (packet r k) t ≡ true) × (some_below t (test (packet r k)) ≡ false)) → new (packet r k) ≡ cycle
+    at r k l few e (inl none) =
+        others (packet r k) (λ j m h same. true≢false (sym (ap₂ (λ a b. a && b) h (eq-eqb (packet j n) (packet r k) same)) ∙ none-each 64 (test (packet r k)) none j m))
+        ∙ are.some r k l few e
+    at r k l few e (inr found) =
+        let both = and_parts (has_bit (routers n) found.0) (nat_eq (packet found.0 n) (packet r k)) found.2 in
+        ap new (sym (eqb-true (packet found.0 n) (packet r k) both.1)) ∙ here found.0 found.1 both.0
+
+-- .. which are all
+pub arrived-all : (cycle i : ℕ) (n : Numbering) (words : List ℕ) (packet : ℕ → ℕ → ℕ) (old now : ℕ → ℕ) → i ≡ n.size → HaveArrivedBelow cycle i (λ k. word (n.index k) words) packet old now
+    → HaveArrived cycle 64 (λ r. set_of n r words) packet old now
+arrived-all cycle i n words packet old now all are = record {
+  some = λ r k few e.
+      let l = member-below n r words k e in
+      are.some r k (omega (arith, l, all)) few (sym (member-is n r k words l) ∙ e);
+  others = λ p none.
+      are.others p
+      (λ r k l few e.
+      let m : k < n.size = omega (arith, l, all) in
+      none r k few (member-is n r k words m ∙ e));
+}

@@ -1,0 +1,84 @@
+-- What takes effect in a block takes effect in each of its routers.
+use Rattle.std.proofs.Common.{◌≡◌, ℕ, ◌+◌, ◌*◌, ◌/◌, ◌%◌, ◌<◌, ◌≤◌, List, [], arith, ap, sym, ◌∙◌, inl, inr}
+use Rattle.std.specs.Prelude.{◌⊎◌, slice_index_or}
+use Rattle.std.proofs.lemmas.Bool.{cases_lt}
+use Rattle.noc_packet.specs.Set.{has_bit}
+use Rattle.noc_columns.specs.Marks.{ChangesIdle}
+use Rattle.noc_columns.specs.Picks.{channels_of, links_of}
+use Rattle.noc_columns.specs.Words.{IsWithin, set_of, word}
+use Rattle.noc_columns.specs.declared.channels.Inputs.{Inputs}
+use Rattle.noc_columns.specs.declared.channels.Outputs.{Outputs}
+use Rattle.noc_columns.specs.declared.marks.Marks.{Marks}
+use Rattle.noc_columns.specs.declared.ports.RouterPorts.{RouterPorts}
+use Rattle.noc_columns.proofs.ChannelLemmas.{part, port-below}
+use Rattle.noc_columns.proofs.PickLemmas.{apart}
+use Rattle.noc_columns.proofs.PortLemmas.{link-index, local-place}
+use Rattle.noc_columns.proofs.SupplyLemmas.{member-is}
+use Rattle.noc_cycles.specs.Held.{held_at}
+use Rattle.noc_cycles.specs.declared.block.Block.{Block}
+use Rattle.noc_cycles.specs.declared.pattern.Pattern.{Pattern}
+
+-- ---- where the words of the channels stand
+module _ (pattern : Pattern) where
+  abbrev all_ports : RouterPorts
+  all_ports = pattern.table.ports
+
+  abbrev width : ℕ
+  width = pattern.table.ports.links.width
+
+  abbrev vcs : ℕ
+  vcs = pattern.table.ports.links.vcs
+
+  pub links-within : IsWithin (4 * pattern.frame.link_groups) (links_of pattern.table.ports.links)
+  links-within c l =
+      let far = apart (c % vcs) vcs width (c / vcs) (part width vcs pattern.some c) (port-below width vcs pattern.some c l) in
+      let first = pattern.first in
+      let few = pattern.links in
+      omega (arith, far, first, few)
+
+  pub all-within : IsWithin (4 * pattern.frame.groups) (channels_of pattern.table.ports)
+  all-within c l = at (cases_lt (c / vcs) width)
+    where
+      few : c % vcs < vcs
+      few = part (width + 1) vcs pattern.some c
+
+      at : (c / vcs < width) ⊎ (width ≤ c / vcs) → (channels_of pattern.table.ports).index c < 4 * pattern.frame.groups
+      at (inl m) =
+          let far = apart (c % vcs) vcs width (c / vcs) few m in
+          let first = pattern.first in
+          let is = link-index all_ports (c / vcs) (c % vcs) m in
+          let all = pattern.all in
+          omega (arith, far, first, is, all)
+      at (inr m) =
+          let is = local-place all_ports (c / vcs) (c % vcs) m all_ports.one in
+          let behind = pattern.behind in
+          let all = pattern.all in
+          omega (arith, is, behind, all, few)
+
+  -- a set of link channels is that of all channels there
+  pub links-same : (r : ℕ) (words : List ℕ) (c : ℕ) → c < width * vcs → has_bit (set_of (links_of all_ports.links) r words) c ≡ has_bit (set_of (channels_of all_ports) r words) c
+  links-same r words c l =
+      let p = port-below width vcs pattern.some c l in
+      let v = part width vcs pattern.some c in
+      let all : c < (width + 1) * vcs = omega (arith, l) in
+      member-is (links_of all_ports.links) r c words l
+      ∙ ap (λ i. has_bit (word i words) r) (sym (link-index all_ports (c / vcs) (c % vcs) p))
+      ∙ sym (member-is (channels_of all_ports) r c words all)
+
+-- ---- what a router holds, where of its marks only the idle channels change
+pub held-changed : (ports : RouterPorts) (b : Block) (r : ℕ) (inputs : Inputs (List ℕ)) (outputs : Outputs (List ℕ)) (marks : Marks) → ChangesIdle b.marks marks
+    → held_at ports (record b { inputs = inputs; outputs = outputs; marks = marks }) r
+    ≡ record (held_at ports b r) {
+      inputs = (held_at ports (record b { inputs = inputs; outputs = outputs; marks = marks }) r).inputs;
+      outputs = (held_at ports (record b { inputs = inputs; outputs = outputs; marks = marks }) r).outputs;
+      idle = word r marks.idle;
+    }
+held-changed ports b r inputs outputs marks kept x = record (held_at ports b r) {
+  inputs = (held_at ports (record b { inputs = inputs; outputs = outputs; marks = marks }) r).inputs;
+  outputs = (held_at ports (record b { inputs = inputs; outputs = outputs; marks = marks }) r).outputs;
+  waiting = word r (kept.waiting x);
+  wanted = word r (kept.wanted x);
+  idle = word r marks.idle;
+  set = λ k. word k (slice_index_or (kept.sets x) r []);
+  turn = λ o. word o (slice_index_or (kept.turns x) r []);
+}

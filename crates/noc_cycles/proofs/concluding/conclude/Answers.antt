@@ -1,0 +1,23 @@
+use Rattle.noc_columns.specs.Picks.{channels_of, links_of}
+use Rattle.noc_columns.proofs.PortLemmas.{member-below}
+use Rattle.noc_cycles.proofs.ConcludingLemmas.{all-within, held-changed, links-same, links-within}
+use Rattle.noc_cycles.proofs.concluding.conclude.Goals as goal
+
+pub returns-clause-concluded : goal.returns-clause-concluded
+returns-clause-concluded c = λ r few.
+    let pattern = c.args.pattern.now in
+    let ports = c.args.pattern.now.table.ports in
+    let all = channels_of ports in
+    let links = links_of ports.links in
+    record {
+      settles = c.settle-moved.ensures.settles all r (all-within pattern);
+      pays = c.pay.ensures links r (links-within pattern);
+      leaves = λ k l. c.arrive-arrived.ensures.arrived all r k (all-within pattern) l;
+      idle = c.give_back.ensures.idle r few;
+      credits = λ k l. links-same pattern r c.settle-moved.new.verdicts.moved k l;
+      rest = held-changed ports c.args.block.now r c.settle-moved.new.inputs c.pay.new.outputs c.give_back.new.marks c.give_back.ensures.kept;
+      arrived_below = λ k e. member-below all r c.arrive-arrived.new.arrived k e;
+      active_below = λ k e. member-below all r c.settle-moved.new.inputs.active k e;
+      flits_below = λ k e. member-below links r c.args.work.now.left.flits k e;
+      tails_below = λ k e. member-below links r c.args.work.now.left.tails k e;
+    }

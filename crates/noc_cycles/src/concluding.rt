@@ -1,0 +1,68 @@
+//! What is decided takes effect.
+
+ghost use Rattle.std.specs.Prelude.{◌≡◌, ◌<◌, ℕ};
+ghost use Rattle.noc_columns.specs.Picks.{channels_of};
+ghost use Rattle.noc_columns.specs.Words.{set_of};
+ghost use Rattle.noc_columns.specs.declared.words.TheConstants.{ROUTERS};
+ghost use Rattle.noc_cycles.specs.Concluding.{HasConcludedHeld, decided_at, standing_at, verdicts_at};
+ghost use Rattle.noc_cycles.specs.Held.{held_at, links_at};
+
+use crate::block::{Block, Work};
+use crate::pattern::Pattern;
+use noc_columns::{arrive, give_back, pay, settle};
+
+/// What is decided in a block takes effect: on its channels, on their verdicts, and on what leaves
+/// the routers. The answer is the routers from which a packet leaves the network.
+pub fn conclude(pattern: &Pattern, block: &mut Block, work: &mut Work) -> u64
+    ensures concluded { (r : ℕ) → r < ROUTERS → HasConcludedHeld pattern.now
+        (standing_at pattern.now.table.ports work.old.standing r)
+        (decided_at pattern.now.table.ports work.old.decided r)
+        (set_of (channels_of pattern.now.table.ports) r block.old.grants.granted)
+        (links_at pattern.now.table.ports work.new.left r)
+        (set_of (channels_of pattern.now.table.ports) r work.new.arrived)
+        (held_at pattern.now.table.ports block.old r)
+        (held_at pattern.now.table.ports block.new r)
+        (verdicts_at pattern.now.table.ports work.old.verdicts r)
+        (verdicts_at pattern.now.table.ports work.new.verdicts r) }
+    ensures block { block.new ≡ record block.old {
+      inputs = block.new.inputs;
+      outputs = block.new.outputs;
+      marks = block.new.marks;
+    } }
+    ensures work { work.new ≡ record work.old {
+      verdicts = work.new.verdicts;
+      left = record work.old.left { credits = work.new.left.credits };
+      arrived = work.new.arrived;
+    } }
+{
+    let _moved = settle(
+        &pattern.frame,
+        &work.standing,
+        &work.decided,
+        &block.grants.granted,
+        &mut block.inputs,
+        &mut work.verdicts,
+    );
+    let arrived = arrive(
+        &pattern.frame,
+        pattern.table.ports.links.width,
+        &work.standing,
+        &work.verdicts,
+        &block.grants.sends,
+        &mut work.arrived,
+    );
+    give_back(
+        &pattern.table.ports,
+        &work.arrived,
+        &block.grants.sends.vc,
+        &mut block.marks,
+    );
+    pay(
+        &pattern.frame,
+        &work.left.flits,
+        &work.left.tails,
+        &mut block.outputs,
+    );
+    work.left.credits = work.verdicts.moved;
+    arrived
+}
