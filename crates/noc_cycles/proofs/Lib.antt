@@ -7,3 +7,5 @@ pub mod SwitchedLemmas
 pub mod DecidingLemmas
 pub mod ConcludingLemmas
 pub mod ArrivalLemmas
+pub mod LayoutLemmas
+pub mod EmptyLemmas

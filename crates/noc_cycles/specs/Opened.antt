@@ -10,11 +10,13 @@ use Rattle.noc_columns.specs.Sources.{AreDue}
 use Rattle.noc_columns.specs.Switch.{channels_at}
 use Rattle.noc_columns.specs.Words.{all_of, set_alike}
 use Rattle.noc_columns.specs.declared.channels.Inputs.{Inputs}
+use Rattle.noc_columns.specs.declared.channels.Links.{Links}
 use Rattle.noc_columns.specs.declared.channels.Outputs.{Outputs}
 use Rattle.noc_columns.specs.declared.planes.Planes.{Planes}
 use Rattle.noc_columns.specs.declared.sets.TheConstants.{CHANNELS}
 use Rattle.noc_columns.specs.declared.words.TheConstants.{ROUTERS}
-use Rattle.noc_cycles.specs.Held.{Held, column_by, held_at}
+use Rattle.noc_cycles.specs.Held.{Held, held_at}
+use Rattle.noc_cycles.specs.Taking.{column_in}
 use Rattle.noc_cycles.specs.declared.block.Block.{Block}
 use Rattle.noc_cycles.specs.declared.first.First.{First}
 use Rattle.noc_cycles.specs.declared.pattern.Pattern.{Pattern}
@@ -83,10 +85,12 @@ marks_of pattern h = record {
       (h.pointers q);
 }
 
+abbrev pub no_links : Links ℕ
+no_links = record { flits = 0; tails = 0; credits = 0 }
+
 abbrev pub router_of : Pattern → Held → Router
 router_of pattern h = record {
-  column = column_by (pattern.table.ports.links.width * pattern.table.ports.links.vcs)
-      pattern.frame.deep h 0;
+  column = column_in pattern h;
   marks = marks_of pattern h;
   ended = h.inputs.ended;
   links = record { flits = 0; tails = 0; credits = 0 };

@@ -13,6 +13,7 @@ mod concluding;
 mod deciding;
 mod first;
 mod gather;
+mod laws;
 mod opening;
 mod pattern;
 
@@ -24,5 +25,6 @@ pub use concluding::conclude;
 pub use deciding::{Routing, decide};
 pub use first::First;
 pub use gather::gather_links;
+pub use laws::routers_that_hold_nothing_are_empty;
 pub use opening::open_blocks;
 pub use pattern::{Pattern, SHALLOW};
