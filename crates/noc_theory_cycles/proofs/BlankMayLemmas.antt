@@ -1,7 +1,8 @@
 -- A router of a block that the network does not have has what each part of a cycle asks for, and
 -- what it holds shows that.
 use Rattle.std.proofs.Common.{◌≡◌, ℕ, ◌+◌, ◌-◌, ◌*◌, ◌<◌, Bool, true, false, List, ap, arith, refl, subst, sym, ◌∙◌}
-use Rattle.std.proofs.lemmas.Bool.{and_left, false≢true}
+use Rattle.std.specs.Prelude.{nat_lt}
+use Rattle.std.proofs.lemmas.Bool.{and_left, and_parts, false≢true, ltb-true}
 use Rattle.noc_packet.specs.Set.{has_bit}
 use Rattle.noc_packet.proofs.SetLemmas.{has_bit-zero, zero_from_none}
 use Rattle.noc_alloc.specs.Members.{MembersAreBelow}
@@ -12,13 +13,19 @@ use Rattle.noc_sets.specs.Planes.{any_from}
 use Rattle.noc_sets.specs.Sets.{up_by}
 use Rattle.noc_sets.specs.Source.{NEVER, Source, Start}
 use Rattle.noc_sets.proofs.MemberLemmas.{up_members}
+use Rattle.noc_columns.specs.Planes.{list_of}
 use Rattle.noc_columns.specs.declared.channels.Decided.{Decided}
+use Rattle.noc_columns.specs.declared.channels.Inputs.{Inputs}
 use Rattle.noc_columns.specs.declared.channels.Links.{Links}
+use Rattle.noc_columns.specs.declared.channels.Outputs.{Outputs}
 use Rattle.noc_columns.specs.declared.channels.Standing.{Standing}
+use Rattle.noc_columns.proofs.SetLemmas.{below-members}
 use Rattle.noc_cycles.specs.Deciding.{HasDecidedHeld}
 use Rattle.noc_cycles.specs.Held.{Held, ShowsHeld}
 use Rattle.noc_cycles.specs.Taking.{HasTaken}
 use Rattle.noc_cycles.specs.May.{MayConclude, MayDecide, MayInject, MayTake}
+use Rattle.noc_cycles.specs.Opened.{HoldsNothing}
+use Rattle.noc_cycles.specs.declared.first.First.{First}
 use Rattle.noc_cycles.specs.declared.pattern.Pattern.{Pattern}
 use Rattle.noc_theory_cycles.specs.Blank.{HoldsBlank, IsBlank, channels_count, words_of}
 use Rattle.noc_theory_cycles.proofs.BlankLemmas.{no-heads, idle-stays, nothing-ready}
@@ -67,6 +74,23 @@ module _ (pattern : Pattern) (h : Held) (links : Links ℕ) (b : Router) (held :
     left = (blank-may-take starts).left;
     queue = λ due. (blank-may-take starts).queue n due soon;
   }
+
+-- an opened router without a packet is blank
+pub opened-blank : (pattern : Pattern) (one : First) (r : ℕ) (h : Held) → HoldsNothing pattern one r h → one.due ≡ NEVER → HoldsBlank pattern h
+opened-blank pattern one r h holds never = record {
+  waiting = holds.waiting;
+  inputs = ap (λ (i : Inputs ℕ). i.waiting) holds.inputs;
+  active = ap (λ (i : Inputs ℕ). i.active) holds.inputs;
+  flits = ap (λ (i : Inputs ℕ). any_from 0 (list_of pattern.frame.deep i.len)) holds.inputs ∙ none pattern.frame.deep;
+  idle = λ k e. ltb-true k (channels_count pattern) (and_parts (nat_lt k (channels_count pattern)) true (sym (below-members (channels_count pattern) (λ c. true) k) ∙ ap (λ w. has_bit w k) (sym holds.idle) ∙ e)).0;
+  draining = ap (λ (o : Outputs ℕ). o.draining) holds.outputs;
+  injecting = holds.injecting;
+  due = ap (λ (s : Source). s.due) holds.source ∙ never;
+}
+  where
+    none : (deep : Bool) → any_from 0 (list_of deep (record { ones = 0; twos = 0; fours = 0; eights = 0; sixteens = 0 })) ≡ 0
+    none true = refl
+    none false = refl
 
 -- what holds nothing is of a blank router
 module _ (pattern : Pattern) (h : Held) (links : Links ℕ) (holds : HoldsBlank pattern h) where

@@ -6,3 +6,5 @@ pub mod NoneLemmas
 pub mod BlankLemmas
 pub mod BlankMayLemmas
 pub mod LayoutLemmas
+pub mod GrantedLemmas
+pub mod NodeLemmas

@@ -1,6 +1,6 @@
 -- A router of a block that shows a router of a network has what each part of a cycle asks for.
 use Rattle.std.proofs.Common.{◌≡◌, ℕ, ◌+◌, ◌-◌, ◌*◌, ◌^◌, ◌<◌, ◌≤◌, Bool, true, false, List, length, ap, ap₂, arith, subst, sym, ◌∙◌, bit_and, bit_or}
-use Rattle.std.specs.Prelude.{◌&&◌, not}
+use Rattle.std.specs.Prelude.{◌&&◌, nat_eq, not}
 use Rattle.std.proofs.lemmas.Bool.{and_parts}
 use Rattle.noc_topo.specs.Shape.{nodes, ports}
 use Rattle.noc_packet.specs.Set.{has_bit}
@@ -26,6 +26,8 @@ use Rattle.noc_columns.specs.Supply.{is_fed}
 use Rattle.noc_columns.specs.declared.channels.Decided.{Decided}
 use Rattle.noc_columns.specs.declared.channels.Links.{Links}
 use Rattle.noc_columns.specs.declared.channels.Standing.{Standing}
+use Rattle.noc_columns.specs.declared.channels.Verdicts.{Verdicts}
+use Rattle.noc_cycles.specs.Concluding.{HasConcludedHeld}
 use Rattle.noc_cycles.specs.Deciding.{HasDecidedHeld}
 use Rattle.noc_cycles.specs.Held.{Held, ShowsHeld}
 use Rattle.noc_cycles.specs.Taking.{HasTaken}
@@ -165,3 +167,19 @@ module _ (count : ℕ) (net : Setup) (layout : Layout) (pattern : Pattern) (star
         subst (λ (f : ℕ → ℕ). f i < length net.packets) (sym has.packet)
         (flit-known i (and_parts (has_bit s.column.active i) (has_bit s.filled i) (sym (both_members s.column.active s.filled i) ∙ filled)).1);
   }
+
+-- a packet arrives from a channel that is picked
+pub arrived-picked : (pattern : Pattern) (standing : Standing ℕ) (decided : Decided ℕ) (granted : ℕ) (left : Links ℕ) (arrived : ℕ) (h k : Held) (v w : Verdicts ℕ) → HasConcludedHeld pattern standing decided granted left arrived h k v w
+    → (i : ℕ) → has_bit arrived i ≡ true → has_bit decided.picked i ≡ true
+arrived-picked pattern standing decided granted left arrived h k v w has i e =
+    let leaves = sym (has.leaves i (has.arrived_below i e)) ∙ e in
+    let tail = (and_parts (has_bit w.moved i && has_bit standing.last i) (nat_eq (h.out_port i) pattern.table.ports.links.width) leaves).0 in
+    let moved = (and_parts (has_bit w.moved i) (has_bit standing.last i) tail).0 in
+    (and_parts (has_bit decided.picked i) (has_bit decided.sends i) (sym (both_members decided.picked decided.sends i) ∙ sym (ap (λ (x : Verdicts ℕ). has_bit x.moved i) has.settles.verdicts) ∙ moved)).0
+
+-- its number stays
+pub concluded-may : (packets : ℕ) (pattern : Pattern) (standing : Standing ℕ) (decided : Decided ℕ) (granted : ℕ) (left : Links ℕ) (arrived : ℕ) (h k : Held) (v w : Verdicts ℕ) → HasConcludedHeld pattern standing decided granted left arrived h k v w
+    → MayConclude packets h arrived → MayConclude packets k arrived
+concluded-may packets pattern standing decided granted left arrived h k v w has may = record {
+  packet = λ i e. subst (λ (x : Held). x.packet i < packets) (sym has.rest) (may.packet i e);
+}

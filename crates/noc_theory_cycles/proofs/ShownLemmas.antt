@@ -52,7 +52,7 @@ holder-owned Free free draining = absurd (true≢false free)
 holder-owned (Owned i p) free draining = (i, eq-eqb i i refl)
 holder-owned Draining free draining = absurd (true≢false draining)
 
-power-same : (a b : ℕ) → 2 ^ a ≡ 2 ^ b → a ≡ b
+pub power-same : (a b : ℕ) → 2 ^ a ≡ 2 ^ b → a ≡ b
 power-same a b e = eqb-true a b (sym (power-members b a) ∙ ap (λ w. has_bit w a) (sym e) ∙ power-members a a ∙ eq-eqb a a refl)
 
 -- ---- by credit

@@ -13,7 +13,8 @@ use Rattle.noc_cycles.specs.Taking.{links_count}
 use Rattle.noc_cycles.specs.declared.pattern.Pattern.{Pattern}
 
 -- where planes of counts have so many bits
-pub record FitsNetwork (count : ℕ) (net : Setup) (layout : Layout) (pattern : Pattern) : Type 0 where
+pub record FitsNetwork (count : ℕ) (net : Setup) (layout : Layout) (pattern : Pattern)
+    : Type 0 where
   pub layout_is : IsLayoutOf count net.relation net.depth layout
   pub ports : IsOfPorts pattern.table.ports net.relation
 

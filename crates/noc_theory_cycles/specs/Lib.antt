@@ -1,2 +1,4 @@
 pub mod Fits
 pub mod Blank
+pub mod Granted
+pub mod Nodes

@@ -1,4 +1,4 @@
-use Rattle.noc_theory_cycles.proofs.BlankMayLemmas.{holds-blank, words-blank, words-show}
+use Rattle.noc_theory_cycles.proofs.BlankMayLemmas.{holds-blank, opened-blank, words-blank, words-show}
 use Rattle.noc_theory_cycles.proofs.blank.blank_routers_hold_nothing.Goals as goal
 
 pub returns-clause-words : goal.returns-clause-words
@@ -9,3 +9,6 @@ returns-clause-blank c = words-blank
 
 pub returns-clause-nothing : goal.returns-clause-nothing
 returns-clause-nothing c = holds-blank
+
+pub returns-clause-opened : goal.returns-clause-opened
+returns-clause-opened c = opened-blank
