@@ -1,7 +1,7 @@
 -- The words of the ports of a router, and what is picked of each port.
-use Rattle.std.proofs.Common.{◌≡◌, ◌≢◌, ◌⊎◌, ℕ, zero, suc, ◌+◌, ◌-◌, ◌*◌, ◌<◌, ◌≤◌, Bool, true, false, List, Some, arith, ap, ap₂, sym, ◌∙◌, subst, refl, inl, inr}
-use Rattle.std.specs.Prelude.{◌&&◌, nat_eq, nat_lt, if◌then◌else◌, slice_index}
-use Rattle.std.proofs.lemmas.Bool.{and_parts, cases_eq, cases_lt, eq-eqb, le-ltb, lt-ltb, ne_eqb, true≢false}
+use Rattle.std.proofs.Common.{◌≡◌, ◌≢◌, ◌⊎◌, ℕ, suc, ◌+◌, ◌-◌, ◌*◌, ◌<◌, ◌≤◌, Bool, true, false, List, Some, arith, ap, ap₂, sym, ◌∙◌, subst, refl, inl, inr}
+use Rattle.std.specs.Prelude.{◌&&◌, nat_eq, if◌then◌else◌, slice_index}
+use Rattle.std.proofs.lemmas.Bool.{and_parts, cases_eq, cases_lt, le-ltb, lt-ltb, ne_eqb, true≢false}
 use Rattle.noc_packet.specs.Set.{has_bit, IsLeast}
 use Rattle.noc_packet.proofs.SetLemmas.{has_bit-zero}
 use Rattle.noc_sets.specs.Sets.{lowest}
@@ -10,7 +10,6 @@ use Rattle.noc_sets.specs.Unions.{some_below}
 use Rattle.noc_sets.proofs.MemberLemmas.{less_members, lowest_members}
 use Rattle.noc_columns.specs.Picks.{IsPicked, port_at, port_of}
 use Rattle.noc_columns.specs.Words.{Numbering, set_below, set_of, word}
-use Rattle.noc_columns.specs.declared.ports.Ports.{Ports}
 use Rattle.noc_columns.specs.declared.ports.RouterPorts.{RouterPorts}
 use Rattle.noc_columns.proofs.PickLemmas.{apart, find-first, none-each, some-each}
 use Rattle.noc_columns.proofs.SetLemmas.{below-members, below-same}

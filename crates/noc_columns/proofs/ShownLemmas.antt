@@ -1,5 +1,5 @@
 -- What the ports of a router pick is the set of its picked channels.
-use Rattle.std.proofs.Common.{◌≡◌, ℕ, ◌+◌, ◌*◌, ◌^◌, ◌<◌, Bool, true, false, List, arith, ap, ap₂, sym, ◌∙◌, subst, refl, slice_index}
+use Rattle.std.proofs.Common.{◌≡◌, ℕ, ◌+◌, ◌*◌, ◌^◌, ◌<◌, true, List, ap, ap₂, sym, ◌∙◌, subst, slice_index}
 use Rattle.std.specs.Prelude.{not, nat_eq}
 use Rattle.std.proofs.lemmas.Bool.{not-true}
 use Rattle.noc_packet.specs.Set.{has_bit}

@@ -1,8 +1,8 @@
 -- What goes through the switch port by port is what a router moves channel by channel.
-use Rattle.std.proofs.Common.{◌≡◌, ◌≢◌, ◌⊎◌, ℕ, zero, suc, ◌+◌, ◌-◌, ◌*◌, ◌/◌, ◌%◌, ◌^◌, ◌<◌, ◌≤◌, Bool, true, false, List, Some, arith, ap, ap₂, sym, ◌∙◌, subst, refl, inl, inr, bit_and, bit_or}
+use Rattle.std.proofs.Common.{◌≡◌, ◌≢◌, ◌⊎◌, ℕ, zero, suc, ◌+◌, ◌-◌, ◌*◌, ◌/◌, ◌%◌, ◌^◌, ◌<◌, ◌≤◌, Bool, true, false, Some, arith, ap, ap₂, sym, ◌∙◌, subst, refl, inl, inr, bit_and}
 use Rattle.std.specs.Prelude.{◌&&◌, ◌||◌, not, nat_eq, nat_le, nat_lt, unwrap_or, if◌then◌else◌}
 use Rattle.std.proofs.lemmas.Bool.{and_parts, cases_eq, cases_lt, eq-eqb, eqb-true, le-leb, le-ltb, lt-leb, lt-ltb, ne_eqb, true≢false}
-use Rattle.std.proofs.lemmas.Nat.{div-mul-add, mod-mul-add, mod_below}
+use Rattle.std.proofs.lemmas.Nat.{div-mul-add, mod-mul-add}
 use Rattle.std.proofs.Math.Pow.{pow_mono}
 use Rattle.noc_packet.specs.Set.{has_bit, IsLeast}
 use Rattle.noc_packet.proofs.SetLemmas.{both_members, has_bit-zero, least-one, zero_from_none}
@@ -10,8 +10,8 @@ use Rattle.noc_alloc.specs.Members.{MembersAreBelow}
 use Rattle.noc_sets.specs.Column.{RouterMarks}
 use Rattle.noc_sets.specs.Moves.{HasAdvanced, HasSwitched, chosen_by, dry_by}
 use Rattle.noc_sets.specs.Passes.{Effects}
-use Rattle.noc_sets.specs.Sets.{least, less, lowest, of_one}
-use Rattle.noc_sets.specs.Turns.{first_bit, in_turn}
+use Rattle.noc_sets.specs.Sets.{least, lowest, of_one}
+use Rattle.noc_sets.specs.Turns.{in_turn}
 use Rattle.noc_sets.specs.Unions.{rest_from, some_below, union_from}
 use Rattle.noc_sets.proofs.MemberLemmas.{below_fits, least_is, less_members, lowest_members, power-members, same-word, zero_members}
 use Rattle.noc_columns.specs.Switch.{HasTraversed, PortPicks, ShowsOutputs, ShowsPicks, asks_for, channels_at, leaves_by, switched_effects, switched_marks, taken_by}

@@ -9,6 +9,28 @@ use crate::ports::{PORTS, Ports, RouterPorts};
 use crate::words::{WORDS, Words};
 
 impl RouterPorts {
+    /// The same ports, of which it is told how many are link ports, and how many virtual channels
+    /// each has. (Where these are constants, loops over them are unrolled.)
+    #[inline(always)]
+    pub fn known(&self, width: usize, vcs: usize) -> RouterPorts
+        requires width { width ≡ self.now.links.width }
+        requires vcs { vcs ≡ self.now.links.vcs }
+        ensures { result ≡ self.now }
+    {
+        RouterPorts {
+            links: Ports {
+                first: self.links.first,
+                width,
+                vcs,
+            },
+            local: Ports {
+                first: self.local.first,
+                width: 1,
+                vcs,
+            },
+        }
+    }
+
     /// The output ports of the switch, with a word for each input port that may ask for them.
     #[inline(always)]
     pub fn outputs(&self) -> RouterPorts

@@ -49,6 +49,71 @@ pub fn pick(
     ensures rest { decided.new
         ≡ record decided.old { picked = decided.new.picked; past = decided.new.past } }
 {
+    let width = ports.links.width;
+    if width == 2 {
+        pick_by::<2>(ports, inputs, standing, sends, decided)
+    } else if width == 4 {
+        pick_by::<4>(ports, inputs, standing, sends, decided)
+    } else if width == 6 {
+        pick_by::<6>(ports, inputs, standing, sends, decided)
+    } else {
+        pick_all(ports, inputs, standing, sends, decided)
+    }
+}
+
+// .. where so many are link ports. (They are a const parameter, since a function of this size is
+// not inlined.)
+fn pick_by<const WIDTH: usize>(
+    ports: &RouterPorts,
+    inputs: &Inputs<Words>,
+    standing: &Standing<Words>,
+    sends: &Sends<Words>,
+    decided: &mut Decided<Words>,
+) -> Picks
+    requires { WIDTH ≡ ports.now.links.width }
+    ensures picked { (p r : ℕ) → p < ports.now.links.width + 1
+        → IsPicked (port_of ports.now p) r standing.now.ready inputs.now.ahead decided.new.picked
+        decided.new.past }
+    ensures picks { (p r c : ℕ) → p < ports.now.links.width + 1 → c < ports.now.links.vcs
+        → has_bit (set_of (port_of ports.now p) r decided.new.picked) c ≡ true
+        → HasPick (port_of ports.now p) r p c standing.now.last sends.now result }
+    ensures any { (p r : ℕ) → p < ports.now.links.width + 1
+        → has_bit (slice_index result.any p) r
+        ≡ not (nat_eq (set_of (port_of ports.now p) r standing.now.ready) 0) }
+    ensures rest { decided.new
+        ≡ record decided.old { picked = decided.new.picked; past = decided.new.past } }
+{
+    let vcs = ports.links.vcs;
+    if vcs == 4 {
+        pick_all(&ports.known(WIDTH, 4), inputs, standing, sends, decided)
+    } else if vcs == 8 {
+        pick_all(&ports.known(WIDTH, 8), inputs, standing, sends, decided)
+    } else {
+        pick_all(&ports.known(WIDTH, vcs), inputs, standing, sends, decided)
+    }
+}
+
+// Of the ready channels of each input port one is picked.
+#[inline(always)]
+fn pick_all(
+    ports: &RouterPorts,
+    inputs: &Inputs<Words>,
+    standing: &Standing<Words>,
+    sends: &Sends<Words>,
+    decided: &mut Decided<Words>,
+) -> Picks
+    ensures picked { (p r : ℕ) → p < ports.now.links.width + 1
+        → IsPicked (port_of ports.now p) r standing.now.ready inputs.now.ahead decided.new.picked
+        decided.new.past }
+    ensures picks { (p r c : ℕ) → p < ports.now.links.width + 1 → c < ports.now.links.vcs
+        → has_bit (set_of (port_of ports.now p) r decided.new.picked) c ≡ true
+        → HasPick (port_of ports.now p) r p c standing.now.last sends.now result }
+    ensures any { (p r : ℕ) → p < ports.now.links.width + 1
+        → has_bit (slice_index result.any p) r
+        ≡ not (nat_eq (set_of (port_of ports.now p) r standing.now.ready) 0) }
+    ensures rest { decided.new
+        ≡ record decided.old { picked = decided.new.picked; past = decided.new.past } }
+{
     let any = pick_each(
         ports,
         &standing.ready,

@@ -66,6 +66,67 @@ pub fn traverse(
     ensures decided { decided.new ≡ record decided.old { sends = decided.new.sends } }
     ensures left { left.new.credits ≡ left.old.credits }
 {
+    let width = ports.links.width;
+    if width == 2 {
+        traverse_by::<2>(ports, picks, switch, decided, left);
+    } else if width == 4 {
+        traverse_by::<4>(ports, picks, switch, decided, left);
+    } else if width == 6 {
+        traverse_by::<6>(ports, picks, switch, decided, left);
+    } else {
+        traverse_all(ports, picks, switch, decided, left);
+    }
+}
+
+// .. where so many are link ports. (They are a const parameter, since a function of this size is
+// not inlined.)
+fn traverse_by<const WIDTH: usize>(
+    ports: &RouterPorts,
+    picks: &Picks,
+    switch: &mut Switch<Words>,
+    decided: &mut Decided<Words>,
+    left: &mut Links<Words>,
+)
+    requires { WIDTH ≡ ports.now.links.width }
+    ensures traversed { (r : ℕ) → HasTraversed (ports.now.links.width + 1) ports.now.links.vcs
+        (picks_in picks.now r)
+        (λ q. set_of (output_of ports.now q) r switch.old.ahead)
+        (λ q. set_of (output_of ports.now q) r switch.new.ahead)
+        (λ p. has_bit (set_of (port_of ports.now p) r decided.new.sends))
+        (λ q. has_bit (set_of (port_of ports.now q) r left.new.flits))
+        (λ q. has_bit (set_of (port_of ports.now q) r left.new.tails)) }
+    ensures decided { decided.new ≡ record decided.old { sends = decided.new.sends } }
+    ensures left { left.new.credits ≡ left.old.credits }
+{
+    let vcs = ports.links.vcs;
+    if vcs == 4 {
+        traverse_all(&ports.known(WIDTH, 4), picks, switch, decided, left);
+    } else if vcs == 8 {
+        traverse_all(&ports.known(WIDTH, 8), picks, switch, decided, left);
+    } else {
+        traverse_all(&ports.known(WIDTH, vcs), picks, switch, decided, left);
+    }
+}
+
+// What is picked goes through the switch.
+#[inline(always)]
+fn traverse_all(
+    ports: &RouterPorts,
+    picks: &Picks,
+    switch: &mut Switch<Words>,
+    decided: &mut Decided<Words>,
+    left: &mut Links<Words>,
+)
+    ensures traversed { (r : ℕ) → HasTraversed (ports.now.links.width + 1) ports.now.links.vcs
+        (picks_in picks.now r)
+        (λ q. set_of (output_of ports.now q) r switch.old.ahead)
+        (λ q. set_of (output_of ports.now q) r switch.new.ahead)
+        (λ p. has_bit (set_of (port_of ports.now p) r decided.new.sends))
+        (λ q. has_bit (set_of (port_of ports.now q) r left.new.flits))
+        (λ q. has_bit (set_of (port_of ports.now q) r left.new.tails)) }
+    ensures decided { decided.new ≡ record decided.old { sends = decided.new.sends } }
+    ensures left { left.new.credits ≡ left.old.credits }
+{
     let taken = take(ports, picks, switch);
     send(ports, &taken, decided, left);
 }

@@ -1,4 +1,4 @@
-use Rattle.std.proofs.Common.{◌≡◌, ◌≢◌, ◌*◌, ◌%◌, ◌^◌, ◌<◌, ◌∙◌, arith, refl, set, bit_and, bit_or, slice_index, get_or-set_same}
+use Rattle.std.proofs.Common.{◌≡◌, ◌*◌, ◌%◌, ◌^◌, ◌<◌, ◌∙◌, arith, refl, set, bit_and, bit_or, slice_index, get_or-set_same}
 use Rattle.std.proofs.lemmas.List.{length-set}
 use Rattle.std.proofs.lemmas.Nat.{and_le_r, shl_whole}
 use Rattle.noc_columns.proofs.AskLemmas.{asking-all, asking-opened, asking-stepped}

@@ -1,9 +1,9 @@
-use Rattle.std.proofs.Common.{◌≡◌, ℕ, ◌<◌, ◌∙◌, Bool, true, false, ap, sym, subst, arith, slice_index, bit_or}
+use Rattle.std.proofs.Common.{◌≡◌, ◌<◌, ◌∙◌, true, false, ap, sym, subst, arith, slice_index, bit_or}
 use Rattle.std.specs.Prelude.{◌&&◌, nat_eq, nat_le}
 use Rattle.noc_packet.specs.Set.{has_bit}
 use Rattle.noc_sets.specs.Passes.{lane_begins, lane_injected}
 use Rattle.noc_sets.specs.Planes.{any_from}
-use Rattle.noc_sets.specs.Sets.{less, lowest}
+use Rattle.noc_sets.specs.Sets.{lowest}
 use Rattle.noc_columns.specs.Channels.{inputs_by}
 use Rattle.noc_columns.specs.Picks.{port_at}
 use Rattle.noc_columns.specs.Planes.{list_of, planes_by}

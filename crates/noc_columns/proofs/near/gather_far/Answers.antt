@@ -1,4 +1,3 @@
-use Rattle.std.proofs.Common.{◌≡◌}
 use Rattle.noc_columns.proofs.near.gather_far.Goals as goal
 
 pub returns-clause-others : goal.returns-clause-others

@@ -1,4 +1,4 @@
-use Rattle.std.proofs.Common.{◌<◌, ◌^◌, arith}
+use Rattle.std.proofs.Common.{arith}
 use Rattle.noc_sets.proofs.MemberLemmas.{least_below, least_is}
 use Rattle.noc_columns.proofs.sets.least.Goals as goal
 

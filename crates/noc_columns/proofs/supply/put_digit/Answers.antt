@@ -1,4 +1,4 @@
-use Rattle.std.proofs.Common.{◌≡◌, Bool, true, false, ◌∙◌, ap, sym, refl}
+use Rattle.std.proofs.Common.{◌≡◌, Bool, true, false, ◌∙◌, sym, refl}
 use Rattle.std.specs.Prelude.{◌&&◌, ◌||◌, not, nat_eq, if◌then◌else◌}
 use Rattle.noc_packet.specs.Set.{has_bit}
 use Rattle.noc_columns.specs.Words.{word}

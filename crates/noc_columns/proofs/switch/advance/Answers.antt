@@ -1,4 +1,4 @@
-use Rattle.std.proofs.Common.{◌≡◌, ◌≢◌, ℕ, ap₂, ◌∙◌, arith, bit_and, bit_or, slice_index}
+use Rattle.std.proofs.Common.{◌≡◌, ◌≢◌, ap₂, ◌∙◌, arith, bit_and, bit_or, slice_index}
 use Rattle.noc_sets.specs.Sets.{less}
 use Rattle.noc_columns.proofs.PortLemmas.{written-next}
 use Rattle.noc_columns.proofs.switch.advance.Invariants.{next_at}

@@ -1,10 +1,10 @@
-use Rattle.std.proofs.Common.{◌≡◌, ℕ, ◌+◌, ◌<◌, ◌∙◌, Bool, true, List, ap, ap₂, sym, subst, slice_index}
+use Rattle.std.proofs.Common.{◌≡◌, ℕ, ◌+◌, ◌<◌, ◌∙◌, true, List, ap, ap₂, sym, subst, slice_index}
 use Rattle.std.specs.Prelude.{◌&&◌, not, nat_eq, if◌then◌else◌}
 use Rattle.noc_packet.specs.Set.{has_bit}
 use Rattle.noc_sets.specs.Turns.{first_bit, in_turn}
 use Rattle.noc_sets.specs.Unions.{some_below}
 use Rattle.noc_columns.specs.Picks.{output_of, port_of}
-use Rattle.noc_columns.specs.Switch.{asks_for, picks_in, taken_in}
+use Rattle.noc_columns.specs.Switch.{asks_for, picks_in}
 use Rattle.noc_columns.specs.Words.{set_below, set_of, word}
 use Rattle.noc_columns.proofs.PassLemmas.{some-same}
 use Rattle.noc_columns.proofs.PickLemmas.{moved-bit}

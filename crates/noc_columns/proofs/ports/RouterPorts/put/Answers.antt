@@ -1,4 +1,4 @@
-use Rattle.std.proofs.Common.{◌≡◌, ◌≢◌, ◌<◌, ◌≤◌, ◌+◌, ◌*◌, ◌∙◌, ap, arith, sym, inl, inr, set, slice_index}
+use Rattle.std.proofs.Common.{◌≡◌, ◌+◌, ◌*◌, ◌∙◌, ap, arith, sym, inl, inr, set, slice_index}
 use Rattle.std.proofs.lemmas.Bool.{cases_lt}
 use Rattle.noc_columns.specs.Words.{word}
 use Rattle.noc_columns.proofs.PassLemmas.{word-here, word-other}

@@ -8,7 +8,7 @@ use Rattle.noc_columns.specs.Words.{set_of, word}
 use Rattle.noc_columns.proofs.PortLemmas.{some-member}
 use Rattle.noc_columns.proofs.RouterLemmas.{first-among}
 use Rattle.noc_columns.proofs.SupplyLemmas.{member-is}
-use Rattle.noc_columns.proofs.switch.traverse.Goals as goal
+use Rattle.noc_columns.proofs.switch.traverse_all.Goals as goal
 
 pub returns-clause-traversed : goal.returns-clause-traversed
 returns-clause-traversed c = λ r.

@@ -1,5 +1,5 @@
-use Rattle.std.proofs.Common.{◌≡◌, ℕ, ◌+◌, ◌<◌, ◌∙◌, Bool, true, List, ap, sym, slice_index}
-use Rattle.std.specs.Prelude.{◌&&◌, not, nat_eq}
+use Rattle.std.proofs.Common.{◌≡◌, ℕ, ◌<◌, ◌∙◌, true, List, ap, sym}
+use Rattle.std.specs.Prelude.{◌&&◌, not}
 use Rattle.noc_packet.specs.Set.{has_bit}
 use Rattle.noc_sets.specs.Turns.{in_turn}
 use Rattle.noc_sets.specs.Unions.{some_below}
@@ -8,7 +8,7 @@ use Rattle.noc_columns.specs.Words.{set_of, word}
 use Rattle.noc_columns.proofs.PortLemmas.{lowest-alone, one-both, some-member}
 use Rattle.noc_columns.proofs.RouterLemmas.{first-among}
 use Rattle.noc_columns.proofs.SupplyLemmas.{member-is, number}
-use Rattle.noc_columns.proofs.picks.pick.Goals as goal
+use Rattle.noc_columns.proofs.picks.pick_all.Goals as goal
 
 pub returns-clause-picks : goal.returns-clause-picks
 returns-clause-picks c = λ p r k l m is.
