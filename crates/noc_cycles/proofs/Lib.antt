@@ -9,3 +9,5 @@ pub mod ConcludingLemmas
 pub mod ArrivalLemmas
 pub mod LayoutLemmas
 pub mod EmptyLemmas
+pub mod NoteLemmas
+pub mod TellLemmas

@@ -1,6 +1,6 @@
 -- What leaves the routers of all blocks, and what the links bring of it to the routers of one.
 -- Router s of a network is router s % ROUTERS of block s / ROUTERS.
-use Rattle.std.specs.Prelude.{◌≡◌, ℕ, ◌*◌, ◌/◌, ◌%◌, ◌<◌, ◌≤◌, List, [], length, map, slice_index, slice_index_or}
+use Rattle.std.specs.Prelude.{◌≡◌, ℕ, ◌*◌, ◌/◌, ◌%◌, ◌<◌, List, [], length, map, slice_index, slice_index_or}
 use Rattle.noc_packet.specs.Set.{has_bit}
 use Rattle.noc_topo.specs.Shape.{Grid, IsGrid, local_port, nodes, opposite}
 use Rattle.noc_sets.specs.Cycle.{Links as Left}
@@ -16,12 +16,11 @@ use Rattle.noc_cycles.specs.Held.{links_at}
 use Rattle.noc_cycles.specs.declared.around.Around.{Around}
 use Rattle.noc_cycles.specs.declared.pattern.Pattern.{Pattern}
 
--- a block with these tables is one of so many, which have all routers of a network
-pub record IsWired (g : Grid) (pattern : Pattern) (around : Around) (count : ℕ) : Type 0 where
+-- a block with these tables has routers of a network
+pub record IsWired (g : Grid) (pattern : Pattern) (around : Around) : Type 0 where
   pub sound : IsGrid g
   pub ports : pattern.table.ports.links.width ≡ local_port g
   pub block : ROUTERS * around.block < nodes g
-  pub blocks : nodes g ≤ ROUTERS * count
   pub tables : IsAround g pattern.table.ports.links.vcs around.block around
 
 -- ---- what leaves

@@ -8,3 +8,4 @@ pub mod Alike
 pub mod Patterns
 pub mod Opened
 pub mod Concluding
+pub mod Told

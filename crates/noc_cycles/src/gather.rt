@@ -1,6 +1,6 @@
 //! What has left the routers of all blocks comes over the links to the routers of one.
 
-ghost use Rattle.std.specs.Prelude.{◌≡◌, ◌≢◌, ◌<◌, ◌/◌, ◌%◌, ◌||◌, ℕ, length};
+ghost use Rattle.std.specs.Prelude.{◌≡◌, ◌≢◌, ◌<◌, ◌≤◌, ◌*◌, ◌/◌, ◌%◌, ◌||◌, ℕ, length};
 ghost use Rattle.noc_packet.specs.Set.{has_bit};
 ghost use Rattle.noc_topo.specs.Shape.{Grid, nodes, opposite};
 ghost use Rattle.noc_sets.specs.Cycle.{Links as Left};
@@ -25,9 +25,9 @@ pub fn gather_links(
     left: &[Links<Words>],
     came: &mut Links<Words>,
 )
-    requires { (g : Grid) × IsWired g pattern.now around.now (length left.now) }
-    ensures { (g : Grid) (leaves : ℕ → Left) (r : ℕ)
-        → IsWired g pattern.now around.now (length left.now)
+    requires { (g : Grid) × IsWired g pattern.now around.now
+        × (nodes g ≤ ROUTERS * length left.now) }
+    ensures { (g : Grid) (leaves : ℕ → Left) (r : ℕ) → IsWired g pattern.now around.now
         → ShowAllLeft g pattern.now.table.ports left.now leaves
         → r / ROUTERS ≡ around.now.block → r < nodes g
         → links_at pattern.now.table.ports came.new (r % ROUTERS)

@@ -14,8 +14,10 @@ mod deciding;
 mod first;
 mod gather;
 mod laws;
+mod notes;
 mod opening;
 mod pattern;
+mod tells;
 
 pub use around::Around;
 pub use arrivals::arrive_all;
@@ -26,5 +28,7 @@ pub use deciding::{Routing, decide};
 pub use first::First;
 pub use gather::gather_links;
 pub use laws::routers_that_hold_nothing_are_empty;
+pub use notes::Note;
 pub use opening::open_blocks;
 pub use pattern::{Pattern, SHALLOW};
+pub use tells::tell;

@@ -18,7 +18,7 @@ loop-port-init c =
     let far = far_by c.args.around.now.far.items in
     let left = c.args.left.now in
     let b = c.args.around.now.block in
-    let l : b < length left = let m = wired.block in let n = wired.blocks in omega (arith, m, n) in
+    let l : b < length left = let m = wired.block in let n = c.requires.2 in omega (arith, m, n) in
     record {
       flits = ports-first links near far (λ b. (left_by left b).flits) b pattern.frame.link_groups c.gather.new.came.flits _ (ap (λ (w : Links (List ℕ)). w.flits) (from-left left b _ l)) pattern.first pattern.links c.gather.ensures.flits;
       tails = ports-first links near far (λ b. (left_by left b).tails) b pattern.frame.link_groups c.gather.new.came.tails _ (ap (λ (w : Links (List ℕ)). w.tails) (from-left left b _ l)) pattern.first pattern.links c.gather.ensures.tails;
@@ -38,7 +38,7 @@ gather_port-requires-clause-port c =
     let row : c.deref.result.now ≡ far_by far p = c.deref.ensures.value ∙ ap (λ (v : Vec Far Global). items_of v) c.index.ensures ∙ far-at far p c.index.result.now here in (
       p,
       subst (LeadBy pattern.table.ports.links p (length c.args.left.now)) (sym row)
-          (lead-by g pattern.table.ports.links c.args.around.now.block p (length c.args.left.now) (far_by far p) wired.ports pattern.pairs l wired.blocks (wired.tables.far.each p m)),
+          (lead-by g pattern.table.ports.links c.args.around.now.block p (length c.args.left.now) (far_by far p) wired.ports pattern.pairs l c.requires.2 (wired.tables.far.each p m)),
     )
 
 pub loop-port-preserved : goal.loop-port-preserved
@@ -56,7 +56,7 @@ loop-port-preserved c =
     let m : p < local_port g = subst (λ n. p < n) wired.ports l in
     let here : p < length far = subst (λ n. p < n) (sym wired.tables.far.ports) m in
     let row : c.deref.result.now ≡ far_by far p = c.deref.ensures.value ∙ ap (λ (v : Vec Far Global). items_of v) c.index.ensures ∙ far-at far p c.index.result.now here in
-    let lead : LeadBy links p (length left) c.deref.result.now = subst (LeadBy links p (length left)) (sym row) (lead-by g links b p (length left) (far_by far p) wired.ports pattern.pairs l wired.blocks (wired.tables.far.each p m)) in
+    let lead : LeadBy links p (length left) c.deref.result.now = subst (LeadBy links p (length left)) (sym row) (lead-by g links b p (length left) (far_by far p) wired.ports pattern.pairs l c.requires.2 (wired.tables.far.each p m)) in
     let others : (k : ℕ) → ((v : ℕ) → v < links.vcs → k ≢ (port_at links p).index v) → _ ≡ _ = λ k away. c.gather_port.ensures.others p k lead away in
     record {
       flits = ports-next links near (far_by far) (λ b. (left_by left b).flits) b p c.loop-port.came.flits c.gather_port.new.came.flits c.deref.result.now row l c.loop-port.invariant.flits (λ v r few low. c.gather_port.ensures.flits p v r lead few low) (λ k away. ap (λ (w : Links ℕ). w.flits) (others k away));

@@ -1,0 +1,132 @@
+//! The routers at the other ends of links are told which packets are granted channels of them.
+
+ghost use Rattle.std.specs.Prelude.{◌≡◌, ◌<◌, ◌≤◌, ◌+◌, ◌*◌, ◌⊎◌, ◌≢◌, ℕ, Option, Some, vec_capacity, vec_len};
+ghost use Rattle.noc_topo.specs.Shape.{Grid, neighbour, nodes, opposite};
+ghost use Rattle.noc_columns.specs.Heads.{packet_in};
+ghost use Rattle.noc_columns.specs.declared.ports.TheConstants.{PORTS};
+ghost use Rattle.noc_columns.specs.declared.sets.TheConstants.{CHANNELS};
+ghost use Rattle.noc_columns.specs.declared.words.TheConstants.{ROUTERS};
+ghost use Rattle.noc_cycles.specs.Gathered.{IsWired};
+ghost use Rattle.noc_cycles.specs.Told.{AreNotes, AreTold, IsNotedOver, NotesSome, noted, port_in, told_by, vc_in};
+
+use crate::around::{Around, NOWHERE};
+use crate::block::Block;
+use crate::notes::Note;
+use crate::pattern::Pattern;
+use noc_columns::{CHANNELS, PORTS, but_lowest, least};
+
+/// Each packet of a block that is granted an output channel is noted for the router at the other end
+/// of its link, if it is one of a link. There is room for so many notes.
+pub fn tell(pattern: &Pattern, around: &Around, block: &Block, notes: &mut Vec<Note>)
+    requires told { (g : Grid) × (tells : ℕ → ℕ → Option ℕ)
+        × AreTold g pattern.now around.now block.now tells }
+    requires room { ROUTERS * CHANNELS ≤ vec_capacity notes.old }
+    ensures notes { (g : Grid) (tells : ℕ → ℕ → Option ℕ)
+        → AreTold g pattern.now around.now block.now tells
+        → AreNotes g pattern.now.table.ports.links.vcs (told_by around.now.block tells)
+        notes.new.items }
+    ensures room { vec_capacity notes.old ≤ vec_capacity notes.new }
+{
+    notes.clear();
+    let links = &pattern.table.ports.links;
+    for channel in 0..(links.width + 1) * links.vcs {
+        tell_channel(pattern, around, block, channel, notes);
+    }
+}
+
+// .. those in one input channel of its routers.
+fn tell_channel(
+    pattern: &Pattern,
+    around: &Around,
+    block: &Block,
+    channel: usize,
+    notes: &mut Vec<Note>,
+)
+    requires told { (g : Grid) × (tells : ℕ → ℕ → Option ℕ)
+        × AreTold g pattern.now around.now block.now tells }
+    requires channel { channel < (pattern.now.table.ports.links.width + 1)
+        * pattern.now.table.ports.links.vcs }
+    requires room { vec_len notes.old + ROUTERS ≤ vec_capacity notes.old }
+    ensures notes { (g : Grid) (tells : ℕ → ℕ → Option ℕ)
+        → AreTold g pattern.now around.now block.now tells
+        → NotesSome g pattern.now around.now block.now tells (λ r k. k < channel) notes.old.items
+        → NotesSome g pattern.now around.now block.now tells (λ r k. k < channel + 1)
+        notes.new.items }
+    ensures more { vec_len notes.new ≤ vec_len notes.old + ROUTERS }
+    ensures room { vec_capacity notes.old ≤ vec_capacity notes.new }
+{
+    let index = pattern.table.index(channel);
+    let mut rest = block.grants.granted[index];
+    while rest != 0 {
+        tell_one(pattern, around, block, channel, least(rest), notes);
+        rest = but_lowest(rest);
+    }
+}
+
+// The number of a packet that has been granted an output channel is noted for the router at the
+// other end of its link, if it is one of a link.
+fn tell_one(
+    pattern: &Pattern,
+    around: &Around,
+    block: &Block,
+    channel: usize,
+    router: usize,
+    notes: &mut Vec<Note>,
+)
+    requires wired { (g : Grid) × IsWired g pattern.now around.now
+        × (ROUTERS * around.now.block + router < nodes g) }
+    requires channel { channel < (pattern.now.table.ports.links.width + 1)
+        * pattern.now.table.ports.links.vcs }
+    requires router { router < ROUTERS }
+    requires vc { vc_in pattern.now.table.ports block.now router channel
+        < pattern.now.table.ports.links.vcs }
+    requires room { vec_len notes.old < vec_capacity notes.old }
+    ensures noted { (g : Grid) → IsWired g pattern.now around.now
+        → ROUTERS * around.now.block + router < nodes g
+        → IsNotedOver pattern.now.table.ports.links.vcs
+        (vc_in pattern.now.table.ports block.now router channel)
+        (packet_in block.now.packets router channel) notes.old.items notes.new.items
+        (neighbour g (ROUTERS * around.now.block + router)
+        (port_in pattern.now.table.ports block.now router channel)) }
+    ensures more { vec_len notes.new ≤ vec_len notes.old + 1 }
+    ensures room { vec_capacity notes.old ≤ vec_capacity notes.new }
+{
+    let index = pattern.table.index(channel);
+    let links = &pattern.table.ports.links;
+    let port = block.grants.sends.port.at(index).number(router);
+    if port < links.width {
+        let node = around.ends[router][port];
+        if node != NOWHERE {
+            let vc = block.grants.sends.vc.at(index).number(router);
+            let there = opposite(port) * links.vcs + vc;
+            note(notes, node, there, block.packets[router][channel]);
+        }
+    }
+}
+
+// A packet is noted for an input channel of a router.
+fn note(notes: &mut Vec<Note>, router: u16, channel: usize, packet: u32)
+    requires channel { channel < CHANNELS }
+    requires room { vec_len notes.old < vec_capacity notes.old }
+    ensures here { noted notes.new.items router channel ≡ Some packet }
+    ensures others { (r i : ℕ) → (r ≢ router) ⊎ (i ≢ channel)
+        → noted notes.new.items r i ≡ noted notes.old.items r i }
+    ensures more { vec_len notes.new ≡ vec_len notes.old + 1 }
+    ensures room { vec_capacity notes.old ≤ vec_capacity notes.new }
+{
+    let one = Note {
+        router,
+        channel: channel as u8,
+        packet,
+    };
+    let _ = notes.push(one);
+}
+
+// The port at the other end of a link.
+#[inline(always)]
+fn opposite(port: usize) -> usize
+    requires { port < PORTS }
+    ensures { result ≡ opposite port }
+{
+    port + 1 - 2 * (port % 2)
+}
