@@ -11,3 +11,4 @@ pub mod LayoutLemmas
 pub mod EmptyLemmas
 pub mod NoteLemmas
 pub mod TellLemmas
+pub mod TurningLemmas

@@ -46,7 +46,9 @@ pub record HasConcludedHeld (pattern : Pattern) (standing : Standing ℕ) (decid
   pub arrived_below : MembersAreBelow
       ((pattern.table.ports.links.width + 1) * pattern.table.ports.links.vcs) arrived
   pub active_below : MembersAreBelow
-      ((pattern.table.ports.links.width + 1) * pattern.table.ports.links.vcs) n.inputs.active
+      ((pattern.table.ports.links.width + 1) * pattern.table.ports.links.vcs) h.inputs.active
+  pub granted_below : MembersAreBelow
+      ((pattern.table.ports.links.width + 1) * pattern.table.ports.links.vcs) granted
   pub flits_below : MembersAreBelow
       (pattern.table.ports.links.width * pattern.table.ports.links.vcs) left.flits
   pub tails_below : MembersAreBelow

@@ -9,3 +9,4 @@ pub mod Patterns
 pub mod Opened
 pub mod Concluding
 pub mod Told
+pub mod Turning

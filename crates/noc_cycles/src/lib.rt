@@ -18,6 +18,7 @@ mod notes;
 mod opening;
 mod pattern;
 mod tells;
+mod turning;
 
 pub use around::Around;
 pub use arrivals::arrive_all;
@@ -32,3 +33,4 @@ pub use notes::Note;
 pub use opening::open_blocks;
 pub use pattern::{Pattern, SHALLOW};
 pub use tells::tell;
+pub use turning::routers_take_part;

@@ -17,7 +17,8 @@ returns-clause-concluded c = λ r few.
       credits = λ k l. links-same pattern r c.settle-moved.new.verdicts.moved k l;
       rest = held-changed ports c.args.block.now r c.settle-moved.new.inputs c.pay.new.outputs c.give_back.new.marks c.give_back.ensures.kept;
       arrived_below = λ k e. member-below all r c.arrive-arrived.new.arrived k e;
-      active_below = λ k e. member-below all r c.settle-moved.new.inputs.active k e;
+      active_below = λ k e. member-below all r c.args.block.now.inputs.active k e;
+      granted_below = λ k e. member-below all r c.args.block.now.grants.granted k e;
       flits_below = λ k e. member-below links r c.args.work.now.left.flits k e;
       tails_below = λ k e. member-below links r c.args.work.now.left.tails k e;
     }

@@ -1,0 +1,58 @@
+-- A router of a block has taken part in a cycle: it has taken what comes, what it does is decided,
+-- and that has taken effect.
+use Rattle.std.specs.Prelude.{◌≡◌, ℕ, ◌+◌, Bool, ◌||◌, List, not, bit_or, nat_eq}
+use Rattle.noc_sets.specs.Counts.{ByVerdict, with_verdicts}
+use Rattle.noc_sets.specs.Cycle.{HasWorked, Router, Turn}
+use Rattle.noc_sets.specs.Layout.{Layout}
+use Rattle.noc_sets.specs.Sets.{less}
+use Rattle.noc_sets.specs.Source.{Start}
+use Rattle.noc_columns.specs.declared.channels.Links.{Links}
+use Rattle.noc_columns.specs.declared.channels.Standing.{Standing}
+use Rattle.noc_columns.specs.declared.channels.Verdicts.{Verdicts}
+use Rattle.noc_cycles.specs.Gathered.{ShowsLeft}
+use Rattle.noc_cycles.specs.Held.{Held, ShowsMarks, column_by}
+use Rattle.noc_cycles.specs.Taking.{links_count}
+use Rattle.noc_cycles.specs.declared.pattern.Pattern.{Pattern}
+
+-- the verdicts of a router on its input channels, where these wait after the cycle, and those are
+-- granted an output channel or ask for one and are not
+abbrev pub verdict_sets_by : Standing ℕ → Verdicts ℕ → ℕ → ℕ → ℕ → ByVerdict
+verdict_sets_by standing w waiting granted lost = record {
+  routed = standing.heads;
+  granted = granted;
+  moved = w.moved;
+  no_flit = less w.active
+      (bit_or (bit_or w.no_credit w.lost_input) (bit_or w.lost_switch w.moved));
+  no_idle_channel = less waiting (bit_or standing.heads lost);
+  lost_channel = lost;
+  no_credit = w.no_credit;
+  lost_input = w.lost_input;
+  lost_switch = w.lost_switch;
+}
+
+-- what a router holds after a cycle shows its turn
+pub record ShowsTurn (pattern : Pattern) (n : Held) (t : Turn) : Type 0 where
+  pub column : t.column ≡ column_by (links_count pattern) pattern.frame.deep n t.column.supplied
+  pub marks : ShowsMarks (pattern.table.ports.links.width + 1) pattern.table.ports.links.vcs n
+      t.marks
+  pub waiting : n.waiting ≡ n.inputs.waiting
+  pub ended : t.ended ≡ n.inputs.ended
+  pub source : t.source ≡ n.source
+
+-- a router with these words takes part in the cycle, and then holds n: these leave it, and its
+-- verdicts are w; `comes` tells whether something has come to it
+pub record HasWorkedHeld (pattern : Pattern) (layout : Layout) (starts : List Start)
+    (sets : ℕ → ℕ → ℕ) (cycle : ℕ) (b : Router) (n : Held) (standing : Standing ℕ)
+    (granted lost : ℕ) (left : Links ℕ) (arrived : ℕ) (w : Verdicts ℕ) (comes : Bool)
+    : Type 0 where
+  pub turn : Turn
+  pub works : HasWorked (pattern.table.ports.links.width + 1) pattern.table.ports.links.vcs layout
+      starts sets cycle b turn
+  pub shows : ShowsTurn pattern n turn
+  pub leaves : ShowsLeft (links_count pattern) left turn.left
+  pub arrived_is : arrived ≡ turn.arrived
+  pub counted : (i : ℕ)
+      → turn.counts i
+      ≡ with_verdicts (verdict_sets_by standing w n.inputs.waiting granted lost) i (b.counts i)
+  pub happened : turn.happened
+      ≡ (comes || not (nat_eq (bit_or (bit_or standing.heads granted) w.moved) 0))
