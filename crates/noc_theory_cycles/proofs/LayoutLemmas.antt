@@ -4,7 +4,7 @@ use Rattle.std.specs.Prelude.{◌⊎◌, ◌&&◌, nat_le, nat_lt}
 use Rattle.std.proofs.lemmas.Bool.{and_parts, cases_lt, le-leb, le-ltb, lt-leb, lt-ltb, ltb-true}
 use Rattle.std.proofs.lemmas.List.{length-map}
 use Rattle.noc_topo.specs.Lists.{one_if}
-use Rattle.noc_topo.specs.Shape.{local_port, ports}
+use Rattle.noc_topo.specs.Shape.{Grid, local_port, ports}
 use Rattle.noc_packet.specs.Set.{has_bit}
 use Rattle.noc_alloc.specs.Members.{MembersAreBelow}
 use Rattle.noc_sets.specs.Opening.{AreSides}
@@ -19,9 +19,10 @@ use Rattle.noc_columns.specs.Routing.{IsOfPorts}
 use Rattle.noc_columns.specs.Words.{Numbering, all_of, set_alike, set_below}
 use Rattle.noc_columns.specs.declared.planes.Planes.{Planes}
 use Rattle.noc_columns.proofs.SetLemmas.{below-members}
+use Rattle.noc_cycles.specs.Patterns.{IsPatternOf}
 use Rattle.noc_cycles.specs.Taking.{FitsLayout, links_count}
 use Rattle.noc_cycles.specs.declared.pattern.Pattern.{Pattern}
-use Rattle.noc_theory_cycles.specs.Fits.{FitsNetwork, HasPlaces, bits_of, layout_of}
+use Rattle.noc_theory_cycles.specs.Fits.{FitsNetwork, bits_of, layout_of}
 
 -- ---- counts that are alike
 -- the two bits are the same where the numbers are, and so are the rest
@@ -64,19 +65,19 @@ list-mapped : (deep : Bool) (f : ℕ → ℕ) (planes : Planes ℕ) → list_of 
 list-mapped true f planes = refl
 list-mapped false f planes = refl
 
-pub fits-layout : (pattern : Pattern) (places : ℕ) → HasPlaces pattern places → FitsLayout pattern (layout_of pattern)
-fits-layout pattern places has = record {
+pub fits-layout : (g : Grid) (vcs places : ℕ) (pattern : Pattern) → IsPatternOf g vcs places pattern → FitsLayout pattern (layout_of pattern)
+fits-layout g vcs places pattern is = record {
   links = refl;
   local = refl;
   places = λ r l.
       let all = channels_of pattern.table.ports in
       list-mapped pattern.frame.deep (set_alike all 0) pattern.frame.places
-      ∙ alike-planes all 0 r (list_of pattern.frame.deep pattern.frame.places) (has 0 (omega arith) ∙ sym (has r l))
+      ∙ alike-planes all 0 r (list_of pattern.frame.deep pattern.frame.places) (is.places_are 0 (omega arith) ∙ sym (is.places_are r l))
       ∙ sym (list-mapped pattern.frame.deep (set_alike all r) pattern.frame.places);
 }
 
 -- ---- of a pattern
-module _ (net : Setup) (setup : IsGoodSetup net) (pattern : Pattern) (of : IsOfPorts pattern.table.ports net.relation) (has : HasPlaces pattern net.depth) where
+module _ (net : Setup) (setup : IsGoodSetup net) (pattern : Pattern) (is : IsPatternOf net.relation.grid net.relation.vcs net.depth pattern) where
   abbrev width : ℕ
   width = pattern.table.ports.links.width
 
@@ -89,7 +90,10 @@ module _ (net : Setup) (setup : IsGoodSetup net) (pattern : Pattern) (of : IsOfP
   abbrev all : Numbering
   all = channels_of pattern.table.ports
 
-  size-is : ports net.relation.grid * net.relation.vcs ≡ (pattern.table.ports.links.width + 1) * pattern.table.ports.links.vcs
+  of : IsOfPorts pattern.table.ports net.relation
+  of = let width = is.width in record { count = omega (arith, width); vcs = sym is.vcs_are }
+
+  pub size-is : ports net.relation.grid * net.relation.vcs ≡ (pattern.table.ports.links.width + 1) * pattern.table.ports.links.vcs
   size-is = ap₂ (λ p w. p * w) of.count of.vcs
 
   few : (pattern.table.ports.links.width + 1) * pattern.table.ports.links.vcs ≤ 63
@@ -159,11 +163,11 @@ module _ (net : Setup) (setup : IsGoodSetup net) (pattern : Pattern) (of : IsOfP
   places-are : AreAll (bits_of pattern) (ports net.relation.grid * net.relation.vcs) net.depth (layout_of pattern).places
   places-are = record {
     bits = ap length (list-mapped pattern.frame.deep (set_alike all 0) pattern.frame.places) ∙ length-map places (set_alike all 0);
-    room = let e = has 0 (omega arith) in let small = number-small places 0 in omega (arith, e, small);
+    room = let e = is.places_are 0 (omega arith) in let small = number-small places 0 in omega (arith, e, small);
     fits = subst ArePlanes (sym (list-mapped pattern.frame.deep (set_alike all 0) pattern.frame.places)) (alike-fits all 0 places (omega (arith, few)));
     each = λ x l.
         ap (λ ps. plane_number ps x) (list-mapped pattern.frame.deep (set_alike all 0) pattern.frame.places)
-        ∙ alike-number all 0 x places (subst (λ m. x < m) size-is l) ∙ has 0 (omega arith);
+        ∙ alike-number all 0 x places (subst (λ m. x < m) size-is l) ∙ is.places_are 0 (omega arith);
   }
 
   pub fits-network : FitsNetwork (bits_of pattern) net (layout_of pattern) pattern

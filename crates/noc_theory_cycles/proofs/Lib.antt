@@ -8,3 +8,4 @@ pub mod BlankMayLemmas
 pub mod LayoutLemmas
 pub mod GrantedLemmas
 pub mod NodeLemmas
+pub mod OpeningLemmas

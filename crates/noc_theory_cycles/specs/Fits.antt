@@ -1,14 +1,12 @@
 -- A pattern and a layout fit the routers of a network.
-use Rattle.std.specs.Prelude.{◌≡◌, ℕ, ◌<◌, length}
+use Rattle.std.specs.Prelude.{ℕ, length}
 use Rattle.noc_sets.specs.Layout.{IsLayoutOf, Layout}
-use Rattle.noc_sets.specs.Planes.{plane_number}
 use Rattle.noc_sets.specs.Sets.{up_by}
 use Rattle.noc_theory.specs.Network.{Setup}
 use Rattle.noc_columns.specs.Picks.{channels_of, links_of, port_at}
 use Rattle.noc_columns.specs.Planes.{list_of, planes_by}
 use Rattle.noc_columns.specs.Routing.{IsOfPorts}
 use Rattle.noc_columns.specs.Words.{all_of, set_alike}
-use Rattle.noc_columns.specs.declared.words.TheConstants.{ROUTERS}
 use Rattle.noc_cycles.specs.Taking.{links_count}
 use Rattle.noc_cycles.specs.declared.pattern.Pattern.{Pattern}
 
@@ -17,12 +15,6 @@ pub record FitsNetwork (count : ℕ) (net : Setup) (layout : Layout) (pattern : 
     : Type 0 where
   pub layout_is : IsLayoutOf count net.relation net.depth layout
   pub ports : IsOfPorts pattern.table.ports net.relation
-
--- each buffer of the routers of a block has so many places
-abbrev pub HasPlaces : Pattern → ℕ → Type 0
-HasPlaces pattern places =
-    (r : ℕ) → r < ROUTERS
-    → plane_number (list_of pattern.frame.deep pattern.frame.places) r ≡ places
 
 -- the layout of the routers of a block
 abbrev pub layout_of : Pattern → Layout

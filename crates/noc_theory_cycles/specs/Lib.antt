@@ -2,3 +2,4 @@ pub mod Fits
 pub mod Blank
 pub mod Granted
 pub mod Nodes
+pub mod Firsts

@@ -12,6 +12,7 @@ mod granted;
 mod heads;
 mod layouts;
 mod nodes;
+mod opening;
 mod routers;
 
 pub use blank::{
@@ -25,4 +26,5 @@ pub use layouts::patterns_have_a_layout;
 pub use nodes::{
     nodes_have_what_is_asked_for, nodes_make_turns_of_the_network, nodes_show_the_next_count,
 };
+pub use opening::opened_blocks_show_the_network;
 pub use routers::routers_have_what_is_asked_for;
