@@ -5,6 +5,7 @@ use Rattle.std.proofs.lemmas.Bool.{cases_eq, cases_lt, le-ltb, lt-ltb}
 use Rattle.std.proofs.lemmas.List.{get_or-replicate, get_or-set_other, get_or-set_same, get_or_append_left, length-set}
 use Rattle.std.proofs.lemmas.Nat.{shl_whole}
 use Rattle.std.proofs.Math.Nat.{mul-le-mul}
+use Rattle.std.proofs.Math.Seq.{get_or-append_seam}
 use Rattle.noc_packet.specs.Set.{has_bit}
 use Rattle.noc_packet.proofs.SetLemmas.{has_bit-zero}
 use Rattle.noc_sets.proofs.MemberLemmas.{ones-members, same-word}
@@ -15,6 +16,7 @@ use Rattle.noc_columns.specs.Sources.{source_in}
 use Rattle.noc_columns.specs.Wants.{asks_of}
 use Rattle.noc_columns.specs.Words.{IsWithin, Numbering, all_of, set_alike, set_below, set_of, word}
 use Rattle.noc_columns.specs.declared.channels.Inputs.{Inputs}
+use Rattle.noc_columns.specs.declared.channels.Links.{Links}
 use Rattle.noc_columns.specs.declared.channels.Outputs.{Outputs}
 use Rattle.noc_columns.specs.declared.planes.Planes.{Planes}
 use Rattle.noc_columns.specs.declared.ports.RouterPorts.{RouterPorts}
@@ -22,9 +24,10 @@ use Rattle.noc_columns.proofs.ChannelLemmas.{part, port-below, positive}
 use Rattle.noc_columns.proofs.PickLemmas.{apart}
 use Rattle.noc_columns.proofs.PortLemmas.{link-index, local-place}
 use Rattle.noc_columns.proofs.SetLemmas.{below-members, below-same, by-term, none}
-use Rattle.noc_cycles.specs.Held.{held_at}
-use Rattle.noc_cycles.specs.Opened.{AreOpened, HoldsNothing, IsOpened, free_outputs, no_inputs}
+use Rattle.noc_cycles.specs.Held.{held_at, links_at}
+use Rattle.noc_cycles.specs.Opened.{AreEmptyWorks, AreOpened, HoldsNothing, IsOpened, free_outputs, no_inputs, no_links}
 use Rattle.noc_cycles.specs.declared.block.Block.{Block}
+use Rattle.noc_cycles.specs.declared.block.Work.{Work}
 use Rattle.noc_cycles.specs.declared.first.First.{First}
 use Rattle.noc_cycles.specs.declared.pattern.Pattern.{Pattern}
 
@@ -59,6 +62,9 @@ the_inputs waiting active ended ahead len = record {
   ahead = ahead;
   len = record { ones = len; twos = len; fours = len; eights = len; sixteens = len };
 }
+
+abbrev the_links : ℕ → ℕ → ℕ → Links ℕ
+the_links flits tails credits = record { flits = flits; tails = tails; credits = credits }
 
 inputs-same : {w a e h l ahead : ℕ} → w ≡ 0 → a ≡ 0 → e ≡ 0 → h ≡ ahead → l ≡ 0 → the_inputs w a e h l ≡ no_inputs ahead
 inputs-same w a e h l = λ i. the_inputs (w i) (a i) (e i) (h i) (l i)
@@ -194,3 +200,28 @@ opened-next pattern firsts n blocks items nothing block e are is = record {
         subst (IsOpened pattern firsts b)
         (sym (get_or-set_other items n b block d other ∙ ap (λ xs. slice_index_or xs b d) e ∙ get_or_append_left blocks (nothing ∷ []) d b (let m = are.many in omega (arith, before, m))))
         (are.each b d before)
+
+-- ---- what blocks work out
+pub nothing-comes : (came : Links (List ℕ)) (ports : RouterPorts) (r : ℕ) → came.flits ≡ replicate 72 0 → came.tails ≡ replicate 72 0 → came.credits ≡ replicate 72 0
+    → links_at ports came r ≡ no_links
+nothing-comes came ports r flits tails credits = λ i. the_links (none flits i) (none tails i) (none credits i)
+  where
+    none : {words : List ℕ} → words ≡ replicate 72 0 → set_of (links_of ports.links) r words ≡ 0
+    none e = ap (set_of (links_of ports.links) r) e ∙ alike-set (links_of ports.links) r 0 (links-within ports) ∙ none-alike (links_of ports.links) r
+
+-- that of one block more
+pub works-next : (n : ℕ) (works items : List Work) (work : Work) → items ≡ works ++ work ∷ [] → AreEmptyWorks n works
+    → work.came.flits ≡ replicate 72 0 → work.came.tails ≡ replicate 72 0 → work.came.credits ≡ replicate 72 0 → AreEmptyWorks (n + 1) items
+works-next n works items work e are flits tails credits = record {
+  many = ap length e ∙ length-append works (work ∷ []) ∙ (let m = are.many in omega (arith, m));
+  each = λ b d l ports r. ap (λ xs. links_at ports (slice_index_or xs b d).came r) e ∙ at b d l ports r (cases_eq b n);
+}
+  where
+    at : (b : ℕ) (d : Work) → b < n + 1 → (ports : RouterPorts) (r : ℕ) → (b ≡ n) ⊎ (b ≢ n) → links_at ports (slice_index_or (works ++ work ∷ []) b d).came r ≡ no_links
+    at b d l ports r (inl same) =
+        ap (λ (w : Work). links_at ports w.came r) (ap (λ k. slice_index_or (works ++ work ∷ []) k d) (same ∙ sym are.many) ∙ get_or-append_seam works work [] d)
+        ∙ nothing-comes work.came ports r flits tails credits
+    at b d l ports r (inr other) =
+        let before : b < n = omega (arith, l, other) in
+        ap (λ (w : Work). links_at ports w.came r) (get_or_append_left works (work ∷ []) d b (let m = are.many in omega (arith, before, m)))
+        ∙ are.each b d before ports r

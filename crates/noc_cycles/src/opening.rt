@@ -6,15 +6,13 @@ ghost use Rattle.noc_columns.specs.Channels.{inputs_by, outputs_by};
 ghost use Rattle.noc_columns.specs.Sources.{AreDue, source_in};
 ghost use Rattle.noc_columns.specs.declared.sets.TheConstants.{CHANNELS};
 ghost use Rattle.noc_columns.specs.declared.words.TheConstants.{ROUTERS, WORDS};
-ghost use Rattle.noc_cycles.specs.Opened.{AreOpened, IsOpened, first_in, free_outputs, no_inputs};
+ghost use Rattle.noc_cycles.specs.Opened.{AreEmptyWorks, AreOpened, IsOpened, first_in, free_outputs, no_inputs};
 
-use crate::block::Block;
+use crate::block::{Block, Work};
 use crate::first::First;
+use crate::nothing::{NO_BLOCK, NO_WORK, NONE_LEFT};
 use crate::pattern::Pattern;
-use noc_columns::{
-    CHANNELS, Digits, Due, Frame, Grants, Injection, Inputs, Left, Marks, NEVER, Outputs, Planes,
-    ROUTERS, Sends, Sources, Switch, WORDS, Words,
-};
+use noc_columns::{CHANNELS, Frame, Inputs, Marks, NEVER, Outputs, ROUTERS, Sources, WORDS, Words};
 use noc_packet::Memory;
 use std::alloc::Global;
 
@@ -31,10 +29,21 @@ pub fn open_blocks(
 {
     let mut blocks = Vec::with_capacity(alloc, count)?;
     for number in 0..count {
-        blocks.push(NOTHING)?;
+        blocks.push(NO_BLOCK)?;
         blocks[number].open(pattern, firsts, number);
     }
     Ok(blocks)
+}
+
+/// What so many blocks work out before the first cycle: nothing, and nothing comes to them.
+pub fn empty_works(alloc: Global, count: usize) -> Result<Vec<Work>, Memory>
+    ensures { IfOk result (λ works. AreEmptyWorks count works.items) }
+{
+    let mut works = Vec::with_capacity(alloc, count)?;
+    for _ in 0..count {
+        works.push(NO_WORK)?;
+    }
+    Ok(works)
 }
 
 impl Block {
@@ -152,80 +161,3 @@ fn first_at(firsts: &[First], router: usize) -> First
         }
     }
 }
-
-// Nothing at all. (It is copied from here to where it stands, so that it takes no room on the
-// stack.)
-const NOTHING: Block = Block {
-    inputs: Inputs {
-        waiting: NO_WORDS,
-        active: NO_WORDS,
-        ended: NO_WORDS,
-        ahead: NO_WORDS,
-        len: NO_PLANES,
-    },
-    outputs: Outputs {
-        draining: NO_WORDS,
-        credit: NO_PLANES,
-    },
-    grants: Grants {
-        granted: NO_WORDS,
-        sends: Sends {
-            port: NO_DIGITS,
-            vc: NO_DIGITS,
-        },
-    },
-    switch: Switch {
-        ahead: NO_WORDS,
-        asks: NO_WORDS,
-        taken: NO_WORDS,
-        past: NO_WORDS,
-    },
-    injection: Injection {
-        injecting: NO_WORDS,
-        went: NO_WORDS,
-        begun: NO_WORDS,
-    },
-    marks: Marks {
-        waiting: [0; ROUTERS],
-        wanted: [0; ROUTERS],
-        idle: [0; ROUTERS],
-        asking: 0,
-        sets: [[0; CHANNELS]; ROUTERS],
-        turns: [[0; CHANNELS]; ROUTERS],
-    },
-    packets: [[0; CHANNELS]; ROUTERS],
-    sources: Sources {
-        left: NONE_LEFT,
-        due: Due {
-            at: [0; ROUTERS],
-            ready: 0,
-            next: 0,
-        },
-        queue: [0; ROUTERS],
-    },
-};
-
-const NO_WORDS: Words = [0; WORDS];
-
-const NO_PLANES: Planes<Words> = Planes {
-    ones: NO_WORDS,
-    twos: NO_WORDS,
-    fours: NO_WORDS,
-    eights: NO_WORDS,
-    sixteens: NO_WORDS,
-};
-
-const NO_DIGITS: Digits<Words> = Digits {
-    ones: NO_WORDS,
-    twos: NO_WORDS,
-    fours: NO_WORDS,
-};
-
-const NONE_LEFT: Left = Left {
-    ones: 0,
-    twos: 0,
-    fours: 0,
-    eights: 0,
-    sixteens: 0,
-    thirty_twos: 0,
-};

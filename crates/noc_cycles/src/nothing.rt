@@ -1,0 +1,123 @@
+//! Large values with nothing in them.
+//!
+//! Each is a constant, so that a push copies it straight to where it stands on the heap, and takes
+//! no room for it on the stack.
+
+use crate::block::{Block, Work};
+use noc_columns::{
+    CHANNELS, Decided, Digits, Due, Grants, Injection, Inputs, Left, Links, Marks, Outputs, Planes,
+    ROUTERS, Returned, Sends, Sources, Standing, Switch, Verdicts, WORDS, Words,
+};
+
+/// A block.
+pub(crate) const NO_BLOCK: Block = Block {
+    inputs: Inputs {
+        waiting: NO_WORDS,
+        active: NO_WORDS,
+        ended: NO_WORDS,
+        ahead: NO_WORDS,
+        len: NO_PLANES,
+    },
+    outputs: Outputs {
+        draining: NO_WORDS,
+        credit: NO_PLANES,
+    },
+    grants: Grants {
+        granted: NO_WORDS,
+        sends: Sends {
+            port: NO_DIGITS,
+            vc: NO_DIGITS,
+        },
+    },
+    switch: Switch {
+        ahead: NO_WORDS,
+        asks: NO_WORDS,
+        taken: NO_WORDS,
+        past: NO_WORDS,
+    },
+    injection: Injection {
+        injecting: NO_WORDS,
+        went: NO_WORDS,
+        begun: NO_WORDS,
+    },
+    marks: Marks {
+        waiting: [0; ROUTERS],
+        wanted: [0; ROUTERS],
+        idle: [0; ROUTERS],
+        asking: 0,
+        sets: [[0; CHANNELS]; ROUTERS],
+        turns: [[0; CHANNELS]; ROUTERS],
+    },
+    packets: [[0; CHANNELS]; ROUTERS],
+    sources: Sources {
+        left: NONE_LEFT,
+        due: Due {
+            at: [0; ROUTERS],
+            ready: 0,
+            next: 0,
+        },
+        queue: [0; ROUTERS],
+    },
+};
+
+/// What is worked out in a cycle.
+pub(crate) const NO_WORK: Work = Work {
+    came: NO_LINKS,
+    returned: Returned {
+        some: NO_WORDS,
+        home: NO_WORDS,
+    },
+    standing: Standing {
+        supplied: NO_WORDS,
+        heads: NO_WORDS,
+        ready: NO_WORDS,
+        last: NO_WORDS,
+    },
+    decided: Decided {
+        picked: NO_WORDS,
+        past: NO_WORDS,
+        sends: NO_WORDS,
+    },
+    lost: NO_WORDS,
+    verdicts: Verdicts {
+        active: NO_WORDS,
+        no_credit: NO_WORDS,
+        lost_input: NO_WORDS,
+        lost_switch: NO_WORDS,
+        moved: NO_WORDS,
+    },
+    left: NO_LINKS,
+    arrived: NO_WORDS,
+};
+
+const NO_LINKS: Links<Words> = Links {
+    flits: NO_WORDS,
+    tails: NO_WORDS,
+    credits: NO_WORDS,
+};
+
+const NO_WORDS: Words = [0; WORDS];
+
+const NO_PLANES: Planes<Words> = Planes {
+    ones: NO_WORDS,
+    twos: NO_WORDS,
+    fours: NO_WORDS,
+    eights: NO_WORDS,
+    sixteens: NO_WORDS,
+};
+
+const NO_DIGITS: Digits<Words> = Digits {
+    ones: NO_WORDS,
+    twos: NO_WORDS,
+    fours: NO_WORDS,
+};
+
+/// No flits of packets.
+pub(crate) const NONE_LEFT: Left = Left {
+    ones: 0,
+    twos: 0,
+    fours: 0,
+    eights: 0,
+    sixteens: 0,
+    thirty_twos: 0,
+};
