@@ -586,7 +586,7 @@ module _ (pattern : Pattern) (layout : Layout) (starts : List Start) (sets : ℕ
     happened = not (nat_eq (bit_or (bit_or (bit_or (came_in layout cycle b) d.effects.heads) d.effects.granted) d.effects.moved) 0);
   }
 
-  pub has-worked : HasWorkedHeld pattern layout starts sets cycle b n standing granted lost (record left { credits = gone }) arrived w comes
+  pub has-worked : HasWorkedHeld pattern layout starts sets cycle b s d.chosen n (verdict_sets_by standing w n.inputs.waiting granted lost) (record left { credits = gone }) arrived comes
   has-worked = record {
     turn = the-turn;
     works = record {
@@ -623,6 +623,8 @@ module _ (pattern : Pattern) (layout : Layout) (starts : List Start) (sets : ℕ
         arrived-are pattern layout sets s a h n standing decided granted lost gone arrived left v w fits takes.shows d c
         ∙ (let one : pattern.table.ports.links.width ≡ ports - 1 = omega arith in ap (λ q. bit_and d.effects.released (d.chosen.marks.to_port q)) one);
     counted = λ i. ap (λ x. with_verdicts x i (b.counts i)) (told-sets pattern layout sets s a h n standing decided granted lost gone arrived left v w fits takes.shows d c);
+    grants = refl;
+    found = λ i. ap (λ x. found_in pattern.table.ports.links.vcs x s.filled s.column s.marks i) (told-sets pattern layout sets s a h n standing decided granted lost gone arrived left v w fits takes.shows d c);
     happened = something;
   }
     where

@@ -2,13 +2,16 @@
 -- and that has taken effect.
 use Rattle.std.specs.Prelude.{◌≡◌, ℕ, ◌+◌, Bool, ◌||◌, List, not, bit_or, nat_eq}
 use Rattle.noc_sets.specs.Counts.{ByVerdict, with_verdicts}
-use Rattle.noc_sets.specs.Cycle.{HasWorked, Router, Turn}
+use Rattle.noc_sets.specs.Cycle.{HasWorked, Router, Still, Turn, granted_in}
+use Rattle.noc_sets.specs.Found.{found_in}
+use Rattle.noc_sets.specs.Grants.{Allocation}
 use Rattle.noc_sets.specs.Layout.{Layout}
 use Rattle.noc_sets.specs.Sets.{less}
 use Rattle.noc_sets.specs.Source.{Start}
 use Rattle.noc_columns.specs.declared.channels.Links.{Links}
 use Rattle.noc_columns.specs.declared.channels.Standing.{Standing}
 use Rattle.noc_columns.specs.declared.channels.Verdicts.{Verdicts}
+use Rattle.noc_cycles.specs.Deciding.{undecided}
 use Rattle.noc_cycles.specs.Gathered.{ShowsLeft}
 use Rattle.noc_cycles.specs.Held.{Held, ShowsMarks, column_by}
 use Rattle.noc_cycles.specs.Taking.{links_count}
@@ -39,20 +42,22 @@ pub record ShowsTurn (pattern : Pattern) (n : Held) (t : Turn) : Type 0 where
   pub ended : t.ended ≡ n.inputs.ended
   pub source : t.source ≡ n.source
 
--- a router with these words takes part in the cycle, and then holds n: these leave it, and its
--- verdicts are w; `comes` tells whether something has come to it
+-- a router with these words, which are `s` once it is still, takes part in the cycle and then holds
+-- n: output channels are granted and heads are routed as `chosen` tells, these are its verdicts, and
+-- these leave it. `comes` tells whether something has come to it
 pub record HasWorkedHeld (pattern : Pattern) (layout : Layout) (starts : List Start)
-    (sets : ℕ → ℕ → ℕ) (cycle : ℕ) (b : Router) (n : Held) (standing : Standing ℕ)
-    (granted lost : ℕ) (left : Links ℕ) (arrived : ℕ) (w : Verdicts ℕ) (comes : Bool)
-    : Type 0 where
+    (sets : ℕ → ℕ → ℕ) (cycle : ℕ) (b : Router) (s : Still) (chosen : Allocation) (n : Held)
+    (told : ByVerdict) (left : Links ℕ) (arrived : ℕ) (comes : Bool) : Type 0 where
   pub turn : Turn
   pub works : HasWorked (pattern.table.ports.links.width + 1) pattern.table.ports.links.vcs layout
       starts sets cycle b turn
   pub shows : ShowsTurn pattern n turn
   pub leaves : ShowsLeft (links_count pattern) left turn.left
   pub arrived_is : arrived ≡ turn.arrived
-  pub counted : (i : ℕ)
-      → turn.counts i
-      ≡ with_verdicts (verdict_sets_by standing w n.inputs.waiting granted lost) i (b.counts i)
+  pub grants : turn.grants ≡ granted_in (undecided s) chosen
+  pub counted : (i : ℕ) → turn.counts i ≡ with_verdicts told i (b.counts i)
+  pub found : (i : ℕ)
+      → turn.found i
+      ≡ found_in pattern.table.ports.links.vcs told s.filled s.column s.marks i
   pub happened : turn.happened
-      ≡ (comes || not (nat_eq (bit_or (bit_or standing.heads granted) w.moved) 0))
+      ≡ (comes || not (nat_eq (bit_or (bit_or told.routed told.granted) told.moved) 0))

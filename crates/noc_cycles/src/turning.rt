@@ -12,7 +12,7 @@ ghost use Rattle.noc_cycles.specs.Concluding.{HasConcludedHeld};
 ghost use Rattle.noc_cycles.specs.Deciding.{HasDecidedHeld};
 ghost use Rattle.noc_cycles.specs.Held.{Held};
 ghost use Rattle.noc_cycles.specs.Taking.{FitsLayout, HasTaken};
-ghost use Rattle.noc_cycles.specs.Turning.{HasWorkedHeld};
+ghost use Rattle.noc_cycles.specs.Turning.{HasWorkedHeld, verdict_sets_by};
 ghost use Rattle.noc_cycles.specs.declared.pattern.Pattern.{Pattern};
 
 /// A router that has taken what comes, where it is decided what it does and that has taken effect,
@@ -23,10 +23,12 @@ pub fn routers_take_part()
         (granted lost gone arrived : ℕ) (left : Links ℕ) (v w : Verdicts ℕ) (comes : Bool)
         → FitsLayout pattern layout
         → (takes : HasTaken pattern layout starts cycle b a standing v.no_credit comes)
-        → HasDecidedHeld pattern layout sets (still_of layout starts cycle takes.up b) a h standing
-        decided granted lost left
+        → (decides : HasDecidedHeld pattern layout sets (still_of layout starts cycle takes.up b)
+        a h standing decided granted lost left)
         → HasConcludedHeld pattern standing decided granted (record left { credits = gone })
         arrived h n v w
-        → HasWorkedHeld pattern layout starts sets cycle b n standing granted lost
-        (record left { credits = gone }) arrived w comes }
+        → HasWorkedHeld pattern layout starts sets cycle b
+        (still_of layout starts cycle takes.up b) decides.chosen n
+        (verdict_sets_by standing w n.inputs.waiting granted lost)
+        (record left { credits = gone }) arrived comes }
 {}
