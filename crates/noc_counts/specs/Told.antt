@@ -1,6 +1,9 @@
 -- What is told of the input channels of one router in a cycle, and their verdicts.
-use Rattle.std.specs.Prelude.{ℕ, List, bit_or}
+use Rattle.std.specs.Prelude.{◌≡◌, ℕ, true, List, bit_or}
+use Rattle.noc_packet.specs.Set.{has_bit}
+use Rattle.noc_sets.specs.Column.{Column}
 use Rattle.noc_sets.specs.Counts.{ByVerdict}
+use Rattle.noc_sets.specs.Passes.{lane_heads, lane_no_credit, lane_ready}
 use Rattle.noc_sets.specs.Sets.{less}
 use Rattle.noc_columns.specs.Channels.{verdicts_by}
 use Rattle.noc_columns.specs.Words.{Numbering, set_of}
@@ -51,3 +54,20 @@ verdicts_of t = record {
   lost_input = t.verdicts.lost_input;
   lost_switch = t.verdicts.lost_switch;
 }
+
+-- each member of the part is one of the whole
+abbrev pub AreAmong : ℕ → ℕ → Type 0
+AreAmong whole part = (i : ℕ) → has_bit part i ≡ true → has_bit whole i ≡ true
+
+-- this is told of a router with these words before the cycle takes effect, where these channels
+-- are filled, and these are picked
+pub record IsTold (filled picked : ℕ) (c : Column) (t : Told) : Type 0 where
+  pub heads : t.heads ≡ lane_heads filled c
+  pub granted : AreAmong c.waiting t.granted
+  pub waiting : t.waiting ≡ bit_or (less c.waiting t.granted) t.heads
+  pub active : t.verdicts.active ≡ c.active
+  pub no_credit : t.verdicts.no_credit ≡ lane_no_credit filled c
+  pub lost_input : t.verdicts.lost_input ≡ less (lane_ready filled c) picked
+  pub lost_switch : t.verdicts.lost_switch ≡ less picked t.verdicts.moved
+  pub picked_are : AreAmong (lane_ready filled c) picked
+  pub moved_are : AreAmong picked t.verdicts.moved

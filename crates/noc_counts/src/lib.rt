@@ -7,9 +7,16 @@
 
 mod count;
 mod counts;
+mod findings;
+mod laws;
 mod nine;
 mod told;
 
 pub use count::Count;
 pub use counts::Counts;
+pub use findings::find;
+pub use laws::{
+    blocks_tell_what_routers_do, routers_show_what_is_found,
+    what_is_told_are_the_verdicts_of_a_router, what_is_told_is_found_of_a_router,
+};
 pub use nine::Nine;

@@ -1,0 +1,149 @@
+//! What is found of the channels of a block in the last cycle.
+
+ghost use Rattle.std.specs.Prelude.{◌≡◌, ◌+◌, ◌*◌, ◌/◌, ◌%◌, ◌<◌, ℕ, option_map, if◌then◌else◌};
+ghost use Rattle.noc_view.specs.VerdictSets.{verdict_by};
+ghost use Rattle.noc_sets.specs.Counts.{verdict_sets};
+ghost use Rattle.noc_sets.specs.Grants.{asked_of};
+ghost use Rattle.noc_columns.specs.Picks.{channels_of};
+ghost use Rattle.noc_columns.specs.Words.{word};
+ghost use Rattle.noc_columns.specs.declared.words.TheConstants.{ROUTERS, WORDS};
+ghost use Rattle.noc_cycles.specs.Held.{held_at};
+ghost use Rattle.noc_counts.specs.Counts.{numbers_of};
+ghost use Rattle.noc_counts.specs.Findings.{finding_of, out_of};
+ghost use Rattle.noc_counts.specs.Told.{told_at, told_by, verdicts_of};
+
+use crate::count::has;
+use crate::nine::Nine;
+use crate::told::{without_flit, without_idle};
+use noc_columns::{ROUTERS, WORDS, least, less};
+use noc_cycles::{Block, Pattern, Work};
+use noc_view::{Finding, Verdict};
+
+/// What is found of a channel of a router in the last cycle, where these output channels of the
+/// router were idle before it was decided.
+pub fn find(
+    pattern: &Pattern,
+    block: &Block,
+    work: &Work,
+    idle: u64,
+    router: usize,
+    channel: usize,
+) -> Finding
+    requires router { router < ROUTERS }
+    requires channel { channel < (pattern.now.table.ports.links.width + 1)
+        * pattern.now.table.ports.links.vcs }
+    ensures { result ≡ finding_of pattern.now.table.ports.links.vcs
+        (told_at (channels_of pattern.now.table.ports) block.now work.now router) idle
+        (held_at pattern.now.table.ports block.now router) channel }
+{
+    let index = pattern.table.index(channel);
+    let waiting = block.inputs.waiting[index] | block.grants.granted[index];
+    let holding = waiting | work.verdicts.active[index];
+    Finding {
+        verdict: verdict_at(&words_at(block, work, index), router),
+        packet: packet_if(has(holding, router), block.packets[router][channel]),
+        out: out_at(pattern, block, work, idle, router, channel),
+    }
+}
+
+// A packet, where a test holds.
+fn packet_if(test: bool, packet: u32) -> Option<u32>
+    ensures { result ≡ (if test then Some packet else None) }
+{
+    if test { Some(packet) } else { None }
+}
+
+// The output channel of a channel of a router.
+fn out_at(
+    pattern: &Pattern,
+    block: &Block,
+    work: &Work,
+    idle: u64,
+    router: usize,
+    channel: usize,
+) -> Option<(usize, usize)>
+    requires router { router < ROUTERS }
+    requires channel { channel < (pattern.now.table.ports.links.width + 1)
+        * pattern.now.table.ports.links.vcs }
+    ensures { result ≡ out_of pattern.now.table.ports.links.vcs
+        (told_at (channels_of pattern.now.table.ports) block.now work.now router) idle
+        (held_at pattern.now.table.ports block.now router) channel }
+{
+    let index = pattern.table.index(channel);
+    let waiting = block.inputs.waiting[index] | block.grants.granted[index];
+    if has(less(waiting, work.standing.heads[index]), router) {
+        let out = asked(idle, block.marks.sets[router][channel]);
+        place_of(pattern.table.ports.links.vcs, out)
+    } else if has(work.verdicts.active[index], router) {
+        let port = block.grants.sends.port.at(index);
+        let vc = block.grants.sends.vc.at(index);
+        Some((port.number(router), vc.number(router)))
+    } else {
+        None
+    }
+}
+
+// The output channel that is asked for by a channel that may take these.
+fn asked(idle: u64, set: u64) -> Option<usize>
+    ensures { result ≡ asked_of idle set }
+{
+    let free = set & idle;
+    if free == 0 { None } else { Some(least(free)) }
+}
+
+// The port and the virtual channel of a channel.
+fn place_of(vcs: usize, out: Option<usize>) -> Option<(usize, usize)>
+    requires { 0 < vcs }
+    ensures { result ≡ option_map (λ o. (o / vcs, o % vcs)) out }
+{
+    out.map(|o| (o / vcs, o % vcs))
+}
+
+// The routers in which one channel has each verdict.
+fn words_at(block: &Block, work: &Work, index: usize) -> Nine<u64>
+    requires { index < WORDS }
+    ensures { numbers_of result ≡ verdicts_of (told_by (word index) block.now work.now) }
+{
+    let verdicts = work.verdicts.at(index);
+    let heads = work.standing.heads[index];
+    let lost = work.lost[index];
+    Nine {
+        routed: heads,
+        granted: block.grants.granted[index],
+        moved: verdicts.moved,
+        no_flit: without_flit(&verdicts),
+        no_idle_channel: without_idle(block.inputs.waiting[index], heads, lost),
+        lost_channel: lost,
+        no_credit: verdicts.no_credit,
+        lost_input: verdicts.lost_input,
+        lost_switch: verdicts.lost_switch,
+    }
+}
+
+// The verdict of that channel in a router.
+fn verdict_at(words: &Nine<u64>, router: usize) -> Verdict
+    requires { router < ROUTERS }
+    ensures { result ≡ verdict_by (verdict_sets (numbers_of words.now)) router }
+{
+    if has(words.moved, router) {
+        Verdict::Moved
+    } else if has(words.granted, router) {
+        Verdict::Granted
+    } else if has(words.routed, router) {
+        Verdict::Routed
+    } else if has(words.no_flit, router) {
+        Verdict::NoFlit
+    } else if has(words.no_idle_channel, router) {
+        Verdict::NoIdleChannel
+    } else if has(words.lost_channel, router) {
+        Verdict::LostChannel
+    } else if has(words.no_credit, router) {
+        Verdict::NoCredit
+    } else if has(words.lost_input, router) {
+        Verdict::LostInput
+    } else if has(words.lost_switch, router) {
+        Verdict::LostSwitch
+    } else {
+        Verdict::Empty
+    }
+}
