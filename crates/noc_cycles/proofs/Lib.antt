@@ -12,3 +12,4 @@ pub mod EmptyLemmas
 pub mod NoteLemmas
 pub mod TellLemmas
 pub mod TurningLemmas
+pub mod HearLemmas

@@ -66,7 +66,7 @@ fn begin_in(
 
 // .. in one channel of one router.
 #[inline(always)]
-fn put_number(packets: &mut [u32; CHANNELS], channel: usize, number: u32)
+pub(crate) fn put_number(packets: &mut [u32; CHANNELS], channel: usize, number: u32)
     requires { channel < CHANNELS }
     ensures { (k : ℕ) → slice_index packets.new k
         ≡ (if nat_eq k channel then number else slice_index packets.old k) }
