@@ -13,3 +13,12 @@ pub mod NoteLemmas
 pub mod TellLemmas
 pub mod TurningLemmas
 pub mod HearLemmas
+pub mod PartLemmas
+pub mod PlaneLemmas
+pub mod CreditLemmas
+pub mod ShiftLemmas
+pub mod SendLemmas
+pub mod LocalLemmas
+pub mod FreshLemmas
+pub mod InjectLemmas
+pub mod UpLemmas

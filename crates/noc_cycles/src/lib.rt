@@ -19,6 +19,7 @@ mod notes;
 mod nothing;
 mod opening;
 mod pattern;
+mod take;
 mod tells;
 mod turning;
 
@@ -35,5 +36,6 @@ pub use laws::routers_that_hold_nothing_are_empty;
 pub use notes::Note;
 pub use opening::{empty_works, open_blocks};
 pub use pattern::{Pattern, SHALLOW};
+pub use take::{count_credits, inject_flits};
 pub use tells::tell;
 pub use turning::routers_take_part;

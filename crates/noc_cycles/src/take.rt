@@ -1,0 +1,135 @@
+//! What comes to the routers of a block is taken: credits, what their sources inject, and flits.
+
+ghost use Rattle.std.specs.Prelude.{◌≡◌, ◌≢◌, ◌+◌, ◌*◌, ◌<◌, ◌≤◌, ◌^◌, ◌&&◌, ◌||◌, ℕ, true, false, length, nat_eq, slice_index, bit_or, if◌then◌else◌};
+ghost use Rattle.noc_packet.specs.Set.{has_bit};
+ghost use Rattle.noc_sets.specs.Layout.{Layout};
+ghost use Rattle.noc_sets.specs.Source.{start_in};
+ghost use Rattle.noc_columns.specs.Marks.{ChangesIdle};
+ghost use Rattle.noc_columns.specs.Picks.{channels_of, links_of};
+ghost use Rattle.noc_columns.specs.Sources.{AreDue, begun_if, left_in, sent_if, source_in, starts_by};
+ghost use Rattle.noc_columns.specs.Words.{set_of};
+ghost use Rattle.noc_columns.specs.declared.words.TheConstants.{ROUTERS};
+ghost use Rattle.noc_cycles.specs.Held.{held_at, links_at};
+ghost use Rattle.noc_cycles.specs.Taking.{FitsLayout, HasCredits, HasInjected, IsPunctual, MaySend};
+
+use crate::begins::{begin_packets, some_in};
+use crate::block::{Block, Work};
+use crate::pattern::Pattern;
+use noc_columns::{
+    Links, Marks, Sources, Start, Words, add_links, bring, inject, look_up, take_credits,
+};
+
+/// The credits that come are counted. Channels that drain and have all their credits again are
+/// idle, and it is looked up which input channels are supplied.
+pub fn count_credits(pattern: &Pattern, block: &mut Block, work: &mut Work)
+    ensures credits { (layout : Layout) (r : ℕ) → FitsLayout pattern.now layout → r < ROUTERS
+        → HasCredits pattern.now layout
+        (links_at pattern.now.table.ports work.old.came r).credits
+        (held_at pattern.now.table.ports block.old r)
+        (held_at pattern.now.table.ports block.new r)
+        (set_of (channels_of pattern.now.table.ports) r work.new.standing.supplied) }
+    ensures block { block.new
+        ≡ record block.old { outputs = block.new.outputs; marks = block.new.marks } }
+    ensures work { work.new ≡ record work.old {
+      returned = work.new.returned;
+      standing = record work.old.standing { supplied = work.new.standing.supplied };
+    } }
+{
+    let home = take_credits(
+        &pattern.frame,
+        &work.came.credits,
+        &mut block.outputs,
+        &mut work.returned,
+    );
+    free_links(pattern, home, &work.returned.home, &mut block.marks);
+    look_up(
+        &pattern.frame,
+        &pattern.table.ports.links,
+        &block.grants.sends,
+        &work.returned.some,
+        &mut work.standing.supplied,
+    );
+}
+
+// Link channels are idle again, if there are some in these routers.
+#[inline(always)]
+fn free_links(pattern: &Pattern, routers: u64, home: &Words, marks: &mut Marks)
+    requires { routers ≡ 0 → (r : ℕ) → r < ROUTERS
+        → set_of (links_of pattern.now.table.ports.links) r home.now ≡ 0 }
+    ensures idle { (r : ℕ) → r < ROUTERS → slice_index marks.new.idle r
+        ≡ bit_or (slice_index marks.old.idle r)
+        (set_of (links_of pattern.now.table.ports.links) r home.now) }
+    ensures kept { ChangesIdle marks.old marks.new }
+{
+    if routers != 0 {
+        add_links(&pattern.table.ports.links, home, marks);
+    }
+}
+
+/// The sources of a block inject. What they inject comes to its local channels.
+pub fn inject_flits(
+    pattern: &Pattern,
+    starts: &[Start],
+    cycle: u32,
+    block: &mut Block,
+    came: &mut Links<Words>,
+)
+    requires { MaySend pattern.now.table.ports (starts_by starts.now) cycle block.old }
+    ensures injected { (layout : Layout) (r : ℕ) → FitsLayout pattern.now layout → r < ROUTERS
+        → HasInjected pattern.now layout (starts_by starts.now) cycle
+        (links_at pattern.now.table.ports came.old r) (held_at pattern.now.table.ports block.old r)
+        (held_at pattern.now.table.ports block.new r)
+        (set_of (channels_of pattern.now.table.ports) r came.new.flits)
+        (set_of (channels_of pattern.now.table.ports) r came.new.tails) }
+    ensures punctual { IsPunctual cycle pattern.now.table.ports block.new }
+    ensures block { block.new ≡ record block.old {
+      injection = block.new.injection;
+      packets = block.new.packets;
+      sources = block.new.sources;
+    } }
+    ensures credits { came.new.credits ≡ came.old.credits }
+{
+    let local = &pattern.table.ports.local;
+    block.sources.due.pass(cycle);
+    let begins = inject(
+        &pattern.frame,
+        local,
+        block.sources.due.ready,
+        &block.inputs,
+        &mut block.injection,
+    );
+    begin_packets(
+        local,
+        pattern.table.ports.links.width * pattern.table.ports.links.vcs,
+        starts,
+        &block.sources.queue,
+        &block.injection.begun,
+        &mut block.packets,
+    );
+    let went = some_in(&block.injection.went, local.first, local.vcs);
+    let last = send_all(starts, cycle, went, begins, &mut block.sources);
+    bring(local, last, &mut block.injection, came);
+}
+
+// In some routers a flit of a packet that has begun is injected, and in others the next packet
+// begins. The answer is the routers in which the last flit of a packet is injected.
+fn send_all(starts: &[Start], cycle: u32, went: u64, begins: u64, sources: &mut Sources) -> u64
+    requires few { length starts.now < 2 ^ 32 }
+    requires left { (r : ℕ) → has_bit went r ≡ true → 0 < left_in sources.old.left r }
+    requires queue { (r : ℕ) → r < ROUTERS → (has_bit went r || has_bit begins r) ≡ true
+        → slice_index sources.old.queue r + 1 < length starts.now }
+    requires apart { (r : ℕ) → has_bit begins r ≡ true → has_bit went r ≡ false }
+    ensures sources { (r : ℕ) → r < ROUTERS → source_in sources.new r
+        ≡ begun_if (starts_by starts.now) (has_bit begins r)
+        (sent_if (starts_by starts.now) (has_bit went r) (source_in sources.old r)) }
+    ensures last { (r : ℕ) → r < ROUTERS → has_bit result r
+        ≡ ((has_bit went r && nat_eq (left_in sources.old.left r) 1) || (has_bit begins r
+        && nat_eq (start_in (starts_by starts.now) (slice_index sources.old.queue r)).length 1)) }
+    ensures due { ((r : ℕ) → r < ROUTERS → (has_bit went r || has_bit begins r) ≡ true
+        → slice_index sources.old.due.at r ≤ cycle) → AreDue cycle sources.old.due
+        → AreDue cycle sources.new.due }
+{
+    let ended = sources.send(starts, cycle, went);
+    let at_once = sources.begin(starts, cycle, begins);
+    ended | at_once
+}
