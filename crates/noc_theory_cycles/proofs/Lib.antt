@@ -9,3 +9,5 @@ pub mod LayoutLemmas
 pub mod GrantedLemmas
 pub mod NodeLemmas
 pub mod OpeningLemmas
+pub mod TellLemmas
+pub mod StepLemmas

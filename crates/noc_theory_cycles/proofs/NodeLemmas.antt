@@ -126,7 +126,7 @@ module _ (count : ℕ) (net : Setup) (layout : Layout) (pattern : Pattern) (n no
         source : next.source ≡ b.source
         source = turned.source ∙ ap (λ (x : Turn). x.source) slept.is
 
-    node-blank : nodes net.relation.grid ≤ node → (next : Router) → HasTurned t next → next.links.flits ≡ 0 → next.links.credits ≡ 0 → IsBlank (channels_count pattern) next
+    pub node-blank : nodes net.relation.grid ≤ node → (next : Router) → HasTurned t next → next.links.flits ≡ 0 → next.links.credits ≡ 0 → IsBlank (channels_count pattern) next
     node-blank u next turned flits credits = elim (node-turn count net layout pattern n node b t fits turn) [
       | inl works ↦ stays-blank count net layout fits.layout_is (all_starts net) _ n b t soon (channels_count pattern) (is.blank u) works next turned flits credits
       | inr slept ↦ slept-blank slept (is.blank u) next turned flits credits

@@ -3,3 +3,4 @@ pub mod Blank
 pub mod Granted
 pub mod Nodes
 pub mod Firsts
+pub mod Steps

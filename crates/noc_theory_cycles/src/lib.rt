@@ -3,8 +3,8 @@
 //! `noc_cycles` has the parts of a cycle of a block, and what each asks for of its routers, and
 //! `noc_theory_bits` what the words of all routers show of a network. `specs/` has what it means
 //! that a block fits a network (`Fits`), what routers hold that the network does not have
-//! (`Blank`), what a router of a block shows (`Nodes`), and which channels are granted (`Granted`).
-//! The laws are the contracts of the functions here.
+//! (`Blank`), what a router of a block shows (`Nodes`), which channels are granted (`Granted`), where
+//! packets begin (`Firsts`), and what all routers show, cycle by cycle (`Steps`). The laws are the contracts of the functions here.
 #![tactic(auto)]
 
 mod blank;
@@ -14,6 +14,7 @@ mod layouts;
 mod nodes;
 mod opening;
 mod routers;
+mod steps;
 
 pub use blank::{
     blank_routers_have_what_is_asked_for, blank_routers_hold_nothing, blank_routers_stay_blank,
@@ -28,3 +29,7 @@ pub use nodes::{
 };
 pub use opening::opened_blocks_show_the_network;
 pub use routers::routers_have_what_is_asked_for;
+pub use steps::{
+    a_cycle_of_all_keeps_what_they_show, nodes_tell_what_they_grant,
+    turns_are_shown_by_what_is_held,
+};

@@ -1,0 +1,102 @@
+-- A cycle of the routers of all blocks is one of the network.
+use Rattle.std.proofs.Common.{◌≡◌, ◌≢◌, ℕ, suc, ◌*◌, ◌<◌, ◌≤◌, false, ap, arith, inl, inr, refl, ◌∙◌}
+use Rattle.std.proofs.lemmas.Bool.{cases_lt, false≢true}
+use Rattle.noc_topo.specs.Shape.{nodes, ports}
+use Rattle.noc_sets.specs.Cycle.{Links as Left, Turn}
+use Rattle.noc_sets.specs.Layout.{Layout}
+use Rattle.noc_theory.specs.Good.{IsGoodSetup}
+use Rattle.noc_theory.specs.Network.{Setup, size}
+use Rattle.noc_theory.specs.declared.limits.TheConstants.{CYCLE_LIMIT}
+use Rattle.noc_theory_bits.specs.Network.{AreArrivals, HasRun, HasTurned, IsLastAfter, Words, numbers_in}
+use Rattle.noc_theory_bits.proofs.bits.NetworkLemmas.{network-next}
+use Rattle.noc_columns.specs.declared.channels.Links.{Links}
+use Rattle.noc_cycles.specs.Held.{Held, ShowsHeld}
+use Rattle.noc_cycles.specs.Turning.{ShowsTurn}
+use Rattle.noc_cycles.specs.declared.pattern.Pattern.{Pattern}
+use Rattle.noc_theory_cycles.specs.Blank.{DoesNothing}
+use Rattle.noc_theory_cycles.specs.Fits.{FitsNetwork}
+use Rattle.noc_theory_cycles.specs.Nodes.{ShowsNode}
+use Rattle.noc_theory_cycles.specs.Steps.{HasStepped, ShowsAll, router_after}
+use Rattle.noc_theory_cycles.proofs.NodeLemmas.{node-blank, node-nothing, node-turn}
+use Rattle.noc_theory_cycles.proofs.NoneLemmas.{no-member}
+
+-- ---- of one router
+pub all-nodes : (count : ℕ) (net : Setup) (pattern : Pattern) (n many s : ℕ) (links : ℕ → Links ℕ) (held : ℕ → Held) (w : Words) → ShowsAll count net pattern n many links held w → s < many
+    → ShowsNode count net pattern n s (links s) (held s) (w.routers s)
+all-nodes count net pattern n many s links held w is l = record {
+  held = is.held_are s l;
+  shows = is.network.routers s;
+  blank = is.blank s l;
+}
+
+-- after a turn
+pub turn-shown : (pattern : Pattern) (k : Held) (t : Turn) (packet : ℕ → ℕ) (links : Links ℕ) → ShowsTurn pattern k t → ShowsHeld pattern (record k { packet = packet }) links (router_after t packet links)
+turn-shown pattern k t packet links shows = record {
+  column = shows.column;
+  marks = record {
+    set = shows.marks.set;
+    turn = shows.marks.turn;
+    packet = refl;
+    owned = record {
+      sends = record { port = shows.marks.owned.sends.port; vc = shows.marks.owned.sends.vc; taken = shows.marks.owned.sends.taken; to_port = shows.marks.owned.sends.to_port };
+      only = shows.marks.owned.only;
+      owner = shows.marks.owned.owner;
+    };
+    outputs = shows.marks.outputs;
+  };
+  waiting = shows.waiting;
+  ended = shows.ended;
+  links_are = refl;
+  source = shows.source;
+}
+
+pub turn-after : (t : Turn) (packet : ℕ → ℕ) (links : Links ℕ) → HasTurned t (router_after t packet links)
+turn-after t packet links = record { column = refl; marks = refl; ended = refl; source = refl; counts = refl }
+
+-- ---- of all
+module _ (count : ℕ) (net : Setup) (layout : Layout) (pattern : Pattern) (n many : ℕ) (links coming : ℕ → Links ℕ) (held after : ℕ → Held) (t : ℕ → Turn) (was next : Words)
+    (setup : IsGoodSetup net) (few : n < CYCLE_LIMIT) (fits : FitsNetwork count net layout pattern) (is : ShowsAll count net pattern n many links held was) (steps : HasStepped net pattern layout n many t coming after was next) where
+  within : (s : ℕ) → s < nodes net.relation.grid → s < many
+  within s l = let most = is.enough in omega (arith, most, l)
+
+  does-nothing : (s : ℕ) → s < many → nodes net.relation.grid ≤ s → DoesNothing (ports net.relation.grid * net.relation.vcs) (t s)
+  does-nothing s l u = node-nothing count net layout pattern n s (links s) (held s) (was.routers s) setup few fits (all-nodes count net pattern n many s links held was is l) (t s) (steps.turns s l) u
+
+  last-is : IsLastAfter (λ r. r < nodes net.relation.grid) n t was.last next.last
+  last-is = record {
+    some = λ r l. steps.last.some r (within r l);
+    none = λ quiet. steps.last.none (λ r l. elim (cases_lt r (nodes net.relation.grid)) as (λ x. (t r).happened ≡ false) [
+      | inl small ↦ quiet r small
+      | inr large ↦ (does-nothing r l large).happened
+    ]);
+  }
+
+  arrivals-are : AreArrivals (λ r. r < nodes net.relation.grid) (size net) n t (λ s. numbers_in net layout n (was.routers s)) was.arrivals next.arrivals
+  arrivals-are = record {
+    some = λ r i l. steps.arrivals.some r i (within r l);
+    others = λ p other. steps.arrivals.others p (λ r i l u e. elim (cases_lt r (nodes net.relation.grid)) as (λ x. numbers_in net layout n (was.routers r) i ≢ p) [
+      | inl small ↦ other r i small u e
+      | inr large ↦ absurd (false≢true (no-member (t r).arrived i (does-nothing r l large).arrived e))
+    ]);
+  }
+
+  pub has-run : HasRun net layout n was t next
+  has-run = record {
+    turns = λ r l. node-turn count net layout pattern n r (was.routers r) (t r) fits (steps.turns r (within r l));
+    gathered_are = steps.gathered_are;
+    are = λ r l. steps.are r (within r l);
+    last = last-is;
+    arrivals = arrivals-are;
+  }
+
+  pub all-next : ShowsAll count net pattern (suc n) many coming after next
+  all-next = record {
+    enough = is.enough;
+    network = network-next net setup layout fits.layout_is n was t next few is.network has-run;
+    held_are = steps.held_are;
+    blank = λ s l u.
+        node-blank count net layout pattern n s (links s) (held s) (was.routers s) setup few fits (all-nodes count net pattern n many s links held was is l) (t s) (steps.turns s l) u
+        (next.routers s) (steps.are s l)
+        (ap (λ (x : Left). x.flits) (steps.held_are s l).links_are ∙ steps.no_flits s l u)
+        (ap (λ (x : Left). x.credits) (steps.held_are s l).links_are ∙ steps.no_credits s l u);
+  }

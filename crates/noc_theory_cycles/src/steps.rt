@@ -1,0 +1,64 @@
+//! Cycles of the routers of all blocks of a network.
+
+ghost use Rattle.std.specs.Prelude.{◌≡◌, ℕ, suc, ◌<◌, Bool};
+ghost use Rattle.noc_sets.specs.Cycle.{Router, Turn, granted_in, still_of};
+ghost use Rattle.noc_sets.specs.Layout.{Layout};
+ghost use Rattle.noc_theory.specs.Good.{IsGoodSetup};
+ghost use Rattle.noc_theory.specs.Network.{Setup};
+ghost use Rattle.noc_theory.specs.declared.limits.TheConstants.{CYCLE_LIMIT};
+ghost use Rattle.noc_theory_bits.specs.Network.{HasTurned, Words, all_starts, tells_in};
+ghost use Rattle.noc_columns.specs.declared.channels.Decided.{Decided};
+ghost use Rattle.noc_columns.specs.declared.channels.Links.{Links};
+ghost use Rattle.noc_columns.specs.declared.channels.Standing.{Standing};
+ghost use Rattle.noc_cycles.specs.Deciding.{HasDecidedHeld, undecided};
+ghost use Rattle.noc_cycles.specs.Held.{Held, ShowsHeld};
+ghost use Rattle.noc_cycles.specs.Taking.{HasTaken};
+ghost use Rattle.noc_cycles.specs.Told.{Tells};
+ghost use Rattle.noc_cycles.specs.Turning.{ShowsTurn};
+ghost use Rattle.noc_cycles.specs.declared.pattern.Pattern.{Pattern};
+ghost use Rattle.noc_theory_cycles.specs.Fits.{FitsNetwork};
+ghost use Rattle.noc_theory_cycles.specs.Nodes.{ShowsNode};
+ghost use Rattle.noc_theory_cycles.specs.Steps.{HasStepped, ShowsAll, router_after};
+
+/// What a router tells over its links in a cycle are the numbers of the packets that it has granted
+/// output channels.
+pub fn nodes_tell_what_they_grant()
+    ensures { (count : ℕ) (net : Setup) (layout : Layout) (pattern : Pattern) (n node : ℕ)
+        (links : Links ℕ) (h a d : Held) (b : Router) (standing : Standing ℕ) (no_credit : ℕ)
+        (comes : Bool) (sets : ℕ → ℕ → ℕ) (decided : Decided ℕ) (granted lost : ℕ)
+        (left : Links ℕ) (t : Turn)
+        (taken : HasTaken pattern layout (all_starts net) n b a standing no_credit comes)
+        (decides : HasDecidedHeld pattern layout sets (still_of layout (all_starts net) n taken.up b)
+        a d standing decided granted lost left)
+        → IsGoodSetup net → n < CYCLE_LIMIT → FitsNetwork count net layout pattern
+        → ShowsNode count net pattern n node links h b
+        → t.grants ≡ granted_in (undecided (still_of layout (all_starts net) n taken.up b))
+        decides.chosen
+        → Tells net.relation.grid pattern.table.ports.links.vcs node granted d.out_port d.out_vc
+        d.packet (tells_in net layout n b t) }
+{}
+
+/// What it holds after its turn shows its next words, whatever packets it is told of and its links
+/// bring.
+pub fn turns_are_shown_by_what_is_held()
+    ensures shown { (pattern : Pattern) (k : Held) (t : Turn) (packet : ℕ → ℕ) (links : Links ℕ)
+        → ShowsTurn pattern k t
+        → ShowsHeld pattern (record k { packet = packet }) links (router_after t packet links) }
+    ensures turned { (t : Turn) (packet : ℕ → ℕ) (links : Links ℕ)
+        → HasTurned t (router_after t packet links) }
+{}
+
+/// All routers that show a network show each a node of it, and after a cycle of all they show the
+/// next count.
+pub fn a_cycle_of_all_keeps_what_they_show()
+    ensures nodes { (count : ℕ) (net : Setup) (pattern : Pattern) (n many s : ℕ)
+        (links : ℕ → Links ℕ) (held : ℕ → Held) (w : Words)
+        → ShowsAll count net pattern n many links held w → s < many
+        → ShowsNode count net pattern n s (links s) (held s) (w.routers s) }
+    ensures next { (count : ℕ) (net : Setup) (layout : Layout) (pattern : Pattern) (n many : ℕ)
+        (links coming : ℕ → Links ℕ) (held after : ℕ → Held) (t : ℕ → Turn) (was next : Words)
+        → IsGoodSetup net → n < CYCLE_LIMIT → FitsNetwork count net layout pattern
+        → ShowsAll count net pattern n many links held was
+        → HasStepped net pattern layout n many t coming after was next
+        → ShowsAll count net pattern (suc n) many coming after next }
+{}
