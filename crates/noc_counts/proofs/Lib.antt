@@ -3,5 +3,5 @@ pub mod ToldLemmas
 pub mod NineLemmas
 pub mod VerdictLemmas
 pub mod FoundLemmas
-pub mod DecidedLemmas
 pub mod FindingLemmas
+pub mod DecidedLemmas

@@ -1,18 +1,36 @@
--- The verdicts of what is told of a router are those of its words.
+-- The verdicts of a router after a cycle, by its words before the cycle takes effect.
 use Rattle.std.proofs.Common.{◌≡◌, ℕ, Bool, true, false, refl, ap, ap₂, sym, ◌∙◌, bit_and, bit_or}
 use Rattle.std.specs.Prelude.{◌&&◌, ◌||◌, not}
 use Rattle.std.proofs.lemmas.Bool.{false≢true, true≢false}
 use Rattle.noc_packet.specs.Set.{has_bit}
 use Rattle.noc_packet.proofs.SetLemmas.{both_members, either_members}
 use Rattle.noc_sets.specs.Column.{Column}
-use Rattle.noc_sets.specs.Counts.{lane_verdicts}
-use Rattle.noc_sets.specs.Passes.{lane_no_flit, lane_no_idle_channel, lane_ready}
+use Rattle.noc_sets.specs.Counts.{ByVerdict}
+use Rattle.noc_sets.specs.Passes.{lane_heads, lane_no_credit, lane_ready}
 use Rattle.noc_sets.specs.Sets.{less}
-use Rattle.noc_sets.proofs.MemberLemmas.{less_members, same-word}
-use Rattle.noc_counts.specs.Told.{IsTold, Told, no_flit_of, no_idle_of, verdicts_of}
-use Rattle.noc_counts.proofs.NineLemmas.{nine-same}
+use Rattle.noc_sets.proofs.MemberLemmas.{less_members}
+use Rattle.noc_columns.specs.declared.channels.Standing.{Standing}
+use Rattle.noc_columns.specs.declared.channels.Verdicts.{Verdicts}
+use Rattle.noc_cycles.specs.Turning.{verdict_sets_by}
 
-no : {x : Type 0} → false ≡ true → x
+-- each member of the part is one of the whole
+abbrev pub AreAmong : ℕ → ℕ → Type 0
+AreAmong whole part = (i : ℕ) → has_bit part i ≡ true → has_bit whole i ≡ true
+
+-- this is told of a router with these words before the cycle takes effect, where these channels are filled, and these are picked
+pub record IsTold (filled picked : ℕ) (c : Column) (heads : ℕ) (w : Verdicts ℕ) (waiting granted lost : ℕ) : Type 0 where
+  pub heads_are : heads ≡ lane_heads filled c
+  pub granted_are : AreAmong c.waiting granted
+  pub lost_are : AreAmong c.waiting lost
+  pub waiting_are : waiting ≡ bit_or (less c.waiting granted) heads
+  pub active : w.active ≡ c.active
+  pub no_credit : w.no_credit ≡ lane_no_credit filled c
+  pub lost_input : w.lost_input ≡ less (lane_ready filled c) picked
+  pub lost_switch : w.lost_switch ≡ less picked w.moved
+  pub picked_are : AreAmong (lane_ready filled c) picked
+  pub moved_are : AreAmong picked w.moved
+
+pub no : {x : Type 0} → false ≡ true → x
 no e = absurd (false≢true e)
 
 -- who waits is no head: whether a channel finds no idle one, where it waits, is granted one, has lost one or is a head
@@ -46,60 +64,58 @@ flit-bits : (a f : Bool) → (a && not (a && f)) ≡ (a && not f)
 flit-bits true f = refl
 flit-bits false f = refl
 
-module _ (filled picked : ℕ) (c : Column) (t : Told) (told : IsTold filled picked c t) where
-  pub head-is : (k : ℕ) → has_bit t.heads k ≡ (has_bit filled k && not (has_bit c.waiting k || has_bit c.active k))
-  head-is k =
-      ap (λ n. has_bit n k) told.heads ∙ less_members filled (bit_or c.waiting c.active) k
-      ∙ ap (λ b. has_bit filled k && not b) (either_members c.waiting c.active k)
+first : (a b : Bool) → (a && b) ≡ true → a ≡ true
+first true b e = refl
+first false b e = e
 
-  pub head-apart : (k : ℕ) → (has_bit c.waiting k && has_bit t.heads k) ≡ false
-  head-apart k = ap (λ b. has_bit c.waiting k && b) (head-is k) ∙ head-waits (has_bit c.waiting k) (has_bit c.active k) (has_bit filled k)
-
-  pub waits-then : (k : ℕ) → has_bit t.waiting k ≡ ((has_bit c.waiting k && not (has_bit t.granted k)) || has_bit t.heads k)
-  waits-then k =
-      ap (λ n. has_bit n k) told.waiting ∙ either_members (less c.waiting t.granted) t.heads k
-      ∙ ap (λ b. b || has_bit t.heads k) (less_members c.waiting t.granted k)
-
-  idle-is : no_idle_of t.waiting t.heads t.lost ≡ lane_no_idle_channel t.granted t.lost c
-  idle-is = same-word _ _ (λ k.
-      less_members t.waiting (bit_or t.heads t.lost) k
-      ∙ ap₂ (λ a b. a && not b) (waits-then k) (either_members t.heads t.lost k)
-      ∙ idle-bits (has_bit c.waiting k) (has_bit t.granted k) (has_bit t.lost k) (has_bit t.heads k) (head-apart k)
-      ∙ ap (λ b. has_bit c.waiting k && not b) (sym (either_members t.granted t.lost k))
-      ∙ sym (less_members c.waiting (bit_or t.granted t.lost) k))
-
-  -- active with a flit
-  abbrev sending : ℕ
-  sending = bit_and c.active filled
+-- ---- whether channel k has each verdict
+module _ (filled picked : ℕ) (c : Column) (standing : Standing ℕ) (v : Verdicts ℕ) (waiting granted lost : ℕ) (told : IsTold filled picked c standing.heads v waiting granted lost) (k : ℕ) where
+  abbrev sets : ByVerdict
+  sets = verdict_sets_by standing v waiting granted lost
 
   abbrev ready : ℕ
   ready = lane_ready filled c
 
-  four-are : (k : ℕ) → has_bit (bit_or (bit_or t.verdicts.no_credit t.verdicts.lost_input) (bit_or t.verdicts.lost_switch t.verdicts.moved)) k ≡ (has_bit c.active k && has_bit filled k)
-  four-are k =
-      either_members (bit_or t.verdicts.no_credit t.verdicts.lost_input) (bit_or t.verdicts.lost_switch t.verdicts.moved) k
-      ∙ ap₂ (λ a b. a || b) (either_members t.verdicts.no_credit t.verdicts.lost_input k) (either_members t.verdicts.lost_switch t.verdicts.moved k)
-      ∙ ap₂ (λ a b. a || b)
-      (ap₂ (λ a b. a || b)
-      (ap (λ n. has_bit n k) told.no_credit ∙ less_members sending ready k)
-      (ap (λ n. has_bit n k) told.lost_input ∙ less_members ready picked k))
-      (ap (λ b. b || has_bit t.verdicts.moved k) (ap (λ n. has_bit n k) told.lost_switch ∙ less_members picked t.verdicts.moved k))
-      ∙ four-bits (has_bit sending k) (has_bit ready k) (has_bit picked k) (has_bit t.verdicts.moved k) ready-sends (told.picked_are k) (told.moved_are k)
-      ∙ both_members c.active filled k
-    where
-      ready-sends : has_bit ready k ≡ true → has_bit sending k ≡ true
-      ready-sends e = first (has_bit sending k) (has_bit c.supplied k) (sym (both_members sending c.supplied k) ∙ e)
-        where
-          first : (a b : Bool) → (a && b) ≡ true → a ≡ true
-          first true b e = refl
-          first false b e = e
+  pub head-is : has_bit sets.routed k ≡ (has_bit filled k && not (has_bit c.waiting k || has_bit c.active k))
+  head-is =
+      ap (λ n. has_bit n k) told.heads_are ∙ less_members filled (bit_or c.waiting c.active) k
+      ∙ ap (λ b. has_bit filled k && not b) (either_members c.waiting c.active k)
 
-  flit-is : no_flit_of t.verdicts ≡ lane_no_flit filled c
-  flit-is = same-word _ _ (λ k.
-      less_members t.verdicts.active (bit_or (bit_or t.verdicts.no_credit t.verdicts.lost_input) (bit_or t.verdicts.lost_switch t.verdicts.moved)) k
-      ∙ ap₂ (λ a b. a && not b) (ap (λ n. has_bit n k) told.active) (four-are k)
+  head-apart : (has_bit c.waiting k && has_bit sets.routed k) ≡ false
+  head-apart = ap (λ b. has_bit c.waiting k && b) head-is ∙ head-waits (has_bit c.waiting k) (has_bit c.active k) (has_bit filled k)
+
+  waits-then : has_bit waiting k ≡ ((has_bit c.waiting k && not (has_bit granted k)) || has_bit sets.routed k)
+  waits-then =
+      ap (λ n. has_bit n k) told.waiting_are ∙ either_members (less c.waiting granted) sets.routed k
+      ∙ ap (λ b. b || has_bit sets.routed k) (less_members c.waiting granted k)
+
+  pub idle-is : has_bit sets.no_idle_channel k ≡ (has_bit c.waiting k && not (has_bit granted k || has_bit lost k))
+  idle-is =
+      less_members waiting (bit_or sets.routed lost) k
+      ∙ ap₂ (λ a b. a && not b) waits-then (either_members sets.routed lost k)
+      ∙ idle-bits (has_bit c.waiting k) (has_bit granted k) (has_bit lost k) (has_bit sets.routed k) head-apart
+
+  sending-is : has_bit (bit_and c.active filled) k ≡ (has_bit c.active k && has_bit filled k)
+  sending-is = both_members c.active filled k
+
+  pub ready-sends : has_bit ready k ≡ true → (has_bit c.active k && has_bit filled k) ≡ true
+  ready-sends e = sym sending-is ∙ first (has_bit (bit_and c.active filled) k) (has_bit c.supplied k) (sym (both_members (bit_and c.active filled) c.supplied k) ∙ e)
+
+  pub credit-is : has_bit sets.no_credit k ≡ ((has_bit c.active k && has_bit filled k) && not (has_bit ready k))
+  credit-is = ap (λ n. has_bit n k) told.no_credit ∙ less_members (bit_and c.active filled) ready k ∙ ap (λ b. b && not (has_bit ready k)) sending-is
+
+  pub input-is : has_bit sets.lost_input k ≡ (has_bit ready k && not (has_bit picked k))
+  input-is = ap (λ n. has_bit n k) told.lost_input ∙ less_members ready picked k
+
+  pub switch-is : has_bit sets.lost_switch k ≡ (has_bit picked k && not (has_bit sets.moved k))
+  switch-is = ap (λ n. has_bit n k) told.lost_switch ∙ less_members picked sets.moved k
+
+  pub flit-is : has_bit sets.no_flit k ≡ (has_bit c.active k && not (has_bit filled k))
+  flit-is =
+      less_members v.active (bit_or (bit_or v.no_credit v.lost_input) (bit_or v.lost_switch v.moved)) k
+      ∙ ap₂ (λ a b. a && not b) (ap (λ n. has_bit n k) told.active)
+      (either_members (bit_or v.no_credit v.lost_input) (bit_or v.lost_switch v.moved) k
+      ∙ ap₂ (λ a b. a || b) (either_members v.no_credit v.lost_input k) (either_members v.lost_switch v.moved k)
+      ∙ ap₂ (λ a b. a || b) (ap₂ (λ a b. a || b) credit-is input-is) (ap (λ b. b || has_bit v.moved k) switch-is)
+      ∙ four-bits (has_bit c.active k && has_bit filled k) (has_bit ready k) (has_bit picked k) (has_bit v.moved k) ready-sends (told.picked_are k) (told.moved_are k))
       ∙ flit-bits (has_bit c.active k) (has_bit filled k)
-      ∙ sym (less_members c.active filled k))
-
-  pub verdicts-are : verdicts_of t ≡ lane_verdicts filled picked t.heads t.granted t.lost t.verdicts.moved c
-  verdicts-are = nine-same refl refl refl flit-is idle-is refl told.no_credit told.lost_input told.lost_switch

@@ -1,51 +1,40 @@
--- What is found of the input channels of a router in a cycle, by the words of its block after it.
-use Rattle.std.specs.Prelude.{◌≡◌, ℕ, ◌+◌, ◌*◌, ◌/◌, ◌%◌, ◌^◌, ◌<◌, true, Option, Some, None, option_map, bit_or, if◌then◌else◌}
-use Rattle.noc_packet.specs.Set.{has_bit}
+-- What is found of an input channel in a cycle: its packet and its output channel follow from its
+-- verdict.
+use Rattle.std.specs.Prelude.{ℕ, ◌/◌, ◌%◌, Option, Some, None, option_map}
 use Rattle.noc_view.specs.VerdictSets.{verdict_by}
 use Rattle.noc_view.specs.declared.finding.Finding.{Finding}
-use Rattle.noc_sets.specs.Column.{Column, RouterMarks}
-use Rattle.noc_sets.specs.Counts.{verdict_sets}
+use Rattle.noc_view.specs.declared.verdict.Verdict.{Verdict}
+use Rattle.noc_view.specs.declared.verdict.Verdict.TheVariants.{Empty, Routed, Granted, Moved, NoFlit, NoIdleChannel, LostChannel, NoCredit, LostInput, LostSwitch}
+use Rattle.noc_sets.specs.Counts.{ByVerdict, verdict_sets}
 use Rattle.noc_sets.specs.Grants.{asked_of}
-use Rattle.noc_sets.specs.Sets.{less}
 use Rattle.noc_cycles.specs.Held.{Held}
-use Rattle.noc_counts.specs.Told.{Told, verdicts_of}
 
--- those that waited before it took effect
-abbrev pub waited_of : Told → ℕ
-waited_of t = less (bit_or t.waiting t.granted) t.heads
+-- the packet that holds the channel, if it is not empty
+abbrev pub packet_by : Verdict → ℕ → Option ℕ
+packet_by Empty packet = None
+packet_by verdict packet = Some packet
 
--- .. and those that waited then, owned an output channel or had a flit
-abbrev pub holding_of : Told → ℕ
-holding_of t = bit_or (bit_or t.waiting t.granted) t.verdicts.active
+-- the output channel: what a channel that waits asks for, and what an active one owns
+abbrev pub out_by : Verdict → Option (ℕ × ℕ) → ℕ × ℕ → Option (ℕ × ℕ)
+out_by Empty asked owned = None
+out_by Routed asked owned = None
+out_by Granted asked owned = asked
+out_by NoIdleChannel asked owned = asked
+out_by LostChannel asked owned = asked
+out_by Moved asked owned = Some owned
+out_by NoFlit asked owned = Some owned
+out_by NoCredit asked owned = Some owned
+out_by LostInput asked owned = Some owned
+out_by LostSwitch asked owned = Some owned
 
--- the output channel, by port and virtual channel: the one that a waiting channel asks for, where
--- these were idle before it was decided, and the one that an active channel owns
-abbrev pub out_of : ℕ → Told → ℕ → Held → ℕ → Option (ℕ × ℕ)
-out_of vcs t idle h i =
-    if has_bit (waited_of t) i then option_map (λ o. (o / vcs, o % vcs)) (asked_of idle (h.set i))
-    else if has_bit t.verdicts.active i then Some (h.out_port i, h.out_vc i)
-    else None
-
-abbrev pub finding_of : ℕ → Told → ℕ → Held → ℕ → Finding
-finding_of vcs t idle h i = record {
-  verdict = verdict_by (verdict_sets (verdicts_of t)) i;
-  packet = if has_bit (holding_of t) i then Some (h.packet i) else None;
-  out = out_of vcs t idle h i;
-}
-
--- a router that holds this after the cycle had these marks before it took effect, as far as what is
--- found of its channels depends on them
-pub record ShowsFound (vcs : ℕ) (c : Column) (m : RouterMarks) (idle : ℕ) (h : Held) : Type 0 where
-  pub idle_is : idle ≡ c.idle
-  pub set : (i : ℕ) → has_bit c.waiting i ≡ true → h.set i ≡ m.set i
-  pub packet : (i : ℕ) → h.packet i ≡ m.packet i
-  pub taken : (i : ℕ) → has_bit c.active i ≡ true → m.taken i ≡ 2 ^ (h.out_port i * vcs + h.out_vc i)
-  pub number : (i : ℕ) → has_bit c.active i ≡ true
-      → (h.out_vc i < vcs) × (h.out_port i * vcs + h.out_vc i < 64)
-
--- a router that holds this holds the same of its channels as before, as far as it depends on that
-pub record KeepsChannels (old new : Held) : Type 0 where
-  pub set : new.set ≡ old.set
-  pub packet : new.packet ≡ old.packet
-  pub out_port : new.out_port ≡ old.out_port
-  pub out_vc : new.out_vc ≡ old.out_vc
+-- all of channel i, where these were the sets of verdicts, the router holds h after the cycle, and
+-- these output channels were idle before it was decided
+abbrev pub finding_of : ℕ → ByVerdict → ℕ → Held → ℕ → Finding
+finding_of vcs told idle h i =
+    let verdict = verdict_by (verdict_sets told) i in
+    record {
+      verdict = verdict;
+      packet = packet_by verdict (h.packet i);
+      out = out_by verdict (option_map (λ o. (o / vcs, o % vcs)) (asked_of idle (h.set i)))
+          (h.out_port i, h.out_vc i);
+    }

@@ -6,7 +6,7 @@ ghost use Rattle.noc_columns.specs.Picks.{channels_of};
 ghost use Rattle.noc_columns.specs.Words.{IsWithin, Numbering};
 ghost use Rattle.noc_columns.specs.declared.words.TheConstants.{ROUTERS, WORDS};
 ghost use Rattle.noc_counts.specs.Counts.{AreSmall, counted_in, counts_at, last_at, numbers_of, word_counts};
-ghost use Rattle.noc_counts.specs.Told.{told_at, verdicts_of};
+ghost use Rattle.noc_counts.specs.Told.{told_at};
 
 use crate::count::Count;
 use crate::nine::Nine;
@@ -58,11 +58,11 @@ impl Counts {
         ensures counts { (n : Numbering) (r i : ℕ) → IsWithin (4 * frame.now.groups) n → i < n.size
             → counted_in self.old + 1 < 2 ^ 32
             → counts_at n self.new r i
-            ≡ with_verdicts (verdicts_of (told_at n block.now work.now r)) i
+            ≡ with_verdicts (told_at n block.now work.now r) i
             (counts_at n self.old r i) }
         ensures last { (n : Numbering) (r : ℕ) → IsWithin (4 * frame.now.groups) n
             → counted_in self.old + 1 < 2 ^ 32
-            → last_at n self.new r ≡ verdicts_of (told_at n block.now work.now r) }
+            → last_at n self.new r ≡ told_at n block.now work.now r }
         ensures cycles { counted_in self.new ≡ (counted_in self.old + 1) % 2 ^ 32 }
     {
         let groups = frame.groups;

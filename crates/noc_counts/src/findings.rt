@@ -1,21 +1,22 @@
 //! What is found of the channels of a block in the last cycle.
 
-ghost use Rattle.std.specs.Prelude.{◌≡◌, ◌+◌, ◌*◌, ◌/◌, ◌%◌, ◌<◌, ℕ, option_map, if◌then◌else◌};
+ghost use Rattle.std.specs.Prelude.{◌≡◌, ◌+◌, ◌*◌, ◌/◌, ◌%◌, ◌<◌, ℕ, option_map};
 ghost use Rattle.noc_view.specs.VerdictSets.{verdict_by};
 ghost use Rattle.noc_sets.specs.Counts.{verdict_sets};
 ghost use Rattle.noc_sets.specs.Grants.{asked_of};
 ghost use Rattle.noc_columns.specs.Picks.{channels_of};
+ghost use Rattle.noc_columns.specs.Supply.{digits_by, number_in};
 ghost use Rattle.noc_columns.specs.Words.{word};
 ghost use Rattle.noc_columns.specs.declared.words.TheConstants.{ROUTERS, WORDS};
 ghost use Rattle.noc_cycles.specs.Held.{held_at};
 ghost use Rattle.noc_counts.specs.Counts.{numbers_of};
-ghost use Rattle.noc_counts.specs.Findings.{finding_of, out_of};
-ghost use Rattle.noc_counts.specs.Told.{told_at, told_by, verdicts_of};
+ghost use Rattle.noc_counts.specs.Findings.{finding_of, out_by, packet_by};
+ghost use Rattle.noc_counts.specs.Told.{told_at, told_by};
 
 use crate::count::has;
 use crate::nine::Nine;
 use crate::told::{without_flit, without_idle};
-use noc_columns::{ROUTERS, WORDS, least, less};
+use noc_columns::{ROUTERS, Sends, WORDS, Words, least};
 use noc_cycles::{Block, Pattern, Work};
 use noc_view::{Finding, Verdict};
 
@@ -37,54 +38,48 @@ pub fn find(
         (held_at pattern.now.table.ports block.now router) channel }
 {
     let index = pattern.table.index(channel);
-    let waiting = block.inputs.waiting[index] | block.grants.granted[index];
-    let holding = waiting | work.verdicts.active[index];
+    let verdict = verdict_at(&words_at(block, work, index), router);
+    let asked = asked_of(idle, block.marks.sets[router][channel]);
+    let asked = place_of(pattern.table.ports.links.vcs, asked);
+    let owned = number_of(&block.grants.sends, index, router);
     Finding {
-        verdict: verdict_at(&words_at(block, work, index), router),
-        packet: packet_if(has(holding, router), block.packets[router][channel]),
-        out: out_at(pattern, block, work, idle, router, channel),
+        verdict,
+        packet: packet_by(verdict, block.packets[router][channel]),
+        out: out_by(verdict, asked, owned),
     }
 }
 
-// A packet, where a test holds.
-fn packet_if(test: bool, packet: u32) -> Option<u32>
-    ensures { result ≡ (if test then Some packet else None) }
+// The packet of a channel with this verdict.
+fn packet_by(verdict: Verdict, packet: u32) -> Option<u32>
+    ensures { result ≡ packet_by verdict packet }
 {
-    if test { Some(packet) } else { None }
+    match verdict {
+        Verdict::Empty => None,
+        _ => Some(packet),
+    }
 }
 
-// The output channel of a channel of a router.
-fn out_at(
-    pattern: &Pattern,
-    block: &Block,
-    work: &Work,
-    idle: u64,
-    router: usize,
-    channel: usize,
+// Its output channel: the one that it asks for or owns.
+fn out_by(
+    verdict: Verdict,
+    asked: Option<(usize, usize)>,
+    owned: (usize, usize),
 ) -> Option<(usize, usize)>
-    requires router { router < ROUTERS }
-    requires channel { channel < (pattern.now.table.ports.links.width + 1)
-        * pattern.now.table.ports.links.vcs }
-    ensures { result ≡ out_of pattern.now.table.ports.links.vcs
-        (told_at (channels_of pattern.now.table.ports) block.now work.now router) idle
-        (held_at pattern.now.table.ports block.now router) channel }
+    ensures { result ≡ out_by verdict asked owned }
 {
-    let index = pattern.table.index(channel);
-    let waiting = block.inputs.waiting[index] | block.grants.granted[index];
-    if has(less(waiting, work.standing.heads[index]), router) {
-        let out = asked(idle, block.marks.sets[router][channel]);
-        place_of(pattern.table.ports.links.vcs, out)
-    } else if has(work.verdicts.active[index], router) {
-        let port = block.grants.sends.port.at(index);
-        let vc = block.grants.sends.vc.at(index);
-        Some((port.number(router), vc.number(router)))
-    } else {
-        None
+    match verdict {
+        Verdict::Empty | Verdict::Routed => None,
+        Verdict::Granted | Verdict::NoIdleChannel | Verdict::LostChannel => asked,
+        Verdict::Moved
+        | Verdict::NoFlit
+        | Verdict::NoCredit
+        | Verdict::LostInput
+        | Verdict::LostSwitch => Some(owned),
     }
 }
 
 // The output channel that is asked for by a channel that may take these.
-fn asked(idle: u64, set: u64) -> Option<usize>
+fn asked_of(idle: u64, set: u64) -> Option<usize>
     ensures { result ≡ asked_of idle set }
 {
     let free = set & idle;
@@ -99,10 +94,22 @@ fn place_of(vcs: usize, out: Option<usize>) -> Option<(usize, usize)>
     out.map(|o| (o / vcs, o % vcs))
 }
 
+// Those of the output channel by which one channel of a router sends.
+fn number_of(sends: &Sends<Words>, index: usize, router: usize) -> (usize, usize)
+    requires index { index < WORDS }
+    requires router { router < ROUTERS }
+    ensures port { result.0 ≡ number_in (digits_by (word index) sends.now.port) router }
+    ensures vc { result.1 ≡ number_in (digits_by (word index) sends.now.vc) router }
+{
+    let port = sends.port.at(index);
+    let vc = sends.vc.at(index);
+    (port.number(router), vc.number(router))
+}
+
 // The routers in which one channel has each verdict.
 fn words_at(block: &Block, work: &Work, index: usize) -> Nine<u64>
     requires { index < WORDS }
-    ensures { numbers_of result ≡ verdicts_of (told_by (word index) block.now work.now) }
+    ensures { numbers_of result ≡ told_by (word index) block.now work.now }
 {
     let verdicts = work.verdicts.at(index);
     let heads = work.standing.heads[index];

@@ -15,8 +15,5 @@ mod told;
 pub use count::Count;
 pub use counts::Counts;
 pub use findings::find;
-pub use laws::{
-    blocks_tell_what_routers_do, routers_show_what_is_found,
-    what_is_told_are_the_verdicts_of_a_router, what_is_told_is_found_of_a_router,
-};
+pub use laws::findings_follow_from_verdicts;
 pub use nine::Nine;

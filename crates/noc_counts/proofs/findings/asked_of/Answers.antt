@@ -4,7 +4,7 @@ use Rattle.std.proofs.lemmas.Bool.{ne_eqb}
 use Rattle.noc_columns.proofs.LoopLemmas.{least-same}
 use Rattle.noc_sets.specs.Sets.{least}
 use Rattle.noc_sets.proofs.MemberLemmas.{and_fits}
-use Rattle.noc_counts.proofs.findings.asked.Goals as goal
+use Rattle.noc_counts.proofs.findings.asked_of.Goals as goal
 
 pub returns-else-free-eq0 : goal.returns-else-free-eq0
 returns-else-free-eq0 c =
