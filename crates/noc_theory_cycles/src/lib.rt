@@ -3,8 +3,9 @@
 //! `noc_cycles` has the parts of a cycle of a block, and what each asks for of its routers, and
 //! `noc_theory_bits` what the words of all routers show of a network. `specs/` has what it means
 //! that a block fits a network (`Fits`), what routers hold that the network does not have
-//! (`Blank`), what a router of a block shows (`Nodes`), which channels are granted (`Granted`), where
-//! packets begin (`Firsts`), and what all routers show, cycle by cycle (`Steps`). The laws are the contracts of the functions here.
+//! (`Blank`), what a router of a block shows (`Nodes`), which channels are granted (`Granted`),
+//! where packets begin (`Firsts`), and what all routers show, cycle by cycle (`Steps`). The laws
+//! are the contracts of the functions here.
 #![tactic(auto)]
 
 mod blank;

@@ -28,8 +28,8 @@ pub fn nodes_tell_what_they_grant()
         (comes : Bool) (sets : ℕ → ℕ → ℕ) (decided : Decided ℕ) (granted lost : ℕ)
         (left : Links ℕ) (t : Turn)
         (taken : HasTaken pattern layout (all_starts net) n b a standing no_credit comes)
-        (decides : HasDecidedHeld pattern layout sets (still_of layout (all_starts net) n taken.up b)
-        a d standing decided granted lost left)
+        (decides : HasDecidedHeld pattern layout sets
+        (still_of layout (all_starts net) n taken.up b) a d standing decided granted lost left)
         → IsGoodSetup net → n < CYCLE_LIMIT → FitsNetwork count net layout pattern
         → ShowsNode count net pattern n node links h b
         → t.grants ≡ granted_in (undecided (still_of layout (all_starts net) n taken.up b))
