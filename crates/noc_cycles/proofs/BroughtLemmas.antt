@@ -4,21 +4,23 @@ use Rattle.std.specs.Prelude.{◌&&◌, ◌||◌, if◌then◌else◌}
 use Rattle.std.proofs.lemmas.Bool.{cases_eq, cases_lt, eq-eqb, le-ltb, lt-ltb, ne_eqb}
 use Rattle.std.proofs.lemmas.Nat.{div-add-mod', div-mul-add, div_below, le-div, mod-mul-add, mod_below}
 use Rattle.noc_packet.specs.Set.{has_bit}
+use Rattle.noc_packet.proofs.SetLemmas.{has_bit-zero}
 use Rattle.noc_topo.specs.Shape.{Grid, IsGrid, local_port, neighbour, nodes, opposite}
 use Rattle.noc_topo.proofs.LinkLemmas.{link_back}
 use Rattle.noc_sets.specs.Gather.{gathered, is_over}
 use Rattle.noc_sets.proofs.GatherLemmas.{gathered-is, gathered-links}
 use Rattle.noc_sets.proofs.MemberLemmas.{same-word}
+use Rattle.noc_sets.proofs.UnionLemmas.{some-none}
 use Rattle.noc_columns.specs.Near.{comes_by, comes_from, comes_near}
 use Rattle.noc_columns.specs.Picks.{links_of, port_at}
-use Rattle.noc_columns.specs.Places.{AreFar, IsNear, far_places, places_by}
+use Rattle.noc_columns.specs.Places.{AreFar, IsNear, far_places, places_by, stands_in}
 use Rattle.noc_columns.specs.Words.{set_of, word}
 use Rattle.noc_columns.specs.declared.neighbours.Far.{Far}
 use Rattle.noc_columns.specs.declared.neighbours.Near.{Near}
 use Rattle.noc_columns.specs.declared.ports.Ports.{Ports}
 use Rattle.noc_columns.proofs.NearLemmas.{are-places, brought-is}
 use Rattle.noc_columns.proofs.PickLemmas.{apart}
-use Rattle.noc_columns.proofs.PlaceLemmas.{near-and-far, near-or-far}
+use Rattle.noc_columns.proofs.PlaceLemmas.{near-and-far, near-or-far, stands-beyond}
 use Rattle.noc_columns.proofs.SetLemmas.{below-members}
 use Rattle.noc_cycles.specs.Around.{far_by}
 use Rattle.noc_cycles.specs.Gathered.{LeadBy}
@@ -174,6 +176,68 @@ module _ (g : Grid) (sound : IsGrid g) (links : Ports) (near : Near) (far : ℕ 
           below-members (links.width * links.vcs) (λ c. has_bit (word ((links_of links).index c) now) (s % 64)) i
           ∙ ap (λ x. x && has_bit (word ((links_of links).index i) now) (s % 64)) (le-ltb i (links.width * links.vcs) u)
           ∙ sym (none (has_bit (gathered g links.vcs leaves s) i) i u refl)
+
+-- ---- of a router that the network does not have
+module _ (g : Grid) (links : Ports) (near : Near) (far : ℕ → List Far) (sent : ℕ → List ℕ) (b s : ℕ) (now : List ℕ) (first : links.first ≡ 0) (width : links.width ≡ local_port g) (home : s / 64 ≡ b)
+    (beyond : nodes g ≤ s) (own : IsNear g links.vcs b near) (others : (p : ℕ) → p < local_port g → AreFar g b p (far p)) (are : ArePorts links near far sent b links.width now) where
+  low : s % 64 < 64
+  low = omega arith
+
+  whole : s ≡ 64 * b + s % 64
+  whole = omega (arith, home)
+
+  -- no table has it
+  not-here : (p c : ℕ) (way : Bool) → stands_in g (64 * b + s % 64) p way c ≡ false
+  not-here p c way = sym (stands-beyond g (64 * b + s % 64) p c way (omega (arith, beyond, whole)))
+
+  comes-not : (distance mask word : ℕ) → has_bit mask (s % 64) ≡ false → comes_from distance mask word (s % 64) ≡ false
+  comes-not distance mask word none = ap (λ x. x && has_bit word ((s % 64 + distance) % 64)) none
+
+  near-not : (q v : ℕ) → q < links.width → v < links.vcs → (sent_there : List ℕ) → comes_near near sent_there ((port_at links q).index v) (s % 64) ≡ false
+  near-not q v l few sent_there =
+      ap₂ (λ x y. x || (near.rings && y))
+      (comes-not _ (word ((port_at links q).index v) near.straight.mask) _ (own.straight.mask ((port_at links q).index v) (s % 64) inside low ∙ not-here _ b false))
+      (comes-not _ (word ((port_at links q).index v) near.round.mask) _ (own.round.mask ((port_at links q).index v) (s % 64) inside low ∙ not-here _ b true))
+      ∙ and-no near.rings
+    where
+      and-no : (x : Bool) → (x && false) ≡ false
+      and-no true = refl
+      and-no false = refl
+
+      inside : (port_at links q).index v < links.vcs * local_port g
+      inside = let m = apart v links.vcs links.width q few l in subst (λ w. links.first + v * links.width + q < links.vcs * w) width (omega (arith, m, first))
+
+  far-not : (q : ℕ) → q < links.width → (to : ℕ → ℕ) → comes_by (far_places (far q)) to (s % 64) ≡ false
+  far-not q l to =
+      some-none (length (far q)) _ (λ j m. comes-not _ ((far_places (far q)).mask j) _ ((others q (subst (λ w. q < w) width l)).mask j (s % 64) m low ∙ not-here q ((far_places (far q)).block j) ((others q (subst (λ w. q < w) width l)).way j)))
+
+  -- nothing comes to it
+  pub nothing-set : set_of (links_of links) (s % 64) now ≡ 0
+  nothing-set = same-word _ 0 (λ i. at i (cases_lt i (links.width * links.vcs)))
+    where
+      none : (i : ℕ) → i < links.width * links.vcs → has_bit (word ((links_of links).index i) now) (s % 64) ≡ false
+      none i l = of (cases_lt 0 links.vcs)
+        where
+          of : (0 < links.vcs) ⊎ (links.vcs ≤ 0) → has_bit (word ((links_of links).index i) now) (s % 64) ≡ false
+          of (inl some) =
+              let q : i / links.vcs < links.width = div_below i links.vcs links.width some l in
+              let v : i % links.vcs < links.vcs = mod_below i links.vcs some in
+              are.done (i / links.vcs) (i % links.vcs) (s % 64) q q v low
+              ∙ ap₂ (λ x y. x || y) (near-not (i / links.vcs) (i % links.vcs) q v (sent b)) (far-not (i / links.vcs) q (λ c. word ((port_at links (opposite (i / links.vcs))).index (i % links.vcs)) (sent c)))
+          of (inr zero_vcs) =
+              let z : links.vcs ≡ 0 = omega (arith, zero_vcs) in
+              let e : links.width * links.vcs ≡ links.width * 0 = ap (λ n. links.width * n) z in
+              absurd (omega (arith, l, e))
+
+      at : (i : ℕ) → (i < links.width * links.vcs) ⊎ (links.width * links.vcs ≤ i) → has_bit (set_of (links_of links) (s % 64) now) i ≡ has_bit 0 i
+      at i (inl l) =
+          below-members (links.width * links.vcs) (λ c. has_bit (word ((links_of links).index c) now) (s % 64)) i
+          ∙ ap₂ (λ x y. x && y) (lt-ltb i (links.width * links.vcs) l) (none i l)
+          ∙ sym (has_bit-zero i)
+      at i (inr u) =
+          below-members (links.width * links.vcs) (λ c. has_bit (word ((links_of links).index c) now) (s % 64)) i
+          ∙ ap (λ x. x && has_bit (word ((links_of links).index i) now) (s % 64)) (le-ltb i (links.width * links.vcs) u)
+          ∙ sym (has_bit-zero i)
 
 -- ---- what is asked for
 abbrev pub items_of : Vec Far Global → List Far

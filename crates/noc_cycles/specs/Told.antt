@@ -1,5 +1,5 @@
 -- Which packets are told over the links that they hold input channels from now on.
-use Rattle.std.specs.Prelude.{◌≡◌, ◌≢◌, ◌⊎◌, ℕ, ◌+◌, ◌*◌, ◌/◌, ◌%◌, ◌<◌, true, ◌&&◌, List, [], ◌∷◌, Option, Some, None, is_some, nat_eq, slice_get, if◌then◌else◌, Vec}
+use Rattle.std.specs.Prelude.{◌≡◌, ◌≢◌, ◌⊎◌, ℕ, ◌+◌, ◌*◌, ◌/◌, ◌%◌, ◌<◌, ◌≤◌, true, ◌&&◌, List, [], ◌∷◌, Option, Some, None, is_some, length, nat_eq, slice_get, slice_index_or, vec_capacity, if◌then◌else◌, Vec}
 use Rattle.std.specs.declared.alloc.Global.{Global}
 use Rattle.noc_packet.specs.Set.{has_bit}
 use Rattle.noc_topo.specs.Shape.{Grid, neighbour, nodes, ports}
@@ -8,6 +8,7 @@ use Rattle.noc_columns.specs.Picks.{channels_of}
 use Rattle.noc_columns.specs.Supply.{digits_by, number_in}
 use Rattle.noc_columns.specs.Words.{set_of}
 use Rattle.noc_columns.specs.declared.ports.RouterPorts.{RouterPorts}
+use Rattle.noc_columns.specs.declared.sets.TheConstants.{CHANNELS}
 use Rattle.noc_columns.specs.declared.words.TheConstants.{ROUTERS}
 use Rattle.noc_cycles.specs.Gathered.{IsWired}
 use Rattle.noc_cycles.specs.declared.around.Around.{Around}
@@ -106,3 +107,9 @@ notes_or_none (Some notes) = notes.items
 
 abbrev pub notes_by : List (Vec Note Global) → ℕ → List Note
 notes_by told b = notes_or_none (slice_get told b)
+
+-- there is room for the notes of so many blocks
+pub record HaveRoom (count : ℕ) (told : List (Vec Note Global)) : Type 0 where
+  pub many : length told ≡ count
+  pub each : (b : ℕ) (d : Vec Note Global) → b < count
+      → ROUTERS * CHANNELS ≤ vec_capacity (slice_index_or told b d)

@@ -18,7 +18,7 @@ use crate::pattern::Pattern;
 use noc_columns::{Far, Links, Ports, Words, gather, gather_far};
 
 /// What has left the routers of all blocks comes over the links to those of the block with these
-/// tables.
+/// tables. Nothing comes to those that the network does not have.
 pub fn gather_links(
     pattern: &Pattern,
     around: &Around,
@@ -27,11 +27,15 @@ pub fn gather_links(
 )
     requires { (g : Grid) × IsWired g pattern.now around.now
         × (nodes g ≤ ROUTERS * length left.now) }
-    ensures { (g : Grid) (leaves : ℕ → Left) (r : ℕ) → IsWired g pattern.now around.now
+    ensures brought { (g : Grid) (leaves : ℕ → Left) (r : ℕ) → IsWired g pattern.now around.now
         → ShowAllLeft g pattern.now.table.ports left.now leaves
         → r / ROUTERS ≡ around.now.block → r < nodes g
         → links_at pattern.now.table.ports came.new (r % ROUTERS)
         ≡ brought g pattern.now.table.ports.links.vcs leaves r }
+    ensures nothing { (g : Grid) (r : ℕ) → IsWired g pattern.now around.now
+        → r / ROUTERS ≡ around.now.block → nodes g ≤ r
+        → links_at pattern.now.table.ports came.new (r % ROUTERS)
+        ≡ record { flits = 0; tails = 0; credits = 0 } }
 {
     gather(&pattern.frame, &around.near, &left[around.block], came);
     let links = &pattern.table.ports.links;

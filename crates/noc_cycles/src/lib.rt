@@ -37,5 +37,5 @@ pub use notes::Note;
 pub use opening::{empty_works, open_blocks};
 pub use pattern::{Pattern, SHALLOW};
 pub use take::{count_credits, inject_flits};
-pub use tells::tell;
+pub use tells::{room_for_notes, tell};
 pub use turning::routers_take_part;

@@ -1,19 +1,32 @@
 //! The routers at the other ends of links are told which packets are granted channels of them.
 
-ghost use Rattle.std.specs.Prelude.{◌≡◌, ◌<◌, ◌≤◌, ◌+◌, ◌*◌, ◌⊎◌, ◌≢◌, ℕ, Option, Some, vec_capacity, vec_len};
+ghost use Rattle.std.specs.Prelude.{◌≡◌, ◌<◌, ◌≤◌, ◌+◌, ◌*◌, ◌⊎◌, ◌≢◌, ℕ, IfOk, Option, Some, vec_capacity, vec_len};
 ghost use Rattle.noc_topo.specs.Shape.{Grid, neighbour, nodes, opposite};
 ghost use Rattle.noc_columns.specs.Heads.{packet_in};
 ghost use Rattle.noc_columns.specs.declared.ports.TheConstants.{PORTS};
 ghost use Rattle.noc_columns.specs.declared.sets.TheConstants.{CHANNELS};
 ghost use Rattle.noc_columns.specs.declared.words.TheConstants.{ROUTERS};
 ghost use Rattle.noc_cycles.specs.Gathered.{IsWired};
-ghost use Rattle.noc_cycles.specs.Told.{AreNotes, AreTold, IsNotedOver, NotesSome, noted, port_in, told_by, vc_in};
+ghost use Rattle.noc_cycles.specs.Told.{AreNotes, AreTold, HaveRoom, IsNotedOver, NotesSome, noted, port_in, told_by, vc_in};
 
 use crate::around::{Around, NOWHERE};
 use crate::block::Block;
 use crate::notes::Note;
 use crate::pattern::Pattern;
-use noc_columns::{CHANNELS, PORTS, but_lowest, least};
+use noc_columns::{CHANNELS, PORTS, ROUTERS, but_lowest, least};
+use noc_packet::Memory;
+use std::alloc::Global;
+
+/// Room for the notes of so many blocks, each of which may tell of all its input channels.
+pub fn room_for_notes(alloc: Global, count: usize) -> Result<Vec<Vec<Note>>, Memory>
+    ensures { IfOk result (λ told. HaveRoom count told.items) }
+{
+    let mut told = Vec::new(alloc);
+    for _ in 0..count {
+        told.push(Vec::with_capacity(alloc, ROUTERS * CHANNELS)?)?;
+    }
+    Ok(told)
+}
 
 /// Each packet of a block that is granted an output channel is noted for the router at the other end
 /// of its link, if it is one of a link. There is room for so many notes.

@@ -6,7 +6,7 @@ use Rattle.noc_columns.specs.declared.neighbours.Far.{Far}
 use Rattle.noc_cycles.specs.Around.{far_by}
 use Rattle.noc_cycles.specs.Gathered.{LeadBy, left_by}
 use Rattle.noc_cycles.proofs.GatherLemmas.{from-left}
-use Rattle.noc_cycles.proofs.BroughtLemmas.{ArePorts, brought-set, far-at, items_of, lead-by, ports-first, ports-next}
+use Rattle.noc_cycles.proofs.BroughtLemmas.{ArePorts, brought-set, far-at, items_of, lead-by, nothing-set, ports-first, ports-next}
 use Rattle.noc_cycles.proofs.gather.gather_links.Goals as goal
 
 pub loop-port-init : goal.loop-port-init
@@ -64,8 +64,8 @@ loop-port-preserved c =
       credits = ports-next links near (far_by far) (λ b. (left_by left b).credits) b p c.loop-port.came.credits c.gather_port.new.came.credits c.deref.result.now row l c.loop-port.invariant.credits (λ v r few low. c.gather_port.ensures.credits p v r lead few low) (λ k away. ap (λ (w : Links ℕ). w.credits) (others k away));
     }
 
-pub returns : goal.returns
-returns c = λ g leaves r wired shows home known x.
+pub returns-clause-brought : goal.returns-clause-brought
+returns-clause-brought c = λ g leaves r wired shows home known x.
     let pattern = c.args.pattern.now in
     let links = pattern.table.ports.links in
     let near = c.args.around.now.near in
@@ -80,4 +80,22 @@ returns c = λ g leaves r wired shows home known x.
           (subst (λ n. ArePorts links near (far_by far) (λ b. (left_by left b).tails) b n c.loop-port.came.tails) all c.loop-port.invariant.tails) (λ t l o m. (shows t l).tails o m) x;
       credits = brought-set g wired.sound links near (far_by far) (λ b. (left_by left b).credits) b r c.loop-port.came.credits (λ s. (leaves s).credits) pattern.some pattern.pairs pattern.first wired.ports home known wired.tables.near wired.tables.far.each
           (subst (λ n. ArePorts links near (far_by far) (λ b. (left_by left b).credits) b n c.loop-port.came.credits) all c.loop-port.invariant.credits) (λ t l o m. (shows t l).credits o m) x;
+    }
+
+pub returns-clause-nothing : goal.returns-clause-nothing
+returns-clause-nothing c = λ g r wired home beyond x.
+    let pattern = c.args.pattern.now in
+    let links = pattern.table.ports.links in
+    let near = c.args.around.now.near in
+    let far = c.args.around.now.far.items in
+    let left = c.args.left.now in
+    let b = c.args.around.now.block in
+    let all : c.loop-port.port ≡ links.width = omega arith in
+    record {
+      flits = nothing-set g links near (far_by far) (λ b. (left_by left b).flits) b r c.loop-port.came.flits pattern.first wired.ports home beyond wired.tables.near wired.tables.far.each
+          (subst (λ n. ArePorts links near (far_by far) (λ b. (left_by left b).flits) b n c.loop-port.came.flits) all c.loop-port.invariant.flits) x;
+      tails = nothing-set g links near (far_by far) (λ b. (left_by left b).tails) b r c.loop-port.came.tails pattern.first wired.ports home beyond wired.tables.near wired.tables.far.each
+          (subst (λ n. ArePorts links near (far_by far) (λ b. (left_by left b).tails) b n c.loop-port.came.tails) all c.loop-port.invariant.tails) x;
+      credits = nothing-set g links near (far_by far) (λ b. (left_by left b).credits) b r c.loop-port.came.credits pattern.first wired.ports home beyond wired.tables.near wired.tables.far.each
+          (subst (λ n. ArePorts links near (far_by far) (λ b. (left_by left b).credits) b n c.loop-port.came.credits) all c.loop-port.invariant.credits) x;
     }
