@@ -1,18 +1,22 @@
 -- What takes effect in a block takes effect in each of its routers.
-use Rattle.std.proofs.Common.{◌≡◌, ℕ, ◌+◌, ◌*◌, ◌/◌, ◌%◌, ◌<◌, ◌≤◌, List, [], arith, ap, sym, ◌∙◌, inl, inr}
-use Rattle.std.specs.Prelude.{◌⊎◌, slice_index_or}
-use Rattle.std.proofs.lemmas.Bool.{cases_lt}
+use Rattle.std.proofs.Common.{Bool, true, false, zero, suc, ◌^◌, ap₂, bit_or, refl, ◌≡◌, ℕ, ◌+◌, ◌*◌, ◌/◌, ◌%◌, ◌<◌, ◌≤◌, List, [], arith, ap, sym, ◌∙◌, inl, inr}
+use Rattle.std.specs.Prelude.{◌⊎◌, slice_index_or, if◌then◌else◌}
+use Rattle.std.proofs.lemmas.Bool.{cases_lt, true≢false}
 use Rattle.noc_packet.specs.Set.{has_bit}
+use Rattle.noc_packet.proofs.SetLemmas.{has_bit-zero, zero_from_none}
+use Rattle.noc_sets.specs.Unions.{some_below}
+use Rattle.noc_sets.proofs.MemberLemmas.{or-zero}
+use Rattle.noc_columns.specs.Arrivals.{given_back}
 use Rattle.noc_columns.specs.Marks.{ChangesIdle}
 use Rattle.noc_columns.specs.Picks.{channels_of, links_of}
-use Rattle.noc_columns.specs.Words.{IsWithin, set_of, word}
+use Rattle.noc_columns.specs.Words.{IsWithin, Numbering, set_of, word}
 use Rattle.noc_columns.specs.declared.channels.Inputs.{Inputs}
 use Rattle.noc_columns.specs.declared.channels.Outputs.{Outputs}
 use Rattle.noc_columns.specs.declared.marks.Marks.{Marks}
 use Rattle.noc_columns.specs.declared.ports.RouterPorts.{RouterPorts}
 use Rattle.noc_columns.proofs.ChannelLemmas.{part, port-below}
-use Rattle.noc_columns.proofs.PickLemmas.{apart}
-use Rattle.noc_columns.proofs.PortLemmas.{link-index, local-place}
+use Rattle.noc_columns.proofs.PickLemmas.{apart, none-each}
+use Rattle.noc_columns.proofs.PortLemmas.{link-index, local-place, member-below}
 use Rattle.noc_columns.proofs.SupplyLemmas.{member-is}
 use Rattle.noc_cycles.specs.Held.{held_at}
 use Rattle.noc_cycles.specs.declared.block.Block.{Block}
@@ -82,3 +86,21 @@ held-changed ports b r inputs outputs marks kept x = record (held_at ports b r) 
   set = λ k. word k (slice_index_or (kept.sets x) r []);
   turn = λ o. word o (slice_index_or (kept.turns x) r []);
 }
+
+-- ---- where no router has a channel nothing is given back
+pub none-there : (n : Numbering) (r count routers : ℕ) (words : List ℕ) → IsWithin count n → has_bit routers r ≡ some_below count (λ i. has_bit (word i words) r) → routers ≡ 0 → set_of n r words ≡ 0
+none-there n r count routers words within tells none = zero_from_none (set_of n r words) (λ k. at k (has_bit (set_of n r words) k) refl)
+  where
+    nobody : some_below count (λ i. has_bit (word i words) r) ≡ false
+    nobody = sym tells ∙ ap (λ x. has_bit x r) none ∙ has_bit-zero r
+
+    at : (k : ℕ) (b : Bool) → has_bit (set_of n r words) k ≡ b → has_bit (set_of n r words) k ≡ false
+    at k false e = e
+    at k true e = (let l = member-below n r words k e in absurd (true≢false (sym e ∙ member-is n r k words l ∙ none-each count (λ i. has_bit (word i words) r) nobody (n.index k) (within k l))))
+
+pub none-back : (idle size links set : ℕ) (vc : ℕ → ℕ) → set ≡ 0 → idle ≡ given_back idle size links set vc
+none-back idle size links set vc none = sym (ap (λ s. given_back idle size links s vc) none ∙ nothing size)
+  where
+    nothing : (n : ℕ) → given_back idle n links 0 vc ≡ idle
+    nothing zero = refl
+    nothing (suc n) = ap₂ bit_or (nothing n) (ap (λ b. if b then 2 ^ (links + vc n) else 0) (has_bit-zero n)) ∙ or-zero idle

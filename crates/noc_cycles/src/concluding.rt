@@ -1,15 +1,20 @@
 //! What is decided takes effect.
 
-ghost use Rattle.std.specs.Prelude.{◌≡◌, ◌<◌, ℕ};
+ghost use Rattle.std.specs.Prelude.{◌≡◌, ◌<◌, ◌+◌, ◌*◌, ℕ, slice_index};
+ghost use Rattle.noc_packet.specs.Set.{has_bit};
+ghost use Rattle.noc_sets.specs.Unions.{some_below};
+ghost use Rattle.noc_columns.specs.Arrivals.{given_back};
+ghost use Rattle.noc_columns.specs.Marks.{ChangesIdle};
 ghost use Rattle.noc_columns.specs.Picks.{channels_of};
-ghost use Rattle.noc_columns.specs.Words.{set_of};
+ghost use Rattle.noc_columns.specs.Supply.{digits_by, number_in};
+ghost use Rattle.noc_columns.specs.Words.{set_of, word};
 ghost use Rattle.noc_columns.specs.declared.words.TheConstants.{ROUTERS};
 ghost use Rattle.noc_cycles.specs.Concluding.{HasConcludedHeld, decided_at, standing_at, verdicts_at};
 ghost use Rattle.noc_cycles.specs.Held.{held_at, links_at};
 
 use crate::block::{Block, Work};
 use crate::pattern::Pattern;
-use noc_columns::{arrive, give_back, pay, settle};
+use noc_columns::{Digits, Marks, RouterPorts, Words, arrive, give_back, pay, settle};
 
 /// What is decided in a block takes effect: on its channels, on their verdicts, and on what leaves
 /// the routers. The answer is the routers from which a packet leaves the network.
@@ -24,6 +29,8 @@ pub fn conclude(pattern: &Pattern, block: &mut Block, work: &mut Work) -> u64
         (held_at pattern.now.table.ports block.new r)
         (verdicts_at pattern.now.table.ports work.old.verdicts r)
         (verdicts_at pattern.now.table.ports work.new.verdicts r) }
+    ensures arrived { (r : ℕ) → has_bit result r
+        ≡ some_below (4 * pattern.now.frame.groups) (λ i. has_bit (word i work.new.arrived) r) }
     ensures block { block.new ≡ record block.old {
       inputs = block.new.inputs;
       outputs = block.new.outputs;
@@ -51,8 +58,9 @@ pub fn conclude(pattern: &Pattern, block: &mut Block, work: &mut Work) -> u64
         &block.grants.sends,
         &mut work.arrived,
     );
-    give_back(
+    free_local(
         &pattern.table.ports,
+        arrived,
         &work.arrived,
         &block.grants.sends.vc,
         &mut block.marks,
@@ -65,4 +73,27 @@ pub fn conclude(pattern: &Pattern, block: &mut Block, work: &mut Work) -> u64
     );
     work.left.credits = work.verdicts.moved;
     arrived
+}
+
+// Local channels are idle again, if packets leave the network from some of these routers.
+#[inline(always)]
+fn free_local(
+    ports: &RouterPorts,
+    routers: u64,
+    arrived: &Words,
+    vc: &Digits<Words>,
+    marks: &mut Marks,
+)
+    requires { routers ≡ 0 → (r : ℕ) → set_of (channels_of ports.now) r arrived.now ≡ 0 }
+    ensures idle { (r : ℕ) → r < ROUTERS → slice_index marks.new.idle r
+        ≡ given_back (slice_index marks.old.idle r)
+        ((ports.now.links.width + 1) * ports.now.links.vcs)
+        (ports.now.links.width * ports.now.links.vcs)
+        (set_of (channels_of ports.now) r arrived.now)
+        (number_in (digits_by (set_of (channels_of ports.now) r) vc.now)) }
+    ensures kept { ChangesIdle marks.old marks.new }
+{
+    if routers != 0 {
+        give_back(ports, arrived, vc, marks);
+    }
 }
