@@ -16,6 +16,7 @@ mod nodes;
 mod opening;
 mod routers;
 mod steps;
+mod wires;
 
 pub use blank::{
     blank_routers_have_what_is_asked_for, blank_routers_hold_nothing, blank_routers_stay_blank,
@@ -34,3 +35,4 @@ pub use steps::{
     a_cycle_of_all_keeps_what_they_show, nodes_tell_what_they_grant,
     turns_are_shown_by_what_is_held,
 };
+pub use wires::what_comes_over_links_is_gathered;
