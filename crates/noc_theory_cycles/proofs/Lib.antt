@@ -11,3 +11,4 @@ pub mod NodeLemmas
 pub mod OpeningLemmas
 pub mod TellLemmas
 pub mod StepLemmas
+pub mod ArriveLemmas

@@ -1,6 +1,7 @@
 -- A cycle of the routers of all blocks is one of the network.
-use Rattle.std.proofs.Common.{◌≡◌, ◌≢◌, ℕ, suc, ◌*◌, ◌<◌, ◌≤◌, false, ap, arith, inl, inr, refl, ◌∙◌}
-use Rattle.std.proofs.lemmas.Bool.{cases_lt, false≢true}
+use Rattle.std.proofs.Common.{◌≡◌, ◌≢◌, ℕ, suc, ◌*◌, ◌<◌, ◌≤◌, false, Option, ap, arith, inl, inr, refl, ◌∙◌}
+use Rattle.std.specs.Prelude.{if◌then◌else◌}
+use Rattle.std.proofs.lemmas.Bool.{cases_lt, false≢true, le-ltb, lt-ltb}
 use Rattle.noc_topo.specs.Shape.{nodes, ports}
 use Rattle.noc_sets.specs.Cycle.{Links as Left, Turn}
 use Rattle.noc_sets.specs.Layout.{Layout}
@@ -10,13 +11,15 @@ use Rattle.noc_theory.specs.declared.limits.TheConstants.{CYCLE_LIMIT}
 use Rattle.noc_theory_bits.specs.Network.{AreArrivals, HasRun, HasTurned, IsLastAfter, Words, numbers_in}
 use Rattle.noc_theory_bits.proofs.bits.NetworkLemmas.{network-next}
 use Rattle.noc_columns.specs.declared.channels.Links.{Links}
+use Rattle.noc_cycles.specs.Gathered.{brought}
 use Rattle.noc_cycles.specs.Held.{Held, ShowsHeld}
+use Rattle.noc_cycles.specs.Opened.{no_links}
 use Rattle.noc_cycles.specs.Turning.{ShowsTurn}
 use Rattle.noc_cycles.specs.declared.pattern.Pattern.{Pattern}
 use Rattle.noc_theory_cycles.specs.Blank.{DoesNothing}
 use Rattle.noc_theory_cycles.specs.Fits.{FitsNetwork}
 use Rattle.noc_theory_cycles.specs.Nodes.{ShowsNode}
-use Rattle.noc_theory_cycles.specs.Steps.{HasStepped, ShowsAll, router_after}
+use Rattle.noc_theory_cycles.specs.Steps.{HasStepped, HaveTurned, ShowsAll, coming_to, router_after, words_after}
 use Rattle.noc_theory_cycles.proofs.NodeLemmas.{node-blank, node-nothing, node-turn}
 use Rattle.noc_theory_cycles.proofs.NoneLemmas.{no-member}
 
@@ -52,6 +55,32 @@ turn-shown pattern k t packet links shows = record {
 
 pub turn-after : (t : Turn) (packet : ℕ → ℕ) (links : Links ℕ) → HasTurned t (router_after t packet links)
 turn-after t packet links = record { column = refl; marks = refl; ended = refl; source = refl; counts = refl }
+
+-- ---- by what the blocks do
+module _ (net : Setup) (layout : Layout) (pattern : Pattern) (n many : ℕ) (t : ℕ → Turn) (held : ℕ → Held) (packets : ℕ → ℕ → ℕ) (last : ℕ) (arrivals : ℕ → Option ℕ) (was : Words) (turned : HaveTurned net pattern layout n many t held packets was) where
+  inside : (s : ℕ) → s < nodes net.relation.grid → coming_to net t s ≡ brought net.relation.grid net.relation.vcs (λ r. (t r).left) s
+  inside s l = ap (λ b. if b then brought net.relation.grid net.relation.vcs (λ r. (t r).left) s else no_links) (lt-ltb s (nodes net.relation.grid) l)
+
+  outside : (s : ℕ) → nodes net.relation.grid ≤ s → coming_to net t s ≡ no_links
+  outside s u = ap (λ b. if b then brought net.relation.grid net.relation.vcs (λ r. (t r).left) s else no_links) (le-ltb s (nodes net.relation.grid) u)
+
+  pub turned-steps : IsLastAfter (λ s. s < many) n t was.last last → AreArrivals (λ s. s < many) (size net) n t (λ s. numbers_in net layout n (was.routers s)) was.arrivals arrivals
+      → HasStepped net pattern layout n many t (coming_to net t) (λ s. record (held s) { packet = packets s }) was (words_after net t packets last arrivals)
+  turned-steps lasts arrive = record {
+    turns = turned.turns;
+    are = λ s l. turn-after (t s) (packets s) (coming_to net t s);
+    held_are = λ s l. turn-shown pattern (held s) (t s) (packets s) (coming_to net t s) (turned.shows s l);
+    gathered_are = λ s l. record {
+      flits = ap (λ (x : Links ℕ). x.flits) (inside s l);
+      tails = ap (λ (x : Links ℕ). x.tails) (inside s l);
+      credits = ap (λ (x : Links ℕ). x.credits) (inside s l);
+      packet = λ i u. turned.told s i l u;
+    };
+    no_flits = λ s l u. ap (λ (x : Links ℕ). x.flits) (outside s u);
+    no_credits = λ s l u. ap (λ (x : Links ℕ). x.credits) (outside s u);
+    last = lasts;
+    arrivals = arrive;
+  }
 
 -- ---- of all
 module _ (count : ℕ) (net : Setup) (layout : Layout) (pattern : Pattern) (n many : ℕ) (links coming : ℕ → Links ℕ) (held after : ℕ → Held) (t : ℕ → Turn) (was next : Words)

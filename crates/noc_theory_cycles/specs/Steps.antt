@@ -1,16 +1,19 @@
 -- The routers of all blocks of a network, with those that it does not have: what they show of it,
 -- and a cycle of all of them.
-use Rattle.std.specs.Prelude.{◌≡◌, ℕ, ◌/◌, ◌%◌, ◌<◌, ◌≤◌, List, None}
+use Rattle.std.specs.Prelude.{◌≡◌, ℕ, ◌/◌, ◌%◌, ◌<◌, ◌≤◌, List, None, Option, nat_lt, unwrap_or, if◌then◌else◌}
 use Rattle.noc_topo.specs.Shape.{nodes}
 use Rattle.noc_sets.specs.Cycle.{Router, Turn}
 use Rattle.noc_sets.specs.Layout.{Layout}
 use Rattle.noc_theory.specs.Network.{Setup, size}
+use Rattle.noc_theory_bits.specs.Owners.{heard}
 use Rattle.noc_theory_bits.specs.Network.{AreArrivals, HasGathered, HasTurned, IsLastAfter, ShowsNetwork, Words, numbers_in, tells_in}
 use Rattle.noc_columns.specs.declared.channels.Links.{Links}
 use Rattle.noc_columns.specs.declared.ports.RouterPorts.{RouterPorts}
 use Rattle.noc_columns.specs.declared.words.TheConstants.{ROUTERS}
 use Rattle.noc_cycles.specs.Held.{Held, ShowsHeld, held_at, links_at}
-use Rattle.noc_cycles.specs.Opened.{router_of}
+use Rattle.noc_cycles.specs.Gathered.{brought}
+use Rattle.noc_cycles.specs.Opened.{no_links, router_of}
+use Rattle.noc_cycles.specs.Turning.{ShowsTurn}
 use Rattle.noc_cycles.specs.declared.block.Block.{Block}
 use Rattle.noc_cycles.specs.declared.pattern.Pattern.{Pattern}
 use Rattle.noc_theory_cycles.specs.Blank.{IsBlank, channels_count}
@@ -72,3 +75,30 @@ pub record HasStepped (net : Setup) (pattern : Pattern) (layout : Layout) (n man
   pub last : IsLastAfter (λ s. s < many) n t was.last next.last
   pub arrivals : AreArrivals (λ s. s < many) (size net) n t
       (λ s. numbers_in net layout n (was.routers s)) was.arrivals next.arrivals
+
+-- ---- .. by what the blocks do
+-- what the links bring to router s, and nothing where the network does not have it
+abbrev pub coming_to : Setup → (ℕ → Turn) → ℕ → Links ℕ
+coming_to net t s =
+    if nat_lt s (nodes net.relation.grid)
+    then brought net.relation.grid net.relation.vcs (λ r. (t r).left) s else no_links
+
+-- the words after these turns, where these packets hold the input channels then
+abbrev pub words_after : Setup → (ℕ → Turn) → (ℕ → ℕ → ℕ) → ℕ → (ℕ → Option ℕ) → Words
+words_after net t packets last arrivals = record {
+  routers = λ s. router_after (t s) (packets s) (coming_to net t s);
+  last = last;
+  arrivals = arrivals;
+}
+
+-- each has made its turn, which is shown by what it holds but for the packets that hold its input
+-- channels: these are told over the links
+pub record HaveTurned (net : Setup) (pattern : Pattern) (layout : Layout) (n many : ℕ)
+    (t : ℕ → Turn) (held : ℕ → Held) (packets : ℕ → ℕ → ℕ) (was : Words) : Type 0 where
+  pub turns : (s : ℕ) → s < many → IsNodeTurn net pattern layout n s (was.routers s) (t s)
+  pub shows : (s : ℕ) → s < many → ShowsTurn pattern (held s) (t s)
+  pub told : (s i : ℕ) → s < nodes net.relation.grid → i < size net
+      → packets s i
+      ≡ unwrap_or (heard net.relation.grid net.relation.vcs
+      (λ r. tells_in net layout n (was.routers r) (t r)) s i)
+      (numbers_in net layout n (was.routers s) i)

@@ -32,7 +32,7 @@ pub use nodes::{
 pub use opening::opened_blocks_show_the_network;
 pub use routers::routers_have_what_is_asked_for;
 pub use steps::{
-    a_cycle_of_all_keeps_what_they_show, nodes_tell_what_they_grant,
-    turns_are_shown_by_what_is_held,
+    a_cycle_of_all_keeps_what_they_show, nodes_tell_what_they_grant, packets_of_all_blocks_arrive,
+    turns_are_shown_by_what_is_held, turns_of_all_are_a_cycle,
 };
 pub use wires::what_comes_over_links_is_gathered;

@@ -1,15 +1,19 @@
 //! Cycles of the routers of all blocks of a network.
 
-ghost use Rattle.std.specs.Prelude.{◌≡◌, ℕ, suc, ◌<◌, Bool};
+ghost use Rattle.std.specs.Prelude.{◌≡◌, ℕ, suc, ◌*◌, ◌/◌, ◌%◌, ◌<◌, Bool, Option, Some};
+ghost use Rattle.noc_alloc.specs.Members.{MembersAreBelow};
 ghost use Rattle.noc_sets.specs.Cycle.{Router, Turn, granted_in, still_of};
 ghost use Rattle.noc_sets.specs.Layout.{Layout};
 ghost use Rattle.noc_theory.specs.Good.{IsGoodSetup};
-ghost use Rattle.noc_theory.specs.Network.{Setup};
+ghost use Rattle.noc_theory.specs.Network.{Setup, size};
 ghost use Rattle.noc_theory.specs.declared.limits.TheConstants.{CYCLE_LIMIT};
-ghost use Rattle.noc_theory_bits.specs.Network.{HasTurned, Words, all_starts, tells_in};
+ghost use Rattle.noc_theory_bits.specs.Network.{AreArrivals, HasTurned, IsLastAfter, Words, all_starts, numbers_in, tells_in};
 ghost use Rattle.noc_columns.specs.declared.channels.Decided.{Decided};
 ghost use Rattle.noc_columns.specs.declared.channels.Links.{Links};
 ghost use Rattle.noc_columns.specs.declared.channels.Standing.{Standing};
+ghost use Rattle.noc_columns.specs.declared.sets.TheConstants.{CHANNELS};
+ghost use Rattle.noc_columns.specs.declared.words.TheConstants.{ROUTERS};
+ghost use Rattle.noc_cycles.specs.Concluding.{HaveArrived};
 ghost use Rattle.noc_cycles.specs.Deciding.{HasDecidedHeld, undecided};
 ghost use Rattle.noc_cycles.specs.Held.{Held, ShowsHeld};
 ghost use Rattle.noc_cycles.specs.Taking.{HasTaken};
@@ -18,7 +22,7 @@ ghost use Rattle.noc_cycles.specs.Turning.{ShowsTurn};
 ghost use Rattle.noc_cycles.specs.declared.pattern.Pattern.{Pattern};
 ghost use Rattle.noc_theory_cycles.specs.Fits.{FitsNetwork};
 ghost use Rattle.noc_theory_cycles.specs.Nodes.{ShowsNode};
-ghost use Rattle.noc_theory_cycles.specs.Steps.{HasStepped, ShowsAll, router_after};
+ghost use Rattle.noc_theory_cycles.specs.Steps.{HasStepped, HaveTurned, ShowsAll, coming_to, router_after, words_after};
 
 /// What a router tells over its links in a cycle are the numbers of the packets that it has granted
 /// output channels.
@@ -61,4 +65,36 @@ pub fn a_cycle_of_all_keeps_what_they_show()
         → ShowsAll count net pattern n many links held was
         → HasStepped net pattern layout n many t coming after was next
         → ShowsAll count net pattern (suc n) many coming after next }
+{}
+
+/// The turns of all routers are a cycle of all, where the numbers of packets are told over links,
+/// and what leaves the routers comes to the others.
+pub fn turns_of_all_are_a_cycle()
+    ensures { (net : Setup) (layout : Layout) (pattern : Pattern) (n many : ℕ) (t : ℕ → Turn)
+        (held : ℕ → Held) (packets : ℕ → ℕ → ℕ) (last : ℕ) (arrivals : ℕ → Option ℕ) (was : Words)
+        → HaveTurned net pattern layout n many t held packets was
+        → IsLastAfter (λ s. s < many) n t was.last last
+        → AreArrivals (λ s. s < many) (size net) n t
+        (λ s. numbers_in net layout n (was.routers s)) was.arrivals arrivals
+        → HasStepped net pattern layout n many t (coming_to net t)
+        (λ s. record (held s) { packet = packets s }) was
+        (words_after net t packets last arrivals) }
+{}
+
+/// Where packets arrive in one block after the other, and their cycles are read from words, these
+/// are the arrivals of all.
+pub fn packets_of_all_blocks_arrive()
+    ensures blocks { (cycle blocks : ℕ) (channels : ℕ → ℕ → ℕ) (packet : ℕ → ℕ → ℕ → ℕ)
+        (at : ℕ → ℕ → ℕ) → ((b r : ℕ) → MembersAreBelow CHANNELS (channels b r))
+        → ((b : ℕ) → b < blocks
+        → HaveArrived cycle ROUTERS (channels b) (packet b) (at b) (at (suc b)))
+        → HaveArrived cycle (ROUTERS * blocks) (λ s. channels (s / ROUTERS) (s % ROUTERS))
+        (λ s. packet (s / ROUTERS) (s % ROUTERS)) (at 0) (at blocks) }
+    ensures network { (size n many : ℕ) (t : ℕ → Turn) (channels : ℕ → ℕ)
+        (packet numbers : ℕ → ℕ → ℕ) (old new : ℕ → ℕ) (read : ℕ → Option ℕ)
+        → HaveArrived n many channels packet old new → read n ≡ Some n
+        → ((s : ℕ) → s < many → (t s).arrived ≡ channels s)
+        → ((s : ℕ) → s < many → MembersAreBelow size (channels s))
+        → ((s : ℕ) → s < many → numbers s ≡ packet s)
+        → AreArrivals (λ s. s < many) size n t numbers (λ p. read (old p)) (λ p. read (new p)) }
 {}
