@@ -22,3 +22,5 @@ pub mod LocalLemmas
 pub mod FreshLemmas
 pub mod InjectLemmas
 pub mod UpLemmas
+pub mod StillLemmas
+pub mod SomeLemmas

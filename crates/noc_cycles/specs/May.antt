@@ -48,8 +48,8 @@ pub record MayTake (pattern : Pattern) (starts : List Start) (h : Held) (b : Rou
       → h.source.queue + 1 < length starts
   pub due : h.injecting ≢ 0 → (cycle : ℕ) × (h.source.due ≤ cycle) × (cycle < 2 ^ 32 - 1)
 
--- to inject in a cycle: so may all 64 routers of a block, also where the network has fewer. (Packets
--- of the others are never due.)
+-- to inject in a cycle: so may all 64 routers of a block, also where the network has fewer.
+-- (Packets of the others are never due.)
 pub record MayInject (starts : List Start) (cycle : ℕ) (h : Held) : Type 0 where
   pub one : (v w : ℕ) → has_bit h.injecting v ≡ true → has_bit h.injecting w ≡ true → v ≡ w
   pub left : h.injecting ≢ 0 → 0 < h.source.left

@@ -19,7 +19,7 @@ mod notes;
 mod nothing;
 mod opening;
 mod pattern;
-mod take;
+mod taking;
 mod tells;
 mod turning;
 
@@ -36,6 +36,6 @@ pub use laws::routers_that_hold_nothing_are_empty;
 pub use notes::Note;
 pub use opening::{empty_works, open_blocks};
 pub use pattern::{Pattern, SHALLOW};
-pub use take::{count_credits, inject_flits};
+pub use taking::take;
 pub use tells::{room_for_notes, tell};
 pub use turning::routers_take_part;

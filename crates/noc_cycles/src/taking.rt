@@ -1,27 +1,91 @@
 //! What comes to the routers of a block is taken: credits, what their sources inject, and flits.
 
-ghost use Rattle.std.specs.Prelude.{◌≡◌, ◌≢◌, ◌+◌, ◌*◌, ◌<◌, ◌≤◌, ◌^◌, ◌&&◌, ◌||◌, ℕ, true, false, length, nat_eq, slice_index, bit_or, if◌then◌else◌};
+ghost use Rattle.std.specs.Prelude.{◌≡◌, ◌≢◌, ◌+◌, ◌*◌, ◌<◌, ◌≤◌, ◌^◌, ◌&&◌, ◌||◌, ℕ, true, false, length, nat_eq, not, slice_index, bit_or, if◌then◌else◌};
 ghost use Rattle.noc_packet.specs.Set.{has_bit};
+ghost use Rattle.noc_sets.specs.Cycle.{Router};
 ghost use Rattle.noc_sets.specs.Layout.{Layout};
 ghost use Rattle.noc_sets.specs.Source.{start_in};
+ghost use Rattle.noc_columns.specs.Channels.{standing_by};
 ghost use Rattle.noc_columns.specs.Marks.{ChangesIdle};
 ghost use Rattle.noc_columns.specs.Picks.{channels_of, links_of};
 ghost use Rattle.noc_columns.specs.Sources.{AreDue, begun_if, left_in, sent_if, source_in, starts_by};
 ghost use Rattle.noc_columns.specs.Words.{set_of};
 ghost use Rattle.noc_columns.specs.declared.words.TheConstants.{ROUTERS};
-ghost use Rattle.noc_cycles.specs.Held.{held_at, links_at};
-ghost use Rattle.noc_cycles.specs.Taking.{FitsLayout, HasCredits, HasInjected, IsPunctual, MaySend};
+ghost use Rattle.noc_cycles.specs.Held.{ShowsHeld, held_at, links_at};
+ghost use Rattle.noc_cycles.specs.May.{MayTake};
+ghost use Rattle.noc_cycles.specs.Taking.{FitsLayout, HasCredits, HasInjected, HasTaken, IsPunctual, MaySend};
 
 use crate::begins::{begin_packets, some_in};
 use crate::block::{Block, Work};
 use crate::pattern::Pattern;
 use noc_columns::{
-    Links, Marks, Sources, Start, Words, add_links, bring, inject, look_up, take_credits,
+    Links, Marks, Sources, Start, Words, add_links, bring, inject, land, look_up, take_credits,
 };
 
-/// The credits that come are counted. Channels that drain and have all their credits again are
-/// idle, and it is looked up which input channels are supplied.
-pub fn count_credits(pattern: &Pattern, block: &mut Block, work: &mut Work)
+/// What comes to the routers of a block is taken: credits, what their sources inject, and flits.
+/// The answer is the routers to which something comes.
+pub fn take(
+    pattern: &Pattern,
+    starts: &[Start],
+    cycle: u32,
+    block: &mut Block,
+    work: &mut Work,
+) -> u64
+    requires { MaySend pattern.now.table.ports (starts_by starts.now) cycle block.old }
+    ensures taken { (layout : Layout) (r : ℕ) (b : Router) → FitsLayout pattern.now layout
+        → r < ROUTERS
+        → ShowsHeld pattern.now (held_at pattern.now.table.ports block.old r)
+        (links_at pattern.now.table.ports work.old.came r) b
+        → MayTake pattern.now (starts_by starts.now) (held_at pattern.now.table.ports block.old r) b
+        → (let all = set_of (channels_of pattern.now.table.ports) r in
+        HasTaken pattern.now layout (starts_by starts.now) cycle b
+        (held_at pattern.now.table.ports block.new r) (standing_by all work.new.standing)
+        (all work.new.verdicts.no_credit) (has_bit result r)) }
+    ensures punctual { IsPunctual cycle pattern.now.table.ports block.new }
+    ensures block { block.new ≡ record block.old {
+      inputs = block.new.inputs;
+      outputs = block.new.outputs;
+      injection = block.new.injection;
+      marks = block.new.marks;
+      packets = block.new.packets;
+      sources = block.new.sources;
+    } }
+    ensures work { work.new ≡ record work.old {
+      came = work.new.came;
+      returned = work.new.returned;
+      standing = work.new.standing;
+      verdicts = record work.old.verdicts { no_credit = work.new.verdicts.no_credit };
+    } }
+{
+    count_credits(pattern, block, work);
+    inject_flits(pattern, starts, cycle, block, &mut work.came);
+    let _heading = land(
+        &pattern.frame,
+        &work.came,
+        &mut block.inputs,
+        &mut work.standing,
+        &mut work.verdicts.no_credit,
+    );
+    some_come(pattern, &work.came)
+}
+
+// The routers to which flits or credits come.
+fn some_come(pattern: &Pattern, came: &Links<Words>) -> u64
+    ensures { (r : ℕ) → has_bit result r ≡ not (nat_eq
+        (bit_or (set_of (channels_of pattern.now.table.ports) r came.now.flits)
+        (set_of (links_of pattern.now.table.ports.links) r came.now.credits)) 0) }
+{
+    let links = pattern.table.ports.links.vcs * pattern.table.ports.links.width;
+    let local = &pattern.table.ports.local;
+    let flits = some_in(&came.flits, 0, links);
+    let injected = some_in(&came.flits, local.first, local.vcs);
+    let credits = some_in(&came.credits, 0, links);
+    flits | injected | credits
+}
+
+// The credits that come are counted. Channels that drain and have all their credits again are
+// idle, and it is looked up which input channels are supplied.
+fn count_credits(pattern: &Pattern, block: &mut Block, work: &mut Work)
     ensures credits { (layout : Layout) (r : ℕ) → FitsLayout pattern.now layout → r < ROUTERS
         → HasCredits pattern.now layout
         (links_at pattern.now.table.ports work.old.came r).credits
@@ -66,8 +130,8 @@ fn free_links(pattern: &Pattern, routers: u64, home: &Words, marks: &mut Marks)
     }
 }
 
-/// The sources of a block inject. What they inject comes to its local channels.
-pub fn inject_flits(
+// The sources of a block inject. What they inject comes to its local channels.
+fn inject_flits(
     pattern: &Pattern,
     starts: &[Start],
     cycle: u32,

@@ -14,7 +14,7 @@ use Rattle.noc_cycles.proofs.FreshLemmas.{is-some}
 use Rattle.noc_cycles.proofs.InjectLemmas.{Injects, begun-now, comes-apart, comes-due, comes-queue, due-is, goes-left, has-injected, may-be, some-local, still-due}
 use Rattle.noc_cycles.proofs.PartLemmas.{in-parts, links-kept}
 use Rattle.noc_cycles.specs.Held.{held_at}
-use Rattle.noc_cycles.proofs.take.inject_flits.Goals as goal
+use Rattle.noc_cycles.proofs.taking.inject_flits.Goals as goal
 
 pub begin_packets-requires-clause-queue : goal.begin_packets-requires-clause-queue
 begin_packets-requires-clause-queue c = λ r v few e.

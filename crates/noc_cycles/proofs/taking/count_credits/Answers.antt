@@ -5,7 +5,7 @@ use Rattle.noc_columns.specs.Words.{set_of, word}
 use Rattle.noc_cycles.specs.Held.{held_at}
 use Rattle.noc_cycles.proofs.CreditLemmas.{has-credits, none-home}
 use Rattle.noc_cycles.proofs.PartLemmas.{all-within, links-within, none-above}
-use Rattle.noc_cycles.proofs.take.count_credits.Goals as goal
+use Rattle.noc_cycles.proofs.taking.count_credits.Goals as goal
 
 pub free_links-requires : goal.free_links-requires
 free_links-requires c = λ none r few. none-home c.args.pattern.now r c.take_credits-home.result c.take_credits-home.new.returned.home none (c.take_credits-home.ensures.home r)

@@ -1,6 +1,6 @@
 use Rattle.std.proofs.Common.{◌≡◌, ◌∙◌, ap, arith, bit_or, slice_index, sym}
 use Rattle.noc_sets.proofs.MemberLemmas.{or-zero}
-use Rattle.noc_cycles.proofs.take.free_links.Goals as goal
+use Rattle.noc_cycles.proofs.taking.free_links.Goals as goal
 
 pub returns-else-routers-ne0-clause-idle : goal.returns-else-routers-ne0-clause-idle
 returns-else-routers-ne0-clause-idle c = λ r few.

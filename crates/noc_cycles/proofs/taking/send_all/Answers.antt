@@ -4,7 +4,7 @@ use Rattle.noc_packet.specs.Set.{has_bit}
 use Rattle.noc_packet.proofs.SetLemmas.{either_members}
 use Rattle.noc_columns.specs.Sources.{source_in, starts_by}
 use Rattle.noc_cycles.proofs.SendLemmas.{begun-last}
-use Rattle.noc_cycles.proofs.take.send_all.Goals as goal
+use Rattle.noc_cycles.proofs.taking.send_all.Goals as goal
 
 pub returns-clause-last : goal.returns-clause-last
 returns-clause-last c = λ r few.
