@@ -39,6 +39,7 @@ use Rattle.noc_cycles.specs.Concluding.{HasConcludedHeld}
 use Rattle.noc_cycles.specs.Deciding.{HasDecidedHeld, undecided}
 use Rattle.noc_cycles.specs.Held.{Held, ShowsMarks, ShowsStill, column_by}
 use Rattle.noc_cycles.specs.Taking.{FitsLayout, HasTaken, links_count}
+use Rattle.noc_cycles.specs.Through.{HasGoneThrough, Worked}
 use Rattle.noc_cycles.specs.Turning.{HasWorkedHeld, verdict_sets_by}
 use Rattle.noc_cycles.specs.declared.pattern.Pattern.{Pattern}
 
@@ -558,8 +559,9 @@ module _ (pattern : Pattern) (layout : Layout) (sets : ℕ → ℕ → ℕ) (s :
 
 -- ---- the whole cycle of a router
 module _ (pattern : Pattern) (layout : Layout) (starts : List Start) (sets : ℕ → ℕ → ℕ) (cycle : ℕ) (b : Router) (a h n : Held) (standing : Standing ℕ) (decided : Decided ℕ) (granted lost gone arrived : ℕ) (left : Links ℕ)
-    (v w : Verdicts ℕ) (comes : Bool) (fits : FitsLayout pattern layout) (takes : HasTaken pattern layout starts cycle b a standing v.no_credit comes)
-    (d : HasDecidedHeld pattern layout sets (still_of layout starts cycle takes.up b) a h standing decided granted lost left) (c : HasConcludedHeld pattern standing decided granted (record left { credits = gone }) arrived h n v w) where
+    (v w : Verdicts ℕ) (comes happens : Bool) (fits : FitsLayout pattern layout) (takes : HasTaken pattern layout starts cycle b a standing v.no_credit comes)
+    (d : HasDecidedHeld pattern layout sets (still_of layout starts cycle takes.up b) a h standing decided granted lost left) (c : HasConcludedHeld pattern standing decided granted (record left { credits = gone }) arrived h n v w)
+    (happening : happens ≡ (comes || not (nat_eq (bit_or (bit_or standing.heads granted) w.moved) 0))) where
   abbrev s : Still
   s = still_of layout starts cycle takes.up b
 
@@ -586,7 +588,7 @@ module _ (pattern : Pattern) (layout : Layout) (starts : List Start) (sets : ℕ
     happened = not (nat_eq (bit_or (bit_or (bit_or (came_in layout cycle b) d.effects.heads) d.effects.granted) d.effects.moved) 0);
   }
 
-  pub has-worked : HasWorkedHeld pattern layout starts sets cycle b s d.chosen n (verdict_sets_by standing w n.inputs.waiting granted lost) (record left { credits = gone }) arrived comes
+  pub has-worked : HasWorkedHeld pattern layout starts sets cycle b s d.chosen n (verdict_sets_by standing w n.inputs.waiting granted lost) (record left { credits = gone }) arrived happens
   has-worked = record {
     turn = the-turn;
     works = record {
@@ -625,7 +627,7 @@ module _ (pattern : Pattern) (layout : Layout) (starts : List Start) (sets : ℕ
     counted = λ i. ap (λ x. with_verdicts x i (b.counts i)) (told-sets pattern layout sets s a h n standing decided granted lost gone arrived left v w fits takes.shows d c);
     grants = refl;
     found = λ i. ap (λ x. found_in pattern.table.ports.links.vcs x s.filled s.column s.marks i) (told-sets pattern layout sets s a h n standing decided granted lost gone arrived left v w fits takes.shows d c);
-    happened = something;
+    happened = something ∙ sym happening;
   }
     where
       moved : w.moved ≡ d.effects.moved
@@ -649,3 +651,12 @@ module _ (pattern : Pattern) (layout : Layout) (starts : List Start) (sets : ℕ
           (bit_or (sym (heads-is pattern layout sets s a h n standing decided granted lost gone arrived left v w fits takes.shows d c) x)
           (sym (granted-is pattern layout sets s a h n standing decided granted lost gone arrived left v w fits takes.shows d c) x))
           (sym moved x)) 0))
+
+pub worked-through : (pattern : Pattern) (layout : Layout) (starts : List Start) (sets : ℕ → ℕ → ℕ) (cycle : ℕ) (b : Router) (n : Held) (x : Worked) (happens : Bool) (goes : HasGoneThrough pattern layout starts sets cycle b n x happens)
+    → FitsLayout pattern layout
+    → HasWorkedHeld pattern layout starts sets cycle b (still_of layout starts cycle goes.takes.up b) goes.decides.chosen n (verdict_sets_by x.standing x.verdicts n.inputs.waiting x.granted x.lost) x.left x.arrived happens
+worked-through pattern layout starts sets cycle b n x happens goes fits =
+    let concludes = coe 0 1 (y. HasConcludedHeld pattern x.standing x.decided x.granted (goes.sent_is y) x.arrived goes.chosen n goes.before x.verdicts) goes.concludes in
+    coe 0 1
+    (y. HasWorkedHeld pattern layout starts sets cycle b (still_of layout starts cycle goes.takes.up b) goes.decides.chosen n (verdict_sets_by x.standing x.verdicts n.inputs.waiting x.granted x.lost) (sym goes.sent_is y) x.arrived happens)
+    (has-worked pattern layout starts sets cycle b goes.still goes.chosen n x.standing x.decided x.granted x.lost x.left.credits x.arrived goes.sent goes.before x.verdicts goes.comes happens fits goes.takes goes.decides concludes goes.happened)

@@ -10,3 +10,4 @@ pub mod Opened
 pub mod Concluding
 pub mod Told
 pub mod Turning
+pub mod Through

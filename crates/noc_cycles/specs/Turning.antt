@@ -1,6 +1,6 @@
 -- A router of a block has taken part in a cycle: it has taken what comes, what it does is decided,
 -- and that has taken effect.
-use Rattle.std.specs.Prelude.{◌≡◌, ℕ, ◌+◌, Bool, ◌||◌, List, not, bit_or, nat_eq}
+use Rattle.std.specs.Prelude.{◌≡◌, ℕ, ◌+◌, Bool, List, bit_or}
 use Rattle.noc_sets.specs.Counts.{ByVerdict, with_verdicts}
 use Rattle.noc_sets.specs.Cycle.{HasWorked, Router, Still, Turn, granted_in}
 use Rattle.noc_sets.specs.Found.{found_in}
@@ -44,10 +44,10 @@ pub record ShowsTurn (pattern : Pattern) (n : Held) (t : Turn) : Type 0 where
 
 -- a router with these words, which are `s` once it is still, takes part in the cycle and then holds
 -- n: output channels are granted and heads are routed as `chosen` tells, these are its verdicts, and
--- these leave it. `comes` tells whether something has come to it
+-- these leave it. `happens` tells whether something happens in it
 pub record HasWorkedHeld (pattern : Pattern) (layout : Layout) (starts : List Start)
     (sets : ℕ → ℕ → ℕ) (cycle : ℕ) (b : Router) (s : Still) (chosen : Allocation) (n : Held)
-    (told : ByVerdict) (left : Links ℕ) (arrived : ℕ) (comes : Bool) : Type 0 where
+    (told : ByVerdict) (left : Links ℕ) (arrived : ℕ) (happens : Bool) : Type 0 where
   pub turn : Turn
   pub works : HasWorked (pattern.table.ports.links.width + 1) pattern.table.ports.links.vcs layout
       starts sets cycle b turn
@@ -59,5 +59,4 @@ pub record HasWorkedHeld (pattern : Pattern) (layout : Layout) (starts : List St
   pub found : (i : ℕ)
       → turn.found i
       ≡ found_in pattern.table.ports.links.vcs told s.filled s.column s.marks i
-  pub happened : turn.happened
-      ≡ (comes || not (nat_eq (bit_or (bit_or told.routed told.granted) told.moved) 0))
+  pub happened : turn.happened ≡ happens
