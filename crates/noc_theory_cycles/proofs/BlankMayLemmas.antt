@@ -38,7 +38,7 @@ up-empty a links none = zero_from_none a (λ k.
     let back : links + k - links ≡ k = omega arith in
     sym (ap (has_bit a) back) ∙ sym (up_members a links (links + k) (omega arith)) ∙ ap (λ w. has_bit w (links + k)) none ∙ has_bit-zero (links + k))
 
-no-shift : (links : ℕ) → up_by 0 links ≡ 0
+pub no-shift : (links : ℕ) → up_by 0 links ≡ 0
 no-shift links = omega arith
 
 module _ (pattern : Pattern) (h : Held) (links : Links ℕ) (b : Router) (held : ShowsHeld pattern h links b) (blank : IsBlank (channels_count pattern) b) where

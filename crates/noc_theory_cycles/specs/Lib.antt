@@ -4,3 +4,4 @@ pub mod Granted
 pub mod Nodes
 pub mod Firsts
 pub mod Steps
+pub mod Sleeps

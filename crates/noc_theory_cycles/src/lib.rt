@@ -4,8 +4,8 @@
 //! `noc_theory_bits` what the words of all routers show of a network. `specs/` has what it means
 //! that a block fits a network (`Fits`), what routers hold that the network does not have
 //! (`Blank`), what a router of a block shows (`Nodes`), which channels are granted (`Granted`),
-//! where packets begin (`Firsts`), and what all routers show, cycle by cycle (`Steps`). The laws
-//! are the contracts of the functions here.
+//! where packets begin (`Firsts`), what all routers show, cycle by cycle (`Steps`), and which of
+//! them sleep (`Sleeps`). The laws are the contracts of the functions here.
 #![tactic(auto)]
 
 mod blank;
@@ -15,6 +15,7 @@ mod layouts;
 mod nodes;
 mod opening;
 mod routers;
+mod sleeps;
 mod steps;
 mod wires;
 
@@ -31,6 +32,7 @@ pub use nodes::{
 };
 pub use opening::opened_blocks_show_the_network;
 pub use routers::routers_have_what_is_asked_for;
+pub use sleeps::{a_wait_keeps_what_all_show, quiet_routers_sleep};
 pub use steps::{
     a_cycle_of_all_keeps_what_they_show, nodes_tell_what_they_grant, packets_of_all_blocks_arrive,
     turns_are_shown_by_what_is_held, turns_of_all_are_a_cycle,
