@@ -24,3 +24,4 @@ pub mod InjectLemmas
 pub mod UpLemmas
 pub mod StillLemmas
 pub mod SomeLemmas
+pub mod ExchangeLemmas

@@ -11,3 +11,4 @@ pub mod Concluding
 pub mod Told
 pub mod Turning
 pub mod Through
+pub mod Exchange
