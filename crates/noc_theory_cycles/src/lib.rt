@@ -17,7 +17,6 @@ mod opening;
 mod routers;
 mod sleeps;
 mod steps;
-mod wires;
 
 pub use blank::{
     blank_routers_have_what_is_asked_for, blank_routers_hold_nothing, blank_routers_stay_blank,
@@ -37,4 +36,3 @@ pub use steps::{
     a_cycle_of_all_keeps_what_they_show, nodes_tell_what_they_grant, packets_of_all_blocks_arrive,
     turns_are_shown_by_what_is_held, turns_of_all_are_a_cycle,
 };
-pub use wires::what_comes_over_links_is_gathered;
