@@ -17,19 +17,13 @@ use crate::picks::{Picks, pick_each};
 use crate::planes::less;
 use crate::ports::{PORTS, Ports, RouterPorts};
 use crate::supply::Digits;
-use crate::words::Words;
+use crate::words::{WORDS, Words};
 
-/// What a switch has: of each output port a word for each input port.
+/// The pointers of a switch: of each output port a word for each input port.
 #[derive(Drop)]
 pub struct Switch<T> {
     /// The input ports at or after the pointer of the output port.
     pub ahead: T,
-    /// Those that ask for it.
-    pub asks: T,
-    /// The one that it takes.
-    pub taken: T,
-    /// Those after that one.
-    pub past: T,
 }
 
 // What goes by each output port, and which input ports send.
@@ -154,24 +148,22 @@ fn take(ports: &RouterPorts, picks: &Picks, switch: &mut Switch<Words>) -> Taken
         (λ q. has_bit (taken_in ports.now picks.now switch.old.ahead r q) p) }
 {
     let outputs = ports.outputs();
-    ask(&outputs, picks, &mut switch.asks);
-    let any = pick_each(
-        &outputs,
-        &switch.asks,
-        &switch.ahead,
-        &mut switch.taken,
-        &mut switch.past,
-    );
-    advance(&outputs, &any, &switch.past, &mut switch.ahead);
+    // (These are values of its own, which the compiler keeps out of memory.)
+    let mut asks = [0; WORDS];
+    let mut taken = [0; WORDS];
+    let mut past = [0; WORDS];
+    ask(&outputs, picks, &mut asks);
+    let any = pick_each(&outputs, &asks, &switch.ahead, &mut taken, &mut past);
+    advance(&outputs, &any, &past, &mut switch.ahead);
     Taken {
         any,
-        tail: of_taken(&outputs, &switch.taken, &picks.tail),
+        tail: of_taken(&outputs, &taken, &picks.tail),
         vc: Digits {
-            ones: of_taken(&outputs, &switch.taken, &picks.vc.ones),
-            twos: of_taken(&outputs, &switch.taken, &picks.vc.twos),
-            fours: of_taken(&outputs, &switch.taken, &picks.vc.fours),
+            ones: of_taken(&outputs, &taken, &picks.vc.ones),
+            twos: of_taken(&outputs, &taken, &picks.vc.twos),
+            fours: of_taken(&outputs, &taken, &picks.vc.fours),
         },
-        sends: senders(&outputs, &switch.taken),
+        sends: senders(&outputs, &taken),
     }
 }
 

@@ -29,12 +29,7 @@ pub(crate) const NO_BLOCK: Block = Block {
             vc: NO_DIGITS,
         },
     },
-    switch: Switch {
-        ahead: NO_WORDS,
-        asks: NO_WORDS,
-        taken: NO_WORDS,
-        past: NO_WORDS,
-    },
+    switch: Switch { ahead: NO_WORDS },
     injection: Injection {
         injecting: NO_WORDS,
         went: NO_WORDS,
