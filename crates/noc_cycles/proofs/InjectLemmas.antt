@@ -46,7 +46,7 @@ some-local local r some words one is =
     ∙ some-asks (port_at local 0) r words
 
 -- the routers whose next packet is due
-pub due-is : (cycle : ℕ) (due : Due) (at : List ℕ) (r : ℕ) → due.at ≡ at → AreDue cycle due → r < 64 → has_bit due.ready r ≡ nat_le (slice_index at r) cycle
+due-is : (cycle : ℕ) (due : Due) (at : List ℕ) (r : ℕ) → due.at ≡ at → AreDue cycle due → r < 64 → has_bit due.ready r ≡ nat_le (slice_index at r) cycle
 due-is cycle due at r same are few = are.ready r few ∙ ap (λ a. nat_le (slice_index a r) cycle) same
 
 -- what is decided of one router of a block: a flit goes into `went`, or a packet begins in `begun`
@@ -67,14 +67,33 @@ pub record Injects (pattern : Pattern) (starts : List Start) (cycle : ℕ) (bloc
   pub punctual : set_of (port_at pattern.table.ports.local 0) r block.injection.injecting ≢ 0 → slice_index block.sources.due.at r ≤ cycle
 
 -- where a source may inject in a cycle
-pub may-be : (ports : RouterPorts) (starts : List Start) (cycle : ℕ) (block : Block) (r : ℕ) → r < 64 → MaySend ports starts cycle block
+may-be : (ports : RouterPorts) (starts : List Start) (cycle : ℕ) (block : Block) (r : ℕ) → r < 64 → MaySend ports starts cycle block
     → set_of (port_at ports.local 0) r block.injection.injecting ≢ 0 → slice_index block.sources.due.at r ≤ cycle
 may-be ports starts cycle block r few may some =
     let due = may.punctual.injected r few some in
     let earlier = may.earlier in
     omega (arith, due, earlier)
 
-module _ (pattern : Pattern) (starts : List Start) (cycle : ℕ) (block : Block) (r went begun : ℕ) (goes starting : Bool) (is : Injects pattern starts cycle block r went begun goes starting) where
+-- .. as the passes tell it
+pub injects-so : (pattern : Pattern) (starts : List Start) (cycle : ℕ) (block : Block) (r : ℕ) (few : r < 64) (due : Due) (went begun : ℕ) (goes starting : Bool) → MaySend pattern.table.ports starts cycle block
+    → due.at ≡ block.sources.due.at → ((before : ℕ) → before ≤ cycle → AreDue before block.sources.due → AreDue cycle due)
+    → went
+    ≡ bit_and (set_of (port_at pattern.table.ports.local 0) r block.injection.injecting)
+    (wrong_from 0 (list_of pattern.frame.deep (planes_by (set_of (port_at pattern.table.ports.local 0) r) block.inputs.len))
+    (list_of pattern.frame.deep (planes_by (set_alike (port_at pattern.table.ports.local 0) r) pattern.frame.places)))
+    → (has_bit due.ready r ≡ nat_le (slice_index block.sources.due.at r) cycle → begun ≡ lowest (begins_local pattern block cycle r))
+    → goes ≡ not (nat_eq went 0) → starting ≡ not (nat_eq begun 0)
+    → Injects pattern starts cycle block r went begun goes starting
+injects-so pattern starts cycle block r few due went begun goes starting may same pass went_is begun_at goes_is starting_is = record {
+  went_is = went_is;
+  begun_is = begun_at (due-is cycle due block.sources.due.at r same (pass may.before may.earlier may.punctual.due) few);
+  goes_is = goes_is;
+  starting_is = starting_is;
+  may = may.each r few;
+  punctual = may-be pattern.table.ports starts cycle block r few may;
+}
+
+module _ {pattern : Pattern} {starts : List Start} {cycle : ℕ} {block : Block} {r went begun : ℕ} {goes starting : Bool} (is : Injects pattern starts cycle block r went begun goes starting) where
   abbrev inj : ℕ
   inj = set_of (port_at pattern.table.ports.local 0) r block.injection.injecting
 

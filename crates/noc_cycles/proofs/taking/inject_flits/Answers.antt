@@ -1,5 +1,5 @@
-use Rattle.std.proofs.Common.{◌≡◌, ◌≢◌, ℕ, ◌+◌, ◌*◌, ◌<◌, ◌≤◌, ◌∙◌, true, ap, ap₂, arith, bit_or, inl, refl, slice_index, subst, sym}
-use Rattle.std.specs.Prelude.{◌||◌, if◌then◌else◌, not, nat_eq}
+use Rattle.std.proofs.Common.{◌≢◌, ℕ, ◌+◌, ◌*◌, ◌<◌, ◌≤◌, ◌∙◌, ap, ap₂, arith, bit_or, inl, refl, slice_index, subst, sym}
+use Rattle.std.specs.Prelude.{if◌then◌else◌, not, nat_eq}
 use Rattle.std.proofs.lemmas.List.{length-map}
 use Rattle.noc_packet.specs.Set.{has_bit}
 use Rattle.noc_packet.proofs.SetLemmas.{has_bit-below}
@@ -11,7 +11,7 @@ use Rattle.noc_columns.specs.Sources.{begun_if, sent_if, source_in, starts_by, s
 use Rattle.noc_columns.specs.Words.{set_of}
 use Rattle.noc_columns.proofs.FlitLemmas.{blank}
 use Rattle.noc_cycles.proofs.FreshLemmas.{is-some}
-use Rattle.noc_cycles.proofs.InjectLemmas.{Injects, begun-now, comes-apart, comes-due, comes-queue, due-is, goes-left, has-injected, may-be, some-local, still-due}
+use Rattle.noc_cycles.proofs.InjectLemmas.{Injects, begun-now, comes-apart, comes-due, comes-queue, goes-left, has-injected, injects-so, some-local, still-due}
 use Rattle.noc_cycles.proofs.PartLemmas.{in-parts, links-kept}
 use Rattle.noc_cycles.specs.Held.{held_at}
 use Rattle.noc_cycles.proofs.taking.inject_flits.Goals as goal
@@ -23,88 +23,50 @@ begin_packets-requires-clause-queue c = λ r v few e.
     let block = c.args.block.now in
     let starts = starts_by c.args.starts.now in
     let cycle = c.args.cycle in
-    let may = c.requires in
-    let went = set_of local r c.inject-begins.new.injection.went in
-    let begun = set_of local r c.inject-begins.new.injection.begun in
-    let is : Injects pattern starts cycle block r went begun (not (nat_eq went 0)) (has_bit c.inject-begins.result r) = record {
-      went_is = c.inject-begins.ensures.went r blank;
-      begun_is = c.inject-begins.ensures.begun r cycle (slice_index block.sources.due.at r) blank (due-is cycle c.pass.new.self block.sources.due.at r c.pass.ensures.at (c.pass.ensures.due may.before may.earlier may.punctual.due) few);
-      goes_is = refl;
-      starting_is = c.inject-begins.ensures.some r;
-      may = may.each r few;
-      punctual = may-be pattern.table.ports starts cycle block r few may;
-    } in
-    let l = (may.each r few).queue (begun-now pattern starts cycle block r went begun _ _ is (is-some begun v e)) in
+    let due = slice_index block.sources.due.at r in
+    let injection = c.inject-begins.new.injection in
+    let is =
+    injects-so pattern starts cycle block r few c.pass.new.self (set_of local r injection.went) (set_of local r injection.begun) (not (nat_eq (set_of local r injection.went) 0)) (has_bit c.inject-begins.result r) c.requires
+    c.pass.ensures.at c.pass.ensures.due (c.inject-begins.ensures.went r blank) (λ e. c.inject-begins.ensures.begun r cycle due blank e)
+    refl (c.inject-begins.ensures.some r) in
+    let l = (c.requires.each r few).queue (begun-now is (is-some (set_of local r injection.begun) v e)) in
     let long = length-map c.args.starts.now start_by in
     omega (arith, l, long)
 
-pub send_all-last-requires-clause-left : goal.send_all-last-requires-clause-left
-send_all-last-requires-clause-left c = λ r e.
-    let few : r < 64 = has_bit-below c.some_in-went.result 64 r c.some_in-went.type_inv e in
+-- ---- where packets go on and begin
+sends : (c : goal.After-send_all-arg-1) (r : ℕ) → r < 64
+    → Injects c.args.pattern.now (starts_by c.args.starts.now) c.args.cycle c.args.block.now r (set_of (port_at c.args.pattern.now.table.ports.local 0) r c.inject-begins.new.injection.went)
+    (set_of (port_at c.args.pattern.now.table.ports.local 0) r c.inject-begins.new.injection.begun) (has_bit c.some_in-went.result r) (has_bit c.inject-begins.result r)
+sends c r few =
     let pattern = c.args.pattern.now in
     let local = port_at pattern.table.ports.local 0 in
     let block = c.args.block.now in
-    let starts = starts_by c.args.starts.now in
-    let cycle = c.args.cycle in
-    let may = c.requires in
-    let went = set_of local r c.inject-begins.new.injection.went in
-    let begun = set_of local r c.inject-begins.new.injection.begun in
-    let goes = has_bit c.some_in-went.result r in
-    let starting = has_bit c.inject-begins.result r in
-    let is : Injects pattern starts cycle block r went begun goes starting = record {
-      went_is = c.inject-begins.ensures.went r blank;
-      begun_is = c.inject-begins.ensures.begun r cycle (slice_index block.sources.due.at r) blank (due-is cycle c.pass.new.self block.sources.due.at r c.pass.ensures.at (c.pass.ensures.due may.before may.earlier may.punctual.due) few);
-      goes_is = some-local pattern.table.ports.local r c.some_in-went.result c.inject-begins.new.injection.went pattern.table.ports.one (c.some_in-went.ensures r);
-      starting_is = c.inject-begins.ensures.some r;
-      may = may.each r few;
-      punctual = may-be pattern.table.ports starts cycle block r few may;
-    } in
-    goes-left pattern starts cycle block r went begun goes starting is e
+    let injection = c.inject-begins.new.injection in
+    injects-so pattern (starts_by c.args.starts.now) c.args.cycle block r few c.pass.new.self (set_of local r injection.went) (set_of local r injection.begun) (has_bit c.some_in-went.result r) (has_bit c.inject-begins.result r) c.requires
+    c.pass.ensures.at c.pass.ensures.due (c.inject-begins.ensures.went r blank) (λ e. c.inject-begins.ensures.begun r c.args.cycle (slice_index block.sources.due.at r) blank e)
+    (some-local pattern.table.ports.local r c.some_in-went.result injection.went pattern.table.ports.one (c.some_in-went.ensures r)) (c.inject-begins.ensures.some r)
+
+pub send_all-last-requires-clause-left : goal.send_all-last-requires-clause-left
+send_all-last-requires-clause-left c = λ r e. goes-left (sends c r (has_bit-below c.some_in-went.result 64 r c.some_in-went.type_inv e)) e
 
 pub send_all-last-requires-clause-queue : goal.send_all-last-requires-clause-queue
-send_all-last-requires-clause-queue c = λ r few e.
-    let pattern = c.args.pattern.now in
-    let local = port_at pattern.table.ports.local 0 in
-    let block = c.args.block.now in
-    let starts = starts_by c.args.starts.now in
-    let cycle = c.args.cycle in
-    let may = c.requires in
-    let went = set_of local r c.inject-begins.new.injection.went in
-    let begun = set_of local r c.inject-begins.new.injection.begun in
-    let goes = has_bit c.some_in-went.result r in
-    let starting = has_bit c.inject-begins.result r in
-    let is : Injects pattern starts cycle block r went begun goes starting = record {
-      went_is = c.inject-begins.ensures.went r blank;
-      begun_is = c.inject-begins.ensures.begun r cycle (slice_index block.sources.due.at r) blank (due-is cycle c.pass.new.self block.sources.due.at r c.pass.ensures.at (c.pass.ensures.due may.before may.earlier may.punctual.due) few);
-      goes_is = some-local pattern.table.ports.local r c.some_in-went.result c.inject-begins.new.injection.went pattern.table.ports.one (c.some_in-went.ensures r);
-      starting_is = c.inject-begins.ensures.some r;
-      may = may.each r few;
-      punctual = may-be pattern.table.ports starts cycle block r few may;
-    } in
-    subst (λ m. slice_index block.sources.queue r + 1 < m) (length-map c.args.starts.now start_by) (comes-queue pattern starts cycle block r went begun goes starting is e)
+send_all-last-requires-clause-queue c = λ r few e. subst (λ m. slice_index c.args.block.now.sources.queue r + 1 < m) (length-map c.args.starts.now start_by) (comes-queue (sends c r few) e)
 
 pub send_all-last-requires-clause-apart : goal.send_all-last-requires-clause-apart
-send_all-last-requires-clause-apart c = λ r e.
-    let few : r < 64 = has_bit-below c.inject-begins.result 64 r c.inject-begins.type_inv e in
+send_all-last-requires-clause-apart c = λ r e. comes-apart (sends c r (has_bit-below c.inject-begins.result 64 r c.inject-begins.type_inv e)) e
+
+-- ---- once all has come
+all-sends : (c : goal.After-bring) (r : ℕ) → r < 64
+    → Injects c.args.pattern.now (starts_by c.args.starts.now) c.args.cycle c.args.block.now r (set_of (port_at c.args.pattern.now.table.ports.local 0) r c.inject-begins.new.injection.went)
+    (set_of (port_at c.args.pattern.now.table.ports.local 0) r c.inject-begins.new.injection.begun) (has_bit c.some_in-went.result r) (has_bit c.inject-begins.result r)
+all-sends c r few =
     let pattern = c.args.pattern.now in
     let local = port_at pattern.table.ports.local 0 in
     let block = c.args.block.now in
-    let starts = starts_by c.args.starts.now in
-    let cycle = c.args.cycle in
-    let may = c.requires in
-    let went = set_of local r c.inject-begins.new.injection.went in
-    let begun = set_of local r c.inject-begins.new.injection.begun in
-    let goes = has_bit c.some_in-went.result r in
-    let starting = has_bit c.inject-begins.result r in
-    let is : Injects pattern starts cycle block r went begun goes starting = record {
-      went_is = c.inject-begins.ensures.went r blank;
-      begun_is = c.inject-begins.ensures.begun r cycle (slice_index block.sources.due.at r) blank (due-is cycle c.pass.new.self block.sources.due.at r c.pass.ensures.at (c.pass.ensures.due may.before may.earlier may.punctual.due) few);
-      goes_is = some-local pattern.table.ports.local r c.some_in-went.result c.inject-begins.new.injection.went pattern.table.ports.one (c.some_in-went.ensures r);
-      starting_is = c.inject-begins.ensures.some r;
-      may = may.each r few;
-      punctual = may-be pattern.table.ports starts cycle block r few may;
-    } in
-    comes-apart pattern starts cycle block r went begun goes starting is e
+    let injection = c.inject-begins.new.injection in
+    injects-so pattern (starts_by c.args.starts.now) c.args.cycle block r few c.pass.new.self (set_of local r injection.went) (set_of local r injection.begun) (has_bit c.some_in-went.result r) (has_bit c.inject-begins.result r) c.requires
+    c.pass.ensures.at c.pass.ensures.due (c.inject-begins.ensures.went r blank) (λ e. c.inject-begins.ensures.begun r c.args.cycle (slice_index block.sources.due.at r) blank e)
+    (some-local pattern.table.ports.local r c.some_in-went.result injection.went pattern.table.ports.one (c.some_in-went.ensures r)) (c.inject-begins.ensures.some r)
 
 pub returns-clause-injected : goal.returns-clause-injected
 returns-clause-injected c = λ layout r fits few.
@@ -112,26 +74,11 @@ returns-clause-injected c = λ layout r fits few.
     let local = port_at pattern.table.ports.local 0 in
     let block = c.args.block.now in
     let starts = starts_by c.args.starts.now in
-    let cycle = c.args.cycle in
-    let may = c.requires in
-    let went = set_of local r c.inject-begins.new.injection.went in
-    let begun = set_of local r c.inject-begins.new.injection.begun in
-    let goes = has_bit c.some_in-went.result r in
-    let starting = has_bit c.inject-begins.result r in
-    let is : Injects pattern starts cycle block r went begun goes starting = record {
-      went_is = c.inject-begins.ensures.went r blank;
-      begun_is = c.inject-begins.ensures.begun r cycle (slice_index block.sources.due.at r) blank (due-is cycle c.pass.new.self block.sources.due.at r c.pass.ensures.at (c.pass.ensures.due may.before may.earlier may.punctual.due) few);
-      goes_is = some-local pattern.table.ports.local r c.some_in-went.result c.inject-begins.new.injection.went pattern.table.ports.one (c.some_in-went.ensures r);
-      starting_is = c.inject-begins.ensures.some r;
-      may = may.each r few;
-      punctual = may-be pattern.table.ports starts cycle block r few may;
-    } in
     let ports = pattern.table.ports in
     let old = c.args.came.now in
     let came = links_by (set_of (links_of ports.links) r) old in
     let new = c.bring.new.came in
     let last = has_bit c.send_all-last.result r in
-    let arrived = bit_or went begun in
     let flits = c.bring.ensures.flits r in
     let tails = c.bring.ensures.tails r ∙ ap (λ w. if last then w else 0) flits in
     let h = held_at ports block r in
@@ -140,68 +87,32 @@ returns-clause-injected c = λ layout r fits few.
       injecting = set_of local r c.bring.new.injection.injecting;
       source = source_in c.send_all-last.new.sources r;
     } in
-    has-injected pattern starts cycle block r went begun goes starting is layout fits few came k (set_of (channels_of ports) r new.flits) (set_of (channels_of ports) r new.tails) last (c.send_all-last.ensures.last r few)
+    has-injected (all-sends c r few) layout fits few came k (set_of (channels_of ports) r new.flits) (set_of (channels_of ports) r new.tails) last (c.send_all-last.ensures.last r few)
     (in-parts ports r new.flits ∙ ap₂ bit_or (links-kept pattern r old.flits new.flits (λ j l. (c.bring.ensures.others j (inl l)).0)) (ap (λ w. up_by w (ports.links.width * ports.links.vcs)) flits))
     (in-parts ports r new.tails ∙ ap₂ bit_or (links-kept pattern r old.tails new.tails (λ j l. (c.bring.ensures.others j (inl l)).1)) (ap (λ w. up_by w (ports.links.width * ports.links.vcs)) tails))
-    (c.bring.ensures.injecting r ∙ ap₂ (λ i t. less (bit_or (set_of local r i) begun) t) c.inject-begins.ensures.injecting tails)
+    (c.bring.ensures.injecting r ∙ ap₂ (λ i t. less (bit_or (set_of local r i) (set_of local r c.inject-begins.new.injection.begun)) t) c.inject-begins.ensures.injecting tails)
     (λ i. c.begin_packets.ensures r i few)
-    (c.send_all-last.ensures.sources r few ∙ ap (λ a. begun_if starts starting (sent_if starts goes (record h.source { due = slice_index a r }))) c.pass.ensures.at)
+    (c.send_all-last.ensures.sources r few ∙ ap (λ a. begun_if starts (has_bit c.inject-begins.result r) (sent_if starts (has_bit c.some_in-went.result r) (record h.source { due = slice_index a r }))) c.pass.ensures.at)
     refl
 
 pub returns-clause-punctual : goal.returns-clause-punctual
 returns-clause-punctual c = record {
   due = c.send_all-last.ensures.due
-      (λ r few e. subst (λ a. slice_index a r ≤ c.args.cycle) (sym c.pass.ensures.at) (due-then r few e))
+      (λ r few e. subst (λ a. slice_index a r ≤ c.args.cycle) (sym c.pass.ensures.at) (comes-due (all-sends c r few) e))
       (c.pass.ensures.due c.requires.before c.requires.earlier c.requires.punctual.due);
   injected = λ r few some. on r few some;
 }
   where
-    due-then : (r : ℕ) → r < 64 → (has_bit c.some_in-went.result r || has_bit c.inject-begins.result r) ≡ true → slice_index c.args.block.now.sources.due.at r ≤ c.args.cycle
-    due-then r few e =
-        let pattern = c.args.pattern.now in
-        let local = port_at pattern.table.ports.local 0 in
-        let block = c.args.block.now in
-        let starts = starts_by c.args.starts.now in
-        let cycle = c.args.cycle in
-        let may = c.requires in
-        let went = set_of local r c.inject-begins.new.injection.went in
-        let begun = set_of local r c.inject-begins.new.injection.begun in
-        let goes = has_bit c.some_in-went.result r in
-        let starting = has_bit c.inject-begins.result r in
-        let is : Injects pattern starts cycle block r went begun goes starting = record {
-          went_is = c.inject-begins.ensures.went r blank;
-          begun_is = c.inject-begins.ensures.begun r cycle (slice_index block.sources.due.at r) blank (due-is cycle c.pass.new.self block.sources.due.at r c.pass.ensures.at (c.pass.ensures.due may.before may.earlier may.punctual.due) few);
-          goes_is = some-local pattern.table.ports.local r c.some_in-went.result c.inject-begins.new.injection.went pattern.table.ports.one (c.some_in-went.ensures r);
-          starting_is = c.inject-begins.ensures.some r;
-          may = may.each r few;
-          punctual = may-be pattern.table.ports starts cycle block r few may;
-        } in
-        comes-due pattern starts cycle block r went begun goes starting is e
-
     on : (r : ℕ) → r < 64 → set_of (port_at c.args.pattern.now.table.ports.local 0) r c.bring.new.injection.injecting ≢ 0 → slice_index c.send_all-last.new.sources.due.at r ≤ c.args.cycle
     on r few some =
         let pattern = c.args.pattern.now in
         let local = port_at pattern.table.ports.local 0 in
         let block = c.args.block.now in
         let starts = starts_by c.args.starts.now in
-        let cycle = c.args.cycle in
-        let may = c.requires in
-        let went = set_of local r c.inject-begins.new.injection.went in
-        let begun = set_of local r c.inject-begins.new.injection.begun in
-        let goes = has_bit c.some_in-went.result r in
-        let starting = has_bit c.inject-begins.result r in
-        let is : Injects pattern starts cycle block r went begun goes starting = record {
-          went_is = c.inject-begins.ensures.went r blank;
-          begun_is = c.inject-begins.ensures.begun r cycle (slice_index block.sources.due.at r) blank (due-is cycle c.pass.new.self block.sources.due.at r c.pass.ensures.at (c.pass.ensures.due may.before may.earlier may.punctual.due) few);
-          goes_is = some-local pattern.table.ports.local r c.some_in-went.result c.inject-begins.new.injection.went pattern.table.ports.one (c.some_in-went.ensures r);
-          starting_is = c.inject-begins.ensures.some r;
-          may = may.each r few;
-          punctual = may-be pattern.table.ports starts cycle block r few may;
-        } in
         let h = held_at pattern.table.ports block r in
         let last = has_bit c.send_all-last.result r in
         let tails = c.bring.ensures.tails r ∙ ap (λ w. if last then w else 0) (c.bring.ensures.flits r) in
-        still-due pattern starts cycle block r went begun goes starting is last (set_of local r c.bring.new.injection.injecting) (source_in c.send_all-last.new.sources r) (c.send_all-last.ensures.last r few)
-        (c.bring.ensures.injecting r ∙ ap₂ (λ i t. less (bit_or (set_of local r i) begun) t) c.inject-begins.ensures.injecting tails)
-        (c.send_all-last.ensures.sources r few ∙ ap (λ a. begun_if starts starting (sent_if starts goes (record h.source { due = slice_index a r }))) c.pass.ensures.at)
+        still-due (all-sends c r few) last (set_of local r c.bring.new.injection.injecting) (source_in c.send_all-last.new.sources r) (c.send_all-last.ensures.last r few)
+        (c.bring.ensures.injecting r ∙ ap₂ (λ i t. less (bit_or (set_of local r i) (set_of local r c.inject-begins.new.injection.begun)) t) c.inject-begins.ensures.injecting tails)
+        (c.send_all-last.ensures.sources r few ∙ ap (λ a. begun_if starts (has_bit c.inject-begins.result r) (sent_if starts (has_bit c.some_in-went.result r) (record h.source { due = slice_index a r }))) c.pass.ensures.at)
         some
