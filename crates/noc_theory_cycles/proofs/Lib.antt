@@ -13,3 +13,4 @@ pub mod TellLemmas
 pub mod StepLemmas
 pub mod ArriveLemmas
 pub mod SleepLemmas
+pub mod ThroughLemmas

@@ -5,3 +5,4 @@ pub mod Nodes
 pub mod Firsts
 pub mod Steps
 pub mod Sleeps
+pub mod Through

@@ -5,7 +5,8 @@
 //! that a block fits a network (`Fits`), what routers hold that the network does not have
 //! (`Blank`), what a router of a block shows (`Nodes`), which channels are granted (`Granted`),
 //! where packets begin (`Firsts`), what all routers show, cycle by cycle (`Steps`), and which of
-//! them sleep (`Sleeps`). The laws are the contracts of the functions here.
+//! them sleep (`Sleeps`), and what a router makes of a cycle that it goes through (`Through`). The
+//! laws are the contracts of the functions here.
 #![tactic(auto)]
 
 mod blank;
@@ -17,6 +18,7 @@ mod opening;
 mod routers;
 mod sleeps;
 mod steps;
+mod through;
 
 pub use blank::{
     blank_routers_have_what_is_asked_for, blank_routers_hold_nothing, blank_routers_stay_blank,
@@ -36,3 +38,4 @@ pub use steps::{
     a_cycle_of_all_keeps_what_they_show, nodes_tell_what_they_grant, packets_of_all_blocks_arrive,
     turns_are_shown_by_what_is_held, turns_of_all_are_a_cycle,
 };
+pub use through::{all_routers_go_through_a_cycle, nodes_go_through_a_cycle};
