@@ -1,17 +1,19 @@
 -- A cycle of the routers of all blocks is one of the network.
-use Rattle.std.proofs.Common.{◌≡◌, ◌≢◌, ℕ, suc, ◌*◌, ◌<◌, ◌≤◌, false, Option, ap, arith, inl, inr, refl, ◌∙◌}
+use Rattle.std.proofs.Common.{◌≡◌, ◌≢◌, ℕ, suc, ◌*◌, ◌/◌, ◌%◌, ◌<◌, ◌≤◌, false, Option, ap, arith, inl, inr, refl, ◌∙◌}
 use Rattle.std.specs.Prelude.{if◌then◌else◌}
 use Rattle.std.proofs.lemmas.Bool.{cases_lt, false≢true, le-ltb, lt-ltb}
-use Rattle.noc_topo.specs.Shape.{nodes, ports}
+use Rattle.std.proofs.lemmas.Nat.{div-add-mod', mod_below, mul-add-lt}
+use Rattle.noc_topo.specs.Shape.{Grid, IsGrid, local_port, nodes, ports}
 use Rattle.noc_sets.specs.Cycle.{Links as Left, Turn}
 use Rattle.noc_sets.specs.Layout.{Layout}
+use Rattle.noc_sets.proofs.GatherLemmas.{gathered-same}
 use Rattle.noc_theory.specs.Good.{IsGoodSetup}
 use Rattle.noc_theory.specs.Network.{Setup, size}
 use Rattle.noc_theory.specs.declared.limits.TheConstants.{CYCLE_LIMIT}
 use Rattle.noc_theory_bits.specs.Network.{AreArrivals, HasRun, HasTurned, IsLastAfter, Words, numbers_in}
 use Rattle.noc_theory_bits.proofs.bits.NetworkLemmas.{network-next}
 use Rattle.noc_columns.specs.declared.channels.Links.{Links}
-use Rattle.noc_cycles.specs.Gathered.{brought}
+use Rattle.noc_cycles.specs.Gathered.{ShowsLeft, brought}
 use Rattle.noc_cycles.specs.Held.{Held, ShowsHeld}
 use Rattle.noc_cycles.specs.Opened.{no_links}
 use Rattle.noc_cycles.specs.Turning.{ShowsTurn}
@@ -19,7 +21,7 @@ use Rattle.noc_cycles.specs.declared.pattern.Pattern.{Pattern}
 use Rattle.noc_theory_cycles.specs.Blank.{DoesNothing}
 use Rattle.noc_theory_cycles.specs.Fits.{FitsNetwork}
 use Rattle.noc_theory_cycles.specs.Nodes.{ShowsNode}
-use Rattle.noc_theory_cycles.specs.Steps.{HasStepped, HaveTurned, ShowsAll, coming_to, router_after, words_after}
+use Rattle.noc_theory_cycles.specs.Steps.{HasStepped, HaveTurned, ShowsAll, coming_to, left_as, router_after, words_after}
 use Rattle.noc_theory_cycles.proofs.NodeLemmas.{node-blank, node-nothing, node-turn}
 use Rattle.noc_theory_cycles.proofs.NoneLemmas.{no-member}
 
@@ -55,6 +57,24 @@ turn-shown pattern k t packet links shows = record {
 
 pub turn-after : (t : Turn) (packet : ℕ → ℕ) (links : Links ℕ) → HasTurned t (router_after t packet links)
 turn-after t packet links = record { column = refl; marks = refl; ended = refl; source = refl; counts = refl }
+
+-- ---- what comes over links
+-- only what leaves by links is brought
+pub brought-same : (g : Grid) (vcs r : ℕ) (words : ℕ → Links ℕ) (left : ℕ → Left) → IsGrid g → 0 < vcs → r < nodes g → ((s : ℕ) → s < nodes g → ShowsLeft (local_port g * vcs) (words s) (left s))
+    → brought g vcs (left_as words) r ≡ brought g vcs left r
+brought-same g vcs r words left sound some l shows =
+    same (gathered-same g sound vcs some (λ s. (words s).flits) (λ s. (left s).flits) (λ s k m low. (shows s m).flits k (within k low)) r l)
+    (gathered-same g sound vcs some (λ s. (words s).tails) (λ s. (left s).tails) (λ s k m low. (shows s m).tails k (within k low)) r l)
+    (gathered-same g sound vcs some (λ s. (words s).credits) (λ s. (left s).credits) (λ s k m low. (shows s m).credits k (within k low)) r l)
+  where
+    within : (k : ℕ) → k / vcs < local_port g → k < local_port g * vcs
+    within k low =
+        let whole = div-add-mod' k vcs in
+        let inside = mul-add-lt (k / vcs) vcs (k % vcs) (local_port g) low (mod_below k vcs some) in
+        omega (arith, whole, inside)
+
+    same : {a b x y p q : ℕ} → a ≡ b → x ≡ y → p ≡ q → ◌≡◌ {A = Links ℕ} (record { flits = a; tails = x; credits = p }) (record { flits = b; tails = y; credits = q })
+    same e f h = rw (e, f, h) refl
 
 -- ---- by what the blocks do
 module _ (net : Setup) (layout : Layout) (pattern : Pattern) (n many : ℕ) (t : ℕ → Turn) (held : ℕ → Held) (packets : ℕ → ℕ → ℕ) (last : ℕ) (arrivals : ℕ → Option ℕ) (was : Words) (turned : HaveTurned net pattern layout n many t held packets was) where

@@ -2,7 +2,7 @@
 -- and a cycle of all of them.
 use Rattle.std.specs.Prelude.{◌≡◌, ℕ, ◌/◌, ◌%◌, ◌<◌, ◌≤◌, List, None, Option, nat_lt, unwrap_or, if◌then◌else◌}
 use Rattle.noc_topo.specs.Shape.{nodes}
-use Rattle.noc_sets.specs.Cycle.{Router, Turn}
+use Rattle.noc_sets.specs.Cycle.{Links as Left, Router, Turn}
 use Rattle.noc_sets.specs.Layout.{Layout}
 use Rattle.noc_theory.specs.Network.{Setup, size}
 use Rattle.noc_theory_bits.specs.Owners.{heard}
@@ -77,6 +77,14 @@ pub record HasStepped (net : Setup) (pattern : Pattern) (layout : Layout) (n man
       (λ s. numbers_in net layout n (was.routers s)) was.arrivals next.arrivals
 
 -- ---- .. by what the blocks do
+-- what leaves routers, by these words
+abbrev pub left_as : (ℕ → Links ℕ) → ℕ → Left
+left_as words s = record {
+  flits = (words s).flits;
+  tails = (words s).tails;
+  credits = (words s).credits;
+}
+
 -- what the links bring to router s, and nothing where the network does not have it
 abbrev pub coming_to : Setup → (ℕ → Turn) → ℕ → Links ℕ
 coming_to net t s =

@@ -36,6 +36,6 @@ pub use routers::routers_have_what_is_asked_for;
 pub use sleeps::{a_wait_keeps_what_all_show, quiet_routers_sleep};
 pub use steps::{
     a_cycle_of_all_keeps_what_they_show, nodes_tell_what_they_grant, packets_of_all_blocks_arrive,
-    turns_are_shown_by_what_is_held, turns_of_all_are_a_cycle,
+    turns_are_shown_by_what_is_held, turns_of_all_are_a_cycle, what_leaves_by_links_is_brought,
 };
 pub use through::{all_routers_go_through_a_cycle, nodes_go_through_a_cycle};

@@ -1,8 +1,9 @@
 //! Cycles of the routers of all blocks of a network.
 
 ghost use Rattle.std.specs.Prelude.{◌≡◌, ℕ, suc, ◌*◌, ◌/◌, ◌%◌, ◌<◌, Bool, Option, Some};
+ghost use Rattle.noc_topo.specs.Shape.{Grid, IsGrid, local_port, nodes};
 ghost use Rattle.noc_alloc.specs.Members.{MembersAreBelow};
-ghost use Rattle.noc_sets.specs.Cycle.{Router, Turn, granted_in, still_of};
+ghost use Rattle.noc_sets.specs.Cycle.{Links as Left, Router, Turn, granted_in, still_of};
 ghost use Rattle.noc_sets.specs.Layout.{Layout};
 ghost use Rattle.noc_theory.specs.Good.{IsGoodSetup};
 ghost use Rattle.noc_theory.specs.Network.{Setup, size};
@@ -15,6 +16,7 @@ ghost use Rattle.noc_columns.specs.declared.sets.TheConstants.{CHANNELS};
 ghost use Rattle.noc_columns.specs.declared.words.TheConstants.{ROUTERS};
 ghost use Rattle.noc_cycles.specs.Concluding.{HaveArrived};
 ghost use Rattle.noc_cycles.specs.Deciding.{HasDecidedHeld, undecided};
+ghost use Rattle.noc_cycles.specs.Gathered.{ShowsLeft, brought};
 ghost use Rattle.noc_cycles.specs.Held.{Held, ShowsHeld};
 ghost use Rattle.noc_cycles.specs.Taking.{HasTaken};
 ghost use Rattle.noc_cycles.specs.Told.{Tells};
@@ -22,7 +24,7 @@ ghost use Rattle.noc_cycles.specs.Turning.{ShowsTurn};
 ghost use Rattle.noc_cycles.specs.declared.pattern.Pattern.{Pattern};
 ghost use Rattle.noc_theory_cycles.specs.Fits.{FitsNetwork};
 ghost use Rattle.noc_theory_cycles.specs.Nodes.{ShowsNode};
-ghost use Rattle.noc_theory_cycles.specs.Steps.{HasStepped, HaveTurned, ShowsAll, coming_to, router_after, words_after};
+ghost use Rattle.noc_theory_cycles.specs.Steps.{HasStepped, HaveTurned, ShowsAll, coming_to, left_as, router_after, words_after};
 
 /// What a router tells over its links in a cycle are the numbers of the packets that it has granted
 /// output channels.
@@ -79,6 +81,14 @@ pub fn turns_of_all_are_a_cycle()
         → HasStepped net pattern layout n many t (coming_to net t)
         (λ s. record (held s) { packet = packets s }) was
         (words_after net t packets last arrivals) }
+{}
+
+/// Only what leaves routers by their links is brought to others.
+pub fn what_leaves_by_links_is_brought()
+    ensures { (g : Grid) (vcs r : ℕ) (words : ℕ → Links ℕ) (left : ℕ → Left) → IsGrid g → 0 < vcs
+        → r < nodes g
+        → ((s : ℕ) → s < nodes g → ShowsLeft (local_port g * vcs) (words s) (left s))
+        → brought g vcs (left_as words) r ≡ brought g vcs left r }
 {}
 
 /// Where packets arrive in one block after the other, and their cycles are read from words, these
