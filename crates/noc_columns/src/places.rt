@@ -22,28 +22,41 @@ pub fn near_of(shape: &Shape, vcs: usize, block: usize) -> Near
     requires block { ROUTERS * block < nodes shape.now }
     ensures { IsNear shape.now vcs block result }
 {
-    Near {
-        straight: neighbours_of(shape, vcs, block, false),
+    let mut near = Near {
+        straight: NO_NEIGHBOURS,
         rings: shape.kind() == Kind::Torus,
-        round: neighbours_of(shape, vcs, block, true),
-    }
+        round: NO_NEIGHBOURS,
+    };
+    write_neighbours(shape, vcs, block, false, &mut near.straight);
+    write_neighbours(shape, vcs, block, true, &mut near.round);
+    near
 }
 
 // .. one step on, or round at the other ends of their lines.
-fn neighbours_of(shape: &Shape, vcs: usize, block: usize, round: bool) -> Neighbours
+fn write_neighbours(
+    shape: &Shape,
+    vcs: usize,
+    block: usize,
+    round: bool,
+    neighbours: &mut Neighbours,
+)
     requires vcs { vcs ≤ 8 }
     requires block { ROUTERS * block < nodes shape.now }
-    ensures { AreNeighbours shape.now vcs block round result }
+    ensures { AreNeighbours shape.now vcs block round neighbours.new }
 {
     let links = shape.ports() - 1;
-    let mut distance = [0; WORDS];
-    let mut mask = [0; WORDS];
+    neighbours.mask = [0; WORDS];
     for k in 0..vcs * links {
-        distance[k] = distance_by(shape, k % links, round);
-        mask[k] = mask_of(shape, block, k % links, round, block);
+        neighbours.distance[k] = distance_by(shape, k % links, round);
+        neighbours.mask[k] = mask_of(shape, block, k % links, round, block);
     }
-    Neighbours { distance, mask }
 }
+
+// No neighbours.
+const NO_NEIGHBOURS: Neighbours = Neighbours {
+    distance: [0; WORDS],
+    mask: [0; WORDS],
+};
 
 /// The neighbours of the routers of a block by one port that stand in other blocks.
 pub fn far_of(alloc: Global, shape: &Shape, block: usize, port: usize) -> Result<Vec<Far>, Memory>

@@ -1,4 +1,4 @@
-use Rattle.std.proofs.Common.{◌≡◌, ℕ, ◌+◌, ◌-◌, ◌*◌, ◌%◌, ◌<◌, ◌∙◌, ap, arith, lit<, rules, set, subst, sym}
+use Rattle.std.proofs.Common.{◌≡◌, ℕ, ◌+◌, ◌-◌, ◌*◌, ◌%◌, ◌<◌, ◌∙◌, ap, arith, rules, set}
 use Rattle.std.proofs.lemmas.List.{length-set}
 use Rattle.noc_packet.specs.Set.{has_bit}
 use Rattle.noc_topo.specs.Shape.{local_port}
@@ -6,8 +6,8 @@ use Rattle.noc_columns.specs.Near.{distance_by}
 use Rattle.noc_columns.specs.Places.{stands_in}
 use Rattle.noc_columns.specs.Words.{word}
 use Rattle.noc_columns.proofs.PassLemmas.{all-next, word-here, word-other}
-use Rattle.noc_columns.proofs.PlaceLemmas.{all-below, channels-few, link-below, zeros}
-use Rattle.noc_columns.proofs.places.neighbours_of.Goals as goal
+use Rattle.noc_columns.proofs.PlaceLemmas.{channels-few, link-below, zeros}
+use Rattle.noc_columns.proofs.places.write_neighbours.Goals as goal
 
 pub loop-k-preserved : goal.loop-k-preserved
 loop-k-preserved c =
@@ -19,14 +19,13 @@ loop-k-preserved c =
     let inv = c.loop-k.invariant in
     let all = channels-few c.args.vcs (c.ports-links.result - 1) c.requires.vcs (omega (arith, c.ports-links.ensures.few)) in
     let few : c.loop-k.k < 72 = omega (arith, all) in
-    let distance = c.loop-k.distance in
-    let mask = c.loop-k.mask in
+    let distance = c.loop-k.neighbours.distance in
+    let mask = c.loop-k.neighbours.mask in
     let d = c.distance_by.result in
     let m = c.mask_of.result in
     record {
       distances = length-set distance k d ∙ inv.distances;
       masks = length-set mask k m ∙ inv.masks;
-      near = all-below distance k d 64 inv.distances few c.distance_by.ensures.near inv.near;
       distance = all-next (λ j. word j (set distance k d) ≡ distance_by g (j % links) round) k
           (λ j l. word-other distance k d j (omega (arith, l)) ∙ inv.distance j l)
           (word-here distance k d inv.distances few ∙ c.distance_by.ensures.is);
@@ -40,7 +39,6 @@ pub loop-k-init : goal.loop-k-init
 loop-k-init c = record {
   distances = search rules;
   masks = search rules;
-  near = λ j. subst (λ n. n < 64) (sym (zeros 72 j)) (lit< tt);
   distance = λ j l. absurd (omega (arith, l));
   mask = λ j l. absurd (omega (arith, l));
   none = λ j l. zeros 72 j;
