@@ -1,11 +1,11 @@
 //! What the blocks of a network exchange in a cycle, block after block.
 
-ghost use Rattle.std.specs.Prelude.{◌≡◌, ◌<◌, ◌≤◌, ◌*◌, ◌/◌, ◌%◌, ℕ, Option, length, slice_index_or};
-ghost use Rattle.noc_topo.specs.Shape.{Grid, IsGrid, nodes};
+ghost use Rattle.std.specs.Prelude.{◌≡◌, ◌<◌, ◌≤◌, ◌*◌, ◌/◌, ◌%◌, ℕ, IfOk, Option, length, slice_index_or};
+ghost use Rattle.noc_topo.specs.Shape.{Grid, IsGrid, local_port, nodes};
 ghost use Rattle.noc_sets.specs.Cycle.{Links as Left};
 ghost use Rattle.noc_columns.specs.declared.words.TheConstants.{ROUTERS};
 ghost use Rattle.noc_cycles.specs.Exchange.{AllTell, AreAllNotes, AreSameButComing, AreSameButPackets, AreWired, HaveHeard};
-ghost use Rattle.noc_cycles.specs.Gathered.{ShowAllLeft, brought};
+ghost use Rattle.noc_cycles.specs.Gathered.{ShowAllLeft, brought, left_by};
 ghost use Rattle.noc_cycles.specs.Held.{links_at};
 ghost use Rattle.noc_cycles.specs.Told.{HaveRoom};
 ghost use Rattle.noc_cycles.specs.declared.block.Work.{Work};
@@ -17,7 +17,39 @@ use crate::hears::hear;
 use crate::notes::Note;
 use crate::pattern::Pattern;
 use crate::tells::tell;
-use noc_columns::{Links, Words};
+use noc_columns::{Links, ROUTERS, Words};
+use noc_packet::Memory;
+use noc_topo::Shape;
+use std::alloc::Global;
+
+/// The tables of all blocks of a network.
+pub fn tables_of_all(alloc: Global, pattern: &Pattern, shape: &Shape) -> Result<Vec<Around>, Memory>
+    requires { pattern.now.table.ports.links.width ≡ local_port shape.now }
+    ensures { IfOk result (λ around. AreWired shape.now pattern.now around.items) }
+{
+    let vcs = pattern.table.ports.links.vcs;
+    let count = (shape.nodes() + ROUTERS - 1) / ROUTERS;
+    let mut around = Vec::with_capacity(alloc, count)?;
+    for block in 0..count {
+        around.push(Around::of(alloc, shape, vcs, block)?)?;
+    }
+    Ok(around)
+}
+
+/// What leaves the routers of all blocks is kept, to come to the others in the next cycle.
+pub fn keep_left(works: &[Work], left: &mut [Links<Words>])
+    requires { length left.old ≡ length works.now }
+    ensures { (b : ℕ) (d : Work) → b < length works.now
+        → left_by left.new b ≡ (slice_index_or works.now b d).left }
+{
+    for number in 0..works.len() {
+        let from = &works[number].left;
+        let to = &mut left[number];
+        to.flits = from.flits;
+        to.tails = from.tails;
+        to.credits = from.credits;
+    }
+}
 
 /// What has left the routers of all blocks comes over the links to all of them.
 pub fn gather_all(pattern: &Pattern, around: &[Around], left: &[Links<Words>], works: &mut [Work])

@@ -30,7 +30,7 @@ pub use begins::{begin_packets, some_in};
 pub use block::{Block, Work};
 pub use concluding::conclude;
 pub use deciding::{Routing, decide};
-pub use exchange::{gather_all, hear_all, tell_all};
+pub use exchange::{gather_all, hear_all, keep_left, tables_of_all, tell_all};
 pub use first::First;
 pub use gather::gather_links;
 pub use hears::hear;
