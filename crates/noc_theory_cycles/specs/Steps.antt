@@ -1,6 +1,6 @@
 -- The routers of all blocks of a network, with those that it does not have: what they show of it,
 -- and a cycle of all of them.
-use Rattle.std.specs.Prelude.{◌≡◌, ℕ, ◌/◌, ◌%◌, ◌<◌, ◌≤◌, List, None, Option, nat_lt, unwrap_or, if◌then◌else◌}
+use Rattle.std.specs.Prelude.{◌≡◌, ℕ, ◌/◌, ◌%◌, ◌<◌, ◌≤◌, None, Option, nat_lt, unwrap_or, if◌then◌else◌}
 use Rattle.noc_topo.specs.Shape.{nodes}
 use Rattle.noc_sets.specs.Cycle.{Links as Left, Router, Turn}
 use Rattle.noc_sets.specs.Layout.{Layout}
@@ -10,7 +10,7 @@ use Rattle.noc_theory_bits.specs.Network.{AreArrivals, HasGathered, HasTurned, I
 use Rattle.noc_columns.specs.declared.channels.Links.{Links}
 use Rattle.noc_columns.specs.declared.ports.RouterPorts.{RouterPorts}
 use Rattle.noc_columns.specs.declared.words.TheConstants.{ROUTERS}
-use Rattle.noc_cycles.specs.Held.{Held, ShowsHeld, held_at, links_at}
+use Rattle.noc_cycles.specs.Held.{Held, ShowsHeld, held_at}
 use Rattle.noc_cycles.specs.Gathered.{brought}
 use Rattle.noc_cycles.specs.Opened.{no_links, router_of}
 use Rattle.noc_cycles.specs.Turning.{ShowsTurn}
@@ -19,12 +19,9 @@ use Rattle.noc_cycles.specs.declared.pattern.Pattern.{Pattern}
 use Rattle.noc_theory_cycles.specs.Blank.{IsBlank, channels_count}
 use Rattle.noc_theory_cycles.specs.Nodes.{IsNodeTurn}
 
--- what router s holds, router s % ROUTERS of block s / ROUTERS, and what its links bring
+-- what router s holds, router s % ROUTERS of block s / ROUTERS
 abbrev pub held_in : RouterPorts → (ℕ → Block) → ℕ → Held
 held_in ports block s = held_at ports (block (s / ROUTERS)) (s % ROUTERS)
-
-abbrev pub links_in : RouterPorts → (ℕ → Links (List ℕ)) → ℕ → Links ℕ
-links_in ports came s = links_at ports (came (s / ROUTERS)) (s % ROUTERS)
 
 -- ---- at a count
 -- there are so many, and what they hold, and their links bring to them, shows the words of a
