@@ -1,10 +1,8 @@
 -- What the blocks of a network exchange, one block after the other.
-use Rattle.std.proofs.Common.{◌≡◌, ◌≢◌, ℕ, zero, suc, ◌+◌, ◌<◌, ◌≤◌, List, [], ◌∷◌, ◌++◌, Vec, Global, Option, get_or, get_or-set_same, get_or-set_other, length, set, vec_capacity, ap, sym, subst, ◌∙◌, refl, arith, inl, inr}
-use Rattle.std.proofs.lemmas.Bool.{cases_eq, cases_lt}
-use Rattle.std.proofs.lemmas.List.{get_or_append_left, length-set}
-use Rattle.std.proofs.Math.Seq.{get_or-append_seam}
+use Rattle.std.proofs.Common.{◌≡◌, ◌≢◌, ℕ, zero, suc, ◌+◌, ◌<◌, ◌≤◌, List, [], ◌∷◌, Vec, Global, Option, get_or, get_or-set_same, get_or-set_other, length, set, vec_capacity, ap, sym, subst, ◌∙◌, refl, arith, inl, inr}
+use Rattle.std.proofs.lemmas.Bool.{cases_eq}
+use Rattle.std.proofs.lemmas.List.{length-set}
 use Rattle.noc_topo.specs.Shape.{Grid}
-use Rattle.noc_cycles.specs.Around.{IsAround}
 use Rattle.noc_cycles.specs.Exchange.{AllTell, AreWired}
 use Rattle.noc_cycles.specs.Told.{AreNotes, AreTold, HaveRoom, heard, noted, notes_by, told_by}
 use Rattle.noc_cycles.specs.declared.around.Around.{Around}
@@ -54,14 +52,3 @@ room-next count n told x inside room are = record {
     | inr other ↦ subst (λ (v : Vec Note Global). 4096 ≤ vec_capacity v) (sym (get_or-set_other told n b x d other)) (are.each b d l)
   ];
 }
-
--- ---- the tables of one block more
-pub around-next : (g : Grid) (vcs n : ℕ) (all new : List Around) (x : Around) → new ≡ all ++ x ∷ [] → length all ≡ n → ((b : ℕ) (d : Around) → b < n → IsAround g vcs b (get_or all b d)) → IsAround g vcs n x
-    → (b : ℕ) (d : Around) → b < n + 1 → IsAround g vcs b (get_or new b d)
-around-next g vcs n all new x is long before here b d l = subst (λ (xs : List Around). IsAround g vcs b (get_or xs b d)) (sym is) (elim (cases_lt b n) [
-  | inl below ↦ subst (λ (y : Around). IsAround g vcs b y) (sym (get_or_append_left all (x ∷ []) d b (omega (arith, below, long)))) (before b d below)
-  | inr above ↦
-      let same : n ≡ b = omega (arith, l, above) in
-      let last : get_or (all ++ x ∷ []) b d ≡ x = ap (λ m. get_or (all ++ x ∷ []) m d) (sym same ∙ sym long) ∙ get_or-append_seam all x [] d in
-      subst (λ (y : Around). IsAround g vcs b y) (sym last) (subst (λ m. IsAround g vcs m x) same here)
-])

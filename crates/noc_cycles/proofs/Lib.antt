@@ -25,3 +25,4 @@ pub mod UpLemmas
 pub mod StillLemmas
 pub mod SomeLemmas
 pub mod ExchangeLemmas
+pub mod AroundLemmas

@@ -42,3 +42,8 @@ pub record IsAround (g : Grid) (vcs b : ℕ) (around : Around) : Type 0 where
   pub near : IsNear g vcs b around.near
   pub far : AreFarBy g b around.far.items
   pub ends : AreEnds g b around.ends
+
+-- .. of so many blocks
+pub record AreAround (g : Grid) (vcs count : ℕ) (all : List Around) : Type 0 where
+  pub many : length all ≡ count
+  pub each : (b : ℕ) (d : Around) → b < count → IsAround g vcs b (slice_index_or all b d)

@@ -1,11 +1,12 @@
 //! Where the links of the routers of a block lead.
 
 ghost use Rattle.std.specs.Prelude.{◌≡◌, ◌<◌, ◌≤◌, ◌*◌, ◌+◌, ℕ, IfOk, slice_index};
+ghost use Rattle.noc_columns.specs.Places.{IsNear};
 ghost use Rattle.noc_topo.specs.Shape.{local_port, neighbour, nodes};
 ghost use Rattle.noc_columns.specs.declared.words.TheConstants.{ROUTERS};
-ghost use Rattle.noc_cycles.specs.Around.{AreEnds, AreFarBy, IsAround, number_or_nowhere};
+ghost use Rattle.noc_cycles.specs.Around.{AreAround, AreEnds, AreFarBy, number_or_nowhere};
 
-use noc_columns::{Far, Near, PORTS, ROUTERS, far_of, near_of};
+use noc_columns::{Far, Near, Neighbours, PORTS, ROUTERS, WORDS, far_of, near_of};
 use noc_packet::Memory;
 use noc_topo::Shape;
 use std::alloc::Global;
@@ -26,21 +27,54 @@ pub struct Around {
     pub ends: [[u16; PORTS]; ROUTERS],
 }
 
+/// The tables of so many blocks of a network, where each port has so many virtual channels. (Those
+/// of one take 3 kB, so they are written where they stand.)
+pub fn all_around(
+    alloc: Global,
+    shape: &Shape,
+    vcs: usize,
+    count: usize,
+) -> Result<Vec<Around>, Memory>
+    requires vcs { vcs ≤ 8 }
+    requires count { ROUTERS * count < nodes shape.now + ROUTERS }
+    ensures { IfOk result (λ all. AreAround shape.now vcs count all.items) }
+{
+    let mut all = Vec::with_capacity(alloc, count)?;
+    for block in 0..count {
+        all.push(Around {
+            block,
+            near: NO_NEAR,
+            far: far_by_port(alloc, shape, block)?,
+            ends: NO_ENDS,
+        })?;
+        all[block].find(shape, vcs, block);
+    }
+    Ok(all)
+}
+
 impl Around {
-    /// The tables of a block of a network, where each port has so many virtual channels.
-    pub fn of(alloc: Global, shape: &Shape, vcs: usize, block: usize) -> Result<Around, Memory>
+    // The neighbours of the routers of a block.
+    fn find(&mut self, shape: &Shape, vcs: usize, block: usize)
         requires vcs { vcs ≤ 8 }
         requires block { ROUTERS * block < nodes shape.now }
-        ensures { IfOk result (λ around. IsAround shape.now vcs block around) }
+        ensures near { IsNear shape.now vcs block self.new.near }
+        ensures ends { AreEnds shape.now block self.new.ends }
+        ensures rest { self.new
+            ≡ record self.old { near = self.new.near; ends = self.new.ends } }
     {
-        let far = far_by_port(alloc, shape, block)?;
-        Ok(Around {
-            block,
-            near: near_of(shape, vcs, block),
-            far,
-            ends: ends_of(shape, block),
-        })
+        write_near(shape, vcs, block, &mut self.near);
+        write_ends(shape, block, &mut self.ends);
     }
+}
+
+// The neighbours that stand in a block.
+#[inline(never)]
+fn write_near(shape: &Shape, vcs: usize, block: usize, near: &mut Near)
+    requires vcs { vcs ≤ 8 }
+    requires block { ROUTERS * block < nodes shape.now }
+    ensures { IsNear shape.now vcs block near.new }
+{
+    *near = near_of(shape, vcs, block);
 }
 
 // By port, the neighbours of the routers of a block that stand in other blocks.
@@ -56,19 +90,18 @@ fn far_by_port(alloc: Global, shape: &Shape, block: usize) -> Result<Vec<Vec<Far
 }
 
 // By router and port, the neighbours of the routers of a block.
-fn ends_of(shape: &Shape, block: usize) -> [[u16; PORTS]; ROUTERS]
+#[inline(never)]
+fn write_ends(shape: &Shape, block: usize, ends: &mut [[u16; PORTS]; ROUTERS])
     requires { ROUTERS * block < nodes shape.now }
-    ensures { AreEnds shape.now block result }
+    ensures { AreEnds shape.now block ends.new }
 {
     let nodes = shape.nodes();
-    let mut ends = [[NOWHERE; PORTS]; ROUTERS];
     for r in 0..ROUTERS {
         let node = ROUTERS * block + r;
         if node < nodes {
             ends[r] = ends_from(shape, node);
         }
     }
-    ends
 }
 
 // By port, the neighbours of one router.
@@ -95,3 +128,17 @@ fn end_from(shape: &Shape, node: usize, port: usize) -> u16
         None => NOWHERE,
     }
 }
+
+// Nowhere at all. (A push copies it from here to where it stands.)
+const NO_NEAR: Near = Near {
+    straight: NO_NEIGHBOURS,
+    rings: false,
+    round: NO_NEIGHBOURS,
+};
+
+const NO_NEIGHBOURS: Neighbours = Neighbours {
+    distance: [0; WORDS],
+    mask: [0; WORDS],
+};
+
+const NO_ENDS: [[u16; PORTS]; ROUTERS] = [[NOWHERE; PORTS]; ROUTERS];

@@ -10,7 +10,7 @@ ghost use Rattle.noc_cycles.specs.Held.{links_at};
 ghost use Rattle.noc_cycles.specs.Told.{HaveRoom};
 ghost use Rattle.noc_cycles.specs.declared.block.Work.{Work};
 
-use crate::around::Around;
+use crate::around::{Around, all_around};
 use crate::block::{Block, Work};
 use crate::gather::gather_links;
 use crate::hears::hear;
@@ -29,11 +29,7 @@ pub fn tables_of_all(alloc: Global, pattern: &Pattern, shape: &Shape) -> Result<
 {
     let vcs = pattern.table.ports.links.vcs;
     let count = (shape.nodes() + ROUTERS - 1) / ROUTERS;
-    let mut around = Vec::with_capacity(alloc, count)?;
-    for block in 0..count {
-        around.push(Around::of(alloc, shape, vcs, block)?)?;
-    }
-    Ok(around)
+    all_around(alloc, shape, vcs, count)
 }
 
 /// What leaves the routers of all blocks is kept, to come to the others in the next cycle.

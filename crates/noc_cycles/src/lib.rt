@@ -24,7 +24,7 @@ mod taking;
 mod tells;
 mod turning;
 
-pub use around::Around;
+pub use around::{Around, all_around};
 pub use arrivals::arrive_all;
 pub use begins::{begin_packets, some_in};
 pub use block::{Block, Work};

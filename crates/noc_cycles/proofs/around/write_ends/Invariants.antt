@@ -1,7 +1,7 @@
 use Rattle.std.proofs.Common.{◌≡◌, ◌<◌, ◌+◌, ◌*◌, ℕ, length}
 use Rattle.noc_topo.specs.Shape.{local_port, neighbour, nodes}
 use Rattle.noc_cycles.specs.Around.{end_by, number_or_nowhere}
-use Rattle.noc_cycles.proofs.around.ends_of.Given as goal
+use Rattle.noc_cycles.proofs.around.write_ends.Given as goal
 
 abbrev pub invariant-loop-r : goal.invariant-loop-r
 invariant-loop-r l = record {
