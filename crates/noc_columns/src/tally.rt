@@ -39,6 +39,14 @@ pub struct Cycles<'a> {
 }
 
 impl Tally {
+    /// Nothing, from which a tally may be copied to where it stands on the heap.
+    pub const NONE: Tally = Tally {
+        ones: [0; WORDS],
+        twos: [0; WORDS],
+        bits: [[0; WORDS]; LEVELS],
+        pending: [[0; WORDS]; LEVELS],
+    };
+
     /// No counts. (They are cleared where they stand, since they take 35 kB.)
     pub fn clear(&mut self)
         ensures { (i r : ℕ) → i < WORDS → counted_at self.new 0 i r ≡ 0 }

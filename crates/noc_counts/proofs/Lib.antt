@@ -5,3 +5,4 @@ pub mod VerdictLemmas
 pub mod FoundLemmas
 pub mod FindingLemmas
 pub mod DecidedLemmas
+pub mod ClearLemmas

@@ -1,7 +1,8 @@
 -- The counts of the channels of a block by verdict.
-use Rattle.std.specs.Prelude.{ℕ, ◌<◌, ◌^◌}
-use Rattle.noc_sets.specs.Counts.{ByVerdict}
-use Rattle.noc_columns.specs.Words.{Numbering, set_of}
+use Rattle.std.specs.Prelude.{◌≡◌, ℕ, ◌<◌, ◌^◌, List, length, slice_index_or}
+use Rattle.noc_sets.specs.Counts.{ByVerdict, no_counts}
+use Rattle.noc_columns.specs.Words.{IsWithin, Numbering, set_of}
+use Rattle.noc_columns.specs.declared.words.TheConstants.{WORDS}
 use Rattle.noc_counts.specs.Counted.{count_in, last_of}
 use Rattle.noc_counts.specs.declared.count.Count.{Count}
 use Rattle.noc_counts.specs.declared.counts.Counts.{Counts}
@@ -52,3 +53,14 @@ counts_at n counts r i = word_counts counts (n.index i) r
 -- the verdicts of router r in the cycle that was counted last
 abbrev pub last_at : Numbering → Counts → ℕ → ByVerdict
 last_at n counts r = nine_by (λ (c : Count). set_of n r (last_of c counts.cycles)) counts.by
+
+-- nothing was counted
+pub record IsClear (counts : Counts) : Type 0 where
+  pub each : (n : Numbering) (r i : ℕ) → IsWithin WORDS n → i < n.size
+      → counts_at n counts r i ≡ no_counts
+  pub cycles : counted_in counts ≡ 0
+
+-- .. in each of so many blocks
+pub record AreClear (blocks : ℕ) (all : List Counts) : Type 0 where
+  pub many : length all ≡ blocks
+  pub each : (b : ℕ) (d : Counts) → b < blocks → IsClear (slice_index_or all b d)

@@ -24,6 +24,12 @@ pub struct Count {
 }
 
 impl Count {
+    /// Nothing, from which a count may be copied to where it stands on the heap.
+    pub const NONE: Count = Count {
+        recent: [[0; WORDS]; SLOTS],
+        tally: Tally::NONE,
+    };
+
     /// No counts.
     pub fn clear(&mut self)
         ensures { (j r : ℕ) → j < WORDS → count_in self.new 0 j r ≡ 0 }

@@ -1,11 +1,11 @@
 //! The counts of a block by verdict.
 
-ghost use Rattle.std.specs.Prelude.{◌≡◌, ◌+◌, ◌*◌, ◌%◌, ◌^◌, ◌<◌, ◌≤◌, ℕ, sum};
-ghost use Rattle.noc_sets.specs.Counts.{ByVerdict, RunOn, nine_counts, no_counts, ten_counts, with_verdicts};
+ghost use Rattle.std.specs.Prelude.{◌≡◌, ◌+◌, ◌*◌, ◌%◌, ◌^◌, ◌<◌, ◌≤◌, ℕ, IfOk, sum};
+ghost use Rattle.noc_sets.specs.Counts.{ByVerdict, RunOn, nine_counts, ten_counts, with_verdicts};
 ghost use Rattle.noc_columns.specs.Picks.{channels_of};
 ghost use Rattle.noc_columns.specs.Words.{IsWithin, Numbering};
 ghost use Rattle.noc_columns.specs.declared.words.TheConstants.{ROUTERS, WORDS};
-ghost use Rattle.noc_counts.specs.Counts.{AreSmall, counted_in, counts_at, last_at, numbers_of, word_counts};
+ghost use Rattle.noc_counts.specs.Counts.{AreClear, AreSmall, IsClear, counted_in, counts_at, last_at, numbers_of, word_counts};
 ghost use Rattle.noc_counts.specs.Told.{told_at};
 
 use crate::count::Count;
@@ -13,6 +13,8 @@ use crate::nine::Nine;
 use crate::told::{no_flit, no_idle_channel};
 use noc_columns::{ChannelTable, Frame, ROUTERS, WORDS};
 use noc_cycles::{Block, Work};
+use noc_packet::Memory;
+use std::alloc::Global;
 
 /// How often each input channel of the routers of a block had each verdict.
 #[derive(Drop)]
@@ -23,12 +25,38 @@ pub struct Counts {
     cycles: u32,
 }
 
+/// No counts of so many blocks. (They are cleared where they stand, since those of one take 350 kB.)
+pub fn no_counts(alloc: Global, blocks: usize) -> Result<Vec<Counts>, Memory>
+    ensures { IfOk result (λ all. AreClear blocks all.items) }
+{
+    let mut all = Vec::with_capacity(alloc, blocks)?;
+    for number in 0..blocks {
+        all.push(NONE)?;
+        all[number].clear();
+    }
+    Ok(all)
+}
+
+// Nothing, which is copied straight to where it stands on the heap.
+const NONE: Counts = Counts {
+    by: Nine {
+        routed: Count::NONE,
+        granted: Count::NONE,
+        moved: Count::NONE,
+        no_flit: Count::NONE,
+        no_idle_channel: Count::NONE,
+        lost_channel: Count::NONE,
+        no_credit: Count::NONE,
+        lost_input: Count::NONE,
+        lost_switch: Count::NONE,
+    },
+    cycles: 0,
+};
+
 impl Counts {
     /// No counts.
     pub fn clear(&mut self)
-        ensures counts { (n : Numbering) (r i : ℕ) → IsWithin WORDS n → i < n.size
-            → counts_at n self.new r i ≡ no_counts }
-        ensures cycles { counted_in self.new ≡ 0 }
+        ensures { IsClear self.new }
     {
         let Nine {
             routed,

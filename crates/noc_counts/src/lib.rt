@@ -13,7 +13,7 @@ mod nine;
 mod told;
 
 pub use count::Count;
-pub use counts::Counts;
+pub use counts::{Counts, no_counts};
 pub use findings::find;
 pub use laws::findings_follow_from_verdicts;
 pub use nine::Nine;
