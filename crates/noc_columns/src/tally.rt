@@ -58,9 +58,10 @@ impl Tally {
     }
 
     /// Adds the sets of four cycles to the counts of so many groups of four words, before which the
-    /// sets of four cycles were added so many times. The counts are right for 2^30 - 1 times.
+    /// sets of four cycles were added so many times. The counts are right for 2^30 - 1 times. (What
+    /// is carried from bit to bit has room in `carry`.)
     #[inline(always)]
-    pub fn add(&mut self, groups: usize, sets: &Cycles<'_>, times: u32)
+    pub fn add(&mut self, groups: usize, sets: &Cycles<'_>, times: u32, carry: &mut Words)
         requires { 4 * groups ≤ WORDS }
         ensures { times + 1 < 2 ^ LEVELS → (i r : ℕ) → i < 4 * groups
             → counted_at self.new (times + 1) i r
@@ -70,9 +71,8 @@ impl Tally {
             + one_if (has_bit (word i sets.now.third.now) r)
             + one_if (has_bit (word i sets.now.fourth.now) r) }
     {
-        let mut carry = [0; WORDS];
-        add_four(groups, &mut self.ones, &mut self.twos, sets, &mut carry);
-        add_carry(groups, &mut self.bits, &mut self.pending, &mut carry, times);
+        add_four(groups, &mut self.ones, &mut self.twos, sets, carry);
+        add_carry(groups, &mut self.bits, &mut self.pending, carry, times);
     }
 
     /// Adds one set so many times, also between two sets of four cycles. The counts are right where

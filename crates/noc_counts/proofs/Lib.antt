@@ -1,5 +1,4 @@
 pub mod CountLemmas
-pub mod ToldLemmas
 pub mod NineLemmas
 pub mod VerdictLemmas
 pub mod FoundLemmas

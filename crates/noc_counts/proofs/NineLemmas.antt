@@ -3,8 +3,7 @@ use Rattle.std.proofs.Common.{◌≡◌, ℕ, ◌+◌, ◌*◌, ◌<◌, List, r
 use Rattle.noc_packet.specs.Set.{has_bit}
 use Rattle.noc_topo.specs.Lists.{one_if}
 use Rattle.noc_sets.specs.Counts.{ByVerdict, RisesOn}
-use Rattle.noc_columns.specs.Words.{IsWithin, Numbering, set_of, word}
-use Rattle.noc_columns.proofs.SetLemmas.{leaf, sets-are}
+use Rattle.noc_columns.specs.Words.{Numbering, set_of, word}
 use Rattle.noc_columns.proofs.SupplyLemmas.{member-is}
 
 pub nine-same : {a b c d e f g h i p q r s t u v w x : ℕ} → a ≡ p → b ≡ q → c ≡ r → d ≡ s → e ≡ t → f ≡ u → g ≡ v → h ≡ w → i ≡ x
@@ -12,17 +11,6 @@ pub nine-same : {a b c d e f g h i p q r s t u v w x : ℕ} → a ≡ p → b �
     (record { routed = a; granted = b; moved = c; no_flit = d; no_idle_channel = e; lost_channel = f; no_credit = g; lost_input = h; lost_switch = i })
     (record { routed = p; granted = q; moved = r; no_flit = s; no_idle_channel = t; lost_channel = u; no_credit = v; lost_input = w; lost_switch = x })
 nine-same ea eb ec ed ee ef eg eh ei = rw (ea, eb, ec, ed, ee, ef, eg, eh, ei) refl
-
--- one more where a router is in a word, by the set of that router
-pub one-more : (n : Numbering) (r i old new : ℕ) (words : List ℕ) (set : ℕ) → i < n.size → set_of n r words ≡ set → new ≡ old + one_if (has_bit (word (n.index i) words) r)
-    → new ≡ old + one_if (has_bit set i)
-one-more n r i old new words set few is counted =
-    counted ∙ ap (λ b. old + one_if b) (sym (member-is n r i words few)) ∙ ap (λ (s : ℕ). old + one_if (has_bit s i)) is
-
--- the same words give the same set
-pub set-same : (n : Numbering) (r count : ℕ) (now words : List ℕ) (set : ℕ) → IsWithin count n → set_of n r words ≡ set → ((j : ℕ) → j < count → word j now ≡ word j words)
-    → set_of n r now ≡ set
-set-same n r count now words set within is same = sets-are n r (leaf words) now (λ c l. same (n.index c) (within c l)) ∙ is
 
 -- a count rises on where the last cycle is repeated
 pub rises-on : (n : Numbering) (r i times x y z : ℕ) (words : List ℕ) → i < n.size → y ≡ x + one_if (has_bit (set_of n r words) i)

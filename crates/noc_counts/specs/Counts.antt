@@ -3,7 +3,7 @@ use Rattle.std.specs.Prelude.{◌≡◌, ℕ, ◌<◌, ◌^◌, List, length, sl
 use Rattle.noc_sets.specs.Counts.{ByVerdict, no_counts}
 use Rattle.noc_columns.specs.Words.{IsWithin, Numbering, set_of}
 use Rattle.noc_columns.specs.declared.words.TheConstants.{WORDS}
-use Rattle.noc_counts.specs.Counted.{count_in, last_of}
+use Rattle.noc_counts.specs.Counted.{HasAdded, IsNoted, count_in, last_of}
 use Rattle.noc_counts.specs.declared.count.Count.{Count}
 use Rattle.noc_counts.specs.declared.counts.Counts.{Counts}
 use Rattle.noc_counts.specs.declared.nine.Nine.{Nine}
@@ -64,3 +64,30 @@ pub record IsClear (counts : Counts) : Type 0 where
 pub record AreClear (blocks : ℕ) (all : List Counts) : Type 0 where
   pub many : length all ≡ blocks
   pub each : (b : ℕ) (d : Counts) → b < blocks → IsClear (slice_index_or all b d)
+
+-- ---- a cycle more
+-- its verdicts were noted: of so many words those that are told
+pub record AreNoted (slot size : ℕ) (told : ℕ → ByVerdict) (old new : Nine Count) : Type 0 where
+  pub routed : IsNoted slot size (λ j. (told j).routed) old.routed new.routed
+  pub granted : IsNoted slot size (λ j. (told j).granted) old.granted new.granted
+  pub moved : IsNoted slot size (λ j. (told j).moved) old.moved new.moved
+  pub no_flit : IsNoted slot size (λ j. (told j).no_flit) old.no_flit new.no_flit
+  pub no_idle_channel : IsNoted slot size (λ j. (told j).no_idle_channel)
+      old.no_idle_channel new.no_idle_channel
+  pub lost_channel : IsNoted slot size (λ j. (told j).lost_channel)
+      old.lost_channel new.lost_channel
+  pub no_credit : IsNoted slot size (λ j. (told j).no_credit) old.no_credit new.no_credit
+  pub lost_input : IsNoted slot size (λ j. (told j).lost_input) old.lost_input new.lost_input
+  pub lost_switch : IsNoted slot size (λ j. (told j).lost_switch) old.lost_switch new.lost_switch
+
+-- the last four cycles were added, where such had been added so many times
+pub record AreAdded (size times : ℕ) (old new : Nine Count) : Type 0 where
+  pub routed : HasAdded size times old.routed new.routed
+  pub granted : HasAdded size times old.granted new.granted
+  pub moved : HasAdded size times old.moved new.moved
+  pub no_flit : HasAdded size times old.no_flit new.no_flit
+  pub no_idle_channel : HasAdded size times old.no_idle_channel new.no_idle_channel
+  pub lost_channel : HasAdded size times old.lost_channel new.lost_channel
+  pub no_credit : HasAdded size times old.no_credit new.no_credit
+  pub lost_input : HasAdded size times old.lost_input new.lost_input
+  pub lost_switch : HasAdded size times old.lost_switch new.lost_switch

@@ -1,22 +1,21 @@
-//! How often each channel of a block had one verdict, cycle by cycle.
+//! How often each channel of a block had one verdict.
 
-ghost use Rattle.std.specs.Prelude.{◌≡◌, ◌+◌, ◌*◌, ◌/◌, ◌%◌, ◌^◌, ◌<◌, ◌≤◌, ℕ};
+ghost use Rattle.std.specs.Prelude.{◌≡◌, ◌+◌, ◌*◌, ◌^◌, ◌<◌, ◌≤◌, ℕ};
 ghost use Rattle.noc_packet.specs.Set.{has_bit};
 ghost use Rattle.noc_topo.specs.Lists.{one_if};
-ghost use Rattle.noc_columns.specs.Tallies.{counted_at};
 ghost use Rattle.noc_columns.specs.Words.{word};
 ghost use Rattle.noc_columns.specs.declared.words.TheConstants.{ROUTERS, WORDS};
-ghost use Rattle.noc_columns.specs.declared.tally.TheConstants.{LEVELS};
-ghost use Rattle.noc_counts.specs.Counted.{count_in, last_of, recent_sum};
+ghost use Rattle.noc_counts.specs.Counted.{HasAdded, IsPut, count_in, last_of};
+ghost use Rattle.noc_counts.specs.declared.count.TheConstants.{SLOTS};
 
-use noc_columns::{Cycles, ROUTERS, Tally, WORDS, Words};
+use noc_columns::{Cycles, ROUTERS, Tally, WORDS, Words, put};
 
-/// How many cycles are added at once.
-pub const SLOTS: usize = 4;
+// How many cycles are added at once.
+pub(crate) const SLOTS: usize = 4;
 
-/// How often each channel of a block had one verdict.
+// How often each channel of a block had one verdict.
 #[derive(Drop)]
-pub struct Count {
+pub(crate) struct Count {
     // The channels that had it in each cycle after those that were added, and in the last one.
     recent: [Words; SLOTS],
     // Those that were added.
@@ -24,42 +23,34 @@ pub struct Count {
 }
 
 impl Count {
-    /// Nothing, from which a count may be copied to where it stands on the heap.
-    pub const NONE: Count = Count {
+    // Nothing, from which a count may be copied to where it stands on the heap.
+    pub(crate) const NONE: Count = Count {
         recent: [[0; WORDS]; SLOTS],
         tally: Tally::NONE,
     };
 
-    /// No counts.
-    pub fn clear(&mut self)
+    // No counts.
+    pub(crate) fn clear(&mut self)
         ensures { (j r : ℕ) → j < WORDS → count_in self.new 0 j r ≡ 0 }
     {
         self.tally.clear();
     }
 
-    /// Counts one cycle more, in which these channels had it, where so many cycles were counted.
-    pub fn count(&mut self, groups: usize, cycles: u32, set: &Words)
-        requires { 4 * groups ≤ WORDS }
-        ensures counts { (j r : ℕ) → j < 4 * groups → cycles + 1 < 2 ^ 32
-            → count_in self.new (cycles + 1) j r
-            ≡ count_in self.old cycles j r + one_if (has_bit (word j set.now) r) }
-        ensures last { (j : ℕ) → j < 4 * groups
-            → word j (last_of self.new (cycles + 1)) ≡ word j set.now }
+    // In one of the next cycles these routers had it in a channel.
+    #[inline(always)]
+    pub(crate) fn put(&mut self, slot: usize, index: usize, routers: u64)
+        requires slot { slot < SLOTS }
+        requires index { index < WORDS }
+        ensures { IsPut slot index routers self.old self.new }
     {
-        let slot = (cycles % SLOTS as u32) as usize;
-        put(groups, set, &mut self.recent[slot]);
-        if slot + 1 == SLOTS {
-            self.add(groups, cycles / SLOTS as u32);
-        }
+        put(&mut self.recent[slot], index, routers);
     }
 
-    // The last four cycles are added, where such were added so many times.
-    fn add(&mut self, groups: usize, times: u32)
+    // The last four cycles are added, where such were added so many times. (What is carried from
+    // bit to bit has room in `carry`.)
+    pub(crate) fn add(&mut self, groups: usize, times: u32, carry: &mut Words)
         requires { 4 * groups ≤ WORDS }
-        ensures counts { (j r : ℕ) → j < 4 * groups → times + 1 < 2 ^ LEVELS
-            → counted_at self.new.tally (times + 1) j r
-            ≡ counted_at self.old.tally times j r + recent_sum self.old.recent SLOTS j r }
-        ensures recent { self.new.recent ≡ self.old.recent }
+        ensures { HasAdded (4 * groups) times self.old self.new }
     {
         let [first, second, third, fourth] = &self.recent;
         let sets = Cycles {
@@ -68,12 +59,11 @@ impl Count {
             third,
             fourth,
         };
-        self.tally.add(groups, &sets, times);
+        self.tally.add(groups, &sets, times, carry);
     }
 
-    /// Counts so many cycles more that are like the last one, where so many were counted one by
-    /// one.
-    pub fn repeat(&mut self, groups: usize, cycles: u32, times: u32)
+    // Counts so many cycles more that are like the last one, where so many were counted one by one.
+    pub(crate) fn repeat(&mut self, groups: usize, cycles: u32, times: u32)
         requires { 4 * groups ≤ WORDS }
         ensures counts { (j r : ℕ) → j < 4 * groups
             → count_in self.old cycles j r + times < 2 ^ 32
@@ -85,8 +75,8 @@ impl Count {
         self.tally.repeat(groups, &self.recent[slot], times);
     }
 
-    /// How often a channel of a router had it, where so many cycles were counted one by one.
-    pub fn total(&self, index: usize, router: usize, cycles: u32) -> u64
+    // How often a channel of a router had it, where so many cycles were counted one by one.
+    pub(crate) fn total(&self, index: usize, router: usize, cycles: u32) -> u64
         requires index { index < WORDS }
         requires router { router < ROUTERS }
         ensures count { result ≡ count_in self.now cycles index router }
@@ -100,19 +90,9 @@ impl Count {
     }
 }
 
-// Words become those of another set.
-fn put(groups: usize, from: &Words, to: &mut Words)
-    requires { 4 * groups ≤ WORDS }
-    ensures { (j : ℕ) → j < 4 * groups → word j to.new ≡ word j from.now }
-{
-    for i in 0..4 * groups {
-        to[i] = from[i];
-    }
-}
-
-/// Whether a router is in a word.
+// Whether a router is in a word.
 #[inline(always)]
-pub fn has(word: u64, router: usize) -> bool
+pub(crate) fn has(word: u64, router: usize) -> bool
     requires { router < ROUTERS }
     ensures { result ≡ has_bit word router }
 {

@@ -3,14 +3,16 @@
 ghost use Rattle.std.specs.Prelude.{◌≡◌, ◌+◌, ◌*◌, ◌%◌, ◌^◌, ◌<◌, ◌≤◌, ℕ, IfOk, sum};
 ghost use Rattle.noc_sets.specs.Counts.{ByVerdict, RunOn, nine_counts, ten_counts, with_verdicts};
 ghost use Rattle.noc_columns.specs.Picks.{channels_of};
-ghost use Rattle.noc_columns.specs.Words.{IsWithin, Numbering};
+ghost use Rattle.noc_columns.specs.Words.{IsWithin, Numbering, word};
 ghost use Rattle.noc_columns.specs.declared.words.TheConstants.{ROUTERS, WORDS};
-ghost use Rattle.noc_counts.specs.Counts.{AreClear, AreSmall, IsClear, counted_in, counts_at, last_at, numbers_of, word_counts};
-ghost use Rattle.noc_counts.specs.Told.{told_at};
+ghost use Rattle.noc_counts.specs.Counted.{count_in, last_of};
+ghost use Rattle.noc_counts.specs.Counts.{AreAdded, AreClear, AreNoted, AreSmall, IsClear, counted_in, counts_at, last_at, nine_by, numbers_of, word_counts};
+ghost use Rattle.noc_counts.specs.declared.count.TheConstants.{SLOTS};
+ghost use Rattle.noc_counts.specs.Told.{told_at, told_by};
 
-use crate::count::Count;
+use crate::count::{Count, SLOTS};
 use crate::nine::Nine;
-use crate::told::{no_flit, no_idle_channel};
+use crate::told::words_at;
 use noc_columns::{ChannelTable, Frame, ROUTERS, WORDS};
 use noc_cycles::{Block, Work};
 use noc_packet::Memory;
@@ -93,26 +95,8 @@ impl Counts {
             → last_at n self.new r ≡ told_at n block.now work.now r }
         ensures cycles { counted_in self.new ≡ (counted_in self.old + 1) % 2 ^ 32 }
     {
-        let groups = frame.groups;
-        let cycles = self.cycles;
-        let heads = &work.standing.heads;
-        let verdicts = &work.verdicts;
-        let flitless = no_flit(groups, verdicts);
-        let channelless = no_idle_channel(groups, &block.inputs.waiting, heads, &work.lost);
-        self.by.routed.count(groups, cycles, heads);
-        self.by.granted.count(groups, cycles, &block.grants.granted);
-        self.by.moved.count(groups, cycles, &verdicts.moved);
-        self.by.no_flit.count(groups, cycles, &flitless);
-        self.by.no_idle_channel.count(groups, cycles, &channelless);
-        self.by.lost_channel.count(groups, cycles, &work.lost);
-        self.by.no_credit.count(groups, cycles, &verdicts.no_credit);
-        self.by
-            .lost_input
-            .count(groups, cycles, &verdicts.lost_input);
-        self.by
-            .lost_switch
-            .count(groups, cycles, &verdicts.lost_switch);
-        self.cycles = cycles.wrapping_add(1);
+        count_all(frame, block, work, self.cycles, &mut self.by);
+        self.cycles = self.cycles.wrapping_add(1);
     }
 
     /// Counts so many cycles more that are like the last one, in which nothing happened.
@@ -173,6 +157,60 @@ impl Counts {
             lost_switch: by.lost_switch.total(index, router, cycles),
         }
     }
+}
+
+// Counts a cycle more, where so many were counted one by one.
+fn count_all(frame: &Frame, block: &Block, work: &Work, cycles: u32, by: &mut Nine<Count>)
+    ensures counts { (j r : ℕ) → j < 4 * frame.now.groups → cycles + 1 < 2 ^ 32
+        → nine_by (λ c. count_in c (cycles + 1) j r) by.new
+        ≡ with_verdicts (told_by (word j) block.now work.now) r
+        (nine_by (λ c. count_in c cycles j r) by.old) }
+    ensures last { (j : ℕ) → j < 4 * frame.now.groups
+        → nine_by (λ c. word j (last_of c (cycles + 1))) by.new
+        ≡ told_by (word j) block.now work.now }
+{
+    let slot = (cycles % SLOTS as u32) as usize;
+    note(frame, block, work, slot, by);
+    if slot + 1 == SLOTS {
+        add_all(frame.groups, cycles / SLOTS as u32, by);
+    }
+}
+
+// Notes the verdicts of a cycle, which is this one of the next.
+fn note(frame: &Frame, block: &Block, work: &Work, slot: usize, by: &mut Nine<Count>)
+    requires { slot < SLOTS }
+    ensures { AreNoted slot (4 * frame.now.groups) (λ j. told_by (word j) block.now work.now)
+        by.old by.new }
+{
+    for i in 0..4 * frame.groups {
+        let words = words_at(block, work, i);
+        by.routed.put(slot, i, words.routed);
+        by.granted.put(slot, i, words.granted);
+        by.moved.put(slot, i, words.moved);
+        by.no_flit.put(slot, i, words.no_flit);
+        by.no_idle_channel.put(slot, i, words.no_idle_channel);
+        by.lost_channel.put(slot, i, words.lost_channel);
+        by.no_credit.put(slot, i, words.no_credit);
+        by.lost_input.put(slot, i, words.lost_input);
+        by.lost_switch.put(slot, i, words.lost_switch);
+    }
+}
+
+// The last four cycles are added, where such were added so many times.
+fn add_all(groups: usize, times: u32, by: &mut Nine<Count>)
+    requires { 4 * groups ≤ WORDS }
+    ensures { AreAdded (4 * groups) times by.old by.new }
+{
+    let mut carry = [0; WORDS];
+    by.routed.add(groups, times, &mut carry);
+    by.granted.add(groups, times, &mut carry);
+    by.moved.add(groups, times, &mut carry);
+    by.no_flit.add(groups, times, &mut carry);
+    by.no_idle_channel.add(groups, times, &mut carry);
+    by.lost_channel.add(groups, times, &mut carry);
+    by.no_credit.add(groups, times, &mut carry);
+    by.lost_input.add(groups, times, &mut carry);
+    by.lost_switch.add(groups, times, &mut carry);
 }
 
 // All ten after so many cycles: Empty in those in which no other verdict was.

@@ -11,11 +11,11 @@ ghost use Rattle.noc_columns.specs.declared.words.TheConstants.{ROUTERS, WORDS};
 ghost use Rattle.noc_cycles.specs.Held.{held_at};
 ghost use Rattle.noc_counts.specs.Counts.{numbers_of};
 ghost use Rattle.noc_counts.specs.Findings.{finding_of, out_by, packet_by};
-ghost use Rattle.noc_counts.specs.Told.{told_at, told_by};
+ghost use Rattle.noc_counts.specs.Told.{told_at};
 
 use crate::count::has;
 use crate::nine::Nine;
-use crate::told::{without_flit, without_idle};
+use crate::told::words_at;
 use noc_columns::{ROUTERS, Sends, WORDS, Words, least};
 use noc_cycles::{Block, Pattern, Work};
 use noc_view::{Finding, Verdict};
@@ -106,28 +106,7 @@ fn number_of(sends: &Sends<Words>, index: usize, router: usize) -> (usize, usize
     (port.number(router), vc.number(router))
 }
 
-// The routers in which one channel has each verdict.
-fn words_at(block: &Block, work: &Work, index: usize) -> Nine<u64>
-    requires { index < WORDS }
-    ensures { numbers_of result ≡ told_by (word index) block.now work.now }
-{
-    let verdicts = work.verdicts.at(index);
-    let heads = work.standing.heads[index];
-    let lost = work.lost[index];
-    Nine {
-        routed: heads,
-        granted: block.grants.granted[index],
-        moved: verdicts.moved,
-        no_flit: without_flit(&verdicts),
-        no_idle_channel: without_idle(block.inputs.waiting[index], heads, lost),
-        lost_channel: lost,
-        no_credit: verdicts.no_credit,
-        lost_input: verdicts.lost_input,
-        lost_switch: verdicts.lost_switch,
-    }
-}
-
-// The verdict of that channel in a router.
+// The verdict of a channel in a router, by the words of that channel.
 fn verdict_at(words: &Nine<u64>, router: usize) -> Verdict
     requires { router < ROUTERS }
     ensures { result ≡ verdict_by (verdict_sets (numbers_of words.now)) router }

@@ -12,8 +12,6 @@ mod laws;
 mod nine;
 mod told;
 
-pub use count::Count;
 pub use counts::{Counts, no_counts};
 pub use findings::find;
 pub use laws::findings_follow_from_verdicts;
-pub use nine::Nine;

@@ -1,56 +1,35 @@
-//! The channels with verdicts that follow from others.
+//! The verdicts of one channel.
 
-ghost use Rattle.std.specs.Prelude.{◌≡◌, ◌*◌, ◌≤◌, ℕ};
-ghost use Rattle.noc_columns.specs.Channels.{verdicts_by};
-ghost use Rattle.noc_columns.specs.Words.{IsWithin, Numbering, set_of};
+ghost use Rattle.std.specs.Prelude.{◌≡◌, ◌<◌, ℕ};
+ghost use Rattle.noc_columns.specs.Words.{word};
 ghost use Rattle.noc_columns.specs.declared.words.TheConstants.{WORDS};
-ghost use Rattle.noc_counts.specs.Told.{no_flit_of, no_idle_of};
+ghost use Rattle.noc_counts.specs.Counts.{numbers_of};
+ghost use Rattle.noc_counts.specs.Told.{told_by};
 
-use noc_columns::{Verdicts, WORDS, Words, less};
+use crate::nine::Nine;
+use noc_columns::{WORDS, less};
+use noc_cycles::{Block, Work};
 
-// The channels with NoFlit.
-pub(crate) fn no_flit(groups: usize, verdicts: &Verdicts<Words>) -> Words
-    requires { 4 * groups ≤ WORDS }
-    ensures { (n : Numbering) (r : ℕ) → IsWithin (4 * groups) n → set_of n r result
-        ≡ no_flit_of (verdicts_by (set_of n r) verdicts.now) }
-{
-    let mut words = [0; WORDS];
-    for i in 0..4 * groups {
-        words[i] = without_flit(&verdicts.at(i));
-    }
-    words
-}
-
-// The channels with NoIdleChannel, where these wait after the cycle, and these of them came to wait
-// in it.
-pub(crate) fn no_idle_channel(groups: usize, waiting: &Words, heads: &Words, lost: &Words) -> Words
-    requires { 4 * groups ≤ WORDS }
-    ensures { (n : Numbering) (r : ℕ) → IsWithin (4 * groups) n → set_of n r result
-        ≡ no_idle_of (set_of n r waiting.now) (set_of n r heads.now) (set_of n r lost.now) }
-{
-    let mut words = [0; WORDS];
-    for i in 0..4 * groups {
-        words[i] = without_idle(waiting[i], heads[i], lost[i]);
-    }
-    words
-}
-
-// The routers in which one channel has NoFlit.
+// The routers in which a channel had each verdict, once the cycle has taken effect.
 #[inline(always)]
-pub(crate) fn without_flit(verdicts: &Verdicts<u64>) -> u64
-    ensures { result ≡ no_flit_of verdicts.now }
+pub(crate) fn words_at(block: &Block, work: &Work, index: usize) -> Nine<u64>
+    requires { index < WORDS }
+    ensures { numbers_of result ≡ told_by (word index) block.now work.now }
 {
-    let lost = verdicts.no_credit | verdicts.lost_input;
-    less(
-        verdicts.active,
-        lost | (verdicts.lost_switch | verdicts.moved),
-    )
-}
-
-// The routers in which one channel has NoIdleChannel.
-#[inline(always)]
-pub(crate) fn without_idle(waiting: u64, heads: u64, lost: u64) -> u64
-    ensures { result ≡ no_idle_of waiting heads lost }
-{
-    less(waiting, heads | lost)
+    let verdicts = work.verdicts.at(index);
+    let heads = work.standing.heads[index];
+    let lost_channel = work.lost[index];
+    let stays = verdicts.no_credit | verdicts.lost_input;
+    let goes = verdicts.lost_switch | verdicts.moved;
+    Nine {
+        routed: heads,
+        granted: block.grants.granted[index],
+        moved: verdicts.moved,
+        no_flit: less(verdicts.active, stays | goes),
+        no_idle_channel: less(block.inputs.waiting[index], heads | lost_channel),
+        lost_channel,
+        no_credit: verdicts.no_credit,
+        lost_input: verdicts.lost_input,
+        lost_switch: verdicts.lost_switch,
+    }
 }
