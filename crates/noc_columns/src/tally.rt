@@ -23,6 +23,8 @@ pub struct Tally {
     // From the bit that counts four on.
     bits: [Words; LEVELS],
     pending: [Words; LEVELS],
+    // Room for what is carried from bit to bit.
+    carry: Words,
 }
 
 /// The sets of four cycles, one after the other.
@@ -45,6 +47,7 @@ impl Tally {
         twos: [0; WORDS],
         bits: [[0; WORDS]; LEVELS],
         pending: [[0; WORDS]; LEVELS],
+        carry: [0; WORDS],
     };
 
     /// No counts. (They are cleared where they stand, since they take 35 kB.)
@@ -58,10 +61,9 @@ impl Tally {
     }
 
     /// Adds the sets of four cycles to the counts of so many groups of four words, before which the
-    /// sets of four cycles were added so many times. The counts are right for 2^30 - 1 times. (What
-    /// is carried from bit to bit has room in `carry`.)
+    /// sets of four cycles were added so many times. The counts are right for 2^30 - 1 times.
     #[inline(always)]
-    pub fn add(&mut self, groups: usize, sets: &Cycles<'_>, times: u32, carry: &mut Words)
+    pub fn add(&mut self, groups: usize, sets: &Cycles<'_>, times: u32)
         requires { 4 * groups ≤ WORDS }
         ensures { times + 1 < 2 ^ LEVELS → (i r : ℕ) → i < 4 * groups
             → counted_at self.new (times + 1) i r
@@ -71,6 +73,7 @@ impl Tally {
             + one_if (has_bit (word i sets.now.third.now) r)
             + one_if (has_bit (word i sets.now.fourth.now) r) }
     {
+        let carry = &mut self.carry;
         add_four(groups, &mut self.ones, &mut self.twos, sets, carry);
         add_carry(groups, &mut self.bits, &mut self.pending, carry, times);
     }

@@ -46,9 +46,9 @@ impl Count {
         put(&mut self.recent[slot], index, routers);
     }
 
-    // The last four cycles are added, where such were added so many times. (What is carried from
-    // bit to bit has room in `carry`.)
-    pub(crate) fn add(&mut self, groups: usize, times: u32, carry: &mut Words)
+    // The last four cycles are added, where such were added so many times.
+    #[inline(never)]
+    pub(crate) fn add(&mut self, groups: usize, times: u32)
         requires { 4 * groups ≤ WORDS }
         ensures { HasAdded (4 * groups) times self.old self.new }
     {
@@ -59,7 +59,7 @@ impl Count {
             third,
             fourth,
         };
-        self.tally.add(groups, &sets, times, carry);
+        self.tally.add(groups, &sets, times);
     }
 
     // Counts so many cycles more that are like the last one, where so many were counted one by one.

@@ -201,16 +201,15 @@ fn add_all(groups: usize, times: u32, by: &mut Nine<Count>)
     requires { 4 * groups ≤ WORDS }
     ensures { AreAdded (4 * groups) times by.old by.new }
 {
-    let mut carry = [0; WORDS];
-    by.routed.add(groups, times, &mut carry);
-    by.granted.add(groups, times, &mut carry);
-    by.moved.add(groups, times, &mut carry);
-    by.no_flit.add(groups, times, &mut carry);
-    by.no_idle_channel.add(groups, times, &mut carry);
-    by.lost_channel.add(groups, times, &mut carry);
-    by.no_credit.add(groups, times, &mut carry);
-    by.lost_input.add(groups, times, &mut carry);
-    by.lost_switch.add(groups, times, &mut carry);
+    by.routed.add(groups, times);
+    by.granted.add(groups, times);
+    by.moved.add(groups, times);
+    by.no_flit.add(groups, times);
+    by.no_idle_channel.add(groups, times);
+    by.lost_channel.add(groups, times);
+    by.no_credit.add(groups, times);
+    by.lost_input.add(groups, times);
+    by.lost_switch.add(groups, times);
 }
 
 // All ten after so many cycles: Empty in those in which no other verdict was.
