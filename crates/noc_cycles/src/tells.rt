@@ -28,8 +28,8 @@ pub fn room_for_notes(alloc: Global, count: usize) -> Result<Vec<Vec<Note>>, Mem
     Ok(told)
 }
 
-/// Each packet of a block that is granted an output channel is noted for the router at the other end
-/// of its link, if it is one of a link. There is room for so many notes.
+/// Each packet of a block that is granted an output channel is noted for the router at the other
+/// end of its link, if it is one of a link. There is room for so many notes.
 pub fn tell(pattern: &Pattern, around: &Around, block: &Block, notes: &mut Vec<Note>)
     requires told { (g : Grid) × (tells : ℕ → ℕ → Option ℕ)
         × AreTold g pattern.now around.now block.now tells }
