@@ -73,13 +73,12 @@ found-bits false false false false false false false false wa gw lw ra pr mp = (
 -- a router that holds this after the cycle had these marks before it took effect, as far as what is found of its channels depends on them
 pub record ShowsFound (vcs : ℕ) (c : Column) (m : RouterMarks) (idle : ℕ) (h : Held) : Type 0 where
   pub apart : (i : ℕ) → (has_bit c.waiting i && has_bit c.active i) ≡ false
-  pub idle_is : idle ≡ c.idle
-  pub set : (i : ℕ) → has_bit c.waiting i ≡ true → h.set i ≡ m.set i
+  pub asked : (i : ℕ) → has_bit c.waiting i ≡ true → asked_of idle (h.set i) ≡ asked_of c.idle (m.set i)
   pub packet : (i : ℕ) → h.packet i ≡ m.packet i
   pub taken : (i : ℕ) → has_bit c.active i ≡ true → m.taken i ≡ 2 ^ (h.out_port i * vcs + h.out_vc i)
   pub number : (i : ℕ) → has_bit c.active i ≡ true → (h.out_vc i < vcs) × (h.out_port i * vcs + h.out_vc i < 64)
 
-least-power : (n : ℕ) → n < 64 → least (2 ^ n) ≡ n
+pub least-power : (n : ℕ) → n < 64 → least (2 ^ n) ≡ n
 least-power n few = least-one-is (2 ^ n) n (least (2 ^ n)) refl (least_is (2 ^ n) (pow_pos n) (pow-lt few))
 
 module _ (vcs filled picked idle : ℕ) (c : Column) (m : RouterMarks) (standing : Standing ℕ) (v : Verdicts ℕ) (waiting granted lost : ℕ) (h : Held)
@@ -107,7 +106,7 @@ module _ (vcs filled picked idle : ℕ) (c : Column) (m : RouterMarks) (standing
   out-at : (w a : Bool) → has_bit c.waiting i ≡ w → has_bit c.active i ≡ a
       → (if w then option_map place (asked_of idle (h.set i)) else if a then Some (h.out_port i, h.out_vc i) else None)
       ≡ option_map place (if w then asked_of c.idle (m.set i) else if a then Some (least (m.taken i)) else None)
-  out-at true a ew ea = ap₂ (λ x y. option_map place (asked_of x y)) shows.idle_is (shows.set i ew)
+  out-at true a ew ea = ap (option_map place) (shows.asked i ew)
   out-at false true ew ea =
       let n = number-is ea in
       let below = (shows.number i ea).0 in

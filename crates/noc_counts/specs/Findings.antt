@@ -1,12 +1,14 @@
 -- What is found of an input channel in a cycle: its packet and its output channel follow from its
 -- verdict.
-use Rattle.std.specs.Prelude.{ℕ, ◌/◌, ◌%◌, Option, Some, None, option_map}
+use Rattle.std.specs.Prelude.{ℕ, ◌+◌, ◌*◌, ◌/◌, ◌%◌, ◌^◌, Option, Some, None, option_map, if◌then◌else◌}
+use Rattle.noc_packet.specs.Set.{has_bit}
 use Rattle.noc_view.specs.VerdictSets.{verdict_by}
 use Rattle.noc_view.specs.declared.finding.Finding.{Finding}
 use Rattle.noc_view.specs.declared.verdict.Verdict.{Verdict}
 use Rattle.noc_view.specs.declared.verdict.Verdict.TheVariants.{Empty, Routed, Granted, Moved, NoFlit, NoIdleChannel, LostChannel, NoCredit, LostInput, LostSwitch}
 use Rattle.noc_sets.specs.Counts.{ByVerdict, verdict_sets}
 use Rattle.noc_sets.specs.Grants.{asked_of}
+use Rattle.noc_sets.specs.Unions.{union_from}
 use Rattle.noc_cycles.specs.Held.{Held}
 
 -- the packet that holds the channel, if it is not empty
@@ -38,3 +40,9 @@ finding_of vcs told idle h i =
       out = out_by verdict (option_map (λ o. (o / vcs, o % vcs)) (asked_of idle (h.set i)))
           (h.out_port i, h.out_vc i);
     }
+
+-- the output channels that were granted in the cycle: those by which these input channels send, of
+-- so many
+abbrev pub outs_of : ℕ → ℕ → ℕ → Held → ℕ
+outs_of size vcs granted h =
+    union_from 0 size (λ k. if has_bit granted k then 2 ^ (h.out_port k * vcs + h.out_vc k) else 0)

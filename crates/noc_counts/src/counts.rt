@@ -27,7 +27,7 @@ pub struct Counts {
     cycles: u32,
 }
 
-/// No counts of so many blocks. (They are cleared where they stand, since those of one take 350 kB.)
+/// No counts of so many blocks. (They are cleared where they stand: those of one take 350 kB.)
 pub fn no_counts(alloc: Global, blocks: usize) -> Result<Vec<Counts>, Memory>
     ensures { IfOk result (λ all. AreClear blocks all.items) }
 {

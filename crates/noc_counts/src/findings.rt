@@ -1,27 +1,27 @@
 //! What is found of the channels of a block in the last cycle.
 
-ghost use Rattle.std.specs.Prelude.{◌≡◌, ◌+◌, ◌*◌, ◌/◌, ◌%◌, ◌<◌, ℕ, option_map};
+ghost use Rattle.std.specs.Prelude.{◌≡◌, ◌+◌, ◌*◌, ◌/◌, ◌%◌, ◌^◌, ◌<◌, ℕ, option_map, if◌then◌else◌};
 ghost use Rattle.noc_view.specs.VerdictSets.{verdict_by};
 ghost use Rattle.noc_sets.specs.Counts.{verdict_sets};
 ghost use Rattle.noc_sets.specs.Grants.{asked_of};
 ghost use Rattle.noc_columns.specs.Picks.{channels_of};
 ghost use Rattle.noc_columns.specs.Supply.{digits_by, number_in};
-ghost use Rattle.noc_columns.specs.Words.{word};
+ghost use Rattle.noc_columns.specs.Words.{set_of, word};
 ghost use Rattle.noc_columns.specs.declared.words.TheConstants.{ROUTERS, WORDS};
 ghost use Rattle.noc_cycles.specs.Held.{held_at};
 ghost use Rattle.noc_counts.specs.Counts.{numbers_of};
-ghost use Rattle.noc_counts.specs.Findings.{finding_of, out_by, packet_by};
+ghost use Rattle.noc_counts.specs.Findings.{finding_of, out_by, outs_of, packet_by};
 ghost use Rattle.noc_counts.specs.Told.{told_at};
 
 use crate::count::has;
 use crate::nine::Nine;
 use crate::told::words_at;
-use noc_columns::{ROUTERS, Sends, WORDS, Words, least};
+use noc_columns::{ROUTERS, RouterPorts, Sends, WORDS, Words, least};
 use noc_cycles::{Block, Pattern, Work};
 use noc_view::{Finding, Verdict};
 
 /// What is found of a channel of a router in the last cycle, where these output channels of the
-/// router were idle before it was decided.
+/// router were idle before it was decided, or these were granted then.
 pub fn find(
     pattern: &Pattern,
     block: &Block,
@@ -47,6 +47,37 @@ pub fn find(
         packet: packet_by(verdict, block.packets[router][channel]),
         out: out_by(verdict, asked, owned),
     }
+}
+
+/// The output channels of a router that were granted in the last cycle.
+pub fn granted_outs(pattern: &Pattern, block: &Block, router: usize) -> u64
+    requires { router < ROUTERS }
+    ensures { result ≡ outs_of
+        ((pattern.now.table.ports.links.width + 1) * pattern.now.table.ports.links.vcs)
+        pattern.now.table.ports.links.vcs
+        (set_of (channels_of pattern.now.table.ports) router block.now.grants.granted)
+        (held_at pattern.now.table.ports block.now router) }
+{
+    let ports = &pattern.table.ports;
+    let mut outs = 0;
+    for channel in 0..(ports.links.width + 1) * ports.links.vcs {
+        let index = pattern.table.index(channel);
+        let is_granted = has(block.grants.granted[index], router);
+        let number = number_of(&block.grants.sends, index, router);
+        outs = outs | out_if(is_granted, ports, number);
+    }
+    outs
+}
+
+// The output channel with a number alone, or none.
+fn out_if(test: bool, ports: &RouterPorts, number: (usize, usize)) -> u64
+    requires port { number.0 < 8 }
+    requires vc { number.1 < 8 }
+    ensures { result
+        ≡ (if test then 2 ^ (number.0 * ports.now.links.vcs + number.1) else 0) }
+{
+    let out = number.0 * ports.links.vcs + number.1;
+    if test { 1 << out as u32 } else { 0 }
 }
 
 // The packet of a channel with this verdict.
@@ -100,6 +131,8 @@ fn number_of(sends: &Sends<Words>, index: usize, router: usize) -> (usize, usize
     requires router { router < ROUTERS }
     ensures port { result.0 ≡ number_in (digits_by (word index) sends.now.port) router }
     ensures vc { result.1 ≡ number_in (digits_by (word index) sends.now.vc) router }
+    ensures few_ports { result.0 < 8 }
+    ensures few_vcs { result.1 < 8 }
 {
     let port = sends.port.at(index);
     let vc = sends.vc.at(index);

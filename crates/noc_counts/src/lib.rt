@@ -13,5 +13,5 @@ mod nine;
 mod told;
 
 pub use counts::{Counts, no_counts};
-pub use findings::find;
-pub use laws::findings_follow_from_verdicts;
+pub use findings::{find, granted_outs};
+pub use laws::{findings_follow_from_grants, findings_follow_from_verdicts};
