@@ -1,9 +1,12 @@
 //! What is found of the routers of a block. Nothing here runs.
 
-ghost use Rattle.std.specs.Prelude.{◌≡◌, ◌+◌, ◌*◌, ℕ, true, false};
+ghost use Rattle.std.specs.Prelude.{◌≡◌, ◌+◌, ◌*◌, ℕ, List, true, false};
 ghost use Rattle.noc_packet.specs.Set.{has_bit};
 ghost use Rattle.noc_alloc.specs.Members.{MembersAreBelow};
-ghost use Rattle.noc_sets.specs.Cycle.{Still};
+ghost use Rattle.noc_sets.specs.Column.{IsColumn};
+ghost use Rattle.noc_sets.specs.Cycle.{Router, Still, still_of};
+ghost use Rattle.noc_sets.specs.Source.{Start};
+ghost use Rattle.noc_view.specs.View.{View};
 ghost use Rattle.noc_sets.specs.Found.{found_in};
 ghost use Rattle.noc_sets.specs.Layout.{Layout};
 ghost use Rattle.noc_columns.specs.declared.channels.Decided.{Decided};
@@ -51,4 +54,15 @@ pub fn findings_follow_from_grants()
         → has_bit a.wanted o ≡ true)
         → (i : ℕ) → finding_of vcs told (outs_of size vcs granted n) n i
         ≡ found_in vcs told s.filled s.column s.marks i) }
+{}
+
+/// All that the waiting channels of a router may take is wanted, where the words of the router
+/// showed a view before it took what comes.
+pub fn what_waiting_channels_may_take_is_wanted()
+    ensures { (count cycle up no_credit : ℕ) (v : View) (b : Router) (pattern : Pattern)
+        (layout : Layout) (starts : List Start) (a : Held) (standing : Standing ℕ)
+        → IsColumn count b.column b.marks v
+        → ShowsStill pattern a standing no_credit (still_of layout starts cycle up b)
+        → (i o : ℕ) → has_bit a.waiting i ≡ true → has_bit (a.set i) o ≡ true
+        → has_bit a.wanted o ≡ true }
 {}
