@@ -36,6 +36,8 @@ pub struct Work {
     pub returned: Returned<Words>,
     /// What the input channels can do.
     pub standing: Standing<Words>,
+    /// By router, the output channels that are idle before anything is decided.
+    pub idle: [u64; ROUTERS],
     /// What is decided of them.
     pub decided: Decided<Words>,
     /// Those that ask for an output channel and are not granted it.

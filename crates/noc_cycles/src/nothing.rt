@@ -68,6 +68,7 @@ pub(crate) const NO_WORK: Work = Work {
         ready: NO_WORDS,
         last: NO_WORDS,
     },
+    idle: [0; ROUTERS],
     decided: Decided {
         picked: NO_WORDS,
         past: NO_WORDS,

@@ -44,7 +44,7 @@ module _ (pattern : Pattern) (h : Held) (links : Links ℕ) (b : Router) (held :
 
 -- ---- a wait
 -- what is held and shown is the same whatever is counted
-counted-held : (pattern : Pattern) (h : Held) (links : Links ℕ) (b later : Router) → later ≡ record b { counts = later.counts } → ShowsHeld pattern h links b → ShowsHeld pattern h links later
+pub counted-held : (pattern : Pattern) (h : Held) (links : Links ℕ) (b later : Router) → later ≡ record b { counts = later.counts } → ShowsHeld pattern h links b → ShowsHeld pattern h links later
 counted-held pattern h links b later same held = subst (λ (r : Router). ShowsHeld pattern h links r) (sym same) (record {
   column = held.column;
   marks = held.marks;
@@ -54,7 +54,7 @@ counted-held pattern h links b later same held = subst (λ (r : Router). ShowsHe
   source = held.source;
 })
 
-counted-blank : (size : ℕ) (b later : Router) → later ≡ record b { counts = later.counts } → IsBlank size b → IsBlank size later
+pub counted-blank : (size : ℕ) (b later : Router) → later ≡ record b { counts = later.counts } → IsBlank size b → IsBlank size later
 counted-blank size b later same blank = subst (λ (r : Router). IsBlank size r) (sym same) (record {
   waiting = blank.waiting;
   active = blank.active;

@@ -1,0 +1,11 @@
+pub mod ListLemmas
+pub mod PassLemmas
+pub mod ExchangeLemmas
+pub mod TurnedLemmas
+pub mod StepLemmas
+pub mod TurnLemmas
+pub mod OpenedLemmas
+pub mod ReaderLemmas
+pub mod WaitLemmas
+pub mod RepeatLemmas
+pub mod RunLemmas

@@ -1,0 +1,108 @@
+-- The turns of all blocks, one block after the other.
+use Rattle.std.proofs.Common.{◌≡◌, ◌≢◌, ℕ, ◌+◌, ◌*◌, ◌/◌, ◌<◌, Bool, false, List, Some, None, length, set as write, ap, ap₂, sym, ◌∙◌, subst, refl, arith, inl, inr}
+use Rattle.std.specs.Prelude.{◌⊎◌, ◌||◌, slice_get, nat_eq, if◌then◌else◌}
+use Rattle.std.proofs.lemmas.Bool.{cases_eq, eq-eqb, ne_eqb}
+use Rattle.noc_view.specs.Found.{empty_finding}
+use Rattle.noc_sets.specs.Counts.{with_verdicts}
+use Rattle.noc_sets.specs.Cycle.{Router, Turn}
+use Rattle.noc_sets.specs.Unions.{some_below}
+use Rattle.noc_sets.proofs.UnionLemmas.{some-same}
+use Rattle.noc_theory.specs.Network.{Setup}
+use Rattle.noc_theory_bits.specs.Network.{tells_in}
+use Rattle.noc_columns.specs.Heads.{packet_in}
+use Rattle.noc_columns.specs.Picks.{channels_of}
+use Rattle.noc_columns.specs.Words.{set_of}
+use Rattle.noc_counts.specs.Told.{told_at}
+use Rattle.noc_cycles.specs.Gathered.{ShowsLeft}
+use Rattle.noc_cycles.specs.Held.{held_at, links_at}
+use Rattle.noc_cycles.specs.Taking.{links_count}
+use Rattle.noc_cycles.specs.Told.{Tells, port_in, vc_in}
+use Rattle.noc_cycles.specs.Turning.{ShowsTurn}
+use Rattle.noc_cycles.specs.declared.block.Block.{Block}
+use Rattle.noc_cycles.specs.declared.block.Work.{Work}
+use Rattle.noc_theory_cycles.specs.Fits.{layout_of}
+use Rattle.noc_theory_cycles.specs.Nodes.{IsNodeTurn}
+use Rattle.noc_engine.specs.Turns.{HasTurnedBlock}
+use Rattle.noc_engine.specs.declared.plan.Plan.{Plan}
+use Rattle.noc_engine.proofs.ListLemmas.{others, same-item, written}
+use Rattle.noc_engine.proofs.PassLemmas.{some-sum}
+
+-- turns that change nothing
+abbrev pub idle_turns : (ℕ → Router) → ℕ → Turn
+idle_turns words s = record {
+  column = (words s).column;
+  marks = (words s).marks;
+  ended = (words s).ended;
+  source = (words s).source;
+  counts = (words s).counts;
+  left = (words s).links;
+  grants = λ o. None;
+  arrived = 0;
+  found = λ i. empty_finding;
+  happened = false;
+}
+
+-- the blocks below a number have had their turn
+pub record HaveTurnedBelow (net : Setup) (plan : Plan) (n number : ℕ) (words : ℕ → Router) (turns : ℕ → Turn) (blocks : List Block) (works : List Work) (happened : Bool) : Type 0 where
+  pub each : (b : ℕ) (block : Block) (work : Work) → b < number → slice_get blocks b ≡ Some block → slice_get works b ≡ Some work
+      → HasTurnedBlock net plan n b words turns block work (some_below 64 (λ r. (turns (64 * b + r)).happened))
+  pub happened_is : happened ≡ some_below (64 * number) (λ s. (turns s).happened)
+
+-- a block that has had its turn has it by all turns that are those of its routers
+pub turned-same : (net : Setup) (plan : Plan) (n b : ℕ) (words : ℕ → Router) (t u : ℕ → Turn) (block : Block) (work : Work) (happened : Bool)
+    → ((r : ℕ) → r < 64 → t (64 * b + r) ≡ u (64 * b + r)) → HasTurnedBlock net plan n b words t block work happened → HasTurnedBlock net plan n b words u block work (some_below 64 (λ r. (u (64 * b + r)).happened))
+turned-same net plan n b words t u block work happened same has =
+    let ports = plan.pattern.table.ports in
+    record {
+      turn = λ r l. subst (IsNodeTurn net plan.pattern (layout_of plan.pattern) n (64 * b + r) (words (64 * b + r))) (same r l) (has.turn r l);
+      shows = λ r l. subst (ShowsTurn plan.pattern (held_at ports block r)) (same r l) (has.shows r l);
+      packets = has.packets;
+      leaves = λ r l. subst (λ (x : Turn). ShowsLeft (links_count plan.pattern) (links_at ports work.left r) x.left) (same r l) (has.leaves r l);
+      arrived = λ r l. subst (λ (x : Turn). set_of (channels_of ports) r work.arrived ≡ x.arrived) (same r l) (has.arrived r l);
+      arrive = has.arrive;
+      told = λ r l.
+          subst (λ (x : Turn). Tells net.relation.grid net.relation.vcs (64 * b + r) (set_of (channels_of ports) r block.grants.granted) (port_in ports block r) (vc_in ports block r) (packet_in block.packets r) (tells_in net (layout_of plan.pattern) n (words (64 * b + r)) x))
+          (same r l) (has.told r l);
+      counted = λ r i l m. subst (λ (x : Turn). x.counts i ≡ with_verdicts (told_at (channels_of ports) block work r) i ((words (64 * b + r)).counts i)) (same r l) (has.counted r i l m);
+      found = λ r i l. sym (ap (λ (x : Turn). x.found i) (same r l)) ∙ has.found r i l;
+      happened_is = refl;
+      punctual = has.punctual;
+    }
+
+-- ---- one block more
+-- its turns, and those of the others
+abbrev pub with_turns : ℕ → (ℕ → Turn) → (ℕ → Turn) → ℕ → Turn
+with_turns b t u s = if nat_eq (s / 64) b then u s else t s
+
+pub own-turns : (b r : ℕ) (t u : ℕ → Turn) → r < 64 → u (64 * b + r) ≡ with_turns b t u (64 * b + r)
+own-turns b r t u l = let e : (64 * b + r) / 64 ≡ b = omega (arith, l) in sym (ap (λ x. if x then u (64 * b + r) else t (64 * b + r)) (eq-eqb ((64 * b + r) / 64) b e))
+
+pub other-turns : (b s : ℕ) (t u : ℕ → Turn) → s / 64 ≢ b → t s ≡ with_turns b t u s
+other-turns b s t u other = sym (ap (λ x. if x then u s else t s) (ne_eqb (s / 64) b other))
+
+pub turned-next : (net : Setup) (plan : Plan) (n number : ℕ) (words : ℕ → Router) (t u : ℕ → Turn) (blocks : List Block) (works : List Work) (happened : Bool) (block : Block) (work : Work) (here : Bool)
+    → number < length blocks → number < length works
+    → HaveTurnedBelow net plan n number words t blocks works happened → HasTurnedBlock net plan n number words u block work here
+    → HaveTurnedBelow net plan n (number + 1) words (with_turns number t u) (write blocks number block) (write works number work) (happened || here)
+turned-next net plan n number words t u blocks works happened block work here l m before has = record {
+  each = λ b x y k is-block is-work. each b x y k is-block is-work (cases_eq b number);
+  happened_is =
+      ap₂ (λ x y. x || y)
+      (before.happened_is ∙ some-same (64 * number) _ _ (λ s k. ap (λ (x : Turn). x.happened) (other-turns number s t u (λ e. omega (arith, e, k)))))
+      (has.happened_is ∙ some-same 64 _ _ (λ r k. ap (λ (x : Turn). x.happened) (own-turns number r t u k)))
+      ∙ sym (some-sum (64 * number) 64 (λ s. (with_turns number t u s).happened))
+      ∙ (let e : 64 * number + 64 ≡ 64 * (number + 1) = omega arith in ap (λ k. some_below k (λ s. (with_turns number t u s).happened)) e);
+}
+  where
+    each : (b : ℕ) (x : Block) (y : Work) → b < number + 1 → slice_get (write blocks number block) b ≡ Some x → slice_get (write works number work) b ≡ Some y → (b ≡ number) ⊎ (b ≢ number)
+        → HasTurnedBlock net plan n b words (with_turns number t u) x y (some_below 64 (λ r. (with_turns number t u (64 * b + r)).happened))
+    each b x y k is-block is-work (inl same) =
+        subst (λ (c : ℕ). HasTurnedBlock net plan n c words (with_turns number t u) x y (some_below 64 (λ r. (with_turns number t u (64 * c + r)).happened))) (sym same)
+        (subst (λ (p : Block). HasTurnedBlock net plan n number words (with_turns number t u) p y (some_below 64 (λ r. (with_turns number t u (64 * number + r)).happened)))
+        (same-item block x _ (written blocks number block l) (subst (λ (c : ℕ). slice_get (write blocks number block) c ≡ Some x) same is-block))
+        (subst (λ (q : Work). HasTurnedBlock net plan n number words (with_turns number t u) block q (some_below 64 (λ r. (with_turns number t u (64 * number + r)).happened)))
+        (same-item work y _ (written works number work m) (subst (λ (c : ℕ). slice_get (write works number work) c ≡ Some y) same is-work))
+        (turned-same net plan n number words u (with_turns number t u) block work here (λ r low. own-turns number r t u low) has)))
+    each b x y k is-block is-work (inr other) =
+        turned-same net plan n b words t (with_turns number t u) x y _ (λ r low. other-turns number (64 * b + r) t u (λ e. other (omega (arith, e, low))))
+        (before.each b x y (omega (arith, k, other)) (sym (others blocks number b block other) ∙ is-block) (sym (others works number b work other) ∙ is-work))

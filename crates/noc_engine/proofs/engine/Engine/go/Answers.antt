@@ -1,0 +1,22 @@
+use Rattle.std.proofs.Common.{◌+◌, ◌-◌, arith}
+use Rattle.noc_engine.proofs.RunLemmas.{all-run, may-go-on, none-run, some-run}
+use Rattle.noc_engine.proofs.engine.Engine.go.Goals as goal
+
+pub loop-left-init : goal.loop-left-init
+loop-left-init c = none-run c.args.relation.now c.args.cycles c.args.self.now
+
+pub advance-left-requires : goal.advance-left-requires
+advance-left-requires c =
+    let may = c.requires in
+    record {
+      some = omega (arith, c.loop-left-test.true);
+      may = (may.0, may.1 + (c.args.cycles - c.loop-left.left), may-go-on c.args.relation.now c.args.cycles c.args.self.now c.loop-left.left c.loop-left.self c.loop-left.invariant may.0 may.1 may.2);
+    }
+
+pub loop-left-preserved : goal.loop-left-preserved
+loop-left-preserved c =
+    some-run c.args.relation.now c.args.cycles c.args.self.now c.loop-left.left c.loop-left.self c.loop-left.invariant c.advance-left.result c.advance-left.new.self
+    c.advance-left.ensures.within c.advance-left.ensures.shows
+
+pub returns : goal.returns
+returns c = λ net n may. all-run c.args.relation.now c.args.cycles c.args.self.now c.loop-left.left c.loop-left.self c.loop-left.invariant net n (omega (arith, c.loop-left-test.false)) may

@@ -1,0 +1,6 @@
+use Rattle.std.proofs.Common.{◌≡◌, map, take}
+use Rattle.noc_columns.specs.Routing.{header_of}
+use Rattle.noc_engine.proofs.open.all_headers.Given as goal
+
+abbrev pub invariant-loop-packet : goal.invariant-loop-packet
+invariant-loop-packet l = l.all.items ≡ map header_of (take l.packet-index l.packets)

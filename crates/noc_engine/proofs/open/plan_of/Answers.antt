@@ -1,0 +1,8 @@
+use Rattle.noc_engine.proofs.OpenedLemmas.{plan-is}
+use Rattle.noc_engine.proofs.open.plan_of.Goals as goal
+
+pub returns : goal.returns
+returns c =
+    plan-is c.args.relation.now c.args.places c.args.packets.now _ c.shape-shape.result.now c.vcs-vcs.result c.div_ceil-count.result c.nodes.result c.shape-shape.ensures.value
+    c.vcs-vcs.ensures.value c.nodes.ensures.value c.nodes.ensures.some c.nodes.ensures.few c.div_ceil-count.ensures c.of.ensures c.in_ok-around.ensures c.requires.starts c.requires.short
+    c.in_ok-headers.ensures

@@ -1,0 +1,43 @@
+use Rattle.std.proofs.Common.{arith, refl}
+use Rattle.noc_engine.proofs.TurnLemmas.{block-first, block-headers, block-may-decide, block-may-send, block-ports, turned-block}
+use Rattle.noc_engine.proofs.turn.turn.Goals as goal
+
+pub take-comes-requires : goal.take-comes-requires
+take-comes-requires c =
+    let r = c.requires in
+    block-may-send r.0 c.args.relation.now c.args.plan.now c.args.cycle c.args.number r.1 c.args.block.now c.args.work.now c.deref.result.now c.args.plan.now.headers.items r.2 c.deref.ensures.value refl
+
+pub overflow_mul-number : goal.overflow_mul-number
+overflow_mul-number c =
+    let r = c.requires in
+    let few = block-first r.0 c.args.relation.now c.args.plan.now c.args.cycle c.args.number r.1 c.args.block.now c.args.work.now c.args.plan.now.starts.items c.args.plan.now.headers.items r.2 refl refl in
+    omega (arith, few)
+
+pub overflow_cast-number : goal.overflow_cast-number
+overflow_cast-number c =
+    let r = c.requires in
+    let few = block-first r.0 c.args.relation.now c.args.plan.now c.args.cycle c.args.number r.1 c.args.block.now c.args.work.now c.args.plan.now.starts.items c.args.plan.now.headers.items r.2 refl refl in
+    omega (arith, few)
+
+pub decide-requires-clause-ports : goal.decide-requires-clause-ports
+decide-requires-clause-ports c =
+    let r = c.requires in
+    block-ports r.0 c.args.relation.now c.args.plan.now c.args.cycle c.args.number r.1 c.args.block.now c.args.work.now c.args.plan.now.starts.items c.args.plan.now.headers.items r.2 refl refl
+
+pub decide-requires-clause-headers : goal.decide-requires-clause-headers
+decide-requires-clause-headers c =
+    let r = c.requires in
+    block-headers r.0 c.args.relation.now c.args.plan.now c.args.cycle c.args.number r.1 c.args.block.now c.args.work.now c.args.plan.now.starts.items c.deref-2.result.now r.2 refl c.deref-2.ensures.value
+
+pub decide-requires-clause-may : goal.decide-requires-clause-may
+decide-requires-clause-may c = λ k l.
+    let r = c.requires in
+    block-may-decide r.0 c.args.relation.now c.args.plan.now c.args.cycle c.args.number r.1 c.args.block.now c.args.work.now c.deref.result.now c.deref-2.result.now r.2 c.deref.ensures.value c.deref-2.ensures.value
+    c.take-comes.new.block c.take-comes.new.work c.take-comes.result c.take-comes.ensures.taken k l
+
+pub returns : goal.returns
+returns c = λ net words may.
+    turned-block net c.args.relation.now c.args.plan.now c.args.cycle c.args.number words c.args.block.now c.args.work.now c.deref.result.now c.deref-2.result.now may c.deref.ensures.value c.deref-2.ensures.value
+    c.take-comes.new.block (record c.take-comes.new.work { idle = c.take-comes.new.block.marks.idle }) c.take-comes.result c.take-comes.ensures.taken
+    c.decide.new.block c.conclude.new.block c.decide.new.work c.conclude.new.work c.does_something.result c.decide.ensures.decided c.conclude.ensures.concluded c.decide.ensures.block c.decide.ensures.work c.conclude.ensures.block
+    c.conclude.ensures.work c.take-comes.ensures.punctual refl c.does_something.ensures

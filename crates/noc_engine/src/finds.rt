@@ -1,0 +1,70 @@
+//! What the routers of all blocks find in a cycle.
+
+ghost use Rattle.std.specs.Prelude.{◌≡◌, ℕ, ◌+◌, ◌*◌, ◌/◌, ◌%◌, ◌<◌, ◌≤◌, Some, length, slice_get};
+ghost use Rattle.noc_view.specs.Found.{finding_at};
+ghost use Rattle.noc_columns.specs.declared.sets.TheConstants.{CHANNELS};
+ghost use Rattle.noc_columns.specs.declared.words.TheConstants.{ROUTERS};
+ghost use Rattle.noc_cycles.specs.declared.block.Block.{Block};
+ghost use Rattle.noc_cycles.specs.declared.block.Work.{Work};
+ghost use Rattle.noc_engine.specs.Finds.{HaveFindings, found_at};
+
+use crate::plan::Plan;
+use noc_columns::{CHANNELS, ROUTERS};
+use noc_counts::find;
+use noc_cycles::{Block, Pattern, Work};
+use noc_view::Finding;
+
+// What so many routers find in a cycle is noted: `CHANNELS` places for each.
+pub(crate) fn find_all(
+    plan: &Plan,
+    routers: usize,
+    blocks: &[Block],
+    works: &[Work],
+    found: &mut [Finding],
+)
+    requires works { length works.now ≡ length blocks.now }
+    requires blocks { routers ≤ ROUTERS * length blocks.now }
+    requires places { routers * CHANNELS ≤ length found.old }
+    ensures { (s : ℕ) (block : Block) (work : Work) → s < routers
+        → slice_get blocks.now (s / ROUTERS) ≡ Some block
+        → slice_get works.now (s / ROUTERS) ≡ Some work
+        → HaveFindings (found_at plan.now.pattern block work (s % ROUTERS))
+        ((plan.now.pattern.table.ports.links.width + 1) * plan.now.pattern.table.ports.links.vcs)
+        (s * CHANNELS) found.new }
+{
+    for router in 0..routers {
+        let number = router / ROUTERS;
+        let first = router * CHANNELS;
+        find_in(
+            &plan.pattern,
+            &blocks[number],
+            &works[number],
+            router % ROUTERS,
+            first,
+            found,
+        );
+    }
+}
+
+// .. of a block one router finds.
+fn find_in(
+    pattern: &Pattern,
+    block: &Block,
+    work: &Work,
+    router: usize,
+    first: usize,
+    found: &mut [Finding],
+)
+    requires router { router < ROUTERS }
+    requires places { first + CHANNELS ≤ length found.old }
+    ensures here { HaveFindings (found_at pattern.now block.now work.now router)
+        ((pattern.now.table.ports.links.width + 1) * pattern.now.table.ports.links.vcs) first
+        found.new }
+    ensures before { (p : ℕ) → p < first → finding_at found.new p ≡ finding_at found.old p }
+{
+    let links = &pattern.table.ports.links;
+    let idle = work.idle[router];
+    for channel in 0..(links.width + 1) * links.vcs {
+        found[first + channel] = find(pattern, block, work, idle, router, channel);
+    }
+}

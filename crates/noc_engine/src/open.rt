@@ -1,0 +1,127 @@
+//! A network by blocks before its first cycle.
+
+ghost use Rattle.std.specs.Prelude.{◌≡◌, ◌≤◌, ◌<◌, ◌^◌, ℕ, All, IfOk, length, map};
+ghost use Rattle.noc_topo.specs.Shape.{nodes};
+ghost use Rattle.noc_packet.specs.Packet.{IsWithinLimits};
+ghost use Rattle.noc_packet.specs.declared.limits.TheConstants.{MAX_BUFFER, MAX_PACKETS};
+ghost use Rattle.noc_sets.specs.Cycle.{Router};
+ghost use Rattle.noc_theory.specs.Good.{IsGoodSetup};
+ghost use Rattle.noc_theory.specs.Network.{Setup};
+ghost use Rattle.noc_theory_bits.specs.Starts.{starts_list};
+ghost use Rattle.noc_columns.specs.Routing.{header_of};
+ghost use Rattle.noc_columns.specs.Sources.{starts_by};
+ghost use Rattle.noc_queues.specs.Queues.{AreQueues, IsKept};
+ghost use Rattle.noc_engine.specs.Opened.{HasLeftNothing, IsMadeFrom};
+ghost use Rattle.noc_engine.specs.Shows.{IsPlanOf, ShowsAt};
+
+use crate::engine::Engine;
+use crate::plan::Plan;
+use noc_columns::{CHANNELS, Header, Links, NEVER, ROUTERS, Start, WORDS, Words};
+use noc_counts::no_counts;
+use noc_cycles::{Pattern, all_around, empty_works, open_blocks, room_for_notes};
+use noc_packet::{Memory, Packet};
+use noc_queues::{Starts, all_starts};
+use noc_route::Relation;
+use noc_view::Finding;
+use std::alloc::Global;
+
+impl Engine {
+    /// The network of a relation, `places` (1 to 16 flits) in each buffer and these packets, before
+    /// its first cycle. `queues` has the packets of each node by due time.
+    pub fn new(
+        alloc: Global,
+        relation: &Relation,
+        places: usize,
+        packets: &[Packet],
+        queues: &[Vec<(u32, Packet)>],
+    ) -> Result<Engine, Memory>
+        requires places { places ≤ MAX_BUFFER }
+        requires few { length packets.now ≤ MAX_PACKETS }
+        requires limits { All IsWithinLimits packets.now }
+        requires kept { All IsKept packets.now }
+        requires queues { AreQueues packets.now (nodes relation.now.grid) queues.now }
+        ensures { IfOk result (λ made. (net : Setup)
+            → IsMadeFrom relation.now places packets.now net → IsGoodSetup net
+            → (words : ℕ → Router) × ShowsAt net 0 words made) }
+    {
+        let nodes = relation.shape().nodes();
+        let count = nodes.div_ceil(ROUTERS);
+        let Starts { list, firsts } = all_starts(alloc, packets, queues)?;
+        let plan = plan_of(alloc, relation, places, packets, list)?;
+        let blocks = open_blocks(alloc, &plan.pattern, &firsts, count)?;
+        let works = empty_works(alloc, count)?;
+        let left = nothing_left(alloc, count)?;
+        let notes = room_for_notes(alloc, count)?;
+        let counts = no_counts(alloc, count)?;
+        Ok(Engine {
+            plan,
+            blocks,
+            works,
+            left,
+            notes,
+            counts,
+            arrivals: vec![in alloc; NEVER; packets.len()]?,
+            last: 0,
+            cycle: 0,
+            found: vec![in alloc; Finding::EMPTY; nodes * CHANNELS]?,
+        })
+    }
+}
+
+// What stays as it is, where these packets start.
+fn plan_of(
+    alloc: Global,
+    relation: &Relation,
+    places: usize,
+    packets: &[Packet],
+    starts: Vec<Start>,
+) -> Result<Plan, Memory>
+    requires places { places ≤ MAX_BUFFER }
+    requires limits { All IsWithinLimits packets.now }
+    requires starts { starts_by starts.items
+        ≡ starts_list packets.now (nodes relation.now.grid) }
+    requires short { length starts.items < 2 ^ 32 }
+    ensures { IfOk result (λ plan. (net : Setup)
+        → IsMadeFrom relation.now places packets.now net → IsGoodSetup net → IsPlanOf net plan) }
+{
+    let shape = relation.shape();
+    let vcs = relation.vcs();
+    let count = shape.nodes().div_ceil(ROUTERS);
+    let around = all_around(alloc, shape, vcs, count)?;
+    let headers = all_headers(alloc, packets)?;
+    Ok(Plan {
+        pattern: Pattern::of(shape, vcs, places),
+        around,
+        starts,
+        headers,
+    })
+}
+
+// The headers of packets.
+fn all_headers(alloc: Global, packets: &[Packet]) -> Result<Vec<Header>, Memory>
+    requires { All IsWithinLimits packets.now }
+    ensures { IfOk result (λ all. all.items ≡ map header_of packets.now) }
+{
+    let mut all = Vec::with_capacity(alloc, packets.len())?;
+    for packet in packets {
+        all.push(Header::of(packet))?;
+    }
+    Ok(all)
+}
+
+// Nothing has left so many blocks.
+fn nothing_left(alloc: Global, count: usize) -> Result<Vec<Links<Words>>, Memory>
+    ensures { IfOk result (λ left. HasLeftNothing count left.items) }
+{
+    let mut left = Vec::with_capacity(alloc, count)?;
+    for _ in 0..count {
+        left.push(NOTHING)?;
+    }
+    Ok(left)
+}
+
+const NOTHING: Links<Words> = Links {
+    flits: [0; WORDS],
+    tails: [0; WORDS],
+    credits: [0; WORDS],
+};

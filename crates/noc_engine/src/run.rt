@@ -1,0 +1,66 @@
+//! A network runs.
+
+ghost use Rattle.std.specs.Prelude.{◌≡◌, ℕ, ◌+◌, ◌<◌, ◌≤◌};
+ghost use Rattle.noc_theory.specs.Network.{Setup};
+ghost use Rattle.noc_engine.specs.Runs.{AreFindings, MayRun, ShowsRun};
+
+use crate::engine::Engine;
+use noc_columns::CHANNELS;
+use noc_route::Relation;
+
+impl Engine {
+    /// Runs so many cycles, by the relation that it was made for. Those in which nothing happens
+    /// are run at once, but for the last one, of which it is noted what each router finds. It takes
+    /// no memory.
+    pub fn run(&mut self, relation: &Relation, cycles: u32)
+        requires { (net : Setup) × (n : ℕ) × MayRun relation.now net n cycles self.old }
+        ensures shows { (net : Setup) (n : ℕ) → MayRun relation.now net n cycles self.old
+            → ShowsRun net (n + cycles) self.new }
+        ensures found { (net : Setup) (n : ℕ) → MayRun relation.now net n cycles self.old
+            → 0 < cycles → AreFindings net self.new }
+        ensures kept { cycles ≡ 0 → self.new ≡ self.old }
+    {
+        if cycles > 0 {
+            self.go(relation, cycles - 1);
+            self.finish(relation);
+        }
+    }
+
+    // Runs so many cycles. Those in which nothing happens are run at once.
+    fn go(&mut self, relation: &Relation, cycles: u32)
+        requires { (net : Setup) × (n : ℕ) × MayRun relation.now net n cycles self.old }
+        ensures { (net : Setup) (n : ℕ) → MayRun relation.now net n cycles self.old
+            → ShowsRun net (n + cycles) self.new }
+    {
+        let mut left = cycles;
+        while left > 0 {
+            left -= self.advance(relation, left);
+        }
+    }
+
+    // Runs one cycle, and those after it that are like it where nothing happens in it, at most so
+    // many in all. The answer is how many it has run.
+    fn advance(&mut self, relation: &Relation, most: u32) -> u32
+        requires some { 0 < most }
+        requires may { (net : Setup) × (n : ℕ) × MayRun relation.now net n most self.old }
+        ensures some { 0 < result }
+        ensures within { result ≤ most }
+        ensures shows { (net : Setup) (n : ℕ) → MayRun relation.now net n most self.old
+            → ShowsRun net (n + result) self.new }
+    {
+        self.step(relation, 0);
+        1 + self.wait(most - 1)
+    }
+
+    // Runs one cycle, the last of a run, and notes what each router finds in it.
+    fn finish(&mut self, relation: &Relation)
+        requires { (net : Setup) × (n : ℕ) × MayRun relation.now net n 1 self.old }
+        ensures shows { (net : Setup) (n : ℕ) → MayRun relation.now net n 1 self.old
+            → ShowsRun net (n + 1) self.new }
+        ensures found { (net : Setup) (n : ℕ) → MayRun relation.now net n 1 self.old
+            → AreFindings net self.new }
+    {
+        let routers = self.found.len() / CHANNELS;
+        self.step(relation, routers);
+    }
+}

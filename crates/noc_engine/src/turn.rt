@@ -1,0 +1,71 @@
+//! The turn of a block in a cycle.
+
+ghost use Rattle.std.specs.Prelude.{◌≡◌, ℕ, ◌||◌, not, bit_or, nat_eq};
+ghost use Rattle.noc_packet.specs.Set.{has_bit};
+ghost use Rattle.noc_sets.specs.Cycle.{Router, Turn};
+ghost use Rattle.noc_sets.specs.Unions.{some_below};
+ghost use Rattle.noc_theory.specs.Network.{Setup};
+ghost use Rattle.noc_columns.specs.Picks.{channels_of};
+ghost use Rattle.noc_columns.specs.Words.{set_of};
+ghost use Rattle.noc_columns.specs.declared.words.TheConstants.{ROUTERS};
+ghost use Rattle.noc_engine.specs.Turns.{HasTurnedBlock, MayTurn};
+
+use crate::plan::Plan;
+use noc_columns::{ROUTERS, Words};
+use noc_cycles::{Block, Pattern, Routing, Work, conclude, decide, some_in, take};
+use noc_route::Relation;
+
+// The block with this number takes what comes, it is decided what its routers do, and that takes
+// effect. The answer is whether something happens in one of them.
+pub(crate) fn turn(
+    plan: &Plan,
+    relation: &Relation,
+    cycle: u32,
+    number: usize,
+    block: &mut Block,
+    work: &mut Work,
+) -> bool
+    requires { (net : Setup) × (words : ℕ → Router)
+        × MayTurn net relation.now plan.now cycle number words block.old work.old }
+    ensures { (net : Setup) (words : ℕ → Router)
+        → MayTurn net relation.now plan.now cycle number words block.old work.old
+        → (turns : ℕ → Turn) × HasTurnedBlock net plan.now cycle number words turns block.new
+        work.new result }
+{
+    let pattern = &plan.pattern;
+    let comes = take(pattern, &plan.starts, cycle, block, work);
+    work.idle = block.marks.idle;
+    let routing = Routing {
+        relation,
+        headers: &plan.headers,
+    };
+    decide(pattern, &routing, (ROUTERS * number) as u32, block, work);
+    conclude(pattern, block, work);
+    does_something(pattern, comes, block, work)
+}
+
+// Whether something comes to one of these routers, or happens in one of a block: a head comes to
+// wait, an output channel is granted, or a flit moves.
+fn does_something(pattern: &Pattern, comes: u64, block: &Block, work: &Work) -> bool
+    ensures { let set = set_of (channels_of pattern.now.table.ports) in
+        result ≡ some_below ROUTERS
+        (λ r. has_bit comes r || not (nat_eq
+        (bit_or (bit_or (set r work.now.standing.heads) (set r block.now.grants.granted))
+        (set r work.now.verdicts.moved)) 0)) }
+{
+    let heads = some_of(pattern, &work.standing.heads);
+    let granted = some_of(pattern, &block.grants.granted);
+    let moved = some_of(pattern, &work.verdicts.moved);
+    (comes | heads | granted | moved) != 0
+}
+
+// The routers that have a channel in these words.
+#[inline(always)]
+fn some_of(pattern: &Pattern, words: &Words) -> u64
+    ensures { (r : ℕ) → has_bit result r
+        ≡ not (nat_eq (set_of (channels_of pattern.now.table.ports) r words.now) 0) }
+{
+    let links = pattern.table.ports.links.vcs * pattern.table.ports.links.width;
+    let local = &pattern.table.ports.local;
+    some_in(words, 0, links) | some_in(words, local.first, local.vcs)
+}

@@ -1,0 +1,54 @@
+//! Time that jumps over cycles that are like the one before them.
+
+ghost use Rattle.std.specs.Prelude.{◌≡◌, ℕ, ◌+◌, ◌≤◌, Some};
+ghost use Rattle.std.specs.List.{slice_get};
+ghost use Rattle.noc_theory.specs.Network.{Setup};
+ghost use Rattle.noc_counts.specs.declared.counts.Counts.{Counts};
+ghost use Rattle.noc_engine.specs.Runs.{HasJustRun, HasRepeated, IsNextDue, ShowsRun};
+
+use crate::engine::Engine;
+use crate::plan::Plan;
+use noc_columns::NEVER;
+use noc_counts::Counts;
+use noc_cycles::Block;
+
+impl Engine {
+    // Runs the cycles after the last one that are like it, at most so many, where nothing happened
+    // in it. The answer is how many these are.
+    pub(crate) fn wait(&mut self, most: u32) -> u32
+        requires { (net : Setup) × (n : ℕ) × HasJustRun net n most self.old }
+        ensures within { result ≤ most }
+        ensures shows { (net : Setup) (n : ℕ) → HasJustRun net n most self.old
+            → ShowsRun net (n + 1 + result) self.new }
+    {
+        if self.last == self.cycle {
+            return 0;
+        }
+        let due = next_due(&self.blocks);
+        let times = due.saturating_sub(self.cycle).min(most);
+        repeat_all(&self.plan, times, self.counts.as_mut_slice());
+        self.cycle += times;
+        times
+    }
+}
+
+// When the first packet of these blocks comes to be due that is not due yet.
+fn next_due(blocks: &[Block]) -> u32
+    ensures { IsNextDue blocks.now result }
+{
+    let mut next = NEVER;
+    for number in 0..blocks.len() {
+        next = next.min(blocks[number].sources.due.next);
+    }
+    next
+}
+
+// The last cycle, in which nothing happened, is counted so many times more in all blocks.
+fn repeat_all(plan: &Plan, times: u32, counts: &mut [Counts])
+    ensures { (b : ℕ) (old new : Counts) → slice_get counts.old b ≡ Some old
+        → slice_get counts.new b ≡ Some new → HasRepeated plan.now.pattern times old new }
+{
+    for number in 0..counts.len() {
+        counts[number].repeat(&plan.pattern.frame, times);
+    }
+}
