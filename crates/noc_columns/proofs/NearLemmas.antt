@@ -1,9 +1,9 @@
 -- A word turned by a distance has of each router what the one so far from it had.
-use Rattle.std.proofs.Common.{◌≡◌, ◌⊎◌, ℕ, ◌+◌, ◌-◌, ◌*◌, ◌/◌, ◌%◌, ◌^◌, ◌<◌, ◌≤◌, Bool, true, false, List, Option, Some, None, arith, ap, ap₂, sym, ◌∙◌, refl, inl, inr, bit_and, bit_or}
+use Rattle.std.proofs.Common.{◌≡◌, ◌⊎◌, ℕ, ◌+◌, ◌-◌, ◌*◌, ◌/◌, ◌%◌, ◌^◌, ◌<◌, ◌≤◌, Bool, true, false, List, Option, Some, None, arith, mul_assoc, ap, ap₂, sym, ◌∙◌, refl, inl, inr, bit_and, bit_or, slice_index}
 use Rattle.std.specs.Prelude.{◌&&◌, ◌||◌, not, nat_eq, if◌then◌else◌}
 use Rattle.std.specs.Int.{bit_at}
 use Rattle.std.proofs.lemmas.Bool.{and_parts, cases_lt, eq-eqb, eqb-true, lt-ltb, not-true, true≢false}
-use Rattle.std.proofs.lemmas.Nat.{shr_split}
+use Rattle.std.proofs.lemmas.Nat.{mul-mod_first, pow-add, shr_split}
 use Rattle.std.proofs.lemmas.Nat.Bits.{bit_at_cat_low}
 use Rattle.noc_packet.specs.Set.{has_bit}
 use Rattle.noc_packet.proofs.SetLemmas.{both_members, either_members, has_bit-above}
@@ -30,33 +30,30 @@ module _ (word distance r : ℕ) (fits : word < 2 ^ 64) (near : distance < 64) (
   up-is : (back : ℕ) → has_bit (word * 2 ^ back % 2 ^ 64) r ≡ has_bit (up_by word back) r
   up-is back = low-members (word * 2 ^ back) r 64 few
 
-  both-is : (back : ℕ) → back ≡ (64 - distance) % 64 → (has_bit word (distance + r) || has_bit (up_by word back) r) ≡ has_bit word ((r + distance) % 64)
-  both-is back e = at (cases_lt (r + distance) 64) (cases_lt 0 distance)
+  both-is : (back : ℕ) → back ≡ 64 - distance → (has_bit word (distance + r) || has_bit (up_by word back) r) ≡ has_bit word ((r + distance) % 64)
+  both-is back e = at (cases_lt (r + distance) 64)
     where
-      at : (r + distance < 64) ⊎ (64 ≤ r + distance) → (0 < distance) ⊎ (distance ≤ 0) → (has_bit word (distance + r) || has_bit (up_by word back) r) ≡ has_bit word ((r + distance) % 64)
-      at (inl l) (inl some) =
-          let b : back ≡ 64 - distance = omega (arith, e, some, near) in
-          ap (λ x. has_bit word (distance + r) || x) (up_none word back r (omega (arith, b, l)))
+      at : (r + distance < 64) ⊎ (64 ≤ r + distance) → (has_bit word (distance + r) || has_bit (up_by word back) r) ≡ has_bit word ((r + distance) % 64)
+      at (inl l) =
+          ap (λ x. has_bit word (distance + r) || x) (up_none word back r (omega (arith, e, near, l)))
           ∙ or-no (has_bit word (distance + r))
           ∙ ap (has_bit word) (let f : distance + r ≡ (r + distance) % 64 = omega (arith, l) in f)
-      at (inl l) (inr none) =
-          let b : back ≡ 0 = omega (arith, e, none) in
-          ap₂ (λ x y. x || y) (ap (has_bit word) (let f : distance + r ≡ (r + distance) % 64 = omega (arith, l) in f))
-          (up_members word back r (omega (arith, b)) ∙ ap (has_bit word) (let f : r - back ≡ (r + distance) % 64 = omega (arith, b, none, few) in f))
-          ∙ twice (has_bit word ((r + distance) % 64))
-        where
-          twice : (b : Bool) → (b || b) ≡ b
-          twice true = refl
-          twice false = refl
-      at (inr l) o =
-          let b : back ≡ 64 - distance = omega (arith, e, l, near, few) in
+      at (inr l) =
           ap₂ (λ x y. x || y) (has_bit-above word 64 (distance + r) fits (omega (arith, l)))
-          (up_members word back r (omega (arith, b, l)) ∙ ap (has_bit word) (let f : r - back ≡ (r + distance) % 64 = omega (arith, b, l, near, few) in f))
+          (up_members word back r (omega (arith, e, near, l)) ∙ ap (has_bit word) (let f : r - back ≡ (r + distance) % 64 = omega (arith, e, l, near, few) in f))
 
-  pub turned-is : (back mask : ℕ) → back ≡ (64 - distance) % 64 → has_bit (bit_and (bit_or (word / 2 ^ distance) (word * 2 ^ back % 2 ^ 64)) mask) r ≡ comes_from distance mask word r
+  -- by one step, and then by the others
+  steps-are : (back : ℕ) → word * 2 ^ 1 % 2 ^ 64 * 2 ^ back % 2 ^ 64 ≡ word * 2 ^ (1 + back) % 2 ^ 64
+  steps-are back =
+      mul-mod_first (word * 2 ^ 1) (2 ^ back) (2 ^ 64)
+      ∙ ap (λ n. n % 2 ^ 64) (mul_assoc word (2 ^ 1) (2 ^ back) ∙ ap (λ n. word * n) (sym (pow-add 2 1 back)))
+
+  pub turned-is : (back mask : ℕ) → back ≡ 63 - distance → has_bit (bit_and (bit_or (word / 2 ^ distance) (word * 2 ^ 1 % 2 ^ 64 * 2 ^ back % 2 ^ 64)) mask) r ≡ comes_from distance mask word r
   turned-is back mask e =
-      both_members (bit_or (word / 2 ^ distance) (word * 2 ^ back % 2 ^ 64)) mask r
-      ∙ ap (λ x. x && has_bit mask r) (either_members (word / 2 ^ distance) (word * 2 ^ back % 2 ^ 64) r ∙ ap₂ (λ x y. x || y) down-is (up-is back) ∙ both-is back e)
+      let up = word * 2 ^ 1 % 2 ^ 64 * 2 ^ back % 2 ^ 64 in
+      both_members (bit_or (word / 2 ^ distance) up) mask r
+      ∙ ap (λ x. x && has_bit mask r) (either_members (word / 2 ^ distance) up r
+      ∙ ap₂ (λ x y. x || y) down-is (ap (λ n. has_bit n r) (steps-are back) ∙ up-is (1 + back)) ∙ both-is (1 + back) (omega (arith, e, near)))
       ∙ turn (has_bit word ((r + distance) % 64)) (has_bit mask r)
     where
       turn : (a b : Bool) → (a && b) ≡ (b && a)
@@ -186,12 +183,17 @@ are-places g b p s far places sound link are block known = record {
     whole t block low e f = omega (arith, e, f)
 
 -- ---- four words more
-pub four-next : (now new : List ℕ) (came : ℕ → ℕ → Bool) (g : ℕ)
+pub four-next : (now new four : List ℕ) (came : ℕ → ℕ → Bool) (g : ℕ)
     → ((k r : ℕ) → k < 4 * g → r < 64 → has_bit (word k now) r ≡ came k r)
-    → ((k r : ℕ) → 4 * g ≤ k → k < 4 * g + 4 → r < 64 → has_bit (word k new) r ≡ came k r)
+    → ((j r : ℕ) → j < 4 → r < 64 → has_bit (slice_index four j) r ≡ came (4 * g + j) r)
+    → ((j : ℕ) → j < 4 → word (4 * g + j) new ≡ slice_index four j)
     → ((k : ℕ) → (k < 4 * g) ⊎ (4 * g + 4 ≤ k) → word k new ≡ word k now)
     → (k r : ℕ) → k < 4 * (g + 1) → r < 64 → has_bit (word k new) r ≡ came k r
-four-next now new came g done here others k r l few = elim (cases_lt k (4 * g)) [
+four-next now new four came g done comes here others k r l few = elim (cases_lt k (4 * g)) [
   | inl below ↦ ap (λ w. has_bit w r) (others k (inl below)) ∙ done k r below few
-  | inr above ↦ here k r above (omega (arith, l)) few
+  | inr above ↦
+      let j = k - 4 * g in
+      let whole : 4 * g + j ≡ k = omega (arith, above) in
+      let in_four : j < 4 = omega (arith, above, l) in
+      ap (λ i. has_bit (word i new) r) (sym whole) ∙ ap (λ w. has_bit w r) (here j in_four) ∙ comes j r in_four few ∙ ap (λ i. came i r) whole
 ]

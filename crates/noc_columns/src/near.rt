@@ -26,13 +26,35 @@ pub fn gather(frame: &Frame, near: &Near, left: &Links<Words>, came: &mut Links<
     ensures credits { (k r : ℕ) → k < 4 * frame.now.link_groups → r < ROUTERS
         → has_bit (word k came.new.credits) r ≡ comes_near near.now left.now.credits k r }
 {
+    if near.rings {
+        gather_all(frame, near, true, left, came);
+    } else {
+        gather_all(frame, near, false, left, came);
+    }
+}
+
+// .. where it is told whether lines are rings.
+#[inline(always)]
+fn gather_all(frame: &Frame, near: &Near, rings: bool, left: &Links<Words>, came: &mut Links<Words>)
+    requires { rings ≡ near.now.rings }
+    ensures flits { (k r : ℕ) → k < 4 * frame.now.link_groups → r < ROUTERS
+        → has_bit (word k came.new.flits) r ≡ comes_near near.now left.now.flits k r }
+    ensures tails { (k r : ℕ) → k < 4 * frame.now.link_groups → r < ROUTERS
+        → has_bit (word k came.new.tails) r ≡ comes_near near.now left.now.tails k r }
+    ensures credits { (k r : ℕ) → k < 4 * frame.now.link_groups → r < ROUTERS
+        → has_bit (word k came.new.credits) r ≡ comes_near near.now left.now.credits k r }
+{
     // (All three stand in one loop. Else the compiler takes the same word of four groups at a time,
-    // and moves words about.)
+    // and moves words about. And all are read before one is written, so that where neighbours stand
+    // is read once.)
     for g in 0..frame.link_groups {
         let at = 4 * g;
-        gather_four(near, at, &left.flits, &mut came.flits);
-        gather_four(near, at, &left.tails, &mut came.tails);
-        gather_four(near, at, &left.credits, &mut came.credits);
+        let flits = near_four(near, rings, &left.flits, at);
+        let tails = near_four(near, rings, &left.tails, at);
+        let credits = near_four(near, rings, &left.credits, at);
+        put_four(&mut came.flits, at, &flits);
+        put_four(&mut came.tails, at, &tails);
+        put_four(&mut came.credits, at, &credits);
     }
 }
 
@@ -67,20 +89,6 @@ pub fn gather_far(links: &Ports, far: &Far, left: &Links<Words>, came: &mut Link
     join_far(links, far, &left.credits, &mut came.credits);
 }
 
-// Four words of one kind, from this index on.
-#[inline(always)]
-fn gather_four(near: &Near, at: usize, from: &Words, to: &mut Words)
-    requires fit { at + 4 ≤ WORDS }
-    requires even { at % 2 ≡ 0 }
-    ensures here { (k r : ℕ) → at ≤ k → k < at + 4 → r < ROUTERS
-        → has_bit (word k to.new) r ≡ comes_near near.now from.now k r }
-    ensures others { (k : ℕ) → (k < at) ⊎ (at + 4 ≤ k) → word k to.new ≡ word k to.old }
-{
-    let sent = opposite_four(from, at);
-    let came = near_four(near, &sent, at);
-    put_four(to, at, &came);
-}
-
 // The words of the channels at the other ends of four links.
 #[inline(always)]
 fn opposite_four(from: &Words, at: usize) -> [u64; 4]
@@ -91,20 +99,19 @@ fn opposite_four(from: &Words, at: usize) -> [u64; 4]
     [from[at + 1], from[at], from[at + 3], from[at + 2]]
 }
 
-// What comes by four links from neighbours at both distances.
+// What comes by four links, of the words of one kind, from neighbours at both distances.
 #[inline(always)]
-fn near_four(near: &Near, sent: &[u64; 4], at: usize) -> [u64; 4]
-    requires { at + 4 ≤ WORDS }
+fn near_four(near: &Near, rings: bool, from: &Words, at: usize) -> [u64; 4]
+    requires rings { rings ≡ near.now.rings }
+    requires fit { at + 4 ≤ WORDS }
+    requires even { at % 2 ≡ 0 }
     ensures { (j r : ℕ) → j < 4 → r < ROUTERS
-        → has_bit (slice_index result j) r
-        ≡ (comes_from (word (at + j) near.now.straight.distance)
-        (word (at + j) near.now.straight.mask) (slice_index sent.now j) r
-        || (near.now.rings && comes_from (word (at + j) near.now.round.distance)
-        (word (at + j) near.now.round.mask) (slice_index sent.now j) r)) }
+        → has_bit (slice_index result j) r ≡ comes_near near.now from.now (at + j) r }
 {
-    let straight = turned_four(&near.straight, sent, at);
-    if near.rings {
-        let round = turned_four(&near.round, sent, at);
+    let sent = opposite_four(from, at);
+    let straight = turned_four(&near.straight, &sent, at);
+    if rings {
+        let round = turned_four(&near.round, &sent, at);
         join_four(&straight, &round)
     } else {
         straight
@@ -193,6 +200,7 @@ fn turned(word: u64, distance: u64, mask: u64) -> u64
     requires { distance < ROUTERS }
     ensures { (r : ℕ) → r < ROUTERS → has_bit result r ≡ comes_from distance mask word r }
 {
-    let back = (ROUTERS as u64 - distance) % ROUTERS as u64;
-    ((word >> distance) | (word << back)) & mask
+    // (Back by one step, and then by the others: a turn at once is done one word at a time.)
+    let back = ROUTERS as u64 - 1 - distance;
+    ((word >> distance) | (word << 1 << back)) & mask
 }

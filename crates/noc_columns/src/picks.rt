@@ -27,8 +27,26 @@ pub struct Picks {
     pub vc: Digits<[u64; PORTS]>,
 }
 
+impl Picks {
+    /// Nothing is picked.
+    pub const NONE: Picks = Picks {
+        any: NO_PORTS,
+        tail: NO_PORTS,
+        port: NO_NUMBERS,
+        vc: NO_NUMBERS,
+    };
+}
+
+const NO_PORTS: [u64; PORTS] = [0; PORTS];
+
+const NO_NUMBERS: Digits<[u64; PORTS]> = Digits {
+    ones: NO_PORTS,
+    twos: NO_PORTS,
+    fours: NO_PORTS,
+};
+
 /// Of the ready channels of each input port one is picked, the first from the pointer on and
-/// around. The answer is what these channels have.
+/// around. It is written what these channels have.
 #[inline(always)]
 pub fn pick(
     ports: &RouterPorts,
@@ -36,60 +54,69 @@ pub fn pick(
     standing: &Standing<Words>,
     sends: &Sends<Words>,
     decided: &mut Decided<Words>,
-) -> Picks
+    picks: &mut Picks,
+)
     ensures picked { (p r : ℕ) → p < ports.now.links.width + 1
         → IsPicked (port_of ports.now p) r standing.now.ready inputs.now.ahead decided.new.picked
         decided.new.past }
     ensures picks { (p r c : ℕ) → p < ports.now.links.width + 1 → c < ports.now.links.vcs
         → has_bit (set_of (port_of ports.now p) r decided.new.picked) c ≡ true
-        → HasPick (port_of ports.now p) r p c standing.now.last sends.now result }
+        → HasPick (port_of ports.now p) r p c standing.now.last sends.now picks.new }
     ensures any { (p r : ℕ) → p < ports.now.links.width + 1
-        → has_bit (slice_index result.any p) r
+        → has_bit (slice_index picks.new.any p) r
         ≡ not (nat_eq (set_of (port_of ports.now p) r standing.now.ready) 0) }
     ensures rest { decided.new
         ≡ record decided.old { picked = decided.new.picked; past = decided.new.past } }
 {
     let width = ports.links.width;
     if width == 2 {
-        pick_by::<2>(ports, inputs, standing, sends, decided)
+        pick_by::<2>(ports, inputs, standing, sends, decided, picks);
     } else if width == 4 {
-        pick_by::<4>(ports, inputs, standing, sends, decided)
+        pick_by::<4>(ports, inputs, standing, sends, decided, picks);
     } else if width == 6 {
-        pick_by::<6>(ports, inputs, standing, sends, decided)
+        pick_by::<6>(ports, inputs, standing, sends, decided, picks);
     } else {
-        pick_all(ports, inputs, standing, sends, decided)
+        pick_all(ports, inputs, standing, sends, decided, picks);
     }
 }
 
-// .. where so many are link ports. (They are a const parameter, since a function of this size is
-// not inlined.)
+// .. where so many are link ports. (They are a const parameter, so that loops over them are
+// unrolled. What calls this is not to grow by it, or the compiler takes one word at a time.)
+#[inline(never)]
 fn pick_by<const WIDTH: usize>(
     ports: &RouterPorts,
     inputs: &Inputs<Words>,
     standing: &Standing<Words>,
     sends: &Sends<Words>,
     decided: &mut Decided<Words>,
-) -> Picks
+    picks: &mut Picks,
+)
     requires { WIDTH ≡ ports.now.links.width }
     ensures picked { (p r : ℕ) → p < ports.now.links.width + 1
         → IsPicked (port_of ports.now p) r standing.now.ready inputs.now.ahead decided.new.picked
         decided.new.past }
     ensures picks { (p r c : ℕ) → p < ports.now.links.width + 1 → c < ports.now.links.vcs
         → has_bit (set_of (port_of ports.now p) r decided.new.picked) c ≡ true
-        → HasPick (port_of ports.now p) r p c standing.now.last sends.now result }
+        → HasPick (port_of ports.now p) r p c standing.now.last sends.now picks.new }
     ensures any { (p r : ℕ) → p < ports.now.links.width + 1
-        → has_bit (slice_index result.any p) r
+        → has_bit (slice_index picks.new.any p) r
         ≡ not (nat_eq (set_of (port_of ports.now p) r standing.now.ready) 0) }
     ensures rest { decided.new
         ≡ record decided.old { picked = decided.new.picked; past = decided.new.past } }
 {
     let vcs = ports.links.vcs;
-    if vcs == 4 {
-        pick_all(&ports.known(WIDTH, 4), inputs, standing, sends, decided)
+    if vcs == 2 {
+        let known = ports.known(WIDTH, 2);
+        pick_all(&known, inputs, standing, sends, decided, picks);
+    } else if vcs == 4 {
+        let known = ports.known(WIDTH, 4);
+        pick_all(&known, inputs, standing, sends, decided, picks);
     } else if vcs == 8 {
-        pick_all(&ports.known(WIDTH, 8), inputs, standing, sends, decided)
+        let known = ports.known(WIDTH, 8);
+        pick_all(&known, inputs, standing, sends, decided, picks);
     } else {
-        pick_all(&ports.known(WIDTH, vcs), inputs, standing, sends, decided)
+        let known = ports.known(WIDTH, vcs);
+        pick_all(&known, inputs, standing, sends, decided, picks);
     }
 }
 
@@ -101,15 +128,16 @@ fn pick_all(
     standing: &Standing<Words>,
     sends: &Sends<Words>,
     decided: &mut Decided<Words>,
-) -> Picks
+    picks: &mut Picks,
+)
     ensures picked { (p r : ℕ) → p < ports.now.links.width + 1
         → IsPicked (port_of ports.now p) r standing.now.ready inputs.now.ahead decided.new.picked
         decided.new.past }
     ensures picks { (p r c : ℕ) → p < ports.now.links.width + 1 → c < ports.now.links.vcs
         → has_bit (set_of (port_of ports.now p) r decided.new.picked) c ≡ true
-        → HasPick (port_of ports.now p) r p c standing.now.last sends.now result }
+        → HasPick (port_of ports.now p) r p c standing.now.last sends.now picks.new }
     ensures any { (p r : ℕ) → p < ports.now.links.width + 1
-        → has_bit (slice_index result.any p) r
+        → has_bit (slice_index picks.new.any p) r
         ≡ not (nat_eq (set_of (port_of ports.now p) r standing.now.ready) 0) }
     ensures rest { decided.new
         ≡ record decided.old { picked = decided.new.picked; past = decided.new.past } }
@@ -121,12 +149,12 @@ fn pick_all(
         &mut decided.picked,
         &mut decided.past,
     );
-    Picks {
+    *picks = Picks {
         any,
         tail: any_both(ports, &decided.picked, &standing.last),
         port: numbers(ports, &decided.picked, &sends.port),
         vc: numbers(ports, &decided.picked, &sends.vc),
-    }
+    };
 }
 
 // By port the numbers of the channels of a set that has one of each port at most.
@@ -289,10 +317,13 @@ fn pick_next(
         → word k picked.new ≡ word k picked.old }
 {
     let at = ports.first + v * ports.width;
+    // (All words are read before one is written. So the compiler takes several at a time.)
+    let mut here = [0; PORTS];
     for j in 0..ports.width {
         let before = turn.before[j];
-        let here = less(ready[at + j], less(turn.first[j], ahead[at + j]));
-        picked[at + j] = less(here, before);
-        turn.before[j] = before | here;
+        let turns = less(ready[at + j], less(turn.first[j], ahead[at + j]));
+        here[j] = less(turns, before);
+        turn.before[j] = before | turns;
     }
+    write_side(ports, v, &here, picked);
 }

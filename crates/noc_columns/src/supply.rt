@@ -162,7 +162,7 @@ pub fn look_up(
 }
 
 // Looks up who has a credit, where a port has four virtual channels at most, or eight. (These are
-// const parameters, since a function of this size is not inlined.)
+// const parameters, so that what is not needed is not worked out.)
 fn look_up_by<const VCS: usize>(
     frame: &Frame,
     width: usize,
@@ -187,7 +187,9 @@ fn look_up_by<const VCS: usize>(
     }
 }
 
-// Looks up who has a credit, where it is known too how many link ports there are.
+// Looks up who has a credit, where it is known too how many link ports there are. (What calls this
+// is not to grow by it, or the compiler takes one word at a time.)
+#[inline(never)]
 fn look_up_of<const WIDTH: usize, const VCS: usize>(
     frame: &Frame,
     sends: &Sends<Words>,

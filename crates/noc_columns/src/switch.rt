@@ -72,8 +72,9 @@ pub fn traverse(
     }
 }
 
-// .. where so many are link ports. (They are a const parameter, since a function of this size is
-// not inlined.)
+// .. where so many are link ports. (They are a const parameter, so that loops over them are
+// unrolled. What calls this is not to grow by it, or the compiler takes one word at a time.)
+#[inline(never)]
 fn traverse_by<const WIDTH: usize>(
     ports: &RouterPorts,
     picks: &Picks,
@@ -93,7 +94,9 @@ fn traverse_by<const WIDTH: usize>(
     ensures left { left.new.credits ≡ left.old.credits }
 {
     let vcs = ports.links.vcs;
-    if vcs == 4 {
+    if vcs == 2 {
+        traverse_all(&ports.known(WIDTH, 2), picks, switch, decided, left);
+    } else if vcs == 4 {
         traverse_all(&ports.known(WIDTH, 4), picks, switch, decided, left);
     } else if vcs == 8 {
         traverse_all(&ports.known(WIDTH, 8), picks, switch, decided, left);

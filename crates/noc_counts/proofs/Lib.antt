@@ -1,3 +1,4 @@
+pub mod LowLemmas
 pub mod CountLemmas
 pub mod NineLemmas
 pub mod VerdictLemmas

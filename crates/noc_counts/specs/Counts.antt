@@ -28,15 +28,15 @@ numbers_of = nine_by (λ n. n)
 
 -- each is small enough that they can be added
 pub record AreSmall (n : ByVerdict) : Type 0 where
-  pub routed : n.routed < 2 ^ 34
-  pub granted : n.granted < 2 ^ 34
-  pub moved : n.moved < 2 ^ 34
-  pub no_flit : n.no_flit < 2 ^ 34
-  pub no_idle_channel : n.no_idle_channel < 2 ^ 34
-  pub lost_channel : n.lost_channel < 2 ^ 34
-  pub no_credit : n.no_credit < 2 ^ 34
-  pub lost_input : n.lost_input < 2 ^ 34
-  pub lost_switch : n.lost_switch < 2 ^ 34
+  pub routed : n.routed < 2 ^ 38
+  pub granted : n.granted < 2 ^ 38
+  pub moved : n.moved < 2 ^ 38
+  pub no_flit : n.no_flit < 2 ^ 38
+  pub no_idle_channel : n.no_idle_channel < 2 ^ 38
+  pub lost_channel : n.lost_channel < 2 ^ 38
+  pub no_credit : n.no_credit < 2 ^ 38
+  pub lost_input : n.lost_input < 2 ^ 38
+  pub lost_switch : n.lost_switch < 2 ^ 38
 
 -- how many cycles were counted one by one
 abbrev pub counted_in : Counts → ℕ
@@ -80,7 +80,7 @@ pub record AreNoted (slot size : ℕ) (told : ℕ → ByVerdict) (old new : Nine
   pub lost_input : IsNoted slot size (λ j. (told j).lost_input) old.lost_input new.lost_input
   pub lost_switch : IsNoted slot size (λ j. (told j).lost_switch) old.lost_switch new.lost_switch
 
--- the last four cycles were added, where such had been added so many times
+-- the last sixteen cycles were added, where such had been added so many times
 pub record AreAdded (size times : ℕ) (old new : Nine Count) : Type 0 where
   pub routed : HasAdded size times old.routed new.routed
   pub granted : HasAdded size times old.granted new.granted

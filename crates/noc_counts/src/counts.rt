@@ -7,10 +7,11 @@ ghost use Rattle.noc_columns.specs.Words.{IsWithin, Numbering, word};
 ghost use Rattle.noc_columns.specs.declared.words.TheConstants.{ROUTERS, WORDS};
 ghost use Rattle.noc_counts.specs.Counted.{count_in, last_of};
 ghost use Rattle.noc_counts.specs.Counts.{AreAdded, AreClear, AreNoted, AreSmall, IsClear, counted_in, counts_at, last_at, nine_by, numbers_of, word_counts};
-ghost use Rattle.noc_counts.specs.declared.count.TheConstants.{SLOTS};
+ghost use Rattle.noc_counts.specs.declared.low.TheConstants.{SLOTS};
 ghost use Rattle.noc_counts.specs.Told.{told_at, told_by};
 
-use crate::count::{Count, SLOTS};
+use crate::count::Count;
+use crate::low::SLOTS;
 use crate::nine::Nine;
 use crate::told::words_at;
 use noc_columns::{ChannelTable, Frame, ROUTERS, WORDS};
@@ -27,7 +28,7 @@ pub struct Counts {
     cycles: u32,
 }
 
-/// No counts of so many blocks. (They are cleared where they stand: those of one take 350 kB.)
+/// No counts of so many blocks. (They are cleared where they stand: those of one take 450 kB.)
 pub fn no_counts(alloc: Global, blocks: usize) -> Result<Vec<Counts>, Memory>
     ensures { IfOk result (λ all. AreClear blocks all.items) }
 {
@@ -84,6 +85,7 @@ impl Counts {
     }
 
     /// Counts a cycle more, after it has taken effect.
+    #[inline(never)]
     pub fn count(&mut self, frame: &Frame, block: &Block, work: &Work)
         ensures counts { (n : Numbering) (r i : ℕ) → IsWithin (4 * frame.now.groups) n → i < n.size
             → counted_in self.old + 1 < 2 ^ 32
@@ -196,7 +198,7 @@ fn note(frame: &Frame, block: &Block, work: &Work, slot: usize, by: &mut Nine<Co
     }
 }
 
-// The last four cycles are added, where such were added so many times.
+// The last sixteen cycles are added, where such were added so many times.
 fn add_all(groups: usize, times: u32, by: &mut Nine<Count>)
     requires { 4 * groups ≤ WORDS }
     ensures { AreAdded (4 * groups) times by.old by.new }

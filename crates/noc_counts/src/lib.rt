@@ -9,6 +9,7 @@ mod count;
 mod counts;
 mod findings;
 mod laws;
+mod low;
 mod nine;
 mod told;
 

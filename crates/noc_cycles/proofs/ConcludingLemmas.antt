@@ -60,7 +60,7 @@ module _ (pattern : Pattern) where
           omega (arith, is, behind, all, few)
 
   -- a set of link channels is that of all channels there
-  pub links-same : (r : ℕ) (words : List ℕ) (c : ℕ) → c < width * vcs → has_bit (set_of (links_of all_ports.links) r words) c ≡ has_bit (set_of (channels_of all_ports) r words) c
+  links-same : (r : ℕ) (words : List ℕ) (c : ℕ) → c < width * vcs → has_bit (set_of (links_of all_ports.links) r words) c ≡ has_bit (set_of (channels_of all_ports) r words) c
   links-same r words c l =
       let p = port-below width vcs pattern.some c l in
       let v = part width vcs pattern.some c in
@@ -68,6 +68,13 @@ module _ (pattern : Pattern) where
       member-is (links_of all_ports.links) r c words l
       ∙ ap (λ i. has_bit (word i words) r) (sym (link-index all_ports (c / vcs) (c % vcs) p))
       ∙ sym (member-is (channels_of all_ports) r c words all)
+
+  -- .. and so it is where the words of the links were copied
+  pub links-copied : (r : ℕ) (words copied : List ℕ) → ((k : ℕ) → k < 4 * pattern.frame.link_groups → word k copied ≡ word k words)
+      → (c : ℕ) → c < width * vcs → has_bit (set_of (links_of all_ports.links) r copied) c ≡ has_bit (set_of (channels_of all_ports) r words) c
+  links-copied r words copied same c l =
+      let n = links_of all_ports.links in
+      member-is n r c copied l ∙ ap (λ w. has_bit w r) (same (n.index c) (links-within c l)) ∙ sym (member-is n r c words l) ∙ links-same r words c l
 
 -- ---- what a router holds, where of its marks only the idle channels change
 pub held-changed : (ports : RouterPorts) (b : Block) (r : ℕ) (inputs : Inputs (List ℕ)) (outputs : Outputs (List ℕ)) (marks : Marks) → ChangesIdle b.marks marks
@@ -97,6 +104,16 @@ none-there n r count routers words within tells none = zero_from_none (set_of n 
     at : (k : ℕ) (b : Bool) → has_bit (set_of n r words) k ≡ b → has_bit (set_of n r words) k ≡ false
     at k false e = e
     at k true e = (let l = member-below n r words k e in absurd (true≢false (sym e ∙ member-is n r k words l ∙ none-each count (λ i. has_bit (word i words) r) nobody (n.index k) (within k l))))
+
+-- no channel is in words that are all 0
+pub none-within : (n : Numbering) (r count : ℕ) (words : List ℕ) → IsWithin count n → ((k : ℕ) → k < count → word k words ≡ 0) → set_of n r words ≡ 0
+none-within n r count words within none = zero_from_none (set_of n r words) (λ k. at k (has_bit (set_of n r words) k) refl)
+  where
+    at : (k : ℕ) (b : Bool) → has_bit (set_of n r words) k ≡ b → has_bit (set_of n r words) k ≡ false
+    at k false e = e
+    at k true e =
+        let l = member-below n r words k e in
+        absurd (true≢false (sym e ∙ member-is n r k words l ∙ ap (λ w. has_bit w r) (none (n.index k) (within k l)) ∙ has_bit-zero r))
 
 pub none-back : (idle size links set : ℕ) (vc : ℕ → ℕ) → set ≡ 0 → idle ≡ given_back idle size links set vc
 none-back idle size links set vc none = sym (ap (λ s. given_back idle size links s vc) none ∙ nothing size)

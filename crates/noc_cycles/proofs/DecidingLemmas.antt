@@ -1,10 +1,9 @@
 -- What is decided in one router of a block.
-use Rattle.std.proofs.Common.{◌≡◌, ◌≢◌, ◌⊎◌, ℕ, ◌+◌, ◌*◌, ◌/◌, ◌%◌, ◌^◌, ◌<◌, ◌≤◌, Bool, true, false, List, [], arith, ap, sym, ◌∙◌, subst, refl, inl, inr, bit_and, bit_or}
-use Rattle.std.specs.Prelude.{◌&&◌, not, nat_eq, nat_lt, replicate, slice_index, slice_index_or}
-use Rattle.std.proofs.lemmas.Bool.{and_parts, cases_lt, eq-eqb, ne_eqb}
-use Rattle.std.proofs.lemmas.List.{get_or-replicate, get_or_past, length-replicate}
+use Rattle.std.proofs.Common.{◌≡◌, ◌≢◌, ℕ, ◌+◌, ◌*◌, ◌/◌, ◌%◌, ◌^◌, ◌<◌, Bool, true, false, List, [], ap, sym, ◌∙◌, subst, refl, bit_and, bit_or}
+use Rattle.std.specs.Prelude.{not, nat_eq, slice_index, slice_index_or}
+use Rattle.std.proofs.lemmas.Bool.{and_parts, eq-eqb, ne_eqb}
 use Rattle.noc_packet.specs.Set.{has_bit}
-use Rattle.noc_packet.proofs.SetLemmas.{both_members, either_members, has_bit-zero, zero_from_none}
+use Rattle.noc_packet.proofs.SetLemmas.{both_members, either_members}
 use Rattle.noc_sets.specs.Column.{RouterMarks}
 use Rattle.noc_sets.specs.Cycle.{Still}
 use Rattle.noc_sets.specs.Ended.{leads_tail}
@@ -22,7 +21,7 @@ use Rattle.noc_columns.specs.Heads.{headed_marks, heading_at, packet_in}
 use Rattle.noc_columns.specs.Picks.{HasPick, IsPicked, channels_of, output_of, port_of}
 use Rattle.noc_columns.specs.Switch.{HasTraversed, ShowsSends, leaves_by, picks_in}
 use Rattle.noc_columns.specs.Wants.{asks_of}
-use Rattle.noc_columns.specs.Words.{Numbering, set_of, word}
+use Rattle.noc_columns.specs.Words.{set_of, word}
 use Rattle.noc_columns.specs.declared.channels.Decided.{Decided}
 use Rattle.noc_columns.specs.declared.channels.Links.{Links}
 use Rattle.noc_columns.specs.declared.channels.Standing.{Standing}
@@ -38,18 +37,6 @@ use Rattle.noc_cycles.specs.declared.block.Block.{Block}
 use Rattle.noc_cycles.specs.declared.pattern.Pattern.{Pattern}
 use Rattle.noc_cycles.proofs.ChoiceLemmas.{choice, chosen, owned, waits-then}
 use Rattle.noc_cycles.proofs.SwitchedLemmas.{effects, link-leaves, marks, moved-then, past-then, picked-then, released-then, supplied, switched}
-
--- no channel is in words that are all 0
-pub cleared : (n : Numbering) (r count : ℕ) → set_of n r (replicate count 0) ≡ 0
-cleared n r count = zero_from_none _ (λ k. below-members n.size (λ c. has_bit (word (n.index c) (replicate count 0)) r) k ∙ ap (λ w. nat_lt k n.size && has_bit w r) (zero (n.index k) (cases_lt (n.index k) count)) ∙ ap (λ b. nat_lt k n.size && b) (has_bit-zero r) ∙ and-no (nat_lt k n.size))
-  where
-    and-no : (b : Bool) → (b && false) ≡ false
-    and-no true = refl
-    and-no false = refl
-
-    zero : (i : ℕ) → (i < count) ⊎ (count ≤ i) → word i (replicate count 0) ≡ 0
-    zero i (inl l) = get_or-replicate count i 0 0 l
-    zero i (inr l) = get_or_past (replicate count 0) i 0 (let e = length-replicate {A = ℕ} count 0 in omega (arith, l, e))
 
 module _ (pattern : Pattern) (r : ℕ) (within : r < 64) (block : Block) (standing : Standing (List ℕ)) (granted_before lost_before : List ℕ)
     (clear : set_of (channels_of pattern.table.ports) r granted_before ≡ 0) (unlost : set_of (channels_of pattern.table.ports) r lost_before ≡ 0)

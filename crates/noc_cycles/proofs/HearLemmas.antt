@@ -1,13 +1,14 @@
--- The packets that channels hear of, note by note and block by block.
-use Rattle.std.proofs.Common.{◌≡◌, ◌≢◌, ◌⊎◌, ℕ, zero, suc, ◌+◌, ◌*◌, ◌/◌, ◌%◌, ◌<◌, ◌≤◌, Bool, true, false, List, [], ◌∷◌, ◌++◌, Vec, Global, Option, Some, None, get_or, length, take, ap, ap₂, sym, ◌∙◌, refl, arith, inl, inr}
-use Rattle.std.specs.Prelude.{◌&&◌, if◌then◌else◌, nat_eq, nat_lt, unwrap_or}
-use Rattle.std.proofs.lemmas.Bool.{cases_eq, cases_lt, eq-eqb, le-ltb, lt-ltb, ne_eqb}
-use Rattle.std.proofs.lemmas.List.{take_more}
-use Rattle.noc_topo.specs.Shape.{Grid, IsGrid, neighbour, nodes}
-use Rattle.noc_topo.proofs.LinkLemmas.{link_back}
-use Rattle.noc_cycles.specs.Told.{heard, heard_over, noted, notes_by, told_by, with_note}
+-- The packets that channels hear of, note by note.
+use Rattle.std.proofs.Common.{◌≡◌, ◌≢◌, ℕ, ◌+◌, ◌*◌, ◌/◌, ◌%◌, ◌<◌, ◌≤◌, Bool, true, false, List, [], ◌∷◌, ◌++◌, Option, Some, None, get_or, get_or-set_other, get_or-set_same, length, set, take, take_all, ap, sym, ◌∙◌, refl, arith, inl, inr, subst}
+use Rattle.std.specs.Prelude.{◌⊎◌, ◌&&◌, if◌then◌else◌, nat_eq, slice_get, unwrap_or}
+use Rattle.std.proofs.lemmas.Bool.{cases_eq}
+use Rattle.std.proofs.lemmas.List.{length-set, take_more}
+use Rattle.std.proofs.lemmas.Option.{slice_get-get_or, slice_get_within}
+use Rattle.noc_columns.specs.Heads.{packet_in}
+use Rattle.noc_cycles.specs.Told.{HasHeard, noted, with_note}
+use Rattle.noc_cycles.specs.declared.block.Block.{Block}
 use Rattle.noc_cycles.specs.declared.notes.Note.{Note}
-use Rattle.noc_cycles.proofs.NoteLemmas.{noted-push}
+use Rattle.noc_cycles.proofs.NoteLemmas.{note-other, noted-push}
 
 -- ---- one note more
 note-then : (x : Note) (r i old : ℕ) (before : Option ℕ) → unwrap_or (with_note x r i before) old ≡ unwrap_or (with_note x r i None) (unwrap_or before old)
@@ -17,58 +18,62 @@ note-then x r i old before = at (nat_eq x.router r && nat_eq x.channel i)
     at true = refl
     at false = refl
 
-pub heard-note : (notes : List Note) (n : ℕ) (x : Note) (r i old now : ℕ) → n < length notes → x ≡ get_or notes n x → now ≡ unwrap_or (noted (take n notes) r i) old
+heard-note : (notes : List Note) (n : ℕ) (x : Note) (r i old now : ℕ) → n < length notes → x ≡ get_or notes n x → now ≡ unwrap_or (noted (take n notes) r i) old
     → unwrap_or (with_note x r i None) now ≡ unwrap_or (noted (take (n + 1) notes) r i) old
 heard-note notes n x r i old now inside is before =
     ap (unwrap_or (with_note x r i None)) before
     ∙ sym (note-then x r i old (noted (take n notes) r i))
     ∙ sym (ap (λ o. unwrap_or o old) (ap (λ (l : List Note). noted l r i) (take_more notes n x inside ∙ ap (λ (y : Note). take n notes ++ y ∷ []) (sym is)) ∙ noted-push (take n notes) x r i))
 
--- ---- one block more
--- what the blocks below n tell
-abbrev pub told_below : ℕ → (ℕ → ℕ → Option ℕ) → ℕ → ℕ → Option ℕ
-told_below n tells s o = if nat_lt (s / 64) n then tells s o else None
+pub heard-more : (notes : List Note) (n : ℕ) (x : Note) (b : ℕ) (old now new : Block) → n < length notes → x ≡ get_or notes n x → HasHeard (take n notes) b old now → HasHeard (x ∷ []) b now new → HasHeard (take (n + 1) notes) b old new
+heard-more notes n x b old now new inside is before here = record {
+  packets = λ r i l. here.packets r i l ∙ heard-note notes n x (64 * b + r) i (packet_in old.packets r i) (packet_in now.packets r i) inside is (before.packets r i l);
+  rest = here.rest ∙ ap (λ (y : Block). record y { packets = new.packets }) before.rest;
+}
 
-module _ (g : Grid) (vcs : ℕ) (tells : ℕ → ℕ → Option ℕ) where
-  pub none-told : (r i old : ℕ) → old ≡ unwrap_or (heard g vcs (told_below 0 tells) r i) old
-  none-told r i old = by (neighbour g r (i / vcs))
-    where
-      by : (o : Option (ℕ × ℕ)) → old ≡ unwrap_or (heard_over vcs (told_below 0 tells) (i % vcs) o) old
-      by None = refl
-      by (Some (s, q)) = sym (ap (λ b. unwrap_or (if b then tells s (q * vcs + i % vcs) else None) old) (le-ltb (s / 64) 0 (omega arith)))
+pub heard-all : (notes : List Note) (n b : ℕ) (old new : Block) → length notes ≤ n → HasHeard (take n notes) b old new → HasHeard notes b old new
+heard-all notes n b old new all has = subst (λ (xs : List Note). HasHeard xs b old new) (take_all n notes all) has
 
-  pub more-told : (n r i old : ℕ) → unwrap_or (heard g vcs (told_by n tells) r i) (unwrap_or (heard g vcs (told_below n tells) r i) old) ≡ unwrap_or (heard g vcs (told_below (n + 1) tells) r i) old
-  more-told n r i old = by (neighbour g r (i / vcs))
-    where
-      by : (o : Option (ℕ × ℕ)) → unwrap_or (heard_over vcs (told_by n tells) (i % vcs) o) (unwrap_or (heard_over vcs (told_below n tells) (i % vcs) o) old) ≡ unwrap_or (heard_over vcs (told_below (n + 1) tells) (i % vcs) o) old
-      by None = refl
-      by (Some (s, q)) = at (cases_eq (s / 64) n) (cases_lt (s / 64) n)
-        where
-          of : (own before after : Bool) → nat_eq (s / 64) n ≡ own → nat_lt (s / 64) n ≡ before → nat_lt (s / 64) (n + 1) ≡ after
-              → unwrap_or (if own then tells s (q * vcs + i % vcs) else None) (unwrap_or (if before then tells s (q * vcs + i % vcs) else None) old) ≡ unwrap_or (if after then tells s (q * vcs + i % vcs) else None) old
-              → unwrap_or (told_by n tells s (q * vcs + i % vcs)) (unwrap_or (told_below n tells s (q * vcs + i % vcs)) old) ≡ unwrap_or (told_below (n + 1) tells s (q * vcs + i % vcs)) old
-          of own before after e f h is =
-              ap₂ (λ x y. unwrap_or (if x then tells s (q * vcs + i % vcs) else None) (unwrap_or (if y then tells s (q * vcs + i % vcs) else None) old)) e f ∙ is ∙ sym (ap (λ x. unwrap_or (if x then tells s (q * vcs + i % vcs) else None) old) h)
+pub same-block : (s t : Block) (o : Option Block) → o ≡ Some s → o ≡ Some t → s ≡ t
+same-block s t o a b = let e : Some s ≡ Some t = sym a ∙ b in cc
 
-          at : (s / 64 ≡ n) ⊎ (s / 64 ≢ n) → (s / 64 < n) ⊎ (n ≤ s / 64) → unwrap_or (told_by n tells s (q * vcs + i % vcs)) (unwrap_or (told_below n tells s (q * vcs + i % vcs)) old) ≡ unwrap_or (told_below (n + 1) tells s (q * vcs + i % vcs)) old
-          at (inl same) c = of true false true (eq-eqb (s / 64) n same) (le-ltb (s / 64) n (omega (arith, same))) (lt-ltb (s / 64) (n + 1) (omega (arith, same))) refl
-          at (inr other) (inl below) = of false true true (ne_eqb (s / 64) n other) (lt-ltb (s / 64) n below) (lt-ltb (s / 64) (n + 1) (omega (arith, below))) refl
-          at (inr other) (inr above) = of false false false (ne_eqb (s / 64) n other) (le-ltb (s / 64) n above) (le-ltb (s / 64) (n + 1) (omega (arith, above, other))) refl
+-- ---- one note, in the blocks from one on
+module _ (x : Note) (first : ℕ) (blocks : List Block) where
+  -- no block that it is for
+  pub heard-elsewhere : (b : ℕ) (old new : Block) → x.router / 64 ≢ first + b → slice_get blocks b ≡ Some old → slice_get blocks b ≡ Some new → HasHeard (x ∷ []) (first + b) old new
+  heard-elsewhere b old new other was is = subst (HasHeard (x ∷ []) (first + b) old) (same-block old new _ was is) (record {
+    packets = λ r i l. sym (ap (λ o. unwrap_or o (packet_in old.packets r i)) (note-other x (64 * (first + b) + r) i None (inl (λ e. other (omega (arith, e, l))))));
+    rest = refl;
+  })
 
-  pub all-told : (n r i old now : ℕ) → IsGrid g → nodes g ≤ 64 * n → r < nodes g → now ≡ unwrap_or (heard g vcs (told_below n tells) r i) old → now ≡ unwrap_or (heard g vcs tells r i) old
-  all-told n r i old now sound few known is = is ∙ by (neighbour g r (i / vcs)) refl
-    where
-      by : (o : Option (ℕ × ℕ)) → neighbour g r (i / vcs) ≡ o → unwrap_or (heard_over vcs (told_below n tells) (i % vcs) o) old ≡ unwrap_or (heard_over vcs tells (i % vcs) o) old
-      by None e = refl
-      by (Some (s, q)) e =
-          let there = (link_back g r (i / vcs) s q sound known e).node in
-          ap (λ b. unwrap_or (if b then tells s (q * vcs + i % vcs) else None) old) (lt-ltb (s / 64) n (omega (arith, there, few)))
+  -- .. and the one
+  module _ (k : ℕ) (here : Block) (after : List (List ℕ)) (at : x.router / 64 ≡ first + k) (inside : k < length blocks)
+      (holds : (r i : ℕ) → r / 64 ≡ x.router / 64 → packet_in after (r % 64) i ≡ unwrap_or (with_note x r i None) (packet_in (get_or blocks k here).packets (r % 64) i)) where
+    abbrev held : Block
+    held = record (get_or blocks k here) { packets = after }
 
--- ---- the notes of a block
-abbrev pub items_of : Vec Note Global → List Note
-items_of notes = notes.items
+    heard-then : HasHeard (x ∷ []) (first + k) (get_or blocks k here) held
+    heard-then = record {
+      packets = λ r i l.
+          let s = 64 * (first + k) + r in
+          let place : s % 64 ≡ r = omega (arith, l) in
+          subst (λ q. packet_in after q i ≡ unwrap_or (with_note x s i None) (packet_in (get_or blocks k here).packets q i)) place (holds s i (omega (arith, l, at)));
+      rest = refl;
+    }
 
-pub notes-at : (told : List (Vec Note Global)) (b : ℕ) (d : Vec Note Global) → b < length told → items_of (get_or told b d) ≡ notes_by told b
-notes-at [] b d l = absurd (omega (arith, l))
-notes-at (x ∷ told) zero d l = refl
-notes-at (x ∷ told) (suc b) d l = notes-at told b d (omega (arith, l))
+    pub heard-here : (b : ℕ) (old new : Block) → slice_get blocks b ≡ Some old → slice_get (set blocks k held) b ≡ Some new → HasHeard (x ∷ []) (first + b) old new
+    heard-here b old new was is = by (cases_eq b k)
+      where
+        long : length (set blocks k held) ≡ length blocks
+        long = length-set blocks k held
+
+        by : (b ≡ k) ⊎ (b ≢ k) → HasHeard (x ∷ []) (first + b) old new
+        by (inl same) =
+            let before : get_or blocks k here ≡ old = same-block _ old (slice_get blocks b) (ap (slice_get blocks) same ∙ slice_get-get_or blocks k here inside) was in
+            let now : held ≡ new = same-block held new (slice_get (set blocks k held) b) (ap (slice_get (set blocks k held)) same ∙ slice_get-get_or (set blocks k held) k here (omega (arith, long, inside)) ∙ ap Some (get_or-set_same blocks k held here inside)) is in
+            subst (λ m. HasHeard (x ∷ []) (first + m) old new) (sym same)
+            (subst (λ (y : Block). HasHeard (x ∷ []) (first + k) y new) before (subst (HasHeard (x ∷ []) (first + k) (get_or blocks k here)) now heard-then))
+        by (inr other) =
+            let l = slice_get_within blocks b old was in
+            heard-elsewhere b old new (λ e. other (omega (arith, e, at))) was
+            (slice_get-get_or blocks b here l ∙ ap Some (sym (get_or-set_other blocks k b held here other)) ∙ sym (slice_get-get_or (set blocks k held) b here (omega (arith, long, l))) ∙ is)

@@ -24,5 +24,5 @@ pub mod InjectLemmas
 pub mod UpLemmas
 pub mod StillLemmas
 pub mod SomeLemmas
-pub mod ExchangeLemmas
 pub mod AroundLemmas
+pub mod UsedLemmas

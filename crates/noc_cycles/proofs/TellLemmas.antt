@@ -123,7 +123,7 @@ module _ (g : Grid) (pattern : Pattern) (around : Around) (block : Block) (tells
     notes-next = next-by (neighbour g (node r) (port_in pattern.table.ports block r k)) refl over
 
   -- a channel that has a grant is one of the router
-  granted-below : (r k : ℕ) → Granted r k → k < (pattern.table.ports.links.width + 1) * vcs
+  pub granted-below : (r k : ℕ) → Granted r k → k < (pattern.table.ports.links.width + 1) * vcs
   granted-below r k granted =
       let parts = and_parts (nat_lt k ((pattern.table.ports.links.width + 1) * vcs)) _ (sym (below-members ((pattern.table.ports.links.width + 1) * vcs) (λ c. has_bit (word ((channels_of pattern.table.ports).index c) block.grants.granted) r) k) ∙ granted) in
       ltb-true k ((pattern.table.ports.links.width + 1) * vcs) parts.0

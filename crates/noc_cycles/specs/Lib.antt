@@ -11,4 +11,3 @@ pub mod Concluding
 pub mod Told
 pub mod Turning
 pub mod Through
-pub mod Exchange

@@ -1,5 +1,5 @@
 -- Which packets are told over the links that they hold input channels from now on.
-use Rattle.std.specs.Prelude.{◌≡◌, ◌≢◌, ◌⊎◌, ℕ, ◌+◌, ◌*◌, ◌/◌, ◌%◌, ◌<◌, ◌≤◌, true, ◌&&◌, List, [], ◌∷◌, Option, Some, None, is_some, length, nat_eq, slice_get, slice_index_or, vec_capacity, if◌then◌else◌, Vec}
+use Rattle.std.specs.Prelude.{◌≡◌, ◌≢◌, ◌⊎◌, ℕ, ◌+◌, ◌*◌, ◌/◌, ◌%◌, ◌<◌, ◌≤◌, true, ◌&&◌, List, [], ◌∷◌, Option, Some, None, is_some, length, nat_eq, slice_get, slice_index_or, unwrap_or, vec_capacity, if◌then◌else◌, Vec}
 use Rattle.std.specs.declared.alloc.Global.{Global}
 use Rattle.noc_packet.specs.Set.{has_bit}
 use Rattle.noc_topo.specs.Shape.{Grid, neighbour, nodes, ports}
@@ -113,3 +113,12 @@ pub record HaveRoom (count : ℕ) (told : List (Vec Note Global)) : Type 0 where
   pub many : length told ≡ count
   pub each : (b : ℕ) (d : Vec Note Global) → b < count
       → ROUTERS * CHANNELS ≤ vec_capacity (slice_index_or told b d)
+
+-- ---- what is heard
+-- block b holds afterwards the packets that are noted for its input channels, and all else that it
+-- held
+pub record HasHeard (notes : List Note) (b : ℕ) (old new : Block) : Type 0 where
+  pub packets : (r i : ℕ) → r < ROUTERS
+      → packet_in new.packets r i
+      ≡ unwrap_or (noted notes (ROUTERS * b + r) i) (packet_in old.packets r i)
+  pub rest : new ≡ record old { packets = new.packets }

@@ -14,10 +14,12 @@ ghost use Rattle.noc_cycles.specs.Held.{held_at, links_at};
 
 use crate::block::{Block, Work};
 use crate::pattern::Pattern;
+use crate::words::copy;
 use noc_columns::{Digits, Marks, RouterPorts, Words, arrive, give_back, pay, settle};
 
 /// What is decided in a block takes effect: on its channels, on their verdicts, and on what leaves
 /// the routers. The answer is the routers from which a packet leaves the network.
+#[inline(never)]
 pub fn conclude(pattern: &Pattern, block: &mut Block, work: &mut Work) -> u64
     ensures concluded { (r : ℕ) → r < ROUTERS → HasConcludedHeld pattern.now
         (standing_at pattern.now.table.ports work.old.standing r)
@@ -71,7 +73,8 @@ pub fn conclude(pattern: &Pattern, block: &mut Block, work: &mut Work) -> u64
         &work.left.tails,
         &mut block.outputs,
     );
-    work.left.credits = work.verdicts.moved;
+    let groups = pattern.frame.link_groups;
+    copy(groups, &work.verdicts.moved, &mut work.left.credits);
     arrived
 }
 

@@ -16,7 +16,8 @@ ghost use Rattle.noc_cycles.specs.May.{MayDecide};
 
 use crate::block::{Block, Work};
 use crate::pattern::Pattern;
-use noc_columns::{Guide, Header, WORDS, allocate, pick, route, traverse};
+use crate::words::clear;
+use noc_columns::{Guide, Header, Picks, allocate, pick, route, traverse};
 use noc_route::Relation;
 
 /// What the heads in a network are routed by.
@@ -30,6 +31,7 @@ pub struct Routing<'a> {
 
 /// Output channels are granted, heads are routed, and flits go through the switch, in a block that
 /// has taken what comes and whose first router has this number.
+#[inline(never)]
 pub fn decide(
     pattern: &Pattern,
     routing: &Routing<'_>,
@@ -65,8 +67,8 @@ pub fn decide(
       left = work.new.left;
     } }
 {
-    block.grants.granted = [0; WORDS];
-    work.lost = [0; WORDS];
+    clear(pattern.frame.groups, &mut block.grants.granted);
+    clear(pattern.frame.groups, &mut work.lost);
     allocate(
         &pattern.table,
         &mut block.marks,
@@ -86,12 +88,14 @@ pub fn decide(
         &mut block.marks,
     );
     let ports = &pattern.table.ports;
-    let picks = pick(
+    let mut picks = Picks::NONE;
+    pick(
         ports,
         &block.inputs,
         &work.standing,
         &block.grants.sends,
         &mut work.decided,
+        &mut picks,
     );
     traverse(
         ports,

@@ -19,6 +19,7 @@ use noc_columns::{Far, Links, Ports, Words, gather, gather_far};
 
 /// What has left the routers of all blocks comes over the links to those of the block with these
 /// tables. Nothing comes to those that the network does not have.
+#[inline(never)]
 pub fn gather_links(
     pattern: &Pattern,
     around: &Around,

@@ -1,50 +1,45 @@
-//! The input channels of a block are held by the packets that are noted for them.
+//! The input channels of blocks are held by the packets that are noted for them.
 
-ghost use Rattle.std.specs.Prelude.{◌≡◌, ◌<◌, ◌≤◌, ◌*◌, ◌/◌, ◌%◌, ℕ, None, Option, length, unwrap_or};
-ghost use Rattle.noc_topo.specs.Shape.{Grid, IsGrid, nodes, ports};
+ghost use Rattle.std.specs.Prelude.{◌≡◌, ◌∷◌, [], ◌/◌, ◌%◌, ◌+◌, ℕ, None, Some, slice_get, unwrap_or};
 ghost use Rattle.noc_columns.specs.Heads.{packet_in};
 ghost use Rattle.noc_columns.specs.declared.words.TheConstants.{ROUTERS};
-ghost use Rattle.noc_cycles.specs.Told.{AreNotes, heard, noted, notes_by, told_by, with_note};
+ghost use Rattle.noc_cycles.specs.Told.{HasHeard, with_note};
+ghost use Rattle.noc_cycles.specs.declared.block.Block.{Block};
+ghost use Rattle.noc_cycles.specs.declared.notes.Note.{Note};
 
 use crate::begins::put_number;
+use crate::block::Block;
 use crate::notes::Note;
 use noc_columns::{CHANNELS, ROUTERS};
 
-/// Where these are the notes of all blocks, the input channels of the block with this number are
-/// held by the packets of which they hear over their links. The others are held by those that they
-/// were held by.
-pub fn hear(number: usize, told: &[Vec<Note>], packets: &mut [[u32; CHANNELS]; ROUTERS])
-    ensures { (g : Grid) (vcs : ℕ) (tells : ℕ → ℕ → Option ℕ) (r i : ℕ) → IsGrid g
-        → nodes g ≤ ROUTERS * length told.now
-        → ((b : ℕ) → b < length told.now
-        → AreNotes g vcs (told_by b tells) (notes_by told.now b))
-        → r / ROUTERS ≡ number → r < nodes g → i < ports g * vcs
-        → packet_in packets.new (r % ROUTERS) i
-        ≡ unwrap_or (heard g vcs tells r i) (packet_in packets.old (r % ROUTERS) i) }
-{
-    for notes in told {
-        hear_notes(number, notes, packets);
-    }
-}
-
-// .. by the notes of one block.
-fn hear_notes(number: usize, notes: &[Note], packets: &mut [[u32; CHANNELS]; ROUTERS])
-    ensures { (r i : ℕ) → r / ROUTERS ≡ number → packet_in packets.new (r % ROUTERS) i
-        ≡ unwrap_or (noted notes.now r i) (packet_in packets.old (r % ROUTERS) i) }
+/// Blocks that stand side by side, of which the first has this number, hear these notes.
+pub fn hear(first: usize, notes: &[Note], blocks: &mut [Block])
+    ensures { (b : ℕ) (old new : Block) → slice_get blocks.old b ≡ Some old
+        → slice_get blocks.new b ≡ Some new → HasHeard notes.now (first + b) old new }
 {
     for one in notes {
-        hear_one(number, one, packets);
+        hear_note(first, one, blocks);
     }
 }
 
-// .. by one note.
-fn hear_one(number: usize, one: &Note, packets: &mut [[u32; CHANNELS]; ROUTERS])
-    ensures { (r i : ℕ) → r / ROUTERS ≡ number → packet_in packets.new (r % ROUTERS) i
+// .. one of them.
+fn hear_note(first: usize, one: &Note, blocks: &mut [Block])
+    ensures { (b : ℕ) (old new : Block) → slice_get blocks.old b ≡ Some old
+        → slice_get blocks.new b ≡ Some new → HasHeard (one.now ∷ []) (first + b) old new }
+{
+    let number = usize::from(one.router) / ROUTERS;
+    if first <= number && number - first < blocks.len() {
+        let block = &mut blocks[number - first];
+        hold(one, &mut block.packets);
+    }
+}
+
+// The input channel of a router of a block that a note is for is held by the packet.
+fn hold(one: &Note, packets: &mut [[u32; CHANNELS]; ROUTERS])
+    ensures { (r i : ℕ) → r / ROUTERS ≡ one.now.router / ROUTERS
+        → packet_in packets.new (r % ROUTERS) i
         ≡ unwrap_or (with_note one.now r i None) (packet_in packets.old (r % ROUTERS) i) }
 {
-    let router = usize::from(one.router);
-    if router / ROUTERS == number {
-        let there = &mut packets[router % ROUTERS];
-        put_number(there, usize::from(one.channel), one.packet);
-    }
+    let there = &mut packets[usize::from(one.router) % ROUTERS];
+    put_number(there, usize::from(one.channel), one.packet);
 }

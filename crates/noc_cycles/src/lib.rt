@@ -2,7 +2,8 @@
 //! and that takes effect.
 //!
 //! The passes are those of `noc_columns`. Here stands what a block holds from cycle to cycle, what
-//! it works out in one, and the three parts of a cycle, each with what it is of one router.
+//! it works out in one, and the three parts of a cycle, each with what it is of one router. These
+//! are never inlined: in a loop over all blocks the compiler would keep track of hundreds of words.
 #![tactic(auto)]
 
 mod around;
@@ -11,7 +12,6 @@ mod begins;
 mod block;
 mod concluding;
 mod deciding;
-mod exchange;
 mod first;
 mod gather;
 mod hears;
@@ -23,6 +23,7 @@ mod pattern;
 mod taking;
 mod tells;
 mod turning;
+mod words;
 
 pub use around::{Around, all_around};
 pub use arrivals::arrive_all;
@@ -30,7 +31,6 @@ pub use begins::{begin_packets, some_in};
 pub use block::{Block, Work};
 pub use concluding::conclude;
 pub use deciding::{Routing, decide};
-pub use exchange::{gather_all, hear_all, keep_left, tables_of_all, tell_all};
 pub use first::First;
 pub use gather::gather_links;
 pub use hears::hear;

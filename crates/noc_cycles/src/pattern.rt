@@ -1,7 +1,8 @@
 //! What is the same for all routers of a network.
 
-ghost use Rattle.std.specs.Prelude.{◌≡◌, ◌<◌, ◌≤◌, ◌+◌, ◌*◌, ◌^◌, ◌%◌, nat_lt};
+ghost use Rattle.std.specs.Prelude.{◌≡◌, ◌<◌, ◌≤◌, ◌+◌, ◌*◌, ◌^◌, ◌/◌, ◌%◌, nat_lt};
 ghost use Rattle.noc_cycles.specs.Alike.{all_if, same_count};
+ghost use Rattle.noc_columns.specs.Picks.{channels_of};
 ghost use Rattle.noc_columns.specs.declared.words.TheConstants.{WORDS};
 
 use noc_columns::{ChannelTable, Frame, Planes, Ports, RouterPorts, WORDS};
@@ -45,6 +46,41 @@ impl Pattern {
             frame: frame_of(links, links + vcs, places),
             table: ChannelTable::of(ports_of(width, vcs)),
         }
+    }
+
+    // The channel whose word has this index.
+    pub(crate) fn channel_at(&self, index: usize) -> usize
+        requires { index < (self.now.table.ports.links.width + 1) * self.now.table.ports.links.vcs }
+        ensures within { result < (self.now.table.ports.links.width + 1)
+            * self.now.table.ports.links.vcs }
+        ensures is { (channels_of self.now.table.ports).index result ≡ index }
+    {
+        let links = &self.table.ports.links;
+        if index < links.vcs * links.width {
+            let (vc, port) = divided(index, links.width);
+            port * links.vcs + vc
+        } else {
+            index
+        }
+    }
+}
+
+// A number divided by how many link ports there are, and what is left. (That is 2, 4 or 6. Where the
+// compiler knows it, it need not divide.)
+#[inline(always)]
+fn divided(number: usize, width: usize) -> (usize, usize)
+    requires { 0 < width }
+    ensures whole { result.0 ≡ number / width }
+    ensures rest { result.1 ≡ number % width }
+{
+    if width == 2 {
+        (number / 2, number % 2)
+    } else if width == 4 {
+        (number / 4, number % 4)
+    } else if width == 6 {
+        (number / 6, number % 6)
+    } else {
+        (number / width, number % width)
     }
 }
 

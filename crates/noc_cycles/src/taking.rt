@@ -24,6 +24,7 @@ use noc_columns::{
 
 /// What comes to the routers of a block is taken: credits, what their sources inject, and flits.
 /// The answer is the routers to which something comes.
+#[inline(never)]
 pub fn take(
     pattern: &Pattern,
     starts: &[Start],
@@ -76,11 +77,9 @@ fn some_come(pattern: &Pattern, came: &Links<Words>) -> u64
         (set_of (links_of pattern.now.table.ports.links) r came.now.credits)) 0) }
 {
     let links = pattern.table.ports.links.vcs * pattern.table.ports.links.width;
-    let local = &pattern.table.ports.local;
-    let flits = some_in(&came.flits, 0, links);
-    let injected = some_in(&came.flits, local.first, local.vcs);
+    let flits = some_in(&came.flits, 0, links + pattern.table.ports.links.vcs);
     let credits = some_in(&came.credits, 0, links);
-    flits | injected | credits
+    flits | credits
 }
 
 // The credits that come are counted. Channels that drain and have all their credits again are

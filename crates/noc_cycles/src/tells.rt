@@ -1,8 +1,9 @@
 //! The routers at the other ends of links are told which packets are granted channels of them.
 
-ghost use Rattle.std.specs.Prelude.{◌≡◌, ◌<◌, ◌≤◌, ◌+◌, ◌*◌, ◌⊎◌, ◌≢◌, ℕ, IfOk, Option, Some, vec_capacity, vec_len};
+ghost use Rattle.std.specs.Prelude.{◌≡◌, ◌<◌, ◌≤◌, ◌+◌, ◌*◌, ◌⊎◌, ◌||◌, ◌≢◌, ℕ, Bool, IfOk, Option, Some, vec_capacity, vec_len, nat_eq, true};
 ghost use Rattle.noc_topo.specs.Shape.{Grid, neighbour, nodes, opposite};
 ghost use Rattle.noc_columns.specs.Heads.{packet_in};
+ghost use Rattle.noc_columns.specs.Picks.{channels_of};
 ghost use Rattle.noc_columns.specs.declared.ports.TheConstants.{PORTS};
 ghost use Rattle.noc_columns.specs.declared.sets.TheConstants.{CHANNELS};
 ghost use Rattle.noc_columns.specs.declared.words.TheConstants.{ROUTERS};
@@ -13,6 +14,7 @@ use crate::around::{Around, NOWHERE};
 use crate::block::Block;
 use crate::notes::Note;
 use crate::pattern::Pattern;
+use crate::words::used_words;
 use noc_columns::{CHANNELS, PORTS, ROUTERS, but_lowest, least};
 use noc_packet::Memory;
 use std::alloc::Global;
@@ -30,6 +32,7 @@ pub fn room_for_notes(alloc: Global, count: usize) -> Result<Vec<Vec<Note>>, Mem
 
 /// Each packet of a block that is granted an output channel is noted for the router at the other
 /// end of its link, if it is one of a link. There is room for so many notes.
+#[inline(never)]
 pub fn tell(pattern: &Pattern, around: &Around, block: &Block, notes: &mut Vec<Note>)
     requires told { (g : Grid) × (tells : ℕ → ℕ → Option ℕ)
         × AreTold g pattern.now around.now block.now tells }
@@ -38,12 +41,35 @@ pub fn tell(pattern: &Pattern, around: &Around, block: &Block, notes: &mut Vec<N
         → AreTold g pattern.now around.now block.now tells
         → AreNotes g pattern.now.table.ports.links.vcs (told_by around.now.block tells)
         notes.new.items }
+    ensures few { vec_len notes.new ≤ ROUTERS * CHANNELS }
     ensures room { vec_capacity notes.old ≤ vec_capacity notes.new }
 {
     notes.clear();
+    let mut rest = used_words(pattern.frame.groups, &block.grants.granted);
+    while rest != 0 {
+        tell_word(pattern, around, block, least(rest), notes);
+        rest = but_lowest(rest);
+    }
+}
+
+// .. those in the input channel whose word has this index, if there is one.
+#[inline(always)]
+fn tell_word(pattern: &Pattern, around: &Around, block: &Block, index: usize, notes: &mut Vec<Note>)
+    requires told { (g : Grid) × (tells : ℕ → ℕ → Option ℕ)
+        × AreTold g pattern.now around.now block.now tells }
+    requires room { vec_len notes.old + ROUTERS ≤ vec_capacity notes.old }
+    ensures notes { (g : Grid) (tells : ℕ → ℕ → Option ℕ) (done : ℕ → Bool)
+        → AreTold g pattern.now around.now block.now tells
+        → NotesSome g pattern.now around.now block.now tells (λ r k. done k ≡ true) notes.old.items
+        → NotesSome g pattern.now around.now block.now tells
+        (λ r k. (done k || nat_eq ((channels_of pattern.now.table.ports).index k) index) ≡ true)
+        notes.new.items }
+    ensures more { vec_len notes.new ≤ vec_len notes.old + ROUTERS }
+    ensures room { vec_capacity notes.old ≤ vec_capacity notes.new }
+{
     let links = &pattern.table.ports.links;
-    for channel in 0..(links.width + 1) * links.vcs {
-        tell_channel(pattern, around, block, channel, notes);
+    if index < (links.width + 1) * links.vcs {
+        tell_channel(pattern, around, block, pattern.channel_at(index), notes);
     }
 }
 
@@ -60,11 +86,11 @@ fn tell_channel(
     requires channel { channel < (pattern.now.table.ports.links.width + 1)
         * pattern.now.table.ports.links.vcs }
     requires room { vec_len notes.old + ROUTERS ≤ vec_capacity notes.old }
-    ensures notes { (g : Grid) (tells : ℕ → ℕ → Option ℕ)
+    ensures notes { (g : Grid) (tells : ℕ → ℕ → Option ℕ) (done : ℕ → Bool)
         → AreTold g pattern.now around.now block.now tells
-        → NotesSome g pattern.now around.now block.now tells (λ r k. k < channel) notes.old.items
-        → NotesSome g pattern.now around.now block.now tells (λ r k. k < channel + 1)
-        notes.new.items }
+        → NotesSome g pattern.now around.now block.now tells (λ r k. done k ≡ true) notes.old.items
+        → NotesSome g pattern.now around.now block.now tells
+        (λ r k. (done k || nat_eq k channel) ≡ true) notes.new.items }
     ensures more { vec_len notes.new ≤ vec_len notes.old + ROUTERS }
     ensures room { vec_capacity notes.old ≤ vec_capacity notes.new }
 {

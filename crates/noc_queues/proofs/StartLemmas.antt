@@ -1,10 +1,8 @@
 -- The list of all packets that start, router by router.
 use Rattle.std.proofs.Common.{◌≡◌, ◌≢◌, ℕ, zero, suc, ◌+◌, ◌*◌, ◌^◌, ◌<◌, ◌≤◌, List, [], ◌∷◌, ◌++◌, Some, length, map, take, get_or, refl, ap, sym, ◌∙◌, arith, inl, inr, length-append, mul-le-mul}
-use Rattle.std.specs.Prelude.{◌⊎◌, Vec, slice_get}
-use Rattle.std.specs.declared.alloc.Global.{Global}
+use Rattle.std.specs.Prelude.{◌⊎◌, slice_get}
 use Rattle.std.proofs.lemmas.Bool.{cases_eq}
 use Rattle.std.proofs.lemmas.List.{length-map}
-use Rattle.noc_packet.specs.ByNode.{starts_of}
 use Rattle.noc_packet.specs.declared.packet.Packet.{Packet}
 use Rattle.noc_columns.specs.Sources.{start_by, starts_by}
 use Rattle.noc_columns.specs.declared.starts.Start.{Start as Kept}
@@ -12,7 +10,6 @@ use Rattle.noc_theory_bits.specs.Starts.{start_of, starts_list}
 use Rattle.noc_theory_bits.proofs.opening.ListedLemmas.{list-few}
 use Rattle.noc_theory_cycles.specs.Firsts.{AreFirsts, first_of}
 use Rattle.noc_cycles.specs.declared.first.First.{First}
-use Rattle.noc_queues.specs.Queues.{AreQueues}
 
 -- one packet more of a queue
 pub more-starts : (queue : List (ℕ × Packet)) (i : ℕ) (one : ℕ × Packet) → i < length queue → map start_of (take (i + 1) queue) ≡ map start_of (take i queue) ++ start_of (get_or queue i one) ∷ []
@@ -58,8 +55,3 @@ firsts-next packets n firsts one are is = record {
     at r l (inr other) =
         let below : r < length firsts = let m = are.many in omega (arith, l, other, m) in
         before-seam firsts one r below ∙ are.each r (omega (arith, l, other))
-
--- ---- one of the queues, read in turn
-pub queue-read : (packets : List Packet) (n : ℕ) (queues : List (Vec (ℕ × Packet) Global)) (r : ℕ) (v : Vec (ℕ × Packet) Global) → AreQueues packets n queues → r < length queues → v ≡ get_or queues r v
-    → v.items ≡ starts_of packets r
-queue-read packets n queues r v are l read = ap (λ (w : Vec (ℕ × Packet) Global). w.items) read ∙ are.each r v (let m = are.many in omega (arith, m, l))

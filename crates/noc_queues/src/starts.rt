@@ -1,11 +1,12 @@
 //! The packets of each router by due time.
 
 ghost use Rattle.std.specs.Prelude.{◌≡◌, ◌<◌, ◌≤◌, ◌++◌, ◌^◌, All, IfOk, length};
+ghost use Rattle.noc_packet.specs.ByNode.{starts_of};
 ghost use Rattle.noc_sets.specs.Source.{due_of};
 ghost use Rattle.noc_columns.specs.Sources.{starts_by};
 ghost use Rattle.noc_theory_bits.specs.Starts.{starts_list, with_end};
 ghost use Rattle.noc_theory_cycles.specs.Firsts.{AreFirsts};
-ghost use Rattle.noc_queues.specs.Queues.{AreQueues, IsKept};
+ghost use Rattle.noc_queues.specs.Queues.{AreByNode, IsKept};
 
 use noc_columns::{NEVER, Start};
 use noc_cycles::First;
@@ -37,7 +38,7 @@ pub fn all_starts(
     requires nodes { length queues.now ≤ MAX_NODES }
     requires few { length packets.now ≤ MAX_PACKETS }
     requires kept { All IsKept packets.now }
-    requires queues { AreQueues packets.now (length queues.now) queues.now }
+    requires queues { AreByNode (starts_of packets.now) (length queues.now) queues.now }
     ensures list { IfOk result (λ starts. starts_by starts.list.items
         ≡ starts_list packets.now (length queues.now)) }
     ensures short { IfOk result (λ starts. length starts.list.items < 2 ^ 32) }

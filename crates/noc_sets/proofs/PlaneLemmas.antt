@@ -206,22 +206,9 @@ wrong-members planes others count size n x long l all =
     other-members planes others x (long ∙ sym all.bits)
     ∙ ap (λ k. not (nat_eq (plane_number planes x) k)) (all.each x l)
 
-wrong-fits-from : (wrong : ℕ) (planes others : List ℕ) → wrong < 2 ^ 64 → ArePlanes planes → ArePlanes others → wrong_from wrong planes others < 2 ^ 64
-wrong-fits-from wrong [] others l fits more = l
-wrong-fits-from wrong (plane ∷ planes) [] l fits more = l
-wrong-fits-from wrong (plane ∷ planes) (other ∷ others) l fits more =
-    wrong-fits-from (bit_or wrong (bit_xor plane other)) planes others (or_fits wrong (bit_xor plane other) l (xor_fits plane other fits.0 more.0)) fits.1 more.1
-
-pub wrong-fits : (planes others : List ℕ) → ArePlanes planes → ArePlanes others → wrong_from 0 planes others < 2 ^ 64
-wrong-fits planes others fits more = wrong-fits-from 0 planes others (omega arith) fits more
-
 any-fits-from : (any : ℕ) (planes : List ℕ) → any < 2 ^ 64 → ArePlanes planes → any_from any planes < 2 ^ 64
 any-fits-from any [] l fits = l
 any-fits-from any (plane ∷ planes) l fits = any-fits-from (bit_or any plane) planes (or_fits any plane l fits.0) fits.1
 
 pub any-fits : (planes : List ℕ) → ArePlanes planes → any_from 0 planes < 2 ^ 64
 any-fits planes fits = any-fits-from 0 planes (omega arith) fits
-
-pub more-fits : (planes : List ℕ) → ArePlanes planes → more_than_one planes < 2 ^ 64
-more-fits [] fits = omega arith
-more-fits (plane ∷ planes) fits = any-fits planes fits.1

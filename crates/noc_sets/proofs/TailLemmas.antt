@@ -5,17 +5,7 @@ use Rattle.std.proofs.lemmas.Bool.{ne_eqb}
 use Rattle.noc_packet.specs.declared.packet.Flit.{Flit}
 use Rattle.noc_view.specs.View.{is_tail}
 use Rattle.noc_sets.specs.Taken.{with_one}
-use Rattle.noc_sets.specs.Ended.{AreConsecutive, holds_tail, ends_in_tail}
-
--- the tail is the last of them
-pub tail-last : (flits : List Flit) → AreConsecutive flits → holds_tail flits ≡ ends_in_tail flits
-tail-last [] are = refl
-tail-last (f ∷ []) are = or-false f.last
-  where
-    or-false : (b : Bool) → (b || false) ≡ b
-    or-false true = refl
-    or-false false = refl
-tail-last (f ∷ g ∷ rest) are = ap (λ b. b || holds_tail (g ∷ rest)) are.0.inner ∙ tail-last (g ∷ rest) are.1
+use Rattle.noc_sets.specs.Ended.{AreConsecutive, holds_tail}
 
 -- the first of them is the tail only where it is the only one
 pub tail-first : (flits : List Flit) → AreConsecutive flits → is_tail (slice_get flits 0) ≡ (holds_tail flits && nat_eq (length flits) 1)

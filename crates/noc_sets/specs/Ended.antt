@@ -24,12 +24,6 @@ AreConsecutive (f ∷ g ∷ rest) = Follows f g × AreConsecutive (g ∷ rest)
 abbrev pub holds_tail : List Flit → Bool
 holds_tail flits = list_any (λ (f : Flit). f.last) flits
 
--- whether the last of them is a tail
-abbrev pub ends_in_tail : List Flit → Bool
-ends_in_tail [] = false
-ends_in_tail (f ∷ []) = f.last
-ends_in_tail (f ∷ g ∷ rest) = ends_in_tail (g ∷ rest)
-
 -- the input channels whose buffer holds the tail of its packet
 pub record ShowsEnded (ended : ℕ) (v : View) : Type 0 where
   pub each : (i : ℕ) → i < size_of v.site → has_bit ended i ≡ holds_tail (view_buffer v i)

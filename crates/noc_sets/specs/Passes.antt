@@ -2,7 +2,7 @@
 use Rattle.std.specs.Prelude.{◌≡◌, ℕ, ◌&&◌, not, true, List, [], ◌∷◌, bit_and, bit_or, bit_xor, nat_eq, nat_le, if◌then◌else◌}
 use Rattle.noc_packet.specs.Set.{has_bit}
 use Rattle.noc_sets.specs.Column.{Column}
-use Rattle.noc_sets.specs.Planes.{any_from, lowered_by, more_than_one, raised_by, wrong_from}
+use Rattle.noc_sets.specs.Planes.{any_from, lowered_by, raised_by, wrong_from}
 use Rattle.noc_sets.specs.Sets.{less, lowest}
 
 -- ---- credits come
@@ -13,10 +13,6 @@ lane_home bits came c = less c.draining (wrong_from 0 (raised_by c.credit came) 
 -- the owned channels that had none and have one now
 abbrev pub lane_raised : ℕ → Column → ℕ
 lane_raised came c = less came (bit_or (bit_or (any_from 0 c.credit) c.idle) c.draining)
-
--- the link channels with one credit at most
-abbrev pub lane_single : ℕ → ℕ → Column → ℕ
-lane_single links came c = less links (more_than_one (raised_by c.credit came))
 
 abbrev pub with_credits : List ℕ → ℕ → Column → Column
 with_credits bits came c = record c {

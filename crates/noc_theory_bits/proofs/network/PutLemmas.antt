@@ -71,11 +71,6 @@ beat-next relation v port l =
     ap (λ (beats : List Beat). get_or beats port idle_beat) (arrival-puts (tail_packet (flit_out v (decisions_of relation v).round (local_port v.site.grid))) _)
     ∙ get_or-tabulate (local_port v.site.grid) port (beat_out (decisions_of relation v) v) idle_beat l
 
--- a channel that moves puts its first flit
-pub put-flit : (relation : Routes) (v : View) (site : Site) (k : ℕ) (m : IsMover site v k) → (beat_out (decisions_of relation v) v (m.out / site.vcs)).flit ≡ Some (m.out % site.vcs, m.flit)
-unfolding decisions_of
-put-flit relation v site k m = m.put
-
 is_moved-is : (x : Verdict) → is_moved x ≡ true → x ≡ Moved
 is_moved-is Moved e = refl
 is_moved-is Empty e = absurd (false≢true e)

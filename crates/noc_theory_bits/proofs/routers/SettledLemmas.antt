@@ -1,24 +1,21 @@
 -- What was decided in a cycle takes effect: the words of a router show its view after its verdicts.
-use Rattle.std.proofs.Common.{◌≡◌, ℕ, ◌*◌, ◌/◌, ◌<◌, ◌≤◌, Bool, true, false, List, Option, Some, None, refl, ap, sym, ◌∙◌, subst, arith, inl, inr, mul-le-mul_right}
+use Rattle.std.proofs.Common.{◌≡◌, ℕ, ◌*◌, ◌/◌, ◌<◌, ◌≤◌, Bool, true, false, Option, Some, None, refl, ap, sym, ◌∙◌, subst, arith, inl, inr, mul-le-mul_right}
 use Rattle.std.specs.Prelude.{◌⊎◌, nat_le, nat_lt, if◌then◌else◌}
 use Rattle.std.proofs.lemmas.Bool.{and_parts, ltb-true}
 use Rattle.std.proofs.lemmas.Nat.{div_below}
 use Rattle.noc_topo.specs.Shape.{local_port, ports}
 use Rattle.noc_packet.specs.Set.{has_bit}
-use Rattle.noc_packet.specs.declared.packet.Beat.{Beat}
-use Rattle.noc_packet.specs.declared.packet.Packet.{Packet}
 use Rattle.noc_route.specs.Routes.{Routes}
 use Rattle.noc_alloc.specs.Arbiter.{arbiter_at}
 use Rattle.noc_alloc.specs.Members.{MembersAreBelow}
 use Rattle.noc_view.specs.Arrivals.{is_expected_in, arrivals_after}
 use Rattle.noc_view.specs.Verdict.{arbiters_after}
-use Rattle.noc_view.specs.View.{View, Decisions, size_of, view_round, decisions_of, view_after_commit, with_arrival, with_misfit, tail_packet, flit_out, view_after_inject, view_after_takes, local_step}
+use Rattle.noc_view.specs.View.{View, Decisions, size_of, view_round, decisions_of, view_after_commit, with_arrival, with_misfit, tail_packet, flit_out}
 use Rattle.noc_sets.specs.Column.{Column, IsColumn, RouterMarks, ShowsMarks}
 use Rattle.noc_sets.specs.Moves.{HasSwitched, single_in}
 use Rattle.noc_sets.specs.Grants.{Allocation}
 use Rattle.noc_sets.specs.Turns.{ShowsPointer, ArePicked, ArePast}
 use Rattle.noc_sets.specs.Passes.{Effects, lane_heads, settled_lane, lane_ready}
-use Rattle.noc_sets.specs.Source.{ShowsNext, ShowsQueue, ShowsSource, due_of, Source, Start}
 use Rattle.noc_sets.proofs.WinnerLemmas.{ShowsPorts}
 use Rattle.noc_sets.specs.Around.{Surroundings}
 use Rattle.noc_sets.specs.Layout.{Layout}
@@ -26,7 +23,7 @@ use Rattle.noc_theory_bits.proofs.routers.ChosenLemmas.{IsStill, ShowsChosen}
 use Rattle.noc_theory_bits.proofs.routers.FateLemmas.{dry, says-supplied}
 use Rattle.noc_theory_bits.proofs.routers.MarkedLemmas.{marks-after}
 use Rattle.noc_theory_bits.proofs.routers.MoveLemmas.{turns-after}
-use Rattle.noc_theory_bits.proofs.routers.SettleLemmas.{AreSettling, committed-site, decided_lane, settled-column}
+use Rattle.noc_theory_bits.proofs.routers.SettleLemmas.{AreSettling, decided_lane, settled-column}
 use Rattle.noc_theory_bits.proofs.routers.SettlingLemmas.{decided, effects, moves-below, says-out, supplied-fits}
 use Rattle.noc_theory_bits.proofs.routers.SwitchedLemmas.{moving}
 
@@ -105,19 +102,3 @@ arrival-queue (Some p) v = at (is_expected_in p v.ends)
 committed-queue : (d : Decisions) (v : View) → (view_after_commit d v).queue ≡ v.queue
 unfolding view_after_commit
 committed-queue d v = arrival-queue (tail_packet (flit_out v d.round (local_port v.site.grid))) _
-
--- a source shows a view after a cycle as it showed the frozen one
-pub source-put : (starts : List Start) (s : Source) (relation : Routes) (v : View) (beats : List Beat) (n : ℕ)
-    → ShowsSource starts s (view_after_inject n (view_after_takes relation beats v)) → ShowsSource starts s (local_step relation v beats n).0
-unfolding local_step
-source-put starts s relation v beats n is =
-    let y : View = view_after_inject n (view_after_takes relation beats v) in
-    let queue : (view_after_commit (decisions_of relation y) y).queue ≡ y.queue = committed-queue (decisions_of relation y) y in
-    let sending : (view_after_commit (decisions_of relation y) y).sending ≡ y.sending = (committed-site (decisions_of relation y) y).1 in
-    record {
-      few = is.few;
-      due = is.due ∙ ap due_of (sym queue);
-      queue = subst (λ (q : List (ℕ × Packet)). ShowsQueue starts s.queue q) (sym queue) is.queue;
-      next = subst (λ (q : List (ℕ × Packet)). ShowsNext s q (view_after_commit (decisions_of relation y) y).sending) (sym queue)
-          (subst (λ (t : Option (ℕ × ℕ)). ShowsNext s y.queue t) (sym sending) is.next);
-    }

@@ -1,17 +1,15 @@
 -- What goes over the links of a network in a cycle: the flits that have gone to their targets, and
 -- the credits that went back for them.
-use Rattle.std.proofs.Common.{◌≡◌, ℕ, suc, ◌+◌, ◌-◌, ◌*◌, ◌/◌, ◌%◌, ◌<◌, ◌≤◌, Bool, true, false, List, [], length, Option, Some, None, refl, ap, sym, ◌∙◌, subst, arith, inl, inr, get_or}
-use Rattle.std.specs.Prelude.{◌⊎◌, nat_eq, if◌then◌else◌}
-use Rattle.std.proofs.lemmas.Bool.{cases_lt, eqb-true}
+use Rattle.std.proofs.Common.{◌≡◌, ℕ, suc, ◌+◌, ◌-◌, ◌*◌, ◌/◌, ◌%◌, ◌<◌, ◌≤◌, List, [], length, Option, Some, None, refl, ap, sym, ◌∙◌, subst, arith, inl, inr, get_or}
+use Rattle.std.specs.Prelude.{◌⊎◌}
+use Rattle.std.proofs.lemmas.Bool.{cases_lt}
 use Rattle.std.proofs.lemmas.List.{get_or_past}
 use Rattle.std.proofs.lemmas.Nat.{div-mul-add, mod-mul-add, mul-add-lt}
-use Rattle.std.proofs.lemmas.Option.{none-some, same_Some}
 use Rattle.noc_topo.specs.Lists.{tabulate, is_some_of}
 use Rattle.noc_topo.specs.Shape.{IsGrid, IsLinkBack, nodes, ports, local_port, neighbour}
 use Rattle.noc_topo.proofs.LinkLemmas.{hop_of, link_back}
 use Rattle.noc_topo.proofs.ListLemmas.{get_or-tabulate, length-tabulate}
 use Rattle.noc_packet.specs.declared.packet.Beat.{Beat}
-use Rattle.noc_packet.specs.declared.packet.Flit.{Flit}
 use Rattle.noc_view.specs.View.{Site, idle_beat, decisions_of, beat_out}
 use Rattle.noc_theory.specs.declared.limits.TheConstants.{CYCLE_LIMIT}
 use Rattle.noc_theory.specs.Good.{IsGoodSetup}
@@ -26,15 +24,6 @@ use Rattle.noc_theory_bits.proofs.network.PutLemmas.{beat-next}
 use Rattle.noc_theory_bits.proofs.network.NetworkLemmas.{good, frozen-seen}
 use Rattle.noc_theory_bits.proofs.wiring.WireLemmas.{flit-at, credit-at}
 use Rattle.noc_theory_bits.specs.Owners.{frozen_of}
-
--- a flit on a virtual channel
-on_vc-some : (vc : ℕ) (o : Option (ℕ × Flit)) (f : Flit) → flit_on_vc vc o ≡ Some f → o ≡ Some (vc, f)
-on_vc-some vc None f e = absurd (none-some f e)
-on_vc-some vc (Some (w, g)) f e = by (nat_eq w vc) refl e
-  where
-    by : (b : Bool) → nat_eq w vc ≡ b → (if b then Some g else None) ≡ Some f → ◌≡◌ {A = Option (ℕ × Flit)} (Some (w, g)) (Some (vc, f))
-    by true t h = ap (λ x. Some (x, g)) (eqb-true w vc t) ∙ ap (λ (x : Flit). Some (vc, x)) (same_Some g f h)
-    by false t h = absurd (none-some f h)
 
 module _ (net : Setup) (setup : IsGoodSetup net) where
   -- a channel by its port and virtual channel

@@ -2,7 +2,7 @@ use Rattle.std.proofs.Common.{◌≡◌, ◌+◌, ◌∙◌, Bool, true, false, 
 use Rattle.std.specs.Prelude.{◌&&◌, ◌||◌}
 use Rattle.noc_packet.specs.Set.{has_bit}
 use Rattle.noc_packet.proofs.SetLemmas.{either_members}
-use Rattle.noc_columns.specs.Near.{comes_from}
+use Rattle.noc_columns.specs.Near.{comes_at, comes_from}
 use Rattle.noc_columns.specs.Words.{word}
 use Rattle.noc_columns.proofs.near.near_four.Goals as goal
 
@@ -10,17 +10,25 @@ or-no : (a b : Bool) → a ≡ (a || (false && b))
 or-no true b = refl
 or-no false b = refl
 
-pub returns-then-near : goal.returns-then-near
-returns-then-near c = λ j r l few.
+pub returns-then-rings : goal.returns-then-rings
+returns-then-rings c = λ j r l few.
     let near = c.args.near.now in
-    let round = comes_from (word (c.args.at + j) near.round.distance) (word (c.args.at + j) near.round.mask) (slice_index c.args.sent.now j) r in
+    let k = c.args.at + j in
+    let sent = c.opposite_four-sent.ensures j l in
+    let round = comes_at near.round c.args.from.now k r in
     ap (λ w. has_bit w r) (c.join_four.ensures j l)
     ∙ either_members (slice_index c.turned_four-straight.result j) (slice_index c.turned_four-round.result j) r
-    ∙ ap₂ (λ a b. a || b) (c.turned_four-straight.ensures j r l few) (c.turned_four-round.ensures j r l few ∙ sym (ap (λ b. b && round) c.if-near.true))
+    ∙ ap₂ (λ a b. a || b)
+    (c.turned_four-straight.ensures j r l few ∙ ap (λ w. comes_from (word k near.straight.distance) (word k near.straight.mask) w r) sent)
+    (c.turned_four-round.ensures j r l few ∙ ap (λ w. comes_from (word k near.round.distance) (word k near.round.mask) w r) sent
+    ∙ sym (ap (λ b. b && round) (sym c.requires.rings ∙ c.if-rings.true)))
 
-pub returns-else-near : goal.returns-else-near
-returns-else-near c = λ j r l few.
+pub returns-else-rings : goal.returns-else-rings
+returns-else-rings c = λ j r l few.
     let near = c.args.near.now in
-    let straight = comes_from (word (c.args.at + j) near.straight.distance) (word (c.args.at + j) near.straight.mask) (slice_index c.args.sent.now j) r in
-    let round = comes_from (word (c.args.at + j) near.round.distance) (word (c.args.at + j) near.round.mask) (slice_index c.args.sent.now j) r in
-    c.turned_four-straight.ensures j r l few ∙ or-no straight round ∙ sym (ap (λ b. straight || (b && round)) c.if-near.false)
+    let k = c.args.at + j in
+    let sent = c.opposite_four-sent.ensures j l in
+    let straight = comes_at near.straight c.args.from.now k r in
+    let round = comes_at near.round c.args.from.now k r in
+    c.turned_four-straight.ensures j r l few ∙ ap (λ w. comes_from (word k near.straight.distance) (word k near.straight.mask) w r) sent
+    ∙ or-no straight round ∙ sym (ap (λ b. straight || (b && round)) (sym c.requires.rings ∙ c.if-rings.false))

@@ -20,26 +20,34 @@ HasPicks last sends decided picks ports =
     → has_bit (set_of (port_of ports p) r decided.picked) c ≡ true
     → HasPick (port_of ports p) r p c last sends picks
 
+pub returns-then-vcs-eq2-clause-picked : goal.returns-then-vcs-eq2-clause-picked
+returns-then-vcs-eq2-clause-picked g c =
+    subst (Picked c.args.standing.now.ready c.args.inputs.now.ahead c.pick_all.new.decided) c.known-known.ensures c.pick_all.ensures.picked
+
+pub returns-then-vcs-eq2-clause-picks : goal.returns-then-vcs-eq2-clause-picks
+returns-then-vcs-eq2-clause-picks g c =
+    subst (HasPicks c.args.standing.now.last c.args.sends.now c.pick_all.new.decided c.pick_all.new.picks) c.known-known.ensures c.pick_all.ensures.picks
+
 pub returns-then-vcs-eq4-clause-picked : goal.returns-then-vcs-eq4-clause-picked
 returns-then-vcs-eq4-clause-picked g c =
-    subst (Picked c.args.standing.now.ready c.args.inputs.now.ahead c.pick_all.new.decided) c.known.ensures c.pick_all.ensures.picked
+    subst (Picked c.args.standing.now.ready c.args.inputs.now.ahead c.pick_all-then-vcs-eq4.new.decided) c.known-known-then-vcs-eq4.ensures c.pick_all-then-vcs-eq4.ensures.picked
 
 pub returns-then-vcs-eq4-clause-picks : goal.returns-then-vcs-eq4-clause-picks
 returns-then-vcs-eq4-clause-picks g c =
-    subst (HasPicks c.args.standing.now.last c.args.sends.now c.pick_all.new.decided c.pick_all.result) c.known.ensures c.pick_all.ensures.picks
+    subst (HasPicks c.args.standing.now.last c.args.sends.now c.pick_all-then-vcs-eq4.new.decided c.pick_all-then-vcs-eq4.new.picks) c.known-known-then-vcs-eq4.ensures c.pick_all-then-vcs-eq4.ensures.picks
 
 pub returns-then-vcs-eq8-clause-picked : goal.returns-then-vcs-eq8-clause-picked
 returns-then-vcs-eq8-clause-picked g c =
-    subst (Picked c.args.standing.now.ready c.args.inputs.now.ahead c.pick_all-then-vcs-eq8.new.decided) c.known-then-vcs-eq8.ensures c.pick_all-then-vcs-eq8.ensures.picked
+    subst (Picked c.args.standing.now.ready c.args.inputs.now.ahead c.pick_all-then-vcs-eq8.new.decided) c.known-known-then-vcs-eq8.ensures c.pick_all-then-vcs-eq8.ensures.picked
 
 pub returns-then-vcs-eq8-clause-picks : goal.returns-then-vcs-eq8-clause-picks
 returns-then-vcs-eq8-clause-picks g c =
-    subst (HasPicks c.args.standing.now.last c.args.sends.now c.pick_all-then-vcs-eq8.new.decided c.pick_all-then-vcs-eq8.result) c.known-then-vcs-eq8.ensures c.pick_all-then-vcs-eq8.ensures.picks
+    subst (HasPicks c.args.standing.now.last c.args.sends.now c.pick_all-then-vcs-eq8.new.decided c.pick_all-then-vcs-eq8.new.picks) c.known-known-then-vcs-eq8.ensures c.pick_all-then-vcs-eq8.ensures.picks
 
 pub returns-else-vcs-eq8-clause-picked : goal.returns-else-vcs-eq8-clause-picked
 returns-else-vcs-eq8-clause-picked g c =
-    subst (Picked c.args.standing.now.ready c.args.inputs.now.ahead c.pick_all-else-vcs-eq8.new.decided) c.known-else-vcs-eq8.ensures c.pick_all-else-vcs-eq8.ensures.picked
+    subst (Picked c.args.standing.now.ready c.args.inputs.now.ahead c.pick_all-else-vcs-eq8.new.decided) c.known-known-else-vcs-eq8.ensures c.pick_all-else-vcs-eq8.ensures.picked
 
 pub returns-else-vcs-eq8-clause-picks : goal.returns-else-vcs-eq8-clause-picks
 returns-else-vcs-eq8-clause-picks g c =
-    subst (HasPicks c.args.standing.now.last c.args.sends.now c.pick_all-else-vcs-eq8.new.decided c.pick_all-else-vcs-eq8.result) c.known-else-vcs-eq8.ensures c.pick_all-else-vcs-eq8.ensures.picks
+    subst (HasPicks c.args.standing.now.last c.args.sends.now c.pick_all-else-vcs-eq8.new.decided c.pick_all-else-vcs-eq8.new.picks) c.known-known-else-vcs-eq8.ensures c.pick_all-else-vcs-eq8.ensures.picks

@@ -18,10 +18,15 @@ Traversed picks ahead after sends left ports =
     (λ q. has_bit (set_of (port_of ports q) r left.flits))
     (λ q. has_bit (set_of (port_of ports q) r left.tails))
 
-pub returns-then-vcs-eq4-clause-traversed : goal.returns-then-vcs-eq4-clause-traversed
-returns-then-vcs-eq4-clause-traversed g c =
+pub returns-then-vcs-eq2-clause-traversed : goal.returns-then-vcs-eq2-clause-traversed
+returns-then-vcs-eq2-clause-traversed g c =
     let new = c.traverse_all.new in
     subst (Traversed c.args.picks.now c.args.switch.now.ahead new.switch.ahead new.decided.sends new.left) c.known.ensures c.traverse_all.ensures.traversed
+
+pub returns-then-vcs-eq4-clause-traversed : goal.returns-then-vcs-eq4-clause-traversed
+returns-then-vcs-eq4-clause-traversed g c =
+    let new = c.traverse_all-then-vcs-eq4.new in
+    subst (Traversed c.args.picks.now c.args.switch.now.ahead new.switch.ahead new.decided.sends new.left) c.known-then-vcs-eq4.ensures c.traverse_all-then-vcs-eq4.ensures.traversed
 
 pub returns-then-vcs-eq8-clause-traversed : goal.returns-then-vcs-eq8-clause-traversed
 returns-then-vcs-eq8-clause-traversed g c =

@@ -1,7 +1,7 @@
 use Rattle.std.proofs.Common.{◌*◌}
 use Rattle.noc_columns.specs.Picks.{channels_of, links_of}
 use Rattle.noc_columns.proofs.PortLemmas.{member-below}
-use Rattle.noc_cycles.proofs.ConcludingLemmas.{all-within, held-changed, links-same, links-within, none-there}
+use Rattle.noc_cycles.proofs.ConcludingLemmas.{all-within, held-changed, links-copied, links-within, none-there}
 use Rattle.noc_cycles.proofs.concluding.conclude.Goals as goal
 
 pub returns-clause-concluded : goal.returns-clause-concluded
@@ -15,7 +15,7 @@ returns-clause-concluded c = λ r few.
       pays = c.pay.ensures links r (links-within pattern);
       leaves = λ k l. c.arrive-arrived.ensures.arrived all r k (all-within pattern) l;
       idle = c.free_local.ensures.idle r few;
-      credits = λ k l. links-same pattern r c.settle-moved.new.verdicts.moved k l;
+      credits = λ k l. links-copied pattern r c.settle-moved.new.verdicts.moved c.copy.new.to c.copy.ensures k l;
       rest = held-changed ports c.args.block.now r c.settle-moved.new.inputs c.pay.new.outputs c.free_local.new.marks c.free_local.ensures.kept;
       arrived_below = λ k e. member-below all r c.arrive-arrived.new.arrived k e;
       active_below = λ k e. member-below all r c.args.block.now.inputs.active k e;

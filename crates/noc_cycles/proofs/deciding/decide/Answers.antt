@@ -1,5 +1,4 @@
 use Rattle.std.proofs.Common.{ℕ, ◌+◌, ◌^◌, ◌<◌, sym, subst, List, length}
-use Rattle.std.specs.Prelude.{replicate}
 use Rattle.noc_topo.specs.Shape.{nodes}
 use Rattle.noc_columns.specs.Channels.{decided_by, standing_by}
 use Rattle.noc_columns.specs.Picks.{channels_of}
@@ -8,7 +7,8 @@ use Rattle.noc_columns.specs.Words.{set_of, word}
 use Rattle.noc_columns.specs.declared.channels.Decided.{Decided}
 use Rattle.noc_cycles.specs.Deciding.{HasDecidedHeld}
 use Rattle.noc_cycles.specs.Held.{held_at, links_at}
-use Rattle.noc_cycles.proofs.DecidingLemmas.{cleared, decided-then}
+use Rattle.noc_cycles.proofs.ConcludingLemmas.{all-within, none-within}
+use Rattle.noc_cycles.proofs.DecidingLemmas.{decided-then}
 use Rattle.noc_cycles.proofs.deciding.decide.Goals as goal
 
 pub allocate-requires-clause-waiting : goal.allocate-requires-clause-waiting
@@ -26,20 +26,20 @@ returns-clause-decided c = λ layout r no_credit s l shows.
     let standing = c.args.work.now.standing in
     let guide = c.args.routing.now in
     let sets = sets_by guide.relation.now guide.headers.now (c.args.first + r) in
-    let none = replicate 72 0 in
+    let within = all-within pattern in
     let got = c.allocate.new in
     let routed = c.route.ensures in
     let marks = c.route.new.marks in
-    let pick = c.pick-picks in
+    let pick = c.pick in
     let went = c.traverse in
     let fits : word r marks.wanted < 2 ^ 64 = marks.fit r l in
     let decided : Decided (List ℕ) = record pick.new.decided { sends = went.new.decided.sends } in
     let all = λ (d : Decided (List ℕ)). HasDecidedHeld pattern layout sets s (held_at ports block r) (held_at ports (record block { grants = got.grants; marks = marks; switch = went.new.switch }) r)
     (standing_by (set_of n r) standing) (decided_by (set_of n r) d) (set_of n r got.grants.granted) (set_of n r got.lost) (links_at ports went.new.left r) in
     subst all (sym went.ensures.decided)
-    (decided-then pattern r l block standing none none (cleared n r 72) (cleared n r 72)
+    (decided-then pattern r l block standing c.clear.new.words c.clear-2.new.words (none-within n r _ c.clear.new.words within c.clear.ensures) (none-within n r _ c.clear-2.new.words within c.clear-2.ensures)
     got.marks got.grants got.lost (c.allocate.ensures.asked r l) (c.allocate.ensures.others r)
     sets marks (λ m. routed.routed r m l) (routed.waiting r l) (routed.idle r) routed.turns fits
-    decided pick.result went.new.switch went.new.left (λ p b. pick.ensures.picked p r b) (λ p v b d. pick.ensures.picks p r v b d) (λ p b. pick.ensures.any p r b) (went.ensures.traversed r)
+    decided pick.new.picks went.new.switch went.new.left (λ p b. pick.ensures.picked p r b) (λ p v b d. pick.ensures.picks p r v b d) (λ p b. pick.ensures.any p r b) (went.ensures.traversed r)
     (length guide.headers.now) (nodes guide.relation.now.grid) (c.args.first + r) (c.requires.may r l)
     layout s no_credit shows)

@@ -1,22 +1,13 @@
-use Rattle.std.proofs.Common.{◌≡◌, ◌<◌, ◌%◌, ◌∙◌, List, Vec, Global, ap, ap₂, arith, length}
-use Rattle.std.specs.Prelude.{unwrap_or}
-use Rattle.noc_columns.specs.Heads.{packet_in}
-use Rattle.noc_cycles.specs.Told.{noted, notes_by}
-use Rattle.noc_cycles.specs.declared.notes.Note.{Note}
-use Rattle.noc_cycles.proofs.HearLemmas.{all-told, items_of, more-told, notes-at}
+use Rattle.std.proofs.Common.{◌+◌, arith}
+use Rattle.std.proofs.lemmas.Option.{slice_get-get_or, slice_get_within}
+use Rattle.noc_cycles.proofs.HearLemmas.{heard-all, heard-more}
 use Rattle.noc_cycles.proofs.hears.hear.Goals as goal
 
-pub loop-notes-preserved : goal.loop-notes-preserved
-loop-notes-preserved c = λ g vcs tells r i all home known below.
-    let told = c.args.told.now in
-    let n = c.loop-notes.notes-index in
-    let l : n < length told = c.loop-notes-test.true in
-    let list : c.deref.result.now ≡ notes_by told n = c.deref.ensures.value ∙ ap (λ (v : Vec Note Global). items_of v) c.notes-item.is ∙ notes-at told n c.notes-item.result l in
-    c.hear_notes.ensures r i home
-    ∙ ap₂ unwrap_or (ap (λ (notes : List Note). noted notes r i) list ∙ all n l r i known below) (c.loop-notes.invariant g vcs tells r i all home known below)
-    ∙ more-told g vcs tells n r i (packet_in c.args.packets.now (r % 64) i)
+pub loop-one-preserved : goal.loop-one-preserved
+loop-one-preserved c = λ b old new was is.
+    let inside = slice_get_within c.args.blocks.now b old was in
+    let now = slice_get-get_or c.loop-one.blocks b old (omega (arith, inside, c.loop-one.auto.blocks)) in
+    heard-more c.args.notes.now c.loop-one.one-index c.one-item.result (c.args.first + b) old _ new c.loop-one-test.true c.one-item.is (c.loop-one.invariant b old _ was now) (c.hear_note.ensures b _ new now is)
 
 pub returns : goal.returns
-returns c = λ g vcs tells r i sound few all home known below.
-    let end : c.loop-notes.notes-index ≡ length c.args.told.now = omega arith in
-    all-told g vcs tells c.loop-notes.notes-index r i _ _ sound (omega (arith, end, few)) known (c.loop-notes.invariant g vcs tells r i all home known below)
+returns c = λ b old new was is. heard-all c.args.notes.now c.loop-one.one-index (c.args.first + b) old new (omega arith) (c.loop-one.invariant b old new was is)

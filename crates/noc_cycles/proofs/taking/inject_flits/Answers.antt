@@ -16,45 +16,6 @@ use Rattle.noc_cycles.proofs.PartLemmas.{in-parts, links-kept}
 use Rattle.noc_cycles.specs.Held.{held_at}
 use Rattle.noc_cycles.proofs.taking.inject_flits.Goals as goal
 
-pub begin_packets-requires-clause-queue : goal.begin_packets-requires-clause-queue
-begin_packets-requires-clause-queue c = λ r v few e.
-    let pattern = c.args.pattern.now in
-    let local = port_at pattern.table.ports.local 0 in
-    let block = c.args.block.now in
-    let starts = starts_by c.args.starts.now in
-    let cycle = c.args.cycle in
-    let due = slice_index block.sources.due.at r in
-    let injection = c.inject-begins.new.injection in
-    let is =
-    injects-so pattern starts cycle block r few c.pass.new.self (set_of local r injection.went) (set_of local r injection.begun) (not (nat_eq (set_of local r injection.went) 0)) (has_bit c.inject-begins.result r) c.requires
-    c.pass.ensures.at c.pass.ensures.due (c.inject-begins.ensures.went r blank) (λ e. c.inject-begins.ensures.begun r cycle due blank e)
-    refl (c.inject-begins.ensures.some r) in
-    let l = (c.requires.each r few).queue (begun-now is (is-some (set_of local r injection.begun) v e)) in
-    let long = length-map c.args.starts.now start_by in
-    omega (arith, l, long)
-
--- ---- where packets go on and begin
-sends : (c : goal.After-send_all-arg-1) (r : ℕ) → r < 64
-    → Injects c.args.pattern.now (starts_by c.args.starts.now) c.args.cycle c.args.block.now r (set_of (port_at c.args.pattern.now.table.ports.local 0) r c.inject-begins.new.injection.went)
-    (set_of (port_at c.args.pattern.now.table.ports.local 0) r c.inject-begins.new.injection.begun) (has_bit c.some_in-went.result r) (has_bit c.inject-begins.result r)
-sends c r few =
-    let pattern = c.args.pattern.now in
-    let local = port_at pattern.table.ports.local 0 in
-    let block = c.args.block.now in
-    let injection = c.inject-begins.new.injection in
-    injects-so pattern (starts_by c.args.starts.now) c.args.cycle block r few c.pass.new.self (set_of local r injection.went) (set_of local r injection.begun) (has_bit c.some_in-went.result r) (has_bit c.inject-begins.result r) c.requires
-    c.pass.ensures.at c.pass.ensures.due (c.inject-begins.ensures.went r blank) (λ e. c.inject-begins.ensures.begun r c.args.cycle (slice_index block.sources.due.at r) blank e)
-    (some-local pattern.table.ports.local r c.some_in-went.result injection.went pattern.table.ports.one (c.some_in-went.ensures r)) (c.inject-begins.ensures.some r)
-
-pub send_all-last-requires-clause-left : goal.send_all-last-requires-clause-left
-send_all-last-requires-clause-left c = λ r e. goes-left (sends c r (has_bit-below c.some_in-went.result 64 r c.some_in-went.type_inv e)) e
-
-pub send_all-last-requires-clause-queue : goal.send_all-last-requires-clause-queue
-send_all-last-requires-clause-queue c = λ r few e. subst (λ m. slice_index c.args.block.now.sources.queue r + 1 < m) (length-map c.args.starts.now start_by) (comes-queue (sends c r few) e)
-
-pub send_all-last-requires-clause-apart : goal.send_all-last-requires-clause-apart
-send_all-last-requires-clause-apart c = λ r e. comes-apart (sends c r (has_bit-below c.inject-begins.result 64 r c.inject-begins.type_inv e)) e
-
 -- ---- once all has come
 all-sends : (c : goal.After-bring) (r : ℕ) → r < 64
     → Injects c.args.pattern.now (starts_by c.args.starts.now) c.args.cycle c.args.block.now r (set_of (port_at c.args.pattern.now.table.ports.local 0) r c.inject-begins.new.injection.went)
@@ -116,3 +77,43 @@ returns-clause-punctual c = record {
         (c.bring.ensures.injecting r ∙ ap₂ (λ i t. less (bit_or (set_of local r i) (set_of local r c.inject-begins.new.injection.begun)) t) c.inject-begins.ensures.injecting tails)
         (c.send_all-last.ensures.sources r few ∙ ap (λ a. begun_if starts (has_bit c.inject-begins.result r) (sent_if starts (has_bit c.some_in-went.result r) (record h.source { due = slice_index a r }))) c.pass.ensures.at)
         some
+
+-- ---- where packets begin
+pub begin_packets-requires-clause-queue : goal.begin_packets-requires-clause-queue
+begin_packets-requires-clause-queue c = λ r v few e.
+    let pattern = c.args.pattern.now in
+    let local = port_at pattern.table.ports.local 0 in
+    let block = c.args.block.now in
+    let starts = starts_by c.args.starts.now in
+    let cycle = c.args.cycle in
+    let due = slice_index block.sources.due.at r in
+    let injection = c.inject-begins.new.injection in
+    let is =
+    injects-so pattern starts cycle block r few c.pass.new.self (set_of local r injection.went) (set_of local r injection.begun) (not (nat_eq (set_of local r injection.went) 0)) (has_bit c.inject-begins.result r) c.requires
+    c.pass.ensures.at c.pass.ensures.due (c.inject-begins.ensures.went r blank) (λ e. c.inject-begins.ensures.begun r cycle due blank e)
+    refl (c.inject-begins.ensures.some r) in
+    let l = (c.requires.each r few).queue (begun-now is (is-some (set_of local r injection.begun) v e)) in
+    let long = length-map c.args.starts.now start_by in
+    omega (arith, l, long)
+
+-- ---- where they go on and begin
+sends : (c : goal.After-send_all-arg-1) (r : ℕ) → r < 64
+    → Injects c.args.pattern.now (starts_by c.args.starts.now) c.args.cycle c.args.block.now r (set_of (port_at c.args.pattern.now.table.ports.local 0) r c.inject-begins.new.injection.went)
+    (set_of (port_at c.args.pattern.now.table.ports.local 0) r c.inject-begins.new.injection.begun) (has_bit c.some_in-went.result r) (has_bit c.inject-begins.result r)
+sends c r few =
+    let pattern = c.args.pattern.now in
+    let local = port_at pattern.table.ports.local 0 in
+    let block = c.args.block.now in
+    let injection = c.inject-begins.new.injection in
+    injects-so pattern (starts_by c.args.starts.now) c.args.cycle block r few c.pass.new.self (set_of local r injection.went) (set_of local r injection.begun) (has_bit c.some_in-went.result r) (has_bit c.inject-begins.result r) c.requires
+    c.pass.ensures.at c.pass.ensures.due (c.inject-begins.ensures.went r blank) (λ e. c.inject-begins.ensures.begun r c.args.cycle (slice_index block.sources.due.at r) blank e)
+    (some-local pattern.table.ports.local r c.some_in-went.result injection.went pattern.table.ports.one (c.some_in-went.ensures r)) (c.inject-begins.ensures.some r)
+
+pub send_all-last-requires-clause-left : goal.send_all-last-requires-clause-left
+send_all-last-requires-clause-left c = λ r e. goes-left (sends c r (has_bit-below c.some_in-went.result 64 r c.some_in-went.type_inv e)) e
+
+pub send_all-last-requires-clause-queue : goal.send_all-last-requires-clause-queue
+send_all-last-requires-clause-queue c = λ r few e. subst (λ m. slice_index c.args.block.now.sources.queue r + 1 < m) (length-map c.args.starts.now start_by) (comes-queue (sends c r few) e)
+
+pub send_all-last-requires-clause-apart : goal.send_all-last-requires-clause-apart
+send_all-last-requires-clause-apart c = λ r e. comes-apart (sends c r (has_bit-below c.inject-begins.result 64 r c.inject-begins.type_inv e)) e

@@ -1,15 +1,77 @@
-use Rattle.std.proofs.Common.{◌≡◌, ◌+◌, ◌*◌, arith}
-use Rattle.noc_cycles.proofs.TellLemmas.{notes-all}
+use Rattle.std.proofs.Common.{◌≡◌, ◌≢◌, ◌+◌, ◌*◌, ◌<◌, ◌∙◌, ℕ, true, false, ap, refl, subst, sym, arith, inl, inr}
+use Rattle.std.specs.Prelude.{◌||◌, not, nat_eq}
+use Rattle.std.proofs.lemmas.Bool.{and_parts, cases_lt, eq-eqb, true≢false}
+use Rattle.noc_packet.specs.Set.{has_bit}
+use Rattle.noc_packet.proofs.SetLemmas.{has_bit-zero}
+use Rattle.noc_columns.specs.Picks.{channels_of}
+use Rattle.noc_columns.specs.Words.{word}
+use Rattle.noc_columns.proofs.LoopLemmas.{left-members}
+use Rattle.noc_cycles.specs.Told.{NotesSome}
+use Rattle.noc_cycles.proofs.ConcludingLemmas.{all-within}
+use Rattle.noc_cycles.proofs.TellLemmas.{granted-below, granted-word, notes-all, notes-none, notes-same}
+use Rattle.noc_cycles.proofs.UsedLemmas.{few-channels, index-below, never, not-false, unless}
 use Rattle.noc_cycles.proofs.tells.tell.Goals as goal
 
-pub loop-channel-preserved : goal.loop-channel-preserved
-loop-channel-preserved c = record {
-  notes = λ g tells told. c.tell_channel.ensures.notes g tells told (c.loop-channel.invariant.notes g tells told);
-  few = omega arith;
-  room = omega arith;
-}
+pub loop-rest-init : goal.loop-rest-init
+loop-rest-init c =
+    let pattern = c.args.pattern.now in
+    let around = c.args.around.now in
+    let block = c.args.block.now in
+    let index = (channels_of pattern.table.ports).index in
+    record {
+      notes = λ g tells told. notes-same g pattern around block tells told (λ r j. ⊥) (λ r j. has_bit c.used_words-rest.result (index j) ≡ false) _
+          (λ s j few granted none.
+          let below = granted-below g pattern around block tells told s j granted in
+          let within = index-below pattern j below in
+          let few = few-channels pattern in
+          let is = sym (c.used_words-rest.ensures (index j) (all-within pattern j below) (omega (arith, within, few))) ∙ none in
+          true≢false (sym granted ∙ granted-word g pattern around block tells told s j (index j) refl below ∙ never (word (index j) block.grants.granted) s is))
+          (subst (NotesSome g pattern around block tells (λ r j. ⊥)) (sym c.clear.ensures.items) (notes-none g pattern around block tells told (λ r j. ⊥) (λ s j never. never)));
+      low = λ i e. omega arith;
+      most = omega arith;
+      room = omega arith;
+    }
+
+pub loop-rest-preserved : goal.loop-rest-preserved
+loop-rest-preserved c =
+    let pattern = c.args.pattern.now in
+    let around = c.args.around.now in
+    let block = c.args.block.now in
+    let index = (channels_of pattern.table.ports).index in
+    let inv = c.loop-rest.invariant in
+    let t = c.least.result in
+    let rest = c.loop-rest.rest in
+    let least = c.least.ensures.least in
+    let few = c.least.ensures.within in
+    let before = inv.low t least.0 in
+    let more = c.tell_word.ensures.more in
+    let left = λ (i : ℕ). sym (left-members rest t i least) ∙ ap (λ n. has_bit n i) (sym c.but_lowest-rest.ensures.members) in
+    record {
+      notes = λ g tells told. notes-same g pattern around block tells told (λ r j. (not (has_bit rest (index j)) || nat_eq (index j) t) ≡ true) (λ r j. has_bit c.but_lowest-rest.result (index j) ≡ false) _
+          (λ s j l granted none. unless (has_bit rest (index j)) (nat_eq (index j) t) (left (index j) ∙ none))
+          (c.tell_word.ensures.notes g tells (λ j. not (has_bit rest (index j))) told
+          (notes-same g pattern around block tells told (λ r j. has_bit rest (index j) ≡ false) (λ r j. not (has_bit rest (index j)) ≡ true) _
+          (λ s j l granted none. not-false (has_bit rest (index j)) none) (inv.notes g tells told)));
+      low = λ i e.
+          let both = and_parts (has_bit rest i) (not (nat_eq i t)) (left i ∙ e) in
+          elim (cases_lt i t) [
+            | inl below ↦ absurd (true≢false (sym both.0 ∙ least.1 i below))
+            | inr after ↦
+                let other : i ≢ t = λ same. true≢false (sym both.1 ∙ ap not (eq-eqb i t same)) in
+                omega (arith, after, other, before, more)
+          ];
+      most = omega (arith, before, more, few);
+      room = omega arith;
+    }
 
 pub returns-clause-notes : goal.returns-clause-notes
 returns-clause-notes c = λ g tells told.
-    let all : c.loop-channel.channel ≡ (c.args.pattern.now.table.ports.links.width + 1) * c.args.pattern.now.table.ports.links.vcs = omega arith in
-    notes-all g c.args.pattern.now c.args.around.now c.args.block.now tells told c.loop-channel.channel c.loop-channel.notes.items all (c.loop-channel.invariant.notes g tells told)
+    let pattern = c.args.pattern.now in
+    let around = c.args.around.now in
+    let block = c.args.block.now in
+    let index = (channels_of pattern.table.ports).index in
+    let size = (pattern.table.ports.links.width + 1) * pattern.table.ports.links.vcs in
+    let none : c.loop-rest.rest ≡ 0 = omega arith in
+    notes-all g pattern around block tells told size c.loop-rest.notes.items refl
+    (notes-same g pattern around block tells told (λ r j. has_bit c.loop-rest.rest (index j) ≡ false) (λ r j. j < size) c.loop-rest.notes.items
+    (λ s j l granted below. ap (λ n. has_bit n (index j)) none ∙ has_bit-zero (index j)) (c.loop-rest.invariant.notes g tells told))

@@ -1,11 +1,18 @@
-use Rattle.std.proofs.Common.{◌<◌, ◌≤◌, ◌*◌, ℕ, Option, vec_len, vec_capacity}
+use Rattle.std.proofs.Common.{◌≡◌, ◌≤◌, ◌*◌, ℕ, Option, true, false, vec_len, vec_capacity}
+use Rattle.noc_packet.specs.Set.{has_bit}
 use Rattle.noc_topo.specs.Shape.{Grid}
+use Rattle.noc_columns.specs.Picks.{channels_of}
 use Rattle.noc_cycles.specs.Told.{AreTold, NotesSome}
 use Rattle.noc_cycles.proofs.tells.tell.Given as goal
 
-abbrev pub invariant-loop-channel : goal.invariant-loop-channel
-invariant-loop-channel l = record {
-  notes : (g : Grid) (tells : ℕ → ℕ → Option ℕ) → AreTold g l.pattern l.around l.block tells → NotesSome g l.pattern l.around l.block tells (λ r k. k < l.channel) l.notes.items;
-  few : vec_len l.notes ≤ 64 * l.channel;
+abbrev pub invariant-loop-rest : goal.invariant-loop-rest
+invariant-loop-rest l = record {
+  notes : (g : Grid) (tells : ℕ → ℕ → Option ℕ) → AreTold g l.pattern l.around l.block tells
+      → NotesSome g l.pattern l.around l.block tells (λ r k. has_bit l.rest ((channels_of l.pattern.table.ports).index k) ≡ false) l.notes.items;
+  low : (i : ℕ) → has_bit l.rest i ≡ true → vec_len l.notes ≤ 64 * i;
+  most : vec_len l.notes ≤ 64 * 64;
   room : vec_capacity l.fn.notes ≤ vec_capacity l.notes;
 }
+
+abbrev pub decreases-loop-rest : goal.decreases-loop-rest
+decreases-loop-rest l = l.rest

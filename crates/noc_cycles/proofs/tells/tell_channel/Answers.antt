@@ -1,12 +1,13 @@
-use Rattle.std.proofs.Common.{◌≡◌, ◌≢◌, ◌⊎◌, ◌<◌, ◌+◌, true, false, ap, sym, subst, ◌∙◌, arith, inl, inr}
-use Rattle.std.specs.Prelude.{not, nat_eq}
-use Rattle.std.proofs.lemmas.Bool.{and_parts, cases_eq, cases_lt, eq-eqb, true≢false}
+use Rattle.std.proofs.Common.{◌≡◌, ◌≢◌, ◌⊎◌, true, false, ap, sym, subst, ◌∙◌, arith, inl, inr}
+use Rattle.std.specs.Prelude.{◌||◌, not, nat_eq}
+use Rattle.std.proofs.lemmas.Bool.{and_parts, cases_eq, cases_lt, eq-eqb, eqb-true, true≢false}
 use Rattle.noc_packet.specs.Set.{has_bit}
 use Rattle.noc_packet.proofs.SetLemmas.{has_bit-zero}
 use Rattle.noc_columns.specs.Picks.{channels_of}
 use Rattle.noc_columns.specs.Words.{set_of, word}
 use Rattle.noc_columns.proofs.LoopLemmas.{left-members, left-part, was-left}
 use Rattle.noc_cycles.proofs.TellLemmas.{granted-word, notes-next, notes-same}
+use Rattle.noc_cycles.proofs.UsedLemmas.{or-cases}
 use Rattle.noc_cycles.proofs.tells.tell_channel.Goals as goal
 
 pub loop-rest-init : goal.loop-rest-init
@@ -14,7 +15,7 @@ loop-rest-init c =
     let k = c.args.channel in
     record {
       part = λ r e. e;
-      notes = λ g tells told was. notes-same g c.args.pattern.now c.args.around.now c.args.block.now tells told (λ r j. j < k) (λ r j. (j < k) ⊎ ((j ≡ k) × (has_bit (word c.index-index.result c.args.block.now.grants.granted) r ≡ false))) c.args.notes.now.items
+      notes = λ g tells done told was. notes-same g c.args.pattern.now c.args.around.now c.args.block.now tells told (λ r j. done j ≡ true) (λ r j. (done j ≡ true) ⊎ ((j ≡ k) × (has_bit (word c.index-index.result c.args.block.now.grants.granted) r ≡ false))) c.args.notes.now.items
           (λ s j l granted after. elim after [
             | inl before ↦ before
             | inr it ↦
@@ -51,9 +52,9 @@ loop-rest-preserved c =
     let more = c.tell_one.ensures.more in
     record {
       part = λ r e. left-part _ rest t least inv.part r (ap (λ n. has_bit n r) (sym c.but_lowest-rest.ensures.members) ∙ e);
-      notes = λ g tells told was.
+      notes = λ g tells done told was.
           let granted = granted-word g c.args.pattern.now c.args.around.now c.args.block.now tells told t k c.index-index.result c.index-index.ensures.is c.requires.channel ∙ inv.part t least.0 in
-          notes-next g c.args.pattern.now c.args.around.now c.args.block.now tells told t k few granted c.loop-rest.notes.items c.tell_one.new.notes.items (λ r j. (j < k) ⊎ ((j ≡ k) × (has_bit rest r ≡ false))) (λ r j. (j < k) ⊎ ((j ≡ k) × (has_bit c.but_lowest-rest.result r ≡ false)))
+          notes-next g c.args.pattern.now c.args.around.now c.args.block.now tells told t k few granted c.loop-rest.notes.items c.tell_one.new.notes.items (λ r j. (done j ≡ true) ⊎ ((j ≡ k) × (has_bit rest r ≡ false))) (λ r j. (done j ≡ true) ⊎ ((j ≡ k) × (has_bit c.but_lowest-rest.result r ≡ false)))
           (λ s j after. elim after [
             | inl before ↦ inl (inl before)
             | inr it ↦ elim (cases_eq s t) [
@@ -61,7 +62,7 @@ loop-rest-preserved c =
               | inr other ↦ inl (inr (it.0, was-left rest t s least other (ap (λ n. has_bit n s) (sym c.but_lowest-rest.ensures.members) ∙ it.1)))
             ]
           ])
-          (inv.notes g tells told was) (c.tell_one.ensures.noted g told.wired ((told.each t few).router k granted));
+          (inv.notes g tells done told was) (c.tell_one.ensures.noted g told.wired ((told.each t few).router k granted));
       low = λ r e.
           let both = and_parts (has_bit rest r) (not (nat_eq r t)) (sym (left-members rest t r least) ∙ ap (λ n. has_bit n r) (sym c.but_lowest-rest.ensures.members) ∙ e) in
           elim (cases_lt r t) [
@@ -75,12 +76,12 @@ loop-rest-preserved c =
     }
 
 pub returns-clause-notes : goal.returns-clause-notes
-returns-clause-notes c = λ g tells told was.
+returns-clause-notes c = λ g tells done told was.
     let k = c.args.channel in
     let none : c.loop-rest.rest ≡ 0 = omega arith in
-    notes-same g c.args.pattern.now c.args.around.now c.args.block.now tells told (λ r j. (j < k) ⊎ ((j ≡ k) × (has_bit c.loop-rest.rest r ≡ false))) (λ r j. j < k + 1) c.loop-rest.notes.items
-    (λ s j l granted after. elim (cases_lt j k) [
+    notes-same g c.args.pattern.now c.args.around.now c.args.block.now tells told (λ r j. (done j ≡ true) ⊎ ((j ≡ k) × (has_bit c.loop-rest.rest r ≡ false))) (λ r j. (done j || nat_eq j k) ≡ true) c.loop-rest.notes.items
+    (λ s j l granted after. elim (or-cases (done j) (nat_eq j k) after) [
       | inl before ↦ inl before
-      | inr beyond ↦ inr ((let same : j ≡ k = omega (arith, after, beyond) in same), ap (λ n. has_bit n s) none ∙ has_bit-zero s)
+      | inr here ↦ inr (eqb-true j k here, ap (λ n. has_bit n s) none ∙ has_bit-zero s)
     ])
-    (c.loop-rest.invariant.notes g tells told was)
+    (c.loop-rest.invariant.notes g tells done told was)

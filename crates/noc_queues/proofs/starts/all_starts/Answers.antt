@@ -10,7 +10,7 @@ use Rattle.noc_theory_bits.proofs.opening.ListedLemmas.{list-more}
 use Rattle.noc_theory_cycles.specs.Firsts.{AreFirsts}
 use Rattle.noc_cycles.specs.declared.first.First.{First}
 use Rattle.noc_queues.specs.Queues.{IsKept}
-use Rattle.noc_queues.proofs.StartLemmas.{queue-read}
+use Rattle.noc_queues.proofs.QueueLemmas.{by_node-read}
 use Rattle.noc_queues.proofs.StartLemmas.{firsts-next, firsts-none, list-place, list-short}
 use Rattle.noc_queues.proofs.starts.all_starts.Goals as goal
 
@@ -31,14 +31,14 @@ pub add_starts-requires : goal.add_starts-requires
 add_starts-requires c =
     let packets = c.args.packets.now in
     let n = c.loop-queue.queue-index in
-    let queue = queue-read packets (length c.args.queues.now) c.args.queues.now n c.queue-item.result c.requires.queues c.loop-queue-test.true c.queue-item.is in
+    let queue = by_node-read (starts_of packets) (length c.args.queues.now) c.args.queues.now n c.queue-item.result c.requires.queues c.loop-queue-test.true c.queue-item.is in
     subst (All (λ (one : ℕ × Packet). IsKept one.1)) (sym (c.deref-in-loop-queue.ensures.value ∙ queue)) (all-starts-hold IsKept packets n c.requires.kept)
 
 pub loop-queue-preserved : goal.loop-queue-preserved
 loop-queue-preserved c =
     let packets = c.args.packets.now in
     let n = c.loop-queue.queue-index in
-    let queue = queue-read packets (length c.args.queues.now) c.args.queues.now n c.queue-item.result c.requires.queues c.loop-queue-test.true c.queue-item.is in
+    let queue = by_node-read (starts_of packets) (length c.args.queues.now) c.args.queues.now n c.queue-item.result c.requires.queues c.loop-queue-test.true c.queue-item.is in
     let due : c.first_due.result ≡ due_of (starts_of packets n) = c.first_due.ensures ∙ ap due_of (c.deref.ensures.value ∙ queue) in
     record {
       list = c.in_ok-add_starts.ensures

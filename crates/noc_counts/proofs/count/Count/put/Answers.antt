@@ -3,4 +3,4 @@ use Rattle.noc_counts.proofs.CountLemmas.{is-put}
 use Rattle.noc_counts.proofs.count.Count.put.Goals as goal
 
 pub returns : goal.returns
-returns c = is-put c.args.self.now.recent c.args.self.now.tally c.args.slot c.args.index c.args.routers c.put.new.words (omega arith) c.put.ensures.here c.put.ensures.others
+returns c = is-put c.args.self.now c.args.slot c.args.index c.args.routers c.put.new.words (omega arith) c.put.ensures.here c.put.ensures.others

@@ -1,0 +1,233 @@
+//! The lowest four bits of counts, to which the sets of sixteen cycles are added at once.
+
+ghost use Rattle.std.specs.Prelude.{◌≡◌, ◌≢◌, ◌+◌, ◌*◌, ◌%◌, ◌<◌, ◌≤◌, ℕ};
+ghost use Rattle.noc_packet.specs.Set.{has_bit};
+ghost use Rattle.noc_topo.specs.Lists.{one_if};
+ghost use Rattle.noc_columns.specs.Words.{word};
+ghost use Rattle.noc_columns.specs.declared.words.TheConstants.{ROUTERS, WORDS};
+ghost use Rattle.noc_counts.specs.Low.{low_at, low_by, low_in, set_sum};
+ghost use Rattle.noc_counts.specs.declared.low.TheConstants.{SLOTS};
+
+use crate::count::has;
+use noc_columns::{ROUTERS, WORDS, Words, put};
+
+// How many cycles are added at once.
+pub(crate) const SLOTS: usize = 16;
+
+// The four lowest bits of the counts of channels.
+#[derive(Drop)]
+pub(crate) struct Low<T> {
+    pub(crate) ones: T,
+    pub(crate) twos: T,
+    pub(crate) fours: T,
+    pub(crate) eights: T,
+}
+
+impl Low<Words> {
+    // No counts.
+    pub(crate) const NONE: Low<Words> = Low {
+        ones: [0; WORDS],
+        twos: [0; WORDS],
+        fours: [0; WORDS],
+        eights: [0; WORDS],
+    };
+
+    // No counts.
+    pub(crate) fn clear(&mut self)
+        ensures { (j r : ℕ) → j < WORDS → low_at self.new j r ≡ 0 }
+    {
+        self.ones = [0; WORDS];
+        self.twos = [0; WORDS];
+        self.fours = [0; WORDS];
+        self.eights = [0; WORDS];
+    }
+
+    // Adds the sets of sixteen cycles. It is written what is carried.
+    #[inline(always)]
+    pub(crate) fn add(&mut self, groups: usize, sets: &[Words; SLOTS], carry: &mut Words)
+        requires { 4 * groups ≤ WORDS }
+        ensures { (j r : ℕ) → j < 4 * groups
+            → low_at self.new j r + 16 * one_if (has_bit (word j carry.new) r)
+            ≡ low_at self.old j r + set_sum sets.now SLOTS j r }
+    {
+        for i in 0..4 * groups {
+            let added = with_sets(&self.at(i), sets, i);
+            self.put(i, &added.low);
+            put(carry, i, added.carry);
+        }
+    }
+
+    // Adds one set so many times. It is written what is carried.
+    pub(crate) fn repeat(&mut self, groups: usize, set: &Words, times: u32, carry: &mut Words)
+        requires groups { 4 * groups ≤ WORDS }
+        requires times { times < 16 }
+        ensures { (j r : ℕ) → j < 4 * groups
+            → low_at self.new j r + 16 * one_if (has_bit (word j carry.new) r)
+            ≡ low_at self.old j r + times * one_if (has_bit (word j set.now) r) }
+    {
+        for i in 0..4 * groups {
+            let added = with_times(&self.at(i), set[i], times);
+            self.put(i, &added.low);
+            put(carry, i, added.carry);
+        }
+    }
+
+    // The number of one channel of a router.
+    pub(crate) fn number(&self, index: usize, router: usize) -> u64
+        requires index { index < WORDS }
+        requires router { router < ROUTERS }
+        ensures count { result ≡ low_at self.now index router }
+        ensures small { result < 16 }
+    {
+        let low = self.at(index);
+        let ones = u64::from(has(low.ones, router));
+        let twos = u64::from(has(low.twos, router));
+        let fours = u64::from(has(low.fours, router));
+        let eights = u64::from(has(low.eights, router));
+        ones + 2 * twos + 4 * fours + 8 * eights
+    }
+
+    // The words of one channel.
+    #[inline(always)]
+    fn at(&self, index: usize) -> Low<u64>
+        requires { index < WORDS }
+        ensures { result ≡ low_by (word index) self.now }
+    {
+        Low {
+            ones: self.ones[index],
+            twos: self.twos[index],
+            fours: self.fours[index],
+            eights: self.eights[index],
+        }
+    }
+
+    // Writes the words of one channel.
+    #[inline(always)]
+    fn put(&mut self, index: usize, words: &Low<u64>)
+        requires { index < WORDS }
+        ensures here { low_by (word index) self.new ≡ words.now }
+        ensures others { (k : ℕ) → k ≢ index
+            → low_by (word k) self.new ≡ low_by (word k) self.old }
+    {
+        self.ones[index] = words.ones;
+        self.twos[index] = words.twos;
+        self.fours[index] = words.fours;
+        self.eights[index] = words.eights;
+    }
+}
+
+// The lowest bits of one channel, and what they carry.
+#[derive(Drop)]
+struct Added {
+    low: Low<u64>,
+    carry: u64,
+}
+
+// One channel with its sets of sixteen cycles. (Where they carry from the second bit, four cycles
+// at a time, is added to the third.)
+#[inline(always)]
+fn with_sets(low: &Low<u64>, sets: &[Words; SLOTS], index: usize) -> Added
+    requires { index < WORDS }
+    ensures { (r : ℕ) → low_in result.low r + 16 * one_if (has_bit result.carry r)
+        ≡ low_in low.now r + set_sum sets.now SLOTS index r }
+{
+    let first = with_slots(low.ones, low.twos, sets, 0, index);
+    let second = with_slots(first.low, first.high, sets, 4, index);
+    let third = with_slots(second.low, second.high, sets, 8, index);
+    let fourth = with_slots(third.low, third.high, sets, 12, index);
+    let upper = with_four(
+        low.fours,
+        low.eights,
+        first.carry,
+        second.carry,
+        third.carry,
+        fourth.carry,
+    );
+    Added {
+        low: Low {
+            ones: fourth.low,
+            twos: fourth.high,
+            fours: upper.low,
+            eights: upper.high,
+        },
+        carry: upper.carry,
+    }
+}
+
+// Two bits of one channel, and what they carry.
+#[derive(Drop)]
+struct Two {
+    low: u64,
+    high: u64,
+    carry: u64,
+}
+
+// Two bits of one channel with its sets of four cycles, from this one on.
+#[inline(always)]
+fn with_slots(low: u64, high: u64, sets: &[Words; SLOTS], slot: usize, index: usize) -> Two
+    requires slot { slot + 4 ≤ SLOTS }
+    requires index { index < WORDS }
+    ensures { (r : ℕ) → one_if (has_bit result.low r) + 2 * one_if (has_bit result.high r)
+        + 4 * one_if (has_bit result.carry r) + set_sum sets.now slot index r
+        ≡ one_if (has_bit low r) + 2 * one_if (has_bit high r)
+        + set_sum sets.now (slot + 4) index r }
+{
+    let first = sets[slot][index];
+    let second = sets[slot + 1][index];
+    let third = sets[slot + 2][index];
+    let fourth = sets[slot + 3][index];
+    with_four(low, high, first, second, third, fourth)
+}
+
+// Two bits with four words that are added to the lower one.
+#[inline(always)]
+fn with_four(low: u64, high: u64, first: u64, second: u64, third: u64, fourth: u64) -> Two
+    ensures { (r : ℕ) → one_if (has_bit result.low r) + 2 * one_if (has_bit result.high r)
+        + 4 * one_if (has_bit result.carry r)
+        ≡ one_if (has_bit low r) + 2 * one_if (has_bit high r) + one_if (has_bit first r)
+        + one_if (has_bit second r) + one_if (has_bit third r) + one_if (has_bit fourth r) }
+{
+    let with_first = low ^ first;
+    let over = (low & first) | (with_first & second);
+    let with_second = with_first ^ second;
+    let with_third = with_second ^ third;
+    let again = (with_second & third) | (with_third & fourth);
+    let with_over = high ^ over;
+    Two {
+        low: with_third ^ fourth,
+        high: with_over ^ again,
+        carry: (high & over) | (with_over & again),
+    }
+}
+
+// One channel with a set that is added so many times.
+#[inline(always)]
+fn with_times(low: &Low<u64>, set: u64, times: u32) -> Added
+    requires { times < 16 }
+    ensures { (r : ℕ) → low_in result.low r + 16 * one_if (has_bit result.carry r)
+        ≡ low_in low.now r + times * one_if (has_bit set r) }
+{
+    let one = where_odd(times, set);
+    let two = where_odd(times / 2, set);
+    let lower = with_four(low.ones, low.twos, one, two, two, 0);
+    let four = where_odd(times / 4, set);
+    let eight = where_odd(times / 8, set);
+    let upper = with_four(low.fours, low.eights, lower.carry, four, eight, eight);
+    Added {
+        low: Low {
+            ones: lower.low,
+            twos: lower.high,
+            fours: upper.low,
+            eights: upper.high,
+        },
+        carry: upper.carry,
+    }
+}
+
+// A set where a number is odd, and else none.
+#[inline(always)]
+fn where_odd(number: u32, set: u64) -> u64
+    ensures { (r : ℕ) → one_if (has_bit result r) ≡ number % 2 * one_if (has_bit set r) }
+{
+    if number % 2 == 1 { set } else { 0 }
+}

@@ -1,0 +1,54 @@
+//! Words of channels: they become those of another set, or of none, or it is told which have a
+//! router.
+
+ghost use Rattle.std.specs.Prelude.{◌≡◌, ◌*◌, ◌<◌, ◌≤◌, ◌&&◌, ℕ, nat_eq, not};
+ghost use Rattle.noc_packet.specs.Set.{has_bit};
+ghost use Rattle.noc_columns.specs.Words.{word};
+ghost use Rattle.noc_columns.specs.declared.words.TheConstants.{WORDS};
+
+use noc_columns::{WORDS, Words};
+
+// So many groups of four words become those of another set.
+#[inline(always)]
+pub(crate) fn copy(groups: usize, from: &Words, to: &mut Words)
+    requires { 4 * groups ≤ WORDS }
+    ensures { (k : ℕ) → k < 4 * groups → word k to.new ≡ word k from.now }
+{
+    for i in 0..4 * groups {
+        to[i] = from[i];
+    }
+}
+
+// No router is left in so many groups of four words.
+#[inline(always)]
+pub(crate) fn clear(groups: usize, words: &mut Words)
+    requires { 4 * groups ≤ WORDS }
+    ensures { (k : ℕ) → k < 4 * groups → word k words.new ≡ 0 }
+{
+    for i in 0..4 * groups {
+        words[i] = 0;
+    }
+}
+
+// The words that have a router, by their index, of so many groups of four words and up to 63.
+#[inline(always)]
+pub(crate) fn used_words(groups: usize, words: &Words) -> u64
+    requires { 4 * groups ≤ WORDS }
+    ensures { (k : ℕ) → k < 4 * groups → k < 64
+        → has_bit result k ≡ not (nat_eq (word k words.now) 0) }
+{
+    let mut used = 0;
+    for i in 0..4 * groups.min(16) {
+        used = used | alone_if(words[i] != 0, i);
+    }
+    used
+}
+
+// A member alone, or none.
+#[inline(always)]
+fn alone_if(inside: bool, member: usize) -> u64
+    requires { member < 64 }
+    ensures { (k : ℕ) → has_bit result k ≡ (nat_eq k member && inside) }
+{
+    if inside { 1 << member as u32 } else { 0 }
+}
