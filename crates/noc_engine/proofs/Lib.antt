@@ -1,7 +1,11 @@
 pub mod ListLemmas
+pub mod WholeLemmas
 pub mod PassLemmas
 pub mod ExchangeLemmas
 pub mod TurnedLemmas
+pub mod TileLemmas
+pub mod HeardLemmas
+pub mod NextLemmas
 pub mod StepLemmas
 pub mod TurnLemmas
 pub mod OpenedLemmas
@@ -9,3 +13,5 @@ pub mod ReaderLemmas
 pub mod WaitLemmas
 pub mod RepeatLemmas
 pub mod RunLemmas
+pub mod CutLemmas
+pub mod JoinLemmas

@@ -1,9 +1,48 @@
--- Lists in which one item after the other is written.
-use Rattle.std.proofs.Common.{◌≡◌, ◌≢◌, ℕ, ◌+◌, ◌<◌, ◌≤◌, List, Some, length, get_or, set as write, ap, sym, ◌∙◌, subst, refl, arith, inl, inr}
+-- Where a router stands in its block, what stands in lists, and lists in which one item after the other
+-- is written.
+use Rattle.std.proofs.Common.{◌≡◌, ◌≢◌, ℕ, ◌+◌, ◌-◌, ◌*◌, ◌/◌, ◌%◌, ◌<◌, ◌≤◌, List, ◌++◌, Some, length, length-append, get_or, take, drop, set as write, ap, sym, ◌∙◌, subst, refl, arith, inl, inr}
 use Rattle.std.specs.Prelude.{◌⊎◌, Option, slice_get}
 use Rattle.std.proofs.lemmas.Bool.{cases_eq, cases_lt}
-use Rattle.std.proofs.lemmas.List.{get_or-set_other, get_or-set_same, length-set}
-use Rattle.std.proofs.lemmas.Option.{slice_get-get_or, slice_get_past, slice_get_read}
+use Rattle.std.proofs.lemmas.List.{get_or-append_right, get_or-drop, get_or-set_other, get_or-set_same, get_or-take, get_or_append_left, length-drop, length-set, length-take-le}
+use Rattle.std.proofs.lemmas.Option.{get_or_from_slice_get, slice_get-get_or, slice_get_cases, slice_get_past, slice_get_read, slice_get_within}
+
+-- ---- a router, by its block and its place there
+pub block-of : (b r : ℕ) → r < 64 → (64 * b + r) / 64 ≡ b
+block-of b r l = omega (arith, l)
+
+pub place-of : (b r : ℕ) → r < 64 → (64 * b + r) % 64 ≡ r
+place-of b r l = omega (arith, l)
+
+-- ---- what stands in a list
+pub there : {A : Type 0} (xs : List A) (i : ℕ) → i < length xs → (x : A) × (slice_get xs i ≡ Some x)
+there xs i l = elim (slice_get_cases xs i).1 [
+  | inl (x, inside, is, same) ↦ (x, is)
+  | inr (past, none) ↦ absurd (omega (arith, l, past))
+]
+
+-- .. in so many items from one on
+pub some-long : {A : Type 0} (xs : List A) (first many : ℕ) → first + many ≤ length xs → length (take many (drop first xs)) ≡ many
+some-long xs first many within = length-take-le many (drop first xs) (omega (arith, length-drop first xs, within))
+
+pub some-item : {A : Type 0} (xs : List A) (first many i : ℕ) (d : A) → i < many → get_or (take many (drop first xs)) i d ≡ get_or xs (first + i) d
+some-item xs first many i d l = get_or-take many (drop first xs) i d l ∙ get_or-drop first xs i d
+
+pub some-there : {A : Type 0} (xs : List A) (first many i : ℕ) (x : A) → first + many ≤ length xs → slice_get (take many (drop first xs)) i ≡ Some x → slice_get xs (first + i) ≡ Some x
+some-there xs first many i x within at =
+    let inside : i < many = let low = slice_get_within (take many (drop first xs)) i x at in omega (arith, low, some-long xs first many within) in
+    slice_get-get_or xs (first + i) x (omega (arith, inside, within))
+    ∙ ap Some (sym (some-item xs first many i x inside) ∙ get_or_from_slice_get (take many (drop first xs)) i x x at)
+
+-- .. in one list and another behind it
+pub front-there : {A : Type 0} (xs ys : List A) (i : ℕ) (x : A) → i < length xs → slice_get (xs ++ ys) i ≡ Some x → slice_get xs i ≡ Some x
+front-there xs ys i x low at = slice_get-get_or xs i x low ∙ ap Some (sym (get_or_append_left xs ys x i low) ∙ get_or_from_slice_get (xs ++ ys) i x x at)
+
+pub back-there : {A : Type 0} (xs ys : List A) (i : ℕ) (x : A) → length xs ≤ i → slice_get (xs ++ ys) i ≡ Some x → slice_get ys (i - length xs) ≡ Some x
+back-there xs ys i x past at =
+    let long : length (xs ++ ys) ≡ length xs + length ys = length-append xs ys in
+    let inside : i < length (xs ++ ys) = slice_get_within (xs ++ ys) i x at in
+    slice_get-get_or ys (i - length xs) x (omega (arith, inside, long, past))
+    ∙ ap Some (sym (get_or-append_right xs ys (length xs) i x refl past) ∙ get_or_from_slice_get (xs ++ ys) i x x at)
 
 -- an item that is read
 pub read : {S : Type 0} (xs : List S) (i : ℕ) (x : S) → i < length xs → x ≡ get_or xs i x → slice_get xs i ≡ Some x
@@ -48,3 +87,12 @@ more-of P old now n x l left below here b was is m before after = at (cases_eq b
         (subst (λ y. P n y is) (same-item (get_or now n x) was (slice_get old n) (sym (left n (omega arith)) ∙ slice_get-get_or now n x l) (subst (λ (k : ℕ). slice_get old k ≡ Some was) same before))
         (subst (P n (get_or now n x)) (same-item x is (slice_get (write now n x) n) (written now n x l) (subst (λ (k : ℕ). slice_get (write now n x) k ≡ Some is) same after)) here))
     at (inr other) = below b was is (omega (arith, m, other)) before (sym (others now n b x other) ∙ after)
+
+-- what holds of the items below a number, and of the one that is written there
+pub one-more : {S : Type 0} (P : ℕ → S → Type 0) (xs : List S) (n : ℕ) (x : S) → n < length xs → ((b : ℕ) (s : S) → b < n → slice_get xs b ≡ Some s → P b s) → P n x
+    → (b : ℕ) (s : S) → b < n + 1 → slice_get (write xs n x) b ≡ Some s → P b s
+one-more P xs n x l below here b s m is = at (cases_eq b n)
+  where
+    at : (b ≡ n) ⊎ (b ≢ n) → P b s
+    at (inl same) = subst (λ k. P k s) (sym same) (subst (P n) (same-item x s (slice_get (write xs n x) n) (written xs n x l) (subst (λ (k : ℕ). slice_get (write xs n x) k ≡ Some s) same is)) here)
+    at (inr other) = below b s (omega (arith, m, other)) (sym (others xs n b x other) ∙ is)

@@ -1,5 +1,5 @@
 -- What the passes make of all blocks, one block after the other.
-use Rattle.std.proofs.Common.{◌≡◌, ◌≢◌, ℕ, zero, suc, ◌+◌, ◌*◌, ◌/◌, ◌%◌, ◌^◌, ◌<◌, ◌≤◌, Bool, true, List, Some, length, get_or, ap, ap₂, sym, ◌∙◌, subst, arith, inl, inr}
+use Rattle.std.proofs.Common.{◌≡◌, ◌≢◌, ℕ, zero, suc, ◌+◌, ◌*◌, ◌%◌, ◌^◌, ◌<◌, ◌≤◌, Bool, true, List, Some, length, get_or, ap, ap₂, sym, ◌∙◌, subst, arith, inl, inr}
 use Rattle.std.specs.Prelude.{◌⊎◌, ◌||◌, Option, slice_get}
 use Rattle.std.proofs.lemmas.Bool.{cases_eq, cases_lt}
 use Rattle.std.proofs.lemmas.Option.{get_or_from_slice_get, slice_get-get_or}
@@ -20,13 +20,7 @@ use Rattle.noc_cycles.specs.declared.block.Work.{Work}
 use Rattle.noc_cycles.specs.declared.pattern.Pattern.{Pattern}
 use Rattle.noc_cycles.proofs.PartLemmas.{all-within}
 use Rattle.noc_engine.specs.Passes.{HasCounted, arrived_of, arrived_or, packets_of, packets_or}
-
--- router r of block b
-pub block-of : (b r : ℕ) → r < 64 → (64 * b + r) / 64 ≡ b
-block-of b r l = omega (arith, l)
-
-pub place-of : (b r : ℕ) → r < 64 → (64 * b + r) % 64 ≡ r
-place-of b r l = omega (arith, l)
+use Rattle.noc_engine.proofs.ListLemmas.{block-of, place-of}
 
 -- ---- some of one block, or of those before
 pub some-sum : (m n : ℕ) (test : ℕ → Bool) → some_below (m + n) test ≡ (some_below m test || some_below n (λ r. test (m + r)))

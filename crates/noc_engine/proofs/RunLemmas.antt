@@ -1,7 +1,7 @@
 -- A run, cycle after cycle.
 use Rattle.std.proofs.Common.{ℕ, ◌+◌, ◌-◌, ◌<◌, ◌≤◌, subst, arith}
 use Rattle.noc_route.specs.Routes.{Routes}
-use Rattle.noc_sets.specs.Cycle.{Router, Turn}
+use Rattle.noc_sets.specs.Cycle.{Router}
 use Rattle.noc_theory.specs.Network.{Setup}
 use Rattle.noc_engine.specs.Runs.{HasJustRun, MayRun, ShowsRun}
 use Rattle.noc_engine.specs.Steps.{HasStepped, MayStep}
@@ -10,19 +10,18 @@ use Rattle.noc_engine.specs.declared.engine.Engine.{Engine}
 -- ---- a cycle, and those after it
 module _ (relation : Routes) (net : Setup) (n most : ℕ) (all : Engine) (some : 0 < most) (may : MayRun relation net n most all) where
   pub may-step : MayStep net relation n may.shows.0 all
-  may-step = record { good = may.good; is = may.is; few = let within = may.within in omega (arith, within, some); shows = may.shows.1 }
+  may-step = record { is = may.is; few = let within = may.within in omega (arith, within, some); shows = may.shows.1 }
 
-  pub just-run : (next : Engine) → ((m : Setup) (k : ℕ) (words : ℕ → Router) → MayStep m relation k words all → (turns : ℕ → Turn) × (then : ℕ → Router) × HasStepped m k words turns then all next) → HasJustRun net n (most - 1) next
+  pub just-run : (next : Engine) → ((m : Setup) (k : ℕ) (words : ℕ → Router) → MayStep m relation k words all → (then : ℕ → Router) × HasStepped m k words then all next) → HasJustRun net n (most - 1) next
   just-run next steps =
       let has = steps net n may.shows.0 may-step in
       record {
         relation = relation;
         words = may.shows.0;
-        turns = has.0;
-        next = has.1;
+        next = has.0;
         was = all;
         may = may-step;
-        stepped = has.2;
+        stepped = has.1;
         within = let within = may.within in omega (arith, within, some);
       }
 

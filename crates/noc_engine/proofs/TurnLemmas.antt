@@ -1,5 +1,5 @@
 -- Each router of a block has its turn.
-use Rattle.std.proofs.Common.{◌≡◌, ℕ, ◌+◌, ◌-◌, ◌*◌, ◌^◌, ◌<◌, ◌≤◌, Bool, true, false, List, length, map, arith, ap, ap₂, refl, subst, sym, ◌∙◌, inl, inr, bit_or}
+use Rattle.std.proofs.Common.{◌≡◌, ◌≢◌, ℕ, ◌+◌, ◌-◌, ◌*◌, ◌^◌, ◌<◌, ◌≤◌, Bool, true, false, List, length, map, arith, ap, ap₂, refl, subst, sym, ◌∙◌, inl, inr, bit_or}
 use Rattle.std.specs.Prelude.{◌⊎◌, ◌&&◌, ◌||◌, not, nat_eq}
 use Rattle.std.proofs.lemmas.Bool.{cases_eq, cases_lt, eq-eqb, ne_eqb}
 use Rattle.std.proofs.lemmas.List.{length-map}
@@ -12,7 +12,7 @@ use Rattle.noc_topo.specs.Shape.{nodes}
 use Rattle.noc_route.specs.Routes.{Routes}
 use Rattle.noc_sets.specs.Cycle.{Router, Still, Turn, still_of}
 use Rattle.noc_sets.specs.Layout.{Layout}
-use Rattle.noc_sets.specs.Sets.{least, up_by}
+use Rattle.noc_sets.specs.Sets.{least}
 use Rattle.noc_sets.specs.Unions.{some_below}
 use Rattle.noc_sets.proofs.MemberLemmas.{either-zero, least_below, least_is}
 use Rattle.noc_sets.proofs.UnionLemmas.{some-none, some-same}
@@ -21,7 +21,7 @@ use Rattle.noc_theory.specs.Network.{Setup}
 use Rattle.noc_theory.specs.declared.limits.TheConstants.{CYCLE_LIMIT}
 use Rattle.noc_theory_bits.specs.Network.{all_starts, numbers_in, tells_in}
 use Rattle.noc_columns.specs.Heads.{packet_in}
-use Rattle.noc_columns.specs.Picks.{channels_of, links_of, port_at}
+use Rattle.noc_columns.specs.Picks.{channels_of}
 use Rattle.noc_columns.specs.Routing.{AreRoutable, IsOfPorts, header_of, sets_by}
 use Rattle.noc_columns.specs.Sources.{start_by, starts_by}
 use Rattle.noc_columns.specs.Supply.{digits_by, number_in}
@@ -51,10 +51,6 @@ use Rattle.noc_cycles.specs.Turning.{HasWorkedHeld, ShowsTurn, verdict_sets_by}
 use Rattle.noc_cycles.specs.declared.block.Block.{Block}
 use Rattle.noc_cycles.specs.declared.block.Work.{Work}
 use Rattle.noc_cycles.specs.declared.pattern.Pattern.{Pattern}
-use Rattle.noc_cycles.proofs.InjectLemmas.{some-local}
-use Rattle.noc_cycles.proofs.PartLemmas.{in-parts}
-use Rattle.noc_cycles.proofs.ShiftLemmas.{up-some}
-use Rattle.noc_cycles.proofs.SomeLemmas.{some-links}
 use Rattle.noc_cycles.proofs.TurningLemmas.{worked-through}
 use Rattle.noc_theory_cycles.specs.Fits.{FitsNetwork, bits_of, layout_of}
 use Rattle.noc_theory_cycles.specs.Nodes.{IsNodeTurn, ShowsNode}
@@ -66,30 +62,6 @@ use Rattle.noc_engine.specs.Turns.{HasTurnedBlock, MayTurn}
 use Rattle.noc_engine.specs.declared.plan.Plan.{Plan}
 
 -- ---- in which routers something is
--- .. which have one of the channels
-pub some-channels : (pattern : Pattern) (r links local : ℕ) (words : List ℕ)
-    → has_bit links r ≡ some_below (pattern.table.ports.links.vcs * pattern.table.ports.links.width) (λ i. has_bit (word (0 + i) words) r)
-    → has_bit local r ≡ some_below pattern.table.ports.local.vcs (λ i. has_bit (word (pattern.table.ports.local.first + i) words) r)
-    → has_bit (bit_or links local) r ≡ not (nat_eq (set_of (channels_of pattern.table.ports) r words) 0)
-some-channels pattern r links local words a b =
-    either_members links local r
-    ∙ ap₂ (λ x y. x || y) (some-links pattern r links words a) (some-local ports.local r local words ports.one b)
-    ∙ at (nat_eq far 0) (nat_eq near 0)
-    ∙ ap not (sym (ap (λ w. nat_eq w 0) (in-parts ports r words) ∙ either-zero far (up_by near (ports.links.width * ports.links.vcs)) ∙ ap (λ x. nat_eq far 0 && x) (up-some near (ports.links.width * ports.links.vcs))))
-  where
-    ports : RouterPorts
-    ports = pattern.table.ports
-
-    far : ℕ
-    far = set_of (links_of pattern.table.ports.links) r words
-
-    near : ℕ
-    near = set_of (port_at pattern.table.ports.local 0) r words
-
-    at : (x y : Bool) → (not x || not y) ≡ not (x && y)
-    at true y = refl
-    at false y = refl
-
 some-bits : (x : ℕ) → x < 2 ^ 64 → not (nat_eq x 0) ≡ some_below 64 (has_bit x)
 some-bits x fits = elim (cases_eq x 0) [
   | inl none ↦ ap not (eq-eqb x 0 none) ∙ sym (some-none 64 (has_bit x) (λ q l. ap (λ w. has_bit w q) none ∙ has_bit-zero q))
@@ -98,26 +70,35 @@ some-bits x fits = elim (cases_eq x 0) [
       ap not (ne_eqb x 0 some) ∙ sym (some-each 64 (has_bit x) (least x) (least_below x more fits) (least_is x more fits).0)
 ]
 
-pub some-happens : (comes heads granted moved : ℕ) (f g h : ℕ → ℕ) → bit_or (bit_or (bit_or comes heads) granted) moved < 2 ^ 64 → ((r : ℕ) → has_bit heads r ≡ not (nat_eq (f r) 0)) → ((r : ℕ) → has_bit granted r ≡ not (nat_eq (g r) 0))
+pub some-happens : (heads granted moved : ℕ) (f g h : ℕ → ℕ) → bit_or (bit_or heads granted) moved < 2 ^ 64 → ((r : ℕ) → has_bit heads r ≡ not (nat_eq (f r) 0)) → ((r : ℕ) → has_bit granted r ≡ not (nat_eq (g r) 0))
     → ((r : ℕ) → has_bit moved r ≡ not (nat_eq (h r) 0))
-    → not (nat_eq (bit_or (bit_or (bit_or comes heads) granted) moved) 0) ≡ some_below 64 (λ r. has_bit comes r || not (nat_eq (bit_or (bit_or (f r) (g r)) (h r)) 0))
-some-happens comes heads granted moved f g h fits a b d = some-bits all fits ∙ ap (some_below 64) (λ i r. each r i)
+    → not (nat_eq (bit_or (bit_or heads granted) moved) 0) ≡ some_below 64 (λ r. not (nat_eq (bit_or (bit_or (f r) (g r)) (h r)) 0))
+some-happens heads granted moved f g h fits a b d = some-bits all fits ∙ ap (some_below 64) (λ i r. each r i)
   where
     all : ℕ
-    all = bit_or (bit_or (bit_or comes heads) granted) moved
+    all = bit_or (bit_or heads granted) moved
 
-    by : (x p q t : Bool) → (((x || not p) || not q) || not t) ≡ (x || not ((p && q) && t))
-    by true p q t = refl
-    by false true true t = refl
-    by false true false t = refl
-    by false false q t = refl
+    by : (p q t : Bool) → ((not p || not q) || not t) ≡ not ((p && q) && t)
+    by true true t = refl
+    by true false t = refl
+    by false q t = refl
 
-    each : (r : ℕ) → has_bit all r ≡ (has_bit comes r || not (nat_eq (bit_or (bit_or (f r) (g r)) (h r)) 0))
+    each : (r : ℕ) → has_bit all r ≡ not (nat_eq (bit_or (bit_or (f r) (g r)) (h r)) 0)
     each r =
-        either_members (bit_or (bit_or comes heads) granted) moved r
-        ∙ ap₂ (λ x y. x || y) (either_members (bit_or comes heads) granted r ∙ ap₂ (λ x y. x || y) (either_members comes heads r ∙ ap (λ y. has_bit comes r || y) (a r)) (b r)) (d r)
-        ∙ by (has_bit comes r) (nat_eq (f r) 0) (nat_eq (g r) 0) (nat_eq (h r) 0)
-        ∙ sym (ap (λ y. has_bit comes r || not y) (either-zero (bit_or (f r) (g r)) (h r) ∙ ap (λ y. y && nat_eq (h r) 0) (either-zero (f r) (g r))))
+        either_members (bit_or heads granted) moved r
+        ∙ ap₂ (λ x y. x || y) (either_members heads granted r ∙ ap₂ (λ x y. x || y) (a r) (b r)) (d r)
+        ∙ by (nat_eq (f r) 0) (nat_eq (g r) 0) (nat_eq (h r) 0)
+        ∙ sym (ap not (either-zero (bit_or (f r) (g r)) (h r) ∙ ap (λ y. y && nat_eq (h r) 0) (either-zero (f r) (g r))))
+
+-- .. to which something comes
+pub comes-happens : (comes : ℕ) (test : ℕ → Bool) → comes < 2 ^ 64 → comes ≢ 0 → true ≡ some_below 64 (λ r. has_bit comes r || test r)
+comes-happens comes test fits some =
+    let more : 0 < comes = omega (arith, some) in
+    sym (some-each 64 (λ r. has_bit comes r || test r) (least comes) (least_below comes more fits) (ap (λ b. b || test (least comes)) (least_is comes more fits).0))
+
+-- .. and to none
+pub none-comes : (comes : ℕ) (test : ℕ → Bool) → comes ≡ 0 → some_below 64 test ≡ some_below 64 (λ r. has_bit comes r || test r)
+none-comes comes test none = some-same 64 test (λ r. has_bit comes r || test r) (λ r l. sym (ap (λ n. has_bit n r || test r) none ∙ ap (λ b. b || test r) (has_bit-zero r)))
 
 -- ---- one router
 -- what is found of it follows from its verdicts

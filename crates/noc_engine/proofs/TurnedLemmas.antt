@@ -42,11 +42,11 @@ idle_turns words s = record {
   happened = false;
 }
 
--- the blocks below a number have had their turn
-pub record HaveTurnedBelow (net : Setup) (plan : Plan) (n number : ℕ) (words : ℕ → Router) (turns : ℕ → Turn) (blocks : List Block) (works : List Work) (happened : Bool) : Type 0 where
+-- the blocks from `first` on have had their turn, so many of them
+pub record HaveTurnedBelow (net : Setup) (plan : Plan) (n first number : ℕ) (words : ℕ → Router) (turns : ℕ → Turn) (blocks : List Block) (works : List Work) (happened : Bool) : Type 0 where
   pub each : (b : ℕ) (block : Block) (work : Work) → b < number → slice_get blocks b ≡ Some block → slice_get works b ≡ Some work
-      → HasTurnedBlock net plan n b words turns block work (some_below 64 (λ r. (turns (64 * b + r)).happened))
-  pub happened_is : happened ≡ some_below (64 * number) (λ s. (turns s).happened)
+      → HasTurnedBlock net plan n (first + b) words turns block work (some_below 64 (λ r. (turns (64 * (first + b) + r)).happened))
+  pub happened_is : happened ≡ some_below (64 * number) (λ s. (turns (64 * first + s)).happened)
 
 -- a block that has had its turn has it by all turns that are those of its routers
 pub turned-same : (net : Setup) (plan : Plan) (n b : ℕ) (words : ℕ → Router) (t u : ℕ → Turn) (block : Block) (work : Work) (happened : Bool)
@@ -80,29 +80,35 @@ own-turns b r t u l = let e : (64 * b + r) / 64 ≡ b = omega (arith, l) in sym 
 pub other-turns : (b s : ℕ) (t u : ℕ → Turn) → s / 64 ≢ b → t s ≡ with_turns b t u s
 other-turns b s t u other = sym (ap (λ x. if x then u s else t s) (ne_eqb (s / 64) b other))
 
-pub turned-next : (net : Setup) (plan : Plan) (n number : ℕ) (words : ℕ → Router) (t u : ℕ → Turn) (blocks : List Block) (works : List Work) (happened : Bool) (block : Block) (work : Work) (here : Bool)
-    → number < length blocks → number < length works
-    → HaveTurnedBelow net plan n number words t blocks works happened → HasTurnedBlock net plan n number words u block work here
-    → HaveTurnedBelow net plan n (number + 1) words (with_turns number t u) (write blocks number block) (write works number work) (happened || here)
-turned-next net plan n number words t u blocks works happened block work here l m before has = record {
-  each = λ b x y k is-block is-work. each b x y k is-block is-work (cases_eq b number);
-  happened_is =
-      ap₂ (λ x y. x || y)
-      (before.happened_is ∙ some-same (64 * number) _ _ (λ s k. ap (λ (x : Turn). x.happened) (other-turns number s t u (λ e. omega (arith, e, k)))))
-      (has.happened_is ∙ some-same 64 _ _ (λ r k. ap (λ (x : Turn). x.happened) (own-turns number r t u k)))
-      ∙ sym (some-sum (64 * number) 64 (λ s. (with_turns number t u s).happened))
-      ∙ (let e : 64 * number + 64 ≡ 64 * (number + 1) = omega arith in ap (λ k. some_below k (λ s. (with_turns number t u s).happened)) e);
-}
-  where
-    each : (b : ℕ) (x : Block) (y : Work) → b < number + 1 → slice_get (write blocks number block) b ≡ Some x → slice_get (write works number work) b ≡ Some y → (b ≡ number) ⊎ (b ≢ number)
-        → HasTurnedBlock net plan n b words (with_turns number t u) x y (some_below 64 (λ r. (with_turns number t u (64 * b + r)).happened))
-    each b x y k is-block is-work (inl same) =
-        subst (λ (c : ℕ). HasTurnedBlock net plan n c words (with_turns number t u) x y (some_below 64 (λ r. (with_turns number t u (64 * c + r)).happened))) (sym same)
-        (subst (λ (p : Block). HasTurnedBlock net plan n number words (with_turns number t u) p y (some_below 64 (λ r. (with_turns number t u (64 * number + r)).happened)))
-        (same-item block x _ (written blocks number block l) (subst (λ (c : ℕ). slice_get (write blocks number block) c ≡ Some x) same is-block))
-        (subst (λ (q : Work). HasTurnedBlock net plan n number words (with_turns number t u) block q (some_below 64 (λ r. (with_turns number t u (64 * number + r)).happened)))
-        (same-item work y _ (written works number work m) (subst (λ (c : ℕ). slice_get (write works number work) c ≡ Some y) same is-work))
-        (turned-same net plan n number words u (with_turns number t u) block work here (λ r low. own-turns number r t u low) has)))
-    each b x y k is-block is-work (inr other) =
-        turned-same net plan n b words t (with_turns number t u) x y _ (λ r low. other-turns number (64 * b + r) t u (λ e. other (omega (arith, e, low))))
-        (before.each b x y (omega (arith, k, other)) (sym (others blocks number b block other) ∙ is-block) (sym (others works number b work other) ∙ is-work))
+module _ (net : Setup) (plan : Plan) (n first number : ℕ) (words : ℕ → Router) (t u : ℕ → Turn) (blocks : List Block) (works : List Work) (happened : Bool) (block : Block) (work : Work) (here : Bool)
+    (l : number < length blocks) (m : number < length works) (before : HaveTurnedBelow net plan n first number words t blocks works happened) (has : HasTurnedBlock net plan n (first + number) words u block work here) where
+  abbrev later : ℕ → Turn
+  later = with_turns (first + number) t u
+
+  each : (b : ℕ) (x : Block) (y : Work) → b < number + 1 → slice_get (write blocks number block) b ≡ Some x → slice_get (write works number work) b ≡ Some y → (b ≡ number) ⊎ (b ≢ number)
+      → HasTurnedBlock net plan n (first + b) words later x y (some_below 64 (λ r. (later (64 * (first + b) + r)).happened))
+  each b x y k is-block is-work (inl same) =
+      subst (λ (c : ℕ). HasTurnedBlock net plan n (first + c) words later x y (some_below 64 (λ r. (later (64 * (first + c) + r)).happened))) (sym same)
+      (subst (λ (p : Block). HasTurnedBlock net plan n (first + number) words later p y (some_below 64 (λ r. (later (64 * (first + number) + r)).happened)))
+      (same-item block x _ (written blocks number block l) (subst (λ (c : ℕ). slice_get (write blocks number block) c ≡ Some x) same is-block))
+      (subst (λ (q : Work). HasTurnedBlock net plan n (first + number) words later block q (some_below 64 (λ r. (later (64 * (first + number) + r)).happened)))
+      (same-item work y _ (written works number work m) (subst (λ (c : ℕ). slice_get (write works number work) c ≡ Some y) same is-work))
+      (turned-same net plan n (first + number) words u later block work here (λ r low. own-turns (first + number) r t u low) has)))
+  each b x y k is-block is-work (inr other) =
+      turned-same net plan n (first + b) words t later x y _ (λ r low. other-turns (first + number) (64 * (first + b) + r) t u (λ e. other (omega (arith, e, low))))
+      (before.each b x y (omega (arith, k, other)) (sym (others blocks number b block other) ∙ is-block) (sym (others works number b work other) ∙ is-work))
+
+  -- the routers of the block are the next ones
+  next-place : (r : ℕ) → 64 * (first + number) + r ≡ 64 * first + (64 * number + r)
+  next-place r = omega arith
+
+  pub turned-next : HaveTurnedBelow net plan n first (number + 1) words later (write blocks number block) (write works number work) (happened || here)
+  turned-next = record {
+    each = λ b x y k is-block is-work. each b x y k is-block is-work (cases_eq b number);
+    happened_is =
+        ap₂ (λ x y. x || y)
+        (before.happened_is ∙ some-same (64 * number) _ _ (λ s k. ap (λ (x : Turn). x.happened) (other-turns (first + number) (64 * first + s) t u (λ e. omega (arith, e, k)))))
+        (has.happened_is ∙ some-same 64 _ _ (λ r k. ap (λ (x : Turn). x.happened) (own-turns (first + number) r t u k) ∙ ap (λ s. (later s).happened) (next-place r)))
+        ∙ sym (some-sum (64 * number) 64 (λ s. (later (64 * first + s)).happened))
+        ∙ (let e : 64 * number + 64 ≡ 64 * (number + 1) = omega arith in ap (λ k. some_below k (λ s. (later (64 * first + s)).happened)) e);
+  }

@@ -11,25 +11,27 @@ use Rattle.noc_sets.specs.Source.{Source}
 use Rattle.noc_theory.specs.Lockstep.{view_at, view_in}
 use Rattle.noc_theory.specs.Network.{Setup, size}
 use Rattle.noc_theory_bits.specs.Network.{HasWaited, MayWait, ShowsNetwork}
+use Rattle.noc_theory_bits.proofs.bits.NetworkLemmas.{network-own}
 use Rattle.noc_theory_bits.proofs.stuck.WaitLemmas.{network-waits}
 use Rattle.noc_columns.specs.Picks.{channels_of}
 use Rattle.noc_columns.specs.declared.ports.RouterPorts.{RouterPorts}
 use Rattle.noc_counts.specs.Counts.{counts_at, last_at}
 use Rattle.noc_counts.specs.declared.counts.Counts.{Counts}
-use Rattle.noc_cycles.specs.Held.{held_at}
+use Rattle.noc_cycles.specs.Held.{held_at, links_at}
 use Rattle.noc_cycles.specs.declared.block.Block.{Block}
+use Rattle.noc_cycles.specs.declared.block.Work.{Work}
 use Rattle.noc_cycles.specs.declared.pattern.Pattern.{Pattern}
 use Rattle.noc_theory_cycles.specs.Blank.{channels_count}
 use Rattle.noc_theory_cycles.specs.Fits.{bits_of}
 use Rattle.noc_theory_cycles.proofs.SleepLemmas.{counted-blank, counted-held}
 use Rattle.noc_engine.specs.Runs.{HasJustRun, HasRepeated, IsNextDue, ShowsRun}
-use Rattle.noc_engine.specs.Shows.{ShowsAt, ShowsBlock, coming}
-use Rattle.noc_engine.specs.Steps.{words_in}
+use Rattle.noc_engine.specs.Shows.{ShowsAt, ShowsBlock, ShowsTile, has_router, words_in}
 use Rattle.noc_engine.specs.declared.engine.Engine.{Engine}
 use Rattle.noc_engine.specs.declared.plan.Plan.{Plan}
-use Rattle.noc_engine.proofs.PassLemmas.{block-of, place-of}
-use Rattle.noc_engine.proofs.ReaderLemmas.{counted-word, in-block, sizes}
-use Rattle.noc_engine.proofs.StepLemmas.{there}
+use Rattle.noc_engine.specs.declared.tile.Tile.{Tile}
+use Rattle.noc_engine.proofs.ListLemmas.{block-of, place-of, there}
+use Rattle.noc_engine.proofs.ReaderLemmas.{counted-word, sizes}
+use Rattle.noc_engine.proofs.WholeLemmas.{in-block, network-shown, next-shown, number-is}
 
 -- what was counted of a channel, if anything was
 abbrev counted_or : RouterPorts → Option Counts → ℕ → ℕ → ByVerdict
@@ -40,7 +42,7 @@ counted_or ports (Some c) r i = counts_at (channels_of ports) c r i
 module _ (net : Setup) (n : ℕ) (words : ℕ → Router) (all : Engine) (shows : ShowsAt net n words all) where
   counted-few : (r i : ℕ) → r < nodes net.relation.grid → i < size net → sum (nine_counts ((words r).counts i)) ≤ n
   unfolding view_at view_in
-  counted-few r i l u = ((shows.shows.routers r l).counts i u).1
+  counted-few r i l u = (((network-shown net n words all shows).routers r l).counts i u).1
 
 -- ---- the cycle is repeated
 module _ (net : Setup) (n most : ℕ) (is : Engine) (just : HasJustRun net n most is) where
@@ -50,43 +52,63 @@ module _ (net : Setup) (n most : ℕ) (is : Engine) (just : HasJustRun net n mos
   abbrev ports : RouterPorts
   ports = is.plan.pattern.table.ports
 
-  abbrev pub shows-is : ShowsAt net (n + 1) just.next is
-  shows-is = just.stepped.shows
+  pub shows-is : ShowsAt net (n + 1) just.next is
+  shows-is = next-shown net n just.words just.next just.was is just.may.shows just.stepped
+
+  number : (b : ℕ) → is.tile.first + b ≡ b
+  number = number-is net (n + 1) just.next is shows-is
+
+  block-now : (b : ℕ) (block : Block) (work : Work) (c : Counts) → slice_get is.tile.blocks.items b ≡ Some block → slice_get is.tile.works.items b ≡ Some work → slice_get is.tile.counts.items b ≡ Some c
+      → ShowsBlock net is.plan (n + 1) b just.next block work.came c
+  block-now b block work c at doing on = subst (λ k. ShowsBlock net is.plan (n + 1) k just.next block work.came c) (number b) (shows-is.tile.blocks b block work c at doing on)
 
   -- what was counted in it
-  counted-last : (b r i : ℕ) (c : Counts) → slice_get is.counts.items b ≡ Some c → r < 64 → i < (ports.links.width + 1) * ports.links.vcs
+  counted-here : (b r i : ℕ) (c : Counts) → slice_get is.tile.counts.items b ≡ Some c → r < 64 → i < (ports.links.width + 1) * ports.links.vcs
+      → (just.next (64 * (is.tile.first + b) + r)).counts i ≡ with_verdicts (last_at (channels_of ports) c r) i ((just.words (64 * (is.tile.first + b) + r)).counts i)
+  counted-here = subst
+      (λ (p : Plan). (b r i : ℕ) (c : Counts) → slice_get is.tile.counts.items b ≡ Some c → r < 64 → i < (p.pattern.table.ports.links.width + 1) * p.pattern.table.ports.links.vcs
+      → (just.next (64 * (is.tile.first + b) + r)).counts i ≡ with_verdicts (last_at (channels_of p.pattern.table.ports) c r) i ((just.words (64 * (is.tile.first + b) + r)).counts i))
+      (sym just.stepped.plan_stays) just.stepped.tile.counted
+
+  counted-last : (b r i : ℕ) (c : Counts) → slice_get is.tile.counts.items b ≡ Some c → r < 64 → i < (ports.links.width + 1) * ports.links.vcs
       → (just.next (64 * b + r)).counts i ≡ with_verdicts (last_at (channels_of ports) c r) i ((just.words (64 * b + r)).counts i)
-  counted-last = subst
-      (λ (p : Plan). (b r i : ℕ) (c : Counts) → slice_get is.counts.items b ≡ Some c → r < 64 → i < (p.pattern.table.ports.links.width + 1) * p.pattern.table.ports.links.vcs
-      → (just.next (64 * b + r)).counts i ≡ with_verdicts (last_at (channels_of p.pattern.table.ports) c r) i ((just.words (64 * b + r)).counts i))
-      (sym just.stepped.plan_stays) just.stepped.counted
+  counted-last b r i c at l u = subst (λ k. (just.next (64 * k + r)).counts i ≡ with_verdicts (last_at (channels_of ports) c r) i ((just.words (64 * k + r)).counts i)) (number b) (counted-here b r i c at l u)
 
   -- before and after it
-  before : ShowsNetwork (bits_of pattern) net n (words_in just.words just.was)
-  before = subst (λ (p : Plan). ShowsNetwork (bits_of p.pattern) net n (words_in just.words just.was)) (sym just.stepped.plan_stays) just.may.shows.shows
+  before : ShowsNetwork (bits_of pattern) net n (words_in just.words just.was.tile)
+  before = subst (λ (p : Plan). ShowsNetwork (bits_of p.pattern) net n (words_in just.words just.was.tile)) (sym just.stepped.plan_stays) (network-shown net n just.words just.was just.may.shows)
 
-  after : ShowsNetwork (bits_of pattern) net (suc n) (words_in just.next is)
-  after = subst (λ m. ShowsNetwork (bits_of pattern) net m (words_in just.next is)) (add-one n) shows-is.shows
+  after : ShowsNetwork (bits_of pattern) net (suc n) (words_in just.next is.tile)
+  after = subst (λ m. ShowsNetwork (bits_of pattern) net m (words_in just.next is.tile)) (add-one n) (network-shown net (n + 1) just.next is shows-is)
 
   -- where no cycle follows
   pub none-follow : ShowsRun net (n + 1 + 0) is
   none-follow = (just.next, subst (λ m. ShowsAt net m just.next is) (omega arith) shows-is)
 
   -- where so many follow
-  module _ (times next : ℕ) (few : times ≤ most) (quiet : is.last ≢ is.cycle) (is_next : IsNextDue is.blocks.items next) (until : times ≤ next - is.cycle)
-      (counts : Vec Counts Global) (long : length counts.items ≡ length is.counts.items)
-      (repeats : (b : ℕ) (old new : Counts) → slice_get is.counts.items b ≡ Some old → slice_get counts.items b ≡ Some new → HasRepeated pattern times old new) where
+  module _ (times next : ℕ) (few : times ≤ most) (quiet : is.tile.last ≢ is.tile.cycle) (is_next : IsNextDue is.tile.blocks.items next) (until : times ≤ next - is.tile.cycle)
+      (counts : Vec Counts Global) (long : length counts.items ≡ length is.tile.counts.items)
+      (repeats : (b : ℕ) (old new : Counts) → slice_get is.tile.counts.items b ≡ Some old → slice_get counts.items b ≡ Some new → HasRepeated pattern times old new) where
+    abbrev pub waited : Tile
+    waited = record is.tile { counts = counts; cycle = is.tile.cycle + times }
+
     abbrev pub later : Engine
-    later = record is { counts = counts; cycle = is.cycle + times }
+    later = record is { tile = waited }
 
     abbrev then : ℕ → Router
     then s = record (just.next s) { counts = λ i. counted_or ports (slice_get counts.items (s / 64)) (s % 64) i }
 
-    old-at : (b : ℕ) → b < length is.plan.around.items → (c : Counts) × (slice_get is.counts.items b ≡ Some c)
-    old-at b l = there is.counts.items b (let same = shows-is.counts_are in omega (arith, l, same))
+    block-at : (b : ℕ) → b < length is.tile.blocks.items → (x : Block) × (slice_get is.tile.blocks.items b ≡ Some x)
+    block-at b l = there is.tile.blocks.items b l
 
-    new-at : (b : ℕ) → b < length is.plan.around.items → (c : Counts) × (slice_get counts.items b ≡ Some c)
-    new-at b l = there counts.items b (let same = shows-is.counts_are in omega (arith, l, same, long))
+    work-at : (b : ℕ) → b < length is.tile.blocks.items → (x : Work) × (slice_get is.tile.works.items b ≡ Some x)
+    work-at b l = there is.tile.works.items b (let same = shows-is.tile.lists.works_are in omega (arith, l, same))
+
+    old-at : (b : ℕ) → b < length is.tile.blocks.items → (c : Counts) × (slice_get is.tile.counts.items b ≡ Some c)
+    old-at b l = there is.tile.counts.items b (let same = shows-is.tile.lists.counts_are in omega (arith, l, same))
+
+    new-at : (b : ℕ) → b < length is.tile.blocks.items → (c : Counts) × (slice_get counts.items b ≡ Some c)
+    new-at b l = there counts.items b (let same = shows-is.tile.lists.counts_are in omega (arith, l, same, long))
 
     runs-on : (s i : ℕ) → s < nodes net.relation.grid → i < size net → RunOn times ((just.words s).counts i) ((just.next s).counts i) ((then s).counts i)
     runs-on s i l u =
@@ -107,7 +129,7 @@ module _ (net : Setup) (n most : ℕ) (is : Engine) (just : HasJustRun net n mos
         subst (λ (c : ByVerdict). RunOn times ((just.words s).counts i) c ((then s).counts i)) (sym counted)
         (subst (λ (c : ByVerdict). RunOn times ((just.words s).counts i) (counts_at (channels_of ports) old.0 r i) c) (sym (ap (λ (o : Option Counts). counted_or ports o r i) new.1)) run)
 
-    has-waited : HasWaited net times (words_in just.words just.was) (words_in just.next is) (words_in then later)
+    has-waited : HasWaited net times (words_in just.words just.was.tile) (words_in just.next is.tile) (words_in then waited)
     has-waited = record {
       counts = runs-on;
       rest = λ r l. refl;
@@ -121,37 +143,36 @@ module _ (net : Setup) (n most : ℕ) (is : Engine) (just : HasJustRun net n mos
         let b = s / 64 in
         let r = s % 64 in
         let inside = in-block net (n + 1) just.next is shows-is s l in
-        let block = there is.blocks.items b (let same = shows-is.blocks_are in omega (arith, inside, same)) in
+        let block = block-at b inside in
+        let work = work-at b inside in
         let old = old-at b inside in
         let low : r < 64 = mod_below s 64 (omega arith) in
         let whole : 64 * (s / 64) + s % 64 ≡ s = omega arith in
-        let node = (shows-is.blocks b block.0 old.0 block.1 old.1).routers r low in
+        let node = (block-now b block.0 work.0 old.0 block.1 work.1 old.1).routers r low in
         let source : (just.next s).source.due ≡ (held_at ports block.0 r).source.due = ap (λ t. (just.next t).source.due) (sym whole) ∙ ap (λ (x : Source). x.due) node.held.source in
-        let first = (just.stepped.due b block.0 block.1).later r low (subst (λ m. n < m) source due) in
+        let first = (just.stepped.tile.due b block.0 block.1).later r low (subst (λ m. n < m) source due) in
         let least = is_next.below b block.0 block.1 in
-        let now = shows-is.cycle in
+        let now = shows-is.tile.cycle in
         omega (arith, source, first, least, now, until, due)
 
-    may-wait : MayWait net n (n + 1 + times) (words_in just.next is)
-    may-wait = record { quiet = λ e. quiet (e ∙ sym shows-is.cycle); due = none-due }
+    may-wait : MayWait net n (n + 1 + times) (words_in just.next is.tile)
+    may-wait = record { quiet = λ e. quiet (e ∙ sym shows-is.tile.cycle); due = none-due }
 
-    limit : n + 1 + times ≤ n + 1 + most
-    limit = omega (arith, few)
-
-    shows-later : ShowsNetwork (bits_of pattern) net (n + 1 + times) (words_in then later)
-    shows-later = network-waits net just.may.good n times (n + 1 + times) (omega arith) (let most = just.within in omega (arith, most, few)) (words_in just.words just.was) (words_in just.next is) (words_in then later) before after may-wait has-waited
+    shows-later : ShowsNetwork (bits_of pattern) net (n + 1 + times) (words_in then waited)
+    shows-later = network-waits net shows-is.good n times (n + 1 + times) (omega arith) (let most = just.within in omega (arith, most, few)) (words_in just.words just.was.tile) (words_in just.next is.tile) (words_in then waited) before after may-wait has-waited
 
     -- ---- a block then
-    block-then : (b : ℕ) (block : Block) (count : Counts) → slice_get is.blocks.items b ≡ Some block → slice_get counts.items b ≡ Some count → ShowsBlock net is.plan (n + 1 + times) b is.left.items then block count
-    block-then b block count at on =
-        let old = there is.counts.items b (let inside = slice_get_within counts.items b count on in omega (arith, inside, long)) in
-        let was = shows-is.blocks b block old.0 at old.1 in
+    block-then : (b : ℕ) (block : Block) (work : Work) (count : Counts) → slice_get is.tile.blocks.items b ≡ Some block → slice_get is.tile.works.items b ≡ Some work → slice_get counts.items b ≡ Some count
+        → ShowsBlock net is.plan (n + 1 + times) b then block work.came count
+    block-then b block work count at doing on =
+        let old = there is.tile.counts.items b (let inside = slice_get_within counts.items b count on in omega (arith, inside, long)) in
+        let was = block-now b block work old.0 at doing old.1 in
         record {
           routers = λ r l.
               let s = 64 * b + r in
               let node = was.routers r l in
               record {
-                held = counted-held pattern (held_at ports block r) (coming net ports is.left.items s) (just.next s) (then s) refl node.held;
+                held = counted-held pattern (held_at ports block r) (links_at ports work.came r) (just.next s) (then s) refl node.held;
                 shows = λ k. shows-later.routers s k;
                 blank = λ k. counted-blank (channels_count pattern) (just.next s) (then s) refl (node.blank k);
               };
@@ -163,22 +184,32 @@ module _ (net : Setup) (n most : ℕ) (is : Engine) (just : HasJustRun net n mos
         }
 
     -- ---- the network shows the other one after them
+    tile-later : ShowsTile net is.plan (n + 1 + times) then waited
+    tile-later =
+        let lists = shows-is.tile.lists in
+        record {
+          plan_is = shows-is.tile.plan_is;
+          cycle = ap (λ m. m + times) shows-is.tile.cycle;
+          lists = record {
+            within = lists.within;
+            works_are = lists.works_are;
+            counts_are = long ∙ lists.counts_are;
+            room = lists.room;
+            left_are = lists.left_are;
+            arrivals_are = lists.arrivals_are;
+          };
+          blocks = λ b block work count at doing on. subst (λ k. ShowsBlock net is.plan (n + 1 + times) k then block work.came count) (sym (number b)) (block-then b block work count at doing on);
+          shows = network-own net shows-is.good (has_router waited) (n + 1 + times) (words_in then waited) shows-later;
+        }
+
     pub waits : ShowsRun net (n + 1 + times) later
     waits = (
       then,
       record {
-        plan = shows-is.plan;
-        cycle = ap (λ m. m + times) shows-is.cycle;
-        limit = let most = just.within in omega (arith, most, few);
-        works_are = shows-is.works_are;
+        good = shows-is.good;
+        tile = tile-later;
+        first = shows-is.first;
         blocks_are = shows-is.blocks_are;
-        left_are = shows-is.left_are;
-        counts_are = long ∙ shows-is.counts_are;
-        notes_are = shows-is.notes_are;
-        room = shows-is.room;
-        arrivals_are = shows-is.arrivals_are;
         found_are = shows-is.found_are;
-        blocks = block-then;
-        shows = shows-later;
       },
     )

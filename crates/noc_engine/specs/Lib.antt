@@ -5,3 +5,4 @@ pub mod Steps
 pub mod Opened
 pub mod Runs
 pub mod Finds
+pub mod Tiles

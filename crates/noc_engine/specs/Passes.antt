@@ -1,8 +1,9 @@
--- What the passes of a cycle make of all blocks of a network, of which block b has the routers from
--- ROUTERS * b on.
-use Rattle.std.specs.Prelude.{◌≡◌, ℕ, ◌+◌, ◌*◌, ◌/◌, ◌%◌, ◌^◌, ◌<◌, Bool, List, Option, Some, None, length, unwrap_or}
+-- What the passes of a cycle make of blocks of a network that stand side by side, from the one with
+-- number `first` on.
+use Rattle.std.specs.Prelude.{◌≡◌, ℕ, ◌+◌, ◌*◌, ◌/◌, ◌%◌, ◌^◌, ◌<◌, ◌≤◌, Bool, List, Option, Some, None, Vec, length, nat_lt, if◌then◌else◌}
 use Rattle.std.specs.List.{slice_get}
-use Rattle.noc_topo.specs.Shape.{Grid, nodes, ports}
+use Rattle.std.specs.declared.alloc.Global.{Global}
+use Rattle.noc_topo.specs.Shape.{nodes}
 use Rattle.noc_route.specs.Routes.{Routes}
 use Rattle.noc_sets.specs.Counts.{with_verdicts}
 use Rattle.noc_sets.specs.Cycle.{Router, Turn}
@@ -17,43 +18,38 @@ use Rattle.noc_columns.specs.declared.words.TheConstants.{ROUTERS}
 use Rattle.noc_counts.specs.Counts.{counted_in, counts_at, last_at}
 use Rattle.noc_counts.specs.Told.{told_at}
 use Rattle.noc_counts.specs.declared.counts.Counts.{Counts}
-use Rattle.noc_cycles.specs.Gathered.{left_by}
+use Rattle.noc_cycles.specs.Gathered.{brought, left_by}
 use Rattle.noc_cycles.specs.Held.{links_at}
-use Rattle.noc_cycles.specs.Told.{Tells, heard, port_in, vc_in}
+use Rattle.noc_cycles.specs.Told.{Tells, notes_by, port_in, vc_in}
 use Rattle.noc_cycles.specs.declared.block.Block.{Block}
 use Rattle.noc_cycles.specs.declared.block.Work.{Work}
-use Rattle.noc_engine.specs.Shows.{coming}
+use Rattle.noc_cycles.specs.declared.notes.Note.{Note}
+use Rattle.noc_engine.specs.Tiles.{AreNotesBy, left_of}
 use Rattle.noc_engine.specs.Turns.{HasTurnedBlock, MayTurn}
 use Rattle.noc_engine.specs.declared.plan.Plan.{Plan}
 
--- ---- what comes
--- the links bring to all routers what is to come of what has left them
-abbrev pub HaveGathered : Setup → RouterPorts → List (Links (List ℕ)) → List Work → Type 0
-HaveGathered net ports left works =
-    (b r : ℕ) (work : Work) → slice_get works b ≡ Some work → r < ROUTERS
-    → links_at ports work.came r ≡ coming net ports left (ROUTERS * b + r)
-
 -- ---- turns
--- all blocks may have their turn in cycle n
-pub record MayTurnAll (net : Setup) (relation : Routes) (plan : Plan) (n : ℕ) (words : ℕ → Router)
-    (blocks : List Block) (works : List Work) : Type 0 where
-  pub blocks_are : length blocks ≡ length plan.around.items
-  pub works_are : length works ≡ length plan.around.items
+-- they may have their turn in cycle n
+pub record MayTurnAll (net : Setup) (relation : Routes) (plan : Plan) (n first : ℕ)
+    (words : ℕ → Router) (blocks : List Block) (works : List Work) : Type 0 where
+  pub within : first + length blocks ≤ length plan.around.items
+  pub works_are : length works ≡ length blocks
   pub each : (b : ℕ) (block : Block) (work : Work) → slice_get blocks b ≡ Some block
-      → slice_get works b ≡ Some work → MayTurn net relation plan n b words block work
+      → slice_get works b ≡ Some work → MayTurn net relation plan n (first + b) words block work
 
 -- they have had it, and this tells whether something has happened
-pub record HaveTurned (net : Setup) (plan : Plan) (n : ℕ) (words : ℕ → Router) (turns : ℕ → Turn)
-    (blocks : List Block) (works : List Work) (happened : Bool) : Type 0 where
+pub record HaveTurned (net : Setup) (plan : Plan) (n first : ℕ) (words : ℕ → Router)
+    (turns : ℕ → Turn) (blocks : List Block) (works : List Work) (happened : Bool) : Type 0 where
   pub each : (b : ℕ) (block : Block) (work : Work) → slice_get blocks b ≡ Some block
       → slice_get works b ≡ Some work
-      → HasTurnedBlock net plan n b words turns block work
-      (some_below ROUTERS (λ r. (turns (ROUTERS * b + r)).happened))
+      → HasTurnedBlock net plan n (first + b) words turns block work
+      (some_below ROUTERS (λ r. (turns (ROUTERS * (first + b) + r)).happened))
   pub happened_is : happened
-      ≡ some_below (ROUTERS * length blocks) (λ s. (turns s).happened)
+      ≡ some_below (ROUTERS * length blocks) (λ s. (turns (ROUTERS * first + s)).happened)
 
 -- ---- packets arrive
--- the input channels of router s from which packets leave the network
+-- the input channels of router s from which packets leave the network, where the first router is
+-- the first of them
 abbrev pub arrived_or : RouterPorts → Option Work → ℕ → ℕ
 arrived_or ports None r = 0
 arrived_or ports (Some work) r = set_of (channels_of ports) r work.arrived
@@ -71,26 +67,23 @@ packets_of blocks s = packets_or (slice_get blocks (s / ROUTERS)) (s % ROUTERS)
 
 -- ---- what has left
 -- this has left the routers
-abbrev pub HaveLeft : List Work → List (Links (List ℕ)) → Type 0
-HaveLeft works left =
-    (b : ℕ) (work : Work) → slice_get works b ≡ Some work → left_by left b ≡ work.left
+abbrev pub HaveLeft : ℕ → List Work → List (Links (List ℕ)) → Type 0
+HaveLeft first works left =
+    (b : ℕ) (work : Work) → slice_get works b ≡ Some work → left_by left (first + b) ≡ work.left
 
 -- ---- what is told
--- all routers tell these numbers of packets by output channel
-abbrev pub TellAll : Setup → RouterPorts → List Block → (ℕ → ℕ → Option ℕ) → Type 0
-TellAll net ports blocks tells =
+-- the routers tell these numbers of packets by output channel
+abbrev pub TellAll : Setup → RouterPorts → ℕ → List Block → (ℕ → ℕ → Option ℕ) → Type 0
+TellAll net ports first blocks tells =
     (b r : ℕ) (block : Block) → slice_get blocks b ≡ Some block → r < ROUTERS
-    → Tells net.relation.grid net.relation.vcs (ROUTERS * b + r)
+    → Tells net.relation.grid net.relation.vcs (ROUTERS * (first + b) + r)
     (set_of (channels_of ports) r block.grants.granted) (port_in ports block r)
-    (vc_in ports block r) (packet_in block.packets r) (tells (ROUTERS * b + r))
+    (vc_in ports block r) (packet_in block.packets r) (tells (ROUTERS * (first + b) + r))
 
--- block b holds afterwards the packets that its routers hear of, and all else that it held
-pub record HasHeard (g : Grid) (vcs : ℕ) (tells : ℕ → ℕ → Option ℕ) (b : ℕ) (old new : Block)
-    : Type 0 where
-  pub packets : (r i : ℕ) → r < ROUTERS → ROUTERS * b + r < nodes g → i < ports g * vcs
-      → packet_in new.packets r i
-      ≡ unwrap_or (heard g vcs tells (ROUTERS * b + r) i) (packet_in old.packets r i)
-  pub rest : new ≡ record old { packets = new.packets }
+-- these are the notes of so many blocks
+abbrev pub AreAllNotes : Setup → (ℕ → ℕ → Option ℕ) → ℕ → ℕ → List (Vec Note Global) → Type 0
+AreAllNotes net tells first count notes =
+    (b : ℕ) → b < count → AreNotesBy net tells (first + b) (notes_by notes b)
 
 -- ---- counts
 -- the cycle of a block is counted
@@ -104,3 +97,16 @@ pub record HasCounted (ports : RouterPorts) (block : Block) (work : Work) (old n
   pub last : (r : ℕ) → counted_in old + 1 < 2 ^ 32
       → last_at (channels_of ports) new r ≡ told_at (channels_of ports) block work r
   pub cycles : counted_in new ≡ (counted_in old + 1) % 2 ^ 32
+
+-- ---- what comes
+-- to router r over its links, if it is a router of the network
+abbrev pub coming : Setup → RouterPorts → List (Links (List ℕ)) → ℕ → Links ℕ
+coming net ports left r = if nat_lt r (nodes net.relation.grid)
+    then brought net.relation.grid net.relation.vcs (left_of ports left) r
+    else record { flits = 0; tails = 0; credits = 0 }
+
+-- the links bring it
+abbrev pub HaveGathered : Setup → RouterPorts → ℕ → List (Links (List ℕ)) → List Work → Type 0
+HaveGathered net ports first left works =
+    (b r : ℕ) (work : Work) → slice_get works b ≡ Some work → r < ROUTERS
+    → links_at ports work.came r ≡ coming net ports left (ROUTERS * (first + b) + r)

@@ -5,7 +5,7 @@ use Rattle.noc_topo.specs.Shape.{nodes}
 use Rattle.noc_route.specs.Routes.{Routes}
 use Rattle.noc_view.specs.Found.{empty_finding, finding_at}
 use Rattle.noc_sets.specs.Counts.{ByVerdict, RunOn, nine_counts, with_verdicts}
-use Rattle.noc_sets.specs.Cycle.{Router, Turn}
+use Rattle.noc_sets.specs.Cycle.{Router}
 use Rattle.noc_theory.specs.Good.{IsGoodSetup}
 use Rattle.noc_theory.specs.Lockstep.{findings_before}
 use Rattle.noc_theory.specs.Network.{Setup, size}
@@ -36,11 +36,10 @@ pub record MayRun (relation : Routes) (net : Setup) (n cycles : ℕ) (all : Engi
 pub record HasJustRun (net : Setup) (n most : ℕ) (all : Engine) : Type 0 where
   pub relation : Routes
   pub words : ℕ → Router
-  pub turns : ℕ → Turn
   pub next : ℕ → Router
   pub was : Engine
   pub may : MayStep net relation n words was
-  pub stepped : HasStepped net n words turns next was all
+  pub stepped : HasStepped net n words next was all
   pub within : n + 1 + most ≤ CYCLE_LIMIT
 
 -- so many cycles more were counted of a block that are like the last one, in which nothing happened
@@ -64,6 +63,6 @@ pub record IsNextDue (blocks : List Block) (next : ℕ) : Type 0 where
 
 -- it has what the routers have found in the last cycle that has run
 pub record AreFindings (net : Setup) (all : Engine) : Type 0 where
-  pub each : (r i : ℕ) → r < nodes net.relation.grid → i < size net → 0 < all.cycle
+  pub each : (r i : ℕ) → r < nodes net.relation.grid → i < size net → 0 < all.tile.cycle
       → finding_at all.found.items (r * CHANNELS + i)
-      ≡ slice_index_or (findings_before net all.cycle r) i empty_finding
+      ≡ slice_index_or (findings_before net all.tile.cycle r) i empty_finding

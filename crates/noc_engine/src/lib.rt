@@ -1,11 +1,17 @@
 //! A network by blocks of 64 routers, of which a word is one channel.
 //!
-//! A network is opened (`open`), and one cycle of it (`step`) is a few passes over all blocks
-//! (`passes`): what links bring is gathered, each block has its turn, and what it grants is told. A
-//! run is cycle after cycle (`run`), and where nothing happens in one, time jumps (`waits`). Of a
-//! network it is read what was counted, what was found and what has arrived (`readers`).
+//! A network is opened (`open`) as an engine, whose tile has all its blocks. A cycle of a tile
+//! (`tile`) is a few passes over its blocks (`passes`): each has its turn and tells what it grants,
+//! its blocks and those near it hear that (`told`), and what has left them comes over the links. A
+//! tile can be cut in two, and two that stand side by side joined (`cuts`), so that threads can run
+//! parts of a network.
+//!
+//! One thread runs cycle after cycle of all blocks (`step`, `run`), and where nothing happens in
+//! one, time jumps (`waits`). Of a network it is read what was counted, what was found and what has
+//! arrived (`readers`).
 #![tactic(auto)]
 
+mod cuts;
 mod engine;
 mod finds;
 mod open;
@@ -14,7 +20,12 @@ mod plan;
 mod readers;
 mod run;
 mod step;
+mod tile;
+mod told;
 mod turn;
 mod waits;
 
 pub use engine::Engine;
+pub use plan::Plan;
+pub use tile::Tile;
+pub use told::Told;

@@ -2,6 +2,7 @@
 
 ghost use Rattle.std.specs.Prelude.{◌≡◌, ◌≤◌, ◌<◌, ◌^◌, ℕ, All, IfOk, length, map};
 ghost use Rattle.noc_topo.specs.Shape.{nodes};
+ghost use Rattle.noc_packet.specs.ByNode.{starts_of};
 ghost use Rattle.noc_packet.specs.Packet.{IsWithinLimits};
 ghost use Rattle.noc_packet.specs.declared.limits.TheConstants.{MAX_BUFFER, MAX_PACKETS};
 ghost use Rattle.noc_sets.specs.Cycle.{Router};
@@ -10,13 +11,15 @@ ghost use Rattle.noc_theory.specs.Network.{Setup};
 ghost use Rattle.noc_theory_bits.specs.Starts.{starts_list};
 ghost use Rattle.noc_columns.specs.Routing.{header_of};
 ghost use Rattle.noc_columns.specs.Sources.{starts_by};
-ghost use Rattle.noc_queues.specs.Queues.{AreQueues, IsKept};
-ghost use Rattle.noc_engine.specs.Opened.{HasLeftNothing, IsMadeFrom};
+ghost use Rattle.noc_queues.specs.Queues.{AreByNode, IsKept};
+ghost use Rattle.noc_engine.specs.Opened.{IsMadeFrom};
 ghost use Rattle.noc_engine.specs.Shows.{IsPlanOf, ShowsAt};
 
 use crate::engine::Engine;
 use crate::plan::Plan;
-use noc_columns::{CHANNELS, Header, Links, NEVER, ROUTERS, Start, WORDS, Words};
+use crate::tile::Tile;
+use crate::told::nothing_left;
+use noc_columns::{CHANNELS, Header, NEVER, ROUTERS, Start};
 use noc_counts::no_counts;
 use noc_cycles::{Pattern, all_around, empty_works, open_blocks, room_for_notes};
 use noc_packet::{Memory, Packet};
@@ -39,7 +42,7 @@ impl Engine {
         requires few { length packets.now ≤ MAX_PACKETS }
         requires limits { All IsWithinLimits packets.now }
         requires kept { All IsKept packets.now }
-        requires queues { AreQueues packets.now (nodes relation.now.grid) queues.now }
+        requires queues { AreByNode (starts_of packets.now) (nodes relation.now.grid) queues.now }
         ensures { IfOk result (λ made. (net : Setup)
             → IsMadeFrom relation.now places packets.now net → IsGoodSetup net
             → (words : ℕ → Router) × ShowsAt net 0 words made) }
@@ -53,16 +56,20 @@ impl Engine {
         let left = nothing_left(alloc, count)?;
         let notes = room_for_notes(alloc, count)?;
         let counts = no_counts(alloc, count)?;
-        Ok(Engine {
-            plan,
+        let tile = Tile {
+            first: 0,
             blocks,
             works,
-            left,
-            notes,
             counts,
+            notes,
+            left,
             arrivals: vec![in alloc; NEVER; packets.len()]?,
             last: 0,
             cycle: 0,
+        };
+        Ok(Engine {
+            plan,
+            tile,
             found: vec![in alloc; Finding::EMPTY; nodes * CHANNELS]?,
         })
     }
@@ -108,20 +115,3 @@ fn all_headers(alloc: Global, packets: &[Packet]) -> Result<Vec<Header>, Memory>
     }
     Ok(all)
 }
-
-// Nothing has left so many blocks.
-fn nothing_left(alloc: Global, count: usize) -> Result<Vec<Links<Words>>, Memory>
-    ensures { IfOk result (λ left. HasLeftNothing count left.items) }
-{
-    let mut left = Vec::with_capacity(alloc, count)?;
-    for _ in 0..count {
-        left.push(NOTHING)?;
-    }
-    Ok(left)
-}
-
-const NOTHING: Links<Words> = Links {
-    flits: [0; WORDS],
-    tails: [0; WORDS],
-    credits: [0; WORDS],
-};

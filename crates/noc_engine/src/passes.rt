@@ -1,58 +1,48 @@
-//! The passes of a cycle over all blocks.
+//! The passes of a cycle over blocks that stand side by side. `first` is the number of the first of
+//! them.
 
-ghost use Rattle.std.specs.Prelude.{◌≡◌, ℕ, ◌*◌, ◌<◌, ◌≤◌, Option, Some, length, true, slice_get, slice_index};
+ghost use Rattle.std.specs.Prelude.{◌≡◌, ℕ, ◌+◌, ◌*◌, ◌<◌, ◌≤◌, Option, Some, length, true, slice_get, slice_index};
 ghost use Rattle.noc_packet.specs.Set.{has_bit};
-ghost use Rattle.noc_topo.specs.Shape.{Grid, IsGrid, nodes};
 ghost use Rattle.noc_sets.specs.Cycle.{Router, Turn};
 ghost use Rattle.noc_theory.specs.Good.{IsGoodSetup};
 ghost use Rattle.noc_theory.specs.Network.{Setup};
 ghost use Rattle.noc_columns.specs.declared.words.TheConstants.{ROUTERS};
 ghost use Rattle.noc_counts.specs.declared.counts.Counts.{Counts};
 ghost use Rattle.noc_cycles.specs.Concluding.{HaveArrived};
-ghost use Rattle.noc_cycles.specs.Exchange.{AreAllNotes};
 ghost use Rattle.noc_cycles.specs.Told.{HaveRoom};
 ghost use Rattle.noc_cycles.specs.declared.block.Block.{Block};
 ghost use Rattle.noc_cycles.specs.declared.block.Work.{Work};
-ghost use Rattle.noc_engine.specs.Passes.{HasCounted, HasHeard, HaveGathered, HaveLeft, HaveTurned, MayTurnAll, TellAll, arrived_of, packets_of};
+ghost use Rattle.noc_engine.specs.Passes.{AreAllNotes, HasCounted, HaveGathered, HaveLeft, HaveTurned, MayTurnAll, TellAll, arrived_of, packets_of};
 ghost use Rattle.noc_engine.specs.Shows.{IsPlanOf};
 
 use crate::plan::Plan;
 use crate::turn::turn;
-use noc_columns::{Links, Words};
+use noc_columns::{Links, WORDS, Words};
 use noc_counts::Counts;
-use noc_cycles::{Block, Note, Work, arrive_all};
+use noc_cycles::{Block, Note, Work, arrive_all, gather_links, tell};
 use noc_route::Relation;
-
-// What has left all blocks comes over the links.
-pub(crate) fn gather_all(plan: &Plan, left: &[Links<Words>], works: &mut [Work])
-    requires plan { (net : Setup) × IsGoodSetup net × IsPlanOf net plan.now }
-    requires left { length left.now ≡ length plan.now.around.items }
-    requires works { length works.old ≡ length plan.now.around.items }
-    ensures { (net : Setup) → IsGoodSetup net → IsPlanOf net plan.now
-        → HaveGathered net plan.now.pattern.table.ports left.now works.new }
-{
-    noc_cycles::gather_all(&plan.pattern, &plan.around, left, works);
-}
 
 // Each block has its turn. The answer is whether something happens in one.
 pub(crate) fn turn_all(
     plan: &Plan,
     relation: &Relation,
     cycle: u32,
+    first: usize,
     blocks: &mut [Block],
     works: &mut [Work],
 ) -> bool
     requires { (net : Setup) × (words : ℕ → Router)
-        × MayTurnAll net relation.now plan.now cycle words blocks.old works.old }
+        × MayTurnAll net relation.now plan.now cycle first words blocks.old works.old }
     ensures { (net : Setup) (words : ℕ → Router)
-        → MayTurnAll net relation.now plan.now cycle words blocks.old works.old
+        → MayTurnAll net relation.now plan.now cycle first words blocks.old works.old
         → (turns : ℕ → Turn)
-        × HaveTurned net plan.now cycle words turns blocks.new works.new result }
+        × HaveTurned net plan.now cycle first words turns blocks.new works.new result }
 {
     let mut happened = false;
     for number in 0..blocks.len() {
         let block = &mut blocks[number];
-        happened |= turn(plan, relation, cycle, number, block, &mut works[number]);
+        let work = &mut works[number];
+        happened |= turn(plan, relation, cycle, first + number, block, work);
     }
     happened
 }
@@ -85,46 +75,44 @@ pub(crate) fn arrive_blocks(
 }
 
 // What has left each block is kept.
-pub(crate) fn keep_left(works: &[Work], left: &mut [Links<Words>])
-    requires { length left.old ≡ length works.now }
-    ensures { HaveLeft works.now left.new }
+pub(crate) fn keep_left(first: usize, works: &[Work], left: &mut [Links<Words>])
+    requires { first + length works.now ≤ length left.old }
+    ensures { HaveLeft first works.now left.new }
 {
     for number in 0..works.len() {
-        keep(&works[number].left, &mut left[number]);
+        keep(&works[number].left, &mut left[first + number]);
     }
 }
 
 // .. one block.
-fn keep(from: &Links<Words>, to: &mut Links<Words>)
+pub(crate) fn keep(from: &Links<Words>, to: &mut Links<Words>)
     ensures { to.new ≡ from.now }
 {
-    to.flits = from.flits;
-    to.tails = from.tails;
-    to.credits = from.credits;
+    // (In one loop, since three copies of this size would be three calls.)
+    for i in 0..WORDS {
+        to.flits[i] = from.flits[i];
+        to.tails[i] = from.tails[i];
+        to.credits[i] = from.credits[i];
+    }
 }
 
 // The packets that are granted channels of links are noted for the other ends.
-pub(crate) fn tell_all(plan: &Plan, blocks: &[Block], notes: &mut [Vec<Note>])
+pub(crate) fn tell_all(plan: &Plan, first: usize, blocks: &[Block], notes: &mut [Vec<Note>])
     requires told { (net : Setup) × (tells : ℕ → ℕ → Option ℕ) × IsGoodSetup net
-        × IsPlanOf net plan.now × TellAll net plan.now.pattern.table.ports blocks.now tells }
-    requires blocks { length blocks.now ≡ length plan.now.around.items }
-    requires room { HaveRoom (length plan.now.around.items) notes.old }
+        × IsPlanOf net plan.now
+        × TellAll net plan.now.pattern.table.ports first blocks.now tells }
+    requires blocks { first + length blocks.now ≤ length plan.now.around.items }
+    requires room { HaveRoom (length blocks.now) notes.old }
     ensures noted { (net : Setup) (tells : ℕ → ℕ → Option ℕ) → IsGoodSetup net
-        → IsPlanOf net plan.now → TellAll net plan.now.pattern.table.ports blocks.now tells
-        → AreAllNotes net.relation.grid net.relation.vcs tells notes.new }
-    ensures room { HaveRoom (length plan.now.around.items) notes.new }
+        → IsPlanOf net plan.now
+        → TellAll net plan.now.pattern.table.ports first blocks.now tells
+        → AreAllNotes net tells first (length blocks.now) notes.new }
+    ensures room { HaveRoom (length blocks.now) notes.new }
 {
-    noc_cycles::tell_all(&plan.pattern, &plan.around, blocks, notes);
-}
-
-// The routers hear of the packets that hold their channels from now on.
-pub(crate) fn hear_all(notes: &[Vec<Note>], blocks: &mut [Block])
-    ensures { (g : Grid) (vcs : ℕ) (tells : ℕ → ℕ → Option ℕ) (b : ℕ) (old new : Block)
-        → IsGrid g → nodes g ≤ ROUTERS * length notes.now → AreAllNotes g vcs tells notes.now
-        → slice_get blocks.old b ≡ Some old → slice_get blocks.new b ≡ Some new
-        → HasHeard g vcs tells b old new }
-{
-    noc_cycles::hear_all(notes, blocks);
+    for number in 0..blocks.len() {
+        let around = &plan.around[first + number];
+        tell(&plan.pattern, around, &blocks[number], &mut notes[number]);
+    }
 }
 
 // What the routers have done is counted.
@@ -138,5 +126,19 @@ pub(crate) fn count_all(plan: &Plan, blocks: &[Block], works: &[Work], counts: &
 {
     for number in 0..blocks.len() {
         counts[number].count(&plan.pattern.frame, &blocks[number], &works[number]);
+    }
+}
+
+// What has left the blocks of the network comes over the links to these.
+pub(crate) fn gather_all(plan: &Plan, first: usize, left: &[Links<Words>], works: &mut [Work])
+    requires plan { (net : Setup) × IsGoodSetup net × IsPlanOf net plan.now }
+    requires left { length left.now ≡ length plan.now.around.items }
+    requires works { first + length works.old ≤ length plan.now.around.items }
+    ensures { (net : Setup) → IsGoodSetup net → IsPlanOf net plan.now
+        → HaveGathered net plan.now.pattern.table.ports first left.now works.new }
+{
+    for number in 0..works.len() {
+        let around = &plan.around[first + number];
+        gather_links(&plan.pattern, around, left, &mut works[number].came);
     }
 }

@@ -5,13 +5,13 @@ use noc_cycles::{Around, Pattern};
 
 /// What a network was made from, in the words of its blocks.
 #[derive(Drop)]
-pub(crate) struct Plan {
+pub struct Plan {
     /// What all routers have alike.
-    pub(crate) pattern: Pattern,
+    pub pattern: Pattern,
     /// By block, where its links lead.
-    pub(crate) around: Vec<Around>,
+    pub around: Vec<Around>,
     /// The packets of all sources, one source after the other.
-    pub(crate) starts: Vec<Start>,
+    pub starts: Vec<Start>,
     /// The headers of the packets, by number.
-    pub(crate) headers: Vec<Header>,
+    pub headers: Vec<Header>,
 }

@@ -20,7 +20,7 @@ impl Engine {
         ensures { (net : Setup) (n : ℕ) → ShowsRun net n self.now
             → packet < length net.packets → result ≡ arrival_in net (state_at net n) packet }
     {
-        let cycle = self.arrivals[packet];
+        let cycle = self.tile.arrivals[packet];
         if cycle == NEVER {
             None
         } else {
@@ -40,8 +40,8 @@ impl Engine {
     {
         let table = &self.plan.pattern.table;
         let channel = port * table.ports.links.vcs + vc;
-        let counts = &self.counts[router / ROUTERS];
-        counts.counts_of(table, router % ROUTERS, channel, self.cycle)
+        let counts = &self.tile.counts[router / ROUTERS];
+        counts.counts_of(table, router % ROUTERS, channel, self.tile.cycle)
     }
 
     /// What a router has found in the last cycle, of each input channel, by port and virtual
@@ -52,7 +52,7 @@ impl Engine {
         ensures { (net : Setup) (n : ℕ) → ShowsRun net n self.now → AreFindings net self.now
             → router < nodes net.relation.grid → result.now ≡ findings_before net n router }
     {
-        if self.cycle == 0 {
+        if self.tile.cycle == 0 {
             return &[];
         }
         let links = &self.plan.pattern.table.ports.links;
@@ -66,10 +66,10 @@ impl Engine {
         ensures { (net : Setup) (n : ℕ) → IsGoodSetup net → ShowsRun net n self.now
             → result ≡ last_event_before net n }
     {
-        if self.last == 0 {
+        if self.tile.last == 0 {
             None
         } else {
-            Some(u64::from(self.last - 1))
+            Some(u64::from(self.tile.last - 1))
         }
     }
 }

@@ -38,9 +38,9 @@ impl Engine {
         }
     }
 
-    // Runs one cycle, and those after it that are like it where nothing happens in it, at most so
-    // many in all. The answer is how many it has run.
-    fn advance(&mut self, relation: &Relation, most: u32) -> u32
+    /// Runs one cycle, and those after it that are like it where nothing happens in it, at most so
+    /// many in all. The answer is how many it has run.
+    pub fn advance(&mut self, relation: &Relation, most: u32) -> u32
         requires some { 0 < most }
         requires may { (net : Setup) × (n : ℕ) × MayRun relation.now net n most self.old }
         ensures some { 0 < result }

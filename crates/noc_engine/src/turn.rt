@@ -53,10 +53,13 @@ fn does_something(pattern: &Pattern, comes: u64, block: &Block, work: &Work) -> 
         (bit_or (bit_or (set r work.now.standing.heads) (set r block.now.grants.granted))
         (set r work.now.verdicts.moved)) 0)) }
 {
+    if comes != 0 {
+        return true;
+    }
     let heads = some_of(pattern, &work.standing.heads);
     let granted = some_of(pattern, &block.grants.granted);
     let moved = some_of(pattern, &work.verdicts.moved);
-    (comes | heads | granted | moved) != 0
+    (heads | granted | moved) != 0
 }
 
 // The routers that have a channel in these words.
@@ -65,7 +68,6 @@ fn some_of(pattern: &Pattern, words: &Words) -> u64
     ensures { (r : ℕ) → has_bit result r
         ≡ not (nat_eq (set_of (channels_of pattern.now.table.ports) r words.now) 0) }
 {
-    let links = pattern.table.ports.links.vcs * pattern.table.ports.links.width;
-    let local = &pattern.table.ports.local;
-    some_in(words, 0, links) | some_in(words, local.first, local.vcs)
+    let links = &pattern.table.ports.links;
+    some_in(words, 0, links.vcs * links.width + links.vcs)
 }

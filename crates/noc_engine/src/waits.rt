@@ -1,6 +1,6 @@
 //! Time that jumps over cycles that are like the one before them.
 
-ghost use Rattle.std.specs.Prelude.{◌≡◌, ℕ, ◌+◌, ◌≤◌, Some};
+ghost use Rattle.std.specs.Prelude.{◌≡◌, ◌≢◌, ℕ, ◌+◌, ◌-◌, ◌≤◌, Some, min};
 ghost use Rattle.std.specs.List.{slice_get};
 ghost use Rattle.noc_theory.specs.Network.{Setup};
 ghost use Rattle.noc_counts.specs.declared.counts.Counts.{Counts};
@@ -20,14 +20,17 @@ impl Engine {
         ensures within { result ≤ most }
         ensures shows { (net : Setup) (n : ℕ) → HasJustRun net n most self.old
             → ShowsRun net (n + 1 + result) self.new }
+        ensures jumps { self.old.tile.last ≢ self.old.tile.cycle → (next : ℕ)
+            × IsNextDue self.old.tile.blocks.items next
+            × (result ≡ min (next - self.old.tile.cycle) most) }
     {
-        if self.last == self.cycle {
+        if self.tile.is_busy() {
             return 0;
         }
-        let due = next_due(&self.blocks);
-        let times = due.saturating_sub(self.cycle).min(most);
-        repeat_all(&self.plan, times, self.counts.as_mut_slice());
-        self.cycle += times;
+        let due = next_due(&self.tile.blocks);
+        let times = due.saturating_sub(self.tile.cycle).min(most);
+        repeat_all(&self.plan, times, self.tile.counts.as_mut_slice());
+        self.tile.cycle += times;
         times
     }
 }

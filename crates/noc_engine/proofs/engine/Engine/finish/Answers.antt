@@ -1,5 +1,6 @@
 use Rattle.std.proofs.Common.{arith}
 use Rattle.noc_engine.proofs.RunLemmas.{just-run, may-step}
+use Rattle.noc_engine.proofs.WholeLemmas.{next-shown}
 use Rattle.noc_engine.proofs.engine.Engine.finish.Goals as goal
 
 pub step-requires : goal.step-requires
@@ -11,7 +12,7 @@ step-requires c =
     }
 
 pub returns-clause-shows : goal.returns-clause-shows
-returns-clause-shows c = λ net n may. let has = just-run c.args.relation.now net n 1 c.args.self.now (omega arith) may c.step.new.self c.step.ensures.stepped in (has.next, has.stepped.shows)
+returns-clause-shows c = λ net n may. let has = just-run c.args.relation.now net n 1 c.args.self.now (omega arith) may c.step.new.self c.step.ensures.stepped in (has.next, next-shown net n has.words has.next has.was c.step.new.self has.may.shows has.stepped)
 
 pub returns-clause-found : goal.returns-clause-found
 returns-clause-found c = λ net n may.

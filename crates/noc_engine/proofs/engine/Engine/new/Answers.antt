@@ -36,6 +36,7 @@ returns c = λ net made good.
       notes = c.in_ok-notes.ensures;
       counts = c.in_ok-counts.ensures;
       arrivals = c.in_ok-vec.ensures.items_if_clones_equal (λ y e. search rules) ∙ ap (λ (p : List Packet). replicate (length p) 4294967295) (sym made.packets_are);
+      first = refl;
       last = refl;
       cycle = refl;
       found = ap length (c.in_ok-vec-2.ensures.items_if_clones_equal (λ y e. search rules)) ∙ length-replicate (c.nodes-nodes.result * 64) _ ∙ ap (λ n. n * 64) nodes-are;

@@ -1,0 +1,84 @@
+//! Tiles that are cut, and joined again.
+
+ghost use Rattle.std.specs.Prelude.{◌≡◌, ℕ, ◌+◌, ◌/◌, ◌<◌, ◌≤◌, IfOk, OnOk, length, slice_index, if◌then◌else◌};
+ghost use Rattle.noc_theory.specs.Network.{Setup};
+ghost use Rattle.noc_columns.specs.Routing.{header_in};
+ghost use Rattle.noc_columns.specs.declared.words.TheConstants.{ROUTERS};
+ghost use Rattle.noc_engine.specs.Shows.{has_block};
+ghost use Rattle.noc_engine.specs.Tiles.{IsCut, IsJoined, Shows};
+ghost use Rattle.noc_engine.specs.declared.plan.Plan.{Plan};
+
+use crate::plan::Plan;
+use crate::tile::Tile;
+use crate::told::nothing_left;
+use noc_columns::{Header, ROUTERS};
+use noc_packet::Memory;
+use std::alloc::Global;
+
+impl Tile {
+    /// Whether it has the block with this number.
+    pub fn has_block(&self, block: usize) -> bool
+        ensures { result ≡ has_block self.now block }
+    {
+        self.first <= block && block - self.first < self.blocks.len()
+    }
+
+    /// Cuts it at a block, by its number in the network: the blocks from that one on are a tile of
+    /// their own.
+    pub fn cut(&mut self, alloc: Global, at: usize) -> Result<Tile, Memory>
+        requires shows { (net : Setup) × (plan : Plan) × (n : ℕ) × Shows net plan n self.old }
+        requires at { (self.old.first ≤ at)
+            × (at ≤ self.old.first + length self.old.blocks.items) }
+        ensures { IfOk result (λ there. IsCut at self.old self.new there) }
+    {
+        let kept = at - self.first;
+        let left = nothing_left(alloc, self.left.len())?;
+        let arrivals = self.arrivals.to_vec(alloc)?;
+        let blocks = self.blocks.split_off(kept)?;
+        let works = self.works.split_off(kept)?;
+        let counts = self.counts.split_off(kept)?;
+        let notes = self.notes.split_off(kept)?;
+        Ok(Tile {
+            first: at,
+            blocks,
+            works,
+            counts,
+            notes,
+            left,
+            arrivals,
+            last: self.last,
+            cycle: self.cycle,
+        })
+    }
+
+    /// Joins it with the tile of the blocks behind its own.
+    pub fn join(&mut self, plan: &Plan, mut there: Tile) -> Result<(), Memory>
+        requires shows { (net : Setup) × (n : ℕ) × Shows net plan.now n self.old
+            × Shows net plan.now n there }
+        requires beside { there.first ≡ self.old.first + length self.old.blocks.items }
+        ensures { OnOk result (IsJoined plan.now self.old there self.new) }
+    {
+        take_arrivals(&plan.headers, &there, self.arrivals.as_mut_slice());
+        self.blocks.append(&mut there.blocks)?;
+        self.works.append(&mut there.works)?;
+        self.counts.append(&mut there.counts)?;
+        self.notes.append(&mut there.notes)?;
+        self.last = self.last.max(there.last);
+        Ok(())
+    }
+}
+
+// When those of these packets arrived that end in a tile is taken from there.
+fn take_arrivals(headers: &[Header], tile: &Tile, arrivals: &mut [u32])
+    requires tile { length tile.now.arrivals.items ≡ length headers.now }
+    requires arrivals { length arrivals.old ≡ length headers.now }
+    ensures { (p : ℕ) → p < length headers.now → slice_index arrivals.new p
+        ≡ (if has_block tile.now ((header_in headers.now p).destination / ROUTERS)
+        then slice_index tile.now.arrivals.items p else slice_index arrivals.old p) }
+{
+    for packet in 0..headers.len() {
+        if tile.has_block(usize::from(headers[packet].destination) / ROUTERS) {
+            arrivals[packet] = tile.arrivals[packet];
+        }
+    }
+}
