@@ -1,0 +1,12 @@
+pub mod RoundLemmas
+pub mod MailLemmas
+pub mod PostLemmas
+pub mod WorkerLemmas
+pub mod SideLemmas
+pub mod ThreadLemmas
+pub mod MeetLemmas
+pub mod CutLemmas
+pub mod ApartLemmas
+pub mod ByLemmas
+pub mod SendLemmas
+pub mod NearLemmas

@@ -1,0 +1,4 @@
+pub mod Mails
+pub mod Rounds
+pub mod Workers
+pub mod Cuts

@@ -1,0 +1,68 @@
+//! What a tile of a network sends another one in a cycle.
+
+ghost use Rattle.std.specs.Prelude.{◌≡◌, ℕ, Bool, true, All, IfOk, length};
+ghost use Rattle.noc_theory.specs.Network.{Setup};
+ghost use Rattle.noc_workers.specs.Mails.{HasHeard, IsMail, blocks_in, with_blocks};
+ghost use Rattle.noc_workers.specs.Rounds.{start_by, start_in};
+ghost use Rattle.noc_engine.specs.Shows.{has_block};
+ghost use Rattle.noc_engine.specs.declared.plan.Plan.{Plan};
+
+use crate::origin::{Origin, Run};
+use noc_engine::{Tile, Told};
+use noc_packet::Memory;
+use std::alloc::Global;
+
+/// What blocks of a tile tell another tile in a cycle. It goes by value, and is small.
+#[derive(Drop)]
+pub(crate) struct Mail {
+    /// What each of them tells.
+    pub(crate) told: Vec<Told>,
+    /// The run of which it is.
+    pub(crate) start: Origin,
+}
+
+impl Mail {
+    /// A mail of these blocks of this run, in which nothing is told.
+    pub(crate) fn new(alloc: Global, blocks: &[usize], run: &Run<'_>) -> Result<Mail, Memory>
+        ensures blocks { IfOk result (λ mail. blocks_in mail ≡ blocks.now) }
+        ensures start { IfOk result (λ mail. start_in mail ≡ start_by run.now) }
+    {
+        let mut told = Vec::new(alloc);
+        for block in blocks {
+            told.push(Told::new(alloc, *block)?)?;
+        }
+        Ok(Mail {
+            told,
+            start: Origin::of(run),
+        })
+    }
+
+    /// Writes what these blocks of a tile tell in the cycle that it has run.
+    pub(crate) fn write(&mut self, tile: &Tile, blocks: &[usize])
+        requires places { length self.old.told.items ≡ length blocks.now }
+        requires own { All (λ b. has_block tile.now b ≡ true) blocks.now }
+        requires ran { (net : Setup) × (plan : Plan) × (n : ℕ) × (from : ℕ → Bool) × (was : Tile)
+            × HasHeard net plan n from was tile.now }
+        ensures blocks { blocks_in self.new ≡ blocks.now }
+        ensures start { self.new.start ≡ self.old.start }
+        ensures is { (net : Setup) (plan : Plan) (n : ℕ) (from : ℕ → Bool) (was : Tile)
+            → HasHeard net plan n from was tile.now → IsMail net plan n self.new }
+    {
+        for k in 0..blocks.len() {
+            tile.tell(blocks[k], &mut self.told[k]);
+        }
+    }
+
+    /// Has a tile hear what it says of the cycle that the tile has run.
+    pub(crate) fn tell(&self, tile: &mut Tile)
+        requires { (net : Setup) × (plan : Plan) × (n : ℕ) × (from : ℕ → Bool) × (was : Tile)
+            × HasHeard net plan n from was tile.old × IsMail net plan n self.now }
+        ensures { (net : Setup) (plan : Plan) (n : ℕ) (from : ℕ → Bool) (was : Tile)
+            → HasHeard net plan n from was tile.old → IsMail net plan n self.now
+            → HasHeard net plan n (with_blocks from (blocks_in self.now)) was tile.new }
+    {
+        for told in &self.told {
+            tile.hear(told);
+        }
+    }
+}

@@ -1,0 +1,120 @@
+//! The rings between two tiles, and waiting at them.
+
+ghost use Rattle.std.specs.Prelude.{◌≡◌, ℕ, ◌+◌, ◌<◌, ◌++◌, ◌∷◌, [], Bool, false, length, IsTrue};
+ghost use Rattle.rtrb.specs.Ring.{known_items, received, sent};
+ghost use Rattle.noc_workers.specs.Mails.{HasHeard, HasSameBlocks, with_blocks};
+ghost use Rattle.noc_workers.specs.Rounds.{Follows, Start};
+ghost use Rattle.noc_engine.specs.Shows.{has_block};
+ghost use Rattle.noc_workers.specs.Workers.{IsPost, IsReadyPost, near_in};
+
+use crate::mail::Mail;
+use noc_engine::Tile;
+use noc_waiting::rested;
+use rtrb::{Consumer, Producer, Protocol};
+use std::alloc::Global;
+use std::sync::Wait;
+
+/// What a ring between two tiles carries.
+pub(crate) struct Rounds;
+
+impl Protocol<Mail> for Rounds {
+    ghost allows = { λ sent mail. Follows sent mail };
+}
+
+/// The rings between a tile and another one, in both directions.
+#[derive(Drop)]
+pub(crate) struct Post {
+    /// The blocks of the tile that tell by it, one for each place of a mail.
+    pub(crate) blocks: Vec<usize>,
+    /// The mail that goes next: none while it is on its way, until the other's has come.
+    pub(crate) mail: Option<Mail>,
+    pub(crate) out: Producer<Mail, Global, Rounds>,
+    pub(crate) back: Consumer<Mail, Global, Rounds>,
+}
+
+impl Post {
+    /// Sends what its blocks tell in the cycle that their tile has run, and waits until it is on
+    /// its way. False where the other tile is gone.
+    pub(crate) fn send(&mut self, rt: &impl Wait, tile: &Tile) -> bool
+        requires { (start : Start) × (c : ℕ) × (was : Tile)
+            × HasHeard start.net start.plan (start.cycle + c) (λ b. false) was tile.now
+            × IsReadyPost start (has_block was) c self.old }
+        ensures near { near_in self.new ≡ near_in self.old }
+        ensures sent { IsTrue result → (start : Start) (c : ℕ) (was : Tile)
+            → HasHeard start.net start.plan (start.cycle + c) (λ b. false) was tile.now
+            → IsReadyPost start (has_block was) c self.old
+            → IsPost start (has_block was) (c + 1) c self.new }
+    {
+        let Some(mut mail) = self.mail.take() else {
+            return false;
+        };
+        mail.write(tile, self.blocks.as_slice());
+        self.put(rt, mail)
+    }
+
+    // Waits until there is room for the mail, and sends it. False where the other tile is gone.
+    fn put(&mut self, rt: &impl Wait, mail: Mail) -> bool
+        requires { Follows (sent self.old.out) mail }
+        ensures blocks { self.new.blocks ≡ self.old.blocks }
+        ensures back { self.new.back ≡ self.old.back }
+        ensures sent { IsTrue result → sent self.new.out ≡ sent self.old.out ++ mail ∷ [] }
+    {
+        let mut looks = 0u32;
+        for _ in rt.forever() {
+            if !self.out.is_full() {
+                self.out.push_reserved(mail);
+                return true;
+            }
+            if self.out.is_abandoned() {
+                return false;
+            }
+            looks = rested(rt, looks);
+        }
+        unreachable!()
+    }
+
+    /// Waits for what the other tile's blocks tell in the cycle that the tile has run, and has it
+    /// hear that. False where the other tile is gone.
+    pub(crate) fn receive(&mut self, rt: &impl Wait, tile: &mut Tile) -> bool
+        requires { (start : Start) × (c : ℕ) × (from : ℕ → Bool) × (was : Tile)
+            × HasHeard start.net start.plan (start.cycle + c) from was tile.old
+            × IsPost start (has_block was) (c + 1) c self.old }
+        ensures near { near_in self.new ≡ near_in self.old }
+        ensures tile { HasSameBlocks tile.old tile.new }
+        ensures heard { IsTrue result → (start : Start) (c : ℕ) (from : ℕ → Bool) (was : Tile)
+            → HasHeard start.net start.plan (start.cycle + c) from was tile.old
+            → IsPost start (has_block was) (c + 1) c self.old
+            → HasHeard start.net start.plan (start.cycle + c)
+            (with_blocks from (near_in self.old)) was tile.new
+            × IsReadyPost start (has_block was) (c + 1) self.new }
+    {
+        if !self.wait(rt) {
+            return false;
+        }
+        let mail = self.back.pop_known();
+        mail.tell(tile);
+        self.mail = Some(mail);
+        true
+    }
+
+    // Waits until a mail is there. False where the other tile is gone and has left none.
+    fn wait(&mut self, rt: &impl Wait) -> bool
+        ensures blocks { self.new.blocks ≡ self.old.blocks }
+        ensures out { self.new.out ≡ self.old.out }
+        ensures back { received self.new.back ≡ received self.old.back }
+        ensures there { IsTrue result → 0 < length (known_items self.new.back) }
+    {
+        let mut looks = 0u32;
+        for _ in rt.forever() {
+            if !self.back.is_empty() {
+                return true;
+            }
+            if self.back.is_abandoned() {
+                // (it may have sent one since, and then ended)
+                return !self.back.is_empty();
+            }
+            looks = rested(rt, looks);
+        }
+        unreachable!()
+    }
+}
