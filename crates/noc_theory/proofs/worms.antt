@@ -36,3 +36,5 @@ pub mod ListedLemmas
 pub mod CameLemmas
 pub mod OneBackLemmas
 pub mod NetworkLemmas
+pub mod OneOutLemmas
+pub mod TurnLemmas

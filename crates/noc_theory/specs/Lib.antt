@@ -9,3 +9,4 @@ pub mod Order
 pub mod Progress
 pub mod Worm
 pub mod Seen
+pub mod Waiting

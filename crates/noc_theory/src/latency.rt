@@ -1,9 +1,11 @@
 //! How long packets take.
 
-ghost use Rattle.std.specs.Prelude.{◌≡◌, ◌+◌, ◌<◌, ◌≤◌, ℕ, Option, Some, length};
+ghost use Rattle.std.specs.Prelude.{◌≡◌, ◌+◌, ◌-◌, ◌*◌, ◌<◌, ◌≤◌, ℕ, List, Option, Some, true, is_some, length, sum_by};
+ghost use Rattle.noc_topo.specs.Lists.{Each};
 ghost use Rattle.noc_theory.specs.Network.{Setup, packet_at, state_at, arrival_in};
 ghost use Rattle.noc_theory.specs.Alone.{IsAlone, IsApart, zero_load_latency};
 ghost use Rattle.noc_theory.specs.Good.{IsWellFormedSetup};
+ghost use Rattle.noc_theory.specs.Waiting.{AreWaiting};
 
 /// A packet that is alone takes exactly its latency at zero load, where each buffer has two slots
 /// or more: three cycles for each hop, two more, and one for each flit behind the head. So it is on
@@ -29,4 +31,15 @@ pub fn a_packet_alone_is_apart_from_others()
         → p < length net.packets → IsAlone net p → IsApart net p }
     ensures alone { (net : Setup) (p : ℕ) → IsWellFormedSetup net → 2 ≤ net.depth
         → p < length net.packets → IsApart net p → IsAlone net p }
+{}
+
+/// Until packets to one node are out, it takes a cycle for each of their flits, since a node takes
+/// one flit in a cycle. But flits of some may be out before: of as many packets as there are
+/// virtual channels, all but the tail.
+pub fn packets_to_a_node_take_turns()
+    ensures { (net : Setup) (n k node longest : ℕ) (packets : List ℕ) → IsWellFormedSetup net
+        → AreWaiting net n node longest packets
+        → Each (λ p. is_some (arrival_in net (state_at net (n + k)) p) ≡ true) packets
+        → sum_by (λ p. (packet_at net p).length) packets
+        ≤ k + net.relation.vcs * (longest - 1) }
 {}

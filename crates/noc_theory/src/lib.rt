@@ -6,9 +6,9 @@
 //! `Order`). What a network needs so that the laws hold of it stands in `Good`. The laws of states
 //! ask for `IsWellFormedSetup`, which has no limits on packets, and those of routers for
 //! `IsGoodSetup`. `ownership`, `views`, `progress` and `latency` have the laws: how packets stand
-//! in every state, that the routers in lockstep show it, and that a ranked network goes on. Two
-//! more say that a network in which nothing happens stays as it is until a packet is due, and how
-//! long a packet takes that is alone.
+//! in every state, that the routers in lockstep show it, and that a ranked network goes on. Three
+//! more say that a network in which nothing happens stays as it is until a packet is due, how long
+//! a packet takes that is alone, and how long packets to one node take at least.
 #![tactic(auto)]
 
 mod event;
@@ -20,12 +20,15 @@ mod progress;
 mod views;
 
 pub use event::{Event, NotReady};
-pub use latency::{a_packet_alone_is_apart_from_others, a_packet_alone_is_never_held_up};
+pub use latency::{
+    a_packet_alone_is_apart_from_others, a_packet_alone_is_never_held_up,
+    packets_to_a_node_take_turns,
+};
 pub use laws::{a_good_setup_is_well_formed, findings_change_nothing, takes_commute};
 pub use limits::CYCLE_LIMIT;
 pub use ownership::{
-    a_link_carries_one_credit, a_link_carries_one_flit, credits_are_the_free_slots,
-    flits_go_out_in_order, packets_keep_worm_order,
+    a_link_carries_one_credit, a_link_carries_one_flit, a_node_takes_one_flit_in_a_cycle,
+    credits_are_the_free_slots, flits_go_out_in_order, packets_keep_worm_order,
 };
 pub use progress::{
     a_ranked_network_is_never_stuck, a_stuck_network_stays_stuck,

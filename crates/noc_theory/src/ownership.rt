@@ -52,3 +52,12 @@ pub fn a_link_carries_one_credit()
         → Has (Link r port v) (state_at net n).back → Has (Link r port w) (state_at net n).back
         → v ≡ w }
 {}
+
+/// A node takes at most one flit in a cycle: two flits to one node that went out in one cycle are
+/// one flit.
+pub fn a_node_takes_one_flit_in_a_cycle()
+    ensures { (net : Setup) (n p i q j cycle : ℕ) → IsWellFormedSetup net → IsValid net p i
+        → IsValid net q j → (packet_at net p).destination ≡ (packet_at net q).destination
+        → place_of_flit net (state_at net n) p i ≡ Out cycle
+        → place_of_flit net (state_at net n) q j ≡ Out cycle → (p ≡ q) × (i ≡ j) }
+{}

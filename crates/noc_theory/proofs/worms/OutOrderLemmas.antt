@@ -25,47 +25,57 @@ module _ (net : Setup) where
 
   module _ (built : IsBuilt net) (wired : IsWired net) where
     -- a step by which what is out was out
-    kept : (n : ℕ) (S T : State) → ((p i k : ℕ) → IsValid net p i → place_of_flit net T p i ≡ Out k → place_of_flit net S p i ≡ Out k) → IsOutInOrder n S → IsOutInOrder n T
+    abbrev WasOut : State → State → Type 0
+    WasOut S T = (p i k : ℕ) → IsValid net p i → place_of_flit net T p i ≡ Out k → place_of_flit net S p i ≡ Out k
+
+    kept : (n : ℕ) (S T : State) → WasOut S T → IsOutInOrder n S → IsOutInOrder n T
     kept n S T h o = record {
       before = λ p i k v e. o.before p i k v (h p i k v e);
       rising = λ p i j a b v l e f. let vj = v.1 in o.rising p i j a b v l (h p i a (valid-below net built p i j v (omega arith)) e) (h p j b v f);
     }
 
-    out-landing : (n : ℕ) (S : State) → IsSoundState net S → IsOutInOrder n S → IsOutInOrder n (after_landing net S)
+    out-landing : (S : State) → IsSoundState net S → WasOut S (after_landing net S)
     unfolding after_landing
-    out-landing n S s o = kept n S (after_landing net S) (λ p i k v e. out-landed net (place_of_flit net S p i) k (sym (place-stepped net (λ (f : Located). landed_place net f.place) S (after_landing net S) s.keyed refl p i v) ∙ e)) o
+    out-landing S s p i k v e = out-landed net (place_of_flit net S p i) k (sym (place-stepped net (λ (f : Located). landed_place net f.place) S (after_landing net S) s.keyed refl p i v) ∙ e)
 
-    out-injection : (n : ℕ) (S : State) → IsSoundFrozen net S → IsOutInOrder n S → IsOutInOrder n (after_injection net n S)
-    out-injection n S s o = kept n S (after_injection net n S) (λ p i k v e. at p i k v e (entries-move net built S s.keyed s.worm n p v.0)) o
+    out-injection : (n : ℕ) (S : State) → IsSoundFrozen net S → WasOut S (after_injection net n S)
+    out-injection n S s p i k v e = at (entries-move net built S s.keyed s.worm n p v.0)
       where
-        at : (p i k : ℕ) → IsValid net p i → place_of_flit net (after_injection net n S) p i ≡ Out k
-            → IsInjected net built S.own (place_of_flit net S) s.worm (all_entries net built S s.keyed s.worm n) (entries-are net built S s.keyed s.worm n) (entries-apart net built S s.keyed s.worm n) (place_of_flit net (after_injection net n S)) p
+        at : IsInjected net built S.own (place_of_flit net S) s.worm (all_entries net built S s.keyed s.worm n) (entries-are net built S s.keyed s.worm n) (entries-apart net built S s.keyed s.worm n) (place_of_flit net (after_injection net n S)) p
             → place_of_flit net S p i ≡ Out k
-        at p i k v e (inl x) = sym (x.0 i v) ∙ e
-        at p i k v e (inr x) = by (cases_eq i x.3.flit)
+        at (inl x) = sym (x.0 i v) ∙ e
+        at (inr x) = by (cases_eq i x.3.flit)
           where
             by : (i ≡ x.3.flit) ⊎ (i ≡ x.3.flit → ⊥) → place_of_flit net S p i ≡ Out k
             by (inl f) = let z : In x.0.channel ≡ Out k = sym (ap (place_of_flit net (after_injection net n S) p) f ∙ x.3.now) ∙ e in absurd (cc z)
             by (inr f) = sym (x.3.others i v f) ∙ e
 
-    module _ (n : ℕ) (F : State) (s : IsSoundFrozen net F) (o : IsOutInOrder n F) where
+    -- what is out in a frozen state was out at the start of the cycle
+    pub out-before : (n : ℕ) (S : State) → IsSoundState net S → WasOut S (frozen_state net n S)
+    unfolding after_landing after_credits frozen_state
+    out-before n S s p i k v e =
+        out-landing S s p i k v
+        (out-injection n (after_credits net (after_landing net S)) (sound-credits net built wired (after_landing net S) (sound-landed net built wired S s)) p i k v e)
+
+    module _ (n : ℕ) (F : State) (s : IsSoundFrozen net F) where
       abbrev T : State
       T = after_verdicts net n F
 
       -- a flit that goes out was in the buffer of a channel at the destination
-      record IsLeaving (p i : ℕ) : Type 0 where
-        channel : Channel
-        next : Channel
-        moving : IsMoving net built F s.keyed s.worm n s.still p i channel next
-        near : far_of net p channel ≡ 0
+      pub record IsLeaving (p i : ℕ) : Type 0 where
+        pub channel : Channel
+        pub router : ℕ
+        pub vc : ℕ
+        pub moving : IsMoving net built F s.keyed s.worm n s.still p i channel (Eject router vc)
+        pub near : far_of net p channel ≡ 0
 
-      out-cases : (p i k : ℕ) → IsValid net p i → place_of_flit net T p i ≡ Out k → (place_of_flit net F p i ≡ Out k) ⊎ ((k ≡ n) × IsLeaving p i)
+      pub out-cases : (p i k : ℕ) → IsValid net p i → place_of_flit net T p i ≡ Out k → (place_of_flit net F p i ≡ Out k) ⊎ ((k ≡ n) × IsLeaving p i)
       out-cases p i k v e = at (moved-or-not net built F s.keyed s.worm n s.still p i v)
         where
           leaves : (c d : Channel) → IsMoving net built F s.keyed s.worm n s.still p i c d → gone_to net n c (Some d) ≡ Out k → (place_of_flit net F p i ≡ Out k) ⊎ ((k ≡ n) × IsLeaving p i)
           leaves c (Link a b u) m z = absurd (cc z)
           leaves c (Inject a u) m z = absurd (cc z)
-          leaves c (Eject a u) m z = let kn : n ≡ k = cc in inr (sym kn, record { channel = c; next = Eject a u; moving = m; near = far-eject net built F s.keyed s.worm p c a u m.next })
+          leaves c (Eject a u) m z = let kn : n ≡ k = cc in inr (sym kn, record { channel = c; router = a; vc = u; moving = m; near = far-eject net built F s.keyed s.worm p c a u m.next })
 
           at : IsMoved net built F s.keyed s.worm n s.still p i → (place_of_flit net F p i ≡ Out k) ⊎ ((k ≡ n) × IsLeaving p i)
           at (inl x) = inl (sym x.now ∙ e)
@@ -74,8 +84,8 @@ module _ (net : Setup) where
       -- two flits of a packet do not go out at once
       not-both : (p i j : ℕ) → i < j → IsLeaving p i → IsLeaving p j → ⊥
       not-both p i j l x y =
-          let a = leads-end net x.channel x.next x.moving.next.leads in
-          let b = leads-end net y.channel y.next y.moving.next.leads in
+          let a = leads-end net x.channel (Eject x.router x.vc) x.moving.next.leads in
+          let b = leads-end net y.channel (Eject y.router y.vc) y.moving.next.leads in
           let same : x.channel ≡ y.channel = same-far net built F s.keyed s.worm p x.channel y.channel x.moving.owns y.moving.owns (no-end-eject net x.channel a.0 a.2) (no-end-eject net y.channel b.0 b.2) (x.near ∙ sym y.near) in
           let k = y.moving.first.least i x.moving.first.valid (x.moving.was ∙ ap In same) in
           omega arith
@@ -91,8 +101,8 @@ module _ (net : Setup) where
           let k = (weight-in net built F s.keyed s.worm p x.channel placed).0 in
           omega arith
 
-      out-verdicts : IsOutInOrder (suc n) T
-      out-verdicts = record {
+      out-verdicts : IsOutInOrder n F → IsOutInOrder (suc n) T
+      out-verdicts o = record {
         before = λ p i k v e. before p i k v (out-cases p i k v e);
         rising = λ p i j a b v l e f. let vj = v.1 in rising p i j a b v l (out-cases p i a (valid-below net built p i j v (omega arith)) e) (out-cases p j b v f);
       }
@@ -107,12 +117,6 @@ module _ (net : Setup) where
           rising p i j a b v l (inr x) (inl f) = absurd (not-before p i j b v l x.1 f)
           rising p i j a b v l (inr x) (inr y) = absurd (not-both p i j l x.1 y.1)
 
-    pub out-frozen : (n : ℕ) (S : State) → IsSoundState net S → IsOutInOrder n S → IsOutInOrder n (frozen_state net n S)
-    unfolding after_landing after_credits frozen_state after_injection
-    out-frozen n S s o =
-        out-injection n (after_credits net (after_landing net S)) (sound-credits net built wired (after_landing net S) (sound-landed net built wired S s))
-        (kept n (after_landing net S) (after_credits net (after_landing net S)) (λ p i k v e. e) (out-landing n S s o))
-
     pub out-state : (n : ℕ) → IsOutInOrder n (state_at net n)
     unfolding state_at network_cycle
     out-state zero = record {
@@ -121,4 +125,4 @@ module _ (net : Setup) where
     }
     out-state (suc n) =
         let s = sound-state net built wired n in
-        out-verdicts n (frozen_state net n (state_at net n)) (sound-frozen net built wired n (state_at net n) s) (out-frozen n (state_at net n) s (out-state n))
+        out-verdicts n (frozen_state net n (state_at net n)) (sound-frozen net built wired n (state_at net n) s) (kept n (state_at net n) (frozen_state net n (state_at net n)) (out-before n (state_at net n) s) (out-state n))
