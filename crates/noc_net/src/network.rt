@@ -1,10 +1,11 @@
 //! The network.
 //!
-//! A network that is made runs by rows (`noc_rows`). It holds routers beside them, at count 0,
+//! A network that is made runs by columns (`noc_engine`). It holds routers beside them, at count 0,
 //! since `into_parts` and `Core::new` give routers and take no allocator: there is no memory from
 //! which they could make any. So a network takes the memory of its routers too, which never run
-//! beside rows. `into_parts` has them run the cycles that the rows have run, one by one, and lets
-//! the rows go. After `from_parts` the routers run. The readers ask whichever of the two has run.
+//! beside an engine. `into_parts` has them run the cycles that the engine has run, one by one, and
+//! lets the engine go. After `from_parts` the routers run. The readers ask whichever of the two has
+//! run.
 
 ghost use Rattle.std.specs.Prelude.{◌≡◌, ℕ, ◌+◌, ◌*◌, ◌<◌, ◌≤◌, ◌&&◌, All, Err, IfErr, IfOk, IsOk, None, Some, false, true, is_none, length, nat_le, vec_len};
 ghost use Rattle.std.specs.List.{slice_get};
@@ -18,7 +19,7 @@ ghost use Rattle.noc_net.specs.Faults.{IsSendable, fault_of};
 ghost use Rattle.noc_theory.specs.Halves.{IsSilent};
 ghost use Rattle.noc_theory.specs.Lockstep.{counts_before, findings_before};
 ghost use Rattle.noc_packet.specs.ByNode.{ends_of, starts_of};
-ghost use Rattle.noc_opening.specs.Queues.{AreByNode};
+ghost use Rattle.noc_queues.specs.Queues.{AreByNode};
 ghost use Rattle.noc_packet.specs.declared.limits.TheConstants.{MAX_BUFFER};
 ghost use Rattle.noc_router.specs.Decided.{empty_plan_contents};
 ghost use Rattle.noc_theory.specs.Good.{IsGoodSetup};
@@ -32,13 +33,14 @@ use crate::limit::{MAX_LIMIT, budget, last_due};
 use crate::packets::first_fault;
 use crate::parts::Parts;
 use crate::room::Room;
-use noc_opening::{ends_by_node, starts_by_node};
+use noc_engine::Engine;
 use noc_packet::{Beat, MAX_PACKETS, Memory, Packet};
+use noc_queues::{ends_by_node, starts_by_node};
 use noc_route::Relation;
 use noc_router::{Finding, Plan, Router, VERDICTS};
-use noc_rows::{NotRun, Rows, Setup};
 use noc_theory::CYCLE_LIMIT;
 use noc_topo::LINKS;
+use noc_workers::{NotRun, Setup, run_by};
 use std::alloc::Global;
 use std::marker::Model;
 use std::mem;
@@ -52,9 +54,9 @@ use std::time::Clock;
 /// the cycles that it has run. What its readers answer follows from them (docs/MODEL.md).
 #[derive(Drop)]
 pub struct Network {
-    // The routers, at their own count: that of the network where there are no rows.
+    // The routers, at their own count: that of the network where there is no engine.
     parts: Parts,
-    rows: Option<Rows>,
+    engine: Option<Engine>,
     count: u64,
 }
 
@@ -101,7 +103,7 @@ impl Network {
         }
         let nodes = relation.shape().nodes();
         let starts = starts_by_node(alloc, nodes, &packets)?;
-        let rows = Rows::new(alloc, &relation, depth, &packets, &starts)?;
+        let engine = Engine::new(alloc, &relation, depth, &packets, &starts)?;
         let Equipment {
             routers,
             plan,
@@ -119,14 +121,15 @@ impl Network {
                 beats,
                 room,
             },
-            rows: Some(rows),
+            engine: Some(engine),
             count: 0,
         })
     }
 
     /// Takes the network apart: its routers with their findings, and its beats in flight, are those
     /// of its state at its count, and its plan is one of its relation without requests. It costs as
-    /// many cycles of the routers as have run by rows, since the routers run these again, each one.
+    /// many cycles of the routers as have run by columns, since the routers run these again, each
+    /// one.
     pub fn into_parts(self) -> Parts
         ensures network { run_in result ≡ self }
         ensures parts { AreParts result }
@@ -135,7 +138,7 @@ impl Network {
     {
         let Network {
             mut parts,
-            rows: _,
+            engine: _,
             count,
         } = self;
         let behind = count - parts.count;
@@ -152,15 +155,15 @@ impl Network {
         let count = parts.count;
         Network {
             parts,
-            rows: None,
+            engine: None,
             count,
         }
     }
 
-    /// Whether it runs by rows, or its routers run one by one: those of a network that was put
+    /// Whether it runs by columns, or its routers run one by one: those of a network that was put
     /// together from parts do. All else that is read of a network is the same.
-    pub fn runs_by_rows(&self) -> bool {
-        self.rows.is_some()
+    pub fn runs_by_columns(&self) -> bool {
+        self.engine.is_some()
     }
 
     /// Runs one cycle: each router takes its beats, injects, decides and commits, and then all put.
@@ -181,15 +184,15 @@ impl Network {
         ensures unstuck { (ranks : Ranking) → IsRankedBy self.new.net.relation ranks
             → is_stuck self.new.net self.new.count ≡ false }
     {
-        match &mut self.rows {
-            Some(rows) => rows.run(&self.parts.relation, cycles as u32),
+        match &mut self.engine {
+            Some(engine) => engine.run(&self.parts.relation, cycles as u32),
             None => self.parts.run(cycles),
         }
         self.count += cycles;
     }
 
     /// Runs so many cycles by up to so many threads, of which the caller's is one, each with whole
-    /// blocks of 32 routers; or tells that memory or a thread was refused. One worker runs them as
+    /// blocks of 64 routers; or tells that memory or a thread was refused. One worker runs them as
     /// `run` does, and is refused nothing.
     pub fn run_by<R: Threads + Wait + Clock + Sync>(
         self,
@@ -204,17 +207,17 @@ impl Network {
     {
         let Network {
             mut parts,
-            rows,
+            engine,
             count,
         } = self;
-        let rows = match rows {
-            Some(rows) => {
+        let engine = match engine {
+            Some(engine) => {
                 let setup = Setup {
                     relation: &parts.relation,
                     depth: parts.buffer,
                     packets: &parts.packets,
                 };
-                Some(rows.run_by(rt, alloc, &setup, cycles as u32, workers)?)
+                Some(run_by(rt, alloc, &setup, engine, cycles as u32, workers)?)
             }
             None => {
                 parts.run(cycles);
@@ -223,7 +226,7 @@ impl Network {
         };
         Ok(Network {
             parts,
-            rows,
+            engine,
             count: count + cycles,
         })
     }
@@ -272,8 +275,8 @@ impl Network {
     pub fn last_event(&self) -> Option<u64>
         ensures { result ≡ last_event_before self.now.net self.now.count }
     {
-        match &self.rows {
-            Some(rows) => rows.last_event(),
+        match &self.engine {
+            Some(engine) => engine.last_event(),
             None => self.parts.last_event(),
         }
     }
@@ -300,8 +303,8 @@ impl Network {
             → IsLimit self.now.net limit → limit ≤ self.now.count → (cycle : ℕ)
             × (result ≡ Some cycle) × (cycle < limit) }
     {
-        match &self.rows {
-            Some(rows) => rows.arrival(packet),
+        match &self.engine {
+            Some(engine) => engine.arrival(packet),
             None => self.parts.arrival(packet),
         }
     }
@@ -315,8 +318,8 @@ impl Network {
         ensures { result ≡ counts_before self.now.net self.now.count router
             (port * self.now.net.relation.vcs + vc) }
     {
-        match &self.rows {
-            Some(rows) => rows.counts(router, port, vc),
+        match &self.engine {
+            Some(engine) => engine.counts(router, port, vc),
             None => self.parts.counts(router, port, vc),
         }
     }
@@ -326,8 +329,8 @@ impl Network {
         requires { router < nodes_of self.now.net.relation.grid }
         ensures { result.now ≡ findings_before self.now.net self.now.count router }
     {
-        match &self.rows {
-            Some(rows) => rows.findings(router),
+        match &self.engine {
+            Some(engine) => engine.findings(router),
             None => self.parts.findings(router),
         }
     }
@@ -390,7 +393,7 @@ impl Network {
     }
 }
 
-// What a network takes memory for beside its packets and its rows: its routers, a plan for them,
+// What a network takes memory for beside its packets and its engine: its routers, a plan for them,
 // the beats on its wires, and the storage of a core.
 #[derive(Drop)]
 struct Equipment {

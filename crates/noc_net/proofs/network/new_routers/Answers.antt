@@ -7,8 +7,8 @@ use Rattle.noc_packet.specs.declared.packet.Packet.{Packet}
 use Rattle.noc_view.specs.Start.{IsNumberedPacket}
 use Rattle.noc_view.specs.View.{Site, View, opening_view}
 use Rattle.noc_packet.specs.ByNode.{starts_of, ends_of}
-use Rattle.noc_opening.specs.Queues.{AreByNode}
-use Rattle.noc_opening.proofs.QueueLemmas.{ends-rise}
+use Rattle.noc_queues.specs.Queues.{AreByNode}
+use Rattle.noc_queues.proofs.QueueLemmas.{ends-rise}
 use Rattle.noc_theory.proofs.runs.RunLemmas.{tabulate_none, tabulate_more}
 use Rattle.noc_net.proofs.PacketLemmas.{left-first, left-here, left-next, numbered-starts}
 use Rattle.noc_net.proofs.network.new_routers.Goals as goal

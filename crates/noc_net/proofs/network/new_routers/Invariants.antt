@@ -3,7 +3,7 @@ use Rattle.noc_topo.specs.Lists.{tabulate}
 use Rattle.noc_topo.specs.Shape.{nodes}
 use Rattle.noc_view.specs.View.{opening_view}
 use Rattle.noc_packet.specs.ByNode.{starts_of, ends_of}
-use Rattle.noc_opening.specs.Queues.{AreByNode}
+use Rattle.noc_queues.specs.Queues.{AreByNode}
 use Rattle.noc_net.proofs.PacketLemmas.{left_from}
 use Rattle.noc_net.proofs.network.new_routers.Given as goal
 

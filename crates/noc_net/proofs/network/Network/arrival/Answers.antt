@@ -21,14 +21,14 @@ pub arrival-requires : goal.arrival-requires
 arrival-requires c =
     let n = c.self.inside in
     let within : c.args.packet < length n.parts.packets.items = subst (λ (u : Run). c.args.packet < length u.net.packets) (sym c.self.view_is) c.requires in
-    (setup_in n.parts, n.count, shown n c.self.invariant c.in-Some.rows c.in-Some.is, within)
+    (setup_in n.parts, n.count, (shown n c.self.invariant c.in-Some.engine c.in-Some.is).0, within)
 
 pub returns-in-Some-clause-ranked : goal.returns-in-Some-clause-ranked
 returns-in-Some-clause-ranked c =
     let n = c.self.inside in
     let within : c.args.packet < length n.parts.packets.items = subst (λ (u : Run). c.args.packet < length u.net.packets) (sym c.self.view_is) c.requires in
     in-time c.args.self.now (subst (λ (u : Run). IsGoodSetup u.net) c.self.view_is c.self.invariant.parts.good) c.args.packet c.requires c.arrival.result
-    (c.arrival.ensures (setup_in n.parts) n.count (shown n c.self.invariant c.in-Some.rows c.in-Some.is) within
+    (c.arrival.ensures (setup_in n.parts) n.count (shown n c.self.invariant c.in-Some.engine c.in-Some.is).0 within
     ∙ ap (λ (u : Run). arrival_in u.net (state_at u.net u.count) c.args.packet) c.self.view_is)
 
 pub returns-in-None-clause-ranked : goal.returns-in-None-clause-ranked

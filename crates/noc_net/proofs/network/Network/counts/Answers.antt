@@ -11,4 +11,4 @@ counts-requires c =
     let router : c.args.router < nodes n.parts.relation.grid = subst (λ (u : Run). c.args.router < nodes u.net.relation.grid) (sym c.self.view_is) c.requires.router in
     let port : c.args.port < ports n.parts.relation.grid = subst (λ (u : Run). c.args.port < ports u.net.relation.grid) (sym c.self.view_is) c.requires.port in
     let vc : c.args.vc < n.parts.relation.vcs = subst (λ (u : Run). c.args.vc < u.net.relation.vcs) (sym c.self.view_is) c.requires.vc in
-    (setup_in n.parts, n.count, shown n c.self.invariant c.in-Some.rows c.in-Some.is, router, port, vc)
+    (setup_in n.parts, n.count, (shown n c.self.invariant c.in-Some.engine c.in-Some.is).0, router, port, vc)

@@ -9,4 +9,4 @@ pub findings-requires : goal.findings-requires
 findings-requires c =
     let n = c.self.inside in
     let within : c.args.router < nodes n.parts.relation.grid = subst (λ (u : Run). c.args.router < nodes u.net.relation.grid) (sym c.self.view_is) c.requires in
-    (setup_in n.parts, n.count, shown n c.self.invariant c.in-Some.rows c.in-Some.is, within)
+    (setup_in n.parts, n.count, (shown n c.self.invariant c.in-Some.engine c.in-Some.is).0, within)

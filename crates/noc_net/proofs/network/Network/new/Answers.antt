@@ -7,6 +7,7 @@ use Rattle.noc_theory.specs.Good.{IsGoodSetup}
 use Rattle.noc_packet.specs.ByNode.{starts_of, ends_of}
 use Rattle.noc_theory.specs.Network.{Setup}
 use Rattle.noc_theory.proofs.runs.RunLemmas.{opening_views, opening_wires, silent_at}
+use Rattle.noc_net.proofs.NetworkLemmas.{opened}
 use Rattle.noc_net.proofs.PartsLemmas.{parts-in_step}
 use Rattle.noc_net.proofs.network.Network.new.Goals as goal
 
@@ -26,7 +27,7 @@ invariant_of-result c =
           c.in_ok-routers.ensures.room;
       behind = omega arith;
       within = omega arith;
-      rows = c.in_ok-rows.ensures net (record { relation_is = refl; depth_is = refl; packets_are = sym c.deref-3.ensures.value }) good;
+      engine = opened net c.in_ok-engine.engine (c.in_ok-engine.ensures net (record { relation_is = refl; depth_is = refl; packets_are = sym c.deref-3.ensures.value }) good);
       routers = λ e. refl;
     }
 

@@ -6,7 +6,7 @@ use Rattle.noc_theory.proofs.budget.ProgressTheoremLemmas.{not-stuck}
 use Rattle.noc_net.specs.declared.network.Network.TheInside.{Inside}
 use Rattle.noc_net.specs.Inside.{IsNetwork}
 use Rattle.noc_net.specs.Parts.{setup_in}
-use Rattle.noc_net.proofs.NetworkLemmas.{by-routers, by-rows, may-run}
+use Rattle.noc_net.proofs.NetworkLemmas.{by-routers, by-columns, may-run}
 use Rattle.noc_net.proofs.network.Network.run.Goals.{in-Some, in-None}
 use Rattle.noc_net.proofs.network.Network.run.Goals as goal
 
@@ -14,17 +14,18 @@ pub run-requires : goal.run-requires
 run-requires c =
     let n = c.self.inside in
     let within : n.count + c.args.cycles ≤ CYCLE_LIMIT = subst (λ (u : Run). u.count + c.args.cycles ≤ CYCLE_LIMIT) (sym c.self.view_is) c.requires in
-    (setup_in n.parts, n.count, may-run n c.self.invariant c.in-Some.rows c.in-Some.is c.args.cycles within)
+    (setup_in n.parts, n.count, may-run n c.self.invariant c.in-Some.engine c.in-Some.is c.args.cycles within)
 
 pub invariant_of-self : goal.invariant_of-self
 invariant_of-self c =
     let n = c.self.inside in
     let within : n.count + c.args.cycles ≤ CYCLE_LIMIT = subst (λ (u : Run). u.count + c.args.cycles ≤ CYCLE_LIMIT) (sym c.self.view_is) c.requires in
     elim c.match-self.branch [
-      | in-Some w ↦ subst (λ (m : Inside). IsNetwork (record { parts = m.parts; rows = m.rows; count = m.count + c.args.cycles })) (sym w.self-inside-is)
-          (by-rows n c.self.invariant c.args.cycles within w.run.new.self
-          (w.run.ensures (setup_in n.parts) n.count (may-run n c.self.invariant w.in-Some.rows w.in-Some.is c.args.cycles within)))
-      | in-None w ↦ subst (λ (m : Inside). IsNetwork (record { parts = m.parts; rows = m.rows; count = m.count + c.args.cycles })) (sym w.self-inside-is)
+      | in-Some w ↦ subst (λ (m : Inside). IsNetwork (record { parts = m.parts; engine = m.engine; count = m.count + c.args.cycles })) (sym w.self-inside-is)
+          (let may = may-run n c.self.invariant w.in-Some.engine w.in-Some.is c.args.cycles within in
+          by-columns n c.self.invariant w.in-Some.engine w.in-Some.is c.args.cycles within w.run.new.self
+          (w.run.ensures.shows (setup_in n.parts) n.count may) (w.run.ensures.found (setup_in n.parts) n.count may) w.run.ensures.kept)
+      | in-None w ↦ subst (λ (m : Inside). IsNetwork (record { parts = m.parts; engine = m.engine; count = m.count + c.args.cycles })) (sym w.self-inside-is)
           (by-routers n c.self.invariant w.in-None.is c.args.cycles within w.run-in-None.new.self w.run-in-None.ensures.parts w.run-in-None.ensures.network)
     ]
 

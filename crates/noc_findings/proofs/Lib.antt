@@ -1,4 +1,0 @@
-pub mod PlaceLemmas
-pub mod ClaimLemmas
-pub mod VerdictLemmas
-pub mod LawLemmas

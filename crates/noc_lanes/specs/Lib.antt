@@ -1,6 +1,0 @@
-pub mod Words
-pub mod Lanes
-pub mod Planes
-pub mod Fields
-pub mod Channels
-pub mod Tallies

@@ -1,9 +1,0 @@
-pub mod RowLemmas
-pub mod HeadLemmas
-pub mod TellLemmas
-pub mod ArrivalLemmas
-pub mod LaneLemmas
-pub mod DueLemmas
-pub mod BlankLemmas
-pub mod GrantedLemmas
-pub mod WaitLemmas

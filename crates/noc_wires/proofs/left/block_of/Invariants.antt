@@ -1,8 +1,0 @@
-use Rattle.std.proofs.Common.{◌≡◌, ℕ, ◌+◌, ◌<◌}
-use Rattle.noc_lanes.specs.Lanes.{word}
-use Rattle.noc_wires.proofs.left.block_of.Given as goal
-
-abbrev pub invariant-loop-lane : goal.invariant-loop-lane
-invariant-loop-lane g l =
-    let value = g.W.Word.value in
-    (k : ℕ) → k < l.lane → word value k l.lanes ≡ word value (l.start + k) l.row

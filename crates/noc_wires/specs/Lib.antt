@@ -1,4 +1,0 @@
-pub mod Left
-pub mod Letters
-pub mod Telling
-pub mod Waking
