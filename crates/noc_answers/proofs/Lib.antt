@@ -13,3 +13,4 @@ pub mod OneAnswerLemmas
 pub mod OneFaultLemmas
 pub mod WorkersLemmas
 pub mod WaitingLemmas
+pub mod ArrivingLemmas

@@ -7,3 +7,4 @@ pub mod Drain
 pub mod Formula
 pub mod Run
 pub mod Answer
+pub mod Arriving

@@ -6,6 +6,7 @@ ghost use Rattle.noc_theory.specs.Network.{state_at};
 ghost use Rattle.noc_theory.specs.Progress.{events};
 ghost use Rattle.noc_theory.specs.declared.limits.TheConstants.{CYCLE_LIMIT};
 
+use crate::arriving::arriving_cycles;
 use noc_net::{Network, NotRun};
 use std::alloc::Global;
 use std::sync::Wait;
@@ -65,7 +66,9 @@ fn next_piece(network: &Network, limit: u64) -> u64
         → DrainsBy network.now.net limit network.now.count end }
 {
     let left = limit - network.count();
-    let waiting = unchanged_cycles(network, left).max(undue_cycles(network, left));
+    let waiting = unchanged_cycles(network, left)
+        .max(undue_cycles(network, left))
+        .max(arriving_cycles(network, left));
     to_next_look(waiting).min(left)
 }
 

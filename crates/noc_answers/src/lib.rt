@@ -4,6 +4,7 @@
 
 mod accept;
 mod answers;
+mod arriving;
 mod drain;
 mod ending;
 mod explain;
