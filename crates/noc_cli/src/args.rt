@@ -60,8 +60,8 @@ every 64 cycles it ends if all packets are out, and it ends at the limit, which 
 time and the number of events that the traffic takes. With ranks, all packets are out by then.
 
 The report is the same for every number of workers. N workers run N tiles of the network, each in a
-thread, or as many tiles as there are blocks of 32 routers. One thread runs fewer than 512 cycles,
-and cycles in which fewer than half of the blocks have something to do.
+thread, or as many tiles as there are blocks of 64 routers. One thread runs fewer than 512 cycles,
+and cycles in which nothing happens.
 
 Examples:
   noc run mesh.toml traffic.csv --report stalls

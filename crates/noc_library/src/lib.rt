@@ -15,7 +15,7 @@ pub use noc_topo::{Kind, MAX_DIMENSIONS, MAX_NODES, MAX_RADIX, Shape, ShapeFault
 pub use noc_rank::{Accepted, LinkChannel, RankFault, RankRow, Ranks, check};
 pub use noc_route::{Entry, Relation, RouteFault, RouteRow, Rule, RuleName};
 
-// Networks, by rows and by tiles of routers.
+// Networks, by columns and by tiles of routers.
 pub use noc_net::{
     CYCLE_LIMIT, Core, Event, MAX_LIMIT, MAX_WORKERS, NetFault, Network, NotReady, NotRun, RunFault,
 };

@@ -1,5 +1,5 @@
-//! A network by rows beside the same network by its routers: one that is put
-//! together from parts has no rows.
+//! A network by columns beside the same network by its routers: one that is put together from parts
+//! has no engine of columns.
 
 ghost use Rattle.std.specs.Prelude.{◌≡◌, IfOk};
 
@@ -16,19 +16,19 @@ use std::ops::Range;
 use std::process::Abort;
 use std::test::Fail;
 
-// Whether two networks run alike, of which the first has rows.
-fn run_alike(rows: &mut Network, routers: &mut Network) -> bool
-    requires rows { rows.old.count ≡ 0 }
+// Whether two networks run alike, of which the first runs by columns.
+fn run_alike(columns: &mut Network, routers: &mut Network) -> bool
+    requires columns { columns.old.count ≡ 0 }
     requires routers { routers.old.count ≡ 0 }
-    ensures rows { rows.new.count ≡ 400 }
+    ensures columns { columns.new.count ≡ 400 }
     ensures routers { routers.new.count ≡ 400 }
 {
-    let first = same_after(rows, routers, 1);
-    let second = same_after(rows, routers, 16);
-    let third = same_after(rows, routers, 43);
-    let fourth = same_after(rows, routers, 90);
-    let fifth = same_after(rows, routers, 250);
-    rows.runs_by_rows() && first && second && third && fourth && fifth
+    let first = same_after(columns, routers, 1);
+    let second = same_after(columns, routers, 16);
+    let third = same_after(columns, routers, 43);
+    let fourth = same_after(columns, routers, 90);
+    let fifth = same_after(columns, routers, 250);
+    columns.runs_by_columns() && first && second && third && fourth && fifth
 }
 
 // What networks came out as, one after the other.
@@ -79,14 +79,14 @@ fn run_one(
     chance: &mut Xoshiro256PlusPlus,
 ) -> Result<Option<bool>, Fail> {
     let mut again = chance.clone()?;
-    let Some(mut rows) = network_of(alloc, shape, trial, chance)? else {
+    let Some(mut columns) = network_of(alloc, shape, trial, chance)? else {
         return Ok(None);
     };
     let Some(routers) = network_of(alloc, shape, trial, &mut again)? else {
         return Ok(None);
     };
     let mut routers = Network::from_parts(routers.into_parts());
-    Ok(Some(run_alike(&mut rows, &mut routers)))
+    Ok(Some(run_alike(&mut columns, &mut routers)))
 }
 
 // Shapes by their numbers, from one up to another: so many networks of each are run, and at least
@@ -105,22 +105,22 @@ fn assert_alike(
 }
 
 #[test]
-fn lines_and_rings_run_in_rows_as_in_routers(rt: HostRuntime) -> Result<(), Fail> {
+fn lines_and_rings_run_by_columns_as_by_routers(rt: HostRuntime) -> Result<(), Fail> {
     assert_alike(&rt, &[(0, 2, 60, 60), (2, 4, 60, 60)])
 }
 
 #[test]
-fn planes_of_up_to_twelve_run_in_rows_as_in_routers(rt: HostRuntime) -> Result<(), Fail> {
+fn planes_of_up_to_twelve_run_by_columns_as_by_routers(rt: HostRuntime) -> Result<(), Fail> {
     assert_alike(&rt, &[(4, 6, 60, 65), (6, 8, 25, 26)])
 }
 
 #[test]
-fn planes_of_more_than_32_run_in_rows_as_in_routers(rt: HostRuntime) -> Result<(), Fail> {
+fn planes_of_more_than_64_run_by_columns_as_by_routers(rt: HostRuntime) -> Result<(), Fail> {
     assert_alike(&rt, &[(8, 9, 20, 12), (9, 10, 20, 8)])
 }
 
 #[test]
-fn three_dimensions_run_in_rows_as_in_routers(rt: HostRuntime) -> Result<(), Fail> {
+fn three_dimensions_run_by_columns_as_by_routers(rt: HostRuntime) -> Result<(), Fail> {
     assert_alike(
         &rt,
         &[
@@ -133,11 +133,11 @@ fn three_dimensions_run_in_rows_as_in_routers(rt: HostRuntime) -> Result<(), Fai
 }
 
 #[test]
-fn a_stuck_ring_runs_in_rows_as_in_routers(rt: HostRuntime) -> Result<(), Fail> {
+fn a_stuck_ring_runs_by_columns_as_by_routers(rt: HostRuntime) -> Result<(), Fail> {
     let other = stuck_ring(rt.alloc())?;
     let mut routers = Network::from_parts(other.into_parts());
-    let mut rows = stuck_ring(rt.alloc())?;
-    assert!(rt; run_alike(&mut rows, &mut routers));
+    let mut columns = stuck_ring(rt.alloc())?;
+    assert!(rt; run_alike(&mut columns, &mut routers));
     assert!(rt; routers.stuck());
     Ok(())
 }
@@ -162,33 +162,35 @@ fn stuck_ring_beside_another(alloc: Global) -> Result<Network, Fail>
 }
 
 #[test]
-fn a_network_that_is_partly_stuck_runs_in_rows_as_in_routers(rt: HostRuntime) -> Result<(), Fail> {
+fn a_network_that_is_partly_stuck_runs_by_columns_as_by_routers(
+    rt: HostRuntime,
+) -> Result<(), Fail> {
     let other = stuck_ring_beside_another(rt.alloc())?;
     let mut routers = Network::from_parts(other.into_parts());
-    let mut rows = stuck_ring_beside_another(rt.alloc())?;
-    assert!(rt; run_alike(&mut rows, &mut routers));
+    let mut columns = stuck_ring_beside_another(rt.alloc())?;
+    assert!(rt; run_alike(&mut columns, &mut routers));
     assert!(rt; arrival(&routers, 6).is_some());
-    assert!(rt; same_after(&mut rows, &mut routers, 30_000));
+    assert!(rt; same_after(&mut columns, &mut routers, 30_000));
     assert!(rt; arrival(&routers, 7).is_some());
-    assert!(rt; same_after(&mut rows, &mut routers, 2_000_000));
+    assert!(rt; same_after(&mut columns, &mut routers, 2_000_000));
     assert!(rt; routers.stuck());
     Ok(())
 }
 
-// Whether a new network of these routers and so many channels runs by rows, and whether the network
-// of its parts does.
-fn run_by_rows(alloc: Global, radix: &[usize], vcs: usize) -> Result<[bool; 2], Fail> {
+// Whether a new network of these routers and so many channels runs by columns, and whether the
+// network of its parts does.
+fn run_by_columns(alloc: Global, radix: &[usize], vcs: usize) -> Result<[bool; 2], Fail> {
     let mesh = relation(alloc, Kind::Mesh, radix, vcs, Rule::Dor)?;
     let made = network(alloc, mesh, 16, &[])?;
-    let by_rows = made.runs_by_rows();
+    let by_columns = made.runs_by_columns();
     Ok([
-        by_rows,
-        Network::from_parts(made.into_parts()).runs_by_rows(),
+        by_columns,
+        Network::from_parts(made.into_parts()).runs_by_columns(),
     ])
 }
 
 #[test]
-fn a_network_runs_by_rows_until_it_is_taken_apart(rt: HostRuntime) -> Result<(), Fail> {
+fn a_network_runs_by_columns_until_it_is_taken_apart(rt: HostRuntime) -> Result<(), Fail> {
     let (line, square, cube) = ([2usize], [2usize; 2], [2usize; 3]);
     for (radix, vcs) in [
         (line.as_slice(), 1),
@@ -198,7 +200,7 @@ fn a_network_runs_by_rows_until_it_is_taken_apart(rt: HostRuntime) -> Result<(),
         (cube.as_slice(), 4),
         (cube.as_slice(), 8),
     ] {
-        assert_eq!(rt; run_by_rows(rt.alloc(), radix, vcs)?, [true, false]);
+        assert_eq!(rt; run_by_columns(rt.alloc(), radix, vcs)?, [true, false]);
     }
     Ok(())
 }

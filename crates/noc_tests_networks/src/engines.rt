@@ -1,4 +1,4 @@
-//! The same network by rows and by its routers, which run where it was put together from parts.
+//! The same network by columns and by its routers, which run where it was put together from parts.
 
 ghost use Rattle.std.specs.Prelude.{◌≡◌, IfOk};
 
@@ -20,12 +20,12 @@ fn cube(alloc: Global, vcs: usize, packets: &[Packet]) -> Result<Network, Fail>
     network(alloc, cube, 16, packets)
 }
 
-// Two packets that never meet, by rows of words of either width.
+// Two packets that never meet.
 #[test]
-fn lone_packets_take_as_long_by_rows_as_by_routers(rt: HostRuntime) -> Result<(), Fail> {
+fn lone_packets_take_as_long_by_columns_as_by_routers(rt: HostRuntime) -> Result<(), Fail> {
     for vcs in [4usize, 8] {
         let mut network = cube(rt.alloc(), vcs, &[packet(0, 7, 4, 0), packet(7, 1, 1, 50)])?;
-        assert!(rt; network.runs_by_rows());
+        assert!(rt; network.runs_by_columns());
         network.run(80);
         assert_eq!(rt;
             [arrival(&network, 0), arrival(&network, 1)],

@@ -1,4 +1,5 @@
-//! Tests of noc_route, noc_rank, noc_rows and noc_net: relations, ranks, and networks that are run.
+//! Tests of noc_route, noc_rank, noc_engine, noc_workers and noc_net: relations, ranks, and networks
+//! that are run.
 //! They are a crate of their own, since a crate with tests is proved twice.
 #![tactic(auto)]
 

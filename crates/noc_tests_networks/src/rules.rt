@@ -12,7 +12,7 @@ use std::alloc::{AllocError, Global};
 pub const RULES: usize = 5;
 
 /// The shape with a number: one to three dimensions, radix 2 among them, and some
-/// of more than 32 routers.
+/// of more than 64 routers.
 pub fn shape_of(number: usize) -> Result<Shape, ShapeFault> {
     match number {
         0 => Shape::new(Kind::Mesh, &[2]),
@@ -23,8 +23,8 @@ pub fn shape_of(number: usize) -> Result<Shape, ShapeFault> {
         5 => Shape::new(Kind::Torus, &[2, 2]),
         6 => Shape::new(Kind::Mesh, &[3, 4]),
         7 => Shape::new(Kind::Torus, &[4, 3]),
-        8 => Shape::new(Kind::Mesh, &[6, 6]),
-        9 => Shape::new(Kind::Torus, &[5, 7]),
+        8 => Shape::new(Kind::Mesh, &[9, 8]),
+        9 => Shape::new(Kind::Torus, &[5, 13]),
         10 => Shape::new(Kind::Mesh, &[2, 2, 2]),
         11 => Shape::new(Kind::Torus, &[2, 3, 2]),
         12 => Shape::new(Kind::Mesh, &[3, 2, 3]),

@@ -1,7 +1,7 @@
 //! What one router sees, and what one cycle of it does, as definitions (`specs/View.antt`,
 //! `specs/Verdict.antt`), with the types of verdicts and findings. No network runs here: the theory
 //! of networks reads these definitions, and both engines carry them out, `noc_router` one router at
-//! a time and `noc_rows` many at once.
+//! a time and `noc_engine` 64 at once.
 #![tactic(auto)]
 
 mod finding;
