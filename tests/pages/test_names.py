@@ -35,10 +35,10 @@ class Names(unittest.TestCase):
         return page
 
     def test_an_item_is_in_its_crate_and_a_member_in_its_type(self):
-        right = "`Rows::run`, `noc_rows::Rows::run`, `Verdict::NoFlit` and `RankFault::NotRisingTo`"
+        right = "`Engine::run`, `noc_engine::Engine::run`, `Verdict::NoFlit` and `RankFault::NotRisingTo`"
         self.assertEqual(wrong(told_names.items(self.page(right))), [])
         # (the first two are words of the code, but not there)
-        for name in ("noc_view::Rows", "Network::self", "Verdict::NoSuch", "noc_rows::run_backwards"):
+        for name in ("noc_view::Engine", "Network::self", "Verdict::NoSuch", "noc_engine::run_backwards"):
             self.assertEqual(wrong(told_names.items(self.page(f"`{name}`"))), [name])
 
     def test_a_name_stands_somewhere_in_the_code(self):

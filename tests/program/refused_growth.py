@@ -56,18 +56,18 @@ FILES = {
     "rows": TABLE_HEADER + "0,0,local,0,1,+0,0\n0,0,local,1,1,+0,0\n0,1,local,0,0,-0,0\n"
     "0,1,local,1,0,-0,0\n0,1,-0,0,1,local,0\n0,0,+0,0,0,local,0\n",
     "line": config("mesh", (3,), 1, 2, "dor", 20), "two": TRAFFIC_HEADER + "0,2,0,1,0\n1,2,0,1,0\n",
-    # Five ports with eight channels each: rows of words of 64 bits.
+    # Five ports with eight channels each.
     "wide": config("mesh", (3, 2), 8, 2, "dor", 20),
     # Two blocks of routers, so that two workers have a tile each; packets go from the one to the other, for longer than
     # one thread runs before it is tried what two take.
-    "blocks": config("mesh", (11, 3), 1, 2, "dor", 9000), "begun": config("mesh", (11, 3), 1, 2, "dor", 1),
-    "across": TRAFFIC_HEADER + "".join(f"31,32,0,1,{due}\n" for due in range(0, 2000, 20)),
+    "blocks": config("mesh", (13, 5), 1, 2, "dor", 9000), "begun": config("mesh", (13, 5), 1, 2, "dor", 1),
+    "across": TRAFFIC_HEADER + "".join(f"63,64,0,1,{due}\n" for due in range(0, 2000, 20)),
 }
 PAIR_REPORT = report(("0,1,0,1,0", 5))
 RING_REPORT = report(("0,2,0,4,0", 24), ("1,3,0,4,0", 14), ("2,0,0,4,0", 44), ("3,1,0,4,0", 34))
 LINE_REPORT = report(("0,2,0,1,0", 10), ("1,2,0,1,0", 5))
 WIDE_REPORT = report(("0,2,0,1,0", 8), ("1,2,0,1,0", 5))
-ACROSS_REPORT = REPORT_HEADER + "".join(f"{number},31,32,0,1,{due},{due + 5},5\n"
+ACROSS_REPORT = REPORT_HEADER + "".join(f"{number},63,64,0,1,{due},{due + 5},5\n"
                                         for number, due in enumerate(range(0, 2000, 20)))
 # Words with the text on standard input, the answer, and the families of which want of memory is told: of all that is
 # read and made. Of runs by two workers it is told both ways, as run 1 where memory itself was short, and as run 2 where

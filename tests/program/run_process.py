@@ -403,7 +403,7 @@ def bounded_memory(calls: Calls) -> None:
     """
     traffic, report = late_packets(20000)
     square = PLAIN.replace(b"[2]", b"[8, 8]")
-    # Rows of words of 64 bits.
+    # Eight channels on each link, so each router has forty.
     many = PLAIN.replace(b"[2]", b"[2, 2]").replace(b"channels = 1", b"channels = 8")
     calls.put(late=traffic, short=PLAIN.replace(b" 8", b" 1"), square=square, rising=rising_ranks(8), many=many)
     wanted: list[tuple[list[str], bytes]] = [
@@ -427,13 +427,16 @@ def bounded_memory(calls: Calls) -> None:
 
 def threads_refused(calls: Calls) -> None:
     """Where no thread may start, a run that wants one says so and writes nothing. All others are as ever: those by one
-    worker, and those of networks of one block of routers."""
-    calls.put(many=PLAIN.replace(b"[2]", b"[2, 2]").replace(b"channels = 1", b"channels = 8"), **busy_texts(8, 5000))
+    worker, and those of networks of one block of routers, of which 64 are the most."""
+    calls.put(many=PLAIN.replace(b"[2]", b"[2, 2]").replace(b"channels = 1", b"channels = 8"))
     for more in ((), ("--workers", "2"), ("--workers", "4")):
         calls.answers("no thread", ["run", "many", "traffic", *more], REPORT, preexec_fn=no_thread_more)
     calls.answers("no thread", ["run", "plain", "traffic"], REPORT, preexec_fn=no_thread_more)
-    alone = calls.run(["run", "whole", "busy"])
-    calls.answers("no thread is wanted", ["run", "whole", "busy"], alone.stdout, preexec_fn=no_thread_more)
+    for side, workers in ((8, "4"), (9, "1")):
+        calls.put(**busy_texts(side, 5000))
+        alone = calls.run(["run", "whole", "busy"])
+        calls.answers(f"no thread is wanted, {side} by {side}", ["run", "whole", "busy", "--workers", workers],
+                      alone.stdout, preexec_fn=no_thread_more)
     for name, workers, drain in product(("whole", "started"), ("2", "3"), ((), ("--drain",))):
         if name == "whole" or drain:
             calls.answers("no thread", ["run", name, "busy", "--workers", workers, *drain], b"fault run 2 NoWorker\n",
@@ -474,14 +477,14 @@ def threads_of(calls: Calls, words: Sequence[str]) -> tuple[int, int, Ran]:
 
 def threads_that_run(calls: Calls) -> None:
     """A run by workers has as many threads at a time as workers, the first one of the process among them, or as many
-    as there are blocks of 32 routers. So it has where a drain runs up to the last due time. And they run free: they end
-    after a millisecond at first and then after ever longer, so that 20,000 cycles start no more than twelve times as
-    many. Where one thread is faster, the others run so briefly that a look may miss them, and then it is looked again.
-    """
+    as there are blocks of 64 routers. So it has where a drain runs up to the last due time. And they run free: they end
+    after a millisecond at first and then after ever longer, so that each 20,000 cycles start no more than twelve times
+    as many. Where one thread is faster, the others run so briefly that a look may miss them, and then it is looked
+    again. How many cycles a drain has run is what its report says."""
     if not os.path.isdir("/proc/self/task"):
         print("threads are not looked for: there is no list of them (/proc/self/task)")
         return
-    for side, blocks in ((8, 2), (16, 8)):
+    for side, blocks in ((8, 1), (9, 2), (16, 4)):
         calls.put(**busy_texts(side, 20000))
         for workers, words in product((1, 2, 4), (["whole"], ["started", "--drain"])):
             call = ["run", words[0], "busy", "--report", "summary", "--workers", str(workers), *words[1:]]
@@ -490,7 +493,9 @@ def threads_that_run(calls: Calls) -> None:
                 most, in_all, ran = threads_of(calls, call)
                 if most == tiles:
                     break
-            right = most == tiles and in_all <= 1 + 12 * (tiles - 1) and not ran.stderr
+            ran_for = re.match(rb"cycles (\d+)\n", ran.stdout)
+            starts = 12 * -(-int(ran_for[1]) // 20000) if ran_for else 0
+            right = most == tiles and in_all <= 1 + starts * (tiles - 1) and not ran.stderr
             calls.count(f"{most} threads, {in_all} in all {call}, {side} by {side}", right, ran)
 
 
@@ -501,7 +506,7 @@ def workers_of(words: Sequence[str]) -> int:
 
 
 def cases_by_workers(calls: Calls) -> None:
-    """Each case by several workers starts a thread, where its network has more than one block of 32 routers. One thread
+    """Each case by several workers starts a thread, where its network has more than one block of 64 routers. One thread
     runs the first 1,024 cycles, so a case that is shorter would pass without. `strace` counts the threads."""
     if shutil.which("strace") is None:
         print("threads of the cases are not counted: there is no strace")
@@ -509,7 +514,7 @@ def cases_by_workers(calls: Calls) -> None:
     for case in sorted(path.parent for path in CASES.glob("run-*/args")):
         words = (case / "args").read_text().split()
         network = tomllib.loads((case / "config.toml").read_text()) if workers_of(words) > 1 else {}
-        if prod(network.get("radix", [1])) > 32:
+        if prod(network.get("radix", [1])) > 64:
             trace = ["strace", "-f", "-qq", "-e", "trace=clone,clone3", str(calls.program), *words]
             ran = subprocess.run(trace, cwd=case, capture_output=True, timeout=SECONDS)
             calls.count(f"{case.name} starts a thread", b"clone" in ran.stderr, ran)
@@ -529,8 +534,8 @@ def same_by_workers(calls: Calls, words: Sequence[str], what: str) -> None:
 def reports_by_workers(calls: Calls) -> None:
     """Runs by several workers are reported as by one: on tori and in three dimensions, with ranks and without. Packets
     become due up to the last cycles. The last network is busy for more cycles than tiles run before they are joined."""
-    networks = (("torus", "4, 4", 8, "dateline"), ("mesh", "3, 3, 2", 5, "dor"), ("torus", "4, 4", 7, "dor"),
-                ("torus", "8, 8", 8, "dateline"), ("mesh", "5, 5, 4", 2, "dor"), ("torus", "9, 4", 2, "dor"))
+    networks = (("torus", "4, 4", 8, "dateline"), ("mesh", "3, 3, 2", 5, "dor"), ("torus", "8, 8", 7, "dor"),
+                ("torus", "16, 8", 8, "dateline"), ("mesh", "5, 5, 4", 2, "dor"), ("torus", "9, 8", 2, "dor"))
     for (kind, radix, channels, rule), drain in product(networks, ((), ("--drain",))):
         nodes = prod(int(size) for size in radix.split(","))
         packets = [b"%d,%d,0,%d,%d\n" % (number % nodes, (number + 1 + number % (nodes - 1)) % nodes, number % 5 + 1,
@@ -557,8 +562,8 @@ def crowd(is_far: bool, due: int) -> bytes:
 
 
 def drains_that_are_stuck(calls: Calls) -> None:
-    """The drain of a jam comes to its limit, millions of cycles away, at once, by rows of words of 32 and of 64 bits.
-    So it does where packets become due in the jam."""
+    """The drain of a jam comes to its limit, millions of cycles away, at once, in two dimensions and in three. So it
+    does where packets become due in the jam."""
     for (radix, channels, hops), due in product((("16, 16", 1, 8), ("16, 4, 4", 6, 12)), (0, 1_000_000)):
         config = f'kind = "torus"\nradix = [{radix}]\nchannels = {channels}\nbuffer = 1\nclasses = 1\n'
         calls.put(jam=f'{config}rule = "dor"\ncycles = 300\n'.encode(), crowd=crowd(hops == 12, due))
