@@ -50,17 +50,17 @@ def cells(program: str, radix: int, channels: int, repeat: int) -> Iterator[str]
     """The two columns of each load."""
     for part in LOADS.values():
         load = workload(radix, channels, part)
-        speeds, reports = measure(load, [Joined(program)], repeat, Path())
-        if len(reports) > 1:
+        measured = measure(load, [Joined(program)], repeat, Path())
+        if len(measured.reports) > 1:
             sys.exit("series: the program's reports on the same texts differ")
-        yield f"{flits_out(load, reports.pop()):.3f}"
-        yield f"{1e9 / speeds[0]:.0f}"
+        yield f"{flits_out(load, measured.reports.pop()):.3f}"
+        yield f"{1e9 / measured.speed(0):.0f}"
 
 
 def main() -> None:
     parser = argparse.ArgumentParser(description="Measures how the cost grows with routers, channels and load.")
     parser.add_argument("program")
-    parser.add_argument("--repeat", type=int, default=5, metavar="N", help="runs of which the best counts")
+    parser.add_argument("--repeat", type=int, default=5, metavar="N", help="rounds, of which the median counts")
     options = parser.parse_args()
     print("| routers | channels |", " | ".join(f"{name}: flits out | {name}: ns" for name in LOADS), "|")
     print("|--:|--:|" + "--:|--:|" * len(LOADS))

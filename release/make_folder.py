@@ -26,7 +26,7 @@ import help_files
 TOP = Path(__file__).resolve().parent.parent
 # What is installed under its name in the repository; of a folder all goes that is in it. Some pages
 # are of the repository alone.
-OF_REPOSITORY = ("ARCHITECTURE.md", "DECISIONS.md", "DEVELOPING.md")
+OF_REPOSITORY = ("ARCHITECTURE.md", "COLUMNS.md", "DECISIONS.md", "DEVELOPING.md")
 KEPT = ("noc-tools", "noc_tools", "pyproject.toml", "release/make_wheel.py", "examples",
         "README.md", "CHANGELOG.md",
         "CITATION.cff", "LICENSE", "LICENSE-MIT", "LICENSE-APACHE", "NOTICE",
