@@ -27,12 +27,10 @@ pub mod OutOrderLemmas
 pub mod OneOnLinkLemmas
 pub mod SourceOfLemmas
 pub mod FirstOfNodeLemmas
-pub mod HeadAtLemmas
 pub mod UnmixedLemmas
 pub mod InputLemmas
 pub mod BuiltLemmas
 pub mod WormOrderLemmas
-pub mod ListedLemmas
 pub mod CameLemmas
 pub mod OneBackLemmas
 pub mod NetworkLemmas

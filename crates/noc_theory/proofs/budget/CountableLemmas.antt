@@ -86,9 +86,6 @@ module _ (net : Setup) (built : IsBuilt net) (wired : IsWired net) (S : State) (
           come (inl k) = let z : In c ≡ On c = sym k ∙ e in cc z
           come (inr k) = let l : far_of net p c < far_of net p c = ltb-true _ _ (sym (ap (is_past net c (goal net p)) e) ∙ k) in omega arith
 
-  abbrev landed : State
-  landed = after_landing net S
-
   landed_sound : IsSoundFrozen net (after_landing net S)
   landed_sound = sound-landed net built wired S whole.sound
 

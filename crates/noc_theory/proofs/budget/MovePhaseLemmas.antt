@@ -85,9 +85,6 @@ abbrev pub gone : (net : Setup) → State → ℕ → Channel → Place
 gone net F n c = gone_to net n c (next_channel net F c)
 
 module _ (net : Setup) (n : ℕ) (F : State) where
-  abbrev all : List Channel
-  all = all_inputs net
-
   -- what a move off c takes: the hop, and the credit that is to come back
   abbrev pub loss : Channel → ℕ
   loss c = cond (is_link c) 2 1

@@ -33,12 +33,6 @@ use Rattle.noc_theory.proofs.join.OrderedLemmas.{IsGood, IsOrderedFrozen}
 use Rattle.noc_theory.proofs.join.LockstepStepLemmas.{filter-last}
 
 module _ (net : Setup) (good : IsGood net) (M : State) (x : IsOrderedFrozen net M) (n r : ℕ) (l : r < nodes net.relation.grid) (one : Injection net) (found : injection_at net M n r ≡ Some one) where
-  abbrev pub p : ℕ
-  p = one.packet
-
-  abbrev pub c : Channel
-  c = one.channel
-
   pub member : Has one (injections net M n)
   member = Has-filter_mapped (injection_at net M n) r one (below (nodes net.relation.grid)) (below-has r (nodes net.relation.grid) l) found
 
@@ -95,9 +89,6 @@ module _ (net : Setup) (good : IsGood net) (M : State) (x : IsOrderedFrozen net 
           let v : IsValid net one.packet i = (is_entry.low, w) in
           let source : place_of_flit net M one.packet i ≡ Source = source-behind net good.built M.own (place_of_flit net M) (worm net good M x n) one.packet entered.flit i v (omega arith) entered.was in
           ap (has_come net one.channel (goal net one.packet)) (entered.others i v (λ e. omega arith) ∙ source)
-
-  abbrev flit : Flit
-  flit = flit_at (packet_at net one.packet) one.packet entered.flit
 
   abbrev flit_of : Located → Flit
   flit_of f = flit_at (packet_at net f.packet) f.packet f.index

@@ -108,9 +108,6 @@ module _ (net : Setup) (good : IsGood net) (M : State) (x : IsOrderedFrozen net 
   abbrev pub Quiet : Channel → Type 0
   Quiet c = (one : Injection net) → Has one (injections net M n) → one.channel ≢ c
 
-  pub quiet-other : (c : Channel) → ((a v : ℕ) → c ≡ Inject a v → ⊥) → Quiet c
-  quiet-other c none one h e = let k = entry one h in none k.0 k.1.vc (sym e ∙ k.1.channel)
-
   pub owner-quiet : (c : Channel) → Quiet c → owner_of net T c ≡ owner_of net M c
   owner-quiet c quiet = at (owner_of net M c) refl
     where

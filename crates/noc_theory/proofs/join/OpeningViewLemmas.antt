@@ -44,9 +44,6 @@ module _ (net : Setup) (good : IsGood net) (r : ℕ) (l : r < nodes net.relation
   abbrev v : View
   v = opening_view (site_at net r) (starts_at net r) (ends_at net r)
 
-  abbrev O : State
-  O = opening_state net
-
   in-none : (c : Channel) → filter (λ (f : Located). is_in c f.place) (opening_state net).at ≡ []
   unfolding opening_state
   in-none c = find-empty (λ (f : Located). is_in c f.place) (opening_state net).at (opening-none (λ (f : Located). is_in c f.place) (λ p i. refl) (enumerate_from 0 net.packets))

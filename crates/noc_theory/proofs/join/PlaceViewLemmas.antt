@@ -78,10 +78,6 @@ module _ (net : Setup) (good : IsGood net) where
       let vc : i % vcs ≡ j % vcs = sym a.vc ∙ b.vc in
       (ap (λ (x : ℕ × ℕ). x.0) e, sym (div-add-mod' i vcs) ∙ ap (λ q. q * vcs + i % vcs) port ∙ ap (λ m. j / vcs * vcs + m) vc ∙ div-add-mod' j vcs)
 
-  -- an index tells the channel
-  pub same-channel : (r i : ℕ) (c d : Channel) → IsAt r i c → IsAt r i d → c ≡ d
-  same-channel r i c d a b = same_Some c d (sym a.found ∙ b.found)
-
   -- a channel that arrives is an input channel of the network
   pub arrives-in : {r i : ℕ} {c : Channel} → IsAt r i c → Has c (all_inputs net)
   unfolding inputs

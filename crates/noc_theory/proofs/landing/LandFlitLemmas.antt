@@ -34,9 +34,6 @@ use Rattle.noc_theory.proofs.join.PlaceViewLemmas.{IsAt}
 use Rattle.noc_theory.proofs.join.LockstepStepLemmas.{filter-last}
 
 module _ (net : Setup) (good : IsGood net) (S : State) (x : IsOrdered net S) (a b w : ℕ) (fl : Flit) (on : flit_on net S (Link a b w) ≡ Some fl) where
-  abbrev pub c : Channel
-  c = Link a b w
-
   abbrev flit_of : Located → Flit
   flit_of f = flit_at (packet_at net f.packet) f.packet f.index
 
@@ -60,12 +57,6 @@ module _ (net : Setup) (good : IsGood net) (S : State) (x : IsOrdered net S) (a 
         place = is_on-is (Link a b w) f.place (find-passes (λ (g : Located). is_on (Link a b w) g.place) S.at f e);
         is_flit = same_Some _ _ (sym (ap (option_map flit_of) e) ∙ on);
       }
-
-  abbrev p : ℕ
-  p = it.flit.packet
-
-  abbrev k : ℕ
-  k = it.flit.index
 
   valid : IsValid net it.flit.packet it.flit.index
   valid = (keyed net good S x).valid it.flit it.member

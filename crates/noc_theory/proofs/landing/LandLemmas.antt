@@ -73,9 +73,6 @@ module _ (net : Setup) (good : IsGood net) (S : State) (x : IsOrdered net S) whe
 
   -- ---- owners
 
-  abbrev freed : Channel → ℕ → Bool
-  freed c p = is_freed net (after_landing net S) (c, p)
-
   freed-is : (c : Channel) (p : ℕ) → Has (c, p) S.own → is_freed net (after_landing net S) (c, p) ≡ (is_link c && is_past net c (goal net p) (tail_place net S p))
   unfolding after_landing
   freed-is c p h =

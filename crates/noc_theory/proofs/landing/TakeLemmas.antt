@@ -24,9 +24,6 @@ use Rattle.noc_theory.proofs.join.PlaceViewLemmas.{IsAt, arriving-at, not-eject,
 use Rattle.noc_theory.specs.Seen.{IsSeen, IsAsNoted}
 
 module _ (net : Setup) (good : IsGood net) (S : State) (x : IsOrdered net S) (r : ℕ) (l : r < nodes net.relation.grid) (v0 : View) where
-  abbrev M : State
-  M = mid net S
-
   -- the state of which channel i is shown once the ports below k have been taken
   abbrev pub at_port : ℕ → ℕ → State
   at_port k i = if nat_lt (i / net.relation.vcs) k then mid net S else S

@@ -43,10 +43,6 @@ pub router_when : (may : Post → Bool) (o : Option Post) → holds_at may o ≡
 router_when may None e = absurd (false≢true e)
 router_when may (Some post) e = (post, refl, e)
 
--- a router is found once
-pub same_router : (k : CoreState) (r : ℕ) (a b : Post) → post_at k r ≡ Some a → post_at k r ≡ Some b → a ≡ b
-same_router k r a b p q = same_Some a b (sym p ∙ q)
-
 -- what a router was before f changed router x
 pub post_before : (x r : ℕ) (f : Post → Post) (k : CoreState) (post : Post) → post_at (with_post x f k) r ≡ Some post
     → ((r ≡ x) × ((before : Post) × (post_at k r ≡ Some before) × (f before ≡ post))) ⊎ ((r ≢ x) × (post_at k r ≡ Some post))

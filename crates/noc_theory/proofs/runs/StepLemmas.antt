@@ -1,10 +1,10 @@
 -- What taking, injecting and committing leave of a router, and the two halves of its step.
-use Rattle.std.proofs.Common.{◌≡◌, ◌≢◌, ℕ, suc, ◌+◌, ◌<◌, ◌≤◌, Bool, true, false, List, [], ◌∷◌, length, get_or, set, Option, Some, None, refl, ap, sym, ◌∙◌, ⊎_elim, arith}
+use Rattle.std.proofs.Common.{◌≡◌, ℕ, suc, ◌+◌, ◌<◌, ◌≤◌, Bool, true, false, List, [], ◌∷◌, length, get_or, Option, Some, None, refl, ap, sym, ◌∙◌, ⊎_elim, arith}
 use Rattle.std.specs.Prelude.{if◌then◌else◌}
-use Rattle.std.proofs.lemmas.Bool.{cases_eq, cases_lt}
-use Rattle.std.proofs.lemmas.List.{get_or-set_same, get_or-set_other, get_or_past, length-set}
+use Rattle.std.proofs.lemmas.Bool.{cases_lt}
+use Rattle.std.proofs.lemmas.List.{get_or_past}
 use Rattle.noc_topo.specs.Shape.{Grid, local_port}
-use Rattle.noc_topo.proofs.ListLemmas.{length-tabulate, get_or-tabulate, tabulate-from_each}
+use Rattle.noc_topo.proofs.ListLemmas.{length-tabulate, get_or-tabulate}
 use Rattle.noc_packet.specs.declared.packet.Beat.{Beat}
 use Rattle.noc_route.specs.Routes.{Routes}
 use Rattle.noc_view.specs.View.{Site, View, Decisions, IsRelationOf, view_after_take, view_after_takes_from, view_after_takes, view_after_inject, decisions_of, view_after_commit, local_step, with_flit, with_credit, with_arrival, tail_packet, flit_out, idle_beat}
@@ -67,20 +67,6 @@ taken-silent : (relation : Routes) (port : ℕ) (beats : List Beat) (v : View) �
 taken-silent relation port [] v silent = refl
 taken-silent relation port (beat ∷ beats) v silent =
     ap (view_after_takes_from relation (port + 1) beats) (taken-idle relation port beat v (silent 0)) ∙ taken-silent relation (port + 1) beats v (λ k. silent (suc k))
-
--- the beats for the link ports, where that of one of them is another one now
-pub incoming-set : (grid : Grid) (beats : List Beat) (port : ℕ) (beat : Beat) → port < local_port grid → port < length beats → incoming grid (set beats port beat) ≡ set (incoming grid beats) port beat
-unfolding incoming
-incoming-set grid beats port beat l m =
-    let count : length (incoming grid beats) ≡ local_port grid = length-tabulate (local_port grid) (λ k. get_or beats k idle_beat) in
-    let count_set : length (set (incoming grid beats) port beat) ≡ local_port grid = length-set (incoming grid beats) port beat ∙ count in
-    sym (tabulate-from_each (local_port grid) (λ k. get_or (set beats port beat) k idle_beat) (set (incoming grid beats) port beat) idle_beat count_set
-    (λ k u. ⊎_elim
-    (λ (e : k ≡ port). rw (e, get_or-set_same (incoming grid beats) port beat idle_beat (omega (arith, count))) (sym (get_or-set_same beats port beat idle_beat m)))
-    (λ (d : k ≢ port). get_or-set_other (incoming grid beats) port k beat idle_beat d
-    ∙ get_or-tabulate (local_port grid) k (λ i. get_or beats i idle_beat) idle_beat u
-    ∙ sym (get_or-set_other beats port k beat idle_beat d))
-    (cases_eq k port)))
 
 -- where nothing came, nothing is taken
 pub taken_end : (relation : Routes) (grid : Grid) (beats : List Beat) (v : View) → IsSilent beats → view_after_takes relation (incoming grid beats) v ≡ v

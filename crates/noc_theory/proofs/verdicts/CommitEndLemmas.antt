@@ -146,10 +146,6 @@ module _ (net : Setup) (good : IsGood net) (F : State) (x : IsOrderedFrozen net 
       last-index : (j q : ℕ) → j ≤ last_of net q → last_of net q ≤ j → 1 ≤ (packet_at net q).length → j + 1 ≡ (packet_at net q).length
       last-index j q a b some = omega arith
 
-  abbrev noted : ℕ → Option ℕ → Option ℕ
-  noted q None = out_cycle (tail_place net F q)
-  noted q (Some p) = if nat_eq q p then Some n else out_cycle (tail_place net F q)
-
   pub data Arrives : Type 0 where
     nobody : arrival ≡ None → ((q : ℕ) → Has q (ends_at net r) → out_cycle (tail_place net T q) ≡ out_cycle (tail_place net F q)) → Arrives
     somebody : (p : ℕ) → arrival ≡ Some p → Has p (ends_at net r) → out_cycle (tail_place net F p) ≡ None
@@ -206,9 +202,6 @@ module _ (net : Setup) (good : IsGood net) (F : State) (x : IsOrderedFrozen net 
               at q (leaves k s t) lp =
                   let same : m.flit.packet ≡ q = (the-tail i o q e m k).0 in
                   s ∙ sym (ap (λ b. if b then Some n else out_cycle (tail_place net F q)) (eq-eqb q m.flit.packet (sym same)))
-
-  abbrev pub cycle : State → ℕ → ℕ × Option ℕ
-  cycle S q = (q, out_cycle (tail_place net S q))
 
   -- with the arrival of the tail, if there is one, the ends are those of the
   -- state, and there is no misfit

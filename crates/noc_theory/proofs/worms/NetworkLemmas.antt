@@ -1,20 +1,18 @@
 -- What is known of every network that was made, at the start of each cycle (_at), after its
 -- landings and credits (_mid_at), and in its frozen state (_frozen_at).
-use Rattle.std.proofs.Common.{◌≡◌, ◌≢◌, ℕ, zero, suc, ◌+◌, ◌-◌, ◌≤◌, ◌<◌, Bool, true, false, List, length, Some, ap, sym, ◌∙◌, arith}
+use Rattle.std.proofs.Common.{◌≡◌, ℕ, zero, suc, ◌+◌, ◌-◌, ◌≤◌, ◌<◌, Bool, true, false, List, ap, sym, ◌∙◌, arith}
 use Rattle.std.specs.Prelude.{if◌then◌else◌}
 use Rattle.noc_topo.specs.Lists.{Has}
-use Rattle.noc_topo.specs.Shape.{nodes, neighbour}
 use Rattle.noc_route.specs.Channel.{Channel, Link, Eject}
-use Rattle.noc_route.specs.Routes.{set_at}
 use Rattle.noc_theory.specs.Network.{Setup, count_in, count_on, credit_of, State, Source, On, place_of_flit, has_channel, after_landing, after_credits, network_cycle, frozen_at, state_at}
 use Rattle.noc_theory.specs.Good.{IsWellFormedSetup, slots_taken, IsValid}
-use Rattle.noc_theory.proofs.worms.StateWordLemmas.{class_of, goal}
+use Rattle.noc_theory.proofs.worms.StateWordLemmas.{goal}
 use Rattle.noc_theory.proofs.worms.BuiltRecordLemmas.{IsBuilt}
 use Rattle.noc_theory.proofs.worms.BuiltLemmas.{good-built, good-wired, good-covering}
-use Rattle.noc_theory.proofs.worms.CameLemmas.{IsLed, led-mid, led-frozen, led-state, leads-further, ejects-home, eject-low}
+use Rattle.noc_theory.proofs.worms.CameLemmas.{IsLed, led-frozen, led-state, ejects-home, eject-low}
 use Rattle.noc_theory.proofs.worms.FirstOfNodeLemmas.{IsQueued, queued-mid, queued-frozen_state, queued-state}
 use Rattle.noc_theory.proofs.worms.GrantLemmas.{IsWired}
-use Rattle.noc_theory.proofs.worms.OneBackLemmas.{one-back-state, back-link-state, arbiters-mid, arbiters-frozen, arbiters-state, no-back-mid, no-back-frozen}
+use Rattle.noc_theory.proofs.worms.OneBackLemmas.{one-back-state, no-back-frozen}
 use Rattle.noc_theory.proofs.worms.OneOnLinkLemmas.{one-on-link}
 use Rattle.noc_theory.proofs.worms.OpeningLemmas.{at-source}
 use Rattle.noc_theory.proofs.worms.OutOrderLemmas.{IsOutInOrder, out-state}
@@ -42,9 +40,6 @@ module _ (net : Setup) (good : IsWellFormedSetup net) where
   pub room-frozen_at : (n : ℕ) (c : Channel) → count_in net (frozen_at net n) c ≤ net.depth
   room-frozen_at n c = (whole-frozen_at net good n).sound.room c
 
-  pub still-frozen_at : (n p i : ℕ) → IsValid net p i → (c : Channel) → place_of_flit net (frozen_at net n) p i ≢ On c
-  still-frozen_at n p i v c = (whole-frozen_at net good n).sound.still p i v c
-
   -- ---- who has begun is the first of its node
 
   pub queued-at : (n : ℕ) → IsQueued net (state_at net n)
@@ -61,17 +56,8 @@ module _ (net : Setup) (good : IsWellFormedSetup net) where
   pub led-at : (n : ℕ) → IsLed net (state_at net n)
   led-at n = led-state net built wired n
 
-  pub led-mid_at : (n : ℕ) → IsLed net (mid_at n)
-  led-mid_at n = led-mid net (state_at net n) (led-at n)
-
   pub led-frozen_at : (n : ℕ) → IsLed net (frozen_at net n)
   led-frozen_at n = led-frozen net built wired n (state_at net n) (whole-at net good n).sound (led-at n)
-
-  -- so, in a state of which that is true: where a link channel of a packet ends, the
-  -- relation leads the packet on
-  pub leads-on : (S : State) → IsLed net S → (r a v p : ℕ) (to : ℕ × ℕ) → Has (Link r a v, p) S.own → neighbour net.relation.grid r a ≡ Some to
-      → set_at net.relation (class_of net p) to.0 to.1 v (goal net p) ≢ 0
-  leads-on = leads-further net good.relation
 
   -- an ejection channel of a packet is one at its destination
   pub ejects-at_goal : (S : State) → IsLed net S → (n v p : ℕ) → Has (Eject n v, p) S.own → n ≡ goal net p
@@ -90,13 +76,6 @@ module _ (net : Setup) (good : IsWellFormedSetup net) where
   pub one_back-at : (n r a v u : ℕ) → has_channel (state_at net n).back (Link r a v) ≡ true → has_channel (state_at net n).back (Link r a u) ≡ true → v ≡ u
   one_back-at = one-back-state net wired
 
-  pub links_back-at : (n : ℕ) (c : Channel) → has_channel (state_at net n).back c ≡ true → (r : ℕ) × (a : ℕ) × (v : ℕ) × (c ≡ Link r a v)
-  links_back-at = back-link-state net wired
-
-  -- no credit is on its way in the middle of a cycle
-  pub none_back-mid_at : (n : ℕ) (c : Channel) → has_channel (mid_at n).back c ≡ false
-  none_back-mid_at n c = ap (λ (cs : List Channel). has_channel cs c) (no-back-mid net (state_at net n))
-
   pub none_back-frozen_at : (n : ℕ) (c : Channel) → has_channel (frozen_at net n).back c ≡ false
   none_back-frozen_at n c = ap (λ (cs : List Channel). has_channel cs c) (no-back-frozen net n (state_at net n))
 
@@ -109,17 +88,6 @@ module _ (net : Setup) (good : IsWellFormedSetup net) where
     where
       rest : (a b k : ℕ) → a ≡ 0 → k ≡ 0 → b ≤ net.depth → (net.depth - a - b - k) + (a + b + k) ≡ net.depth
       rest a b k x y l = omega arith
-
-  -- ---- as many arbiters as routers
-
-  pub arbiters-at : (n : ℕ) → length (state_at net n).arbiters ≡ nodes net.relation.grid
-  arbiters-at n = arbiters-state net n
-
-  pub arbiters-mid_at : (n : ℕ) → length (mid_at n).arbiters ≡ nodes net.relation.grid
-  arbiters-mid_at n = ap length (arbiters-mid net (state_at net n)) ∙ arbiters-state net n
-
-  pub arbiters-frozen_at : (n : ℕ) → length (frozen_at net n).arbiters ≡ nodes net.relation.grid
-  arbiters-frozen_at n = ap length (arbiters-frozen net n (state_at net n)) ∙ arbiters-state net n
 
   -- ---- flits go out in order
 

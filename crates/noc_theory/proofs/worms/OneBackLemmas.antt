@@ -91,10 +91,6 @@ module _ (net : Setup) where
 
   -- ---- no credit is on its way in a frozen state
 
-  pub no-back-mid : (S : State) → (after_credits net (after_landing net S)).back ≡ []
-  unfolding after_landing after_credits
-  no-back-mid S = refl
-
   pub no-back-frozen : (n : ℕ) (S : State) → (frozen_state net n S).back ≡ []
   unfolding frozen_state after_landing after_credits after_injection
   no-back-frozen n S = refl

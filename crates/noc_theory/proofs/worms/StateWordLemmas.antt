@@ -96,7 +96,3 @@ module _ (net : Setup) where
   -- p precedes each packet of its node that has its tail at its source
   abbrev pub IsFirstOf : State → ℕ → Type 0
   IsFirstOf S p = (q : ℕ) → q < length net.packets → (packet_at net q).source ≡ (packet_at net p).source → tail_place net S q ≡ Source → Precedes (λ x. (packet_at net x).due) p q
-
-  -- on o, in it or past it
-  abbrev pub Reached : ℕ → Channel → Place → Type 0
-  Reached p o x = (x ≡ On o) ⊎ ((x ≡ In o) ⊎ (is_past net o (goal p) x ≡ true))
