@@ -7,6 +7,7 @@ use Rattle.noc_columns.specs.Supply.{digits_by, number_in}
 use Rattle.noc_columns.specs.Words.{word}
 use Rattle.noc_columns.specs.declared.supply.Digits.{Digits}
 use Rattle.noc_columns.proofs.MarkLemmas.{idle-next, idle-start}
+use Rattle.noc_columns.proofs.PickLemmas.{within}
 use Rattle.noc_columns.proofs.WalkLemmas.{union-step}
 use Rattle.noc_columns.proofs.arrivals.give_back_port.Goals as goal
 
@@ -32,3 +33,21 @@ returns-clause-idle c = λ r few.
     let all : c.loop-v.v ≡ c.args.side.now.vcs = omega arith in
     c.loop-v.invariant.idle r few
     ∙ ap (λ n. union_from (slice_index c.args.marks.now.idle r) n (λ v. if has_bit (word ((port_at side c.args.j).index v) c.args.arrived.now) r then 2 ^ (c.args.links + number_in (digits_by (word ((port_at side c.args.j).index v)) c.args.vc.now) r) else 0)) all
+
+pub overflow_mul-index : goal.overflow_mul-index
+overflow_mul-index c = omega (arith, within c.loop-v.v c.args.side.now.vcs c.args.side.now.width (omega arith), c.requires.j)
+
+pub overflow_add-index : goal.overflow_add-index
+overflow_add-index c = omega (arith, within c.loop-v.v c.args.side.now.vcs c.args.side.now.width (omega arith), c.requires.j)
+
+pub overflow_add-index-in-loop-v : goal.overflow_add-index-in-loop-v
+overflow_add-index-in-loop-v c = omega (arith, within c.loop-v.v c.args.side.now.vcs c.args.side.now.width (omega arith), c.requires.j)
+
+pub at-numbers-requires : goal.at-numbers-requires
+at-numbers-requires c = omega (arith, within c.loop-v.v c.args.side.now.vcs c.args.side.now.width (omega arith), c.requires.j)
+
+pub offset_bounds-arrived-index : goal.offset_bounds-arrived-index
+offset_bounds-arrived-index c = omega (arith, within c.loop-v.v c.args.side.now.vcs c.args.side.now.width (omega arith), c.requires.j)
+
+pub bounds-arrived-index : goal.bounds-arrived-index
+bounds-arrived-index c = omega (arith, within c.loop-v.v c.args.side.now.vcs c.args.side.now.width (omega arith), c.requires.j)

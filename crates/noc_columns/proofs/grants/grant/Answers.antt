@@ -1,4 +1,4 @@
-use Rattle.std.proofs.Common.{◌≡◌, ◌+◌, ◌*◌, ◌^◌, ◌<◌, ◌∙◌, ap, ap₂, sym, subst, bit_or, slice_index}
+use Rattle.std.proofs.Common.{◌≡◌, ◌+◌, ◌*◌, ◌^◌, ◌<◌, ◌∙◌, ap, ap₂, arith, sym, subst, bit_or, slice_index, get_or-set_other, get_or-set_same}
 use Rattle.std.specs.Prelude.{◌&&◌, ◌||◌, nat_eq, if◌then◌else◌}
 use Rattle.std.proofs.lemmas.Nat.{pow_pos}
 use Rattle.noc_packet.specs.Set.{has_bit}
@@ -51,3 +51,41 @@ returns-clause-grants c = λ r.
           (λ i s. c.put_number-2.ensures i s ∙ ap (λ j. if nat_eq i j && nat_eq s router then c.vc.result else number_in (digits_by (word i) old.sends.vc) s) at)
           ∙ ap₂ (λ x v. if nat_eq r router && has_bit x d then v else number_in (digits_by (set_of n r) old.sends.vc) d) (sym is) c.vc.ensures.is;
     }
+
+pub past-requires : goal.past-requires
+past-requires c =
+    let size = (c.args.table.now.ports.links.width + 1) * c.args.table.now.ports.links.vcs in
+    let one = first-is size c.args.requests (slice_index c.args.turn.now c.args.out) c.first_in_turn-bit.result c.requires.below c.requires.some c.first_in_turn-bit.ensures in
+    subst (λ x. 0 < x) (sym one.2) (pow_pos one.0)
+
+pub bounds-turn-out : goal.bounds-turn-out
+bounds-turn-out c = omega (arith, c.args.table.now.few, c.requires.out)
+
+pub bounds-turn-out-2 : goal.bounds-turn-out-2
+bounds-turn-out-2 c = omega (arith, c.args.table.now.few, c.requires.out)
+
+pub offset_bounds-turn-out : goal.offset_bounds-turn-out
+offset_bounds-turn-out c = omega (arith, c.args.table.now.few, c.requires.out)
+
+pub offset_bounds-turn-out-2 : goal.offset_bounds-turn-out-2
+offset_bounds-turn-out-2 c = omega (arith, c.args.table.now.few, c.requires.out)
+
+pub put_number-requires-clause-index : goal.put_number-requires-clause-index
+put_number-requires-clause-index c = c.index-index.ensures.within
+
+pub put_number-requires-2-clause-index : goal.put_number-requires-2-clause-index
+put_number-requires-2-clause-index c = c.index-index.ensures.within
+
+pub put_router-requires-clause-index : goal.put_router-requires-clause-index
+put_router-requires-clause-index c = c.index-index.ensures.within
+
+pub returns-clause-first : goal.returns-clause-first
+returns-clause-first c = c.first_in_turn-bit.ensures
+
+pub returns-clause-turn : goal.returns-clause-turn
+returns-clause-turn c = λ k i is l.
+    let few = c.args.table.now.few in
+    ap (λ w. has_bit w i) (get_or-set_same c.args.turn.now c.args.out c.past.result 0 (omega (arith, few, c.requires.out))) ∙ c.past.ensures k i is l
+
+pub returns-clause-others : goal.returns-clause-others
+returns-clause-others c = λ o other. get_or-set_other c.args.turn.now c.args.out o c.past.result 0 other

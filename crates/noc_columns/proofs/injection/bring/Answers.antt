@@ -8,14 +8,17 @@ use Rattle.noc_columns.proofs.PassLemmas.{all-next, word-here, word-other}
 use Rattle.noc_columns.proofs.SetLemmas.{either, leaf, sets-are, without}
 use Rattle.noc_columns.proofs.injection.bring.Goals as goal
 
+-- the words of the local port stand one behind the other
+alone : (vcs width : ℕ) → width ≡ 1 → vcs * width ≡ vcs * 1
+alone vcs width one = ap (λ w. vcs * w) one
+
 pub loop-v-preserved : goal.loop-v-preserved
 loop-v-preserved c =
     let v = c.loop-v.v in
     let inv = c.loop-v.invariant in
     let first = c.args.local.now.first in
     let i = first + v in
-    let vcs = c.args.local.now.vcs in
-    let one : vcs * c.args.local.now.width ≡ vcs * 1 = ap (λ w. vcs * w) c.requires in
+    let one = alone c.args.local.now.vcs c.args.local.now.width c.requires in
     let few : i < 72 = omega (arith, one) in
     let came = c.loop-v.came in
     let injection = c.loop-v.injection in
@@ -83,3 +86,48 @@ returns c =
     ended : (k : ℕ) → (k < c.args.local.now.first) ⊎ (c.args.local.now.first + c.args.local.now.vcs ≤ k) → c.loop-v.v ≡ c.args.local.now.vcs → (k < c.args.local.now.first) ⊎ (c.args.local.now.first + c.loop-v.v ≤ k)
     ended k (inl l) all = inl l
     ended k (inr l) all = inr (omega (arith, l, all))
+
+pub overflow_add-i : goal.overflow_add-i
+overflow_add-i c = omega (arith, alone c.args.local.now.vcs c.args.local.now.width c.requires)
+
+pub bounds-came-i : goal.bounds-came-i
+bounds-came-i c = omega (arith, alone c.args.local.now.vcs c.args.local.now.width c.requires)
+
+pub bounds-came-i-in-loop-v : goal.bounds-came-i-in-loop-v
+bounds-came-i-in-loop-v c = omega (arith, alone c.args.local.now.vcs c.args.local.now.width c.requires)
+
+pub offset_bounds-came-i : goal.offset_bounds-came-i
+offset_bounds-came-i c = omega (arith, alone c.args.local.now.vcs c.args.local.now.width c.requires)
+
+pub offset_bounds-came-i-in-loop-v : goal.offset_bounds-came-i-in-loop-v
+offset_bounds-came-i-in-loop-v c = omega (arith, alone c.args.local.now.vcs c.args.local.now.width c.requires)
+
+pub bounds-injection-i : goal.bounds-injection-i
+bounds-injection-i c = omega (arith, alone c.args.local.now.vcs c.args.local.now.width c.requires)
+
+pub bounds-injection-i-in-loop-v : goal.bounds-injection-i-in-loop-v
+bounds-injection-i-in-loop-v c = omega (arith, alone c.args.local.now.vcs c.args.local.now.width c.requires)
+
+pub bounds-injection-i-in-loop-v-2 : goal.bounds-injection-i-in-loop-v-2
+bounds-injection-i-in-loop-v-2 c = omega (arith, alone c.args.local.now.vcs c.args.local.now.width c.requires)
+
+pub bounds-injection-i-in-loop-v-3 : goal.bounds-injection-i-in-loop-v-3
+bounds-injection-i-in-loop-v-3 c = omega (arith, alone c.args.local.now.vcs c.args.local.now.width c.requires)
+
+pub bounds-injection-i-in-loop-v-4 : goal.bounds-injection-i-in-loop-v-4
+bounds-injection-i-in-loop-v-4 c = omega (arith, alone c.args.local.now.vcs c.args.local.now.width c.requires)
+
+pub offset_bounds-injection-i : goal.offset_bounds-injection-i
+offset_bounds-injection-i c = omega (arith, alone c.args.local.now.vcs c.args.local.now.width c.requires)
+
+pub offset_bounds-injection-i-in-loop-v : goal.offset_bounds-injection-i-in-loop-v
+offset_bounds-injection-i-in-loop-v c = omega (arith, alone c.args.local.now.vcs c.args.local.now.width c.requires)
+
+pub offset_bounds-injection-i-in-loop-v-2 : goal.offset_bounds-injection-i-in-loop-v-2
+offset_bounds-injection-i-in-loop-v-2 c = omega (arith, alone c.args.local.now.vcs c.args.local.now.width c.requires)
+
+pub offset_bounds-injection-i-in-loop-v-3 : goal.offset_bounds-injection-i-in-loop-v-3
+offset_bounds-injection-i-in-loop-v-3 c = omega (arith, alone c.args.local.now.vcs c.args.local.now.width c.requires)
+
+pub offset_bounds-injection-i-in-loop-v-4 : goal.offset_bounds-injection-i-in-loop-v-4
+offset_bounds-injection-i-in-loop-v-4 c = omega (arith, alone c.args.local.now.vcs c.args.local.now.width c.requires)

@@ -1,4 +1,4 @@
-use Rattle.std.proofs.Common.{◌≡◌, ℕ, ◌+◌, ◌*◌, ◌<◌, ◌∙◌, ap, ap₂, sym, arith, set, bit_or}
+use Rattle.std.proofs.Common.{◌≡◌, ℕ, ◌+◌, ◌*◌, ◌<◌, ◌∙◌, ap, ap₂, refl, sym, arith, set, bit_or}
 use Rattle.std.specs.Prelude.{◌||◌}
 use Rattle.std.proofs.lemmas.List.{length-set}
 use Rattle.noc_packet.specs.Set.{has_bit}
@@ -54,3 +54,36 @@ returns-clause-here c = λ v r l few. c.loop-v.invariant.done v (omega arith) r 
 
 pub returns-clause-others : goal.returns-clause-others
 returns-clause-others c = λ k away. c.loop-v.invariant.others k away
+
+pub loop-v-init : goal.loop-v-init
+loop-v-init c = record { size = omega arith; done = λ k l. absurd (omega (arith, l)); others = λ k away. refl; left = λ k l m. refl }
+
+pub overflow_mul-at : goal.overflow_mul-at
+overflow_mul-at c = omega (arith, within c.loop-v.v c.args.links.now.vcs c.args.links.now.width (omega arith), c.requires.port)
+
+pub overflow_add-to : goal.overflow_add-to
+overflow_add-to c = omega (arith, within c.loop-v.v c.args.links.now.vcs c.args.links.now.width (omega arith), c.requires.port)
+
+pub offset_bounds-to-at : goal.offset_bounds-to-at
+offset_bounds-to-at c = omega (arith, within c.loop-v.v c.args.links.now.vcs c.args.links.now.width (omega arith), c.requires.port)
+
+pub bounds-to-at : goal.bounds-to-at
+bounds-to-at c = omega (arith, within c.loop-v.v c.args.links.now.vcs c.args.links.now.width (omega arith), c.requires.port)
+
+pub overflow_add-to-in-loop-v : goal.overflow_add-to-in-loop-v
+overflow_add-to-in-loop-v c = omega (arith, within c.loop-v.v c.args.links.now.vcs c.args.links.now.width (omega arith), c.requires.port)
+
+pub offset_bounds-to-at-in-loop-v : goal.offset_bounds-to-at-in-loop-v
+offset_bounds-to-at-in-loop-v c = omega (arith, within c.loop-v.v c.args.links.now.vcs c.args.links.now.width (omega arith), c.requires.port)
+
+pub bounds-to-at-in-loop-v : goal.bounds-to-at-in-loop-v
+bounds-to-at-in-loop-v c = omega (arith, within c.loop-v.v c.args.links.now.vcs c.args.links.now.width (omega arith), c.requires.port)
+
+pub overflow_add-at : goal.overflow_add-at
+overflow_add-at c = omega (arith, within c.loop-v.v c.args.links.now.vcs c.args.links.now.width (omega arith), c.opposite-other.ensures, c.requires.opposite)
+
+pub offset_bounds-from-at : goal.offset_bounds-from-at
+offset_bounds-from-at c = omega (arith, within c.loop-v.v c.args.links.now.vcs c.args.links.now.width (omega arith), c.opposite-other.ensures, c.requires.opposite)
+
+pub bounds-from-at : goal.bounds-from-at
+bounds-from-at c = omega (arith, within c.loop-v.v c.args.links.now.vcs c.args.links.now.width (omega arith), c.opposite-other.ensures, c.requires.opposite)

@@ -1,4 +1,4 @@
-use Rattle.std.proofs.Common.{◌≡◌, ◌≢◌, ◌⊎◌, ℕ, ◌+◌, ◌*◌, ◌<◌, ◌≤◌, ◌∙◌, ap, arith, set, bit_and, inl, inr, slice_index}
+use Rattle.std.proofs.Common.{◌≡◌, ◌≢◌, ◌⊎◌, ℕ, ◌+◌, ◌*◌, ◌<◌, ◌≤◌, ◌∙◌, ap, arith, refl, set, bit_and, inl, inr, slice_index}
 use Rattle.std.specs.Prelude.{◌&&◌, nat_eq}
 use Rattle.std.proofs.lemmas.List.{length-set}
 use Rattle.noc_packet.specs.Set.{has_bit}
@@ -44,3 +44,44 @@ returns-clause-flits c = λ q r l. c.loop-q.invariant.flits q (omega arith) r
 
 pub returns-clause-tails : goal.returns-clause-tails
 returns-clause-tails c = λ q r l. c.loop-q.invariant.tails q (omega arith) r
+
+pub loop-q-init : goal.loop-q-init
+loop-q-init c = record {
+  flits_size = omega arith;
+  tails_size = omega arith;
+  flits = λ k l. absurd (omega (arith, l));
+  tails = λ k l. absurd (omega (arith, l));
+  others = λ k o. (refl, refl);
+  rest = refl;
+}
+
+pub overflow_mul-at : goal.overflow_mul-at
+overflow_mul-at c = omega (arith, within c.args.v c.args.links.now.vcs c.args.links.now.width c.requires.vc)
+
+pub overflow_add-at : goal.overflow_add-at
+overflow_add-at c = omega (arith, within c.args.v c.args.links.now.vcs c.args.links.now.width c.requires.vc)
+
+pub overflow_add-left : goal.overflow_add-left
+overflow_add-left c = omega (arith, within c.args.v c.args.links.now.vcs c.args.links.now.width c.requires.vc)
+
+pub offset_bounds-left-at : goal.offset_bounds-left-at
+offset_bounds-left-at c = omega (arith, within c.args.v c.args.links.now.vcs c.args.links.now.width c.requires.vc)
+
+pub bounds-left-at : goal.bounds-left-at
+bounds-left-at c = omega (arith, within c.args.v c.args.links.now.vcs c.args.links.now.width c.requires.vc)
+
+pub overflow_add-left-in-loop-q : goal.overflow_add-left-in-loop-q
+overflow_add-left-in-loop-q c = omega (arith, within c.args.v c.args.links.now.vcs c.args.links.now.width c.requires.vc)
+
+pub offset_bounds-left-at-in-loop-q : goal.offset_bounds-left-at-in-loop-q
+offset_bounds-left-at-in-loop-q c = omega (arith, within c.args.v c.args.links.now.vcs c.args.links.now.width c.requires.vc)
+
+pub bounds-left-at-in-loop-q : goal.bounds-left-at-in-loop-q
+bounds-left-at-in-loop-q c = omega (arith, within c.args.v c.args.links.now.vcs c.args.links.now.width c.requires.vc)
+
+pub returns-clause-others : goal.returns-clause-others
+returns-clause-others c = λ k o.
+    c.loop-q.invariant.others k (elim o [ inl l ↦ inl l | inr m ↦ inr (omega (arith, m)) ])
+
+pub returns-clause-rest : goal.returns-clause-rest
+returns-clause-rest c = c.loop-q.invariant.rest

@@ -43,6 +43,17 @@ bounds-starts-place c =
     let l = c.requires.queue t few (inv.part t least.0) in
     omega (arith, queue, l)
 
+pub bounds-starts-place-in-loop-rest : goal.bounds-starts-place-in-loop-rest
+bounds-starts-place-in-loop-rest c =
+    let self = c.args.self.now in
+    let inv = c.loop-rest.invariant in
+    let t = c.least-router.result in
+    let least = c.least-router.ensures.least in
+    let few : c.least-router.result < 64 = c.least-router.ensures.within in
+    let queue = walk-fresh c.args.routers c.loop-rest.rest t least (λ k. slice_index self.queue k + 1) (slice_index self.queue) (slice_index c.loop-rest.self.queue) (inv.queue t few) in
+    let l = c.requires.queue t few (inv.part t least.0) in
+    omega (arith, queue, l)
+
 pub loop-rest-preserved : goal.loop-rest-preserved
 loop-rest-preserved c =
     let starts = starts_by c.args.starts.now in
@@ -87,3 +98,12 @@ returns c =
       at = λ r few. walk-all c.args.routers c.loop-rest.rest r (λ k. (start_in starts (slice_index self.queue k + 1)).due) (slice_index self.due.at) (slice_index c.loop-rest.self.due.at) none (inv.at r few);
       due = inv.due;
     }
+
+pub bounds-self-router : goal.bounds-self-router
+bounds-self-router c = c.least-router.ensures.within
+
+pub bounds-self-router-in-loop-rest : goal.bounds-self-router-in-loop-rest
+bounds-self-router-in-loop-rest c = c.least-router.ensures.within
+
+pub put-requires : goal.put-requires
+put-requires c = c.least-router.ensures.within
