@@ -25,13 +25,6 @@ pub record HaveArrivedBut (cycle set rest : ℕ) (packet : ℕ → ℕ) (old now
   pub some : (r : ℕ) → has_bit set r ≡ true → has_bit rest r ≡ false → now (packet r) ≡ cycle
   pub others : (p : ℕ) → ((r : ℕ) → r < 64 → has_bit set r ≡ true → packet r ≢ p) → now p ≡ old p
 
-pub arrivals-start : (cycle set : ℕ) (packet : ℕ → ℕ) (old : ℕ → ℕ) → HaveArrivedBut cycle set set packet old old
-arrivals-start cycle set packet old = record {
-  part = λ r e. e;
-  some = λ r a b. absurd (true≢false (sym a ∙ b));
-  others = λ p none. refl;
-}
-
 pub arrivals-next : (cycle members rest left t : ℕ) (packet : ℕ → ℕ) (old : ℕ → ℕ) (table : List ℕ) → IsLeast (has_bit rest) (Some t) → t < 64 → left ≡ less rest (lowest rest) → packet t < length table
     → HaveArrivedBut cycle members rest packet old (slice_index table) → HaveArrivedBut cycle members left packet old (slice_index (set table (packet t) cycle))
 arrivals-next cycle members rest left t packet old table is few left_is within are = record {
@@ -48,16 +41,10 @@ arrivals-next cycle members rest left t packet old table is few left_is within a
     some r a b (inr other) (inl one) = absurd (other (ap packet one))
     some r a b (inr other) (inr apart) = written (packet r) ∙ ap (λ x. if x then cycle else slice_index table (packet r)) (ne_eqb (packet r) (packet t) other) ∙ are.some r a (was-left rest t r is apart b)
 
-pub arrivals-all : (cycle set rest : ℕ) (packet : ℕ → ℕ) (old now : ℕ → ℕ) → rest ≡ 0 → HaveArrivedBut cycle set rest packet old now → (r : ℕ) → has_bit set r ≡ true → now (packet r) ≡ cycle
-arrivals-all cycle set rest packet old now none are r e = are.some r e (ap (λ n. has_bit n r) none ∙ has_bit-zero r)
-
 -- ---- in the channels below n, where these routers have each
 pub record HaveArrivedBelow (cycle n : ℕ) (routers : ℕ → ℕ) (packet : ℕ → ℕ → ℕ) (old now : ℕ → ℕ) : Type 0 where
   pub some : (r k : ℕ) → k < n → r < 64 → has_bit (routers k) r ≡ true → now (packet r k) ≡ cycle
   pub others : (p : ℕ) → ((r k : ℕ) → k < n → r < 64 → has_bit (routers k) r ≡ true → packet r k ≢ p) → now p ≡ old p
-
-pub below-start : (cycle : ℕ) (routers : ℕ → ℕ) (packet : ℕ → ℕ → ℕ) (old : ℕ → ℕ) → HaveArrivedBelow cycle 0 routers packet old old
-below-start cycle routers packet old = record { some = λ r k l few e. absurd (omega arith); others = λ p none. refl }
 
 pub below-next : (cycle n : ℕ) (routers : ℕ → ℕ) (packet : ℕ → ℕ → ℕ) (old now new : ℕ → ℕ) → HaveArrivedBelow cycle n routers packet old now
     → ((r : ℕ) → r < 64 → has_bit (routers n) r ≡ true → new (packet r n) ≡ cycle) → ((p : ℕ) → ((r : ℕ) → r < 64 → has_bit (routers n) r ≡ true → packet r n ≢ p) → new p ≡ now p)

@@ -1,9 +1,9 @@
 -- What counts say of one channel, bit by bit, they say of another with the same bits.
-use Rattle.std.proofs.Common.{◌≡◌, ℕ, Bool, true, false, List, [], ◌∷◌, refl, ap₂, sym, ◌∙◌, bit_and, bit_or, bit_xor}
-use Rattle.std.specs.Prelude.{◌&&◌, ◌||◌}
+use Rattle.std.proofs.Common.{◌≡◌, ℕ, Bool, true, false, List, [], ◌∷◌, refl, ap₂, sym, ◌∙◌, bit_or, bit_xor}
+use Rattle.std.specs.Prelude.{◌||◌}
 use Rattle.noc_packet.specs.Set.{has_bit}
-use Rattle.noc_packet.proofs.SetLemmas.{both_members, either_members}
-use Rattle.noc_sets.specs.Planes.{any_from, raised_by, wrong_from}
+use Rattle.noc_packet.proofs.SetLemmas.{either_members}
+use Rattle.noc_sets.specs.Planes.{any_from, wrong_from}
 use Rattle.noc_sets.specs.Sets.{differ}
 use Rattle.noc_sets.proofs.MemberLemmas.{xor_members}
 use Rattle.noc_columns.specs.Planes.{list_of, planes_by}
@@ -40,15 +40,6 @@ wrong-at x y (p ∷ ps) (q ∷ qs) (o ∷ os) (u ∷ us) a b are also e =
     (either_members a (bit_xor p o) x
     ∙ ap₂ (λ s t. s || t) e (xor_members p o x ∙ ap₂ differ are.0 also.0 ∙ sym (xor_members q u y))
     ∙ sym (either_members b (bit_xor q u) y))
-
-pub raised-at : (x y : ℕ) (ps qs : List ℕ) (a b : ℕ) → AreAt x y ps qs → has_bit a x ≡ has_bit b y → AreAt x y (raised_by ps a) (raised_by qs b)
-raised-at x y [] [] a b are e = tt
-raised-at x y [] (q ∷ qs) a b are e = absurd are
-raised-at x y (p ∷ ps) [] a b are e = absurd are
-raised-at x y (p ∷ ps) (q ∷ qs) a b are e = (
-  xor_members p a x ∙ ap₂ differ are.0 e ∙ sym (xor_members q b y),
-  raised-at x y ps qs (bit_and a p) (bit_and b q) are.1 (both_members a p x ∙ ap₂ (λ s t. s && t) e are.0 ∙ sym (both_members b q y)),
-)
 
 pub same-at : (x : ℕ) (ps : List ℕ) → AreAt x x ps ps
 same-at x [] = tt
