@@ -1,4 +1,4 @@
-use Rattle.std.proofs.Common.{ap, bit_or, refl, subst, ◌∙◌}
+use Rattle.std.proofs.Common.{ap, bit_or, refl, subst, sym, ◌∙◌}
 use Rattle.std.specs.Prelude.{not, nat_eq}
 use Rattle.noc_columns.specs.Channels.{standing_by}
 use Rattle.noc_columns.specs.Picks.{channels_of, links_of}
@@ -6,7 +6,8 @@ use Rattle.noc_columns.specs.Sources.{starts_by}
 use Rattle.noc_columns.specs.Words.{set_of}
 use Rattle.noc_columns.proofs.PortLemmas.{member-below}
 use Rattle.noc_cycles.specs.Held.{held_at, links_at}
-use Rattle.noc_cycles.specs.Taking.{HasInjected}
+use Rattle.noc_cycles.specs.Taking.{HasInjected, MaySend}
+use Rattle.noc_cycles.specs.declared.block.Block.{Block}
 use Rattle.noc_cycles.specs.declared.block.Work.{Work}
 use Rattle.noc_cycles.proofs.PartLemmas.{all-within, none-above}
 use Rattle.noc_cycles.proofs.StillLemmas.{has-taken}
@@ -38,3 +39,34 @@ returns-clause-taken c = λ layout r b fits few shows may.
     (subst (λ w. HasInjected pattern layout starts c.args.cycle (links_at ports w r) a d flits tails) same_came (c.inject_flits.ensures.injected layout r fits few))
     (c.land-heading.ensures.flits all r (all-within pattern)) refl refl
     (c.some_come.ensures r ∙ ap (λ w. not (nat_eq (bit_or flits (set_of links r w)) 0)) (c.inject_flits.ensures.credits ∙ ap (λ (w : Work). w.came.credits) c.count_credits.ensures.work))
+
+-- credits change nothing that sources read
+pub inject_flits-requires : goal.inject_flits-requires
+inject_flits-requires c =
+    let may = c.requires in
+    subst (MaySend c.args.pattern.now.table.ports (starts_by c.args.starts.now) c.args.cycle) (sym c.count_credits.ensures.block) (record {
+      few = may.few;
+      before = may.before;
+      earlier = may.earlier;
+      punctual = record { due = may.punctual.due; injected = may.punctual.injected };
+      each = λ r l. record { one = (may.each r l).one; left = (may.each r l).left; queue = (may.each r l).queue };
+    })
+
+pub returns-clause-punctual : goal.returns-clause-punctual
+returns-clause-punctual c = record { due = c.inject_flits.ensures.punctual.due; injected = c.inject_flits.ensures.punctual.injected }
+
+pub returns-clause-block : goal.returns-clause-block
+returns-clause-block c =
+    let new = c.inject_flits.new.block in
+    let same = c.inject_flits.ensures.block ∙ ap (λ (b : Block). record b { injection = new.injection; packets = new.packets; sources = new.sources }) c.count_credits.ensures.block in
+    λ x. record (same x) { inputs = c.land-heading.new.inputs; outputs = new.outputs; injection = new.injection; marks = new.marks; packets = new.packets; sources = new.sources }
+
+pub returns-clause-work : goal.returns-clause-work
+returns-clause-work c =
+    let same = c.count_credits.ensures.work in
+    λ x. record (same x) {
+      came = c.inject_flits.new.came;
+      returned = c.count_credits.new.work.returned;
+      standing = c.land-heading.new.standing;
+      verdicts = record ((same x).verdicts) { no_credit = c.land-heading.new.no_credit };
+    }

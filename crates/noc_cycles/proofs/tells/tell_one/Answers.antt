@@ -1,14 +1,59 @@
-use Rattle.std.proofs.Common.{◌≡◌, ◌<◌, ◌≤◌, ◌*◌, ◌+◌, ap, sym, subst, ◌∙◌, arith}
+use Rattle.std.proofs.Common.{◌≡◌, ℕ, ◌<◌, ◌≤◌, ◌*◌, ◌+◌, ◌%◌, ap, sym, subst, ◌∙◌, arith}
 use Rattle.noc_topo.specs.Shape.{local_port, neighbour, opposite}
 use Rattle.noc_columns.specs.Heads.{packet_in}
 use Rattle.noc_columns.specs.Picks.{channels_of}
 use Rattle.noc_columns.specs.Supply.{digits_by, number_in}
 use Rattle.noc_columns.specs.Words.{word}
+use Rattle.noc_columns.proofs.PickLemmas.{apart}
 use Rattle.noc_columns.proofs.SupplyLemmas.{number-is}
 use Rattle.noc_cycles.specs.Around.{number_or_nowhere}
 use Rattle.noc_cycles.specs.Told.{port_in, vc_in}
+use Rattle.noc_cycles.proofs.BroughtLemmas.{opposite-below}
 use Rattle.noc_cycles.proofs.TellLemmas.{none-local, none-over, noted-over}
 use Rattle.noc_cycles.proofs.tells.tell_one.Goals as goal
+
+-- a channel at the other end of a link is one of few
+there-few : (port width vcs vc there : ℕ) → width % 2 ≡ 0 → port < width → vc < vcs → (width + 1) * vcs ≤ 64 → there ≡ opposite port → there * vcs + vc < 64
+there-few port width vcs vc there pairs l few all is =
+    let below = apart (opposite port) width vcs vc (opposite-below port width pairs l) few in
+    let same : there * vcs ≡ opposite port * vcs = ap (λ x. x * vcs) is in
+    let whole : (width + 1) * vcs ≡ width * vcs + vcs = omega arith in
+    omega (arith, below, same, whole, all)
+
+pub overflow_mul-there : goal.overflow_mul-there
+overflow_mul-there c =
+    let pattern = c.args.pattern.now in
+    let ports = pattern.table.ports in
+    let block = c.args.block.now in
+    let r = c.args.router in
+    let k = c.args.channel in
+    let vc : c.number-vc.result ≡ vc_in ports block r k
+    = c.number-vc.ensures.is ∙ ap (λ d. number_in d r) c.at-then-node.ensures ∙ ap (λ i. number_in (digits_by (word i) block.grants.sends.vc) r) c.index-index.ensures.is ∙ sym (number-is (channels_of ports) r k block.grants.sends.vc c.requires.channel) in
+    let few = there-few c.number-port.result ports.links.width ports.links.vcs c.number-vc.result c.opposite.result pattern.pairs c.if-port-links.true (subst (λ v. v < ports.links.vcs) (sym vc) c.requires.vc) pattern.table.few c.opposite.ensures in
+    omega (arith, few)
+
+pub overflow_add-there : goal.overflow_add-there
+overflow_add-there c =
+    let pattern = c.args.pattern.now in
+    let ports = pattern.table.ports in
+    let block = c.args.block.now in
+    let r = c.args.router in
+    let k = c.args.channel in
+    let vc : c.number-vc.result ≡ vc_in ports block r k
+    = c.number-vc.ensures.is ∙ ap (λ d. number_in d r) c.at-then-node.ensures ∙ ap (λ i. number_in (digits_by (word i) block.grants.sends.vc) r) c.index-index.ensures.is ∙ sym (number-is (channels_of ports) r k block.grants.sends.vc c.requires.channel) in
+    let few = there-few c.number-port.result ports.links.width ports.links.vcs c.number-vc.result c.opposite.result pattern.pairs c.if-port-links.true (subst (λ v. v < ports.links.vcs) (sym vc) c.requires.vc) pattern.table.few c.opposite.ensures in
+    omega (arith, few)
+
+pub note-requires-clause-channel : goal.note-requires-clause-channel
+note-requires-clause-channel c =
+    let pattern = c.args.pattern.now in
+    let ports = pattern.table.ports in
+    let block = c.args.block.now in
+    let r = c.args.router in
+    let k = c.args.channel in
+    let vc : c.number-vc.result ≡ vc_in ports block r k
+    = c.number-vc.ensures.is ∙ ap (λ d. number_in d r) c.at-then-node.ensures ∙ ap (λ i. number_in (digits_by (word i) block.grants.sends.vc) r) c.index-index.ensures.is ∙ sym (number-is (channels_of ports) r k block.grants.sends.vc c.requires.channel) in
+    there-few c.number-port.result ports.links.width ports.links.vcs c.number-vc.result c.opposite.result pattern.pairs c.if-port-links.true (subst (λ v. v < ports.links.vcs) (sym vc) c.requires.vc) pattern.table.few c.opposite.ensures
 
 pub returns-then-node-clause-noted : goal.returns-then-node-clause-noted
 returns-then-node-clause-noted c = λ g wired known.
