@@ -76,9 +76,6 @@ record AreSized (net : Setup) (t : ArbiterStates) : Type 0 where
   outputs : Sized (ports net.relation.grid) (ports net.relation.grid) t.outputs
 
 module _ (net : Setup) where
-  abbrev no_arbiters : ArbiterStates
-  no_arbiters = record { channels = []; inputs = []; outputs = [] }
-
   pub arbiters-after : (n : ℕ) (F : State) (r : ℕ) → r < length F.arbiters → arbiters_at net (after_verdicts net n F) r ≡ arbiters_after (round_at net F r) (arbiters_at net F r)
   unfolding after_verdicts
   arbiters-after n F r l = get_or-map_indexed (λ s (t : ArbiterStates). arbiters_after (round_at net F s) t) F.arbiters r (record { channels = []; inputs = []; outputs = [] }) (record { channels = []; inputs = []; outputs = [] }) l

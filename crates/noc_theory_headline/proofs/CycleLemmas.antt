@@ -9,7 +9,7 @@ use Rattle.noc_theory.proofs.worms.WormOrderLemmas.{worm_order-at, worm_order-fr
 use Rattle.noc_theory.proofs.join.OrderedStateLemmas.{ordered-frozen}
 use Rattle.noc_theory.proofs.join.PlaceViewLemmas.{input-at, arriving-at, same-place}
 use Rattle.noc_theory.proofs.join.LockstepTheoremLemmas.{good-network}
-use Rattle.noc_theory_headline.specs.Headline.{IsInput, IsInputOf, IsRightCycle}
+use Rattle.noc_theory_headline.specs.Headline.{IsInput, IsRightCycle}
 use Rattle.noc_theory_headline.proofs.SaysLemmas.{verdict-says}
 
 module _ (net : Setup) (made : IsWellFormedSetup net) where
