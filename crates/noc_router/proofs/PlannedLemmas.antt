@@ -1,5 +1,5 @@
 -- The decisions of a view, list by list.
-use Rattle.std.proofs.Common.{◌≡◌, ℕ, ◌+◌, ◌*◌, ◌≤◌, Bool, length, List, Option, None, ◌++◌, arith, drop, length-append, length-drop, replicate, take, ap, refl, ◌∙◌}
+use Rattle.std.proofs.Common.{◌≡◌, ℕ, ◌+◌, ◌*◌, ◌≤◌, Bool, length, List, Option, None, ◌++◌, arith, drop, length-append, length-drop, replicate, take, ap, refl, sym, subst, ◌∙◌}
 use Rattle.std.proofs.lemmas.List.{length-replicate, take-replicate, take_at}
 use Rattle.std.specs.Prelude.{is_some, slice_index, slice_index_or}
 use Rattle.noc_topo.specs.Lists.{is_some_of, tabulate}
@@ -126,6 +126,14 @@ room n m x l = ap length (take-replicate n m x l) ∙ length-replicate n x
 -- a list is as long as before, where its beginning is written
 pub written : {X : Type 0} (n m : ℕ) (x : X) (xs : List X) → length xs ≡ n → n ≤ m → length (xs ++ drop n (replicate m x)) ≡ m
 written n m x xs long l = omega (arith, length-append xs (drop n (replicate m x)), length-drop n (replicate m x), length-replicate m x, long)
+
+-- so much of it can be borrowed again
+pub reaches : {X : Type 0} (n m : ℕ) (x : X) (xs : List X) → length xs ≡ n → n ≤ m → n ≤ length (xs ++ drop n (replicate m x))
+reaches n m x xs long l = subst (λ k. n ≤ k) (sym (written n m x xs long l)) l
+
+-- which is what was written
+pub count-written : {X : Type 0} (n : ℕ) (xs ys : List X) → length xs ≡ n → n ≡ length (take n (xs ++ ys))
+count-written n xs ys long = sym (ap (λ zs. length zs) (take_at xs ys n long) ∙ long)
 
 -- a plan in which nothing was written
 pub empty-plan : (m vcs set : ℕ) → m ≤ 7 → m * vcs ≤ 56 → set ≡ 0

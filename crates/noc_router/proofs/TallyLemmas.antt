@@ -1,8 +1,8 @@
 -- What a router counts of its input channels.
-use Rattle.std.proofs.Common.{◌≡◌, ℕ, ◌+◌, ◌-◌, ◌^◌, ◌<◌, ◌≤◌, Bool, true, false, List, [], length, get_or, set, sum, refl, ap, sym, ◌∙◌, ⊎_elim, arith}
-use Rattle.std.specs.Prelude.{◌⊎◌, nat_lt, not, if◌then◌else◌}
+use Rattle.std.proofs.Common.{◌≡◌, ℕ, ◌+◌, ◌-◌, ◌^◌, ◌<◌, ◌≤◌, Bool, true, false, List, [], length, get_or, replicate, set, sum, refl, ap, sym, ◌∙◌, ⊎_elim, arith}
+use Rattle.std.specs.Prelude.{All, nat_lt, if◌then◌else◌}
 use Rattle.std.proofs.lemmas.Bool.{cases_eq, le-ltb, lt-ltb}
-use Rattle.std.proofs.lemmas.List.{get_or-set_other, get_or-set_same, length-set}
+use Rattle.std.proofs.lemmas.List.{get_or-replicate, get_or-set_other, get_or-set_same, get_or_default, length-replicate, length-set}
 use Rattle.noc_topo.specs.Lists.{map_indexed, tabulate}
 use Rattle.noc_topo.proofs.ListLemmas.{get_or-map_indexed, get_or-tabulate, length-map_indexed, length-tabulate, map_indexed-from_each}
 use Rattle.noc_vc.specs.Input.{Input}
@@ -36,6 +36,27 @@ full-same verdict cycles counts findings is full =
     map_indexed-from_each (λ i xs. counts_after (verdict i) xs) counts counts [] [] refl
     (λ i l. let xs = get_or counts i [] in
     sym (ap (λ b. if b then set xs (column (verdict i)) (get_or xs (column (verdict i)) 0 + 1) else xs) (le-ltb (sum xs) (2 ^ 64 - 1) (omega (arith, is.sums i l)))))
+
+-- with room for a cycle there is room in each channel
+pub counted-room : (cycles : ℕ) (counts : List (List ℕ)) (findings : List Finding) (xs : List (List ℕ)) → IsTally cycles counts findings → cycles < 2 ^ 64 - 1 → xs ≡ counts → All (λ one. sum one < 2 ^ 64 - 1) xs
+counted-room cycles counts findings xs is room same k d l =
+    let m : k < length counts = omega (arith, l, ap (λ (ys : List (List ℕ)). length ys) same) in
+    let e : sum (get_or xs k d) ≡ cycles = ap (λ ys. sum (get_or ys k d)) same ∙ ap sum (get_or_default counts k d [] m) ∙ is.sums k m in
+    omega (arith, e, room)
+
+-- nothing is counted yet
+pub opened-tally : (n : ℕ) (counts : List (List ℕ)) (findings : List Finding) → counts ≡ replicate n (replicate 10 0) → length findings ≡ length counts → IsTally 0 counts findings
+opened-tally n counts findings is found = record {
+  fits = omega arith;
+  ten = λ i l. ap length (at i l);
+  sums = λ i l. ap sum (at i l);
+  found = found;
+}
+  where
+    at : (i : ℕ) → i < length counts → get_or counts i [] ≡ replicate 10 0
+    at i l =
+        let ten : List ℕ = replicate 10 0 in
+        ap (λ (xs : List (List ℕ)). get_or xs i []) is ∙ get_or-replicate n i ten [] (omega (arith, l, ap (λ (xs : List (List ℕ)). length xs) is, length-replicate n ten))
 
 -- a cycle more is counted, with what is found in it
 pub noted-tally : (verdict : ℕ → Verdict) (cycles : ℕ) (counts : List (List ℕ)) (findings found : List Finding) → IsTally cycles counts findings → cycles < 2 ^ 64 - 1 → length found ≡ length findings

@@ -1,10 +1,18 @@
--- Those who have won are below the sizes of their arbiters.
-use Rattle.std.proofs.Common.{◌≡◌, ℕ, ◌<◌, List, length, get_or, Option, Some, None, refl, arith, subst}
+-- The sizes of arbiters, and those who have won, who are below them.
+use Rattle.std.proofs.Common.{◌≡◌, ℕ, ◌<◌, List, length, get_or, replicate, Option, Some, None, refl, ap, ◌∙◌, arith, subst}
 use Rattle.std.specs.Prelude.{IfSome}
 use Rattle.std.specs.List.{All}
+use Rattle.std.proofs.lemmas.List.{get_or-replicate, length-replicate}
 use Rattle.noc_alloc.specs.Arbiter.{RoundRobin, arbiter_at}
 use Rattle.noc_alloc.specs.Requests.{AllBelow}
 use Rattle.noc_alloc.proofs.RequestLemmas.{below-at}
+
+-- arbiters that are alike are of one size
+pub opened-sizes : (n size : ℕ) (ts : List RoundRobin) → ts ≡ replicate n (record { size = size; pointer = 0 }) → All (λ (t : RoundRobin). t.size ≡ size) ts
+opened-sizes n size ts is k d l =
+    let one : RoundRobin = record { size = size; pointer = 0 } in
+    ap (λ (xs : List RoundRobin). (get_or xs k d).size) is
+    ∙ ap (λ (t : RoundRobin). t.size) (get_or-replicate n k one d (omega (arith, l, ap (λ (xs : List RoundRobin). length xs) is, length-replicate n one)))
 
 pub below-size : (xs : List (Option ℕ)) (ts : List RoundRobin) (n k : ℕ) → AllBelow n xs → All (λ (t : RoundRobin). t.size ≡ n) ts → k < length ts → IfSome (get_or xs k None) (λ w. w < (arbiter_at ts k).size)
 below-size xs ts n k below sizes l = at (get_or xs k None) refl

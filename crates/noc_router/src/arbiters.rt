@@ -1,6 +1,8 @@
 //! The arbiters of one router.
 
-ghost use Rattle.std.specs.Prelude.{◌≡◌, ◌*◌, All, IfOk, vec_len};
+ghost use Rattle.std.specs.Prelude.{◌≡◌, ◌*◌, ◌<◌, ◌≤◌, All, IfOk, replicate, vec_len};
+ghost use Rattle.noc_packet.specs.declared.limits.TheConstants.{INDICES};
+ghost use Rattle.noc_alloc.specs.Arbiter.{RoundRobin};
 ghost use Rattle.noc_router.specs.Decided.{IsDecidedFor};
 ghost use Rattle.noc_view.specs.Verdict.{arbiters_after, opening_arbiters};
 
@@ -34,13 +36,15 @@ impl Arbiters {
         ensures { IfOk result (λ arbiters. sized_arbiters_in arbiters
             ≡ record { ports = ports; vcs = vcs; states = opening_arbiters ports vcs }) }
     {
-        let size = ports * vcs;
+        let channels = opening(alloc, ports * vcs, ports * vcs)?;
+        let inputs = opening(alloc, ports, vcs)?;
+        let outputs = opening(alloc, ports, ports)?;
         Ok(Arbiters {
             ports,
             vcs,
-            channels: vec![in alloc; Arbiter::new(size); size]?,
-            inputs: vec![in alloc; Arbiter::new(vcs); ports]?,
-            outputs: vec![in alloc; Arbiter::new(ports); ports]?,
+            channels,
+            inputs,
+            outputs,
         })
     }
 
@@ -60,4 +64,14 @@ impl Arbiters {
             &mut self.outputs,
         );
     }
+}
+
+// So many arbiters, each over so many requesters, with its pointer at 0.
+fn opening(alloc: Global, count: usize, size: usize) -> Result<Vec<Arbiter>, Memory>
+    requires some { 0 < size }
+    requires few { size ≤ INDICES }
+    ensures { let one : RoundRobin = record { size = size; pointer = 0 } in
+        IfOk result (λ made. made.items ≡ replicate count one) }
+{
+    Ok(vec![in alloc; Arbiter::new(size); count]?)
 }

@@ -6,7 +6,7 @@ ghost use Rattle.noc_topo.specs.Lists.{below};
 ghost use Rattle.noc_packet.specs.Set.{has_bit};
 ghost use Rattle.noc_packet.specs.declared.limits.TheConstants.{INDICES};
 ghost use Rattle.noc_ring.specs.Buffers.{buffer_at};
-ghost use Rattle.noc_vc.specs.Input.{is_idle_phase, is_empty, fits};
+ghost use Rattle.noc_vc.specs.Input.{idle_input, is_idle_phase, is_empty, fits};
 ghost use Rattle.noc_vc.specs.Output.{ejection_output, link_output, is_free, is_owned, has_credit, credit_fits, output_after_spend};
 ghost use Rattle.noc_router.specs.Members.{is_within};
 ghost use Rattle.noc_router.specs.Sound.{nth_input, nth_output, CanHold, CanInject, CanRoute, CanSend, KeepsAwaiting, AreSizes, AreSound, asked_in};
@@ -49,10 +49,9 @@ impl Channels {
         requires { AreSizes size links depth }
         ensures { IfOk result (λ channels. states_in channels ≡ opening_states size links depth) }
     {
-        let bank = Bank::new(alloc, size, depth)?;
-        let mut inputs = Vec::new(alloc);
-        inputs.resize(size, InputChannel::new())?;
+        let inputs = idle_inputs(alloc, size)?;
         let outputs = idle_outputs(alloc, size, links, depth)?;
+        let bank = Bank::new(alloc, size, depth)?;
         Ok(Channels {
             size,
             bank,
@@ -256,6 +255,15 @@ fn spend(output: &mut OutputChannel, last: bool)
     } else if last {
         output.release();
     }
+}
+
+// So many idle input channels.
+fn idle_inputs(alloc: Global, size: usize) -> Result<Vec<InputChannel>, Memory>
+    ensures { IfOk result (λ inputs. inputs.items ≡ replicate size idle_input) }
+{
+    let mut inputs = Vec::new(alloc);
+    inputs.resize(size, InputChannel::new())?;
+    Ok(inputs)
 }
 
 // Idle output channels, of which the first `links` go on links.

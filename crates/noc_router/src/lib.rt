@@ -4,6 +4,7 @@
 mod arbiters;
 mod arrivals;
 mod channels;
+mod parts;
 mod plan;
 mod router;
 mod source;

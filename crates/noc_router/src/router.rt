@@ -21,6 +21,7 @@ ghost use Rattle.noc_view.specs.Verdict.{Round, ask_of, asks_of, ready_of, ready
 use crate::arbiters::Arbiters;
 use crate::arrivals::Arrivals;
 use crate::channels::Channels;
+use crate::parts::new_parts;
 use crate::plan::Plan;
 use crate::source::Source;
 use crate::tally::Tally;
@@ -97,10 +98,9 @@ impl Router {
         let shape = *relation.shape();
         let ports = shape.ports();
         let vcs = relation.vcs();
-        let channels = Channels::new(alloc, ports * vcs, (ports - 1) * vcs, depth)?;
-        let tally = Tally::new(alloc, ports * vcs)?;
-        let arbiters = Arbiters::new(alloc, ports, vcs)?;
         let arrivals = Arrivals::new(alloc, ends)?;
+        let parts = new_parts(alloc, ports, vcs, depth)?;
+        let (channels, tally, arbiters) = parts;
         Ok(Router {
             node,
             ports,

@@ -42,10 +42,12 @@ impl Tally {
     pub(crate) fn new(alloc: Global, size: usize) -> Result<Tally, Memory>
         ensures { IfOk result (λ tally. tally ≡ empty_tally size) }
     {
+        let counts = vec![in alloc; [0; VERDICTS]; size]?;
+        let findings = vec![in alloc; Finding::EMPTY; size]?;
         Ok(Tally {
             cycles: 0,
-            counts: vec![in alloc; [0; VERDICTS]; size]?,
-            findings: vec![in alloc; Finding::EMPTY; size]?,
+            counts,
+            findings,
         })
     }
 

@@ -1,5 +1,4 @@
-use Rattle.std.proofs.Common.{◌≡◌, ◌-◌, List, ap, arith, length-append, replicate, ◌∙◌, length}
-use Rattle.std.proofs.lemmas.Grind.{common_steps}
+use Rattle.std.proofs.Common.{◌-◌, ◌<◌, List, ap, arith, length-append, replicate, ◌∙◌, length, subst, sym}
 use Rattle.std.proofs.lemmas.List.{length-replicate}
 use Rattle.noc_ring.specs.Buffers.{Buffers}
 use Rattle.noc_vc.specs.Input.{Input, idle_input}
@@ -10,8 +9,8 @@ use Rattle.noc_router.proofs.channels.Channels.new.Goals as goal
 
 pub invariant_of-result-clause-sound : goal.invariant_of-result-clause-sound
 invariant_of-result-clause-sound c =
-    AreSound-opening c.args.size c.args.links c.args.depth c.in_ok-bank.bank c.resize.new.self.items c.in_ok-outputs.outputs.items
-    c.requires.few_links c.in_ok-bank.ensures (grind (arith, common_steps, c.in_ok-resize.ensures.items)) c.in_ok-outputs.ensures
+    AreSound-opening c.args.size c.args.links c.args.depth c.in_ok-bank.bank c.in_ok-inputs.inputs.items c.in_ok-outputs.outputs.items
+    c.requires.few_links c.in_ok-bank.ensures c.in_ok-inputs.ensures c.in_ok-outputs.ensures
 
 pub invariant_of-result-clause-an_output_each : goal.invariant_of-result-clause-an_output_each
 invariant_of-result-clause-an_output_each c =
@@ -19,10 +18,15 @@ invariant_of-result-clause-an_output_each c =
     let others : List Output = replicate (c.args.size - c.args.links) ejection_output in
     omega (arith, c.requires.few_links, ap length c.in_ok-outputs.ensures, length-append links others, length-replicate c.args.links (link_output c.args.depth), length-replicate (c.args.size - c.args.links) ejection_output, c.in_ok-outputs.outputs.ok.0)
 
+pub invariant_of-result-clause-an_input_each : goal.invariant_of-result-clause-an_input_each
+invariant_of-result-clause-an_input_each c = c.in_ok-inputs.inputs.ok.0 ∙ ap (λ (xs : List Input). length xs) c.in_ok-inputs.ensures ∙ length-replicate c.args.size idle_input
+
+pub invariant_of-result-clause-some_depth : goal.invariant_of-result-clause-some_depth
+invariant_of-result-clause-some_depth c = subst (λ n. 0 < n) (sym (ap (λ (b : Buffers). b.capacity) c.in_ok-bank.ensures)) c.requires.some_depth
+
 pub returns : goal.returns
 returns c =
     let opened = opening_states c.args.size c.args.links c.args.depth in
-    let inputs : c.resize.new.self.items ≡ replicate c.args.size idle_input = grind (arith, common_steps, c.in_ok-resize.ensures.items) in
-    ap (λ (b : Buffers). record opened { bank = b; inputs = c.resize.new.self.items; outputs = c.in_ok-outputs.outputs.items }) c.in_ok-bank.ensures
-    ∙ ap (λ (xs : List Input). record opened { inputs = xs; outputs = c.in_ok-outputs.outputs.items }) inputs
+    ap (λ (b : Buffers). record opened { bank = b; inputs = c.in_ok-inputs.inputs.items; outputs = c.in_ok-outputs.outputs.items }) c.in_ok-bank.ensures
+    ∙ ap (λ (xs : List Input). record opened { inputs = xs; outputs = c.in_ok-outputs.outputs.items }) c.in_ok-inputs.ensures
     ∙ ap (λ (xs : List Output). record opened { outputs = xs }) c.in_ok-outputs.ensures

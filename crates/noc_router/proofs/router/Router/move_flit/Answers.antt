@@ -1,4 +1,4 @@
-use Rattle.std.proofs.Common.{◌≡◌, ◌<◌, ◌/◌, ◌%◌, ℕ, true, ap, sym, ◌∙◌, arith}
+use Rattle.std.proofs.Common.{◌≡◌, ◌<◌, ◌/◌, ◌%◌, ℕ, true, ap, subst, sym, ◌∙◌, arith}
 use Rattle.std.proofs.lemmas.Bool.{lt-ltb}
 use Rattle.noc_topo.specs.Shape.{ports}
 use Rattle.noc_router.specs.Parts.{ChannelStates}
@@ -18,6 +18,11 @@ placed r v i p view is l at =
 
 pub put_credit-requires-clause-port : goal.put_credit-requires-clause-port
 put_credit-requires-clause-port c = placed c.self.inside c.args.self.now c.args.index c.split-port.result c.self.view_is c.self.invariant c.requires.input c.split-port.ensures
+
+pub put_flit-requires-clause-port : goal.put_flit-requires-clause-port
+put_flit-requires-clause-port c =
+    subst (λ n. c.split-output.result.0 < n) (sym (ap (λ (v : View). ports v.site.grid) c.put_credit.ensures))
+    (placed c.self.inside c.args.self.now c.args.next c.split-output.result c.self.view_is c.self.invariant c.requires.output c.split-output.ensures)
 
 pub invariant_of-self : goal.invariant_of-self
 invariant_of-self c = IsRouter-channels c.self.inside c.send-flit.new.self true c.self.invariant (ap (λ (s : ChannelStates). s.size) c.send-flit.ensures.states) (ap (λ (s : ChannelStates). s.bank.capacity) c.send-flit.ensures.states) c.send-flit.ensures.awaits

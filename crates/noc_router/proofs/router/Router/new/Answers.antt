@@ -15,22 +15,22 @@ invariant_of-result c = record {
   ports = c.ports-ports.ensures.value;
   some_vc = omega arith;
   few_vcs = omega arith;
-  channels = ap (λ (s : ChannelStates). s.size) c.in_ok-channels.ensures;
-  depth = ap (λ (s : ChannelStates). s.bank.capacity) c.in_ok-channels.ensures;
+  channels = ap (λ (s : ChannelStates). s.size) c.in_ok-parts.ensures.channels;
+  depth = ap (λ (s : ChannelStates). s.bank.capacity) c.in_ok-parts.ensures.channels;
   beats = omega arith;
-  sending = λ vc e. absurd (cc (c.new-5.ensures.vc));
-  awaiting = λ vc e. absurd (cc (c.new-5.ensures.vc));
-  counts = ap (λ (t : TallyContents). length t.counts) c.in_ok-tally.ensures ∙ length-replicate (c.ports-ports.result * c.vcs-vcs.result) (replicate 10 0);
-  arbiter_ports = ap (λ (t : SizedArbiters). t.ports) c.in_ok-arbiters.ensures;
-  arbiter_vcs = ap (λ (t : SizedArbiters). t.vcs) c.in_ok-arbiters.ensures;
+  sending = λ vc e. absurd (cc (c.new-2.ensures.vc));
+  awaiting = λ vc e. absurd (cc (c.new-2.ensures.vc));
+  counts = ap (λ (t : TallyContents). length t.counts) c.in_ok-parts.ensures.tally ∙ length-replicate (c.ports-ports.result * c.vcs-vcs.result) (replicate 10 0);
+  arbiter_ports = ap (λ (t : SizedArbiters). t.ports) c.in_ok-parts.ensures.arbiters;
+  arbiter_vcs = ap (λ (t : SizedArbiters). t.vcs) c.in_ok-parts.ensures.arbiters;
 }
 
 pub returns : goal.returns
 returns c =
-    opening-is c.args.node c.ports-ports.result c.vcs-vcs.result c.args.depth c.shape.result.now c.new-5.result c.in_ok-channels.channels _ c.in_ok-tally.tally c.in_ok-arbiters.arbiters c.in_ok-arrivals.arrivals c.args.starts.items c.args.ends.items
-    c.ports-ports.ensures.grid c.ports-ports.ensures.value c.new-5.ensures.queue c.new-5.ensures.vc
-    c.in_ok-channels.ensures (ap (replicate 6) c.idle.ensures)
-    c.in_ok-tally.ensures
-    c.in_ok-arbiters.ensures c.in_ok-arrivals.ensures
+    opening-is c.args.node c.ports-ports.result c.vcs-vcs.result c.args.depth c.shape.result.now c.new-2.result c.in_ok-parts.parts.0 _ c.in_ok-parts.parts.1 c.in_ok-parts.parts.2 c.in_ok-arrivals.arrivals c.args.starts.items c.args.ends.items
+    c.ports-ports.ensures.grid c.ports-ports.ensures.value c.new-2.ensures.queue c.new-2.ensures.vc
+    c.in_ok-parts.ensures.channels (ap (replicate 6) c.idle.ensures)
+    c.in_ok-parts.ensures.tally
+    c.in_ok-parts.ensures.arbiters c.in_ok-arrivals.ensures
     ∙ ap (λ (g : Grid). opening_view (record { grid = g; node = c.args.node; vcs = c.vcs-vcs.result; depth = c.args.depth }) c.args.starts.items c.args.ends.items) c.shape.ensures.value
     ∙ ap (λ n. opening_view (record { grid = c.args.relation.now.grid; node = c.args.node; vcs = n; depth = c.args.depth }) c.args.starts.items c.args.ends.items) c.vcs-vcs.ensures.value

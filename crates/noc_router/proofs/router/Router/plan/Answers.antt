@@ -1,11 +1,10 @@
 use Rattle.std.proofs.Common.{◌≡◌, ◌*◌, ◌≤◌, ℕ, List, Option, None, length, ap, sym, subst, ◌∙◌, arith}
 use Rattle.std.proofs.lemmas.List.{take_at}
-use Rattle.noc_topo.specs.Shape.{ports}
 use Rattle.noc_alloc.specs.Requests.{AllBelow}
 use Rattle.noc_router.specs.Inside.{IsRouter}
 use Rattle.noc_router.specs.declared.router.Router.TheInside.{Inside}
 use Rattle.noc_view.specs.declared.verdict.Verdict.TheVariants.{Empty}
-use Rattle.noc_router.proofs.PlannedLemmas.{planned-is, room, written}
+use Rattle.noc_router.proofs.PlannedLemmas.{count-written, planned-is, reaches, room, written}
 use Rattle.noc_router.proofs.WholeLemmas.{ports_view, size_view}
 use Rattle.noc_router.proofs.router.Router.plan.Goals as goal
 
@@ -15,6 +14,114 @@ few-channels r is = omega (arith, r.channels.few, is.channels)
 
 few-ports : (r : Inside) → IsRouter r → r.ports ≤ 7
 few-ports r is = omega (arith, is.ports, is.grid.few_dimensions)
+
+pub slice_bounds-asks-end : goal.slice_bounds-asks-end
+slice_bounds-asks-end c = few-channels c.self.inside c.self.invariant
+
+pub slice_bounds-ready-end : goal.slice_bounds-ready-end
+slice_bounds-ready-end c = few-channels c.self.inside c.self.invariant
+
+pub slice_bounds-grants-end : goal.slice_bounds-grants-end
+slice_bounds-grants-end c = few-channels c.self.inside c.self.invariant
+
+pub slice_bounds-verdicts-end : goal.slice_bounds-verdicts-end
+slice_bounds-verdicts-end c = few-channels c.self.inside c.self.invariant
+
+pub slice_bounds-picks-end : goal.slice_bounds-picks-end
+slice_bounds-picks-end c = few-ports c.self.inside c.self.invariant
+
+pub slice_bounds-wins-end : goal.slice_bounds-wins-end
+slice_bounds-wins-end c = few-ports c.self.inside c.self.invariant
+
+pub slice_bounds-ask_for_channels-end : goal.slice_bounds-ask_for_channels-end
+slice_bounds-ask_for_channels-end c =
+    let r = c.self.inside in
+    sym (room (r.ports * r.vcs) 56 None (few-channels r c.self.invariant))
+
+pub slice_bounds-ask_for_ports-end : goal.slice_bounds-ask_for_ports-end
+slice_bounds-ask_for_ports-end c =
+    let r = c.self.inside in
+    sym (room (r.ports * r.vcs) 56 None (few-channels r c.self.invariant))
+
+pub slice_bounds-grant_channels-end-2 : goal.slice_bounds-grant_channels-end-2
+slice_bounds-grant_channels-end-2 c =
+    let r = c.self.inside in
+    sym (room (r.ports * r.vcs) 56 None (few-channels r c.self.invariant))
+
+pub slice_bounds-find_verdicts-end-5 : goal.slice_bounds-find_verdicts-end-5
+slice_bounds-find_verdicts-end-5 c =
+    let r = c.self.inside in
+    sym (room (r.ports * r.vcs) 56 Empty (few-channels r c.self.invariant))
+
+pub slice_bounds-grant_ports-end-2 : goal.slice_bounds-grant_ports-end-2
+slice_bounds-grant_ports-end-2 c =
+    let r = c.self.inside in
+    sym (room r.ports 7 None (few-ports r c.self.invariant))
+
+pub slice_bounds-grant_ports-end-3 : goal.slice_bounds-grant_ports-end-3
+slice_bounds-grant_ports-end-3 c =
+    let r = c.self.inside in
+    sym (room r.ports 7 None (few-ports r c.self.invariant))
+
+pub slice_bounds-asks-end-2 : goal.slice_bounds-asks-end-2
+slice_bounds-asks-end-2 c =
+    let r = c.self.inside in
+    reaches (r.ports * r.vcs) 56 None c.ask_for_channels.new.asks (c.ask_for_channels.auto.asks ∙ room (r.ports * r.vcs) 56 None (few-channels r c.self.invariant)) (few-channels r c.self.invariant)
+
+pub slice_bounds-asks-end-3 : goal.slice_bounds-asks-end-3
+slice_bounds-asks-end-3 c =
+    let r = c.self.inside in
+    reaches (r.ports * r.vcs) 56 None c.ask_for_channels.new.asks (c.ask_for_channels.auto.asks ∙ room (r.ports * r.vcs) 56 None (few-channels r c.self.invariant)) (few-channels r c.self.invariant)
+
+pub slice_bounds-ready-end-2 : goal.slice_bounds-ready-end-2
+slice_bounds-ready-end-2 c =
+    let r = c.self.inside in
+    reaches (r.ports * r.vcs) 56 None c.ask_for_ports.new.ready (c.ask_for_ports.auto.ready ∙ room (r.ports * r.vcs) 56 None (few-channels r c.self.invariant)) (few-channels r c.self.invariant)
+
+pub slice_bounds-grants-end-2 : goal.slice_bounds-grants-end-2
+slice_bounds-grants-end-2 c =
+    let r = c.self.inside in
+    reaches (r.ports * r.vcs) 56 None c.grant_channels.new.grants (c.grant_channels.auto.grants ∙ room (r.ports * r.vcs) 56 None (few-channels r c.self.invariant)) (few-channels r c.self.invariant)
+
+pub slice_bounds-picks-end-2 : goal.slice_bounds-picks-end-2
+slice_bounds-picks-end-2 c =
+    let r = c.self.inside in
+    reaches r.ports 7 None c.grant_ports.new.picks (c.grant_ports.auto.picks ∙ room r.ports 7 None (few-ports r c.self.invariant)) (few-ports r c.self.invariant)
+
+pub slice_bounds-wins-end-2 : goal.slice_bounds-wins-end-2
+slice_bounds-wins-end-2 c =
+    let r = c.self.inside in
+    reaches r.ports 7 None c.grant_ports.new.wins (c.grant_ports.auto.wins ∙ room r.ports 7 None (few-ports r c.self.invariant)) (few-ports r c.self.invariant)
+
+pub slice_bounds-grant_channels-end : goal.slice_bounds-grant_channels-end
+slice_bounds-grant_channels-end c =
+    let r = c.self.inside in
+    count-written (r.ports * r.vcs) c.ask_for_channels.new.asks _ (c.ask_for_channels.auto.asks ∙ room (r.ports * r.vcs) 56 None (few-channels r c.self.invariant))
+
+pub slice_bounds-find_verdicts-end : goal.slice_bounds-find_verdicts-end
+slice_bounds-find_verdicts-end c =
+    let r = c.self.inside in
+    count-written (r.ports * r.vcs) c.ask_for_channels.new.asks _ (c.ask_for_channels.auto.asks ∙ room (r.ports * r.vcs) 56 None (few-channels r c.self.invariant))
+
+pub slice_bounds-grant_ports-end : goal.slice_bounds-grant_ports-end
+slice_bounds-grant_ports-end c =
+    let r = c.self.inside in
+    count-written (r.ports * r.vcs) c.ask_for_ports.new.ready _ (c.ask_for_ports.auto.ready ∙ room (r.ports * r.vcs) 56 None (few-channels r c.self.invariant))
+
+pub slice_bounds-find_verdicts-end-2 : goal.slice_bounds-find_verdicts-end-2
+slice_bounds-find_verdicts-end-2 c =
+    let r = c.self.inside in
+    count-written (r.ports * r.vcs) c.grant_channels.new.grants _ (c.grant_channels.auto.grants ∙ room (r.ports * r.vcs) 56 None (few-channels r c.self.invariant))
+
+pub slice_bounds-find_verdicts-end-3 : goal.slice_bounds-find_verdicts-end-3
+slice_bounds-find_verdicts-end-3 c =
+    let r = c.self.inside in
+    count-written r.ports c.grant_ports.new.picks _ (c.grant_ports.auto.picks ∙ room r.ports 7 None (few-ports r c.self.invariant))
+
+pub slice_bounds-find_verdicts-end-4 : goal.slice_bounds-find_verdicts-end-4
+slice_bounds-find_verdicts-end-4 c =
+    let r = c.self.inside in
+    count-written r.ports c.grant_ports.new.wins _ (c.grant_ports.auto.wins ∙ room r.ports 7 None (few-ports r c.self.invariant))
 
 pub route_heads-requires : goal.route_heads-requires
 route_heads-requires c =

@@ -1,7 +1,8 @@
-use Rattle.std.proofs.Common.{◌+◌, ◌-◌, ◌*◌, ◌<◌, ap, refl, subst, sym, ◌∙◌, rules, Some}
+use Rattle.std.proofs.Common.{◌+◌, ◌-◌, ◌*◌, ◌<◌, ap, refl, subst, sym, ◌∙◌, arith, rules, Some}
 use Rattle.std.specs.Prelude.{is_some}
 use Rattle.std.proofs.lemmas.Bool.{lt-ltb, le-ltb}
 use Rattle.noc_ring.specs.Buffers.{buffer_at}
+use Rattle.noc_topo.specs.Shape.{local_port}
 use Rattle.noc_vc.specs.Input.{fits}
 use Rattle.noc_router.specs.Sound.{nth_input}
 use Rattle.noc_view.specs.View.{View, has_link, with_flit, saturating_next}
@@ -74,3 +75,9 @@ invariant_of-self c =
     let port : c.args.port < r.ports - 1 = search rules in
     IsRouter-landed r c.land.new.self (c.args.port * r.vcs + c.args.vc) c.args.flit.now c.self.invariant c.if-land.ensures.states
     (in_ready (r.ports - 1) r.vcs c.args.port c.args.vc port c.if-vc-self.true)
+
+pub land-requires-clause-exists : goal.land-requires-clause-exists
+land-requires-clause-exists c =
+    let r = c.self.inside in
+    let port : c.args.port < r.ports = omega (arith, ap (λ (v : View). local_port v.site.grid) c.self.view_is, c.self.invariant.ports) in
+    omega (arith, in_ready r.ports r.vcs c.args.port c.args.vc port c.if-vc-self.true, c.self.invariant.channels)

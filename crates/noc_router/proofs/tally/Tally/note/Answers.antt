@@ -1,4 +1,4 @@
-use Rattle.std.proofs.Common.{◌≡◌, ℕ, ◌+◌, true, false, List, [], length, ap, sym, subst, ◌∙◌, arith}
+use Rattle.std.proofs.Common.{◌≡◌, ℕ, ◌+◌, false, List, [], length, ap, sym, subst, ◌∙◌, arith}
 use Rattle.std.specs.Prelude.{if◌then◌else◌, nat_eq}
 use Rattle.std.specs.Vec.{with_items}
 use Rattle.std.proofs.lemmas.Bool.{ne_eqb}
@@ -8,13 +8,18 @@ use Rattle.noc_router.specs.Settled.{finding_by, planned_verdict}
 use Rattle.noc_router.specs.Tally.{IsPlanOf, IsTally, TallyContents}
 use Rattle.noc_view.specs.View.{counts_after}
 use Rattle.noc_view.specs.declared.finding.Finding.{Finding}
-use Rattle.noc_router.proofs.TallyLemmas.{found-verdicts, full-same, noted-tally}
+use Rattle.noc_router.proofs.TallyLemmas.{counted-room, found-verdicts, full-same, noted-tally}
 use Rattle.noc_router.proofs.tally.Tally.note.Goals as goal
 
 pub find_all-requires-clause-plan : goal.find_all-requires-clause-plan
 find_all-requires-clause-plan c =
     let n : length c.deref_mut.result.now ≡ length c.args.self.now.counts = ap length c.deref_mut.ensures.value ∙ c.self.invariant.found ∙ ap (λ (x : TallyContents). length x.counts) c.self.view_is in
     subst (λ m. IsPlanOf c.args.channels.now m c.args.plan.now) (sym n) c.requires.plan
+
+pub count_all-requires-clause-room : goal.count_all-requires-clause-room
+count_all-requires-clause-room c =
+    let t = c.self.inside in
+    counted-room t.cycles t.counts.items t.findings.items _ c.self.invariant c.if-self-lt18446744073709551615.true c.deref_mut-then-self-lt18446744073709551615.ensures.value
 
 pub invariant_of-self : goal.invariant_of-self
 invariant_of-self c =
