@@ -2,7 +2,7 @@
 use Rattle.std.proofs.Common.{◌≡◌, ℕ, ◌+◌, ◌*◌, ◌<◌, ◌≤◌, Bool, true, false, List, [], ◌∷◌, length, get_or, set, take, zero, suc, Option, Some, None, refl, ap, sym, ◌∙◌, arith, inl, inr, subst, get_or-set_same, get_or-set_other}
 use Rattle.std.specs.Prelude.{All, IfSome, ◌⊎◌, ◌||◌, nat_lt, if◌then◌else◌}
 use Rattle.std.proofs.lemmas.Bool.{cases_eq, cases_lt, false≢true, or_cases, lt-ltb, le-ltb}
-use Rattle.std.proofs.lemmas.Nat.{mul-add-lt}
+use Rattle.std.proofs.lemmas.Nat.{mul-add-lt, row_fits}
 use Rattle.std.proofs.lemmas.List.{get_or-map}
 use Rattle.noc_topo.specs.Lists.{is_some_of, tabulate}
 use Rattle.noc_alloc.specs.Arbiter.{RoundRobin, first_in_turn, arbiter_after, arbiter_at, pointers_of}
@@ -15,6 +15,10 @@ use Rattle.noc_alloc.proofs.ArbiterLemmas.{first_in_turn-picks}
 -- the index of an input channel is one of a list with so many for each port
 pub in_ready : (ports vcs port v : ℕ) → port < ports → v < vcs → port * vcs + v < ports * vcs
 in_ready ports vcs port v l u = let m : port * vcs + v < vcs * ports = mul-add-lt port vcs v ports l u in omega arith
+
+-- the input channels of a port, of so many in each, are in the list
+pub port_in_ready : (ports vcs port size n : ℕ) → port < ports → size ≡ vcs → n ≡ ports * vcs → port * vcs + size ≤ n
+port_in_ready ports vcs port size n l same long = let m : port * vcs + vcs ≤ ports * vcs = row_fits port vcs ports vcs l (omega arith) in omega arith
 
 -- one that is picked is below the size
 pub first_in_turn-below : (n p : ℕ) (asks : ℕ → Bool) → IfSome (first_in_turn n p asks) (λ y. y < n)

@@ -37,10 +37,11 @@ pub fn allocate_switch(
 {
     wins.fill(None);
     for port in 0..inputs.len() {
-        let pick = first_of_those_ready(ready, port * vcs, &inputs[port]);
+        let first = port * vcs;
+        let pick = first_of_those_ready(ready, first, &inputs[port]);
         picks[port] = pick;
         if let Some(vc) = pick {
-            offer(outputs, ready[port * vcs + vc], port, wins);
+            offer(outputs, ready[first + vc], port, wins);
         }
     }
 }

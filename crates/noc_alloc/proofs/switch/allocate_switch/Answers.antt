@@ -1,23 +1,47 @@
-use Rattle.std.proofs.Common.{◌≡◌, ◌≢◌, ◌<◌, ◌+◌, ◌*◌, ℕ, Option, Some, None, length, get_or, ap, sym, ◌∙◌, arith, below_more, get_or-set_same, get_or-set_other, subst}
+use Rattle.std.proofs.Common.{◌≡◌, ◌≢◌, ◌<◌, ◌+◌, ◌*◌, ℕ, Option, Some, None, length, get_or, ap, sym, ◌∙◌, arith, below_more, get_or-set_same, get_or-set_other, subst, refl}
 use Rattle.std.specs.Prelude.{is_some, option_and_then}
 use Rattle.noc_topo.specs.Lists.{is_some_of}
 use Rattle.noc_alloc.specs.Arbiter.{pointers_of}
 use Rattle.noc_alloc.specs.Allocation.{pick_of, picked_port, winner_of}
 use Rattle.noc_alloc.proofs.OfferLemmas.{AllNearest, nearest-offered, pick-at, port_of_pick, wins-offered}
-use Rattle.noc_alloc.proofs.SwitchLemmas.{first_in_turn-below, in_ready, tabulate-inside}
+use Rattle.noc_alloc.proofs.SwitchLemmas.{first_in_turn-below, port_in_ready, tabulate-inside}
 use Rattle.noc_topo.proofs.ListLemmas.{tabulate-from_each}
 use Rattle.noc_alloc.proofs.switch.allocate_switch.Goals as goal
 use Rattle.noc_alloc.proofs.switch.allocate_switch.Goals.{in-Some, in_default}
 
-pub bounds-ready-port : goal.bounds-ready-port
-bounds-ready-port c =
+pub overflow_mul-first : goal.overflow_mul-first
+overflow_mul-first c =
+    omega (arith, port_in_ready (length c.args.inputs.now) c.args.vcs c.loop-port.port c.args.vcs (length c.args.ready.now) c.loop-port-test.true refl c.requires.ready)
+
+pub bounds-inputs-port : goal.bounds-inputs-port
+bounds-inputs-port c = c.loop-port-test.true
+
+pub first_of_those_ready-pick-requires : goal.first_of_those_ready-pick-requires
+first_of_those_ready-pick-requires c =
     let t = c.index-inputs-port.result in
-    let inside : c.loop-port.port < length c.args.inputs.now = omega arith in
-    let size : (get_or c.args.inputs.now c.loop-port.port t).size ≡ c.args.vcs = c.requires.input_sizes c.loop-port.port t inside in
-    let same : t.size ≡ c.args.vcs = rw (← c.index-inputs-port.is) at size in
-    let l : c.loop-port.port * c.args.vcs + c.in-Some.vc < length c.args.inputs.now * c.args.vcs =
-    in_ready (length c.args.inputs.now) c.args.vcs c.loop-port.port c.in-Some.vc inside (omega (arith, c.in-Some.ensures.within, same)) in
-    omega (arith, c.requires.ready)
+    let size : (get_or c.args.inputs.now c.loop-port.port t).size ≡ c.args.vcs = c.requires.input_sizes c.loop-port.port t c.loop-port-test.true in
+    record { within = port_in_ready (length c.args.inputs.now) c.args.vcs c.loop-port.port t.size (length c.args.ready.now) c.loop-port-test.true (rw (← c.index-inputs-port.is) at size) c.requires.ready }
+
+pub overflow_add-first : goal.overflow_add-first
+overflow_add-first c =
+    let t = c.index-inputs-port.result in
+    let size : (get_or c.args.inputs.now c.loop-port.port t).size ≡ c.args.vcs = c.requires.input_sizes c.loop-port.port t c.loop-port-test.true in
+    omega (arith, c.in-Some.ensures.within, port_in_ready (length c.args.inputs.now) c.args.vcs c.loop-port.port t.size (length c.args.ready.now) c.loop-port-test.true (rw (← c.index-inputs-port.is) at size) c.requires.ready)
+
+pub offset_bounds-ready-first : goal.offset_bounds-ready-first
+offset_bounds-ready-first c =
+    let t = c.index-inputs-port.result in
+    let size : (get_or c.args.inputs.now c.loop-port.port t).size ≡ c.args.vcs = c.requires.input_sizes c.loop-port.port t c.loop-port-test.true in
+    omega (arith, c.in-Some.ensures.within, port_in_ready (length c.args.inputs.now) c.args.vcs c.loop-port.port t.size (length c.args.ready.now) c.loop-port-test.true (rw (← c.index-inputs-port.is) at size) c.requires.ready)
+
+pub bounds-ready-first : goal.bounds-ready-first
+bounds-ready-first c =
+    let t = c.index-inputs-port.result in
+    let size : (get_or c.args.inputs.now c.loop-port.port t).size ≡ c.args.vcs = c.requires.input_sizes c.loop-port.port t c.loop-port-test.true in
+    omega (arith, c.in-Some.ensures.within, port_in_ready (length c.args.inputs.now) c.args.vcs c.loop-port.port t.size (length c.args.ready.now) c.loop-port-test.true (rw (← c.index-inputs-port.is) at size) c.requires.ready)
+
+pub offer-requires : goal.offer-requires
+offer-requires c = c.loop-port.auto.wins ∙ c.fill.auto.self ∙ c.requires.wins
 
 pub loop-port-preserved : goal.loop-port-preserved
 loop-port-preserved c =
