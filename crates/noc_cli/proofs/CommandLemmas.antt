@@ -1,8 +1,9 @@
 -- The command line of the program, as clap parses it.
-use Rattle.std.proofs.Common.{◌≡◌, ◌∙◌, ◌++◌, ◌∷◌, [], List, Option, Some, None, Result, Ok, Err, append-nil, append_assoc, ap, ap₂, inl, inr, refl, subst, sym, true}
+use Rattle.std.proofs.Common.{◌≡◌, ◌∙◌, ◌++◌, ◌∷◌, ◌+◌, ◌<◌, ℕ, [], List, Option, Some, None, append-nil, append_assoc, ap, ap₂, get_or, inl, inr, length, lit<, lit≤, map, refl, subst, sym, take, true}
 use Rattle.std.specs.Prelude.{◌||◌, ◌⊎◌, option_map}
-use Rattle.std.specs.Result.{IfOk}
-use Rattle.std.specs.declared.alloc.AllocError.{AllocError}
+use Rattle.std.specs.List.{AllZip}
+use Rattle.std.proofs.lemmas.List.{map_more}
+use Rattle.std.specs.Box.{box_value}
 use Rattle.clap.proofs.OnLiterals.{clap_on_literals}
 use Rattle.clap.specs.Faults.{fault_of, is_simple_and_free}
 use Rattle.clap.specs.Kinds.{HasKind, IsAmong}
@@ -15,12 +16,15 @@ use Rattle.clap.specs.declared.builder.arg.Arg.{Arg}
 use Rattle.clap.specs.declared.builder.command.Command.{Command}
 use Rattle.clap.specs.declared.builder.value_parser.ValueParser.{ValueParser}
 use Rattle.clap.specs.declared.error.Error.{Error}
+use Rattle.clap.specs.declared.error.kind.ErrorKind.TheVariants.{OutOfMemory}
 use Rattle.clap.specs.declared.parser.matches.ArgMatches.{ArgMatches}
 use Rattle.clap.specs.declared.parser.matches.ArgMatches.TheViews.{out-ArgMatches, out-SubCommand}
-use Rattle.std.specs.Box.{box_value}
-use Rattle.noc_cli.specs.CommandLine.{AddsIfMade, AreArgs, IsLeaf, IsArg, TakesReports, command_line, required_arg, run_shape}
-use Rattle.clap.specs.declared.error.kind.ErrorKind.TheVariants.{OutOfMemory}
-use Rattle.noc_cli.specs.Args.{IsNoRequest, IsRefusal, by_rules, no_memory, no_request}
+use Rattle.clap.specs.declared.parser.matches.Found.{Found}
+use Rattle.noc_commands.specs.Workers.{HasWorkers}
+use Rattle.noc_commands.specs.declared.command.Command.{Command as Asked}
+use Rattle.noc_commands.specs.declared.command.Command.TheVariants as asked
+use Rattle.noc_cli.specs.Args.{IsCommand, IsNoRequest, IsRefusal, by_rules, no_memory, no_request}
+use Rattle.noc_cli.specs.CommandLine.{AddsLeaf, IsArg, IsLeaf, TakesReports, command_line}
 
 -- clap's arguments tell its matches exactly
 pub line_is_simple : (names : ValueParser) → is_simple (command_line names) ≡ true
@@ -73,7 +77,7 @@ with_arg old arg new shape rule leaf is adds = (
 )
 
 -- a command with more arguments
-pub with_args : (args : List Arg) (rules : List Rule) (old new : Command) (shape : Shape) → IsLeaf shape old → AreArgs rules args
+pub with_args : (args : List Arg) (rules : List Rule) (old new : Command) (shape : Shape) → IsLeaf shape old → AllZip IsArg rules args
     → AddsInTurn AddsArg old args new → IsLeaf (record shape { rules = shape.rules ++ rules }) new
 with_args [] [] old new shape leaf are adds =
     subst (λ rules. IsLeaf (record shape { rules = rules }) new) (sym (append-nil shape.rules)) (subst (IsLeaf shape) adds leaf)
@@ -83,29 +87,42 @@ with_args (arg ∷ args) (rule ∷ rules) old new shape leaf are adds =
     subst (λ all. IsLeaf (record shape { rules = all }) new) (append_assoc shape.rules (rule ∷ []) rules)
     (with_args args rules adds.0 new (record shape { rules = shape.rules ++ rule ∷ [] }) (with_arg old arg adds.0 shape rule leaf are.0 adds.1) are.1 adds.2)
 
--- an argument that has to be given
-pub required : (rule : Rule) (arg given : Arg) → given ≡ record arg { required = true } → IsArg rule arg → IsArg (required_arg rule) given
-required rule arg given is one = subst (IsArg (required_arg rule)) (sym is) (ap required_arg one.0, one.1)
+-- a program with more commands
+abbrev with_subs : App → List Shape → App
+with_subs app [] = app
+with_subs app (shape ∷ shapes) = with_subs (with_subcommand app shape) shapes
 
--- a program with one more command
-adds : (old sub new : Command) (app : App) (shape : Shape) → app_of old ≡ app → IsLeaf shape sub → AddsSubcommand old sub new
-    → app_of new ≡ with_subcommand app shape
-adds old sub new app shape so_far leaf more = more.shape leaf.1 ∙ ap₂ with_subcommand so_far (ap (λ (a : App). a.top) leaf.0)
+pub adds_subs : (subs : List Command) (shapes : List Shape) (old new : Command) (app : App) → app_of old ≡ app → AllZip IsLeaf shapes subs
+    → AddsInTurn AddsSubcommand old subs new → app_of new ≡ with_subs app shapes
+adds_subs [] [] old new app so_far are adds = ap app_of (sym adds) ∙ so_far
+adds_subs [] (shape ∷ shapes) old new app so_far are adds = absurd are
+adds_subs (sub ∷ subs) [] old new app so_far are adds = absurd are
+adds_subs (sub ∷ subs) (shape ∷ shapes) old new app so_far are adds =
+    let next = adds.1.shape are.0.1 ∙ ap₂ with_subcommand so_far (ap (λ (a : App). a.top) are.0.0) in
+    adds_subs subs shapes adds.0 new (with_subcommand app shape) next are.1 adds.2
 
--- the program with the command `run`, if there was memory for both
-pub with_run : (old sub new : Result Command AllocError) (app : App) → IfOk old (λ c. app_of c ≡ app)
-    → IfOk sub (λ c. (names : ValueParser) × TakesReports names × IsLeaf (run_shape names) c) → IfOk new (AddsIfMade old sub)
-    → IfOk new (λ c. (names : ValueParser) × TakesReports names × (app_of c ≡ with_subcommand app (run_shape names)))
-with_run old sub (Err e) app so_far leaf more = tt
-with_run (Err e) sub (Ok new) app so_far leaf more = absurd more
-with_run (Ok old) (Err e) (Ok new) app so_far leaf more = absurd more
-with_run (Ok old) (Ok sub) (Ok new) app so_far leaf more = (leaf.0, leaf.1, adds old sub new app (run_shape leaf.0) so_far leaf.2 more)
+-- ---- lists of which one more is as is said
 
--- and with another one
-pub with_another : (old sub new : Result Command AllocError) (app : ValueParser → App) (shape : Shape)
-    → IfOk old (λ c. (names : ValueParser) × TakesReports names × (app_of c ≡ app names)) → IfOk sub (IsLeaf shape) → IfOk new (AddsIfMade old sub)
-    → IfOk new (λ c. (names : ValueParser) × TakesReports names × (app_of c ≡ with_subcommand (app names) shape))
-with_another old sub (Err e) app shape so_far leaf more = tt
-with_another (Err e) sub (Ok new) app shape so_far leaf more = absurd more
-with_another (Ok old) (Err e) (Ok new) app shape so_far leaf more = absurd more
-with_another (Ok old) (Ok sub) (Ok new) app shape so_far leaf more = (so_far.0, so_far.1, adds old sub new (app so_far.0) shape so_far.2 leaf more)
+pushed : {Y Z : Type 0} (R : Y → Z → Type 0) (ys : List Y) (zs : List Z) (y : Y) (z : Z) → AllZip R ys zs → R y z → AllZip R (ys ++ y ∷ []) (zs ++ z ∷ [])
+pushed R [] [] y z are here = (here, tt)
+pushed R [] (w ∷ zs) y z are here = absurd are
+pushed R (w ∷ ys) [] y z are here = absurd are
+pushed R (v ∷ ys) (w ∷ zs) y z are here = (are.0, pushed R ys zs y z are.1 here)
+
+pub one_more : {X Y Z : Type 0} (f : X → Y) (R : Y → Z → Type 0) (xs : List X) (zs new : List Z) (i : ℕ) (d : X) (z : Z) → i < length xs
+    → AllZip R (map f (take i xs)) zs → R (f (get_or xs i d)) z → new ≡ zs ++ z ∷ [] → AllZip R (map f (take (i + 1) xs)) new
+one_more f R xs zs new i d z inside so_far here more = rw (map_more f xs i d inside, more) (pushed R (map f (take i xs)) zs (f (get_or xs i d)) z so_far here)
+
+pub one_leaf : (shapes : List Shape) (shape : Shape) (old new : List Command) → AllZip IsLeaf shapes old → AddsLeaf shape old new → AllZip IsLeaf (shapes ++ shape ∷ []) new
+one_leaf shapes shape old new are added = subst (AllZip IsLeaf (shapes ++ shape ∷ [])) (sym added.1) (pushed IsLeaf shapes old shape added.0 are added.2)
+
+-- ---- workers
+
+-- a command that is asked for has workers
+pub has_workers : (found : Found) (name : Text) (command : Asked) → IsCommand found name command → HasWorkers command
+has_workers found name asked.Joined is = absurd is
+has_workers found name (asked.Run workers report drain) is = (is.2, is.3)
+has_workers found name (asked.Explain cycle router) is = (lit< tt, lit≤ tt)
+has_workers found name (asked.Trace from to router packet verdicts changes) is = (lit< tt, lit≤ tt)
+has_workers found name asked.Check is = (lit< tt, lit≤ tt)
+has_workers found name asked.Ranks is = (lit< tt, lit≤ tt)

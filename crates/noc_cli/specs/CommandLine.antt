@@ -1,15 +1,17 @@
 -- The command line of the program as data: its commands, with the arguments that each takes.
-use Rattle.std.specs.Prelude.{◌≡◌, ⊤, List, [], ◌∷◌, true, false, Some, Result, Ok, codes, map}
+use Rattle.std.specs.Prelude.{◌≡◌, ◌++◌, List, [], ◌∷◌, true, false, Some, codes, map}
+use Rattle.std.specs.Borrow.{Bor}
 use Rattle.clap.specs.Simple.{new_shape}
-use Rattle.std.specs.declared.alloc.AllocError.{AllocError}
-use Rattle.clap.specs.Words.{AddsSubcommand, App, Rule, Shape, Text, app_of, new_rule, rule_of}
+use Rattle.clap.specs.Words.{App, Rule, Shape, Text, app_of, new_rule, rule_of}
 use Rattle.clap.specs.declared.builder.arg.Arg.{Arg}
 use Rattle.clap.specs.declared.builder.action.ArgAction.TheVariants.{SetTrue}
 use Rattle.clap.specs.declared.builder.command.Command.{Command}
 use Rattle.clap.specs.declared.builder.command.Command.TheViews.{out-Command}
 use Rattle.clap.specs.declared.builder.value_parser.ValueParser.{ValueParser}
-use Rattle.clap.specs.declared.builder.value_parser.ValueParser.TheVariants as value
+use Rattle.clap.specs.declared.builder.value_parser.ValueParser.TheVariants as parser
 use Rattle.noc_commands.specs.Reports.{report_names}
+use Rattle.noc_cli.specs.declared.command_line.Takes.{Takes}
+use Rattle.noc_cli.specs.declared.command_line.Takes.TheVariants as takes
 
 -- a file that has to be named
 abbrev pub file_arg : Text → Rule
@@ -21,7 +23,7 @@ option_arg id = record (new_rule id) { long = Some id; value_names = 1 }
 
 -- whose value is a number of 64 bits
 abbrev pub number_arg : Text → Rule
-number_arg id = record (option_arg id) { parser = Some (value.Unsigned 0 18446744073709551615) }
+number_arg id = record (option_arg id) { parser = Some (parser.Unsigned 0 18446744073709551615) }
 
 abbrev pub required_arg : Rule → Rule
 required_arg rule = record rule { required = true }
@@ -36,7 +38,7 @@ flag_arg id = record (new_rule id) { long = Some id; action = Some SetTrue }
 
 -- the parser takes the names of the reports
 abbrev pub TakesReports : ValueParser → Type 0
-TakesReports (value.Names names) = map (λ name. name.now) names.now ≡ report_names
+TakesReports (parser.Names names) = map (λ name. name.now) names.now ≡ report_names
 TakesReports _ = ⊥
 
 abbrev pub report_arg : ValueParser → Rule
@@ -86,17 +88,26 @@ command_line names = record {
   subs = run_shape names ∷ explain_shape ∷ trace_shape ∷ check_shape ∷ ranks_shape ∷ [];
 }
 
+-- what an argument takes, by its id
+abbrev pub rule_of_kind : Text → Takes → Rule
+rule_of_kind id takes.File = file_arg id
+rule_of_kind id takes.Nothing = flag_arg id
+rule_of_kind id (takes.Text value) = option_arg id
+rule_of_kind id (takes.NeededText value) = required_arg (option_arg id)
+rule_of_kind id (takes.Number value) = number_arg id
+rule_of_kind id (takes.NeededNumber value) = required_arg (number_arg id)
+rule_of_kind id (takes.Count value) = with_default (codes "1") (number_arg id)
+rule_of_kind id (takes.Report value names) =
+    with_default (codes "latency") (record (option_arg id) { parser = Some (parser.Names names) })
+
+abbrev pub rule_in : Bor Text × Takes × Bor Text → Rule
+rule_in (id, kind, help) = rule_of_kind id.now kind
+
 -- ---- what clap holds of them
 
 -- the argument has these rules, in its own command
 abbrev pub IsArg : Rule → Arg → Type 0
 IsArg rule arg = (rule_of arg ≡ rule) × (arg.global ≡ false)
-
--- arguments with these rules, one after another
-abbrev pub AreArgs : List Rule → List Arg → Type 0
-AreArgs [] [] = ⊤
-AreArgs (rule ∷ rules) (arg ∷ args) = IsArg rule arg × AreArgs rules args
-AreArgs _ _ = ⊥
 
 -- the command has these arguments and no command below it
 abbrev pub IsLeaf : Shape → Command → Type 0
@@ -104,10 +115,9 @@ IsLeaf shape command =
     (app_of command ≡ record { top = shape; subs = [] })
     × ((out-Command command).has_globals ≡ false)
 
--- the command is the program with one more command, which could both be made
-abbrev pub AddsIfMade : Result Command AllocError → Result Command AllocError → Command → Type 0
-AddsIfMade (Ok program) (Ok command) more = AddsSubcommand program command more
-AddsIfMade _ _ more = ⊥
+-- such a command was added
+abbrev pub AddsLeaf : Shape → List Command → List Command → Type 0
+AddsLeaf shape old new = (command : Command) × (new ≡ old ++ command ∷ []) × IsLeaf shape command
 
 -- the command is the program's
 abbrev pub IsProgram : Command → Type 0

@@ -3,6 +3,7 @@
 #![tactic(auto)]
 
 mod args;
+mod command_line;
 mod version;
 
 pub use args::{Args, read_args};
