@@ -1,5 +1,8 @@
-use Rattle.std.proofs.Common.{ℕ, ◌+◌, ◌^◌, ◌<◌, sym, subst, List, length}
+use Rattle.std.proofs.Common.{ℕ, ◌+◌, ◌^◌, ◌<◌, ◌∙◌, ap, arith, sym, subst, List, length}
+use Rattle.std.proofs.lemmas.Bool.{true≢false}
 use Rattle.noc_topo.specs.Shape.{nodes}
+use Rattle.noc_packet.specs.Set.{has_bit}
+use Rattle.noc_packet.proofs.SetLemmas.{has_bit-zero}
 use Rattle.noc_columns.specs.Channels.{decided_by, standing_by}
 use Rattle.noc_columns.specs.Picks.{channels_of}
 use Rattle.noc_columns.specs.Routing.{sets_by}
@@ -16,6 +19,12 @@ allocate-requires-clause-waiting c = λ r l. (c.requires.may r l).waiting
 
 pub allocate-requires-clause-idle : goal.allocate-requires-clause-idle
 allocate-requires-clause-idle c = λ r l. (c.requires.may r l).idle
+
+pub route-requires-clause-heads : goal.route-requires-clause-heads
+route-requires-clause-heads c = λ r k few e.
+    let may = c.requires.may r few in
+    let node = may.node_is (λ none. true≢false (sym e ∙ ap (λ s. has_bit s k) none ∙ has_bit-zero k)) in
+    (omega (arith, node), may.heads k e)
 
 pub returns-clause-decided : goal.returns-clause-decided
 returns-clause-decided c = λ layout r no_credit s l shows.

@@ -1,7 +1,23 @@
-use Rattle.std.proofs.Common.{◌∙◌, ap, arith}
+use Rattle.std.proofs.Common.{◌+◌, ◌-◌, ◌∙◌, ap, arith}
+use Rattle.std.proofs.lemmas.Nat.{mul-le}
 use Rattle.noc_columns.specs.declared.ports.RouterPorts.{RouterPorts}
 use Rattle.noc_cycles.proofs.LayoutLemmas.{places-are}
 use Rattle.noc_cycles.proofs.pattern.Pattern.of.Goals as goal
+
+pub overflow_mul-links : goal.overflow_mul-links
+overflow_mul-links c = let few = mul-le c.args.vcs (c.ports-width.result - 1) 8 6 c.requires.vcs (omega (arith, c.ports-width.ensures.few)) in omega (arith, few, c.requires.vcs)
+
+pub overflow_add-links : goal.overflow_add-links
+overflow_add-links c = let few = mul-le c.args.vcs (c.ports-width.result - 1) 8 6 c.requires.vcs (omega (arith, c.ports-width.ensures.few)) in omega (arith, few, c.requires.vcs)
+
+pub frame_of-requires-clause-all : goal.frame_of-requires-clause-all
+frame_of-requires-clause-all c = let few = mul-le c.args.vcs (c.ports-width.result - 1) 8 6 c.requires.vcs (omega (arith, c.ports-width.ensures.few)) in omega (arith, few, c.requires.vcs)
+
+pub of-requires : goal.of-requires
+of-requires c =
+    let links = c.ports_of.result.links in
+    let few = mul-le (links.width + 1) links.vcs 7 8 (omega (arith, c.ports_of.ensures.width, c.ports-width.ensures.few)) (omega (arith, c.ports_of.ensures.vcs, c.requires.vcs)) in
+    omega (arith, few)
 
 pub returns : goal.returns
 returns c = record {
