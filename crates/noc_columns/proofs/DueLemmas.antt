@@ -84,20 +84,6 @@ looked-all cycle n due all are = record {
 }
 
 -- ---- a later cycle comes, in which no other packet is due
-pub passed-due : (before cycle : ℕ) (due : Due) → before ≤ cycle → cycle < due.next → AreDue before due → AreDue cycle due
-passed-due before cycle due past early are = record {
-  ready = λ r l. are.ready r l ∙ alike (slice_index due.at r) (are.later r l) (cases_lt before (slice_index due.at r));
-  later = λ r l late. are.later r l (omega (arith, late, past));
-  next = elim are.next [
-    | inl never ↦ inl never
-    | inr one ↦ inr (one.0, one.1, (let e = one.3 in omega (arith, e, early)), one.3)
-  ];
-}
-  where
-    alike : (when : ℕ) → (before < when → due.next ≤ when) → (before < when) ⊎ (when ≤ before) → nat_le when before ≡ nat_le when cycle
-    alike when later (inl l) = let m = later l in lt-leb when before l ∙ sym (lt-leb when cycle (omega (arith, m, early)))
-    alike when later (inr l) = le-leb when before l ∙ sym (le-leb when cycle (omega (arith, l, past)))
-
 -- ---- a source goes on to its next packet
 module _ (cycle router when bit time : ℕ) (due : Due) (small : due.next < 2 ^ 32) (long : length due.at ≡ 64) (few : router < 64) (bit_is : bit ≡ (if nat_lt cycle when then 2 ^ router else 0))
     (time_is : time ≡ if_later cycle when) (was : slice_index due.at router ≤ cycle) (are : AreDue cycle due) where

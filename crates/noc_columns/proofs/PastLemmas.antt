@@ -11,7 +11,7 @@ use Rattle.noc_sets.specs.Turns.{ArePast, ShowsPointer, first_bit, in_turn}
 use Rattle.noc_sets.specs.Unions.{some_below}
 use Rattle.noc_sets.proofs.MemberLemmas.{and_fits, less_fits, less_members, lowest_members, or_fits}
 use Rattle.noc_columns.specs.Picks.{IsPassedBy, channels_of, port_of}
-use Rattle.noc_columns.specs.Words.{Numbering, set_of, word}
+use Rattle.noc_columns.specs.Words.{set_of, word}
 use Rattle.noc_columns.specs.declared.ports.RouterPorts.{RouterPorts}
 use Rattle.noc_columns.proofs.PickLemmas.{find-first, none-each, some-each}
 use Rattle.noc_columns.proofs.RouterLemmas.{below-fits, part-is, port-members}
@@ -82,9 +82,6 @@ after-is ahead past sends k s e =
 
 module _ (ports : RouterPorts) (r : ℕ) (ready ahead picked past sends : List ℕ) (sending : ℕ → Bool) (some : 0 < ports.links.vcs) (few : (ports.links.width + 1) * ports.links.vcs ≤ 64)
     (each : (p : ℕ) → p < ports.links.width + 1 → IsPassedBy (port_of ports p) r ready ahead picked past sends (sending p)) where
-  abbrev all : Numbering
-  all = channels_of ports
-
   abbrev set : List ℕ → ℕ
   set words = set_of (channels_of ports) r words
 

@@ -1,5 +1,5 @@
 -- The tables of a block have the places of the neighbours of its routers.
-use Rattle.std.proofs.Common.{◌≡◌, ◌≢◌, ◌⊎◌, ℕ, zero, suc, ◌+◌, ◌-◌, ◌*◌, ◌/◌, ◌%◌, ◌^◌, ◌<◌, ◌≤◌, Bool, true, false, List, [], ◌∷◌, ◌++◌, Some, None, length, map, take, arith, ap, ap₂, sym, ◌∙◌, subst, refl, inl, inr, bit_or, lit≤, pow-add, replicate, set, slice_index}
+use Rattle.std.proofs.Common.{◌≡◌, ◌≢◌, ◌⊎◌, ℕ, zero, suc, ◌+◌, ◌-◌, ◌*◌, ◌/◌, ◌%◌, ◌^◌, ◌<◌, ◌≤◌, Bool, true, false, List, [], ◌∷◌, ◌++◌, Some, None, length, map, take, arith, ap, ap₂, sym, ◌∙◌, subst, refl, inl, inr, bit_or, lit≤, pow-add, replicate, slice_index}
 use Rattle.std.specs.Prelude.{◌&&◌, ◌||◌, not, nat_eq, nat_lt, if◌then◌else◌}
 use Rattle.std.proofs.lemmas.Bool.{cases_eq, cases_lt, eq-eqb, false_from_ne_true, le-ltb, lt-ltb, ne_eqb, true_from_ne_false, true≢false}
 use Rattle.std.proofs.lemmas.List.{length_push}
@@ -17,7 +17,6 @@ use Rattle.noc_columns.specs.Words.{set_below, word}
 use Rattle.noc_columns.specs.declared.neighbours.Far.{Far}
 use Rattle.noc_columns.specs.declared.neighbours.Near.{Near}
 use Rattle.noc_columns.proofs.NearLemmas.{neighbour-is}
-use Rattle.noc_columns.proofs.PassLemmas.{word-here, word-other}
 use Rattle.noc_columns.proofs.PickLemmas.{apart}
 use Rattle.noc_columns.proofs.SetLemmas.{below-members}
 
@@ -111,12 +110,6 @@ pub mask-all : (n mask : ℕ) (test : ℕ → Bool) → mask ≡ set_below n tes
 mask-all n mask test is all r few = ap (λ m. has_bit m r) is ∙ below-members n test r ∙ ap (λ b. b && test r) (lt-ltb r n (omega (arith, all, few)))
 
 -- ---- words that are written
-pub all-below : (xs : List ℕ) (k x n : ℕ) → length xs ≡ 72 → k < 72 → x < n → ((j : ℕ) → slice_index xs j < n) → (j : ℕ) → slice_index (set xs k x) j < n
-all-below xs k x n long few small below j = elim (cases_eq j k) [
-  | inl same ↦ subst (λ i. slice_index (set xs k x) i < n) (sym same) (subst (λ y. y < n) (sym (word-here xs k x long few)) small)
-  | inr other ↦ subst (λ y. y < n) (sym (word-other xs k x j other)) (below j)
-]
-
 -- none at first
 pub zeros : (n k : ℕ) → slice_index (replicate n 0) k ≡ 0
 zeros zero k = refl

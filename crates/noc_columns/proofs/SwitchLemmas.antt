@@ -48,9 +48,6 @@ some-none (suc n) test none = ap₂ (λ a b. a || b) (some-none n test (λ k l. 
 next-le : (d c : ℕ) → nat_le (d + 1) c ≡ nat_lt d c
 next-le d c = elim (cases_lt d c) [ inl l ↦ le-leb (d + 1) c (omega (arith, l)) ∙ sym (lt-ltb d c l) | inr l ↦ lt-leb (d + 1) c (omega (arith, l)) ∙ sym (le-ltb d c l) ]
 
-eq-same : (a b : ℕ) → nat_eq a b ≡ nat_eq b a
-eq-same a b = elim (cases_eq a b) [ inl e ↦ eq-eqb a b e ∙ sym (eq-eqb b a (sym e)) | inr o ↦ ne_eqb a b o ∙ sym (ne_eqb b a (λ e. o (sym e))) ]
-
 module _ (ports vcs : ℕ) (some : 0 < vcs) (few : ports * vcs ≤ 64) (picked : ℕ) (tail : ℕ → Bool) (m : RouterMarks) (picks : PortPicks) (shows : ShowsPicks ports vcs picked tail m picks) where
   -- the picked channels of these ports
   record Lifts (channels set : ℕ) : Type 0 where

@@ -1,4 +1,4 @@
-use Rattle.std.proofs.Common.{◌≡◌, ℕ, ◌+◌, ◌*◌, ◌<◌, ◌∙◌, arith, refl, set, inl, inr, slice_index}
+use Rattle.std.proofs.Common.{◌≡◌, ◌+◌, ◌*◌, ◌∙◌, arith, refl, set, inl, inr, slice_index}
 use Rattle.std.proofs.lemmas.List.{length-set}
 use Rattle.noc_columns.specs.Words.{word}
 use Rattle.noc_columns.proofs.PassLemmas.{all-next, word-here, word-other}
