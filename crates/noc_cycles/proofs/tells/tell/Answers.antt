@@ -75,3 +75,12 @@ returns-clause-notes c = λ g tells told.
     notes-all g pattern around block tells told size c.loop-rest.notes.items refl
     (notes-same g pattern around block tells told (λ r j. has_bit c.loop-rest.rest (index j) ≡ false) (λ r j. j < size) c.loop-rest.notes.items
     (λ s j l granted below. ap (λ n. has_bit n (index j)) none ∙ has_bit-zero (index j)) (c.loop-rest.invariant.notes g tells told))
+
+pub tell_word-requires-clause-room : goal.tell_word-requires-clause-room
+tell_word-requires-clause-room c = let low = c.loop-rest.invariant.low c.least.result c.least.ensures.least.0 in omega (arith, low, c.least.ensures.within)
+
+pub returns-clause-few : goal.returns-clause-few
+returns-clause-few c = c.loop-rest.invariant.most
+
+pub returns-clause-room : goal.returns-clause-room
+returns-clause-room c = c.loop-rest.invariant.room

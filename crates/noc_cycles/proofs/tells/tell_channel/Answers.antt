@@ -85,3 +85,15 @@ returns-clause-notes c = λ g tells done told was.
       | inr here ↦ inr (eqb-true j k here, ap (λ n. has_bit n s) none ∙ has_bit-zero s)
     ])
     (c.loop-rest.invariant.notes g tells done told was)
+
+pub bounds-block-index : goal.bounds-block-index
+bounds-block-index c = c.index-index.ensures.within
+
+pub tell_one-requires-clause-room : goal.tell_one-requires-clause-room
+tell_one-requires-clause-room c = let low = c.loop-rest.invariant.low c.least.result c.least.ensures.least.0 in omega (arith, low, c.least.ensures.within)
+
+pub returns-clause-more : goal.returns-clause-more
+returns-clause-more c = c.loop-rest.invariant.most
+
+pub returns-clause-room : goal.returns-clause-room
+returns-clause-room c = c.loop-rest.invariant.room
