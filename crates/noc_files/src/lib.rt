@@ -3,26 +3,31 @@
 #![tactic(auto)]
 
 mod configuration;
+mod cycle_lines;
 mod fault;
 mod findings;
 mod inputs;
 mod joined;
+mod kept;
 mod label;
 mod labels;
 mod latency;
 mod listing;
 mod page;
 mod pages;
+mod permitted;
 mod ports;
 mod ranks;
 mod reading;
 mod reports;
 mod rows;
+mod sets;
 mod sheet;
 mod sink;
 mod stalls;
 mod summary;
 mod table;
+mod told;
 mod trace;
 mod traffic;
 mod writing;

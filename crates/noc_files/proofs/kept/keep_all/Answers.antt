@@ -7,7 +7,7 @@ use Rattle.noc_theory.specs.Lockstep.{findings_before}
 use Rattle.noc_theory.specs.Network.{size}
 use Rattle.noc_files.specs.Trace.{HaveChannels}
 use Rattle.noc_files.proofs.TraceCycleLemmas.{length-before, seen_before, seen_here, seen_there}
-use Rattle.noc_files.proofs.trace.keep_all.Goals as goal
+use Rattle.noc_files.proofs.kept.keep_all.Goals as goal
 
 pub keep_one-requires : goal.keep_one-requires
 keep_one-requires c =

@@ -1,6 +1,6 @@
 use Rattle.std.proofs.Common.{arith}
 use Rattle.noc_net.proofs.LimitLemmas.{packet-good}
-use Rattle.noc_files.proofs.trace.permitted_to.Goals as goal
+use Rattle.noc_files.proofs.permitted.permitted_to.Goals as goal
 
 pub permitted-requires-clause-class : goal.permitted-requires-clause-class
 permitted-requires-clause-class c =

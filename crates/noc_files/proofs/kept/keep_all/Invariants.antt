@@ -3,7 +3,7 @@ use Rattle.std.specs.Prelude.{slice_get}
 use Rattle.noc_theory.specs.Lockstep.{findings_before}
 use Rattle.noc_theory.specs.Network.{size}
 use Rattle.noc_files.specs.Trace.{HaveChannels}
-use Rattle.noc_files.proofs.trace.keep_all.Given as goal
+use Rattle.noc_files.proofs.kept.keep_all.Given as goal
 
 abbrev pub invariant-loop-router : goal.invariant-loop-router
 invariant-loop-router l = record {

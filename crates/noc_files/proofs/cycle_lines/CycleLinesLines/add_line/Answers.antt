@@ -6,8 +6,8 @@ use Rattle.noc_files.specs.Trace.{is_wanted, kept_line, told_text, trace_line, t
 use Rattle.noc_files.specs.Writing.{comma, text_of_pieces}
 use Rattle.noc_files.specs.declared.trace.Traced.{Traced}
 use Rattle.noc_files.proofs.TraceCycleLemmas.{line_is}
-use Rattle.noc_files.proofs.trace.CycleLinesLines.add_line.Goals as goal
-use Rattle.noc_files.proofs.trace.CycleLinesLines.add_line.Goals.{After-is_wanted}
+use Rattle.noc_files.proofs.cycle_lines.CycleLinesLines.add_line.Goals as goal
+use Rattle.noc_files.proofs.cycle_lines.CycleLinesLines.add_line.Goals.{After-is_wanted}
 
 shown : (o : Option (Bor Finding)) (d : Bor Finding) → (unwrap_or o d).now ≡ unwrap_or (option_map (λ b. b.now) o) d.now
 shown None d = refl

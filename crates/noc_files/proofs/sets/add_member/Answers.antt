@@ -6,7 +6,7 @@ use Rattle.noc_files.specs.Ports.{name_of_port}
 use Rattle.noc_files.specs.Labels.{channel_text}
 use Rattle.noc_files.specs.Writing.{text_of_pieces}
 use Rattle.noc_files.proofs.LabelLemmas.{name_known, label_read}
-use Rattle.noc_files.proofs.trace.add_member.Goals as goal
+use Rattle.noc_files.proofs.sets.add_member.Goals as goal
 
 -- where there are channels, each port has some
 some_each : (ports vcs index : ℕ) → index < ports * vcs → 1 ≤ vcs

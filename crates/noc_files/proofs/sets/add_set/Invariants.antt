@@ -2,8 +2,8 @@ use Rattle.std.proofs.Common.{◌≡◌, ◌≤◌, ◌<◌, ◌+◌, ◌*◌, �
 use Rattle.noc_topo.specs.Lists.{below}
 use Rattle.noc_packet.specs.Set.{has_bit}
 use Rattle.noc_files.specs.Trace.{has_below, member_text}
-use Rattle.noc_files.specs.declared.trace.TheConstants.{MEMBER}
-use Rattle.noc_files.proofs.trace.add_set.Given as goal
+use Rattle.noc_files.specs.declared.sets.TheConstants.{MEMBER}
+use Rattle.noc_files.proofs.sets.add_set.Given as goal
 
 -- the members below the index are on the page
 abbrev pub invariant-loop-index : goal.invariant-loop-index

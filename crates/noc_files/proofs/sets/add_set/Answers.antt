@@ -5,7 +5,7 @@ use Rattle.noc_files.specs.Trace.{has_below, member_text}
 use Rattle.noc_files.specs.Writing.{text_of_pieces}
 use Rattle.noc_files.proofs.PageLemmas.{added_more, added_none}
 use Rattle.noc_files.proofs.TraceCycleLemmas.{has_none, member_more, passed_some, passed_text}
-use Rattle.noc_files.proofs.trace.add_set.Goals as goal
+use Rattle.noc_files.proofs.sets.add_set.Goals as goal
 
 pub loop-index-init : goal.loop-index-init
 loop-index-init c =

@@ -1,7 +1,7 @@
 use Rattle.std.proofs.Common.{◌≡◌, ◌<◌, ℕ, None}
 use Rattle.std.specs.Prelude.{option_and_then, slice_get}
 use Rattle.noc_files.specs.Trace.{traced_finding}
-use Rattle.noc_files.proofs.trace.tells_nothing.Given as goal
+use Rattle.noc_files.proofs.told.tells_nothing.Given as goal
 
 -- nothing is told of the channels so far
 abbrev pub invariant-loop-finding : goal.invariant-loop-finding
