@@ -1,9 +1,9 @@
 -- Where a router stands in its block, what stands in lists, and lists in which one item after the other
 -- is written.
-use Rattle.std.proofs.Common.{◌≡◌, ◌≢◌, ℕ, ◌+◌, ◌-◌, ◌*◌, ◌/◌, ◌%◌, ◌<◌, ◌≤◌, List, ◌++◌, Some, length, length-append, get_or, take, drop, set as write, ap, sym, ◌∙◌, subst, refl, arith, inl, inr}
-use Rattle.std.specs.Prelude.{◌⊎◌, Option, slice_get}
+use Rattle.std.proofs.Common.{◌≡◌, ◌≢◌, ℕ, ◌+◌, ◌-◌, ◌*◌, ◌/◌, ◌%◌, ◌<◌, ◌≤◌, List, [], ◌++◌, Some, length, map, length-append, get_or, take, drop, set as write, ap, sym, ◌∙◌, subst, refl, arith, inl, inr}
+use Rattle.std.specs.Prelude.{◌⊎◌, Err, IsOk, Ok, OnOk, Option, Result, is_ok, slice_get, if◌then◌else◌}
 use Rattle.std.proofs.lemmas.Bool.{cases_eq, cases_lt}
-use Rattle.std.proofs.lemmas.List.{get_or-append_right, get_or-drop, get_or-set_other, get_or-set_same, get_or-take, get_or_append_left, length-drop, length-set, length-take-le}
+use Rattle.std.proofs.lemmas.List.{get_or-append_right, get_or-drop, get_or-set_other, get_or-set_same, get_or-take, get_or_append_left, length-drop, length-map, length-set, length-take-le}
 use Rattle.std.proofs.lemmas.Option.{get_or_from_slice_get, slice_get-get_or, slice_get_cases, slice_get_past, slice_get_read, slice_get_within}
 
 -- ---- a router, by its block and its place there
@@ -43,6 +43,19 @@ back-there xs ys i x past at =
     let inside : i < length (xs ++ ys) = slice_get_within (xs ++ ys) i x at in
     slice_get-get_or ys (i - length xs) x (omega (arith, inside, long, past))
     ∙ ap Some (sym (get_or-append_right xs ys (length xs) i x refl past) ∙ get_or_from_slice_get (xs ++ ys) i x x at)
+
+-- as many items as are mapped
+pub mapped-long : {A B : Type 0} (f : A → B) (xs : List A) (i : ℕ) (ys : List B) → i ≤ length xs → ys ≡ map f (take i xs) → length ys ≡ i
+mapped-long f xs i ys within is = ap length is ∙ length-map (take i xs) f ∙ length-take-le i xs within
+
+-- an empty list to which others come
+pub filled-whole : {A R E : Type 0} (r : Result R E) (new old from : List A) → IsOk r → old ≡ [] → new ≡ (if is_ok r then old ++ from else old) → new ≡ from
+filled-whole r new old from ok none is = is ∙ ap (λ b. if b then old ++ from else old) ok ∙ ap (λ xs. xs ++ from) none
+
+-- what follows from a value, if there is one
+pub on-ok : {P Q R E : Type 0} (r : Result R E) → (P → Q) → OnOk r P → OnOk r Q
+on-ok (Ok x) f p = f p
+on-ok (Err e) f p = tt
 
 -- an item that is read
 pub read : {S : Type 0} (xs : List S) (i : ℕ) (x : S) → i < length xs → x ≡ get_or xs i x → slice_get xs i ≡ Some x

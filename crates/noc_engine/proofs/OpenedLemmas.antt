@@ -1,5 +1,5 @@
 -- A network of blocks before its first cycle.
-use Rattle.std.proofs.Common.{◌≡◌, ℕ, ◌+◌, ◌-◌, ◌*◌, ◌/◌, ◌%◌, ◌^◌, ◌<◌, ◌≤◌, List, Some, None, length, map, replicate, ap, ap₂, sym, subst, ◌∙◌, arith}
+use Rattle.std.proofs.Common.{◌≡◌, ℕ, ◌+◌, ◌-◌, ◌*◌, ◌/◌, ◌%◌, ◌^◌, ◌<◌, ◌≤◌, List, Some, None, length, map, ap, ap₂, sym, subst, ◌∙◌, arith}
 use Rattle.std.specs.Int.{div_ceil}
 use Rattle.std.specs.Prelude.{min, slice_get, slice_index, slice_index_or}
 use Rattle.std.proofs.lemmas.List.{get_or-replicate, length-replicate}
@@ -21,11 +21,11 @@ use Rattle.noc_columns.specs.Sources.{starts_by}
 use Rattle.noc_columns.specs.declared.channels.Links.{Links}
 use Rattle.noc_columns.specs.declared.due.TheConstants.{NEVER}
 use Rattle.noc_columns.specs.declared.ports.RouterPorts.{RouterPorts}
-use Rattle.noc_counts.specs.Counts.{AreClear, IsClear}
+use Rattle.noc_counts.specs.Counts.{IsClear}
 use Rattle.noc_counts.specs.declared.counts.Counts.{Counts}
 use Rattle.noc_cycles.specs.Around.{AreAround, IsAround}
 use Rattle.noc_cycles.specs.Held.{held_at, links_at}
-use Rattle.noc_cycles.specs.Opened.{AreEmptyWorks, AreOpened, IsOpened, no_links, router_of}
+use Rattle.noc_cycles.specs.Opened.{IsOpened, no_links, router_of}
 use Rattle.noc_cycles.specs.Patterns.{IsPatternOf}
 use Rattle.noc_cycles.specs.Told.{HaveRoom}
 use Rattle.noc_cycles.specs.declared.block.Block.{Block}
@@ -39,10 +39,11 @@ use Rattle.noc_theory_cycles.specs.Nodes.{ShowsNode}
 use Rattle.noc_theory_cycles.specs.Steps.{ShowsAll, held_in, opened_words}
 use Rattle.noc_theory_cycles.proofs.LayoutLemmas.{fits-network}
 use Rattle.noc_theory_cycles.proofs.OpeningLemmas.{all-open, node-opens}
-use Rattle.noc_engine.specs.Opened.{IsMadeFrom}
+use Rattle.noc_engine.specs.Opened.{IsMadeFrom, IsOpenedTile}
 use Rattle.noc_engine.specs.Shows.{IsPlanOf, ShowsAt, ShowsBlock, ShowsTile, arrival_by, has_router, words_in}
 use Rattle.noc_engine.specs.declared.engine.Engine.{Engine}
 use Rattle.noc_engine.specs.declared.plan.Plan.{Plan}
+use Rattle.noc_engine.specs.declared.tile.Tile.{Tile}
 use Rattle.noc_engine.proofs.ListLemmas.{block-of, place-of, there}
 
 -- ---- how many blocks there are
@@ -106,15 +107,7 @@ pub record IsMade (net : Setup) (firsts : List First) (count : ℕ) (all : Engin
   pub plan : IsPlanOf net all.plan
   pub count_is : count ≡ length all.plan.around.items
   pub firsts_are : AreFirsts net.packets (nodes net.relation.grid) firsts
-  pub blocks : AreOpened all.plan.pattern firsts count all.tile.blocks.items
-  pub works : AreEmptyWorks count all.tile.works.items
-  pub left : length all.tile.left.items ≡ count
-  pub notes : HaveRoom count all.tile.notes.items
-  pub counts : AreClear count all.tile.counts.items
-  pub arrivals : all.tile.arrivals.items ≡ replicate (length net.packets) NEVER
-  pub first : all.tile.first ≡ 0
-  pub last : all.tile.last ≡ 0
-  pub cycle : all.tile.cycle ≡ 0
+  pub tile : IsOpenedTile all.plan.pattern firsts count (length net.packets) all.tile
   pub found : length all.found.items ≡ nodes net.relation.grid * 64
 
 module _ (net : Setup) (firsts : List First) (count : ℕ) (all : Engine) (of : IsMade net firsts count all) where
@@ -128,7 +121,7 @@ module _ (net : Setup) (firsts : List First) (count : ℕ) (all : Engine) (of : 
   enough = let most = of.plan.blocks in let is = of.count_is in omega (arith, most, is)
 
   a-block : Block
-  a-block = (there all.tile.blocks.items 0 (let two = nodes-some net.relation.grid of.good.relation.table.grid in let long = of.blocks.many in omega (arith, two, enough, long))).0
+  a-block = (there all.tile.blocks.items 0 (let two = nodes-some net.relation.grid of.good.relation.table.grid in let long = of.tile.blocks.many in omega (arith, two, enough, long))).0
 
   abbrev block_at : ℕ → Block
   block_at b = slice_index_or all.tile.blocks.items b a-block
@@ -137,20 +130,20 @@ module _ (net : Setup) (firsts : List First) (count : ℕ) (all : Engine) (of : 
   words s = router_of pattern (held_in ports block_at s)
 
   opens : ShowsAll (bits_of pattern) net pattern 0 (64 * count) (λ s. no_links) (held_in ports block_at) (opened_words pattern (held_in ports block_at))
-  opens = all-open net of.good pattern of.plan.pattern_is firsts of.firsts_are count block_at enough (λ b l. of.blocks.each b a-block l)
+  opens = all-open net of.good pattern of.plan.pattern_is firsts of.firsts_are count block_at enough (λ b l. of.tile.blocks.each b a-block l)
 
   module _ (b : ℕ) (block : Block) (work : Work) (counts : Counts) (here : slice_get all.tile.blocks.items b ≡ Some block) (doing : slice_get all.tile.works.items b ≡ Some work) (at : slice_get all.tile.counts.items b ≡ Some counts) where
     inside : b < count
-    inside = let l = slice_get_within all.tile.blocks.items b block here in let long = of.blocks.many in omega (arith, l, long)
+    inside = let l = slice_get_within all.tile.blocks.items b block here in let long = of.tile.blocks.many in omega (arith, l, long)
 
     is-opened : IsOpened pattern firsts b block
-    is-opened = subst (IsOpened pattern firsts b) (get_or_from_slice_get all.tile.blocks.items b block block here) (of.blocks.each b block inside)
+    is-opened = subst (IsOpened pattern firsts b) (get_or_from_slice_get all.tile.blocks.items b block block here) (of.tile.blocks.each b block inside)
 
     clear : IsClear counts
-    clear = subst IsClear (get_or_from_slice_get all.tile.counts.items b counts counts at) (of.counts.each b counts inside)
+    clear = subst IsClear (get_or_from_slice_get all.tile.counts.items b counts counts at) (of.tile.counts.each b counts inside)
 
     nothing-comes : (r : ℕ) → links_at ports work.came r ≡ no_links
-    nothing-comes r = ap (λ (w : Work). links_at ports w.came r) (sym (get_or_from_slice_get all.tile.works.items b work work doing)) ∙ of.works.each b work inside ports r
+    nothing-comes r = ap (λ (w : Work). links_at ports w.came r) (sym (get_or_from_slice_get all.tile.works.items b work work doing)) ∙ of.tile.works.each b work inside ports r
 
     words-are : (r : ℕ) → r < 64 → words (64 * b + r) ≡ router_of pattern (held_at ports block r)
     words-are r l =
@@ -177,28 +170,28 @@ module _ (net : Setup) (firsts : List First) (count : ℕ) (all : Engine) (of : 
     }
 
   not-yet : (p : ℕ) → p < length net.packets → arrival_by (slice_index all.tile.arrivals.items p) ≡ None
-  not-yet p l = ap arrival_by (ap (λ xs. slice_index xs p) of.arrivals ∙ get_or-replicate (length net.packets) p NEVER 0 (omega (arith, l)))
+  not-yet p l = ap arrival_by (ap (λ xs. slice_index xs p) of.tile.arrivals ∙ get_or-replicate (length net.packets) p NEVER 0 (omega (arith, l)))
 
   number : (b : ℕ) → b ≡ all.tile.first + b
-  number b = let first = of.first in omega (arith, first)
+  number b = let first = of.tile.first in omega (arith, first)
 
   shows-tile : ShowsTile net all.plan 0 words all.tile
   shows-tile = record {
     plan_is = of.plan;
-    cycle = of.cycle;
+    cycle = of.tile.cycle;
     lists = record {
-      within = let first = of.first in let long = of.blocks.many in let is = of.count_is in omega (arith, first, long, is);
-      works_are = of.works.many ∙ sym of.blocks.many;
-      counts_are = of.counts.many ∙ sym of.blocks.many;
-      room = subst (λ m. HaveRoom m all.tile.notes.items) (sym of.blocks.many) of.notes;
-      left_are = of.left ∙ of.count_is;
-      arrivals_are = ap length of.arrivals ∙ length-replicate (length net.packets) NEVER;
+      within = let first = of.tile.first in let long = of.tile.blocks.many in let is = of.count_is in omega (arith, first, long, is);
+      works_are = of.tile.works.many ∙ sym of.tile.blocks.many;
+      counts_are = of.tile.counts.many ∙ sym of.tile.blocks.many;
+      room = subst (λ m. HaveRoom m all.tile.notes.items) (sym of.tile.blocks.many) of.tile.notes;
+      left_are = of.tile.left ∙ of.count_is;
+      arrivals_are = ap length of.tile.arrivals ∙ length-replicate (length net.packets) NEVER;
     };
     blocks = λ b block work counts here doing at. subst (λ k. ShowsBlock net all.plan 0 k words block work.came counts) (number b) (block-shown b block work counts here doing at);
     shows = network-own net of.good (has_router all.tile) 0 (words_in words all.tile) (record {
       limit = opens.network.limit;
       routers = opens.network.routers;
-      last = subst (λ k. ShowsLastEvent k (last_event_before net 0)) (sym of.last) opens.network.last;
+      last = subst (λ k. ShowsLastEvent k (last_event_before net 0)) (sym of.tile.last) opens.network.last;
       arrivals = λ p l. not-yet p l ∙ opens.network.arrivals p l;
     });
   }
@@ -207,8 +200,8 @@ module _ (net : Setup) (firsts : List First) (count : ℕ) (all : Engine) (of : 
   shows-at = record {
     good = of.good;
     tile = shows-tile;
-    first = of.first;
-    blocks_are = of.blocks.many ∙ of.count_is;
+    first = of.tile.first;
+    blocks_are = of.tile.blocks.many ∙ of.count_is;
     found_are = of.found;
   }
 
@@ -216,5 +209,5 @@ pub opens-at : (net : Setup) (firsts : List First) (count : ℕ) (all : Engine) 
 opens-at net firsts count all of = (words net firsts count all of, shows-at net firsts count all of)
 
 -- it is opened with these first packets
-pub same-firsts : (pattern : Pattern) (firsts others : List First) (count : ℕ) (blocks : List Block) → firsts ≡ others → AreOpened pattern firsts count blocks → AreOpened pattern others count blocks
-same-firsts pattern firsts others count blocks same opened = subst (λ f. AreOpened pattern f count blocks) same opened
+pub same-opened : (pattern : Pattern) (firsts others : List First) (count m n : ℕ) (tile : Tile) → firsts ≡ others → m ≡ n → IsOpenedTile pattern firsts count m tile → IsOpenedTile pattern others count n tile
+same-opened pattern firsts others count m n tile same many opened = subst (λ k. IsOpenedTile pattern others count k tile) many (subst (λ f. IsOpenedTile pattern f count m tile) same opened)

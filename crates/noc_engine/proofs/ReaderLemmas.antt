@@ -77,6 +77,23 @@ module _ (net : Setup) (n : ℕ) (words : ℕ → Router) (all : Engine) (shows 
       ap (λ s. (words s).counts i) (sym whole)
       ∙ (shows.tile.blocks (r / 64) block.0 work.0 c block.1 work.1 at).counted (r % 64) i (mod_below r 64 (omega arith)) (subst (λ m. i < m) sizes u)
 
+  -- the place of what was counted of a channel
+  pub counts-fit : (r port vc : ℕ) → r < nodes net.relation.grid → port < ports net.relation.grid → vc < net.relation.vcs
+      → (port * all.plan.pattern.table.ports.links.vcs + vc < (all.plan.pattern.table.ports.links.width + 1) * all.plan.pattern.table.ports.links.vcs)
+      × ((all.plan.pattern.table.ports.links.width + 1) * all.plan.pattern.table.ports.links.vcs ≤ 64) × (r / 64 < length all.tile.counts.items)
+  counts-fit r port vc l u v =
+      let links = all.plan.pattern.table.ports.links in
+      let few : port * net.relation.vcs + vc < size net = flat-below port (ports net.relation.grid) vc net.relation.vcs u v in
+      let all_few = all.plan.pattern.all in
+      let frame = all.plan.pattern.frame.few in
+      let same : (links.width + 1) * links.vcs ≡ links.vcs * links.width + links.vcs = omega arith in
+      let low = in-block net n words all shows r l in
+      let long = shows.tile.lists.counts_are in (
+        subst (λ k. port * k + vc < (links.width + 1) * links.vcs) shows.tile.plan_is.fits.ports.vcs (subst (λ m. port * net.relation.vcs + vc < m) sizes few),
+        omega (arith, all_few, frame, same),
+        omega (arith, low, long),
+      )
+
   pub counts-are : (r port vc : ℕ) (c : Counts) (counts : List ℕ) → r < nodes net.relation.grid → port < ports net.relation.grid → vc < net.relation.vcs
       → c ≡ get_or all.tile.counts.items (r / 64) c
       → counts ≡ ten_counts all.tile.cycle (counts_at (channels_of all.plan.pattern.table.ports) c (r % 64) (port * all.plan.pattern.table.ports.links.vcs + vc))

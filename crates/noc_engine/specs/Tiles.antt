@@ -1,5 +1,5 @@
 -- A cycle of a tile, to which the other blocks near it tell what they have sent.
-use Rattle.std.specs.Prelude.{◌≡◌, ℕ, ◌+◌, ◌*◌, ◌/◌, ◌%◌, ◌<◌, ◌≤◌, Bool, true, false, ◌||◌, List, Option, Some, None, length, unwrap_or, if◌then◌else◌}
+use Rattle.std.specs.Prelude.{◌≡◌, ℕ, ◌+◌, ◌*◌, ◌/◌, ◌%◌, ◌<◌, ◌≤◌, Bool, true, false, ◌||◌, List, ◌++◌, Option, Some, None, length, unwrap_or, if◌then◌else◌}
 use Rattle.std.specs.List.{slice_get}
 use Rattle.noc_topo.specs.Shape.{local_port, neighbour, nodes}
 use Rattle.noc_route.specs.Routes.{Routes}
@@ -185,6 +185,19 @@ pub record IsCut (at : ℕ) (was here there : Tile) : Type 0 where
   pub shows : (net : Setup) (plan : Plan) (n : ℕ) (words : ℕ → Router)
       → ShowsTile net plan n words was
       → ShowsTile net plan n words here × ShowsTile net plan n words there
+
+-- the blocks of another tile stand behind those that a tile had, and all else is as it was
+pub record HasBehind (was there is : Tile) : Type 0 where
+  pub blocks : is.blocks.items ≡ was.blocks.items ++ there.blocks.items
+  pub works : is.works.items ≡ was.works.items ++ there.works.items
+  pub counts : is.counts.items ≡ was.counts.items ++ there.counts.items
+  pub notes : is.notes.items ≡ was.notes.items ++ there.notes.items
+  pub rest : is ≡ record was {
+    blocks = is.blocks;
+    works = is.works;
+    counts = is.counts;
+    notes = is.notes;
+  }
 
 -- two tiles side by side were joined, in the network of this plan
 pub record IsJoined (plan : Plan) (here there all : Tile) : Type 0 where

@@ -5,7 +5,7 @@ ghost use Rattle.noc_theory.specs.Network.{Setup};
 ghost use Rattle.noc_columns.specs.Routing.{header_in};
 ghost use Rattle.noc_columns.specs.declared.words.TheConstants.{ROUTERS};
 ghost use Rattle.noc_engine.specs.Shows.{has_block};
-ghost use Rattle.noc_engine.specs.Tiles.{IsCut, IsJoined, Shows};
+ghost use Rattle.noc_engine.specs.Tiles.{HasBehind, IsCut, IsJoined, Shows};
 ghost use Rattle.noc_engine.specs.declared.plan.Plan.{Plan};
 
 use crate::plan::Plan;
@@ -32,12 +32,24 @@ impl Tile {
         ensures { IfOk result (λ there. IsCut at self.old self.new there) }
     {
         let kept = at - self.first;
-        let left = nothing_left(alloc, self.left.len())?;
-        let arrivals = self.arrivals.to_vec(alloc)?;
-        let blocks = self.blocks.split_off(kept)?;
-        let works = self.works.split_off(kept)?;
-        let counts = self.counts.split_off(kept)?;
-        let notes = self.notes.split_off(kept)?;
+        let Ok(left) = nothing_left(alloc, self.left.len()) else {
+            return Err(Memory);
+        };
+        let Ok(arrivals) = self.arrivals.to_vec(alloc) else {
+            return Err(Memory);
+        };
+        let Ok(blocks) = self.blocks.split_off(kept) else {
+            return Err(Memory);
+        };
+        let Ok(works) = self.works.split_off(kept) else {
+            return Err(Memory);
+        };
+        let Ok(counts) = self.counts.split_off(kept) else {
+            return Err(Memory);
+        };
+        let Ok(notes) = self.notes.split_off(kept) else {
+            return Err(Memory);
+        };
         Ok(Tile {
             first: at,
             blocks,
@@ -59,11 +71,20 @@ impl Tile {
         ensures { OnOk result (IsJoined plan.now self.old there self.new) }
     {
         take_arrivals(&plan.headers, &there, self.arrivals.as_mut_slice());
+        self.last = self.last.max(there.last);
+        let joined = self.append(&mut there);
+        drop(there);
+        joined
+    }
+
+    // The blocks of another tile come behind its own.
+    fn append(&mut self, there: &mut Tile) -> Result<(), Memory>
+        ensures { OnOk result (HasBehind self.old there.old self.new) }
+    {
         self.blocks.append(&mut there.blocks)?;
         self.works.append(&mut there.works)?;
         self.counts.append(&mut there.counts)?;
         self.notes.append(&mut there.notes)?;
-        self.last = self.last.max(there.last);
         Ok(())
     }
 }

@@ -1,7 +1,8 @@
 //! A network by blocks before its first cycle.
 
-ghost use Rattle.std.specs.Prelude.{◌≡◌, ◌≤◌, ◌<◌, ◌^◌, ℕ, All, IfOk, length, map};
+ghost use Rattle.std.specs.Prelude.{◌≡◌, ◌*◌, ◌≤◌, ◌<◌, ◌^◌, ℕ, All, IfOk, length, map};
 ghost use Rattle.noc_topo.specs.Shape.{nodes};
+ghost use Rattle.noc_topo.specs.declared.limits.TheConstants.{MAX_NODES};
 ghost use Rattle.noc_packet.specs.ByNode.{starts_of};
 ghost use Rattle.noc_packet.specs.Packet.{IsWithinLimits};
 ghost use Rattle.noc_packet.specs.declared.limits.TheConstants.{MAX_BUFFER, MAX_PACKETS};
@@ -11,8 +12,9 @@ ghost use Rattle.noc_theory.specs.Network.{Setup};
 ghost use Rattle.noc_theory_bits.specs.Starts.{starts_list};
 ghost use Rattle.noc_columns.specs.Routing.{header_of};
 ghost use Rattle.noc_columns.specs.Sources.{starts_by};
+ghost use Rattle.noc_columns.specs.declared.words.TheConstants.{ROUTERS};
 ghost use Rattle.noc_queues.specs.Queues.{AreByNode, IsKept};
-ghost use Rattle.noc_engine.specs.Opened.{IsMadeFrom};
+ghost use Rattle.noc_engine.specs.Opened.{IsMadeFrom, IsOpenedTile};
 ghost use Rattle.noc_engine.specs.Shows.{IsPlanOf, ShowsAt};
 
 use crate::engine::Engine;
@@ -21,9 +23,9 @@ use crate::tile::Tile;
 use crate::told::nothing_left;
 use noc_columns::{CHANNELS, Header, NEVER, ROUTERS, Start};
 use noc_counts::no_counts;
-use noc_cycles::{Pattern, all_around, empty_works, open_blocks, room_for_notes};
+use noc_cycles::{First, Pattern, all_around, empty_works, open_blocks, room_for_notes};
 use noc_packet::{Memory, Packet};
-use noc_queues::{Starts, all_starts};
+use noc_queues::all_starts;
 use noc_route::Relation;
 use noc_view::Finding;
 use std::alloc::Global;
@@ -49,30 +51,62 @@ impl Engine {
     {
         let nodes = relation.shape().nodes();
         let count = nodes.div_ceil(ROUTERS);
-        let Starts { list, firsts } = all_starts(alloc, packets, queues)?;
-        let plan = plan_of(alloc, relation, places, packets, list)?;
-        let blocks = open_blocks(alloc, &plan.pattern, &firsts, count)?;
-        let works = empty_works(alloc, count)?;
-        let left = nothing_left(alloc, count)?;
-        let notes = room_for_notes(alloc, count)?;
-        let counts = no_counts(alloc, count)?;
-        let tile = Tile {
-            first: 0,
-            blocks,
-            works,
-            counts,
-            notes,
-            left,
-            arrivals: vec![in alloc; NEVER; packets.len()]?,
-            last: 0,
-            cycle: 0,
+        let Ok(found) = vec![in alloc; Finding::EMPTY; nodes * CHANNELS] else {
+            return Err(Memory);
         };
-        Ok(Engine {
-            plan,
-            tile,
-            found: vec![in alloc; Finding::EMPTY; nodes * CHANNELS]?,
-        })
+        let Ok(starts) = all_starts(alloc, packets, queues) else {
+            return Err(Memory);
+        };
+        let Ok(plan) = plan_of(alloc, relation, places, packets, starts.list) else {
+            return Err(Memory);
+        };
+        let Ok(tile) = all_blocks(alloc, &plan.pattern, &starts.firsts, count, packets.len()) else {
+            return Err(Memory);
+        };
+        Ok(Engine { plan, tile, found })
     }
+}
+
+// All blocks of a network of so many packets, before its first cycle.
+fn all_blocks(
+    alloc: Global,
+    pattern: &Pattern,
+    firsts: &[First],
+    count: usize,
+    packets: usize,
+) -> Result<Tile, Memory>
+    requires { ROUTERS * count ≤ MAX_NODES }
+    ensures { IfOk result (IsOpenedTile pattern.now firsts.now count packets) }
+{
+    let Ok(blocks) = open_blocks(alloc, pattern, firsts, count) else {
+        return Err(Memory);
+    };
+    let Ok(works) = empty_works(alloc, count) else {
+        return Err(Memory);
+    };
+    let Ok(left) = nothing_left(alloc, count) else {
+        return Err(Memory);
+    };
+    let Ok(notes) = room_for_notes(alloc, count) else {
+        return Err(Memory);
+    };
+    let Ok(counts) = no_counts(alloc, count) else {
+        return Err(Memory);
+    };
+    let Ok(arrivals) = vec![in alloc; NEVER; packets] else {
+        return Err(Memory);
+    };
+    Ok(Tile {
+        first: 0,
+        blocks,
+        works,
+        counts,
+        notes,
+        left,
+        arrivals,
+        last: 0,
+        cycle: 0,
+    })
 }
 
 // What stays as it is, where these packets start.
@@ -94,8 +128,12 @@ fn plan_of(
     let shape = relation.shape();
     let vcs = relation.vcs();
     let count = shape.nodes().div_ceil(ROUTERS);
-    let around = all_around(alloc, shape, vcs, count)?;
-    let headers = all_headers(alloc, packets)?;
+    let Ok(around) = all_around(alloc, shape, vcs, count) else {
+        return Err(Memory);
+    };
+    let Ok(headers) = all_headers(alloc, packets) else {
+        return Err(Memory);
+    };
     Ok(Plan {
         pattern: Pattern::of(shape, vcs, places),
         around,
@@ -111,7 +149,7 @@ fn all_headers(alloc: Global, packets: &[Packet]) -> Result<Vec<Header>, Memory>
 {
     let mut all = Vec::with_capacity(alloc, packets.len())?;
     for packet in packets {
-        all.push(Header::of(packet))?;
+        all.push_reserved(Header::of(packet));
     }
     Ok(all)
 }

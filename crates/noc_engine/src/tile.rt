@@ -147,7 +147,5 @@ fn copy(from: &[Note], to: &mut Vec<Note>)
     ensures room { vec_capacity to.old ≤ vec_capacity to.new }
 {
     to.clear();
-    for one in from {
-        let _ = to.push(*one);
-    }
+    let _ = to.extend_from_slice(from);
 }

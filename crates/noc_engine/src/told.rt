@@ -41,7 +41,7 @@ pub(crate) fn nothing_left(alloc: Global, count: usize) -> Result<Vec<Links<Word
 {
     let mut left = Vec::with_capacity(alloc, count)?;
     for _ in 0..count {
-        left.push(NOTHING)?;
+        left.push_reserved(NOTHING);
     }
     Ok(left)
 }

@@ -4,5 +4,5 @@ use Rattle.noc_engine.proofs.open.plan_of.Goals as goal
 pub returns : goal.returns
 returns c =
     plan-is c.args.relation.now c.args.places c.args.packets.now _ c.shape-shape.result.now c.vcs-vcs.result c.div_ceil-count.result c.nodes.result c.shape-shape.ensures.value
-    c.vcs-vcs.ensures.value c.nodes.ensures.value c.nodes.ensures.some c.nodes.ensures.few c.div_ceil-count.ensures c.of.ensures c.in_ok-around.ensures c.requires.starts c.requires.short
-    c.in_ok-headers.ensures
+    c.vcs-vcs.ensures.value c.nodes.ensures.value c.nodes.ensures.some c.nodes.ensures.few c.div_ceil-count.ensures c.of.ensures c.in-Ok.ensures c.requires.starts c.requires.short
+    c.in-Ok-all_headers.ensures

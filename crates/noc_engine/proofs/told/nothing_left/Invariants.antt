@@ -1,5 +1,8 @@
-use Rattle.std.proofs.Common.{◌≡◌, length}
+use Rattle.std.proofs.Common.{◌≡◌, ◌≤◌, length, vec_capacity}
 use Rattle.noc_engine.proofs.told.nothing_left.Given as goal
 
 abbrev pub invariant-loop : goal.invariant-loop
-invariant-loop l = length l.left.items ≡ l.counter
+invariant-loop l = record {
+  long : length l.left.items ≡ l.counter;
+  room : l.count ≤ vec_capacity l.left;
+}
