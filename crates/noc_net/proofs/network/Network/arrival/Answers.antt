@@ -23,16 +23,27 @@ arrival-requires c =
     let within : c.args.packet < length n.parts.packets.items = subst (λ (u : Run). c.args.packet < length u.net.packets) (sym c.self.view_is) c.requires in
     (setup_in n.parts, n.count, (shown n c.self.invariant c.in-Some.engine c.in-Some.is).0, within)
 
-pub returns-in-Some-clause-ranked : goal.returns-in-Some-clause-ranked
-returns-in-Some-clause-ranked c =
+pub arrival-requires-in-None-clause-parts : goal.arrival-requires-in-None-clause-parts
+arrival-requires-in-None-clause-parts c = c.self.invariant.parts
+
+pub arrival-requires-in-None-clause-packet : goal.arrival-requires-in-None-clause-packet
+arrival-requires-in-None-clause-packet c = subst (λ (u : Run). c.args.packet < length u.net.packets) (sym c.self.view_is) c.requires
+
+pub returns-in-Some-clause-value : goal.returns-in-Some-clause-value
+returns-in-Some-clause-value c =
     let n = c.self.inside in
     let within : c.args.packet < length n.parts.packets.items = subst (λ (u : Run). c.args.packet < length u.net.packets) (sym c.self.view_is) c.requires in
-    in-time c.args.self.now (subst (λ (u : Run). IsGoodSetup u.net) c.self.view_is c.self.invariant.parts.good) c.args.packet c.requires c.arrival.result
-    (c.arrival.ensures (setup_in n.parts) n.count (shown n c.self.invariant c.in-Some.engine c.in-Some.is).0 within
-    ∙ ap (λ (u : Run). arrival_in u.net (state_at u.net u.count) c.args.packet) c.self.view_is)
+    c.arrival.ensures (setup_in n.parts) n.count (shown n c.self.invariant c.in-Some.engine c.in-Some.is).0 within
+    ∙ ap (λ (u : Run). arrival_in u.net (state_at u.net u.count) c.args.packet) c.self.view_is
+
+pub returns-in-None-clause-value : goal.returns-in-None-clause-value
+returns-in-None-clause-value c =
+    c.arrival-in-None.ensures ∙ ap (λ (u : Run). arrival_in u.net (state_at u.net u.count) c.args.packet) (routers-run c.self.inside c.self.invariant c.in-None.is ∙ c.self.view_is)
+
+pub returns-in-Some-clause-ranked : goal.returns-in-Some-clause-ranked
+returns-in-Some-clause-ranked c =
+    in-time c.args.self.now (subst (λ (u : Run). IsGoodSetup u.net) c.self.view_is c.self.invariant.parts.good) c.args.packet c.requires c.arrival.result (returns-in-Some-clause-value c)
 
 pub returns-in-None-clause-ranked : goal.returns-in-None-clause-ranked
 returns-in-None-clause-ranked c =
-    let n = c.self.inside in
-    in-time c.args.self.now (subst (λ (u : Run). IsGoodSetup u.net) c.self.view_is c.self.invariant.parts.good) c.args.packet c.requires c.arrival-in-None.result
-    (c.arrival-in-None.ensures ∙ ap (λ (u : Run). arrival_in u.net (state_at u.net u.count) c.args.packet) (routers-run n c.self.invariant c.in-None.is ∙ c.self.view_is))
+    in-time c.args.self.now (subst (λ (u : Run). IsGoodSetup u.net) c.self.view_is c.self.invariant.parts.good) c.args.packet c.requires c.arrival-in-None.result (returns-in-None-clause-value c)
