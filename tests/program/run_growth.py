@@ -21,25 +21,25 @@ from run_process import no_thread_more
 
 TOP = Path(__file__).resolve().parents[2]
 MOST_GROWTHS = 1000
+BY_ONE = "growth::a_line_runs_by_one_worker"
+BY_MANY = ["growth::a_line_runs_by_two_workers", "growth::a_line_runs_by_three_workers"]
 REFUSED = {
     "noc_tests_parts": ["buffers::banks_go_to_a_thread_and_come_back_with_their_flits"],
     "noc_tests_networks": ["growth::a_relation_is_built", "growth::ranks_are_made_from_rows",
                            "growth::ranks_are_generated_and_checked", "growth::a_router_and_a_plan_are_made",
-                           "growth::a_line_is_made"],
+                           "growth::a_line_is_made", *BY_MANY],
     "noc_tests_files": ["inputs::bytes_one_by_one_up_to_the_limit", "configurations::a_configuration_with_every_key",
                         "traffic_files::the_packets_of_a_text", "table_files::the_rows_of_a_table",
                         "rank_files::the_rows_of_a_rank_file"],
-    "noc_tests_tiles": ["growth::a_line_runs_by_two_workers", "growth::a_line_runs_by_three_workers"],
 }
 MADE = ("noc_tests_networks", "growth::a_line_is_made")
-BY_ONE = "growth::a_line_runs_by_one_worker"
 TAKES_NONE = {
     "noc_tests_networks": ["growth::a_line_runs_twice", "growth::a_line_is_read", "growth::a_core_of_a_line_is_read",
-                           "events::parts_make_the_network_again", "events::cycles_from_the_last_router_to_the_first"],
+                           "events::parts_make_the_network_again", "events::cycles_from_the_last_router_to_the_first",
+                           BY_ONE],
     "noc_tests_files": ["growth::a_line_is_reported"],
-    "noc_tests_tiles": [BY_ONE],
 }
-NO_THREAD = {"noc_tests_tiles": [BY_ONE, *REFUSED["noc_tests_tiles"]]}
+NO_THREAD = {"noc_tests_networks": [BY_ONE, *BY_MANY]}
 NO_WORKER = re.compile(r"error: (\w+\()*NoWorker\)*$", re.MULTILINE)
 WANT = re.compile(r"error: (\w+\()*(Memory|NoWorker|AllocError)\)*$", re.MULTILINE)
 

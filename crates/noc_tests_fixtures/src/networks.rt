@@ -68,9 +68,12 @@ pub fn line_of_two(alloc: Global, depth: usize, packets: &[Packet]) -> Result<Ne
 /// A line of three routers, in which packet 0 waits for the channel of packet 1: they
 /// are out in cycles 10 and 5.
 pub fn line_of_three(alloc: Global) -> Result<Network, Fail>
-    ensures { IfOk result (λ n. n.count ≡ 0) }
+    ensures grid { IfOk result (λ n. n.net.relation.grid
+        ≡ record { wraps = false; radix = 3 ∷ [] }) }
+    ensures count { IfOk result (λ n. n.count ≡ 0) }
 {
-    let line = relation(alloc, Kind::Mesh, &[3], 1, Rule::Dor)?;
+    let shape = Shape::new(Kind::Mesh, &[3])?;
+    let line = Relation::build(alloc, &shape, 1, 1, Rule::Dor)?;
     network(alloc, line, 2, &[packet(0, 2, 1, 0), packet(1, 2, 1, 0)])
 }
 

@@ -1,7 +1,7 @@
-//! What is read of a network by numbers that may be out of its ranges.
+//! What is read of a network, compared with what is wanted of it. Any numbers may be given.
 
 use noc_net::Network;
-use noc_view::VERDICTS;
+use noc_view::{Finding, VERDICTS, Verdict};
 
 /// When a packet was out. None where it is not out or does not exist.
 pub fn arrival(network: &Network, packet: usize) -> Option<u64> {
@@ -12,11 +12,42 @@ pub fn arrival(network: &Network, packet: usize) -> Option<u64> {
     }
 }
 
-/// How often an input channel had each verdict. None where it does not exist.
-pub fn counts(network: &Network, router: usize, port: usize, vc: usize) -> Option<[u64; VERDICTS]> {
+/// Whether there are so many packets, which are out in these cycles: None is one that is not out.
+pub fn are_out(network: &Network, cycles: &[Option<u64>]) -> bool {
+    for packet in 0..cycles.len() {
+        if arrival(network, packet) != cycles[packet] {
+            return false;
+        }
+    }
+    network.packets() == cycles.len()
+}
+
+/// Whether an input channel exists and had each verdict so often.
+pub fn has_counts(
+    network: &Network,
+    router: usize,
+    port: usize,
+    vc: usize,
+    counts: [u64; VERDICTS],
+) -> bool {
     let shape = network.relation().shape();
     if router >= shape.nodes() || port >= shape.ports() || vc >= network.relation().vcs() {
-        return None;
+        return false;
     }
-    Some(network.counts(router, port, vc))
+    network.counts(router, port, vc) == counts
+}
+
+/// Whether a router exists and has so many findings, each of a channel that holds nothing.
+pub fn found_nothing(network: &Network, router: usize, channels: usize) -> bool {
+    router < network.relation().shape().nodes() && are_empty(network.findings(router), channels)
+}
+
+// Whether these are so many findings, each of a channel that holds nothing.
+fn are_empty(findings: &[Finding], channels: usize) -> bool {
+    for index in 0..findings.len() {
+        if findings[index].verdict != Verdict::Empty {
+            return false;
+        }
+    }
+    findings.len() == channels
 }

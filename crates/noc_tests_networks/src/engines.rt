@@ -1,69 +1,51 @@
-//! The same network by columns and by its routers, which run where it was put together from parts.
+//! Networks by columns, and by their routers where they were put together from parts.
 
-ghost use Rattle.std.specs.Prelude.{◌≡◌, IfOk};
-
-use crate::same::{same, same_after};
 use noc_net::Network;
-use noc_packet::Packet;
 use noc_route::Rule;
-use noc_tests_fixtures::{arrival, network, packet, relation};
+use noc_tests_fixtures::{are_out, network, packet, relation};
 use noc_topo::Kind;
 use std::alloc::Global;
 use std::test::Fail;
 
-// A cube of eight routers with so many virtual channels and 16 slots in each buffer,
-// routed in dimension order.
-fn cube(alloc: Global, vcs: usize, packets: &[Packet]) -> Result<Network, Fail>
-    ensures { IfOk result (λ n. n.count ≡ 0) }
-{
+// Two packets that never meet on a cube of eight routers with so many virtual channels: whether
+// they are out when they should be.
+fn lone_packets_are_out(alloc: Global, vcs: usize) -> Result<bool, Fail> {
     let cube = relation(alloc, Kind::Mesh, &[2, 2, 2], vcs, Rule::Dor)?;
-    network(alloc, cube, 16, packets)
+    let mut cube = network(alloc, cube, 16, &[packet(0, 7, 4, 0), packet(7, 1, 1, 50)])?;
+    cube.run(80);
+    Ok(cube.runs_by_columns() && are_out(&cube, &[Some(14), Some(58)]) && cube.all_out())
 }
 
-// Two packets that never meet.
 #[test]
 fn lone_packets_take_as_long_by_columns_as_by_routers(rt: HostRuntime) -> Result<(), Fail> {
-    for vcs in [4usize, 8] {
-        let mut network = cube(rt.alloc(), vcs, &[packet(0, 7, 4, 0), packet(7, 1, 1, 50)])?;
-        assert!(rt; network.runs_by_columns());
-        network.run(80);
-        assert_eq!(rt;
-            [arrival(&network, 0), arrival(&network, 1)],
-            [Some(14), Some(58)]
-        );
-        assert!(rt; network.all_out());
-    }
+    assert!(rt; lone_packets_are_out(rt.alloc(), 4)?);
+    assert!(rt; lone_packets_are_out(rt.alloc(), 8)?);
     Ok(())
 }
 
-// A packet from each corner of the cube to the opposite one, and one that is due late.
-fn crossing(alloc: Global) -> Result<Network, Fail>
-    ensures { IfOk result (λ n. n.count ≡ 0) }
-{
-    let packets = [
-        packet(0, 7, 5, 0),
-        packet(1, 6, 20, 0),
-        packet(2, 5, 20, 0),
-        packet(3, 4, 5, 0),
-        packet(4, 3, 20, 3),
-        packet(5, 2, 5, 3),
-        packet(6, 1, 5, 3),
-        packet(7, 0, 20, 3),
-        packet(3, 4, 5, 100),
-    ];
-    cube(alloc, 4, &packets)
+// Whether a new network of these routers and so many channels runs by columns, and the network of
+// its parts does not.
+fn runs_by_columns(alloc: Global, radix: &[usize], vcs: usize) -> Result<bool, Fail> {
+    let mesh = relation(alloc, Kind::Mesh, radix, vcs, Rule::Dor)?;
+    let made = network(alloc, mesh, 16, &[])?;
+    let by_columns = made.runs_by_columns();
+    Ok(by_columns && !Network::from_parts(made.into_parts()).runs_by_columns())
 }
 
+// Shapes, and how many virtual channels their links have.
+const MESHES: &[(&[usize], usize)] = &[
+    (&[2], 1),
+    (&[2], 8),
+    (&[2, 2], 6),
+    (&[2, 2], 7),
+    (&[2, 2, 2], 4),
+    (&[2, 2, 2], 8),
+];
+
 #[test]
-fn a_network_taken_apart_reads_as_one_that_runs_through(rt: HostRuntime) -> Result<(), Fail> {
-    let mut one = crossing(rt.alloc())?;
-    let mut other = crossing(rt.alloc())?;
-    assert!(rt; same_after(&mut one, &mut other, 10));
-    let mut other = Network::from_parts(other.into_parts());
-    assert!(rt; same(&one, &other));
-    assert!(rt; same_after(&mut one, &mut other, 20));
-    let mut other = Network::from_parts(other.into_parts());
-    assert!(rt; same_after(&mut one, &mut other, 200));
-    assert!(rt; one.all_out());
+fn a_network_runs_by_columns_until_it_is_taken_apart(rt: HostRuntime) -> Result<(), Fail> {
+    for (radix, vcs) in MESHES {
+        assert!(rt; runs_by_columns(rt.alloc(), radix, *vcs)?);
+    }
     Ok(())
 }

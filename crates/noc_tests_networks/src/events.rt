@@ -3,9 +3,12 @@
 ghost use Rattle.std.specs.Prelude.{◌≡◌, ◌∷◌, [], IfOk, false};
 
 use noc_net::{Core, Event, Network};
-use noc_tests_fixtures::{arrival, line_of_three, line_of_two};
+use noc_tests_fixtures::{are_out, line_of_three, line_of_two};
 use std::alloc::Global;
 use std::test::Fail;
+
+// When the two packets of a line of three routers are out.
+const OUT: &[Option<u64>] = &[Some(10), Some(5)];
 
 // The line of three routers after four cycles, in which one packet waits for the other.
 fn waiting(alloc: Global) -> Result<Network, Fail>
@@ -18,10 +21,9 @@ fn waiting(alloc: Global) -> Result<Network, Fail>
 
 #[test]
 fn parts_make_the_network_again(rt: HostRuntime) -> Result<(), Fail> {
-    let line = waiting(rt.alloc())?;
-    let mut line = Network::from_parts(line.into_parts());
+    let mut line = Network::from_parts(waiting(rt.alloc())?.into_parts());
     line.run(16);
-    assert_eq!(rt; [arrival(&line, 0), arrival(&line, 1)], [Some(10), Some(5)]);
+    assert!(rt; are_out(&line, OUT));
     Ok(())
 }
 
@@ -42,18 +44,21 @@ fn backwards(core: &mut Core) {
     }
 }
 
+// Whether a core is a network of so many cycles, whose packets are out in these ones.
+fn is_network(core: Core, count: u64, cycles: &[Option<u64>]) -> bool {
+    match core.finish() {
+        Ok(line) => line.count() == count && are_out(&line, cycles),
+        Err(_) => false,
+    }
+}
+
 #[test]
 fn cycles_from_the_last_router_to_the_first(rt: HostRuntime) -> Result<(), Fail> {
     let mut core = Core::new(waiting(rt.alloc())?);
     for _ in 0..16 {
         backwards(&mut core);
     }
-    let Ok(line) = core.finish() else {
-        panic!(rt; "not finished")
-    };
-    assert!(rt; line.count() == 20);
-    assert!(rt; line.packets() == 2);
-    assert_eq!(rt; [arrival(&line, 0), arrival(&line, 1)], [Some(10), Some(5)]);
+    assert!(rt; is_network(core, 20, OUT));
     Ok(())
 }
 
@@ -69,64 +74,58 @@ fn agree(core: &mut Core, answers: &[(Event, bool)]) -> bool
     true
 }
 
-// The steps of two routers in a line, and the beats on the wires between them,
-// towards the second and back.
-fn steps_and_beats(core: &Core) -> [u64; 4]
+// Whether two routers in a line have made so many steps, and there are so many beats on the wires
+// between them, towards the second and back.
+fn is_at(core: &Core, steps: [u64; 2], beats: [usize; 2]) -> bool
     requires { core.now.net.relation.grid ≡ record { wraps = false; radix = 2 ∷ [] } }
 {
-    [
-        core.steps(0),
-        core.steps(1),
-        core.beats(1, 1) as u64,
-        core.beats(0, 0) as u64,
-    ]
+    core.steps(0) == steps[0]
+        && core.steps(1) == steps[1]
+        && core.beats(1, 1) == beats[0]
+        && core.beats(0, 0) == beats[1]
 }
+
+// Events up to the first put of router 0, and whether each is ready.
+const FIRST: &[(Event, bool)] = &[
+    (Event::Take(0, 0), true),
+    (Event::Take(0, 0), false),
+    (Event::Decide(1), false),
+    (Event::Decide(0), true),
+    (Event::Put(0, 0), true),
+    (Event::Put(0, 0), false),
+    (Event::Take(0, 0), false),
+    (Event::Take(0, 2), false),
+    (Event::Take(5, 0), false),
+];
+
+// Events up to the first put of router 1.
+const SECOND: &[(Event, bool)] = &[
+    (Event::Take(1, 1), true),
+    (Event::Decide(1), true),
+    (Event::Put(1, 1), true),
+    (Event::Take(0, 2), false),
+    (Event::Take(5, 0), false),
+];
 
 #[test]
 fn a_router_waits_for_its_neighbour(rt: HostRuntime) -> Result<(), Fail> {
     let mut core = Core::new(line_of_two(rt.alloc(), 2, &[])?);
-    let first = [
-        (Event::Take(0, 0), true),
-        (Event::Take(0, 0), false),
-        (Event::Decide(1), false),
-        (Event::Decide(0), true),
-        (Event::Put(0, 0), true),
-        (Event::Put(0, 0), false),
-        (Event::Take(0, 0), false),
-        (Event::Take(0, 2), false),
-        (Event::Take(5, 0), false),
-    ];
-    assert!(rt; agree(&mut core, &first));
-    assert_eq!(rt; steps_and_beats(&core), [1, 0, 2, 0]);
+    assert!(rt; agree(&mut core, FIRST) && is_at(&core, [1, 0], [2, 0]));
     let Err(mut core) = core.finish() else {
         panic!(rt; "finished")
     };
-    let second = [
-        (Event::Take(1, 1), true),
-        (Event::Decide(1), true),
-        (Event::Put(1, 1), true),
-        (Event::Take(0, 2), false),
-        (Event::Take(5, 0), false),
-    ];
-    assert!(rt; agree(&mut core, &second));
-    assert_eq!(rt; steps_and_beats(&core), [1, 1, 1, 1]);
-    match core.finish() {
-        Ok(line) => assert!(rt; line.count() == 1),
-        Err(_) => panic!(rt; "not finished"),
-    }
+    assert!(rt; agree(&mut core, SECOND) && is_at(&core, [1, 1], [1, 1]));
+    assert!(rt; is_network(core, 1, &[]));
     Ok(())
 }
+
+// The first events of router 0.
+const DECIDED: &[(Event, bool)] = &[(Event::Take(0, 0), true), (Event::Decide(0), true)];
 
 #[test]
 fn nothing_is_found_before_a_decide(rt: HostRuntime) -> Result<(), Fail> {
     let mut core = Core::new(line_of_two(rt.alloc(), 2, &[])?);
     assert!(rt; core.findings(0).is_empty());
-    assert!(rt;
-        agree(
-            &mut core,
-            &[(Event::Take(0, 0), true), (Event::Decide(0), true)]
-        )
-    );
-    assert!(rt; core.findings(0).len() == 3);
+    assert!(rt; agree(&mut core, DECIDED) && core.findings(0).len() == 3);
     Ok(())
 }
