@@ -11,6 +11,7 @@ pub mod FinishLemmas
 pub mod FlatLemmas
 pub mod GatherLemmas
 pub mod InnerLemmas
+pub mod OwnLemmas
 pub mod PartitionLemmas
 pub mod PartitionLoopLemmas
 pub mod PartsLemmas
