@@ -62,3 +62,27 @@ returns c =
       mask = λ k r l few. inv.mask k (omega (arith, l, all)) r few ∙ ap (λ n. stands_in g (64 * c.args.block + r) (k % n) c.args.round c.args.block) links;
       none = λ k l. inv.none k (omega (arith, l, all));
     }
+
+pub overflow_mul-k-end : goal.overflow_mul-k-end
+overflow_mul-k-end c = let all = channels-few c.args.vcs (c.ports-links.result - 1) c.requires.vcs (omega (arith, c.ports-links.ensures.few)) in omega (arith, all)
+
+pub offset_bounds-neighbours-k : goal.offset_bounds-neighbours-k
+offset_bounds-neighbours-k c = let all = channels-few c.args.vcs (c.ports-links.result - 1) c.requires.vcs (omega (arith, c.ports-links.ensures.few)) in omega (arith, all)
+
+pub bounds-neighbours-k : goal.bounds-neighbours-k
+bounds-neighbours-k c = let all = channels-few c.args.vcs (c.ports-links.result - 1) c.requires.vcs (omega (arith, c.ports-links.ensures.few)) in omega (arith, all)
+
+pub offset_bounds-neighbours-k-in-loop-k : goal.offset_bounds-neighbours-k-in-loop-k
+offset_bounds-neighbours-k-in-loop-k c = let all = channels-few c.args.vcs (c.ports-links.result - 1) c.requires.vcs (omega (arith, c.ports-links.ensures.few)) in omega (arith, all)
+
+pub bounds-neighbours-k-in-loop-k : goal.bounds-neighbours-k-in-loop-k
+bounds-neighbours-k-in-loop-k c = let all = channels-few c.args.vcs (c.ports-links.result - 1) c.requires.vcs (omega (arith, c.ports-links.ensures.few)) in omega (arith, all)
+
+pub nonzero_rem-k : goal.nonzero_rem-k
+nonzero_rem-k c = omega (arith, c.ports-links.ensures.some)
+
+pub nonzero_rem-k-in-loop-k : goal.nonzero_rem-k-in-loop-k
+nonzero_rem-k-in-loop-k c = omega (arith, c.ports-links.ensures.some)
+
+pub distance_by-requires : goal.distance_by-requires
+distance_by-requires c = link-below c.loop-k.k (c.ports-links.result - 1) (local_port c.args.shape.now) (omega (arith, c.ports-links.ensures.some)) (omega (arith, c.ports-links.ensures.local))

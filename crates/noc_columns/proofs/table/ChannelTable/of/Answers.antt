@@ -1,6 +1,7 @@
 use Rattle.std.proofs.Common.{◌≡◌, ◌≢◌, ℕ, ◌/◌, ◌%◌, ◌+◌, ◌<◌, ◌∙◌, List, length, arith, set, slice_index, subst, sym, get_or-set_same, get_or-set_other}
 use Rattle.std.proofs.lemmas.List.{length-set}
 use Rattle.noc_columns.specs.Picks.{channels_of}
+use Rattle.noc_columns.proofs.ChannelLemmas.{part, port-below, positive}
 use Rattle.noc_columns.proofs.PassLemmas.{all-next}
 use Rattle.noc_columns.proofs.table.ChannelTable.of.Goals as goal
 
@@ -25,3 +26,18 @@ loop-c-preserved c =
       by_port = entry-next c.loop-c.port i (i / ports.links.vcs) (λ k x. x ≡ k / ports.links.vcs) inv.port_size few inv.by_port (λ x. i / ports.links.vcs);
       by_vc = entry-next c.loop-c.vc i (i % ports.links.vcs) (λ k x. x ≡ k % ports.links.vcs) inv.vc_size few inv.by_vc (λ x. i % ports.links.vcs);
     }
+
+pub index-stands-requires-clause-some : goal.index-stands-requires-clause-some
+index-stands-requires-clause-some c = positive c.args.ports.links.vcs (c.args.ports.links.width + 1) c.loop-c.c (omega arith)
+
+pub nonzero_div-port : goal.nonzero_div-port
+nonzero_div-port c = let some = positive c.args.ports.links.vcs (c.args.ports.links.width + 1) c.loop-c.c (omega arith) in omega (arith, some)
+
+pub nonzero_rem-vc : goal.nonzero_rem-vc
+nonzero_rem-vc c = let some = positive c.args.ports.links.vcs (c.args.ports.links.width + 1) c.loop-c.c (omega arith) in omega (arith, some)
+
+pub overflow_cast-port : goal.overflow_cast-port
+overflow_cast-port c = let below = port-below (c.args.ports.links.width + 1) c.args.ports.links.vcs (positive c.args.ports.links.vcs (c.args.ports.links.width + 1) c.loop-c.c (omega arith)) c.loop-c.c (omega arith) in omega (arith, below)
+
+pub overflow_cast-vc : goal.overflow_cast-vc
+overflow_cast-vc c = let below = part (c.args.ports.links.width + 1) c.args.ports.links.vcs (positive c.args.ports.links.vcs (c.args.ports.links.width + 1) c.loop-c.c (omega arith)) c.loop-c.c in omega (arith, below)
