@@ -13,6 +13,7 @@ use Rattle.noc_sets.specs.Cycle.{Router}
 use Rattle.noc_theory.specs.Good.{IsGoodSetup}
 use Rattle.noc_theory.specs.Network.{Setup}
 use Rattle.noc_theory.specs.Progress.{last_event_before}
+use Rattle.noc_theory_bits.specs.Network.{ShowsNetwork}
 use Rattle.noc_theory_bits.specs.Starts.{starts_list}
 use Rattle.noc_theory_bits.proofs.bits.NetworkLemmas.{network-own}
 use Rattle.noc_columns.specs.Picks.{channels_of}
@@ -36,7 +37,7 @@ use Rattle.noc_cycles.proofs.PartLemmas.{all-within}
 use Rattle.noc_theory_cycles.specs.Firsts.{AreFirsts}
 use Rattle.noc_theory_cycles.specs.Fits.{bits_of}
 use Rattle.noc_theory_cycles.specs.Nodes.{ShowsNode}
-use Rattle.noc_theory_cycles.specs.Steps.{ShowsAll, held_in, opened_words}
+use Rattle.noc_theory_cycles.specs.Steps.{held_in, opened_words}
 use Rattle.noc_theory_cycles.proofs.LayoutLemmas.{fits-network}
 use Rattle.noc_theory_cycles.proofs.OpeningLemmas.{all-open, node-opens}
 use Rattle.noc_engine.specs.Opened.{IsMadeFrom, IsOpenedTile}
@@ -129,7 +130,7 @@ module _ (net : Setup) (firsts : List First) (count : ℕ) (all : Engine) (of : 
   abbrev words : ℕ → Router
   words s = router_of pattern (held_in ports block_at s)
 
-  opens : ShowsAll (bits_of pattern) net pattern 0 (64 * count) (λ s. no_links) (held_in ports block_at) (opened_words pattern (held_in ports block_at))
+  opens : ShowsNetwork (bits_of pattern) net 0 (opened_words pattern (held_in ports block_at))
   opens = all-open net of.good pattern of.plan.pattern_is firsts of.firsts_are count block_at enough (λ b l. of.tile.blocks.each b a-block l)
 
   module _ (b : ℕ) (block : Block) (work : Work) (counts : Counts) (here : slice_get all.tile.blocks.items b ≡ Some block) (doing : slice_get all.tile.works.items b ≡ Some work) (at : slice_get all.tile.counts.items b ≡ Some counts) where
@@ -189,10 +190,10 @@ module _ (net : Setup) (firsts : List First) (count : ℕ) (all : Engine) (of : 
     };
     blocks = λ b block work counts here doing at. subst (λ k. ShowsBlock net all.plan 0 k words block work.came counts) (number b) (block-shown b block work counts here doing at);
     shows = network-own net of.good (has_router all.tile) 0 (words_in words all.tile) (record {
-      limit = opens.network.limit;
-      routers = opens.network.routers;
-      last = subst (λ k. ShowsLastEvent k (last_event_before net 0)) (sym of.tile.last) opens.network.last;
-      arrivals = λ p l. not-yet p l ∙ opens.network.arrivals p l;
+      limit = opens.limit;
+      routers = opens.routers;
+      last = subst (λ k. ShowsLastEvent k (last_event_before net 0)) (sym of.tile.last) opens.last;
+      arrivals = λ p l. not-yet p l ∙ opens.arrivals p l;
     });
   }
 

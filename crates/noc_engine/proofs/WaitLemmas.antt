@@ -23,7 +23,7 @@ use Rattle.noc_cycles.specs.declared.block.Work.{Work}
 use Rattle.noc_cycles.specs.declared.pattern.Pattern.{Pattern}
 use Rattle.noc_theory_cycles.specs.Blank.{channels_count}
 use Rattle.noc_theory_cycles.specs.Fits.{bits_of}
-use Rattle.noc_theory_cycles.proofs.SleepLemmas.{counted-blank, counted-held}
+use Rattle.noc_theory_cycles.proofs.CountedLemmas.{counted-blank, counted-held}
 use Rattle.noc_engine.specs.Runs.{HasJustRun, HasRepeated, IsNextDue, ShowsRun}
 use Rattle.noc_engine.specs.Shows.{ShowsAt, ShowsBlock, ShowsTile, has_router, words_in}
 use Rattle.noc_engine.specs.declared.engine.Engine.{Engine}

@@ -24,10 +24,10 @@ use Rattle.noc_cycles.specs.Deciding.{HasDecidedHeld}
 use Rattle.noc_cycles.specs.Held.{Held, ShowsHeld}
 use Rattle.noc_cycles.specs.Taking.{HasTaken}
 use Rattle.noc_cycles.specs.May.{MayConclude, MayDecide, MayInject, MayTake}
-use Rattle.noc_cycles.specs.Opened.{HoldsNothing}
+use Rattle.noc_cycles.specs.Opened.{HoldsNothing, router_of}
 use Rattle.noc_cycles.specs.declared.first.First.{First}
 use Rattle.noc_cycles.specs.declared.pattern.Pattern.{Pattern}
-use Rattle.noc_theory_cycles.specs.Blank.{HoldsBlank, IsBlank, channels_count, words_of}
+use Rattle.noc_theory_cycles.specs.Blank.{HoldsBlank, IsBlank, channels_count}
 use Rattle.noc_theory_cycles.proofs.BlankLemmas.{no-heads, idle-stays, nothing-ready}
 use Rattle.noc_theory_cycles.proofs.NoneLemmas.{no-member}
 
@@ -93,48 +93,19 @@ opened-blank pattern one r h holds never = record {
     none false = refl
 
 -- what holds nothing is of a blank router
-module _ (pattern : Pattern) (h : Held) (links : Links ℕ) (holds : HoldsBlank pattern h) where
-  none-active : (i : ℕ) → has_bit h.inputs.active i ≡ true → false ≡ true
-  none-active i e = no-member h.inputs.active i holds.active e
-
-  pub words-show : ShowsHeld pattern h links (words_of pattern h links)
-  words-show = record {
-    column = refl;
-    marks = record {
-      set = refl;
-      turn = refl;
-      packet = refl;
-      owned = record {
-        sends = record {
-          port = λ i e. absurd (false≢true (none-active i e));
-          vc = λ i e. absurd (false≢true (none-active i e));
-          taken = λ i e. absurd (false≢true (none-active i e));
-          to_port = λ i q e l. absurd (false≢true (none-active i e));
-        };
-        only = λ q i e. absurd (false≢true (no-member 0 i refl e));
-        owner = λ i e. absurd (false≢true (none-active i e));
-      };
-      outputs = λ q l. refl;
-    };
-    waiting = holds.waiting ∙ sym holds.inputs;
-    ended = refl;
-    links_are = refl;
-    source = refl;
-  }
-
-  pub words-blank : links.flits ≡ 0 → links.credits ≡ 0 → IsBlank (channels_count pattern) (words_of pattern h links)
-  words-blank flits credits = record {
-    waiting = holds.inputs;
-    active = holds.active;
-    flits = holds.flits;
-    supplied = refl;
-    idle = holds.idle;
-    draining = holds.draining;
-    injecting = ap (λ w. up_by w (pattern.table.ports.links.width * pattern.table.ports.links.vcs)) holds.injecting ∙ no-shift (pattern.table.ports.links.width * pattern.table.ports.links.vcs);
-    due = holds.due;
-    flits_come = flits;
-    credits_come = credits;
-  }
+pub words-blank : (pattern : Pattern) (h : Held) → HoldsBlank pattern h → IsBlank (channels_count pattern) (router_of pattern h)
+words-blank pattern h holds = record {
+  waiting = holds.inputs;
+  active = holds.active;
+  flits = holds.flits;
+  supplied = refl;
+  idle = holds.idle;
+  draining = holds.draining;
+  injecting = ap (λ w. up_by w (pattern.table.ports.links.width * pattern.table.ports.links.vcs)) holds.injecting ∙ no-shift (pattern.table.ports.links.width * pattern.table.ports.links.vcs);
+  due = holds.due;
+  flits_come = refl;
+  credits_come = refl;
+}
 
 -- ---- once it has taken what comes
 module _ (pattern : Pattern) (layout : Layout) (starts : List Start) (n : ℕ) (b : Router) (h : Held) (standing : Standing ℕ) (no_credit : ℕ) (comes : Bool) (soon : n < NEVER) (blank : IsBlank (channels_count pattern) b)

@@ -12,5 +12,4 @@ pub mod OpeningLemmas
 pub mod TellLemmas
 pub mod StepLemmas
 pub mod ArriveLemmas
-pub mod SleepLemmas
-pub mod ThroughLemmas
+pub mod CountedLemmas

@@ -1,28 +1,27 @@
 -- A router of a block, which is one of a network or one that the network does not have, through a
 -- cycle.
-use Rattle.std.proofs.Common.{◌≡◌, ℕ, suc, ◌*◌, ◌<◌, ◌≤◌, Bool, true, length, Some, ap, arith, inl, inr, subst, sym, ◌∙◌}
-use Rattle.std.specs.Prelude.{Option}
+use Rattle.std.proofs.Common.{◌≡◌, ℕ, ◌*◌, ◌<◌, ◌≤◌, Bool, true, length, ap, arith, inl, inr, subst, sym, ◌∙◌}
 use Rattle.std.proofs.lemmas.Bool.{cases_lt}
-use Rattle.noc_topo.specs.Shape.{neighbour, nodes, ports}
+use Rattle.noc_topo.specs.Shape.{nodes, ports}
 use Rattle.noc_packet.specs.Set.{has_bit}
 use Rattle.noc_packet.proofs.SetLemmas.{has_bit-zero}
 use Rattle.noc_sets.specs.Column.{Column}
-use Rattle.noc_sets.specs.Cycle.{HasSlept, Links as Left, Router, Turn, still_of}
+use Rattle.noc_sets.specs.Cycle.{HasSlept, Router, Turn, still_of}
 use Rattle.noc_sets.specs.Layout.{Layout}
 use Rattle.noc_sets.specs.Source.{NEVER, Source}
 use Rattle.noc_theory.specs.Good.{IsGoodSetup}
 use Rattle.noc_theory.specs.Network.{Setup}
 use Rattle.noc_theory.specs.declared.limits.TheConstants.{CYCLE_LIMIT}
-use Rattle.noc_theory_bits.specs.Network.{HasGathered, HasTurned, IsTurn, all_starts, numbers_in, tells_in}
+use Rattle.noc_theory_bits.specs.Network.{HasTurned, IsTurn, all_starts, numbers_in, tells_in}
 use Rattle.noc_theory_bits.specs.Sends.{Sends}
-use Rattle.noc_theory_bits.proofs.bits.ThroughLemmas.{router-next, sends, through}
+use Rattle.noc_theory_bits.proofs.bits.ThroughLemmas.{sends, through}
 use Rattle.noc_columns.specs.declared.channels.Decided.{Decided}
 use Rattle.noc_columns.specs.declared.channels.Links.{Links}
 use Rattle.noc_columns.specs.declared.channels.Standing.{Standing}
 use Rattle.noc_columns.specs.declared.channels.Verdicts.{Verdicts}
 use Rattle.noc_cycles.specs.Concluding.{HasConcludedHeld}
 use Rattle.noc_cycles.specs.Deciding.{HasDecidedHeld}
-use Rattle.noc_cycles.specs.Held.{Held, ShowsHeld}
+use Rattle.noc_cycles.specs.Held.{Held}
 use Rattle.noc_cycles.specs.May.{MayConclude, MayDecide, MayInject, MayTake}
 use Rattle.noc_cycles.specs.Taking.{HasTaken}
 use Rattle.noc_cycles.specs.declared.pattern.Pattern.{Pattern}
@@ -131,16 +130,3 @@ module _ (count : ℕ) (net : Setup) (layout : Layout) (pattern : Pattern) (n no
       | inl works ↦ stays-blank count net layout fits.layout_is (all_starts net) _ n b t soon (channels_count pattern) (is.blank u) works next turned flits credits
       | inr slept ↦ slept-blank slept (is.blank u) next turned flits credits
     ]
-
-    -- ---- the next count
-    pub node-next : (left : ℕ → Left) (tells : ℕ → ℕ → Option ℕ) (coming : Links ℕ) (k : Held) (next : Router) → HasTurned t next → ShowsHeld pattern k coming next
-        → ((q s port : ℕ) → neighbour net.relation.grid node q ≡ Some (s, port) → Sends net n s port (left s) (tells s))
-        → (node < nodes net.relation.grid → HasGathered net.relation.grid net.relation.vcs left tells (numbers_in net layout n b) node next)
-        → (nodes net.relation.grid ≤ node → (next.links.flits ≡ 0) × (next.links.credits ≡ 0))
-        → ShowsNode count net pattern (suc n) node coming k next
-    node-next left tells coming k next turned held sent gathers nothing = record {
-      held = held;
-      shows = λ l.
-          router-next net setup n (all_starts net) node l (numbers_in net layout n b) t (through net setup n few layout fits.layout_is (all_starts net) node l b (is.shows l) t (node-turn count net layout pattern n node b t fits turn)) few left tells sent next (gathers l) turned;
-      blank = λ u. let none = nothing u in node-blank u next turned none.0 none.1;
-    }

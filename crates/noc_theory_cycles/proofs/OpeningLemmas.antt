@@ -7,7 +7,7 @@ use Rattle.noc_sets.specs.Opening.{AreEmptyMarks, IsEmptyColumn}
 use Rattle.noc_sets.specs.Source.{NEVER}
 use Rattle.noc_theory.specs.Good.{IsGoodSetup}
 use Rattle.noc_theory.specs.Network.{Setup}
-use Rattle.noc_theory_bits.specs.Network.{HasOpened, HaveOpened}
+use Rattle.noc_theory_bits.specs.Network.{HasOpened, HaveOpened, ShowsNetwork}
 use Rattle.noc_theory_bits.specs.Starts.{opened_source}
 use Rattle.noc_theory_bits.proofs.bits.OpeningLemmas.{network-opens, router-opens}
 use Rattle.noc_columns.specs.declared.words.TheConstants.{ROUTERS}
@@ -22,7 +22,7 @@ use Rattle.noc_cycles.proofs.EmptyLemmas.{holds-column, holds-marks, holds-shown
 use Rattle.noc_theory_cycles.specs.Firsts.{AreFirsts}
 use Rattle.noc_theory_cycles.specs.Fits.{bits_of, layout_of}
 use Rattle.noc_theory_cycles.specs.Nodes.{ShowsNode}
-use Rattle.noc_theory_cycles.specs.Steps.{ShowsAll, held_in, opened_words}
+use Rattle.noc_theory_cycles.specs.Steps.{held_in, opened_words}
 use Rattle.noc_theory_cycles.proofs.BlankMayLemmas.{opened-blank, words-blank}
 use Rattle.noc_theory_cycles.proofs.LayoutLemmas.{fits-layout, fits-network, size-is}
 
@@ -63,7 +63,7 @@ module _ (net : Setup) (setup : IsGoodSetup net) (pattern : Pattern) (of : IsPat
   node-opens = record {
     held = holds-shown pattern (first_in firsts node) r h holds;
     shows = λ small. router-opens (bits_of pattern) net setup (layout_of pattern) (fits-network net setup pattern of).layout_is node small (router_of pattern h) (has-opened small);
-    blank = λ large. words-blank pattern h no_links (opened-blank pattern (first_in firsts node) r h holds (never-due large)) refl refl;
+    blank = λ large. words-blank pattern h (opened-blank pattern (first_in firsts node) r h holds (never-due large));
   }
 
 -- ---- all of them
@@ -78,11 +78,6 @@ module _ (net : Setup) (setup : IsGoodSetup net) (pattern : Pattern) (of : IsPat
   is-opened : (s : ℕ) → s < ROUTERS * blocks → IsOpened pattern firsts (s / ROUTERS) (block (s / ROUTERS))
   is-opened s l = opened (s / ROUTERS) (block-small s l)
 
-  one-opens : (s : ℕ) → s < ROUTERS * blocks → ShowsNode (bits_of pattern) net pattern 0 s no_links (held_in pattern.table.ports block s) (router_of pattern (held_in pattern.table.ports block s))
-  one-opens s l =
-      subst (λ m. ShowsNode (bits_of pattern) net pattern 0 m no_links (held_in pattern.table.ports block s) (router_of pattern (held_in pattern.table.ports block s))) (place s)
-      (node-opens net setup pattern of firsts are (s / ROUTERS) (s % ROUTERS) (block (s / ROUTERS)) (is-opened s l) (omega arith))
-
   small : (s : ℕ) → s < nodes net.relation.grid → s < ROUTERS * blocks
   small s l = omega (arith, l, enough)
 
@@ -95,10 +90,5 @@ module _ (net : Setup) (setup : IsGoodSetup net) (pattern : Pattern) (of : IsPat
     arrivals = λ p. refl;
   }
 
-  pub all-open : ShowsAll (bits_of pattern) net pattern 0 (ROUTERS * blocks) (λ s. no_links) (held_in pattern.table.ports block) (opened_words pattern (held_in pattern.table.ports block))
-  all-open = record {
-    enough = enough;
-    network = network-opens (bits_of pattern) net setup (layout_of pattern) (fits-network net setup pattern of).layout_is (opened_words pattern (held_in pattern.table.ports block)) have-opened;
-    held_are = λ s l. (one-opens s l).held;
-    blank = λ s l. (one-opens s l).blank;
-  }
+  pub all-open : ShowsNetwork (bits_of pattern) net 0 (opened_words pattern (held_in pattern.table.ports block))
+  all-open = network-opens (bits_of pattern) net setup (layout_of pattern) (fits-network net setup pattern of).layout_is (opened_words pattern (held_in pattern.table.ports block)) have-opened

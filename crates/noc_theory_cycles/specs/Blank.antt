@@ -6,9 +6,7 @@ use Rattle.noc_sets.specs.Cycle.{Router, Turn}
 use Rattle.noc_sets.specs.Planes.{any_from}
 use Rattle.noc_sets.specs.Source.{NEVER}
 use Rattle.noc_columns.specs.Planes.{list_of}
-use Rattle.noc_columns.specs.declared.channels.Links.{Links}
 use Rattle.noc_cycles.specs.Held.{Held}
-use Rattle.noc_cycles.specs.Opened.{router_of}
 use Rattle.noc_cycles.specs.declared.pattern.Pattern.{Pattern}
 
 -- by the words of a router, of so many channels, none waits, is active, has a flit or drains, no
@@ -49,9 +47,3 @@ pub record HoldsBlank (pattern : Pattern) (h : Held) : Type 0 where
   pub draining : h.outputs.draining ≡ 0
   pub injecting : h.injecting ≡ 0
   pub due : h.source.due ≡ NEVER
-
--- its words, where its links bring this
-abbrev pub words_of : Pattern → Held → Links ℕ → Router
-words_of pattern h links = record (router_of pattern h) {
-  links = record { flits = links.flits; tails = links.tails; credits = links.credits };
-}

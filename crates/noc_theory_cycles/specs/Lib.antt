@@ -4,5 +4,3 @@ pub mod Granted
 pub mod Nodes
 pub mod Firsts
 pub mod Steps
-pub mod Sleeps
-pub mod Through

@@ -14,20 +14,17 @@ ghost use Rattle.noc_columns.specs.declared.channels.Standing.{Standing};
 ghost use Rattle.noc_cycles.specs.Deciding.{HasDecidedHeld};
 ghost use Rattle.noc_cycles.specs.Held.{Held, ShowsHeld};
 ghost use Rattle.noc_cycles.specs.May.{MayConclude, MayDecide, MayInject, MayTake};
-ghost use Rattle.noc_cycles.specs.Opened.{HoldsNothing};
+ghost use Rattle.noc_cycles.specs.Opened.{HoldsNothing, router_of};
 ghost use Rattle.noc_cycles.specs.Taking.{HasTaken};
 ghost use Rattle.noc_cycles.specs.declared.first.First.{First};
 ghost use Rattle.noc_cycles.specs.declared.pattern.Pattern.{Pattern};
-ghost use Rattle.noc_theory_cycles.specs.Blank.{DoesNothing, HoldsBlank, IsBlank, channels_count, words_of};
+ghost use Rattle.noc_theory_cycles.specs.Blank.{DoesNothing, HoldsBlank, IsBlank, channels_count};
 
-/// A router of a block that holds nothing, and to which nothing comes, is blank, and a blank one
-/// holds nothing. So does an opened one in which no packet starts.
+/// A router of a block that holds nothing is blank before the first cycle, and a blank one holds
+/// nothing. So does an opened one in which no packet starts.
 pub fn blank_routers_hold_nothing()
-    ensures words { (pattern : Pattern) (h : Held) (links : Links ℕ)
-        → HoldsBlank pattern h → ShowsHeld pattern h links (words_of pattern h links) }
-    ensures blank { (pattern : Pattern) (h : Held) (links : Links ℕ)
-        → HoldsBlank pattern h → links.flits ≡ 0 → links.credits ≡ 0
-        → IsBlank (channels_count pattern) (words_of pattern h links) }
+    ensures blank { (pattern : Pattern) (h : Held) → HoldsBlank pattern h
+        → IsBlank (channels_count pattern) (router_of pattern h) }
     ensures nothing { (pattern : Pattern) (h : Held) (links : Links ℕ) (b : Router)
         → ShowsHeld pattern h links b → IsBlank (channels_count pattern) b
         → HoldsBlank pattern h }

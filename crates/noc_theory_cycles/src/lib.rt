@@ -4,9 +4,8 @@
 //! `noc_theory_bits` what the words of all routers show of a network. `specs/` has what it means
 //! that a block fits a network (`Fits`), what routers hold that the network does not have
 //! (`Blank`), what a router of a block shows (`Nodes`), which channels are granted (`Granted`),
-//! where packets begin (`Firsts`), what all routers show, cycle by cycle (`Steps`), and which of
-//! them sleep (`Sleeps`), and what a router makes of a cycle that it goes through (`Through`). The
-//! laws are the contracts of the functions here.
+//! where packets begin (`Firsts`), and the words of routers before the first cycle and after a turn
+//! (`Steps`). The laws are the contracts of the functions here.
 #![tactic(auto)]
 
 mod blank;
@@ -16,9 +15,7 @@ mod layouts;
 mod nodes;
 mod opening;
 mod routers;
-mod sleeps;
 mod steps;
-mod through;
 
 pub use blank::{
     blank_routers_have_what_is_asked_for, blank_routers_hold_nothing, blank_routers_stay_blank,
@@ -28,14 +25,10 @@ pub use heads::{
     heads_are_routed_as_permitted, packets_are_routable, routers_work_as_the_relation_permits,
 };
 pub use layouts::patterns_have_a_layout;
-pub use nodes::{
-    nodes_have_what_is_asked_for, nodes_make_turns_of_the_network, nodes_show_the_next_count,
-};
+pub use nodes::{nodes_have_what_is_asked_for, nodes_make_turns_of_the_network};
 pub use opening::opened_blocks_show_the_network;
 pub use routers::routers_have_what_is_asked_for;
-pub use sleeps::{a_wait_keeps_what_all_show, quiet_routers_sleep};
 pub use steps::{
-    a_cycle_of_all_keeps_what_they_show, nodes_tell_what_they_grant, packets_of_all_blocks_arrive,
-    turns_are_shown_by_what_is_held, turns_of_all_are_a_cycle, what_leaves_by_links_is_brought,
+    arrivals_are_read_from_words, nodes_tell_what_they_grant, turns_are_shown_by_what_is_held,
+    what_leaves_by_links_is_brought,
 };
-pub use through::{all_routers_go_through_a_cycle, nodes_go_through_a_cycle};

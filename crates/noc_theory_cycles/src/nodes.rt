@@ -1,13 +1,13 @@
 //! The routers of a block, which are those of a network or such that the network does not have.
 
-ghost use Rattle.std.specs.Prelude.{◌≡◌, ℕ, suc, ◌*◌, ◌<◌, ◌≤◌, Bool, length, Option, Some};
-ghost use Rattle.noc_topo.specs.Shape.{neighbour, nodes, ports};
-ghost use Rattle.noc_sets.specs.Cycle.{Links as Left, Router, Turn, still_of};
+ghost use Rattle.std.specs.Prelude.{◌≡◌, ℕ, ◌*◌, ◌<◌, ◌≤◌, Bool, length};
+ghost use Rattle.noc_topo.specs.Shape.{nodes, ports};
+ghost use Rattle.noc_sets.specs.Cycle.{Router, Turn, still_of};
 ghost use Rattle.noc_sets.specs.Layout.{Layout};
 ghost use Rattle.noc_theory.specs.Good.{IsGoodSetup};
 ghost use Rattle.noc_theory.specs.Network.{Setup};
 ghost use Rattle.noc_theory.specs.declared.limits.TheConstants.{CYCLE_LIMIT};
-ghost use Rattle.noc_theory_bits.specs.Network.{HasGathered, HasTurned, IsTurn, all_starts, numbers_in, tells_in};
+ghost use Rattle.noc_theory_bits.specs.Network.{IsTurn, all_starts, tells_in};
 ghost use Rattle.noc_theory_bits.specs.Sends.{Sends};
 ghost use Rattle.noc_columns.specs.declared.channels.Decided.{Decided};
 ghost use Rattle.noc_columns.specs.declared.channels.Links.{Links};
@@ -15,7 +15,7 @@ ghost use Rattle.noc_columns.specs.declared.channels.Standing.{Standing};
 ghost use Rattle.noc_columns.specs.declared.channels.Verdicts.{Verdicts};
 ghost use Rattle.noc_cycles.specs.Concluding.{HasConcludedHeld};
 ghost use Rattle.noc_cycles.specs.Deciding.{HasDecidedHeld};
-ghost use Rattle.noc_cycles.specs.Held.{Held, ShowsHeld};
+ghost use Rattle.noc_cycles.specs.Held.{Held};
 ghost use Rattle.noc_cycles.specs.May.{MayConclude, MayDecide, MayInject, MayTake};
 ghost use Rattle.noc_cycles.specs.Taking.{HasTaken};
 ghost use Rattle.noc_cycles.specs.declared.pattern.Pattern.{Pattern};
@@ -72,21 +72,4 @@ pub fn nodes_make_turns_of_the_network()
         → ShowsNode count net pattern n node links h b → IsNodeTurn net pattern layout n node b t
         → nodes net.relation.grid ≤ node
         → DoesNothing (ports net.relation.grid * net.relation.vcs) t }
-{}
-
-/// Once it has gathered what its neighbours send to it, or nothing has come where the network does
-/// not have it, it shows the next count.
-pub fn nodes_show_the_next_count()
-    ensures { (count : ℕ) (net : Setup) (layout : Layout) (pattern : Pattern) (n node : ℕ)
-        (links coming : Links ℕ) (h k : Held) (b : Router) (t : Turn) (left : ℕ → Left)
-        (tells : ℕ → ℕ → Option ℕ) (next : Router)
-        → IsGoodSetup net → n < CYCLE_LIMIT → FitsNetwork count net layout pattern
-        → ShowsNode count net pattern n node links h b → IsNodeTurn net pattern layout n node b t
-        → HasTurned t next → ShowsHeld pattern k coming next
-        → ((q s port : ℕ) → neighbour net.relation.grid node q ≡ Some (s, port)
-        → Sends net n s port (left s) (tells s))
-        → (node < nodes net.relation.grid → HasGathered net.relation.grid net.relation.vcs left
-        tells (numbers_in net layout n b) node next)
-        → (nodes net.relation.grid ≤ node → (next.links.flits ≡ 0) × (next.links.credits ≡ 0))
-        → ShowsNode count net pattern (suc n) node coming k next }
 {}

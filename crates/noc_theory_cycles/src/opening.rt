@@ -4,6 +4,7 @@ ghost use Rattle.std.specs.Prelude.{ℕ, ◌+◌, ◌*◌, ◌<◌, ◌≤◌, L
 ghost use Rattle.noc_topo.specs.Shape.{nodes};
 ghost use Rattle.noc_theory.specs.Good.{IsGoodSetup};
 ghost use Rattle.noc_theory.specs.Network.{Setup};
+ghost use Rattle.noc_theory_bits.specs.Network.{ShowsNetwork};
 ghost use Rattle.noc_columns.specs.declared.words.TheConstants.{ROUTERS};
 ghost use Rattle.noc_cycles.specs.Held.{held_at};
 ghost use Rattle.noc_cycles.specs.Opened.{IsOpened, no_links, router_of};
@@ -14,10 +15,10 @@ ghost use Rattle.noc_cycles.specs.declared.pattern.Pattern.{Pattern};
 ghost use Rattle.noc_theory_cycles.specs.Firsts.{AreFirsts};
 ghost use Rattle.noc_theory_cycles.specs.Fits.{bits_of};
 ghost use Rattle.noc_theory_cycles.specs.Nodes.{ShowsNode};
-ghost use Rattle.noc_theory_cycles.specs.Steps.{ShowsAll, held_in, opened_words};
+ghost use Rattle.noc_theory_cycles.specs.Steps.{held_in, opened_words};
 
 /// The routers of an opened block show those of the network before its first cycle, and those that
-/// the network does not have are blank. All blocks show the network.
+/// the network does not have are blank. The words of all blocks show the network.
 pub fn opened_blocks_show_the_network()
     ensures one { (net : Setup) (pattern : Pattern) (firsts : List First) (b r : ℕ) (block : Block)
         → IsGoodSetup net → IsPatternOf net.relation.grid net.relation.vcs net.depth pattern
@@ -32,7 +33,6 @@ pub fn opened_blocks_show_the_network()
         → AreFirsts net.packets (nodes net.relation.grid) firsts
         → nodes net.relation.grid ≤ ROUTERS * blocks
         → ((b : ℕ) → b < blocks → IsOpened pattern firsts b (block b))
-        → ShowsAll (bits_of pattern) net pattern 0 (ROUTERS * blocks) (λ s. no_links)
-        (held_in pattern.table.ports block)
+        → ShowsNetwork (bits_of pattern) net 0
         (opened_words pattern (held_in pattern.table.ports block)) }
 {}

@@ -1,6 +1,6 @@
-//! Cycles of the routers of all blocks of a network.
+//! What the turns of routers of blocks make of a network.
 
-ghost use Rattle.std.specs.Prelude.{◌≡◌, ℕ, suc, ◌*◌, ◌/◌, ◌%◌, ◌<◌, Bool, Option, Some};
+ghost use Rattle.std.specs.Prelude.{◌≡◌, ℕ, ◌*◌, ◌/◌, ◌%◌, ◌<◌, Bool, Option, Some};
 ghost use Rattle.noc_topo.specs.Shape.{Grid, IsGrid, local_port, nodes};
 ghost use Rattle.noc_alloc.specs.Members.{MembersAreBelow};
 ghost use Rattle.noc_sets.specs.Cycle.{Links as Left, Router, Turn, granted_in, still_of};
@@ -8,12 +8,10 @@ ghost use Rattle.noc_sets.specs.Layout.{Layout};
 ghost use Rattle.noc_theory.specs.Good.{IsGoodSetup};
 ghost use Rattle.noc_theory.specs.Network.{Setup, size};
 ghost use Rattle.noc_theory.specs.declared.limits.TheConstants.{CYCLE_LIMIT};
-ghost use Rattle.noc_theory_bits.specs.Network.{AreArrivals, HasTurned, IsLastAfter, Words, all_starts, numbers_in, tells_in};
+ghost use Rattle.noc_theory_bits.specs.Network.{AreArrivals, HasTurned, all_starts, tells_in};
 ghost use Rattle.noc_columns.specs.declared.channels.Decided.{Decided};
 ghost use Rattle.noc_columns.specs.declared.channels.Links.{Links};
 ghost use Rattle.noc_columns.specs.declared.channels.Standing.{Standing};
-ghost use Rattle.noc_columns.specs.declared.sets.TheConstants.{CHANNELS};
-ghost use Rattle.noc_columns.specs.declared.words.TheConstants.{ROUTERS};
 ghost use Rattle.noc_cycles.specs.Concluding.{HaveArrived};
 ghost use Rattle.noc_cycles.specs.Deciding.{HasDecidedHeld, undecided};
 ghost use Rattle.noc_cycles.specs.Gathered.{ShowsLeft, brought};
@@ -24,7 +22,7 @@ ghost use Rattle.noc_cycles.specs.Turning.{ShowsTurn};
 ghost use Rattle.noc_cycles.specs.declared.pattern.Pattern.{Pattern};
 ghost use Rattle.noc_theory_cycles.specs.Fits.{FitsNetwork};
 ghost use Rattle.noc_theory_cycles.specs.Nodes.{ShowsNode};
-ghost use Rattle.noc_theory_cycles.specs.Steps.{HasStepped, HaveTurned, ShowsAll, coming_to, left_as, router_after, words_after};
+ghost use Rattle.noc_theory_cycles.specs.Steps.{left_as, router_after};
 
 /// What a router tells over its links in a cycle are the numbers of the packets that it has granted
 /// output channels.
@@ -54,35 +52,6 @@ pub fn turns_are_shown_by_what_is_held()
         → HasTurned t (router_after t packet links) }
 {}
 
-/// All routers that show a network show each a node of it, and after a cycle of all they show the
-/// next count.
-pub fn a_cycle_of_all_keeps_what_they_show()
-    ensures nodes { (count : ℕ) (net : Setup) (pattern : Pattern) (n many s : ℕ)
-        (links : ℕ → Links ℕ) (held : ℕ → Held) (w : Words)
-        → ShowsAll count net pattern n many links held w → s < many
-        → ShowsNode count net pattern n s (links s) (held s) (w.routers s) }
-    ensures next { (count : ℕ) (net : Setup) (layout : Layout) (pattern : Pattern) (n many : ℕ)
-        (links coming : ℕ → Links ℕ) (held after : ℕ → Held) (t : ℕ → Turn) (was next : Words)
-        → IsGoodSetup net → n < CYCLE_LIMIT → FitsNetwork count net layout pattern
-        → ShowsAll count net pattern n many links held was
-        → HasStepped net pattern layout n many t coming after was next
-        → ShowsAll count net pattern (suc n) many coming after next }
-{}
-
-/// The turns of all routers are a cycle of all, where the numbers of packets are told over links,
-/// and what leaves the routers comes to the others.
-pub fn turns_of_all_are_a_cycle()
-    ensures { (net : Setup) (layout : Layout) (pattern : Pattern) (n many : ℕ) (t : ℕ → Turn)
-        (held : ℕ → Held) (packets : ℕ → ℕ → ℕ) (last : ℕ) (arrivals : ℕ → Option ℕ) (was : Words)
-        → HaveTurned net pattern layout n many t held packets was
-        → IsLastAfter (λ s. s < many) n t was.last last
-        → AreArrivals (λ s. s < many) (size net) n t
-        (λ s. numbers_in net layout n (was.routers s)) was.arrivals arrivals
-        → HasStepped net pattern layout n many t (coming_to net t)
-        (λ s. record (held s) { packet = packets s }) was
-        (words_after net t packets last arrivals) }
-{}
-
 /// Only what leaves routers by their links is brought to others.
 pub fn what_leaves_by_links_is_brought()
     ensures { (g : Grid) (vcs r : ℕ) (words : ℕ → Links ℕ) (left : ℕ → Left) → IsGrid g → 0 < vcs
@@ -91,16 +60,10 @@ pub fn what_leaves_by_links_is_brought()
         → brought g vcs (left_as words) r ≡ brought g vcs left r }
 {}
 
-/// Where packets arrive in one block after the other, and their cycles are read from words, these
-/// are the arrivals of all.
-pub fn packets_of_all_blocks_arrive()
-    ensures blocks { (cycle blocks : ℕ) (channels : ℕ → ℕ → ℕ) (packet : ℕ → ℕ → ℕ → ℕ)
-        (at : ℕ → ℕ → ℕ) → ((b r : ℕ) → MembersAreBelow CHANNELS (channels b r))
-        → ((b : ℕ) → b < blocks
-        → HaveArrived cycle ROUTERS (channels b) (packet b) (at b) (at (suc b)))
-        → HaveArrived cycle (ROUTERS * blocks) (λ s. channels (s / ROUTERS) (s % ROUTERS))
-        (λ s. packet (s / ROUTERS) (s % ROUTERS)) (at 0) (at blocks) }
-    ensures network { (size n many : ℕ) (t : ℕ → Turn) (channels : ℕ → ℕ)
+/// Where packets arrive from so many routers, and their cycles are read from words, these are the
+/// arrivals of the network.
+pub fn arrivals_are_read_from_words()
+    ensures { (size n many : ℕ) (t : ℕ → Turn) (channels : ℕ → ℕ)
         (packet numbers : ℕ → ℕ → ℕ) (old new : ℕ → ℕ) (read : ℕ → Option ℕ)
         → HaveArrived n many channels packet old new → read n ≡ Some n
         → ((s : ℕ) → s < many → (t s).arrived ≡ channels s)

@@ -1,8 +1,5 @@
-use Rattle.noc_theory_cycles.proofs.BlankMayLemmas.{holds-blank, opened-blank, words-blank, words-show}
+use Rattle.noc_theory_cycles.proofs.BlankMayLemmas.{holds-blank, opened-blank, words-blank}
 use Rattle.noc_theory_cycles.proofs.blank.blank_routers_hold_nothing.Goals as goal
-
-pub returns-clause-words : goal.returns-clause-words
-returns-clause-words c = words-show
 
 pub returns-clause-blank : goal.returns-clause-blank
 returns-clause-blank c = words-blank
