@@ -3,11 +3,11 @@ use Rattle.std.proofs.Math.Seq.{take-append_seam}
 use Rattle.std.proofs.Common.{◌≡◌, ◌≢◌, ℕ, ◌*◌, ◌+◌, ◌++◌, ◌<◌, ◌≤◌, ◌/◌, ◌%◌, List, length, get_or, take, drop, set, arith, inl, inr, subst, sym, ap, ◌∙◌, below_more}
 use Rattle.std.specs.Prelude.{◌⊎◌}
 use Rattle.std.proofs.Math.Nat.{mul-le-mul_right, mul_comm, mul_assoc, div-lt_iff_lt-mul, mod-lt}
-use Rattle.std.proofs.lemmas.List.{get_or-set_same, get_or-set_other, get_or_default, get_or-take}
+use Rattle.std.proofs.lemmas.List.{get_or-set_same, get_or-set_other, get_or_default}
 use Rattle.noc_topo.proofs.ListLemmas.{tabulate-from_each, get_or-tabulate}
 use Rattle.noc_topo.specs.Shape.{nodes, ports}
-use Rattle.noc_route.specs.Columns.{table_of, column_set, IsColumnAt, AreKeptTo}
-use Rattle.noc_route.specs.Routes.{width, pages}
+use Rattle.noc_route.specs.Columns.{table_of, column_set, AreColumns, AreKept, IsColumnAt, AreKeptTo}
+use Rattle.noc_route.specs.Routes.{width, pages, page_of}
 use Rattle.noc_route.specs.declared.sizes.Sizes.{Sizes}
 use Rattle.noc_route.proofs.EntryLemmas.{flat-below, flat-div, flat-mod, pages-few}
 use Rattle.noc_route.proofs.TrimLemmas.{index-parts}
@@ -68,6 +68,14 @@ column-ends : (first end input w n : ℕ) → input < w → end ≤ first + inpu
 column-ends first end input w n l few =
     let rows : (input + 1) * n ≤ w * n = mul-le-mul_right n (omega arith) in
     omega (arith, few, rows, row-next input n, mul_comm w n)
+
+-- the number of a column
+pub column-below : (f : Sizes) (pair input w count : ℕ) → w ≡ width f.shape f.vcs → pair < nodes f.shape * f.classes → input < w → count ≡ nodes f.shape * f.classes * width f.shape f.vcs
+    → pair * w + input < count
+column-below f pair input w count same here inside all =
+    let below = flat-below pair (nodes f.shape * f.classes) input w here inside in
+    let long = ap (λ w. nodes f.shape * f.classes * w) same in
+    omega (arith, below, long, all)
 
 -- it ends within the table
 pub column-room : (first end input w n size total : ℕ) → input < w → end ≤ first + input * n → size ≡ n * w → first + size ≤ total → end + n ≤ total
@@ -131,13 +139,6 @@ kept-more f block before sets after old_starts starts pair first input end start
 
 -- ---- the columns of one more router and class
 
--- the columns of the first of a table's pairs of a router and a class stand before `end`, where
--- `starts` says
-pub record AreKept (f : Sizes) (table sets starts : List ℕ) (pairs end : ℕ) : Type 0 where
-  pub within : (q i : ℕ) → q < pairs → i < width f.shape f.vcs → get_or starts (q * width f.shape f.vcs + i) 0 + nodes f.shape ≤ end
-  pub same : (q i t : ℕ) → q < pairs → i < width f.shape f.vcs → t < nodes f.shape
-      → get_or sets (get_or starts (q * width f.shape f.vcs + i) 0 + t) 0 ≡ get_or table ((q * nodes f.shape + t) * width f.shape f.vcs + i) 0
-
 pub block-end : (pair end next n w : ℕ) → end ≤ pair * (n * w) → next ≤ end + w * n → next ≤ (pair + 1) * (n * w)
 block-end pair end next n w few l = omega (arith, row-next pair (n * w), mul_comm w n)
 
@@ -186,22 +187,19 @@ all-within f table sets starts end some h c l =
 
 pub table-kept : (f : Sizes) (table sets starts : List ℕ) (end : ℕ) → 1 ≤ nodes f.shape → 1 ≤ width f.shape f.vcs
     → length table ≡ pages f.shape f.classes * width f.shape f.vcs → AreKept f table sets starts (nodes f.shape * f.classes) end
-    → table_of f (take end sets) starts ≡ table
+    → table_of f sets starts ≡ table
 table-kept f table sets starts end nodes_some some long h =
     let n = nodes f.shape in
     let w = width f.shape f.vcs in
     sym
-    (tabulate-from_each (pages f.shape f.classes * w) (column_set f (take end sets) starts) table 0 long
+    (tabulate-from_each (pages f.shape f.classes * w) (column_set f sets starts) table 0 long
     (λ j l.
     let page = pair-below j (n * f.classes * n) w some l in
     let q = pair-below (j / w) (n * f.classes) n nodes_some page in
     let i = mod-lt j some in
     let t = mod-lt (j / w) nodes_some in
-    let start = get_or starts (j / w / n * w + j % w) 0 in
-    let inside = inner start (j / w % n) n end t (h.within (j / w / n) (j % w) q i) in
     sym
-    (get_or-take end sets (start + j / w % n) 0 inside
-    ∙ h.same (j / w / n) (j % w) (j / w % n) q i t
+    (h.same (j / w / n) (j % w) (j / w % n) q i t
     ∙ ap (λ b. get_or table (b * w + j % w) 0) (index-parts n (j / w))
     ∙ ap (λ k. get_or table k 0) (index-parts w j))))
 
@@ -219,6 +217,14 @@ table-at f sets starts pair t i l k m =
     ∙ ap (λ x. get_or sets (get_or starts (x * w + i) 0 + (pair * n + t) % n) 0) (flat-div pair n t k)
     ∙ ap (λ x. get_or sets (get_or starts (pair * w + i) 0 + x) 0) (flat-mod pair n t k)
 
+-- a set of a column is one of those that are kept
+pub start-within : (f : Sizes) (starts : List ℕ) (count column start t : ℕ) → AreColumns f starts count → column < nodes f.shape * f.classes * width f.shape f.vcs → t < nodes f.shape
+    → start ≡ get_or starts column start → start + t < count
+start-within f starts count column start t all l k e =
+    let there : column < length starts = omega (arith, l, all.long) in
+    let from : start ≡ get_or starts column 0 = e ∙ get_or_default starts column start 0 there in
+    omega (arith, from, all.within column l, k)
+
 -- ---- sizes
 
 -- a router has few channels
@@ -226,6 +232,16 @@ width-few : (p v : ℕ) → p ≤ 7 → v ≤ 8 → p * v ≤ 56
 width-few p v few_ports few_vcs =
     let all : p * v ≤ 7 * v = mul-le-mul_right v few_ports in
     omega (arith, all, few_vcs)
+
+-- the channels of a port are among those of a router, and the sets of a router and a class among those
+-- of all
+pub port-ends : (f : Sizes) (port : ℕ) → port < ports f.shape → port * f.vcs + f.vcs ≤ 56
+port-ends f port l = omega (arith, row-end port (ports f.shape) f.vcs l, width-few (ports f.shape) f.vcs (subst (λ p. p ≤ 7) f.all_ports f.few_ports) f.few_vcs)
+
+pub pages-end : (f : Sizes) (m r first : ℕ) → m < f.classes → r < nodes f.shape → first ≡ page_of f.shape f.classes m r 0 → first + nodes f.shape ≤ pages f.shape f.classes
+pages-end f m r first class router is =
+    let n = nodes f.shape in
+    omega (arith, is, row-end (r * f.classes + m) (n * f.classes) n (flat-below r n m f.classes router class))
 
 some-of : (p v : ℕ) → 1 ≤ p → 1 ≤ v → 1 ≤ p * v
 some-of p v some_ports some_vcs =
@@ -261,10 +277,9 @@ block-room f pair l = at (nodes f.shape) (width f.shape f.vcs) (subst (λ n. pai
 pub all-written : (xs items : List ℕ) (len : ℕ) → length xs ≡ len → take len (xs ++ drop (length xs) items) ≡ xs
 all-written xs items len long = subst (λ n. take n (xs ++ drop (length xs) items) ≡ xs) long (take-append_seam xs (drop (length xs) items))
 
--- so with the columns that were kept through two slices
-pub AreKept-written : (f : Sizes) (table sets starts items start_items : List ℕ) (len start_len pair end : ℕ) → length sets ≡ len → length starts ≡ start_len → AreKept f table sets starts pair end
-    → AreKept f table (take len (sets ++ drop (length sets) items)) (take start_len (starts ++ drop (length starts) start_items)) pair end
-AreKept-written f table sets starts items start_items len start_len pair end long starts_long h =
+-- so with the columns that were kept through a slice
+pub AreKept-written : (f : Sizes) (table sets starts items : List ℕ) (len pair end : ℕ) → length sets ≡ len → AreKept f table sets starts pair end
+    → AreKept f table (take len (sets ++ drop (length sets) items)) starts pair end
+AreKept-written f table sets starts items len pair end long h =
     let P : List ℕ → Type 0 = λ xs. AreKept f table xs starts pair end in
-    let Q : List ℕ → Type 0 = λ xs. AreKept f table (take len (sets ++ drop (length sets) items)) xs pair end in
-    subst Q (sym (all-written starts start_items start_len starts_long)) (subst P (sym (all-written sets items len long)) h)
+    subst P (sym (all-written sets items len long)) h

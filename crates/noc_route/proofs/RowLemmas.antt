@@ -1,14 +1,31 @@
 -- The first row with a fault.
 use Rattle.std.proofs.Common.{◌≡◌, ℕ, ◌+◌, ◌<◌, ◌≤◌, Bool, true, false, List, get_or, length, Option, Some, None, refl, sym, subst, ap, ◌∙◌, arith, inl, inr}
-use Rattle.std.specs.Prelude.{◌⊎◌, is_some}
+use Rattle.std.specs.Prelude.{◌⊎◌, is_some, if◌then◌else◌}
 use Rattle.std.proofs.lemmas.Bool.{false≢true, cases_lt}
-use Rattle.noc_topo.specs.Shape.{Grid}
+use Rattle.noc_topo.specs.Shape.{Grid, neighbour}
 use Rattle.noc_route.specs.Order.{numbers_before, row_numbers, row_before}
-use Rattle.noc_route.specs.Relation.{row_fault, earlier_fault, IsFirstFault}
+use Rattle.noc_route.specs.Relation.{is_real_row, hop_fault, row_fault, earlier_fault, IsFirstFault}
 use Rattle.noc_route.specs.declared.rule.RouteRow.{RouteRow}
 use Rattle.noc_route.specs.declared.rule.RouteFault.{RouteFault}
+use Rattle.noc_route.specs.declared.rule.RouteFault.TheVariants.{NoLink}
 use Rattle.noc_route.proofs.OrderLemmas.{before-not-self, before-trans}
 use Rattle.noc_route.proofs.OptionLemmas.{no-value}
+
+-- what is wrong with a row, by what it names and where its output port leads
+pub row_fault-unreal : (g : Grid) (vcs classes : ℕ) (row : RouteRow) → is_real_row g vcs classes row ≡ false → Some (NoLink row) ≡ row_fault g vcs classes row
+row_fault-unreal g vcs classes row e = ap (λ b. if b then hop_fault g row (neighbour g row.router row.out_port) else Some (NoLink row)) (sym e)
+
+pub row_fault-real : (g : Grid) (vcs classes : ℕ) (row : RouteRow) (to : Option (ℕ × ℕ)) → is_real_row g vcs classes row ≡ true → to ≡ neighbour g row.router row.out_port
+    → hop_fault g row to ≡ row_fault g vcs classes row
+row_fault-real g vcs classes row to e there =
+    ap (hop_fault g row) there ∙ ap (λ b. if b then hop_fault g row (neighbour g row.router row.out_port) else Some (NoLink row)) (sym e)
+
+pub row_fault-none : (g : Grid) (vcs classes : ℕ) (row : RouteRow) → row_fault g vcs classes row ≡ None → is_real_row g vcs classes row ≡ true
+row_fault-none g vcs classes row none = at (is_real_row g vcs classes row) refl
+  where
+    at : (b : Bool) → is_real_row g vcs classes row ≡ b → is_real_row g vcs classes row ≡ true
+    at true e = e
+    at false e = let wrong : Some (NoLink row) ≡ None = row_fault-unreal g vcs classes row e ∙ none in cc wrong
 
 -- a row is no earlier fault than another
 abbrev pub IsNoEarlier : Grid → ℕ → ℕ → RouteRow → RouteRow → Type 0

@@ -145,6 +145,17 @@ pub comes_in-link : (routes : Routes) (outs : List ℕ) (m r t i : ℕ) → nat_
     → comes_in routes outs m r t i ≡ comes_over routes outs m t i (neighbour routes.grid r (i / routes.vcs))
 comes_in-link routes outs m r t i e = rw e refl
 
+-- nothing comes by a port that has no link
+pub comes_in-none : (routes : Routes) (outs : List ℕ) (m r t port i : ℕ) → port ≢ local_port routes.grid → neighbour routes.grid r port ≡ None → (nat_eq (i / routes.vcs) port && comes_in routes outs m r t i) ≡ false
+comes_in-none routes outs m r t port i away none = at (nat_eq (i / routes.vcs) port) refl
+  where
+    at : (b : Bool) → nat_eq (i / routes.vcs) port ≡ b → (b && comes_in routes outs m r t i) ≡ false
+    at false e = refl
+    at true e =
+        let same = eqb-true (i / routes.vcs) port e in
+        let other : nat_eq (i / routes.vcs) (local_port routes.grid) ≡ false = ne_eqb _ _ (λ home. away (sym same ∙ home)) in
+        comes_in-link routes outs m r t i other ∙ ap (λ (from : Option (ℕ × ℕ)). comes_over routes outs m t i from) (ap (neighbour routes.grid r) same ∙ none)
+
 -- what is moved from the list of the router before, where the channel arrives over a link
 pub brought : (routes : Routes) (outs : List ℕ) (m r t port sender out_port out i : ℕ) → 1 ≤ routes.vcs → port ≢ local_port routes.grid → neighbour routes.grid r port ≡ Some (sender, out_port)
     → out ≡ slice_index outs (page_of routes.grid routes.classes m sender t)

@@ -1,15 +1,17 @@
 -- One step of a rule at a time: what it leads to, by the tests that the code makes.
-use Rattle.std.proofs.Common.{◌≡◌, ℕ, ◌+◌, ◌-◌, ◌*◌, ◌/◌, ◌%◌, ◌<◌, ◌≤◌, true, false, List, refl, sym, ap, ◌∙◌, arith}
-use Rattle.std.specs.Prelude.{◌&&◌, nat_eq, nat_lt, nat_le}
+use Rattle.std.proofs.Common.{◌≡◌, ℕ, ◌+◌, ◌-◌, ◌*◌, ◌/◌, ◌%◌, ◌<◌, ◌≤◌, Bool, true, false, List, refl, sym, ap, ◌∙◌, arith, inl, inr, Vec, Global}
+use Rattle.std.specs.Prelude.{◌⊎◌, ◌&&◌, ◌||◌, not, nat_eq, nat_lt, nat_le}
 use Rattle.std.proofs.Math.Nat.{div-lt_iff_lt-mul}
-use Rattle.std.proofs.lemmas.Bool.{and_parts, eq-eqb, eqb-true, le-leb, leb-true, lt-ltb, ltb-true}
+use Rattle.std.proofs.lemmas.Bool.{and_parts, eq-eqb, eqb-true, le-leb, le-ltb, leb-true, lt-ltb, ltb-true}
 use Rattle.std.proofs.lemmas.Nat.{div-mul-add, mod-mul-add}
 use Rattle.noc_topo.specs.Shape.{Grid, coordinates, local_port}
 use Rattle.noc_route.specs.Built.{routing_of}
 use Rattle.noc_route.specs.Entered.{routing_in}
-use Rattle.noc_route.specs.Relation.{RelationParts, is_led, is_of_class, takes_port, takes_channel, takes_of_class}
+use Rattle.noc_route.specs.Relation.{RelationParts, escapes, index_in_class, is_escape_taken, is_led, is_nearer, is_of_class, is_west_first, takes_port, takes_channel, takes_of_class}
 use Rattle.noc_route.specs.declared.sizes.Sizes.{Sizes}
 use Rattle.noc_route.specs.declared.rule.Rule.{Rule}
+use Rattle.noc_route.specs.declared.rule.RouteRow.{RouteRow}
+use Rattle.noc_route.specs.declared.rule.Rule.TheVariants.{Adaptive, Dor, Rows, WestFirst}
 use Rattle.noc_route.proofs.BoolLemmas.{same_test}
 use Rattle.noc_route.proofs.TrimLemmas.{index-parts}
 
@@ -81,6 +83,32 @@ pub takes_channel-below : (g : Grid) (vcs classes : ℕ) (rule : Rule) (m : ℕ)
 takes_channel-below g vcs classes rule m xs ts port v e =
     let class = and_parts (is_of_class vcs classes m v) (takes_of_class g vcs classes rule xs ts port v) e in
     ltb-true v ((m + 1) * vcs / classes) (and_parts (nat_le (m * vcs / classes) v) (nat_lt v ((m + 1) * vcs / classes)) class.0).1
+
+-- each channel of the class is taken by these rules
+pub takes-all : (g : Grid) (vcs classes : ℕ) (rule : Rule) (xs ts : List ℕ) (port v : ℕ) → (rule ≡ Dor) ⊎ ((rule ≡ WestFirst) ⊎ ((rows : Vec RouteRow Global) × (rule ≡ Rows rows)))
+    → true ≡ takes_of_class g vcs classes rule xs ts port v
+takes-all g vcs classes rule xs ts port v (inl is) = ap (λ rule. takes_of_class g vcs classes rule xs ts port v) (sym is)
+takes-all g vcs classes rule xs ts port v (inr (inl is)) = ap (λ rule. takes_of_class g vcs classes rule xs ts port v) (sym is)
+takes-all g vcs classes rule xs ts port v (inr (inr is)) = ap (λ rule. takes_of_class g vcs classes rule xs ts port v) (sym is.1)
+
+-- an adaptive channel is taken, and an escape channel where the rule takes it
+pub takes-adaptive : (g : Grid) (vcs classes : ℕ) (rule : Rule) (xs ts : List ℕ) (port v few : ℕ) → rule ≡ Adaptive → few ≡ escapes g → few ≤ index_in_class vcs classes v
+    → takes_of_class g vcs classes rule xs ts port v ≡ true
+takes-adaptive g vcs classes rule xs ts port v few is count l =
+    let above : nat_lt (index_in_class vcs classes v) (escapes g) ≡ false = le-ltb (index_in_class vcs classes v) (escapes g) (omega (arith, count, l)) in
+    ap (λ rule. takes_of_class g vcs classes rule xs ts port v) is ∙ ap (λ b. not b || is_escape_taken g vcs classes xs ts port v) above
+
+pub takes-escape : (g : Grid) (vcs classes : ℕ) (rule : Rule) (xs ts : List ℕ) (port v few : ℕ) → rule ≡ Adaptive → few ≡ escapes g → index_in_class vcs classes v < few
+    → takes_of_class g vcs classes rule xs ts port v ≡ is_escape_taken g vcs classes xs ts port v
+takes-escape g vcs classes rule xs ts port v few is count l =
+    let below : nat_lt (index_in_class vcs classes v) (escapes g) ≡ true = lt-ltb (index_in_class vcs classes v) (escapes g) (omega (arith, count, l)) in
+    ap (λ rule. takes_of_class g vcs classes rule xs ts port v) is ∙ ap (λ b. not b || is_escape_taken g vcs classes xs ts port v) below
+
+-- west first, by its two tests
+pub takes-west : (g : Grid) (rule : Rule) (xs ts : List ℕ) (port : ℕ) (near west : Bool) → rule ≡ WestFirst → is_nearer g xs ts port ≡ near → is_west_first xs ts port ≡ west
+    → takes_port g rule xs ts port ≡ (near && west)
+takes-west g rule xs ts port near west is first second =
+    ap (λ rule. takes_port g rule xs ts port) is ∙ ap (λ b. b && is_west_first xs ts port) first ∙ ap (λ b. near && b) second
 
 -- a rule over the numbers of a sizes, where these are known
 pub routing_in-sizes : (f : Sizes) (g : Grid) (vcs classes : ℕ) (rule : Rule) → f.shape ≡ g → f.vcs ≡ vcs → f.classes ≡ classes → routing_in f rule ≡ routing_of g vcs classes rule

@@ -43,3 +43,12 @@ pub record AreKeptTo (f : Sizes) (block before sets old_starts starts : List ℕ
       → slice_index sets j ≡ slice_index before j
   pub earlier : (c : ℕ) → c < pair * width f.shape f.vcs
       → slice_index starts c ≡ slice_index old_starts c
+
+-- the columns of the first of a table's pairs of a router and a class stand before `end`, where
+-- `starts` says
+pub record AreKept (f : Sizes) (table sets starts : List ℕ) (pairs end : ℕ) : Type 0 where
+  pub within : (q i : ℕ) → q < pairs → i < width f.shape f.vcs
+      → slice_index starts (q * width f.shape f.vcs + i) + nodes f.shape ≤ end
+  pub same : (q i t : ℕ) → q < pairs → i < width f.shape f.vcs → t < nodes f.shape
+      → slice_index sets (slice_index starts (q * width f.shape f.vcs + i) + t)
+      ≡ slice_index table ((q * nodes f.shape + t) * width f.shape f.vcs + i)

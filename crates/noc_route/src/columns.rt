@@ -2,7 +2,7 @@
 
 ghost use Rattle.std.specs.Prelude.{◌≡◌, ◌⊎◌, ℕ, ◌+◌, ◌*◌, ◌<◌, ◌≤◌, IfOk, IfSome, IsTrue, length, slice_index, vec_len};
 ghost use Rattle.noc_topo.specs.Shape.{nodes, ports};
-ghost use Rattle.noc_route.specs.Columns.{table_of, AreColumns, IsColumnAt, AreKeptTo};
+ghost use Rattle.noc_route.specs.Columns.{table_of, AreColumns, AreKept, IsColumnAt, AreKeptTo};
 ghost use Rattle.noc_route.specs.Entered.{AreAll, sets_in};
 ghost use Rattle.noc_route.specs.Routes.{width, pages, entry_index};
 ghost use Rattle.noc_route.specs.Trimming.{left_in, IsFirstLeft};
@@ -11,7 +11,7 @@ use crate::entered::Entered;
 use crate::gather::Departures;
 use crate::rule::Entry;
 use crate::sizes::Sizes;
-use crate::trim::{stuck_pair, trim_pair};
+use crate::trim::leave_pair;
 use noc_packet::ChannelSet;
 use std::alloc::{AllocError, Global};
 
@@ -43,22 +43,18 @@ impl Columns {
             (pages f.shape f.classes * width f.shape f.vcs) made.1) }
     {
         let sizes = leaving.map.sizes;
-        let count = sizes.node_count * sizes.width();
-        let mut block = vec![in alloc; ChannelSet::empty(); count]?;
+        let mut block = vec![in alloc; ChannelSet::empty(); sizes.node_count * sizes.width()]?;
         let mut coming = vec![in alloc; ChannelSet::empty(); sizes.node_count]?;
         let mut starts = vec![in alloc; 0u32; sizes.columns()]?;
-        let mut sets = Vec::new(alloc);
-        let mut end = 0;
-        let mut first = None;
-        for pair in 0..sizes.node_count * sizes.classes {
-            leaving.arrive(pair, &mut coming);
-            first = stuck_pair(leaving, entered, &coming, pair, first);
-            trim_pair(&sizes, entered, &coming, &mut block, pair);
-            sets.resize(end + count, ChannelSet::empty())?;
-            end = keep_pair(&sizes, &block, &mut sets, &mut starts, pair, end);
-        }
-        sets.truncate(end);
-        sets.shrink_to_fit();
+        let kept = keep_all(
+            alloc,
+            leaving,
+            entered,
+            &mut coming,
+            &mut block,
+            &mut starts,
+        );
+        let (sets, first) = kept?;
         let columns = Columns {
             sizes,
             sets,
@@ -88,6 +84,43 @@ impl Columns {
         let column = self.sizes.column(class, router, in_port, in_vc);
         self.sets[self.starts[column] as usize + dst]
     }
+}
+
+// The sets of all columns, which `starts` gets to know, and the first entry that is reached and has
+// an empty set. `coming` and `block` are room for a router and a class.
+fn keep_all(
+    alloc: Global,
+    leaving: &Departures,
+    entered: &Entered,
+    coming: &mut [ChannelSet],
+    block: &mut [ChannelSet],
+    starts: &mut [u32],
+) -> Result<(Vec<ChannelSet>, Option<Entry>), AllocError>
+    requires all { AreAll leaving.now.map.now.sizes entered.now }
+    requires coming { length coming.old ≡ nodes leaving.now.map.now.sizes.shape }
+    requires block { let f = leaving.now.map.now.sizes in
+        length block.old ≡ nodes f.shape * width f.shape f.vcs }
+    requires starts { let f = leaving.now.map.now.sizes in
+        length starts.old ≡ nodes f.shape * f.classes * width f.shape f.vcs }
+    ensures kept { let f = leaving.now.map.now.sizes in
+        IfOk result (λ kept. AreKept f (left_in f (sets_in f entered.now) leaving.now.outs.now)
+        kept.0.items starts.new (nodes f.shape * f.classes) (vec_len kept.0)) }
+    ensures first { let f = leaving.now.map.now.sizes in
+        IfOk result (λ kept. IsFirstLeft f (sets_in f entered.now) leaving.now.outs.now
+        (pages f.shape f.classes * width f.shape f.vcs) kept.1) }
+{
+    let sizes = &leaving.map.sizes;
+    let mut sets = Vec::new(alloc);
+    let mut end = 0;
+    let mut first = None;
+    for pair in 0..sizes.node_count * sizes.classes {
+        first = leave_pair(leaving, entered, coming, block, pair, first);
+        sets.resize(end + block.len(), ChannelSet::empty())?;
+        end = keep_pair(sizes, block, &mut sets, starts, pair, end);
+    }
+    sets.truncate(end);
+    sets.shrink_to_fit();
+    Ok((sets, first))
 }
 
 // Keeps the columns of a router and a class from `first` on, and answers where they end.

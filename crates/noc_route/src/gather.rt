@@ -173,9 +173,7 @@ impl<'a> Departures<'a> {
     {
         let sizes = &self.map.sizes;
         let (class, router) = (pair % sizes.classes, pair / sizes.classes);
-        for dst in 0..coming.len() {
-            coming[dst] = ChannelSet::empty();
-        }
+        coming.fill(ChannelSet::empty());
         for port in 0..sizes.port_count {
             self.arrive_by(class, router, port, coming);
         }

@@ -5,7 +5,7 @@ ghost use Rattle.std.specs.Prelude.{◌≡◌, ℕ, ◌/◌, ◌%◌, ◌<◌, �
 ghost use Rattle.noc_packet.specs.Set.{has_bit};
 ghost use Rattle.noc_topo.specs.Shape.{Grid, nodes, ports, local_port, coordinates, three_coordinates};
 ghost use Rattle.noc_route.specs.Entered.{parts_of, IsWay};
-ghost use Rattle.noc_route.specs.Relation.{is_led, is_of_class, takes_channel, dor_port, is_nearer, takes_port, takes_of_class, index_in_class, is_escape_taken, dateline_class};
+ghost use Rattle.noc_route.specs.Relation.{is_led, is_of_class, takes_channel, dor_port, is_nearer, is_west_first, takes_port, takes_of_class, index_in_class, is_escape_taken, dateline_class};
 ghost use Rattle.noc_route.specs.Routes.{width};
 
 use crate::map::Map;
@@ -128,12 +128,18 @@ impl Way {
     {
         match routing.rule {
             Rule::Dor | Rule::Dateline => self.towards == Some(port),
-            Rule::WestFirst => {
-                self.is_nearer(routing.map, port) && (port == 1 || self.here[0] <= self.there[0])
-            }
+            Rule::WestFirst => self.is_nearer(routing.map, port) && self.is_west_first(port),
             Rule::Adaptive => self.is_nearer(routing.map, port),
             Rule::Rows(_) => false,
         }
+    }
+
+    // Whether west first may lead along this port: down dimension 0 alone while the destination is
+    // there.
+    fn is_west_first(&self, port: usize) -> bool
+        ensures { result ≡ is_west_first self.now.here self.now.there port }
+    {
+        port == 1 || self.here[0] <= self.there[0]
     }
 
     // Whether a link port leads along the shorter way in its dimension, or up where both are

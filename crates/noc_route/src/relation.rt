@@ -1,16 +1,18 @@
 //! The routing relation.
 
-ghost use Rattle.std.specs.Prelude.{◌≡◌, ◌<◌, MatchResult, IfOk};
+ghost use Rattle.std.specs.Prelude.{◌≡◌, ◌<◌, All, MatchResult, IfOk, None};
 ghost use Rattle.noc_topo.specs.Shape.{nodes, ports};
 ghost use Rattle.noc_route.specs.Built.{routing_of, IsRelationOfRule};
 ghost use Rattle.noc_route.specs.Columns.{table_of};
-ghost use Rattle.noc_route.specs.Entered.{parts_of};
-ghost use Rattle.noc_route.specs.Relation.{IsFaultOf};
+ghost use Rattle.noc_route.specs.Entered.{parts_of, AreAll, sets_in, IsEntered};
+ghost use Rattle.noc_route.specs.Gathering.{AreOuts};
+ghost use Rattle.noc_route.specs.Relation.{row_fault, table_rows_of, IsFaultOf};
 ghost use Rattle.noc_route.specs.Routes.{set_at, IsRelation};
 ghost use Rattle.noc_route.specs.Trimming.{routes_in};
 
 use crate::columns::Columns;
 use crate::enter::enter;
+use crate::entered::Entered;
 use crate::gather::{Departures, gather};
 use crate::map::Map;
 use crate::routing::Routing;
@@ -125,12 +127,35 @@ fn columns_of(alloc: Global, routing: &Routing) -> Result<Columns, RouteFault>
 {
     let mut outs = vec![in alloc; ChannelSet::empty(); routing.map.sizes.pages()]?;
     let entered = enter(alloc, routing)?;
-    gather(routing.map, &entered, &mut outs);
+    reached_columns(alloc, routing, &entered, &mut outs)
+}
+
+// The same by the rule's sets at all entries, where no row is bad. `outs` gets the channels by
+// which packets leave each router.
+fn reached_columns(
+    alloc: Global,
+    routing: &Routing,
+    entered: &Entered,
+    outs: &mut [ChannelSet],
+) -> Result<Columns, RouteFault>
+    requires rows { let g = parts_of routing.now in
+        All (λ row. row_fault g.grid g.vcs g.classes row ≡ None) (table_rows_of g.rule) }
+    requires all { AreAll routing.now.map.now.sizes entered.now }
+    requires entered { let f = routing.now.map.now.sizes in
+        IsEntered (parts_of routing.now) (routes_in f (sets_in f entered.now)) }
+    requires outs { let f = routing.now.map.now.sizes in
+        AreOuts (routes_in f (sets_in f entered.now)) outs.old }
+    ensures sizes { IfOk result (λ c. c.sizes ≡ routing.now.map.now.sizes) }
+    ensures exact { let f = routing.now.map.now.sizes in
+        MatchResult result (λ c. IsRelationOfRule (parts_of routing.now) (routes_in f
+        (table_of f c.sets.items c.starts.items))) (IsFaultOf (parts_of routing.now)) }
+{
+    gather(routing.map, entered, outs);
     let leaving = Departures {
         map: routing.map,
-        outs: &outs,
+        outs,
     };
-    let (columns, stuck) = Columns::new(alloc, &leaving, &entered)?;
+    let (columns, stuck) = Columns::new(alloc, &leaving, entered)?;
     match stuck {
         Some(entry) => Err(RouteFault::NoWay(entry)),
         None => Ok(columns),

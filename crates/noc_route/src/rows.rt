@@ -2,6 +2,7 @@
 
 ghost use Rattle.std.specs.Prelude.{◌≡◌, ◌<◌, IfNone, IfSome, All, None};
 ghost use Rattle.noc_topo.specs.Shape.{nodes};
+ghost use Rattle.noc_route.specs.Order.{row_before};
 ghost use Rattle.noc_route.specs.Relation.{IsFirstFault, earlier_fault, row_fault, is_real_row, is_open};
 
 use crate::map::Map;
@@ -75,12 +76,19 @@ fn earlier_fault(map: &Map, row: &RouteRow, other: Option<RouteRow>) -> Option<R
     ensures { result ≡ earlier_fault map.now.sizes.shape map.now.sizes.vcs map.now.sizes.classes
         row.now other }
 {
-    if row_fault(map, row).is_none() {
-        return other;
+    if row_fault(map, row).is_some() && is_before(row, &other) {
+        Some(*row)
+    } else {
+        other
     }
+}
+
+// Whether a row comes before another one, if there is one.
+fn is_before(row: &RouteRow, other: &Option<RouteRow>) -> bool
+    ensures { result ≡ row_before row.now other.now }
+{
     match other {
-        Some(first) if row.numbers() < first.numbers() => Some(*row),
-        Some(_) => other,
-        None => Some(*row),
+        Some(other) => row.numbers() < other.numbers(),
+        None => true,
     }
 }

@@ -7,7 +7,7 @@ ghost use Rattle.noc_topo.specs.Shape.{nodes};
 ghost use Rattle.noc_route.specs.Entered.{AreAll, sets_in};
 ghost use Rattle.noc_route.specs.Order.{earlier_entry};
 ghost use Rattle.noc_route.specs.Routes.{width, pages};
-ghost use Rattle.noc_route.specs.Trimming.{routes_in, page_set, comes_at, reached_at, AreComing, IsFirstLeft};
+ghost use Rattle.noc_route.specs.Trimming.{routes_in, page_set, comes_at, reached_at, left_in, AreComing, IsFirstLeft};
 
 use crate::entered::Entered;
 use crate::gather::{Departures, only_if};
@@ -15,9 +15,42 @@ use crate::rule::Entry;
 use crate::sizes::Sizes;
 use noc_packet::ChannelSet;
 
+// Writes the sets that are left of a router and a class, by input channel and destination, and
+// answers the first entry that packets reach and whose set is empty, among those of this router and
+// class and those before, of which `first` is the first. `coming` gets the input channels to which
+// packets come, by destination.
+pub(crate) fn leave_pair(
+    leaving: &Departures,
+    entered: &Entered,
+    coming: &mut [ChannelSet],
+    block: &mut [ChannelSet],
+    pair: usize,
+    first: Option<Entry>,
+) -> Option<Entry>
+    requires all { AreAll leaving.now.map.now.sizes entered.now }
+    requires coming { length coming.old ≡ nodes leaving.now.map.now.sizes.shape }
+    requires block { let f = leaving.now.map.now.sizes in
+        length block.old ≡ nodes f.shape * width f.shape f.vcs }
+    requires pair { let f = leaving.now.map.now.sizes in pair < nodes f.shape * f.classes }
+    requires first { let f = leaving.now.map.now.sizes in
+        IsFirstLeft f (sets_in f entered.now) leaving.now.outs.now
+        (pair * nodes f.shape * width f.shape f.vcs) first }
+    ensures block { let f = leaving.now.map.now.sizes in (t i : ℕ) → t < nodes f.shape
+        → i < width f.shape f.vcs → slice_index block.new (i * nodes f.shape + t)
+        ≡ page_set (routes_in f (left_in f (sets_in f entered.now) leaving.now.outs.now))
+        (pair * nodes f.shape + t) i }
+    ensures first { let f = leaving.now.map.now.sizes in
+        IsFirstLeft f (sets_in f entered.now) leaving.now.outs.now
+        ((pair + 1) * nodes f.shape * width f.shape f.vcs) result }
+{
+    leaving.arrive(pair, coming);
+    trim_pair(&leaving.map.sizes, entered, coming, block, pair);
+    stuck_pair(leaving, entered, coming, pair, first)
+}
+
 // Writes the sets of a router and a class, by input channel and destination, empty at the entries
 // that no packet reaches. `coming` has the input channels to which packets come, by destination.
-pub(crate) fn trim_pair(
+fn trim_pair(
     sizes: &Sizes,
     entered: &Entered,
     coming: &[ChannelSet],
@@ -124,7 +157,7 @@ fn take_entries(
 // The first entry that packets reach and whose set is empty, among those of a router and a class
 // and those before, of which `first` is the first; in the order of class, router, input port and
 // channel, and destination.
-pub(crate) fn stuck_pair(
+fn stuck_pair(
     leaving: &Departures,
     entered: &Entered,
     coming: &[ChannelSet],

@@ -1,10 +1,20 @@
-use Rattle.std.proofs.Common.{◌+◌, ◌*◌, ◌<◌, length, set, ap, arith, subst, sym}
+use Rattle.std.proofs.Common.{◌+◌, ◌*◌, ◌<◌, length, set, refl, arith, subst, sym}
 use Rattle.noc_topo.specs.Shape.{nodes}
 use Rattle.noc_route.specs.Columns.{AreKeptTo}
 use Rattle.noc_route.specs.Routes.{width}
 use Rattle.noc_route.proofs.EntryLemmas.{flat-below}
-use Rattle.noc_route.proofs.ColumnLemmas.{column-room, kept-more, table-few}
+use Rattle.noc_route.proofs.ColumnLemmas.{column-below, column-room, kept-more, table-few}
 use Rattle.noc_route.proofs.columns.keep_pair.Goals as goal
+
+pub loop-input-init : goal.loop-input-init
+loop-input-init c = record {
+  grown = omega arith;
+  few = omega arith;
+  within = λ i l. absurd (omega arith);
+  same = λ i l. absurd (omega arith);
+  others = λ j o. refl;
+  earlier = λ k l. refl;
+}
 
 pub place-start-requires-clause-room : goal.place-start-requires-clause-room
 place-start-requires-clause-room c =
@@ -22,12 +32,40 @@ overflow_cast-starts c =
     let room = column-room c.args.first c.loop-input.end c.loop-input.input w (nodes f.shape) (length c.args.block.now) (length c.args.sets.now) inside c.loop-input.invariant.few c.requires.block c.requires.room in
     omega (arith, room, c.place-start.ensures.start, c.requires.sets, table-few f)
 
+pub overflow_mul-starts : goal.overflow_mul-starts
+overflow_mul-starts c =
+    let f = c.args.sizes.now in
+    let below = column-below f c.args.pair c.loop-input.input c.width-width.result (length c.args.starts.now) c.width-width.ensures.value c.requires.pair c.loop-input-test.true c.requires.starts in
+    omega (arith, below, c.loop-input.auto.starts)
+
+pub overflow_add-starts : goal.overflow_add-starts
+overflow_add-starts c =
+    let f = c.args.sizes.now in
+    let below = column-below f c.args.pair c.loop-input.input c.width-width.result (length c.args.starts.now) c.width-width.ensures.value c.requires.pair c.loop-input-test.true c.requires.starts in
+    omega (arith, below, c.loop-input.auto.starts)
+
+pub offset_bounds-starts-pair : goal.offset_bounds-starts-pair
+offset_bounds-starts-pair c =
+    let f = c.args.sizes.now in
+    let below = column-below f c.args.pair c.loop-input.input c.width-width.result (length c.args.starts.now) c.width-width.ensures.value c.requires.pair c.loop-input-test.true c.requires.starts in
+    omega (arith, below, c.loop-input.auto.starts)
+
 pub bounds-starts-pair : goal.bounds-starts-pair
 bounds-starts-pair c =
     let f = c.args.sizes.now in
-    let below = flat-below c.args.pair (nodes f.shape * f.classes) c.loop-input.input c.width-width.result c.requires.pair c.loop-input-test.true in
-    let long = ap (λ w. nodes f.shape * f.classes * w) c.width-width.ensures.value in
-    omega (arith, below, long, c.requires.starts, c.loop-input.auto.starts)
+    let below = column-below f c.args.pair c.loop-input.input c.width-width.result (length c.args.starts.now) c.width-width.ensures.value c.requires.pair c.loop-input-test.true c.requires.starts in
+    omega (arith, below, c.loop-input.auto.starts)
+
+pub place-start-requires-clause-input : goal.place-start-requires-clause-input
+place-start-requires-clause-input c = subst (λ x. c.loop-input.input < x) c.width-width.ensures.value c.loop-input-test.true
+
+pub overflow_add-start : goal.overflow_add-start
+overflow_add-start c =
+    let f = c.args.sizes.now in
+    let w = width f.shape f.vcs in
+    let inside : c.loop-input.input < w = subst (λ x. c.loop-input.input < x) c.width-width.ensures.value c.loop-input-test.true in
+    let room = column-room c.args.first c.loop-input.end c.loop-input.input w (nodes f.shape) (length c.args.block.now) (length c.args.sets.now) inside c.loop-input.invariant.few c.requires.block c.requires.room in
+    omega (arith, room, c.place-start.ensures.start, f.all_nodes, c.requires.sets, table-few f)
 
 pub loop-input-preserved : goal.loop-input-preserved
 loop-input-preserved c =

@@ -64,3 +64,23 @@ returns c = λ b i k m o.
     let f = c.args.map.now.sizes in
     c.loop-row.invariant b i k m o
     ∙ ap (λ rows. nat_lt k (width f.shape f.vcs) && has_row_at (routes_in f c.loop-row.sets) rows b i k) (take_all c.loop-row.row-index c.args.rows.now c.loop-row-test.false)
+
+pub bounds-sets-index-in-loop-row : goal.bounds-sets-index-in-loop-row
+bounds-sets-index-in-loop-row c =
+    let P : ℕ → Type 0 = λ n. c.entry_index-index.result < n in subst P (sym (c.loop-row.auto.sets ∙ zeros-length _ _ c.requires.blank)) c.entry_index-index.ensures.within
+
+pub offset_bounds-sets-index : goal.offset_bounds-sets-index
+offset_bounds-sets-index c =
+    let within : c.entry_index-index.result < length c.loop-row.sets = omega (arith, c.entry_index-index.ensures.within, c.loop-row.auto.sets, zeros-length _ _ c.requires.blank) in
+    omega arith
+
+pub offset_bounds-sets-index-in-loop-row : goal.offset_bounds-sets-index-in-loop-row
+offset_bounds-sets-index-in-loop-row c =
+    let within : c.entry_index-index.result < length c.loop-row.sets = omega (arith, c.entry_index-index.ensures.within, c.loop-row.auto.sets, zeros-length _ _ c.requires.blank) in
+    omega arith
+
+pub bounds-rows-row-index : goal.bounds-rows-row-index
+bounds-rows-row-index c = c.loop-row-test.true
+
+pub offset_bounds-rows-row-index : goal.offset_bounds-rows-row-index
+offset_bounds-rows-row-index c = let within : c.loop-row.row-index < length c.args.rows.now = c.loop-row-test.true in omega arith

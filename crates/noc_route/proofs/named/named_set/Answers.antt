@@ -1,6 +1,6 @@
 use Rattle.std.proofs.Common.{◌≡◌, ℕ, ◌<◌, ◌/◌, ◌%◌, Option, Some, sym, subst, ap, ◌∙◌, arith}
 use Rattle.std.specs.Prelude.{◌||◌, ◌&&◌, IfSome, nat_lt, nat_eq}
-use Rattle.std.proofs.lemmas.Bool.{eqb-true, eq-eqb, ne_eqb, lt-ltb, and_parts}
+use Rattle.std.proofs.lemmas.Bool.{eqb-true, eq-eqb, ne_eqb, le-ltb, lt-ltb, and_parts}
 use Rattle.noc_packet.specs.Set.{has_bit}
 use Rattle.noc_topo.specs.Shape.{coordinates, local_port, ports}
 use Rattle.noc_route.specs.Entered.{parts_of}
@@ -56,6 +56,18 @@ returns-in-Some c = λ k.
     (λ e.
     let is = eqb-true port q (and_parts (nat_eq port q) (takes q) (away ∙ e)).0 in
     sym (port_test k (ports g.grid) g.vcs f.some_vcs) ∙ lt-ltb q (ports g.grid) (omega (arith, known _ _ (local_port f.shape) c.of-way.ensures.link c.in-Some.ensures.towards, is))))
+
+pub loop-port-init : goal.loop-port-init
+loop-port-init c = λ k.
+    let f = c.args.routing.now.map.now.sizes in
+    let none = le-ltb (k / f.vcs) 0 (omega arith) in
+    c.empty-set.ensures.members k ∙ sym (ap (λ b. b && is_led (parts_of c.args.routing.now) c.args.class c.args.router c.args.dst (k / f.vcs) (k % f.vcs)) none)
+
+pub takes_port-requires-clause-here : goal.takes_port-requires-clause-here
+takes_port-requires-clause-here c = c.of-way.ensures.here
+
+pub takes_port-requires-clause-there : goal.takes_port-requires-clause-there
+takes_port-requires-clause-there c = c.of-way.ensures.there
 
 pub loop-port-preserved : goal.loop-port-preserved
 loop-port-preserved c = λ k.

@@ -1,60 +1,43 @@
-use Rattle.std.proofs.Common.{◌≡◌, ◌∙◌, ◌*◌, ℕ, List, Option, None, refl, sym, subst, arith}
-use Rattle.std.specs.Prelude.{All, true}
-use Rattle.noc_topo.proofs.ListLemmas.{length-tabulate}
-use Rattle.noc_route.specs.Built.{IsRelationOfRule}
-use Rattle.noc_route.specs.Entered.{routing_in, sets_in, IsEntered}
-use Rattle.noc_route.specs.Gathering.{AreOutsFrom}
-use Rattle.noc_route.specs.Relation.{is_right, row_fault, table_rows_of}
-use Rattle.noc_route.specs.Routes.{width, pages}
-use Rattle.noc_route.specs.Trimming.{routes_in, left_in, IsFirstStuck}
-use Rattle.noc_route.specs.declared.rule.Entry.{Entry}
-use Rattle.noc_route.specs.declared.rule.Rule.{Rule}
-use Rattle.noc_route.specs.declared.sizes.Sizes.{Sizes}
-use Rattle.noc_route.proofs.BuiltLemmas.{ComesNearer-entered, IsMade}
-use Rattle.noc_route.proofs.ColumnLemmas.{all-written}
-use Rattle.noc_route.proofs.NoWayLemmas.{IsMade-steps, IsRelationOfRule-made, IsFirstNoWay-stuck, IsUnstuck-none}
-use Rattle.noc_route.proofs.StuckLemmas.{left_in-at}
+use Rattle.std.proofs.Common.{◌≡◌, ◌∙◌, ap}
+use Rattle.std.specs.Prelude.{replicate}
+use Rattle.std.proofs.lemmas.Result.{err_from_is_err_and}
+use Rattle.noc_route.specs.Entered.{sets_in}
+use Rattle.noc_route.specs.Trimming.{routes_in}
+use Rattle.noc_route.proofs.EntryLemmas.{zeros-at}
+use Rattle.noc_route.proofs.TrimLemmas.{outs-none}
 use Rattle.noc_route.proofs.relation.columns_of.Goals as goal
 
-made-of : (f : Sizes) (rule : Rule) (sets outs : List ℕ) → is_right f.shape f.vcs f.classes rule ≡ true → All (λ row. row_fault f.shape f.vcs f.classes row ≡ None) (table_rows_of rule)
-    → IsEntered (routing_in f rule) (routes_in f sets) → AreOutsFrom (routes_in f sets) 0 outs → IsMade (routing_in f rule) sets (left_in f sets outs) outs
-made-of f rule sets outs right rows entered gathered =
-    IsMade-steps (routing_in f rule) sets (left_in f sets outs) outs f.grid right rows entered gathered.lists.sound (λ m r t place. gathered.full m r t place (omega arith)) (left_in-at f sets outs)
+pub returns-in_err-outs-clause-sizes : goal.returns-in_err-outs-clause-sizes
+returns-in_err-outs-clause-sizes c = let p = err_from_is_err_and c.from_residual.result c.from_residual.ensures.1 in rw p.1 tt
 
-pub gather-requires-clause-nearer : goal.gather-requires-clause-nearer
-gather-requires-clause-nearer c =
-    let f = c.args.routing.now.map.now.sizes in
-    ComesNearer-entered (routing_in f c.args.routing.now.rule.now) (sets_in f c.in_ok-entered.entered)
-    (record { grid = f.grid; right = c.args.routing.now.right; rows = c.in_ok-entered.ensures.rows }) c.in_ok-entered.ensures.entered
+pub returns-in_err-outs-clause-exact : goal.returns-in_err-outs-clause-exact
+returns-in_err-outs-clause-exact c = let p = err_from_is_err_and c.from_residual.result c.from_residual.ensures.1 in rw (p.1, p.2) c.args.routing.now.right
 
-pub returns-in-Some-clause-exact : goal.returns-in-Some-clause-exact
-returns-in-Some-clause-exact c =
+pub returns-in_err-entered-clause-sizes : goal.returns-in_err-entered-clause-sizes
+returns-in_err-entered-clause-sizes c = let p = err_from_is_err_and c.from_residual-in_err-entered.result c.from_residual-in_err-entered.ensures.1 in rw p.1 tt
+
+pub returns-in_err-entered-clause-exact : goal.returns-in_err-entered-clause-exact
+returns-in_err-entered-clause-exact c =
+    let p = err_from_is_err_and c.from_residual-in_err-entered.result c.from_residual-in_err-entered.ensures.1 in rw (p.1, p.2) c.in_err-entered.ensures.err
+
+pub reached_columns-requires-clause-rows : goal.reached_columns-requires-clause-rows
+reached_columns-requires-clause-rows c = c.in_ok-entered.ensures.rows
+
+pub reached_columns-requires-clause-all : goal.reached_columns-requires-clause-all
+reached_columns-requires-clause-all c = c.in_ok-entered.ensures.all
+
+pub reached_columns-requires-clause-entered : goal.reached_columns-requires-clause-entered
+reached_columns-requires-clause-entered c = c.in_ok-entered.ensures.entered
+
+pub reached_columns-requires-clause-outs : goal.reached_columns-requires-clause-outs
+reached_columns-requires-clause-outs c =
     let f = c.args.routing.now.map.now.sizes in
-    let sets = sets_in f c.in_ok-entered.entered in
-    let outs = c.deref.result.now in
-    let same : outs ≡ c.gather.new.outs = c.deref.ensures.value ∙ all-written c.gather.new.outs c.in_ok-outs.outs.items c.in_ok-outs.outs.len (omega (arith, c.gather.ensures.lists.long, c.in_ok-outs.ensures.len, c.pages.ensures.value)) in
-    let made = made-of f c.args.routing.now.rule.now sets outs c.args.routing.now.right c.in_ok-entered.ensures.rows c.in_ok-entered.ensures.entered (subst (AreOutsFrom (routes_in f sets) 0) (sym same) c.gather.ensures) in
-    let P : Option Entry → Type 0 = λ first. IsFirstStuck (routes_in f (left_in f sets outs)) outs (pages f.shape f.classes * width f.shape f.vcs) first in
-    IsFirstNoWay-stuck (routing_in f c.args.routing.now.rule.now) sets (left_in f sets outs) outs c.in-Some.entry made (subst P c.in-Some.is c.in_ok-columns.ensures.first)
+    let outs = c.deref_mut.result.now in
+    let zeros : outs ≡ replicate c.pages.result 0 = c.deref_mut.ensures.value ∙ c.in_ok-outs.ensures.items_if_clones_equal (λ y e. e) ∙ ap (λ set. replicate c.pages.result set) c.empty.ensures.bits in
+    outs-none (routes_in f (sets_in f c.in_ok-entered.entered)) outs (c.deref_mut.ensures.len ∙ c.in_ok-outs.ensures.len ∙ c.pages.ensures.value) (zeros-at outs c.pages.result zeros)
+
+pub returns-clause-sizes : goal.returns-clause-sizes
+returns-clause-sizes c = c.reached_columns.ensures.sizes
 
 pub returns-clause-exact : goal.returns-clause-exact
-returns-clause-exact c =
-    let f = c.args.routing.now.map.now.sizes in
-    let g = routing_in f c.args.routing.now.rule.now in
-    let sets = sets_in f c.in_ok-entered.entered in
-    let outs = c.deref.result.now in
-    let left = left_in f sets outs in
-    let same : outs ≡ c.gather.new.outs = c.deref.ensures.value ∙ all-written c.gather.new.outs c.in_ok-outs.outs.items c.in_ok-outs.outs.len (omega (arith, c.gather.ensures.lists.long, c.in_ok-outs.ensures.len, c.pages.ensures.value)) in
-    let made = made-of f c.args.routing.now.rule.now sets outs c.args.routing.now.right c.in_ok-entered.ensures.rows c.in_ok-entered.ensures.entered (subst (AreOutsFrom (routes_in f sets) 0) (sym same) c.gather.ensures) in
-    let P : Option Entry → Type 0 = λ first. IsFirstStuck (routes_in f left) outs (pages f.shape f.classes * width f.shape f.vcs) first in
-    let unstuck = IsUnstuck-none g left outs (pages f.shape f.classes * width f.shape f.vcs) refl (subst P c.in-None.is c.in_ok-columns.ensures.first) in
-    subst (λ items. IsRelationOfRule g (routes_in f items)) (sym c.in_ok-columns.ensures.table)
-    (IsRelationOfRule-made g sets left outs made unstuck
-    (record {
-      grid = f.grid;
-      some_vcs = f.some_vcs;
-      few_vcs = f.few_vcs;
-      some_classes = f.some_classes;
-      few_classes = f.few_classes;
-      long = length-tabulate _ _;
-    }))
+returns-clause-exact c = c.reached_columns.ensures.exact

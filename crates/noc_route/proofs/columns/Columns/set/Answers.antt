@@ -3,8 +3,24 @@ use Rattle.std.proofs.lemmas.List.{get_or_default}
 use Rattle.noc_topo.specs.Shape.{nodes}
 use Rattle.noc_route.specs.Routes.{width}
 use Rattle.noc_route.proofs.EntryLemmas.{flat-below}
-use Rattle.noc_route.proofs.ColumnLemmas.{table-at}
+use Rattle.noc_route.proofs.ColumnLemmas.{start-within, table-at}
 use Rattle.noc_route.proofs.columns.Columns.set.Goals as goal
+
+pub index-requires : goal.index-requires
+index-requires c =
+    let columns = c.args.self.now in
+    omega (arith, c.column-column.ensures.within, columns.all.long, columns.starts.ok.0)
+
+pub overflow_add-index : goal.overflow_add-index
+overflow_add-index c =
+    let columns = c.args.self.now in
+    let within = start-within columns.sizes columns.starts.items columns.sets.len c.column-column.result c.index.result.now c.args.dst columns.all c.column-column.ensures.within c.requires.dst c.index.ensures in
+    omega (arith, within, columns.sets.ok)
+
+pub index-requires-2 : goal.index-requires-2
+index-requires-2 c =
+    let columns = c.args.self.now in
+    start-within columns.sizes columns.starts.items columns.sets.len c.column-column.result c.index.result.now c.args.dst columns.all c.column-column.ensures.within c.requires.dst c.index.ensures
 
 pub returns : goal.returns
 returns c =

@@ -1,10 +1,11 @@
-use Rattle.std.proofs.Common.{◌≡◌, ℕ, ◌+◌, ◌-◌, ◌*◌, ◌/◌, ◌<◌, ◌∙◌, true, false, ap, arith, get_or, length, sym, subst}
+use Rattle.std.proofs.Common.{◌≡◌, ℕ, ◌+◌, ◌*◌, ◌/◌, ◌<◌, ◌≤◌, ◌∙◌, true, ap, arith, get_or, length, sym, subst}
 use Rattle.std.specs.Prelude.{◌&&◌, nat_eq, nat_le, nat_lt, not, if◌then◌else◌}
 use Rattle.std.proofs.lemmas.Bool.{eq-eqb, eqb-true, ne_eqb}
 use Rattle.std.proofs.lemmas.List.{get_or_default}
 use Rattle.noc_route.specs.Trimming.{routes_in, comes_in}
 use Rattle.noc_route.proofs.BoolLemmas.{and_where}
-use Rattle.noc_route.proofs.TrimLemmas.{port-span_unless, comes_in-local, brought}
+use Rattle.noc_route.proofs.ColumnLemmas.{port-ends}
+use Rattle.noc_route.proofs.TrimLemmas.{port-span_unless, comes_in-local, comes_in-none, brought}
 use Rattle.noc_route.proofs.gather.Departures.arrivals_by.Goals as goal
 use Rattle.noc_route.proofs.gather.Departures.arrivals_by.Goals.{then-router-dst, else-router-dst}
 
@@ -33,3 +34,43 @@ returns-in-Some c = λ sets i.
     c.moved.ensures i
     ∙ brought (routes_in f sets) outs c.args.class c.args.router c.args.dst c.args.port c.in-Some.sender c.in-Some.out_port (get_or outs c.page.result c.index-self-page.result) i f.some_vcs
     (λ home. c.if-port-sizes.false (omega (arith, home, f.all_ports))) (sym c.link.ensures.value ∙ c.in-Some.is) had
+
+pub returns-in-None : goal.returns-in-None
+returns-in-None c = λ sets i.
+    let f = c.args.self.now.map.now.sizes in
+    c.empty.ensures.members i
+    ∙ sym (comes_in-none (routes_in f sets) c.args.self.now.outs.now c.args.class c.args.router c.args.dst c.args.port i (λ home. c.if-port-sizes.false (omega (arith, home, f.all_ports))) (sym c.link.ensures.value ∙ c.in-None.is))
+
+pub overflow_mul-port : goal.overflow_mul-port
+overflow_mul-port c = omega (arith, port-ends c.args.self.now.map.now.sizes c.args.port c.requires.port)
+
+pub span-requires : goal.span-requires
+span-requires c =
+    let f = c.args.self.now.map.now.sizes in
+    let few : c.if-router-dst.count ≤ f.vcs = elim c.if-router-dst.branch [
+      | then-router-dst w ↦ omega (arith, w.count-is)
+      | else-router-dst w ↦ omega (arith, w.count-is)
+    ] in
+    omega (arith, port-ends f c.args.port c.requires.port, few)
+
+pub bounds-self-page : goal.bounds-self-page
+bounds-self-page c = let P : ℕ → Type 0 = λ n. c.page.result < n in subst P (sym c.args.self.now.long) c.page.ensures.within
+
+pub offset_bounds-self-page : goal.offset_bounds-self-page
+offset_bounds-self-page c =
+    let within : c.page.result < length c.args.self.now.outs.now = let P : ℕ → Type 0 = λ n. c.page.result < n in subst P (sym c.args.self.now.long) c.page.ensures.within in
+    omega arith
+
+pub overflow_mul-out_port : goal.overflow_mul-out_port
+overflow_mul-out_port c = omega (arith, port-ends c.args.self.now.map.now.sizes c.in-Some.out_port (omega (arith, c.in-Some.ensures.range.1)))
+
+pub overflow_mul-port-in-Some : goal.overflow_mul-port-in-Some
+overflow_mul-port-in-Some c = omega (arith, port-ends c.args.self.now.map.now.sizes c.args.port c.requires.port)
+
+pub moved-requires-clause-from : goal.moved-requires-clause-from
+moved-requires-clause-from c =
+    let f = c.args.self.now.map.now.sizes in
+    omega (arith, port-ends f c.in-Some.out_port (omega (arith, c.in-Some.ensures.range.1)), f.some_vcs)
+
+pub moved-requires-clause-room : goal.moved-requires-clause-room
+moved-requires-clause-room c = omega (arith, port-ends c.args.self.now.map.now.sizes c.args.port c.requires.port)

@@ -1,12 +1,9 @@
-use Rattle.std.proofs.Common.{◌≡◌, ℕ, ◌/◌, ◌%◌, ◌<◌, List, false, get_or}
+use Rattle.std.proofs.Common.{◌≡◌, ℕ, ◌/◌, ◌%◌, ◌<◌, List, get_or}
 use Rattle.std.specs.Prelude.{◌&&◌, nat_lt}
 use Rattle.noc_packet.specs.Set.{has_bit}
 use Rattle.noc_topo.specs.Shape.{nodes}
 use Rattle.noc_route.specs.Trimming.{routes_in, comes_in}
 use Rattle.noc_route.proofs.gather.Departures.arrive.Given as goal
-
-abbrev pub invariant-loop-dst : goal.invariant-loop-dst
-invariant-loop-dst l = (t i : ℕ) → t < l.dst → has_bit (get_or l.coming t 0) i ≡ false
 
 abbrev pub invariant-loop-port : goal.invariant-loop-port
 invariant-loop-port l =

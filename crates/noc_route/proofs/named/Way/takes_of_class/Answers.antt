@@ -1,9 +1,11 @@
-use Rattle.std.proofs.Common.{◌≡◌, ℕ, ◌/◌, ◌<◌, List, get_or, ap, sym, ◌∙◌, arith}
+use Rattle.std.proofs.Common.{◌≡◌, ℕ, ◌/◌, ◌%◌, ◌<◌, List, get_or, refl, ap, sym, ◌∙◌, arith}
 use Rattle.std.specs.Prelude.{nat_eq}
+use Rattle.std.proofs.lemmas.Bool.{le-leb}
 use Rattle.noc_topo.specs.Shape.{coordinates}
 use Rattle.noc_topo.proofs.LinkLemmas.{get_or-padded}
 use Rattle.noc_route.specs.Relation.{is_right, dateline_class, resource_class, takes_of_class}
 use Rattle.noc_route.proofs.EntryLemmas.{half-some, adaptive-some}
+use Rattle.noc_route.proofs.WayLemmas.{takes-adaptive, takes-all, takes-escape}
 use Rattle.noc_route.proofs.named.Way.takes_of_class.Goals as goal
 
 pub resource_class-requires : goal.resource_class-requires
@@ -32,3 +34,30 @@ returns-in-Dateline c = λ r t w.
     ap (λ a. nat_eq a c.dateline_class.result) c.resource_class.ensures.value
     ∙ ap (λ b. nat_eq (resource_class f.vcs f.classes c.args.vc) b) half
     ∙ ap (λ rule. takes_of_class f.shape f.vcs f.classes rule xs ts c.args.port c.args.vc) (sym c.in-Dateline.is)
+
+pub returns-then-index-escapes : goal.returns-then-index-escapes
+returns-then-index-escapes c = λ r t w.
+    let f = c.args.routing.now.map.now.sizes in
+    le-leb c.escapes.result (c.args.vc % (f.vcs / f.classes)) c.if-index-escapes.true
+    ∙ sym (takes-adaptive f.shape f.vcs f.classes c.args.routing.now.rule.now (coordinates f.shape.radix r) (coordinates f.shape.radix t) c.args.port c.args.vc c.escapes.result c.in-Adaptive.is c.escapes.ensures.value c.if-index-escapes.true)
+
+pub returns-else-index-escapes : goal.returns-else-index-escapes
+returns-else-index-escapes c = λ r t w.
+    let f = c.args.routing.now.map.now.sizes in
+    c.takes_escape.ensures r t c.args.vc w refl
+    ∙ sym (takes-escape f.shape f.vcs f.classes c.args.routing.now.rule.now (coordinates f.shape.radix r) (coordinates f.shape.radix t) c.args.port c.args.vc c.escapes.result c.in-Adaptive.is c.escapes.ensures.value c.if-index-escapes.false)
+
+pub returns-in-Dor : goal.returns-in-Dor
+returns-in-Dor c = λ r t w.
+    let f = c.args.routing.now.map.now.sizes in
+    takes-all f.shape f.vcs f.classes c.args.routing.now.rule.now (coordinates f.shape.radix r) (coordinates f.shape.radix t) c.args.port c.args.vc c.in-Dor.is
+
+pub returns-in-Dor-2 : goal.returns-in-Dor-2
+returns-in-Dor-2 c = λ r t w.
+    let f = c.args.routing.now.map.now.sizes in
+    takes-all f.shape f.vcs f.classes c.args.routing.now.rule.now (coordinates f.shape.radix r) (coordinates f.shape.radix t) c.args.port c.args.vc c.in-Dor.is
+
+pub returns-in-Dor-3 : goal.returns-in-Dor-3
+returns-in-Dor-3 c = λ r t w.
+    let f = c.args.routing.now.map.now.sizes in
+    takes-all f.shape f.vcs f.classes c.args.routing.now.rule.now (coordinates f.shape.radix r) (coordinates f.shape.radix t) c.args.port c.args.vc c.in-Dor.is

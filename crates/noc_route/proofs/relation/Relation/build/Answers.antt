@@ -1,10 +1,10 @@
-use Rattle.std.proofs.Common.{◌≡◌, ℕ, List, true, sym, subst}
+use Rattle.std.proofs.Common.{◌≡◌, true, sym, subst}
 use Rattle.std.proofs.lemmas.Result.{err_from_is_err_and}
-use Rattle.noc_route.specs.Built.{IsRelationOfRule, routing_of}
+use Rattle.noc_route.specs.Built.{IsRelationOfRule}
 use Rattle.noc_route.specs.Columns.{table_of}
 use Rattle.noc_route.specs.Entered.{routing_in}
 use Rattle.noc_route.specs.Relation.{RelationParts, IsFaultOf, is_right}
-use Rattle.noc_route.specs.Routes.{Routes, IsRelation}
+use Rattle.noc_route.specs.Routes.{IsRelation}
 use Rattle.noc_route.specs.Trimming.{routes_in}
 use Rattle.noc_route.specs.declared.sizes.Sizes.{Sizes}
 use Rattle.noc_route.proofs.WayLemmas.{routing_in-sizes}

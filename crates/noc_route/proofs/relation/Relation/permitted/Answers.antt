@@ -1,7 +1,23 @@
-use Rattle.std.proofs.Common.{◌∙◌, ap, sym, get_or}
+use Rattle.std.proofs.Common.{◌<◌, ◌∙◌, ap, subst, sym, get_or}
+use Rattle.noc_topo.specs.Shape.{nodes, ports}
 use Rattle.noc_route.specs.Routes.{Routes, entry_index}
 use Rattle.noc_route.proofs.EntryLemmas.{set_at-existing}
 use Rattle.noc_route.proofs.relation.Relation.permitted.Goals as goal
+
+pub set-requires-clause-class : goal.set-requires-clause-class
+set-requires-clause-class c = subst (λ (routes : Routes). c.args.class < routes.classes) (sym c.self.view_is) c.requires.class
+
+pub set-requires-clause-router : goal.set-requires-clause-router
+set-requires-clause-router c = subst (λ (routes : Routes). c.args.router < nodes routes.grid) (sym c.self.view_is) c.requires.router
+
+pub set-requires-clause-in_port : goal.set-requires-clause-in_port
+set-requires-clause-in_port c = subst (λ (routes : Routes). c.args.in_port < ports routes.grid) (sym c.self.view_is) c.requires.in_port
+
+pub set-requires-clause-in_vc : goal.set-requires-clause-in_vc
+set-requires-clause-in_vc c = subst (λ (routes : Routes). c.args.in_vc < routes.vcs) (sym c.self.view_is) c.requires.in_vc
+
+pub set-requires-clause-dst : goal.set-requires-clause-dst
+set-requires-clause-dst c = subst (λ (routes : Routes). c.args.dst < nodes routes.grid) (sym c.self.view_is) c.requires.dst
 
 pub returns-clause-value : goal.returns-clause-value
 returns-clause-value c =
