@@ -48,7 +48,7 @@ pub fn allocate(
     }
 }
 
-// .. in one router.
+// Allocates the output channels of one router.
 fn allocate_router(
     table: &ChannelTable,
     router: usize,

@@ -66,8 +66,8 @@ pub fn give_back(ports: &RouterPorts, arrived: &Words, vc: &Digits<Words>, marks
     give_back_port(&ports.local, 0, links, arrived, vc, marks);
 }
 
-// .. from those of one port, which is number `j` of those that stand side by side. The local
-// channels stand behind so many link channels.
+// Gives back the local channels by which packets leave from one port, which is number `j` of those
+// that stand side by side. They stand behind so many link channels.
 fn give_back_port(
     side: &Ports,
     j: usize,
@@ -92,7 +92,7 @@ fn give_back_port(
     }
 }
 
-// .. from one channel of these routers.
+// Gives back the local channels by which packets leave from one channel of these routers.
 fn give_back_by(routers: u64, links: usize, vc: &Digits<u64>, marks: &mut Marks)
     requires { links + 8 ≤ CHANNELS }
     ensures idle { (r : ℕ) → r < ROUTERS → slice_index marks.new.idle r

@@ -26,7 +26,7 @@ pub fn add_links(links: &Ports, words: &Words, marks: &mut Marks)
     }
 }
 
-// .. of one port.
+// Those of one port are idle again.
 fn add_port(links: &Ports, port: usize, words: &Words, marks: &mut Marks)
     requires port { port < links.now.width }
     requires fit { (port + 1) * links.now.vcs ≤ CHANNELS }

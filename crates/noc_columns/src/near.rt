@@ -33,7 +33,7 @@ pub fn gather(frame: &Frame, near: &Near, left: &Links<Words>, came: &mut Links<
     }
 }
 
-// .. where it is told whether lines are rings.
+// Gathers from the same block, where it is told whether lines are rings.
 #[inline(always)]
 fn gather_all(frame: &Frame, near: &Near, rings: bool, left: &Links<Words>, came: &mut Links<Words>)
     requires { rings ≡ near.now.rings }

@@ -80,7 +80,7 @@ pub fn pick(
     }
 }
 
-// .. where so many are link ports. (They are a const parameter, so that loops over them are
+// Picks where so many are link ports. (They are a const parameter, so that loops over them are
 // unrolled. What calls this is not to grow by it, or the compiler takes one word at a time.)
 #[inline(never)]
 fn pick_by<const WIDTH: usize>(

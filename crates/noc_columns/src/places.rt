@@ -32,7 +32,7 @@ pub fn near_of(shape: &Shape, vcs: usize, block: usize) -> Near
     near
 }
 
-// .. one step on, or round at the other ends of their lines.
+// Writes the neighbours one step on, or those round at the other ends of their lines.
 fn write_neighbours(
     shape: &Shape,
     vcs: usize,
@@ -74,7 +74,7 @@ pub fn far_of(alloc: Global, shape: &Shape, block: usize, port: usize) -> Result
     Ok(far)
 }
 
-// .. in this one, if there are some.
+// The neighbours by one port that stand in this other block, if there are some.
 fn far_in(shape: &Shape, block: usize, port: usize, round: bool, to: usize) -> Option<Far>
     requires block { ROUTERS * block < MAX_NODES }
     requires port { port < local_port shape.now }
@@ -175,7 +175,7 @@ fn step_of(shape: &Shape, dimension: usize, round: bool) -> usize
     }
 }
 
-// .. one step on.
+// How far apart in number neighbours in a dimension are, one step on.
 fn stride_of(shape: &Shape, dimension: usize) -> usize
     requires { dimension < dimensions shape.now }
     ensures is { result ≡ stride shape.now dimension }

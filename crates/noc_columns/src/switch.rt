@@ -72,8 +72,8 @@ pub fn traverse(
     }
 }
 
-// .. where so many are link ports. (They are a const parameter, so that loops over them are
-// unrolled. What calls this is not to grow by it, or the compiler takes one word at a time.)
+// Traverses where so many are link ports. (They are a const parameter, so that loops over them
+// are unrolled. What calls this is not to grow by it, or the compiler takes one word at a time.)
 #[inline(never)]
 fn traverse_by<const WIDTH: usize>(
     ports: &RouterPorts,

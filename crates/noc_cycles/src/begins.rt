@@ -39,7 +39,7 @@ pub fn begin_packets(
     }
 }
 
-// .. in one channel of these routers.
+// Packets begin in one channel of these routers.
 fn begin_in(
     routers: u64,
     channel: usize,
@@ -64,7 +64,7 @@ fn begin_in(
     }
 }
 
-// .. in one channel of one router.
+// Writes the number of a packet for one channel of one router.
 #[inline(always)]
 pub(crate) fn put_number(packets: &mut [u32; CHANNELS], channel: usize, number: u32)
     requires { channel < CHANNELS }

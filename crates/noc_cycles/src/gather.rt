@@ -45,7 +45,7 @@ pub fn gather_links(
     }
 }
 
-// .. from other blocks by one port, besides what has come already.
+// Gathers what comes from other blocks by one port, besides what has come already.
 fn gather_port(links: &Ports, far: &[Far], left: &[Links<Words>], came: &mut Links<Words>)
     requires first { links.now.first ≡ 0 }
     requires port { (p : ℕ) × LeadBy links.now p (length left.now) far.now }

@@ -22,7 +22,7 @@ pub fn hear(first: usize, notes: &[Note], blocks: &mut [Block])
     }
 }
 
-// .. one of them.
+// One note is heard, by the block of its router.
 fn hear_note(first: usize, one: &Note, blocks: &mut [Block])
     ensures { (b : ℕ) (old new : Block) → slice_get blocks.old b ≡ Some old
         → slice_get blocks.new b ≡ Some new → HasHeard (one.now ∷ []) (first + b) old new }

@@ -52,7 +52,7 @@ pub fn tell(pattern: &Pattern, around: &Around, block: &Block, notes: &mut Vec<N
     }
 }
 
-// .. those in the input channel whose word has this index, if there is one.
+// Notes the grants of the input channel whose word has this index, if there is one.
 #[inline(always)]
 fn tell_word(pattern: &Pattern, around: &Around, block: &Block, index: usize, notes: &mut Vec<Note>)
     requires told { (g : Grid) × (tells : ℕ → ℕ → Option ℕ)
@@ -73,7 +73,7 @@ fn tell_word(pattern: &Pattern, around: &Around, block: &Block, index: usize, no
     }
 }
 
-// .. those in one input channel of its routers.
+// Notes the grants of one input channel of the routers of a block.
 fn tell_channel(
     pattern: &Pattern,
     around: &Around,
