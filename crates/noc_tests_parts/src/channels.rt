@@ -7,56 +7,38 @@ use noc_packet::{ChannelSet, Flit};
 use noc_ring::Bank;
 use noc_route::{Relation, Rule};
 use noc_topo::{Kind, Shape};
-use noc_vc::{InputChannel, InputState, Misfit, OutputChannel, OutputState};
+use noc_vc::{InputChannel, InputState, OutputChannel, OutputState};
 use std::alloc::Global;
 use std::test::Fail;
 
-// What a credit that comes back meets, and what the channel is then.
-fn credit_back(channel: &mut OutputChannel) -> (Result<(), Misfit>, OutputState, Option<usize>) {
-    let answer = channel.credit_back();
-    (answer, channel.state(), channel.credit())
+// Whether an output channel is in this state and has so many credits.
+fn is_output(channel: &OutputChannel, state: OutputState, credit: Option<usize>) -> bool {
+    channel.state() == state && channel.credit() == credit
 }
 
 #[test]
 fn a_link_channel_drains_until_its_last_credit_is_back(rt: HostRuntime) {
     let mut channel = OutputChannel::link(2);
     channel.hold(4, 7);
-    let held = (channel.state(), channel.credit());
+    assert!(rt; is_output(&channel, OutputState::Owned(4, 7), Some(2)));
     channel.spend(false);
     channel.spend(true);
-    let spent = (channel.state(), channel.credit());
-    assert_eq!(rt;
-        [held, spent],
-        [
-            (OutputState::Owned(4, 7), Some(2)),
-            (OutputState::Draining, Some(0)),
-        ]
-    );
-    let backs = [
-        credit_back(&mut channel),
-        credit_back(&mut channel),
-        credit_back(&mut channel),
-    ];
-    assert_eq!(rt;
-        backs,
-        [
-            (Ok(()), OutputState::Draining, Some(1)),
-            (Ok(()), OutputState::Idle, Some(2)),
-            (Err(Misfit), OutputState::Idle, Some(2)),
-        ]
-    );
+    assert!(rt; is_output(&channel, OutputState::Draining, Some(0)));
+    assert!(rt; channel.credit_back().is_ok());
+    assert!(rt; is_output(&channel, OutputState::Draining, Some(1)));
+    assert!(rt; channel.credit_back().is_ok());
+    assert!(rt; is_output(&channel, OutputState::Idle, Some(2)));
+    assert!(rt; channel.credit_back().is_err());
+    assert!(rt; is_output(&channel, OutputState::Idle, Some(2)));
 }
 
 #[test]
 fn an_ejection_channel_is_idle_at_once_and_takes_no_credit(rt: HostRuntime) {
     let mut channel = OutputChannel::ejection();
     channel.hold(0, 3);
-    assert_eq!(rt;
-        (channel.credit_back(), channel.credit()),
-        (Err(Misfit), None)
-    );
+    assert!(rt; channel.credit_back().is_err() && channel.credit().is_none());
     channel.release();
-    assert_eq!(rt; channel.state(), OutputState::Idle);
+    assert!(rt; channel.state() == OutputState::Idle);
 }
 
 // Dimension order on a line of two routers, with one channel on each link.
@@ -79,19 +61,21 @@ fn flit(index: u8) -> Flit {
     }
 }
 
+// Whether an input channel is in this state and has this packet.
+fn is_input(channel: &InputChannel, state: InputState, packet: Option<u32>) -> bool {
+    channel.state() == state && channel.packet() == packet
+}
+
 // Whether a flit lands on the channel that arrives at router 1 from router 0.
-fn land(
-    channel: &mut InputChannel,
-    bank: &mut Bank,
-    relation: &Relation,
-    index: u8,
-) -> Result<(), Misfit>
+fn land(channel: &mut InputChannel, bank: &mut Bank, relation: &Relation, index: u8) -> bool
     requires ring { 0 < length bank.old.rings }
     requires grid { relation.now.grid ≡ record { wraps = false; radix = 2 ∷ [] } }
     requires vcs { relation.now.vcs ≡ 1 }
     ensures { length bank.new.rings ≡ length bank.old.rings }
 {
-    channel.land(bank, 0, relation, 1, 1, 0, flit(index))
+    channel
+        .land(bank, 0, relation, 1, 1, 0, flit(index))
+        .is_ok()
 }
 
 // Routes the packet of a channel to output channel 2 alone, if it is idle and has one.
@@ -127,51 +111,31 @@ fn inject(channel: &mut InputChannel, bank: &mut Bank, index: u8) -> bool
     true
 }
 
-// Sends the first flit of a channel, if it is active and has one.
-fn send(channel: &mut InputChannel, bank: &mut Bank) -> Option<Flit>
+// Whether the first flit of a channel is this one. It is sent, if the channel is active and has one.
+fn sends(channel: &mut InputChannel, bank: &mut Bank, index: u8) -> bool
     requires { 0 < length bank.old.rings }
     ensures { length bank.new.rings ≡ length bank.old.rings }
 {
     let InputState::Active(_) = channel.state() else {
-        return None;
+        return false;
     };
-    if bank.len(0) == 0 {
-        return None;
-    }
-    Some(channel.send(bank, 0))
+    bank.len(0) > 0 && channel.send(bank, 0) == flit(index)
 }
 
 // It takes a head, and none behind it until that is routed; then what follows,
 // as far as there is room.
 #[test]
 fn an_input_channel_takes_one_packet(rt: HostRuntime) -> Result<(), Fail> {
-    let mut bank = Bank::new(rt.alloc(), 1, 2)?;
     let line = line_of_two(rt.alloc())?;
+    let mut bank = Bank::new(rt.alloc(), 1, 2)?;
     let mut channel = InputChannel::new();
-    let body_first = land(&mut channel, &mut bank, &line, 1);
-    let before = channel.packet();
-    let head = land(&mut channel, &mut bank, &line, 0);
-    let held = (channel.state(), channel.packet());
-    let body_early = land(&mut channel, &mut bank, &line, 1);
-    let is_routed = route(&mut channel);
-    let tail_early = land(&mut channel, &mut bank, &line, 2);
-    let body = land(&mut channel, &mut bank, &line, 1);
-    let tail = land(&mut channel, &mut bank, &line, 2);
-    assert_eq!(rt;
-        [body_first, head, body_early, tail_early, body, tail],
-        [
-            Err(Misfit),
-            Ok(()),
-            Err(Misfit),
-            Err(Misfit),
-            Ok(()),
-            Err(Misfit),
-        ]
-    );
-    assert_eq!(rt;
-        (before, held, is_routed, bank.len(0)),
-        (None, (InputState::Idle, Some(7)), true, 2)
-    );
+    assert!(rt; !land(&mut channel, &mut bank, &line, 1) && channel.packet().is_none());
+    assert!(rt; land(&mut channel, &mut bank, &line, 0));
+    assert!(rt; is_input(&channel, InputState::Idle, Some(7)));
+    assert!(rt; !land(&mut channel, &mut bank, &line, 1) && route(&mut channel));
+    assert!(rt; !land(&mut channel, &mut bank, &line, 2));
+    assert!(rt; land(&mut channel, &mut bank, &line, 1));
+    assert!(rt; !land(&mut channel, &mut bank, &line, 2) && bank.len(0) == 2);
     Ok(())
 }
 
@@ -180,38 +144,15 @@ fn an_input_channel_takes_one_packet(rt: HostRuntime) -> Result<(), Fail> {
 fn an_input_channel_is_free_behind_its_tail(rt: HostRuntime) -> Result<(), Fail> {
     let mut bank = Bank::new(rt.alloc(), 1, 2)?;
     let mut channel = InputChannel::new();
-    let head_in = inject(&mut channel, &mut bank, 0);
-    let is_routed = route(&mut channel);
-    let routed = (channel.state(), channel.packet());
-    let is_granted = grant(&mut channel);
-    let head = send(&mut channel, &mut bank);
-    let active = (channel.state(), channel.packet());
-    let body_in = inject(&mut channel, &mut bank, 1);
-    let tail_in = inject(&mut channel, &mut bank, 2);
-    let body = send(&mut channel, &mut bank);
-    let behind_body = (channel.state(), channel.packet());
-    let tail = send(&mut channel, &mut bank);
-    assert_eq!(rt;
-        [head_in, is_routed, is_granted, body_in, tail_in],
-        [true; 5]
-    );
-    assert_eq!(rt;
-        [head, body, tail],
-        [Some(flit(0)), Some(flit(1)), Some(flit(2))]
-    );
-    assert_eq!(rt;
-        [
-            routed,
-            active,
-            behind_body,
-            (channel.state(), channel.packet())
-        ],
-        [
-            (InputState::Waiting(ChannelSet::empty().with(2)), Some(7)),
-            (InputState::Active(2), Some(7)),
-            (InputState::Active(2), Some(7)),
-            (InputState::Idle, None),
-        ]
-    );
+    assert!(rt; inject(&mut channel, &mut bank, 0) && route(&mut channel));
+    let waiting = InputState::Waiting(ChannelSet::empty().with(2));
+    assert!(rt; is_input(&channel, waiting, Some(7)));
+    assert!(rt; grant(&mut channel) && sends(&mut channel, &mut bank, 0));
+    assert!(rt; is_input(&channel, InputState::Active(2), Some(7)));
+    assert!(rt; inject(&mut channel, &mut bank, 1) && inject(&mut channel, &mut bank, 2));
+    assert!(rt; sends(&mut channel, &mut bank, 1));
+    assert!(rt; is_input(&channel, InputState::Active(2), Some(7)));
+    assert!(rt; sends(&mut channel, &mut bank, 2));
+    assert!(rt; is_input(&channel, InputState::Idle, None));
     Ok(())
 }

@@ -3,31 +3,19 @@
 use noc_topo::{Kind, Shape, ShapeFault};
 use std::test::Fail;
 
-// Where a port of a node leads, if both exist.
-fn leads(shape: &Shape, node: usize, port: usize) -> Option<(usize, usize)> {
-    if node < shape.nodes() && port < shape.ports() {
-        shape.neighbour(node, port)
-    } else {
-        None
-    }
+// Whether a port of a node leads there, if both exist.
+fn leads(shape: &Shape, node: usize, port: usize, to: Option<(usize, usize)>) -> bool {
+    node < shape.nodes() && port < shape.ports() && shape.neighbour(node, port) == to
 }
 
 #[test]
 fn torus_of_two_by_three_leads_round(rt: HostRuntime) -> Result<(), Fail> {
     let torus = Shape::new(Kind::Torus, &[2, 3])?;
-    assert!(rt; torus.kind() == Kind::Torus);
-    assert!(rt; torus.dimensions() == 2);
-    assert!(rt; torus.nodes() == 6);
-    assert_eq!(rt; [torus.ports(), torus.radix(0), torus.radix(1)], [5, 2, 3]);
-    assert_eq!(rt;
-        [
-            leads(&torus, 5, 0),
-            leads(&torus, 5, 1),
-            leads(&torus, 5, 2),
-            leads(&torus, 5, 4),
-        ],
-        [Some((4, 1)), Some((4, 0)), Some((1, 3)), None]
-    );
+    assert!(rt; torus.kind() == Kind::Torus && torus.dimensions() == 2);
+    assert!(rt; torus.nodes() == 6 && torus.ports() == 5);
+    assert!(rt; torus.radix(0) == 2 && torus.radix(1) == 3);
+    assert!(rt; leads(&torus, 5, 0, Some((4, 1))) && leads(&torus, 5, 1, Some((4, 0))));
+    assert!(rt; leads(&torus, 5, 2, Some((1, 3))) && leads(&torus, 5, 4, None));
     assert!(rt; torus.distance(0, 5) == 2);
     Ok(())
 }
@@ -35,32 +23,26 @@ fn torus_of_two_by_three_leads_round(rt: HostRuntime) -> Result<(), Fail> {
 #[test]
 fn mesh_of_four_by_three_has_borders(rt: HostRuntime) -> Result<(), Fail> {
     let mesh = Shape::new(Kind::Mesh, &[4, 3])?;
-    assert!(rt; mesh.kind() == Kind::Mesh);
-    assert!(rt; mesh.nodes() == 12);
-    assert_eq!(rt;
-        [leads(&mesh, 3, 0), leads(&mesh, 3, 2)],
-        [None, Some((7, 3))]
-    );
+    assert!(rt; mesh.kind() == Kind::Mesh && mesh.nodes() == 12);
+    assert!(rt; leads(&mesh, 3, 0, None) && leads(&mesh, 3, 2, Some((7, 3))));
     assert!(rt; mesh.coordinates(11) == [3, 2, 0]);
     assert!(rt; mesh.distance(0, 11) == 5);
     Ok(())
 }
 
+// Shapes, and their first faults.
+const FAULTS: &[(Kind, &[usize], Option<ShapeFault>)] = &[
+    (Kind::Mesh, &[17, 2, 2, 2], Some(ShapeFault::BadDimensions)),
+    (Kind::Torus, &[], Some(ShapeFault::BadDimensions)),
+    (Kind::Mesh, &[1], Some(ShapeFault::BadRadix)),
+    (Kind::Mesh, &[17], Some(ShapeFault::BadRadix)),
+    (Kind::Torus, &[16, 16, 2], Some(ShapeFault::TooManyNodes)),
+    (Kind::Mesh, &[16, 16], None),
+];
+
 #[test]
 fn faults_come_in_their_order(rt: HostRuntime) {
-    let dimensions = [
-        Shape::new(Kind::Mesh, &[17, 2, 2, 2]).err(),
-        Shape::new(Kind::Torus, &[]).err(),
-    ];
-    assert_eq!(rt; dimensions, [Some(ShapeFault::BadDimensions); 2]);
-    let radices = [
-        Shape::new(Kind::Mesh, &[1]).err(),
-        Shape::new(Kind::Mesh, &[17]).err(),
-    ];
-    assert_eq!(rt; radices, [Some(ShapeFault::BadRadix); 2]);
-    let nodes = [
-        Shape::new(Kind::Torus, &[16, 16, 2]).err(),
-        Shape::new(Kind::Mesh, &[16, 16]).err(),
-    ];
-    assert_eq!(rt; nodes, [Some(ShapeFault::TooManyNodes), None]);
+    for (kind, radix, fault) in FAULTS {
+        assert!(rt; Shape::new(*kind, radix).err() == *fault);
+    }
 }
