@@ -1,13 +1,11 @@
 -- What a waiting channel asks for.
-use Rattle.std.proofs.Common.{◌≡◌, ℕ, ◌-◌, ◌^◌, ◌<◌, ◌≤◌, true, Option, Some, None, ap, sym, ◌∙◌, arith, inl, inr, w64, bit_and}
+use Rattle.std.proofs.Common.{◌≡◌, ℕ, ◌-◌, ◌^◌, ◌<◌, ◌≤◌, true, Some, None, ap, sym, ◌∙◌, arith, inl, inr, w64, bit_and}
 use Rattle.std.specs.Prelude.{nat_eq, ◌⊎◌, ◌&&◌, find, if◌then◌else◌}
 use Rattle.std.specs.Int.{trailing_zeros}
 use Rattle.std.proofs.lemmas.Bool.{eq-eqb, ne_eqb, cases_lt, and_parts}
-use Rattle.noc_topo.specs.Lists.{below, is_some_of}
+use Rattle.noc_topo.specs.Lists.{below}
 use Rattle.noc_packet.specs.Set.{has_bit, IsLeast}
 use Rattle.noc_packet.proofs.SetLemmas.{both_members, has_bit-zero}
-use Rattle.noc_alloc.specs.Arbiter.{first_in_turn}
-use Rattle.noc_alloc.proofs.ArbiterLemmas.{first_in_turn-same}
 use Rattle.noc_alloc.specs.Members.{MembersAreBelow}
 use Rattle.noc_vc.specs.Output.{is_free}
 use Rattle.noc_view.specs.View.{View, size_of, view_output, asked_for, local_channel, is_vacant}
@@ -35,11 +33,6 @@ asked-is v idle set fits below_size is = at (cases_lt 0 (bit_and set idle))
         let z : bit_and set idle ≡ 0 = omega arith in
         find-none (λ o. has_bit set o && is_free (view_output v o).holder) (size_of v.site) (λ k l. both k l ∙ ap (λ m. has_bit m k) z ∙ has_bit-zero k)
         ∙ sym (ap (λ b. if b then None else Some (trailing_zeros w64 (bit_and set idle))) (eq-eqb (bit_and set idle) 0 z))
-
--- a grant: the first in turn of those that ask for the channel, which is given in a word, is
--- `grant_of` the asks
-pub grant-is : (n p o requests : ℕ) (asks : ℕ → Option ℕ) → ((k : ℕ) → k < n → has_bit requests k ≡ is_some_of (asks k) o) → first_in_turn n p (has_bit requests) ≡ first_in_turn n p (λ k. is_some_of (asks k) o)
-grant-is n p o requests asks same = first_in_turn-same n p (has_bit requests) (λ k. is_some_of (asks k) o) same
 
 -- the lowest vacant local channel: `least(free)`, where the word has just those that are vacant
 pub vacant-is : (v : View) (free : ℕ) → free < 2 ^ 64 → ((i : ℕ) → has_bit free i ≡ true → (local_channel v.site 0 ≤ i) × (i < local_channel v.site v.site.vcs))

@@ -17,4 +17,3 @@ pub mod SourceLemmas
 pub mod TailLemmas
 pub mod DistanceLemmas
 pub mod GatherLemmas
-pub mod TimesLemmas

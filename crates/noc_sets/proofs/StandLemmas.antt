@@ -1,7 +1,7 @@
 -- What each channel can do, and its verdict.
 use Rattle.std.proofs.Common.{◌≡◌, ℕ, ◌+◌, ◌*◌, ◌/◌, ◌%◌, ◌^◌, ◌<◌, ◌≤◌, Bool, true, false, length, Option, Some, None, refl, ap, sym, ◌∙◌, arith, bit_and, bit_or, get_or}
 use Rattle.std.specs.Prelude.{◌&&◌, ◌||◌, not, is_some, slice_index, slice_index_or}
-use Rattle.std.proofs.lemmas.Bool.{false≢true, true≢false, and_parts, eqb-true}
+use Rattle.std.proofs.lemmas.Bool.{true≢false, and_parts}
 use Rattle.std.proofs.lemmas.Nat.{div-add-mod', mod_below, div_below, mul-add-lt}
 use Rattle.std.proofs.lemmas.List.{get_or-map}
 use Rattle.noc_topo.specs.Lists.{is_some_of}
@@ -29,11 +29,7 @@ use Rattle.noc_sets.specs.Sets.{less}
 use Rattle.noc_sets.specs.Turns.{ArePicked, ShowsPointer}
 use Rattle.noc_sets.specs.Column.{Column, AreWords, ShowsChannels}
 use Rattle.noc_sets.specs.Passes.{lane_heads, lane_ready, lane_no_flit, lane_no_idle_channel, lane_no_credit}
-use Rattle.noc_sets.proofs.MemberLemmas.{less_members, and_fits}
-
-is_some_of-true : (o : Option ℕ) (x : ℕ) → is_some_of o x ≡ true → o ≡ Some x
-is_some_of-true None x e = absurd (false≢true e)
-is_some_of-true (Some y) x e = ap Some (eqb-true y x e)
+use Rattle.noc_sets.proofs.MemberLemmas.{less_members}
 
 -- the channels with a flit
 pub record AreFilled (v : View) (filled : ℕ) : Type 0 where
@@ -53,9 +49,6 @@ module _ (count : ℕ) (c : Column) (v : View) (filled : ℕ) (words : AreWords 
 
   ready-bit : (i : ℕ) → has_bit (lane_ready filled c) i ≡ ((has_bit c.active i && has_bit filled i) && has_bit c.supplied i)
   ready-bit i = both_members (bit_and c.active filled) c.supplied i ∙ ap (λ b. b && has_bit c.supplied i) (both_members c.active filled i)
-
-  pub ready-fits : lane_ready filled c < 2 ^ 64
-  ready-fits = and_fits (bit_and c.active filled) c.supplied (and_fits c.active filled words.active)
 
   no_credit-bit : (i : ℕ) → has_bit (lane_no_credit filled c) i ≡ ((has_bit c.active i && has_bit filled i) && not ((has_bit c.active i && has_bit filled i) && has_bit c.supplied i))
   no_credit-bit i =

@@ -34,10 +34,6 @@ lower vcs y d t some l u =
     omega arith
 
 module _ (vcs ports asks mask pointer : ℕ) (port_asks : ℕ → Bool) (are : AreAsking vcs ports asks port_asks) (few : pointer < ports) (shows : ShowsPorts vcs ports mask pointer) where
-  alone : (b : Bool) → (b && true) ≡ b
-  alone true = refl
-  alone false = refl
-
   -- no port below the least channel of a set asks by a channel of the set
   silent : (set t y : ℕ) → IsLeast (has_bit set) (Some t) → ((d : ℕ) → d < vcs → has_bit asks (y * vcs + d) ≡ true → has_bit set (y * vcs + d) ≡ true) → y < ports → y < t / vcs → port_asks y ≡ false
   silent set t y least among ly lu = at (port_asks y) refl

@@ -37,9 +37,6 @@ lane_landed bits came c = bit_or came (lane_injected bits c)
 abbrev pub lane_filled : List ℕ → ℕ → Column → ℕ
 lane_filled bits came c = bit_or (any_from 0 c.len) (lane_landed bits came c)
 
-abbrev pub with_flits : List ℕ → ℕ → Column → Column
-with_flits bits came c = record c { len = raised_by c.len (lane_landed bits came c) }
-
 -- the local channels that may begin a packet
 abbrev pub lane_free : ℕ → Column → ℕ
 lane_free local c = less local (bit_or (bit_or c.waiting c.active) (any_from 0 c.len))

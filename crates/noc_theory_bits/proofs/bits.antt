@@ -8,13 +8,11 @@ pub mod CycleLemmas
 pub mod EndedLemmas
 pub mod FoundLemmas
 pub mod FreezeLemmas
-pub mod HeadLemmas
 pub mod HolderLemmas
 pub mod NetworkLemmas
 pub mod OpeningLemmas
 pub mod OwnLemmas
 pub mod PacketLemmas
 pub mod ThroughLemmas
-pub mod TimesLemmas
 pub mod WireLemmas
 pub mod KnownLemmas

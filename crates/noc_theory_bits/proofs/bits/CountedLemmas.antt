@@ -89,10 +89,6 @@ module _ (net : Setup) (setup : IsGoodSetup net) (n r : ℕ) (l : r < nodes net.
       let t = taken-rest (view_at net n r) (taken_view net setup n r l) (beats-taken net setup n r l few).rest in
       (k.0 ∙ t.0, k.1 ∙ t.1, k.2)
 
-  site-next : (view_at net (suc n) r).site ≡ (view_at net n r).site
-  unfolding view_at view_in
-  site-next = refl
-
   counts-many : length (view_at net n r).counts ≡ size_of (view_at net n r).site
   unfolding view_at view_in
   counts-many = length-tabulate (size net) (counts_before net n r)

@@ -73,9 +73,6 @@ module _ {count : ℕ} (net : Setup) (setup : IsGoodSetup net) (n r : ℕ) (l : 
   abbrev row : List Beat
   row = beats_at (beats_in net (state_at net n)) r
 
-  abbrev begins : ℕ
-  begins = lane_begins layout.local n b.source.due b.column
-
   abbrev went : ℕ
   went = bit_or (lane_injected layout.places b.column) (lowest (lane_begins layout.local n b.source.due b.column))
 

@@ -16,7 +16,7 @@ use Rattle.noc_packet.specs.Packet.{flit_at}
 use Rattle.noc_route.specs.Channel.{Channel, Link, Inject, Eject, is_link}
 use Rattle.noc_route.specs.Routes.{permits}
 use Rattle.noc_vc.specs.Input.{Input}
-use Rattle.noc_vc.specs.Output.{Output, ejection_output, is_free}
+use Rattle.noc_vc.specs.Output.{Output, ejection_output}
 use Rattle.noc_vc.specs.declared.output.OutputState.TheVariants.{Owned, Draining}
 use Rattle.noc_view.specs.View.{Site, View, size_of, view_buffer, view_input, view_output, view_round, decisions_of, idle_beat}
 use Rattle.noc_view.specs.Verdict.{Round}
@@ -83,18 +83,6 @@ module _ (net : Setup) (S : State) (r : ℕ) (v : View) (seen : IsSeen net S r v
           sent : (b : Bool) → (if b then Draining else Owned (seen_sender net S r (leaving net r o)) q) ≡ Owned k p → Some q ≡ Some p
           sent true m = absurd (cc m)
           sent false m = let same : q ≡ p = cc in ap Some same
-
-  -- where it is free, nobody owns it
-  pub owner-free : (o : ℕ) → o < size net → is_free (view_output v o).holder ≡ true → owner_of net S (leaving net r o) ≡ None
-  owner-free o l e = by (owner_of net S (leaving net r o)) (sym (ap is_free (seen-holder o l)) ∙ e)
-    where
-      by : (q : Option ℕ) → is_free (seen_holder net S r (leaving net r o) q) ≡ true → q ≡ None
-      by None h = refl
-      by (Some q) h = absurd (sent (is_link (leaving net r o) && (is_on (leaving net r o) (tail_place net S q) || has_come net (leaving net r o) (packet_at net q).destination (tail_place net S q))) h)
-        where
-          sent : (b : Bool) → is_free (if b then Draining else Owned (seen_sender net S r (leaving net r o)) q) ≡ true → ⊥
-          sent true m = false≢true m
-          sent false m = false≢true m
 
 -- ---- over a link
 module _ (net : Setup) (setup : IsGoodSetup net) (r : ℕ) (l : r < nodes net.relation.grid) (i to port : ℕ) (e : neighbour net.relation.grid r (i / net.relation.vcs) ≡ Some (to, port)) where

@@ -1,6 +1,6 @@
 -- The flits in the buffers of a router, and on the wires to it, are flits of packets within the
 -- limits: they fit the bits of a word.
-use Rattle.std.proofs.Common.{◌≡◌, ℕ, ◌^◌, ◌<◌, List, Option, Some, None, sym, subst, arith}
+use Rattle.std.proofs.Common.{◌≡◌, ℕ, ◌^◌, ◌<◌, List, Option, Some, None, sym, subst}
 use Rattle.noc_topo.specs.Lists.{Has}
 use Rattle.noc_topo.specs.Shape.{nodes}
 use Rattle.noc_packet.specs.Packet.{flit_at}
@@ -9,15 +9,10 @@ use Rattle.noc_view.specs.View.{View, view_buffer}
 use Rattle.noc_theory.specs.Good.{IsGoodSetup, IsValid}
 use Rattle.noc_theory.specs.Lockstep.{seen_flits}
 use Rattle.noc_theory.specs.Network.{Setup, State, Located, size, arriving, packet_at, is_in, buffer_of, frozen_at}
-use Rattle.noc_theory.proofs.join.LockstepTheoremLemmas.{are-short}
 use Rattle.noc_theory.proofs.worms.MemberLemmas.{Has-filter, Has-map}
 use Rattle.noc_theory.specs.Seen.{IsSeen}
 use Rattle.noc_theory_bits.proofs.network.NetworkLemmas.{good, frozen_view, frozen-seen, steady-still}
 use Rattle.noc_theory_bits.proofs.network.SteadyLemmas.{IsSteady}
-
--- the bits that a word has for each part of a flit
-abbrev pub FitsBits : Flit → Type 0
-FitsBits f = (f.packet < 2 ^ 64) × (f.index < 2 ^ 7) × (f.dst < 2 ^ 8) × (f.class < 2 ^ 2)
 
 module _ (net : Setup) (setup : IsGoodSetup net) where
   -- a flit of a packet of the network
@@ -26,19 +21,6 @@ module _ (net : Setup) (setup : IsGoodSetup net) where
     pub index : ℕ
     pub valid : IsValid net packet index
     pub is : f ≡ flit_at (packet_at net packet) packet index
-
-  pub flit-fits : (f : Flit) → IsFlitOf f → FitsBits f
-  flit-fits f one =
-      let p = (good net setup).packets one.packet one.valid.0 in
-      let few = setup.few_packets in
-      let number = one.valid.0 in
-      let index = one.valid.1 in
-      let length = are-short net setup one.packet one.valid.0 in
-      let nodes = setup.relation.table.grid.few_nodes in
-      let goal = p.destination in
-      let class = p.class in
-      let classes = setup.relation.table.few_classes in
-      subst (λ (g : Flit). FitsBits g) (sym one.is) (omega (arith, few, number), omega (arith, index, length), omega (arith, goal, nodes), omega (arith, class, classes))
 
   -- the flits in a buffer
   pub buffer-flits : (S : State) → IsSteady net (good net setup) S → (r : ℕ) (v : View) → IsSeen net S r v → (i : ℕ) → i < size net → (f : Flit) → Has f (view_buffer v i) → IsFlitOf f

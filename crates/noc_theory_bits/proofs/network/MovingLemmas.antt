@@ -1,11 +1,10 @@
 -- The channels whose flits move in a cycle, as a set.
 use Rattle.std.proofs.Common.{◌≡◌, ℕ, ◌/◌, ◌%◌, ◌^◌, ◌<◌, ◌≤◌, Bool, true, false, None, refl, ap, sym, ◌∙◌, arith, inl, inr}
 use Rattle.std.specs.Prelude.{◌⊎◌, ◌&&◌, ◌||◌, nat_eq, nat_lt, slice_index_or, if◌then◌else◌}
-use Rattle.std.proofs.lemmas.Bool.{and_parts, cases_lt, eq-eqb, le-ltb, lt-ltb, ltb-true, ne_eqb}
+use Rattle.std.proofs.lemmas.Bool.{cases_lt, eq-eqb, le-ltb, lt-ltb, ne_eqb}
 use Rattle.noc_topo.specs.Lists.{is_some_of}
 use Rattle.noc_packet.specs.Set.{has_bit}
 use Rattle.noc_packet.proofs.SetLemmas.{has_bit-zero}
-use Rattle.noc_alloc.specs.Members.{MembersAreBelow}
 use Rattle.noc_view.specs.States.{is_won_from}
 use Rattle.noc_view.specs.View.{View, size_of, view_input, view_round}
 use Rattle.noc_theory.specs.Network.{Setup}
@@ -61,9 +60,6 @@ moves_in v = set_below (size_of v.site) (is_moving_in v)
 
 pub moves-are : (v : View) → AreMoved v (moves_in v)
 moves-are v = record { each = λ k l. set-members (size_of v.site) (is_moving_in v) k ∙ ap (λ b. b && is_moving_in v k) (lt-ltb k (size_of v.site) l) }
-
-pub moves-below : (v : View) → MembersAreBelow (size_of v.site) (moves_in v)
-moves-below v k e = ltb-true k (size_of v.site) (and_parts (nat_lt k (size_of v.site)) (is_moving_in v k) (sym (set-members (size_of v.site) (is_moving_in v) k) ∙ e)).0
 
 -- by router, the channels that move in cycle n of a network
 abbrev pub moves_at : Setup → ℕ → ℕ → ℕ

@@ -1,5 +1,5 @@
 -- Beats are taken and a flit is injected: the words of a lane show the view after it.
-use Rattle.std.proofs.Common.{◌≡◌, ℕ, ◌+◌, ◌/◌, ◌%◌, ◌^◌, ◌<◌, ◌≤◌, Bool, true, length, Option, Some, None, IfSome, ap, sym, ◌∙◌, subst, arith, inl, inr, bit_or, List}
+use Rattle.std.proofs.Common.{◌≡◌, ℕ, ◌+◌, ◌/◌, ◌%◌, ◌^◌, ◌<◌, ◌≤◌, Bool, true, length, Option, Some, None, IfSome, ap, sym, ◌∙◌, subst, arith, bit_or, List}
 use Rattle.std.specs.Prelude.{is_some, nat_lt}
 use Rattle.std.proofs.lemmas.Bool.{false≢true, and_parts, ltb-true, lt-ltb}
 use Rattle.noc_topo.specs.Lists.{one_if}
@@ -11,13 +11,11 @@ use Rattle.noc_vc.specs.Output.{Output, credit_fits, credit_fits_at}
 use Rattle.noc_vc.specs.declared.output.OutputState.TheVariants.{Owned}
 use Rattle.noc_view.specs.States.{is_supplied}
 use Rattle.noc_view.specs.View.{View, size_of, view_buffer, view_input, view_output}
-use Rattle.noc_sets.specs.Taken.{landed_by, HasTaken}
-use Rattle.noc_sets.specs.Injected.{injected_to, HasInjected}
+use Rattle.noc_sets.specs.Taken.{HasTaken}
 use Rattle.noc_sets.specs.Column.{Column, RouterMarks, AreWords, ShowsOutput, ShowsChannels, IsTidy, is_draining}
-use Rattle.noc_sets.specs.Passes.{lane_raised, lane_landed, with_credits, AreOwners}
+use Rattle.noc_sets.specs.Passes.{lane_raised, with_credits, AreOwners}
 use Rattle.noc_sets.proofs.CreditLemmas.{credited-shows, supplied-shows}
 use Rattle.noc_sets.proofs.FlitLemmas.{phase-kept}
-use Rattle.noc_sets.proofs.TakenLemmas.{IsEither}
 use Rattle.noc_sets.specs.Planes.{AreAll}
 
 -- a word of credits, by the channels to which one comes
@@ -65,21 +63,3 @@ module _ (relation : Routes) (count : ℕ) (c : Column) (m : RouterMarks) (v w :
           let parts = and_parts (nat_lt (length (view_buffer v i)) v.site.depth) (is_expected relation v.site.node (i / v.site.vcs) (i % v.site.vcs) (view_buffer v i) (view_input v i) f (view_input v i).phase) h in
           let less_than : length (view_buffer v i) < v.site.depth = ltb-true (length (view_buffer v i)) v.site.depth parts.0 in
           omega arith
-
-  -- the input channels, once flits have landed and one was injected
-  module _ (x : View) (new : Option (ℕ × Flit)) (injected : HasInjected w x new) (came : ℕ) (came_fits : came < 2 ^ 64) (flits : ℕ → Option Flit)
-      (one : (i : ℕ) → i < size_of v.site → IsEither None (flit i) (injected_to w new i) (flits i))
-      (is : (i : ℕ) → i < size_of v.site → has_bit (lane_landed bits came c) i ≡ is_some (flits i))
-      (left : (i : ℕ) → i < size_of v.site → length (view_buffer v i) + one_if (is_some (flits i)) ≤ v.site.depth) where
-    same_site : w.site ≡ v.site
-    same_site = ap (λ (y : View). y.site) taken.rest
-
-    within : (i : ℕ) → i < size_of v.site → i < size_of w.site
-    within i l = rw same_site l
-
-    input-is : (i : ℕ) → i < size_of v.site → view_input x i ≡ landed_by (view_input v i) (flits i)
-    input-is i l = at (one i l)
-      where
-        at : IsEither None (flit i) (injected_to w new i) (flits i) → view_input x i ≡ landed_by (view_input v i) (flits i)
-        at (inl y) = injected.input i (within i l) ∙ ap (λ (z : Input). landed_by z (injected_to w new i)) (taken.input i l ∙ ap (landed_by (view_input v i)) y.0) ∙ ap (landed_by (view_input v i)) (sym y.1)
-        at (inr y) = injected.input i (within i l) ∙ ap (landed_by (view_input w i)) y.0 ∙ taken.input i l ∙ ap (landed_by (view_input v i)) (sym y.1)

@@ -62,10 +62,6 @@ module _ {count : ℕ} (relation : Routes) (layout : Layout) (x : Surroundings) 
     (picks : ArePicked v.site.vcs (ports v.site.grid) (lane_ready x.filled a.column) a.column.ahead x.picked) (put : ShowsChosen relation x.filled a b outs v) (w : RouterMarks) (e : Effects) (supplied : ℕ)
     (switched : HasSwitched v.site.vcs (ports v.site.grid) x.picked (single_in layout.links a.column) x.tail b.marks w e b.column.supplied supplied)
     (heads_are : e.heads ≡ lane_heads x.filled a.column) (granted_are : e.granted ≡ b.granted) where
-  -- the view once this has taken effect
-  abbrev pub after : View
-  after = view_after_commit (decisions_of relation v) v
-
   -- the verdict of a channel, by the sets that say so
   verdict-is : (k : ℕ) → k < size_of v.site
       → decided_verdict (decisions_of relation v) k

@@ -26,7 +26,7 @@ use Rattle.noc_sets.specs.Column.{Column, RouterMarks, IsColumn, IsTidy, ShowsHo
 use Rattle.noc_sets.specs.Injected.{HasInjected, injected_to, injection_from, injection_in}
 use Rattle.noc_sets.specs.Passes.{AreOwners, frozen_column, lane_begins, lane_filled, lane_home, lane_injected, lane_landed, lane_raised}
 use Rattle.noc_sets.specs.Planes.{any_from, plane_number, raised_by, wrong_from, AreAll}
-use Rattle.noc_sets.specs.Source.{ShowsNext, ShowsQueue, ShowsSource, begun_source, due_of, sent_source, Source, Start, NEVER}
+use Rattle.noc_sets.specs.Source.{ShowsNext, ShowsQueue, ShowsSource, begun_source, due_of, Source, Start, NEVER}
 use Rattle.noc_sets.specs.Taken.{HasSize, HasTaken, credit_from, credited_by, flit_from, with_one}
 use Rattle.noc_sets.proofs.MemberLemmas.{and_fits, below_fits, less_members, or_fits, xor_members, lowest_fits}
 use Rattle.noc_sets.proofs.FlitLemmas.{empty-length, phase-kept, with-one-empty, with-one-length, begins_fits}
@@ -369,10 +369,6 @@ module _ (relation : Routes) (count : ℕ) (c : Column) (m : RouterMarks) (v : V
     marks = marks-kept c frozen m v x (credit_from v.site.vcs 0 beats) refl x_site phase_x output-is (packet_x tidy_x) column.marks;
     sending = sending-kept (record c { injecting = frozen.injecting }) frozen x x.sending refl sent.injecting;
   }
-
-  -- the source shows what is left to inject
-  pub source-frozen : ShowsSource starts (sent_source starts went (begun_source starts begins s)) x
-  source-frozen = sent.source
 
   -- ---- the channels with a flit
   filled-bit : (i : ℕ) → has_bit (bit_or (lane_filled bits flits c) (lowest (lane_begins local n s.due c))) i

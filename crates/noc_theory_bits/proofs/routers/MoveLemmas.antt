@@ -19,7 +19,7 @@ use Rattle.noc_vc.specs.declared.input.InputState.{InputState}
 use Rattle.noc_vc.specs.declared.input.InputState.TheVariants.{Idle, Waiting, Active}
 use Rattle.noc_view.specs.States.{is_won_from}
 use Rattle.noc_view.specs.Verdict.{arbiters_after, out_of}
-use Rattle.noc_view.specs.View.{View, size_of, view_input, view_claim, claim_in, view_round, first_flit, flit_out, is_tail, mover, mover_to}
+use Rattle.noc_view.specs.View.{View, size_of, view_input, view_claim, claim_in, view_round, first_flit, is_tail, mover, mover_to}
 use Rattle.noc_sets.specs.Column.{sends_by}
 use Rattle.noc_sets.specs.Moves.{selected_by, dry_by, HasAdvanced}
 use Rattle.noc_sets.specs.Sets.{of_one, least}
@@ -290,36 +290,6 @@ module _ (v : View) (picked : ℕ) (to turn : ℕ → ℕ) (are : AreMoving v pi
         at None = refl
         at (Some i) = refl
 
-  -- ---- the tails among the channels that move
-  pub released-is : (tail : ℕ → Bool) (k : ℕ) → has_bit (union_from 0 (ports v.site.grid) (λ q. of_one (sel q) (λ i. if tail i then 2 ^ i else 0))) k ≡ (has_bit (union_from 0 (ports v.site.grid) (selected_by picked to turn)) k && tail k)
-  released-is tail k =
-      union-members 0 (ports v.site.grid) (λ q. of_one (sel q) (λ i. if tail i then 2 ^ i else 0)) k
-      ∙ ap₂ (λ a b. a || b) (has_bit-zero k) (some-same (ports v.site.grid) (λ q. has_bit (of_one (sel q) (λ i. if tail i then 2 ^ i else 0)) k) (λ q. has_bit (sel q) k && tail k) (λ q lq. each q lq (cases_eq (sel q) 0)))
-      ∙ some-and (ports v.site.grid) (λ q. has_bit (sel q) k) (tail k)
-      ∙ ap (λ b. b && tail k) (sym (union-members 0 (ports v.site.grid) (selected_by picked to turn) k ∙ ap (λ b. b || some_below (ports v.site.grid) (λ q. has_bit (sel q) k)) (has_bit-zero k)))
-    where
-      each : (q : ℕ) → q < ports v.site.grid → (sel q ≡ 0) ⊎ (sel q ≢ 0)
-          → has_bit (of_one (sel q) (λ i. if tail i then 2 ^ i else 0)) k ≡ (has_bit (sel q) k && tail k)
-      each q lq (inl none) =
-          ap (λ b. has_bit (if b then 0 else (if tail (lead q) then 2 ^ lead q else 0)) k) (eq-eqb (sel q) 0 none) ∙ has_bit-zero k
-          ∙ sym (ap (λ b. b && tail k) (ap (λ n. has_bit n k) none ∙ has_bit-zero k))
-      each q lq (inr some) =
-          ap (λ b. has_bit (if b then 0 else (if tail (lead q) then 2 ^ lead q else 0)) k) (ne_eqb (sel q) 0 some)
-          ∙ by (cases_eq k (lead q)) ∙ ap (λ b. b && tail k) (sym ((taken-is q lq some).alone k))
-        where
-          by : (k ≡ lead q) ⊎ (k ≢ lead q)
-              → has_bit (if tail (lead q) then 2 ^ lead q else 0) k ≡ (nat_eq k (lead q) && tail k)
-          by (inl same) = at (tail (lead q)) refl
-            where
-              at : (b : Bool) → tail (lead q) ≡ b → has_bit (if b then 2 ^ lead q else 0) k ≡ (nat_eq k (lead q) && tail k)
-              at true t = power-members (lead q) k ∙ eq-eqb k _ same ∙ sym (ap₂ (λ a b. a && b) (eq-eqb k (lead q) same) (ap tail same ∙ t))
-              at false t = has_bit-zero k ∙ sym (ap₂ (λ a b. a && b) (eq-eqb k (lead q) same) (ap tail same ∙ t))
-          by (inr other) = at (tail (lead q)) ∙ sym (ap (λ b. b && tail k) (ne_eqb k (lead q) other))
-            where
-              at : (b : Bool) → has_bit (if b then 2 ^ lead q else 0) k ≡ false
-              at true = power-members (lead q) k ∙ ne_eqb k (lead q) other
-              at false = has_bit-zero k
-
   -- ---- who takes the last credit of its output channel
   abbrev pub spends : ℕ → InputState → Bool
   spends single Idle = false
@@ -367,19 +337,6 @@ module _ (v : View) (picked : ℕ) (to turn : ℕ → ℕ) (are : AreMoving v pi
         ∙ ap₂ (λ a b. a || b) (has_bit-zero k) (some-same (ports v.site.grid) (λ q. has_bit (dry_by single taken (sel q)) k) (λ q. has_bit (sel q) k && spends single (view_input v k).phase) (λ q lq. dry-bit q k lq))
         ∙ some-and (ports v.site.grid) (λ q. has_bit (sel q) k) (spends single (view_input v k).phase)
         ∙ ap (λ b. b && spends single (view_input v k).phase) (sym (union-members 0 (ports v.site.grid) (selected_by picked to turn) k ∙ ap (λ b. b || some_below (ports v.site.grid) (λ q. has_bit (sel q) k)) (has_bit-zero k)))
-
-  -- ---- what leaves by a port
-  pub none-leaves : (q : ℕ) → q < ports v.site.grid → sel q ≡ 0 → flit_out v (view_round v) q ≡ None
-  none-leaves q lq none =
-      ap (λ (m : Option ℕ). option_and_then (λ i. option_and_then (λ o. option_map (λ f. (o % v.site.vcs, f)) (first_flit v i)) (out_of (view_claim v i))) m)
-      (mover-is q lq ∙ ap (λ b. if b then None else Some (lead q)) (eq-eqb (sel q) 0 none))
-
-  pub one-leaves : (q : ℕ) (lq : q < ports v.site.grid) (some : sel q ≢ 0)
-      → flit_out v (view_round v) q ≡ option_map (λ f. ((taken-is q lq some).out % v.site.vcs, f)) (first_flit v (lead q))
-  one-leaves q lq some =
-      ap (λ (m : Option ℕ). option_and_then (λ i. option_and_then (λ o. option_map (λ f. (o % v.site.vcs, f)) (first_flit v i)) (out_of (view_claim v i))) m)
-      (mover-is q lq ∙ ap (λ b. if b then None else Some (lead q)) (ne_eqb (sel q) 0 some))
-      ∙ ap (λ (s : InputState). option_and_then (λ o. option_map (λ f. (o % v.site.vcs, f)) (first_flit v (lead q))) (out_of (claim_in v s))) (taken-is q lq some).phase
 
   -- ---- the pointers of the output ports
   won-is : (q : ℕ) → q < ports v.site.grid → slice_index_or (view_round v).wins q None ≡ (if nat_eq (sel q) 0 then None else Some (lead q / v.site.vcs))

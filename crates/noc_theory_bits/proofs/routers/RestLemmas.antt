@@ -6,7 +6,7 @@ use Rattle.std.proofs.lemmas.Bool.{false≢true, eq-eqb, ne_eqb, cases_lt}
 use Rattle.std.proofs.lemmas.List.{get_or_past}
 use Rattle.std.proofs.lemmas.Option.{same_Some}
 use Rattle.std.proofs.lemmas.Nat.{pow_pos, div-mul-add, mod-mul-add}
-use Rattle.noc_topo.specs.Lists.{below, tabulate, map_indexed, is_some_of}
+use Rattle.noc_topo.specs.Lists.{below, tabulate, is_some_of}
 use Rattle.noc_topo.specs.Shape.{nodes, local_port, neighbour}
 use Rattle.noc_topo.proofs.ListLemmas.{get_or-tabulate, length-tabulate}
 use Rattle.noc_packet.specs.Set.{has_bit}
@@ -17,14 +17,13 @@ use Rattle.noc_route.specs.Channel.{Link}
 use Rattle.noc_vc.specs.Input.{is_idle_phase, is_waiting, is_active}
 use Rattle.noc_vc.specs.declared.input.InputState.{InputState}
 use Rattle.noc_vc.specs.declared.input.InputState.TheVariants.{Idle, Waiting, Active}
-use Rattle.noc_view.specs.Still.{counted_times, view_after_waiting}
-use Rattle.noc_view.specs.View.{Site, View, size_of, view_input, local_channel, idle_beat, counts_after, decided_verdict, decisions_of}
+use Rattle.noc_view.specs.View.{Site, View, size_of, view_input, local_channel, idle_beat, counts_after}
 use Rattle.noc_view.specs.declared.finding.Finding.{Finding}
 use Rattle.noc_view.specs.declared.verdict.Verdict.TheVariants.{Empty}
 use Rattle.noc_theory.specs.declared.limits.TheConstants.{CYCLE_LIMIT}
 use Rattle.noc_theory.specs.Good.{IsGoodSetup}
 use Rattle.noc_theory.specs.Halves.{IsSilent}
-use Rattle.noc_theory.specs.Lockstep.{beats_at, beats_in, beat_by, flit_on, view_at}
+use Rattle.noc_theory.specs.Lockstep.{beats_in, beat_by, flit_on, view_at}
 use Rattle.noc_theory.specs.Network.{Setup, State, has_channel, state_at}
 use Rattle.noc_theory.proofs.runs.StillRunLemmas.{without_findings}
 use Rattle.noc_theory.proofs.worms.GrantLemmas.{Has-below}
@@ -35,7 +34,7 @@ use Rattle.noc_sets.specs.Column.{Column, RouterMarks, ShowsSending, IsColumn}
 use Rattle.noc_sets.specs.Taken.{flit_from, flit_on_vc, credit_from}
 use Rattle.noc_theory_bits.specs.Wires.{ShowsWires}
 use Rattle.noc_theory_bits.proofs.network.NetworkLemmas.{beats, good}
-use Rattle.noc_theory_bits.proofs.routers.SleepLemmas.{IsAsleep, IsDueFrom, asleep-stays, all-asleep}
+use Rattle.noc_theory_bits.proofs.routers.SleepLemmas.{IsAsleep, IsDueFrom, asleep-stays}
 
 -- ---- no member of the words of the wires: no beat carries anything
 
@@ -219,11 +218,3 @@ module _ (net : Setup) (setup : IsGoodSetup net) where
   column-stays count n r l c m few asleep silent shows =
       same-column count c m (view_at net (suc n) r) (record (view_at net n r) { counts = map (counts_after Empty) (view_at net n r).counts; given = n }) (asleep-stays net setup n r l few asleep silent)
       (seen-column count c m (map (counts_after Empty) (view_at net n r).counts) n (view_at net n r).findings (view_at net n r) shows)
-
-  -- where all sleep up to a cycle and nothing is in flight, the words of each show it then
-  pub columns-stay : (count n end : ℕ) → n < end → end ≤ CYCLE_LIMIT → ((r : ℕ) → r < nodes net.relation.grid → IsAsleep end (view_at net n r)) → ((r : ℕ) → r < nodes net.relation.grid → IsSilent (beats_at (beats_in net (state_at net n)) r))
-      → (r : ℕ) → r < nodes net.relation.grid → (c : Column) (m : RouterMarks) → IsColumn count c m (view_at net n r) → IsColumn count c m (view_at net end r)
-  unfolding view_after_waiting
-  columns-stay count n end less limit asleep silent r l c m shows =
-      same-column count c m (view_at net end r) (view_after_waiting net.relation (end - n) (end - 1) (view_at net n r)) (all-asleep net setup n end less limit asleep silent r l)
-      (seen-column count c m (map_indexed (λ i counts. counted_times (end - n) (decided_verdict (decisions_of net.relation (view_at net n r)) i) counts) (view_at net n r).counts) (end - 1) (view_at net n r).findings (view_at net n r) shows)

@@ -1,5 +1,5 @@
 -- What was decided in a cycle takes effect: the words of a router show its view after its verdicts.
-use Rattle.std.proofs.Common.{◌≡◌, ℕ, ◌*◌, ◌/◌, ◌<◌, ◌≤◌, Bool, true, false, Option, Some, None, refl, ap, sym, ◌∙◌, subst, arith, inl, inr, mul-le-mul_right}
+use Rattle.std.proofs.Common.{◌≡◌, ℕ, ◌*◌, ◌/◌, ◌<◌, ◌≤◌, true, false, ap, sym, ◌∙◌, subst, arith, inl, inr, mul-le-mul_right}
 use Rattle.std.specs.Prelude.{◌⊎◌, nat_le, nat_lt, if◌then◌else◌}
 use Rattle.std.proofs.lemmas.Bool.{and_parts, ltb-true}
 use Rattle.std.proofs.lemmas.Nat.{div_below}
@@ -8,9 +8,8 @@ use Rattle.noc_packet.specs.Set.{has_bit}
 use Rattle.noc_route.specs.Routes.{Routes}
 use Rattle.noc_alloc.specs.Arbiter.{arbiter_at}
 use Rattle.noc_alloc.specs.Members.{MembersAreBelow}
-use Rattle.noc_view.specs.Arrivals.{is_expected_in, arrivals_after}
 use Rattle.noc_view.specs.Verdict.{arbiters_after}
-use Rattle.noc_view.specs.View.{View, Decisions, size_of, view_round, decisions_of, view_after_commit, with_arrival, with_misfit, tail_packet, flit_out}
+use Rattle.noc_view.specs.View.{View, size_of, view_round, decisions_of, view_after_commit}
 use Rattle.noc_sets.specs.Column.{Column, IsColumn, RouterMarks, ShowsMarks}
 use Rattle.noc_sets.specs.Moves.{HasSwitched, single_in}
 use Rattle.noc_sets.specs.Grants.{Allocation}
@@ -89,16 +88,3 @@ module _ {count : ℕ} (relation : Routes) (layout : Layout) (x : Surroundings) 
       (subst (λ (c : Column). ShowsMarks (settled_lane x.ahead layout.links layout.local e c) w (view_after_commit (decisions_of relation v) v)) lane-is
       (marks-after relation layout x v still a b outs shows picks put w e supplied switched heads_are granted_are))
       shows.sending)
-
--- ---- the source
-arrival-queue : (p : Option ℕ) (v : View) → (with_arrival p v).queue ≡ v.queue
-arrival-queue None v = refl
-arrival-queue (Some p) v = at (is_expected_in p v.ends)
-  where
-    at : (b : Bool) → (if b then record v { ends = arrivals_after p v.given v.ends } else with_misfit v).queue ≡ v.queue
-    at true = refl
-    at false = refl
-
-committed-queue : (d : Decisions) (v : View) → (view_after_commit d v).queue ≡ v.queue
-unfolding view_after_commit
-committed-queue d v = arrival-queue (tail_packet (flit_out v d.round (local_port v.site.grid))) _

@@ -14,14 +14,14 @@ use Rattle.noc_route.specs.Routes.{Routes}
 use Rattle.noc_vc.specs.Input.{Input, is_empty, is_idle_phase}
 use Rattle.noc_vc.specs.declared.input.InputState.TheVariants.{Idle}
 use Rattle.noc_view.specs.States.{is_occupied}
-use Rattle.noc_view.specs.Still.{IsHeldBefore, takes_effect, view_after_waiting}
+use Rattle.noc_view.specs.Still.{IsHeldBefore}
 use Rattle.noc_view.specs.declared.verdict.Verdict.TheVariants.{Empty}
 use Rattle.noc_view.specs.View.{Site, View, size_of, view_buffer, view_input, idle_beats, view_after_take, view_after_takes_from, view_after_takes, with_flit, with_credit, view_after_inject_from, view_after_inject, decisions_of, view_after_commit, counts_after, local_step}
-use Rattle.noc_view.proofs.VacantLemmas.{vacant-committed, no_event}
+use Rattle.noc_view.proofs.VacantLemmas.{vacant-committed}
 use Rattle.noc_theory.specs.declared.limits.TheConstants.{CYCLE_LIMIT}
 use Rattle.noc_theory.specs.Good.{IsGoodSetup, IsValid}
 use Rattle.noc_theory.specs.Halves.{IsSilent}
-use Rattle.noc_theory.specs.Lockstep.{beats_at, beats_in, seen_flits, seen_input, seen_phase_with, has_come, view_at, view_in}
+use Rattle.noc_theory.specs.Lockstep.{seen_flits, seen_input, seen_phase_with, has_come, view_at, view_in}
 use Rattle.noc_theory.specs.Network.{Setup, State, Located, Place, On, In, Out, size, arriving, packet_at, place_of_flit, tail_place, is_in, is_past, has_channel, next_channel, buffer_of, state_at, Source}
 use Rattle.noc_theory.specs.Progress.{weight, hops, head_place}
 use Rattle.noc_theory.proofs.runs.StillRunLemmas.{without_findings}
@@ -37,7 +37,6 @@ use Rattle.noc_theory.proofs.join.OrderedStateLemmas.{ordered-state}
 use Rattle.noc_theory.proofs.join.PlaceViewLemmas.{IsAt, arriving-at, not-eject}
 use Rattle.noc_theory.proofs.join.ViewLemmas.{view_at-seen}
 use Rattle.noc_theory_bits.proofs.network.NetworkLemmas.{good, beats, next-count}
-use Rattle.noc_theory_bits.proofs.routers.StillLemmas.{all-still, still-silent}
 
 -- ---- at the start of a cycle a channel that is idle has no flit
 
@@ -163,16 +162,3 @@ module _ (net : Setup) (setup : IsGoodSetup net) where
         ap without_findings (sym (next-count net setup n r l few))
         ∙ ap (λ (f : View). without_findings (record (view_after_commit (decisions_of net.relation f) f) { to_put = idle_beats (view_after_commit (decisions_of net.relation f) f).site })) (frozen-asleep asleep silent)
         ∙ ap (λ (w : View). record w { to_put = idle_beats w.site; findings = [] }) (sym (vacant-committed net.relation (record (view_at net n r) { given = n }) (vacant (suc n) asleep)))
-
-  -- where all routers sleep up to a cycle and nothing is in flight, each waits: its counts of Empty
-  -- rise, and nothing else changes
-  module _ (n end : ℕ) (less : n < end) (limit : end ≤ CYCLE_LIMIT) (asleep : (r : ℕ) → r < nodes net.relation.grid → IsAsleep end (view_at net n r))
-      (silent : (r : ℕ) → r < nodes net.relation.grid → IsSilent (beats_at (beats_in net (state_at net n)) r)) where
-    effect : (s : ℕ) → s < nodes net.relation.grid → takes_effect net.relation (view_at net n s) ≡ false
-    effect s low = no_event (view_at net n s) (vacant n s low end (asleep s low)) net.relation
-
-    pub all-asleep : (r : ℕ) → r < nodes net.relation.grid → without_findings (view_at net end r) ≡ without_findings (view_after_waiting net.relation (end - n) (end - 1) (view_at net n r))
-    all-asleep = all-still net setup n end less limit effect (λ s low. asleep-held end (view_at net n s) (asleep s low)) silent
-
-    pub asleep-silent : (r : ℕ) → r < nodes net.relation.grid → IsSilent (beats_at (beats_in net (state_at net end)) r)
-    asleep-silent = still-silent net setup n end less limit effect (λ s low. asleep-held end (view_at net n s) (asleep s low)) silent

@@ -4,9 +4,8 @@ use Rattle.std.proofs.Common.{◌≡◌, ℕ, suc, ◌+◌, ◌-◌, ◌*◌, �
 use Rattle.std.specs.Prelude.{◌⊎◌}
 use Rattle.std.proofs.lemmas.Bool.{cases_lt}
 use Rattle.std.proofs.lemmas.List.{get_or_past}
-use Rattle.std.proofs.lemmas.Nat.{div-mul-add, mod-mul-add, mul-add-lt}
 use Rattle.noc_topo.specs.Lists.{tabulate, is_some_of}
-use Rattle.noc_topo.specs.Shape.{IsGrid, IsLinkBack, nodes, ports, local_port, neighbour}
+use Rattle.noc_topo.specs.Shape.{IsGrid, IsLinkBack, nodes, local_port, neighbour}
 use Rattle.noc_topo.proofs.LinkLemmas.{hop_of, link_back}
 use Rattle.noc_topo.proofs.ListLemmas.{get_or-tabulate, length-tabulate}
 use Rattle.noc_packet.specs.declared.packet.Beat.{Beat}
@@ -14,7 +13,7 @@ use Rattle.noc_view.specs.View.{Site, idle_beat, decisions_of, beat_out}
 use Rattle.noc_theory.specs.declared.limits.TheConstants.{CYCLE_LIMIT}
 use Rattle.noc_theory.specs.Good.{IsGoodSetup}
 use Rattle.noc_theory.specs.Lockstep.{beats_at, beats_in, beat_by, site_at}
-use Rattle.noc_theory.specs.Network.{Setup, size, state_at}
+use Rattle.noc_theory.specs.Network.{Setup, state_at}
 use Rattle.noc_theory.proofs.join.JoinLemmas.{next-beats}
 use Rattle.noc_theory.proofs.join.JoinedLemmas.{phases}
 use Rattle.noc_theory.proofs.join.LockstepTheoremLemmas.{are-short}
@@ -26,16 +25,6 @@ use Rattle.noc_theory_bits.proofs.wiring.WireLemmas.{flit-at, credit-at}
 use Rattle.noc_theory_bits.specs.Owners.{frozen_of}
 
 module _ (net : Setup) (setup : IsGoodSetup net) where
-  -- a channel by its port and virtual channel
-  index : (port vc : ℕ) → port < ports net.relation.grid → vc < net.relation.vcs
-      → (port * net.relation.vcs + vc < size net) × ((port * net.relation.vcs + vc) / net.relation.vcs ≡ port) × ((port * net.relation.vcs + vc) % net.relation.vcs ≡ vc)
-  index port vc l u =
-      let m : port * net.relation.vcs + vc < net.relation.vcs * ports net.relation.grid = mul-add-lt port net.relation.vcs vc (ports net.relation.grid) l u in
-      (omega (arith, m), div-mul-add port net.relation.vcs vc u, mod-mul-add port net.relation.vcs vc u)
-
-  some-vcs : 0 < net.relation.vcs
-  some-vcs = (good net setup).relation.table.some_vcs
-
   is-grid : IsGrid net.relation.grid
   is-grid = (good net setup).relation.table.grid
 

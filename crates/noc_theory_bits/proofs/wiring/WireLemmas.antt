@@ -1,15 +1,11 @@
 -- The beats that routers exchange: what comes to a channel by a link is what the router at the
 -- other end has put.
-use Rattle.std.proofs.Common.{◌≡◌, ℕ, suc, ◌+◌, ◌-◌, ◌/◌, ◌%◌, ◌<◌, ◌≤◌, List, [], ◌∷◌, refl, ap, ◌∙◌, arith, inl, inr, get_or}
+use Rattle.std.proofs.Common.{◌≡◌, ℕ, suc, ◌+◌, ◌-◌, ◌/◌, ◌%◌, ◌<◌, ◌≤◌, List, [], ◌∷◌, refl, ap, ◌∙◌, arith, inl, inr}
 use Rattle.std.specs.Prelude.{slice_index_or, if◌then◌else◌}
 use Rattle.std.proofs.lemmas.Bool.{cases_eq, eq-eqb, ne_eqb}
-use Rattle.noc_topo.specs.Lists.{tabulate, is_some_of}
-use Rattle.noc_topo.specs.Shape.{nodes, local_port, neighbour}
-use Rattle.noc_topo.proofs.ListLemmas.{get_or-tabulate}
+use Rattle.noc_topo.specs.Lists.{is_some_of}
 use Rattle.noc_packet.specs.declared.packet.Beat.{Beat}
 use Rattle.noc_view.specs.View.{idle_beat}
-use Rattle.noc_theory.specs.Network.{Setup}
-use Rattle.noc_theory.specs.Lockstep.{beat_from, beats_at, wires_after_puts}
 use Rattle.noc_sets.specs.Taken.{flit_from, flit_on_vc, credit_from}
 
 -- by beats of this port and those behind it, the beat of the channel's port
@@ -36,25 +32,3 @@ credit-at vcs port (beat ∷ beats) o l = elim (cases_eq (o / vcs) port) [
       ∙ credit-at vcs (port + 1) beats o (omega arith)
       ∙ ap (λ n. is_some_of (slice_index_or (beat ∷ beats) n idle_beat).credit (o % vcs)) (let z : suc (o / vcs - (port + 1)) ≡ o / vcs - port = omega arith in z)
 ]
-
-module _ (net : Setup) (sent : List (List Beat)) (r : ℕ) (router : r < nodes net.relation.grid) where
-  exchanged-at : (p : ℕ) → p < local_port net.relation.grid → slice_index_or (beats_at (wires_after_puts net sent) r) p idle_beat ≡ beat_from sent (neighbour net.relation.grid r p)
-  unfolding wires_after_puts
-  exchanged-at p l =
-      ap (λ (xs : List Beat). get_or xs p idle_beat)
-      (get_or-tabulate (nodes net.relation.grid) r (λ k. tabulate (local_port net.relation.grid) (λ port. beat_from sent (neighbour net.relation.grid k port))) [] router)
-      ∙ get_or-tabulate (local_port net.relation.grid) p (λ port. beat_from sent (neighbour net.relation.grid r port)) idle_beat l
-
-  -- the flit that comes to an input channel of a link, and whether a credit comes to an output
-  -- channel of it
-  pub flit-comes : (vcs i : ℕ) → i / vcs < local_port net.relation.grid → flit_from vcs 0 (beats_at (wires_after_puts net sent) r) i ≡ flit_on_vc (i % vcs) (beat_from sent (neighbour net.relation.grid r (i / vcs))).flit
-  flit-comes vcs i l =
-      flit-at vcs 0 (beats_at (wires_after_puts net sent) r) i (omega arith)
-      ∙ ap (λ n. flit_on_vc (i % vcs) (slice_index_or (beats_at (wires_after_puts net sent) r) n idle_beat).flit) (let z : i / vcs - 0 ≡ i / vcs = omega arith in z)
-      ∙ ap (λ (b : Beat). flit_on_vc (i % vcs) b.flit) (exchanged-at (i / vcs) l)
-
-  pub credit-comes : (vcs o : ℕ) → o / vcs < local_port net.relation.grid → credit_from vcs 0 (beats_at (wires_after_puts net sent) r) o ≡ is_some_of (beat_from sent (neighbour net.relation.grid r (o / vcs))).credit (o % vcs)
-  credit-comes vcs o l =
-      credit-at vcs 0 (beats_at (wires_after_puts net sent) r) o (omega arith)
-      ∙ ap (λ n. is_some_of (slice_index_or (beats_at (wires_after_puts net sent) r) n idle_beat).credit (o % vcs)) (let z : o / vcs - 0 ≡ o / vcs = omega arith in z)
-      ∙ ap (λ (b : Beat). is_some_of b.credit (o % vcs)) (exchanged-at (o / vcs) l)
