@@ -32,6 +32,10 @@ first-exists n test = elim (find-first n test) [
 abbrev pub free_word : Bool → Inputs (List ℕ) → ℕ → ℕ → ℕ
 free_word deep inputs starts index = less starts (bit_or (bit_or (word index inputs.waiting) (word index inputs.active)) (any_from 0 (list_of deep (planes_by (word index) inputs.len))))
 
+-- the routers in which a flit is injected into a channel
+abbrev pub room_word : Bool → Planes ℕ → Inputs (List ℕ) → List ℕ → ℕ → ℕ
+room_word deep places inputs injecting index = bit_and (word index injecting) (wrong_from 0 (list_of deep (planes_by (word index) inputs.len)) (list_of deep places))
+
 module _ (deep : Bool) (places : Planes ℕ) (inputs : Inputs (List ℕ)) (injecting : List ℕ) where
   room-term : Term
   room-term = both (leaf injecting) (wrong_term none (leaves deep inputs.len) (likes deep places))
@@ -41,6 +45,14 @@ module _ (deep : Bool) (places : Planes ℕ) (inputs : Inputs (List ℕ)) (injec
   value-room of one =
       ap (bit_and (of injecting))
       (value-wrong of one none (leaves deep inputs.len) (likes deep places) ∙ ap₂ (wrong_from 0) (value-leaves of one deep inputs.len) (value-likes of one deep places))
+
+  -- .. some inject a flit
+  pub some-went : (n : Numbering) (r : ℕ) (went : List ℕ) → ((c : ℕ) → c < n.size → word (n.index c) went ≡ room_word deep places inputs injecting (n.index c))
+      → has_bit (union_from 0 n.size (λ k. room_word deep places inputs injecting (n.index k))) r ≡ not (nat_eq (set_of n r went) 0)
+  some-went n r went is =
+      union-members n.size (λ k. room_word deep places inputs injecting (n.index k)) r
+      ∙ some-same n.size _ _ (λ k l. ap (λ w. has_bit w r) (sym (is k l)))
+      ∙ some-asks n r went
 
   pub went-is : (n : Numbering) (r : ℕ) (went : List ℕ)
       → ((c : ℕ) → c < n.size → word (n.index c) went ≡ bit_and (word (n.index c) injecting) (wrong_from 0 (list_of deep (planes_by (word (n.index c)) inputs.len)) (list_of deep places)))
@@ -109,17 +121,13 @@ begins-is n r starts rest true e = ap (λ a. less a rest) (alike-is n r starts t
 begins-is n r starts rest false e = ap (λ a. less a rest) (alike-is n r starts false e) ∙ same-word _ 0 (λ k. less_members 0 rest k ∙ ap (λ b. b && not (has_bit rest k)) (has_bit-zero k) ∙ sym (has_bit-zero k))
 
 pub starts-is : (n : Numbering) (r due busy : ℕ) (injecting : List ℕ) (b : Bool) → has_bit due r ≡ b
-    → has_bit busy r ≡ some_below n.size (λ c. has_bit (word (n.index c) injecting) r && has_bit (word (n.index c) injecting) r)
+    → has_bit busy r ≡ some_below n.size (λ c. has_bit (word (n.index c) injecting) r)
     → has_bit (less due busy) r ≡ (b && nat_eq (set_of n r injecting) 0)
 starts-is n r due busy injecting b e f =
     less_members due busy r
-    ∙ ap₂ (λ x y. x && not y) e (f ∙ some-same n.size _ _ (λ k l. same (has_bit (word (n.index k) injecting) r)) ∙ some-asks n r injecting)
+    ∙ ap₂ (λ x y. x && not y) e (f ∙ some-asks n r injecting)
     ∙ ap (λ x. b && x) (twice (nat_eq (set_of n r injecting) 0))
   where
-    same : (x : Bool) → (x && x) ≡ x
-    same true = refl
-    same false = refl
-
     twice : (x : Bool) → not (not x) ≡ x
     twice true = refl
     twice false = refl

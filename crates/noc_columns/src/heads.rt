@@ -67,8 +67,40 @@ pub fn route(
     }
 }
 
-// .. those in one channel of these routers.
+// .. those in one channel of these routers, if there are some.
+#[inline(always)]
 fn route_channel(
+    guide: &Guide<'_>,
+    channel: usize,
+    routers: u64,
+    packets: &[[u32; CHANNELS]; ROUTERS],
+    marks: &mut Marks,
+)
+    requires ports { IsOfPorts guide.now.table.now.ports guide.now.relation.now }
+    requires headers { AreRoutable guide.now.relation.now guide.now.headers.now }
+    requires channel { channel < (guide.now.table.now.ports.links.width + 1)
+        * guide.now.table.now.ports.links.vcs }
+    requires heads { (r : ℕ) → r < ROUTERS → has_bit routers r ≡ true
+        → (guide.now.first + r < nodes guide.now.relation.now.grid)
+        × (packet_in packets.now r channel < length guide.now.headers.now) }
+    ensures routed { (r : ℕ) → r < ROUTERS → heading_at marks.new r
+        ≡ (if has_bit routers r
+        then headed channel
+        (sets_by guide.now.relation.now guide.now.headers.now (guide.now.first + r) channel
+        (packet_in packets.now r channel)) (heading_at marks.old r)
+        else heading_at marks.old r) }
+    ensures idle { (r : ℕ) → slice_index marks.new.idle r ≡ slice_index marks.old.idle r }
+    ensures turns { marks.new.turns ≡ marks.old.turns }
+{
+    if routers != 0 {
+        route_routers(guide, channel, routers, packets, marks);
+    }
+}
+
+// .. in these routers. (This is no part of the loop over channels, so that the loop has registers
+// for what it reads.)
+#[inline(never)]
+fn route_routers(
     guide: &Guide<'_>,
     channel: usize,
     routers: u64,

@@ -5,6 +5,7 @@ ghost use Rattle.noc_packet.specs.Set.{has_bit};
 ghost use Rattle.noc_sets.specs.Column.{Column};
 ghost use Rattle.noc_sets.specs.Passes.{lane_begins, lane_free, lane_injected};
 ghost use Rattle.noc_sets.specs.Sets.{less, lowest};
+ghost use Rattle.noc_sets.specs.Unions.{some_below};
 ghost use Rattle.noc_columns.specs.Channels.{inputs_by};
 ghost use Rattle.noc_columns.specs.Picks.{port_at};
 ghost use Rattle.noc_columns.specs.Planes.{list_of, planes_by};
@@ -13,7 +14,6 @@ ghost use Rattle.noc_columns.specs.Words.{all_of, set_alike, set_of, word};
 
 use crate::channels::{Inputs, Links};
 use crate::frame::Frame;
-use crate::picks::any_side;
 use crate::planes::less;
 use crate::ports::Ports;
 use crate::words::Words;
@@ -31,7 +31,8 @@ pub struct Injection<T> {
 
 /// Of a packet that is being injected a flit goes into its channel, where that is not full. Of
 /// these routers, whose next packet is due, those that inject none begin it in the first local
-/// channel that is free. The answer is the routers in which one begins.
+/// channel that is free. The answer is the routers in which a flit is injected of a packet that has
+/// begun, and those in which one begins.
 #[inline(always)]
 pub fn inject(
     frame: &Frame,
@@ -39,7 +40,7 @@ pub fn inject(
     due: u64,
     inputs: &Inputs<Words>,
     injection: &mut Injection<Words>,
-) -> u64
+) -> (u64, u64)
     requires { local.now.width ≡ 1 }
     ensures injecting { injection.new.injecting ≡ injection.old.injecting }
     ensures went { (r : ℕ) (c : Column) → set_of (port_at local.now 0) r injection.new.went
@@ -52,10 +53,12 @@ pub fn inject(
         ≡ lowest (lane_begins (all_of (port_at local.now 0)) cycle due_at
         (with_source frame.now.deep (inputs_by (set_of (port_at local.now 0) r) inputs.now)
         (set_of (port_at local.now 0) r injection.old.injecting) c)) }
-    ensures some { (r : ℕ) → has_bit result r
+    ensures some_went { (r : ℕ) → has_bit result.0 r
+        ≡ not (nat_eq (set_of (port_at local.now 0) r injection.new.went) 0) }
+    ensures some_begun { (r : ℕ) → has_bit result.1 r
         ≡ not (nat_eq (set_of (port_at local.now 0) r injection.new.begun) 0) }
 {
-    let busy = any_side(local, &injection.injecting, &injection.injecting)[0];
+    let busy = some_of(local, &injection.injecting);
     let starts = less(due, busy);
     if frame.deep {
         inject_all(frame, true, local, starts, inputs, injection)
@@ -73,7 +76,7 @@ fn inject_all(
     starts: u64,
     inputs: &Inputs<Words>,
     injection: &mut Injection<Words>,
-) -> u64
+) -> (u64, u64)
     requires { local.now.width ≡ 1 }
     ensures injecting { injection.new.injecting ≡ injection.old.injecting }
     ensures went { (r : ℕ) (c : Column) → set_of (port_at local.now 0) r injection.new.went
@@ -85,19 +88,39 @@ fn inject_all(
         ≡ lowest (lane_free (set_alike (port_at local.now 0) r starts)
         (with_source deep (inputs_by (set_of (port_at local.now 0) r) inputs.now)
         (set_of (port_at local.now 0) r injection.old.injecting) c)) }
-    ensures some { (r : ℕ) → has_bit result r
+    ensures some_went { (r : ℕ) → has_bit result.0 r
+        ≡ not (nat_eq (set_of (port_at local.now 0) r injection.new.went) 0) }
+    ensures some_begun { (r : ℕ) → has_bit result.1 r
         ≡ not (nat_eq (set_of (port_at local.now 0) r injection.new.begun) 0) }
 {
+    let mut some = 0;
     let mut before = 0;
     for v in 0..local.vcs {
         let i = local.first + v;
         let had = inputs.at(i);
         let begins = less(starts, had.waiting | had.active | had.len.some(deep, 0));
-        injection.went[i] = injection.injecting[i] & had.len.other_than(deep, &frame.places);
+        let went = injection.injecting[i] & had.len.other_than(deep, &frame.places);
+        injection.went[i] = went;
+        some = some | went;
         injection.begun[i] = less(begins, before);
         before = before | begins;
     }
-    before
+    (some, before)
+}
+
+// The routers that have a channel of the local port in these words.
+#[inline(always)]
+fn some_of(local: &Ports, words: &Words) -> u64
+    requires { local.now.width ≡ 1 }
+    ensures { (r : ℕ) → has_bit result r
+        ≡ some_below local.now.vcs
+        (λ c. has_bit (word ((port_at local.now 0).index c) words.now) r) }
+{
+    let mut some = 0;
+    for v in 0..local.vcs {
+        some = some | words[local.first + v];
+    }
+    some
 }
 
 /// What is injected comes to the local channels. In these routers it is the last flit of its

@@ -7,3 +7,4 @@ pub mod FindingLemmas
 pub mod OutLemmas
 pub mod DecidedLemmas
 pub mod ClearLemmas
+pub mod WantedLemmas

@@ -30,14 +30,14 @@ out_by LostInput asked owned = Some owned
 out_by LostSwitch asked owned = Some owned
 
 -- all of channel i, where these were the sets of verdicts, the router holds h after the cycle, and
--- these output channels were idle before it was decided
+-- these output channels were granted in it
 abbrev pub finding_of : ℕ → ByVerdict → ℕ → Held → ℕ → Finding
-finding_of vcs told idle h i =
+finding_of vcs told outs h i =
     let verdict = verdict_by (verdict_sets told) i in
     record {
       verdict = verdict;
       packet = packet_by verdict (h.packet i);
-      out = out_by verdict (option_map (λ o. (o / vcs, o % vcs)) (asked_of idle (h.set i)))
+      out = out_by verdict (option_map (λ o. (o / vcs, o % vcs)) (asked_of outs (h.set i)))
           (h.out_port i, h.out_vc i);
     }
 

@@ -21,12 +21,12 @@ use noc_cycles::{Block, Pattern, Work};
 use noc_view::{Finding, Verdict};
 
 /// What is found of a channel of a router in the last cycle, where these output channels of the
-/// router were idle before it was decided, or these were granted then.
+/// router were granted then.
 pub fn find(
     pattern: &Pattern,
     block: &Block,
     work: &Work,
-    idle: u64,
+    outs: u64,
     router: usize,
     channel: usize,
 ) -> Finding
@@ -34,12 +34,12 @@ pub fn find(
     requires channel { channel < (pattern.now.table.ports.links.width + 1)
         * pattern.now.table.ports.links.vcs }
     ensures { result ≡ finding_of pattern.now.table.ports.links.vcs
-        (told_at (channels_of pattern.now.table.ports) block.now work.now router) idle
+        (told_at (channels_of pattern.now.table.ports) block.now work.now router) outs
         (held_at pattern.now.table.ports block.now router) channel }
 {
     let index = pattern.table.index(channel);
     let verdict = verdict_at(&words_at(block, work, index), router);
-    let asked = asked_of(idle, block.marks.sets[router][channel]);
+    let asked = asked_of(outs, block.marks.sets[router][channel]);
     let asked = place_of(pattern.table.ports.links.vcs, asked);
     let owned = number_of(&block.grants.sends, index, router);
     Finding {

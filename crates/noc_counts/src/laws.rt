@@ -20,24 +20,10 @@ ghost use Rattle.noc_cycles.specs.Turning.{verdict_sets_by};
 ghost use Rattle.noc_cycles.specs.declared.pattern.Pattern.{Pattern};
 ghost use Rattle.noc_counts.specs.Findings.{finding_of, outs_of};
 
-/// What follows from the verdicts of a router is what is found by its words before the cycle takes
-/// effect, where none of its active channels waits.
-pub fn findings_follow_from_verdicts()
-    ensures { (pattern : Pattern) (layout : Layout) (sets : ℕ → ℕ → ℕ) (s : Still) (a h n : Held)
-        (standing : Standing ℕ) (decided : Decided ℕ) (granted lost arrived : ℕ)
-        (left gone : Links ℕ) (v w : Verdicts ℕ)
-        → ShowsStill pattern a standing v.no_credit s
-        → HasDecidedHeld pattern layout sets s a h standing decided granted lost left
-        → HasConcludedHeld pattern standing decided granted gone arrived h n v w
-        → ((i : ℕ) → has_bit a.inputs.active i ≡ true → has_bit a.waiting i ≡ false)
-        → (let told = verdict_sets_by standing w n.inputs.waiting granted lost in
-        (i : ℕ) → finding_of pattern.table.ports.links.vcs told a.idle n i
-        ≡ found_in pattern.table.ports.links.vcs told s.filled s.column s.marks i) }
-{}
-
-/// The output channels that were granted in the cycle give the same findings as those that were
-/// idle before it was decided, where all that waiting channels may take is wanted: what a channel
-/// asks for is granted, to it or to another one.
+/// What follows from the verdicts of a router and the output channels that were granted in the cycle
+/// is what is found by its words before the cycle takes effect, where none of its active channels
+/// waits, and all that waiting channels may take is wanted: what a channel asks for is granted, to
+/// it or to another one.
 pub fn findings_follow_from_grants()
     ensures { (pattern : Pattern) (layout : Layout) (sets : ℕ → ℕ → ℕ) (s : Still) (a h n : Held)
         (standing : Standing ℕ) (decided : Decided ℕ) (granted lost arrived : ℕ)

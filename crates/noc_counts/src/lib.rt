@@ -15,7 +15,4 @@ mod told;
 
 pub use counts::{Counts, no_counts};
 pub use findings::{find, granted_outs};
-pub use laws::{
-    findings_follow_from_grants, findings_follow_from_verdicts,
-    what_waiting_channels_may_take_is_wanted,
-};
+pub use laws::{findings_follow_from_grants, what_waiting_channels_may_take_is_wanted};

@@ -1,23 +1,19 @@
 -- Packets arrive channel by channel, and in each channel router by router.
-use Rattle.std.proofs.Common.{◌≡◌, ◌≢◌, ℕ, zero, suc, ◌+◌, ◌*◌, ◌/◌, ◌%◌, ◌<◌, ◌≤◌, Bool, true, false, List, Some, length, arith, ap, ap₂, refl, sym, ◌∙◌, inl, inr, set, slice_index}
+use Rattle.std.proofs.Common.{◌≡◌, ◌≢◌, ℕ, ◌+◌, ◌*◌, ◌/◌, ◌%◌, ◌<◌, ◌≤◌, Bool, true, false, List, Some, length, arith, ap, ap₂, refl, sym, ◌∙◌, inl, inr, set, slice_index}
 use Rattle.std.specs.Prelude.{◌⊎◌, ◌&&◌, nat_eq, if◌then◌else◌}
-use Rattle.std.proofs.lemmas.Bool.{and_parts, cases_eq, cases_lt, eq-eqb, eqb-true, ne_eqb, true≢false}
+use Rattle.std.proofs.lemmas.Bool.{and_parts, cases_eq, eq-eqb, eqb-true, ne_eqb, true≢false}
 use Rattle.noc_packet.specs.Set.{has_bit, IsLeast}
 use Rattle.noc_packet.proofs.SetLemmas.{has_bit-zero}
 use Rattle.noc_sets.specs.Sets.{less, lowest}
 use Rattle.noc_sets.specs.Unions.{some_below}
-use Rattle.noc_columns.specs.Picks.{channels_of}
-use Rattle.noc_columns.specs.Words.{IsWithin, Numbering, set_of, word}
-use Rattle.noc_columns.specs.declared.ports.RouterPorts.{RouterPorts}
+use Rattle.noc_columns.specs.Words.{Numbering, set_of, word}
 use Rattle.noc_columns.proofs.LoopLemmas.{left-part, was-left}
 use Rattle.noc_columns.proofs.MarkLemmas.{entry-put}
 use Rattle.noc_columns.proofs.PickLemmas.{find-first, none-each}
 use Rattle.noc_columns.proofs.ChannelLemmas.{part}
-use Rattle.noc_columns.proofs.PassLemmas.{some-same}
-use Rattle.noc_columns.proofs.PortLemmas.{link-before, link-index, local-place, member-below}
+use Rattle.noc_columns.proofs.PortLemmas.{member-below}
 use Rattle.noc_columns.proofs.SupplyLemmas.{member-is}
 use Rattle.noc_cycles.specs.Concluding.{HaveArrived}
-use Rattle.noc_cycles.proofs.ConcludingLemmas.{none-there}
 
 -- ---- in one channel: the packets of the routers of a set that are not left have arrived
 pub record HaveArrivedBut (cycle set rest : ℕ) (packet : ℕ → ℕ) (old now : ℕ → ℕ) : Type 0 where
@@ -84,42 +80,6 @@ arrived-all cycle i n words packet old now all are = record {
 }
 
 -- ---- where no router has a channel
-pub none-here : (ports : RouterPorts) (some : ℕ) (words : List ℕ)
-    → ((r : ℕ) → has_bit some r ≡ some_below (ports.local.first + ports.local.vcs) (λ i. has_bit (word (0 + i) words) r))
-    → some ≡ 0 → (r : ℕ) → set_of (channels_of ports) r words ≡ 0
-none-here ports some words tells none r =
-    none-there (channels_of ports) r (ports.local.first + ports.local.vcs) some words within
-    (tells r ∙ some-same (ports.local.first + ports.local.vcs) _ _ (λ k l. let e : 0 + k ≡ k = omega arith in ap (λ i. has_bit (word i words) r) e))
-    none
-  where
-    width : ℕ
-    width = ports.links.width
-
-    vcs : ℕ
-    vcs = ports.links.vcs
-
-    some-vcs : (v c : ℕ) → c < (width + 1) * v → 0 < v
-    some-vcs zero c l = absurd (omega (arith, l))
-    some-vcs (suc v) c l = omega arith
-
-    within : IsWithin (ports.local.first + ports.local.vcs) (channels_of ports)
-    within c l = at (cases_lt (c / vcs) width)
-      where
-        few : c % vcs < vcs
-        few = part (width + 1) vcs (some-vcs vcs c l) c
-
-        alike : ports.local.vcs ≡ vcs
-        alike = ports.alike
-
-        at : (c / vcs < width) ⊎ (width ≤ c / vcs) → (channels_of ports).index c < ports.local.first + ports.local.vcs
-        at (inl m) =
-            let before = link-before ports (c / vcs) (c % vcs) m few ports.behind in
-            let is = link-index ports (c / vcs) (c % vcs) m in
-            omega (arith, before, is)
-        at (inr m) =
-            let is = local-place ports (c / vcs) (c % vcs) m ports.one in
-            omega (arith, is, few, alike)
-
 pub none-arrive : (cycle : ℕ) (n : Numbering) (words : List ℕ) (packet : ℕ → ℕ → ℕ) (now : ℕ → ℕ) → ((r : ℕ) → set_of n r words ≡ 0) → HaveArrived cycle 64 (λ r. set_of n r words) packet now now
 none-arrive cycle n words packet now none = record {
   some = λ r k few e. absurd (true≢false (sym e ∙ ap (λ s. has_bit s k) (none r) ∙ has_bit-zero k));

@@ -4,6 +4,7 @@ use Rattle.std.specs.Prelude.{◌⊎◌, ◌&&◌, ◌||◌, not, nat_eq, nat_le
 use Rattle.std.proofs.lemmas.Bool.{eq-eqb, eqb-true}
 use Rattle.std.proofs.Math.Pow.{pow_mono}
 use Rattle.noc_packet.specs.Set.{has_bit}
+use Rattle.noc_packet.proofs.SetLemmas.{either_members, has_bit-zero}
 use Rattle.noc_sets.specs.Layout.{Layout}
 use Rattle.noc_sets.specs.Passes.{injecting_after, lane_begins, lane_free, lane_injected}
 use Rattle.noc_sets.specs.Planes.{wrong_from}
@@ -36,14 +37,19 @@ use Rattle.noc_cycles.proofs.FreshLemmas.{begun-due, begun-free, due-kept, is-ap
 use Rattle.noc_cycles.proofs.LocalLemmas.{all-fit, begins-fit, begins-up, injected-up}
 use Rattle.noc_cycles.proofs.SendLemmas.{injecting-sent, still-injecting, tails-sent}
 use Rattle.noc_cycles.proofs.ShiftLemmas.{up-lowest, up-or, up-some, up-zero}
+use Rattle.noc_cycles.proofs.SomeLemmas.{in-neither}
 
--- the routers that a local channel has
-pub some-local : (local : Ports) (r some : ℕ) (words : List ℕ) → local.width ≡ 1 → has_bit some r ≡ some_below local.vcs (λ i. has_bit (word (local.first + i) words) r)
-    → has_bit some r ≡ not (nat_eq (set_of (port_at local 0) r words) 0)
-some-local local r some words one is =
-    is
-    ∙ some-same local.vcs _ _ (λ k l. ap (λ i. has_bit (word i words) r) (sym (side-index local k one)))
-    ∙ some-asks (port_at local 0) r words
+-- something is injected where a flit of a packet that has begun is, or where one begins
+pub some-injected : (went begins sent begun r : ℕ) → has_bit went r ≡ not (nat_eq sent 0) → has_bit begins r ≡ not (nat_eq begun 0) → has_bit (bit_or went begins) r ≡ not (nat_eq (bit_or sent begun) 0)
+some-injected went begins sent begun r a b = either_members went begins r ∙ ap₂ (λ x y. x || y) a b ∙ in-neither sent begun
+
+-- .. where no packet begins, it does so in no channel
+pub none-begun : (begins begun r : ℕ) → has_bit begins r ≡ not (nat_eq begun 0) → begins ≡ 0 → begun ≡ 0
+none-begun begins begun r is none = eqb-true begun 0 (of (nat_eq begun 0) (sym is ∙ ap (λ w. has_bit w r) none ∙ has_bit-zero r))
+  where
+    of : (b : Bool) → not b ≡ false → b ≡ true
+    of true e = refl
+    of false e = sym e
 
 -- the routers whose next packet is due
 due-is : (cycle : ℕ) (due : Due) (at : List ℕ) (r : ℕ) → due.at ≡ at → AreDue cycle due → r < 64 → has_bit due.ready r ≡ nat_le (slice_index at r) cycle

@@ -9,32 +9,11 @@ ghost use Rattle.noc_columns.specs.declared.sets.TheConstants.{CHANNELS};
 ghost use Rattle.noc_columns.specs.declared.words.TheConstants.{ROUTERS};
 ghost use Rattle.noc_cycles.specs.Concluding.{HaveArrived};
 
-use crate::begins::some_in;
 use noc_columns::{CHANNELS, ChannelTable, ROUTERS, Words, but_lowest, least};
 
 /// The packets that leave the network from these input channels of a block arrive in this cycle.
 #[inline(never)]
 pub fn arrive_all(
-    table: &ChannelTable,
-    cycle: u32,
-    arrived: &Words,
-    packets: &[[u32; CHANNELS]; ROUTERS],
-    arrivals: &mut [u32],
-)
-    requires { (r k : ℕ) → r < ROUTERS
-        → has_bit (set_of (channels_of table.now.ports) r arrived.now) k ≡ true
-        → packet_in packets.now r k < length arrivals.old }
-    ensures { HaveArrived cycle ROUTERS (λ r. set_of (channels_of table.now.ports) r arrived.now)
-        (packet_in packets.now) (slice_index arrivals.old) (slice_index arrivals.new) }
-{
-    let local = &table.ports.local;
-    if some_in(arrived, 0, local.first + local.vcs) != 0 {
-        arrive_by_channel(table, cycle, arrived, packets, arrivals);
-    }
-}
-
-// .. channel by channel.
-fn arrive_by_channel(
     table: &ChannelTable,
     cycle: u32,
     arrived: &Words,

@@ -36,8 +36,6 @@ pub struct Work {
     pub returned: Returned<Words>,
     /// What the input channels can do.
     pub standing: Standing<Words>,
-    /// By router, the output channels that are idle before anything is decided.
-    pub idle: [u64; ROUTERS],
     /// What is decided of them.
     pub decided: Decided<Words>,
     /// Those that ask for an output channel and are not granted it.
@@ -48,4 +46,6 @@ pub struct Work {
     pub left: Links<Words>,
     /// The input channels from which packets leave the network.
     pub arrived: Words,
+    /// The routers that have such a channel.
+    pub leaving: u64,
 }

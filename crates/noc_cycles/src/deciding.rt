@@ -67,8 +67,8 @@ pub fn decide(
       left = work.new.left;
     } }
 {
-    clear(pattern.frame.groups, &mut block.grants.granted);
-    clear(pattern.frame.groups, &mut work.lost);
+    let groups = pattern.frame.groups;
+    clear(groups, &mut block.grants.granted, &mut work.lost);
     allocate(
         &pattern.table,
         &mut block.marks,

@@ -68,7 +68,6 @@ pub(crate) const NO_WORK: Work = Work {
         ready: NO_WORDS,
         last: NO_WORDS,
     },
-    idle: [0; ROUTERS],
     decided: Decided {
         picked: NO_WORDS,
         past: NO_WORDS,
@@ -84,6 +83,7 @@ pub(crate) const NO_WORK: Work = Work {
     },
     left: NO_LINKS,
     arrived: NO_WORDS,
+    leaving: 0,
 };
 
 const NO_LINKS: Links<Words> = Links {

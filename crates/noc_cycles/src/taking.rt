@@ -4,10 +4,12 @@ ghost use Rattle.std.specs.Prelude.{◌≡◌, ◌≢◌, ◌+◌, ◌*◌, ◌<
 ghost use Rattle.noc_packet.specs.Set.{has_bit};
 ghost use Rattle.noc_sets.specs.Cycle.{Router};
 ghost use Rattle.noc_sets.specs.Layout.{Layout};
+ghost use Rattle.noc_sets.specs.Sets.{up_by};
 ghost use Rattle.noc_sets.specs.Source.{start_in};
 ghost use Rattle.noc_columns.specs.Channels.{standing_by};
+ghost use Rattle.noc_columns.specs.Heads.{packet_in};
 ghost use Rattle.noc_columns.specs.Marks.{ChangesIdle};
-ghost use Rattle.noc_columns.specs.Picks.{channels_of, links_of};
+ghost use Rattle.noc_columns.specs.Picks.{channels_of, links_of, port_at};
 ghost use Rattle.noc_columns.specs.Sources.{AreDue, begun_if, left_in, sent_if, source_in, starts_by};
 ghost use Rattle.noc_columns.specs.Words.{set_of};
 ghost use Rattle.noc_columns.specs.declared.words.TheConstants.{ROUTERS};
@@ -15,11 +17,12 @@ ghost use Rattle.noc_cycles.specs.Held.{ShowsHeld, held_at, links_at};
 ghost use Rattle.noc_cycles.specs.May.{MayTake};
 ghost use Rattle.noc_cycles.specs.Taking.{FitsLayout, HasCredits, HasInjected, HasTaken, IsPunctual, MaySend};
 
-use crate::begins::{begin_packets, some_in};
+use crate::begins::begin_packets;
 use crate::block::{Block, Work};
 use crate::pattern::Pattern;
 use noc_columns::{
-    Links, Marks, Sources, Start, Words, add_links, bring, inject, land, look_up, take_credits,
+    CHANNELS, Links, Marks, ROUTERS, Sources, Start, Words, add_links, bring, inject, land,
+    look_up, take_credits,
 };
 
 /// What comes to the routers of a block is taken: credits, what their sources inject, and flits.
@@ -59,7 +62,7 @@ pub fn take(
     } }
 {
     count_credits(pattern, block, work);
-    inject_flits(pattern, starts, cycle, block, &mut work.came);
+    let injected = inject_flits(pattern, starts, cycle, block, &mut work.came);
     let _heading = land(
         &pattern.frame,
         &work.came,
@@ -67,19 +70,20 @@ pub fn take(
         &mut work.standing,
         &mut work.verdicts.no_credit,
     );
-    some_come(pattern, &work.came)
+    injected | some_come(pattern, &work.came)
 }
 
-// The routers to which flits or credits come.
+// The routers to which flits or credits come over the links.
 fn some_come(pattern: &Pattern, came: &Links<Words>) -> u64
     ensures { (r : ℕ) → has_bit result r ≡ not (nat_eq
-        (bit_or (set_of (channels_of pattern.now.table.ports) r came.now.flits)
+        (bit_or (set_of (links_of pattern.now.table.ports.links) r came.now.flits)
         (set_of (links_of pattern.now.table.ports.links) r came.now.credits)) 0) }
 {
-    let links = pattern.table.ports.links.vcs * pattern.table.ports.links.width;
-    let flits = some_in(&came.flits, 0, links + pattern.table.ports.links.vcs);
-    let credits = some_in(&came.credits, 0, links);
-    flits | credits
+    let mut some = 0;
+    for i in 0..pattern.table.ports.links.vcs * pattern.table.ports.links.width {
+        some = some | came.flits[i] | came.credits[i];
+    }
+    some
 }
 
 // The credits that come are counted. Channels that drain and have all their credits again are
@@ -129,14 +133,15 @@ fn free_links(pattern: &Pattern, routers: u64, home: &Words, marks: &mut Marks)
     }
 }
 
-// The sources of a block inject. What they inject comes to its local channels.
+// The sources of a block inject. What they inject comes to its local channels. The answer is the
+// routers in which something does.
 fn inject_flits(
     pattern: &Pattern,
     starts: &[Start],
     cycle: u32,
     block: &mut Block,
     came: &mut Links<Words>,
-)
+) -> u64
     requires { MaySend pattern.now.table.ports (starts_by starts.now) cycle block.old }
     ensures injected { (layout : Layout) (r : ℕ) → FitsLayout pattern.now layout → r < ROUTERS
         → HasInjected pattern.now layout (starts_by starts.now) cycle
@@ -151,27 +156,63 @@ fn inject_flits(
       sources = block.new.sources;
     } }
     ensures credits { came.new.credits ≡ came.old.credits }
+    ensures some { (r : ℕ) → has_bit result r ≡ not (nat_eq
+        (set_of (port_at pattern.now.table.ports.local 0) r came.new.flits) 0) }
 {
     let local = &pattern.table.ports.local;
     block.sources.due.pass(cycle);
-    let begins = inject(
+    let (went, begins) = inject(
         &pattern.frame,
         local,
         block.sources.due.ready,
         &block.inputs,
         &mut block.injection,
     );
-    begin_packets(
-        local,
-        pattern.table.ports.links.width * pattern.table.ports.links.vcs,
+    begin_if(
+        pattern,
         starts,
+        begins,
         &block.sources.queue,
         &block.injection.begun,
         &mut block.packets,
     );
-    let went = some_in(&block.injection.went, local.first, local.vcs);
     let last = send_all(starts, cycle, went, begins, &mut block.sources);
     bring(local, last, &mut block.injection, came);
+    went | begins
+}
+
+// Packets begin in these local channels, if there are some in these routers.
+#[inline(always)]
+fn begin_if(
+    pattern: &Pattern,
+    starts: &[Start],
+    routers: u64,
+    queue: &[u32; ROUTERS],
+    begun: &Words,
+    packets: &mut [[u32; CHANNELS]; ROUTERS],
+)
+    requires queue { (r v : ℕ) → r < ROUTERS
+        → has_bit (set_of (port_at pattern.now.table.ports.local 0) r begun.now) v ≡ true
+        → slice_index queue.now r < length starts.now }
+    requires none { routers ≡ 0 → (r : ℕ)
+        → set_of (port_at pattern.now.table.ports.local 0) r begun.now ≡ 0 }
+    ensures { (r k : ℕ) → r < ROUTERS → packet_in packets.new r k
+        ≡ (if has_bit (up_by (set_of (port_at pattern.now.table.ports.local 0) r begun.now)
+        (pattern.now.table.ports.links.width * pattern.now.table.ports.links.vcs)) k
+        then (start_in (starts_by starts.now) (slice_index queue.now r)).number
+        else packet_in packets.old r k) }
+{
+    if routers != 0 {
+        let links = &pattern.table.ports.links;
+        begin_packets(
+            &pattern.table.ports.local,
+            links.width * links.vcs,
+            starts,
+            queue,
+            begun,
+            packets,
+        );
+    }
 }
 
 // In some routers a flit of a packet that has begun is injected, and in others the next packet

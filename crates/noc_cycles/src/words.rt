@@ -19,14 +19,17 @@ pub(crate) fn copy(groups: usize, from: &Words, to: &mut Words)
     }
 }
 
-// No router is left in so many groups of four words.
+// No router is left in so many groups of four words of two sets. (They are cleared side by side,
+// since a loop for each would be a call.)
 #[inline(always)]
-pub(crate) fn clear(groups: usize, words: &mut Words)
+pub(crate) fn clear(groups: usize, first: &mut Words, second: &mut Words)
     requires { 4 * groups ≤ WORDS }
-    ensures { (k : ℕ) → k < 4 * groups → word k words.new ≡ 0 }
+    ensures first { (k : ℕ) → k < 4 * groups → word k first.new ≡ 0 }
+    ensures second { (k : ℕ) → k < 4 * groups → word k second.new ≡ 0 }
 {
     for i in 0..4 * groups {
-        words[i] = 0;
+        first[i] = 0;
+        second[i] = 0;
     }
 }
 

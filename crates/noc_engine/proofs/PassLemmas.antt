@@ -19,7 +19,7 @@ use Rattle.noc_cycles.specs.declared.block.Block.{Block}
 use Rattle.noc_cycles.specs.declared.block.Work.{Work}
 use Rattle.noc_cycles.specs.declared.pattern.Pattern.{Pattern}
 use Rattle.noc_cycles.proofs.PartLemmas.{all-within}
-use Rattle.noc_engine.specs.Passes.{HasCounted, arrived_of, arrived_or, packets_of, packets_or}
+use Rattle.noc_engine.specs.Passes.{HasCounted, TellLeaving, arrived_of, arrived_or, packets_of, packets_or}
 use Rattle.noc_engine.proofs.ListLemmas.{block-of, place-of}
 
 -- ---- some of one block, or of those before
@@ -69,6 +69,9 @@ pub may-arrive : (ports : RouterPorts) (blocks : List Block) (works : List Work)
 may-arrive ports blocks works n count d e inside long may r k l h =
     subst (λ p. p < count) (packets-at blocks n r k d l inside)
     (may (64 * n + r) k (omega (arith, inside, l)) (ap (λ c. has_bit c k) (arrived-at ports works n r e l (omega (arith, inside, long))) ∙ h))
+
+pub none-leaves : (ports : RouterPorts) (works : List Work) (n : ℕ) (e : Work) → n < length works → TellLeaving ports works → (get_or works n e).leaving ≡ 0 → (r : ℕ) → set_of (channels_of ports) r (get_or works n e).arrived ≡ 0
+none-leaves ports works n e inside tells = tells n (get_or works n e) (slice_get-get_or works n e inside)
 
 -- ---- a block is counted
 pub counted-here : (pattern : Pattern) (works : List Work) (counts : List Counts) (n : ℕ) (x : Counts) (block : Block) (e : Work) (f : Counts) → n < length counts

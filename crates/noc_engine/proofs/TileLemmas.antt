@@ -20,9 +20,11 @@ use Rattle.noc_theory_bits.specs.Network.{AreArrivals, IsLastAfter, IsOwn, numbe
 use Rattle.noc_theory_bits.specs.Owners.{granted_to}
 use Rattle.noc_theory_bits.specs.Sends.{Sends}
 use Rattle.noc_columns.proofs.PickLemmas.{some-each}
-use Rattle.noc_columns.proofs.SetLemmas.{below-members}
-use Rattle.noc_columns.specs.Picks.{channels_of}
-use Rattle.noc_columns.specs.Words.{word}
+use Rattle.noc_columns.proofs.SetLemmas.{below-members, below-same}
+use Rattle.noc_columns.specs.Channels.{links_by}
+use Rattle.noc_columns.specs.Picks.{channels_of, links_of}
+use Rattle.noc_columns.specs.Words.{set_of, word}
+use Rattle.noc_columns.specs.declared.channels.Links.{Links}
 use Rattle.noc_columns.specs.declared.due.TheConstants.{NEVER}
 use Rattle.noc_columns.specs.declared.ports.RouterPorts.{RouterPorts}
 use Rattle.noc_counts.specs.Counts.{counted_in}
@@ -38,11 +40,12 @@ use Rattle.noc_cycles.specs.declared.block.Block.{Block}
 use Rattle.noc_cycles.specs.declared.block.Work.{Work}
 use Rattle.noc_cycles.specs.declared.notes.Note.{Note}
 use Rattle.noc_cycles.specs.declared.pattern.Pattern.{Pattern}
+use Rattle.noc_cycles.proofs.PartLemmas.{links-within}
 use Rattle.noc_theory_cycles.specs.Blank.{DoesNothing}
 use Rattle.noc_theory_cycles.specs.Fits.{bits_of, layout_of}
 use Rattle.noc_theory_cycles.proofs.ArriveLemmas.{arrived-network}
 use Rattle.noc_theory_cycles.proofs.NodeLemmas.{node-nothing, node-sends}
-use Rattle.noc_engine.specs.Passes.{AreAllNotes, HasCounted, HaveLeft, HaveTurned, MayTurnAll, TellAll, arrived_of, arrived_or, packets_of, packets_or}
+use Rattle.noc_engine.specs.Passes.{AreAllNotes, HasCounted, HaveLeft, HaveTurned, MayTurnAll, TellAll, TellLeaving, arrived_of, arrived_or, packets_of, packets_or}
 use Rattle.noc_engine.specs.Shows.{HasLists, IsPlanOf, ShowsBlock, ShowsTile, arrival_by, has_router}
 use Rattle.noc_engine.specs.Tiles.{AreNotesBy, AreNotesOf, HasRunBlock, HasTurnedTile, MayRunTile, granted_in, left_at, left_of}
 use Rattle.noc_engine.specs.Turns.{HasTurnedBlock, MayTurn}
@@ -68,6 +71,15 @@ placed tile s e =
 -- tiles of the same blocks have the same
 pub same-routers : (a b : Tile) (s : ℕ) → a.first ≡ b.first → length a.blocks.items ≡ length b.blocks.items → has_router a s ≡ has_router b s
 same-routers a b s first long = ap₂ (λ f l. nat_le f (s / 64) && nat_lt (s / 64) (f + l)) first long
+
+-- what leaves a router is told by the words of its link channels
+left-alike : (pattern : Pattern) (r : ℕ) (a b : Links (List ℕ)) → ((k : ℕ) → k < 4 * pattern.frame.link_groups → links_by (word k) a ≡ links_by (word k) b) → left_at pattern.table.ports a r ≡ left_at pattern.table.ports b r
+left-alike pattern r a b same = λ x. record { flits = of (λ (w : Links ℕ). w.flits) a.flits b.flits (λ k. refl) (λ k. refl) x; tails = of (λ (w : Links ℕ). w.tails) a.tails b.tails (λ k. refl) (λ k. refl) x; credits = of (λ (w : Links ℕ). w.credits) a.credits b.credits (λ k. refl) (λ k. refl) x }
+  where
+    of : (kind : Links ℕ → ℕ) (s t : List ℕ) → ((k : ℕ) → word k s ≡ kind (links_by (word k) a)) → ((k : ℕ) → word k t ≡ kind (links_by (word k) b)) → set_of (links_of pattern.table.ports.links) r s ≡ set_of (links_of pattern.table.ports.links) r t
+    of kind s t of_s of_t =
+        let n = links_of pattern.table.ports.links in
+        below-same n.size _ _ (λ c l. ap (λ w. has_bit w r) (of_s (n.index c) ∙ ap kind (same (n.index c) (links-within pattern c l)) ∙ sym (of_t (n.index c))))
 
 -- the cycle that is to run is the one that a tile counts
 pub at-cycle : (net : Setup) (relation : Routes) (plan : Plan) (n : ℕ) (words : ℕ → Router) (tile : Tile) → MayRunTile net relation plan n words tile → MayRunTile net relation plan tile.cycle words tile
@@ -205,6 +217,12 @@ module _ (net : Setup) (relation : Routes) (plan : Plan) (n : ℕ) (words : ℕ 
         let one = turned-at (s / 64) (block-there s l) in
         ap (λ (o : Option Work). arrived_or all o (s % 64)) one.on ∙ one.is.arrived (s % 64) (in-block s) ∙ ap (λ t. (turns t).arrived) (whole s)
 
+    pub leaving : TellLeaving all worked
+    leaving b work on =
+        let inside = slice_get_within worked b work on in
+        let block = there turned b (omega (arith, inside, long, works_long)) in
+        (has.each b block.0 work block.1 on).leaving
+
     pub arriving : (s k : ℕ) → s < 64 * length turned → has_bit (arrived_of all worked s) k ≡ true → packets_of turned s k < length net.packets
     arriving s k l e =
         let one = turned-at (s / 64) (block-there s (omega (arith, l, long))) in
@@ -255,7 +273,7 @@ module _ (net : Setup) (relation : Routes) (plan : Plan) (n : ℕ) (words : ℕ 
 
     -- ---- once that is kept, told and counted
     module _ (is : Tile) (first_is : is.first ≡ first) (cycle_is : is.cycle ≡ n + 1) (blocks_are : is.blocks.items ≡ turned) (works_are : is.works.items ≡ worked)
-        (gone : HaveLeft first worked is.left.items) (left_long : length is.left.items ≡ length plan.around.items)
+        (gone : HaveLeft (4 * pattern.frame.link_groups) first worked is.left.items) (left_long : length is.left.items ≡ length plan.around.items)
         (noted : AreAllNotes net tells first (length turned) is.notes.items) (room : HaveRoom (length turned) is.notes.items)
         (counted : (b : ℕ) (block : Block) (work : Work) (old new : Counts) → slice_get turned b ≡ Some block → slice_get worked b ≡ Some work → slice_get was.counts.items b ≡ Some old → slice_get is.counts.items b ≡ Some new → HasCounted all block work old new)
         (counts_long : length is.counts.items ≡ many)
@@ -343,7 +361,7 @@ module _ (net : Setup) (relation : Routes) (plan : Plan) (n : ℕ) (words : ℕ 
           let leaves = one.is.leaves r m in
           let sends = router-sends b r port l m known (omega (arith, low)) in
           let inside : (vc : ℕ) → vc < net.relation.vcs → port * net.relation.vcs + vc < links_count pattern = λ vc u. subst (λ k. port * net.relation.vcs + vc < k) link-count (let k = mul-add-lt port net.relation.vcs vc (local_port g) low u in omega (arith, k)) in
-          let words_are : left_of all is.left.items (64 * (first + b) + r) ≡ left_at all one.work.left r = ap₂ (left_at all) (ap (left_by is.left.items) (block-of (first + b) r m) ∙ gone b one.work one.on) (place-of (first + b) r m) in
+          let words_are : left_of all is.left.items (64 * (first + b) + r) ≡ left_at all one.work.left r = ap₂ (left_at all) (ap (left_by is.left.items) (block-of (first + b) r m)) (place-of (first + b) r m) ∙ left-alike pattern r (left_by is.left.items (first + b)) one.work.left (λ k u. gone b k one.work one.on u) in
           subst (λ (w : Left). Sends net n (64 * (first + b) + r) port w (granted_to net n (64 * (first + b) + r))) (sym words_are) (record {
             beat = record {
               flits = λ vc u. leaves.flits (port * net.relation.vcs + vc) (inside vc u) ∙ sends.beat.flits vc u;

@@ -1,14 +1,14 @@
 -- Each router of a block has its turn.
 use Rattle.std.proofs.Common.{◌≡◌, ◌≢◌, ℕ, ◌+◌, ◌-◌, ◌*◌, ◌^◌, ◌<◌, ◌≤◌, Bool, true, false, List, length, map, arith, ap, ap₂, refl, subst, sym, ◌∙◌, inl, inr, bit_or}
 use Rattle.std.specs.Prelude.{◌⊎◌, ◌&&◌, ◌||◌, not, nat_eq}
-use Rattle.std.proofs.lemmas.Bool.{cases_eq, cases_lt, eq-eqb, ne_eqb}
+use Rattle.std.proofs.lemmas.Bool.{cases_eq, cases_lt, eq-eqb, false≢true, ne_eqb}
 use Rattle.std.proofs.lemmas.List.{length-map}
 use Rattle.noc_packet.specs.Set.{has_bit}
 use Rattle.noc_packet.proofs.SetLemmas.{either_members, has_bit-zero}
-use Rattle.noc_sets.specs.Column.{Column}
 use Rattle.noc_sets.specs.Grants.{asked_of}
 use Rattle.noc_sets.specs.Counts.{with_verdicts}
 use Rattle.noc_topo.specs.Shape.{nodes}
+use Rattle.noc_alloc.specs.Members.{MembersAreBelow}
 use Rattle.noc_route.specs.Routes.{Routes}
 use Rattle.noc_sets.specs.Cycle.{Router, Still, Turn, still_of}
 use Rattle.noc_sets.specs.Layout.{Layout}
@@ -17,6 +17,7 @@ use Rattle.noc_sets.specs.Unions.{some_below}
 use Rattle.noc_sets.proofs.MemberLemmas.{either-zero, least_below, least_is}
 use Rattle.noc_sets.proofs.UnionLemmas.{some-none, some-same}
 use Rattle.noc_theory.specs.Good.{IsGoodSetup}
+use Rattle.noc_theory.specs.Lockstep.{view_at}
 use Rattle.noc_theory.specs.Network.{Setup}
 use Rattle.noc_theory.specs.declared.limits.TheConstants.{CYCLE_LIMIT}
 use Rattle.noc_theory_bits.specs.Network.{all_starts, numbers_in, tells_in}
@@ -35,10 +36,11 @@ use Rattle.noc_sets.specs.Found.{found_in}
 use Rattle.noc_columns.specs.declared.channels.Decided.{Decided}
 use Rattle.noc_columns.specs.declared.channels.Standing.{Standing}
 use Rattle.noc_columns.specs.declared.channels.Verdicts.{Verdicts}
-use Rattle.noc_counts.specs.Findings.{finding_of}
+use Rattle.noc_counts.specs.Findings.{finding_of, outs_of}
 use Rattle.noc_counts.specs.Told.{told_at}
-use Rattle.noc_counts.proofs.DecidedLemmas.{is-told, shows-found}
+use Rattle.noc_counts.proofs.DecidedLemmas.{asks-for-granted, is-told, shows-found}
 use Rattle.noc_counts.proofs.FoundLemmas.{found-is}
+use Rattle.noc_counts.proofs.WantedLemmas.{all-wanted, was-waiting}
 use Rattle.noc_cycles.specs.Concluding.{HasConcludedHeld, decided_at, standing_at, verdicts_at}
 use Rattle.noc_cycles.specs.Deciding.{HasDecidedHeld}
 use Rattle.noc_cycles.specs.Gathered.{ShowsLeft}
@@ -52,12 +54,14 @@ use Rattle.noc_cycles.specs.declared.block.Block.{Block}
 use Rattle.noc_cycles.specs.declared.block.Work.{Work}
 use Rattle.noc_cycles.specs.declared.pattern.Pattern.{Pattern}
 use Rattle.noc_cycles.proofs.TurningLemmas.{worked-through}
+use Rattle.noc_theory_cycles.specs.Blank.{channels_count}
 use Rattle.noc_theory_cycles.specs.Fits.{FitsNetwork, bits_of, layout_of}
 use Rattle.noc_theory_cycles.specs.Nodes.{IsNodeTurn, ShowsNode}
 use Rattle.noc_theory_cycles.proofs.HeadLemmas.{routable}
 use Rattle.noc_theory_cycles.proofs.LayoutLemmas.{fits-layout}
 use Rattle.noc_theory_cycles.proofs.NodeLemmas.{node-may-conclude, node-may-decide, node-may-inject, node-may-take}
 use Rattle.noc_theory_cycles.proofs.TellLemmas.{node-tells}
+use Rattle.noc_engine.specs.Finds.{found_at}
 use Rattle.noc_engine.specs.Turns.{HasTurnedBlock, MayTurn}
 use Rattle.noc_engine.specs.declared.plan.Plan.{Plan}
 
@@ -101,16 +105,22 @@ pub none-comes : (comes : ℕ) (test : ℕ → Bool) → comes ≡ 0 → some_be
 none-comes comes test none = some-same 64 test (λ r. has_bit comes r || test r) (λ r l. sym (ap (λ n. has_bit n r || test r) none ∙ ap (λ b. b || test r) (has_bit-zero r)))
 
 -- ---- one router
--- what is found of it follows from its verdicts
+-- what is found of it follows from its verdicts and the output channels that are granted
 findings-follow : (pattern : Pattern) (layout : Layout) (sets : ℕ → ℕ → ℕ) (s : Still) (a h n : Held) (standing : Standing ℕ) (decided : Decided ℕ) (granted lost arrived : ℕ) (left gone : Links ℕ) (v w : Verdicts ℕ)
     → ShowsStill pattern a standing v.no_credit s → HasDecidedHeld pattern layout sets s a h standing decided granted lost left → HasConcludedHeld pattern standing decided granted gone arrived h n v w
-    → ((i : ℕ) → has_bit a.inputs.active i ≡ true → has_bit a.waiting i ≡ false)
-    → (i : ℕ) → finding_of pattern.table.ports.links.vcs (verdict_sets_by standing w n.inputs.waiting granted lost) a.idle n i ≡ found_in pattern.table.ports.links.vcs (verdict_sets_by standing w n.inputs.waiting granted lost) s.filled s.column s.marks i
-findings-follow pattern layout sets s a h n standing decided granted lost arrived left gone v w shows did done apart i =
-    found-is pattern.table.ports.links.vcs s.filled decided.picked a.idle s.column s.marks standing w n.inputs.waiting granted lost n
+    → ((i : ℕ) → has_bit a.inputs.active i ≡ true → has_bit a.waiting i ≡ false) → MembersAreBelow (channels_count pattern) a.waiting → MembersAreBelow (channels_count pattern) a.idle
+    → ((i o : ℕ) → has_bit a.waiting i ≡ true → has_bit (a.set i) o ≡ true → has_bit a.wanted o ≡ true)
+    → (i : ℕ)
+    → finding_of pattern.table.ports.links.vcs (verdict_sets_by standing w n.inputs.waiting granted lost) (outs_of (channels_count pattern) pattern.table.ports.links.vcs granted n) n i
+    ≡ found_in pattern.table.ports.links.vcs (verdict_sets_by standing w n.inputs.waiting granted lost) s.filled s.column s.marks i
+findings-follow pattern layout sets s a h n standing decided granted lost arrived left gone v w shows did done apart below idles wanted i =
+    let vcs = pattern.table.ports.links.vcs in
+    let size = channels_count pattern in
+    found-is vcs s.filled decided.picked (outs_of size vcs granted n) s.column s.marks standing w n.inputs.waiting granted lost n
     (is-told pattern layout sets s a h standing decided granted lost v.no_credit left shows did v w n arrived gone refl done)
-    (shows-found pattern layout sets s a h standing decided granted lost v.no_credit left shows did v w n arrived gone refl done apart a.idle
-    (λ k waits. ap (λ (c : Column). asked_of c.idle (s.marks.set k)) shows.column)) i
+    (shows-found pattern layout sets s a h standing decided granted lost v.no_credit left shows did v w n arrived gone refl done apart (outs_of size vcs granted n)
+    (λ k waits. asks-for-granted pattern layout sets s a h standing decided granted lost v.no_credit left shows did v w n arrived gone refl done below idles wanted k waits
+    ∙ (λ x. asked_of (outs_of size vcs granted (sym done.rest x)) (s.marks.set k)))) i
 
 -- this is its turn, of which these words of its block tell
 pub record IsTurned (net : Setup) (pattern : Pattern) (layout : Layout) (n node r : ℕ) (b : Router) (block : Block) (work : Work) (happens : Bool) (t : Turn) : Type 0 where
@@ -120,7 +130,7 @@ pub record IsTurned (net : Setup) (pattern : Pattern) (layout : Layout) (n node 
   pub arrived : set_of (channels_of pattern.table.ports) r work.arrived ≡ t.arrived
   pub told : Tells net.relation.grid net.relation.vcs node (set_of (channels_of pattern.table.ports) r block.grants.granted) (port_in pattern.table.ports block r) (vc_in pattern.table.ports block r) (packet_in block.packets r) (tells_in net layout n b t)
   pub counted : (i : ℕ) → t.counts i ≡ with_verdicts (told_at (channels_of pattern.table.ports) block work r) i (b.counts i)
-  pub found : (i : ℕ) → t.found i ≡ finding_of pattern.table.ports.links.vcs (told_at (channels_of pattern.table.ports) block work r) (word r work.idle) (held_at pattern.table.ports block r) i
+  pub found : (i : ℕ) → t.found i ≡ found_at pattern block work r i
   pub happened : t.happened ≡ happens
 
 module _ (count : ℕ) (net : Setup) (layout : Layout) (pattern : Pattern) (n node r : ℕ) (links : Links ℕ) (h : Held) (b : Router) (b1 b2 b3 : Block) (w1 w2 w3 : Work) (comes : Bool)
@@ -132,8 +142,7 @@ module _ (count : ℕ) (net : Setup) (layout : Layout) (pattern : Pattern) (n no
     (set_of (channels_of pattern.table.ports) r w3.arrived) (held_at pattern.table.ports b2 r) (held_at pattern.table.ports b3 r) (verdicts_at pattern.table.ports w2.verdicts r) (verdicts_at pattern.table.ports w3.verdicts r))
     (deciding_block : b2 ≡ record b1 { grants = b2.grants; marks = b2.marks; switch = b2.switch }) (deciding_work : w2 ≡ record w1 { decided = w2.decided; lost = w2.lost; left = w2.left })
     (concluding_block : b3 ≡ record b2 { inputs = b3.inputs; outputs = b3.outputs; marks = b3.marks })
-    (concluding_work : w3 ≡ record w2 { verdicts = w3.verdicts; left = record w2.left { credits = w3.left.credits }; arrived = w3.arrived })
-    (idle_kept : w1.idle ≡ b1.marks.idle) where
+    (concluding_work : w3 ≡ record w2 { verdicts = w3.verdicts; left = record w2.left { credits = w3.left.credits }; arrived = w3.arrived; leaving = w3.leaving }) where
   abbrev ports : RouterPorts
   ports = pattern.table.ports
 
@@ -213,19 +222,25 @@ module _ (count : ℕ) (net : Setup) (layout : Layout) (pattern : Pattern) (n no
   tells = node-tells count net layout pattern n node links h b setup few fits is (held_at ports b1 r) (standing_at ports w3.standing r) (all w2.verdicts.no_credit) comes taken sets (held_at ports b2 r) (decided_at ports w3.decided r)
       (all b3.grants.granted) (all w3.lost) (links_at ports w2.left r) decided worked.turn worked.grants
 
-  -- the output channels that were idle before it was decided
-  idle-on : word r b1.marks.idle ≡ word r w3.idle
-  idle-on = ap (word r) (sym (ap (λ (w : Work). w.idle) concluding_work ∙ ap (λ (w : Work). w.idle) deciding_work ∙ idle_kept))
+  -- what is asked of it before it is decided what it does
+  may-decide : MayDecide pattern (length net.packets) (nodes net.relation.grid) node (held_at ports b1 r) (standing_at ports w3.standing r)
+  may-decide = node-may-decide count net layout pattern n node links h b setup few fits is (held_at ports b1 r) (standing_at ports w3.standing r) (all w2.verdicts.no_credit) comes taken
 
-  apart : (i : ℕ) → has_bit (held_at ports b1 r).inputs.active i ≡ true → has_bit (held_at ports b1 r).waiting i ≡ false
-  apart = (node-may-decide count net layout pattern n node links h b setup few fits is (held_at ports b1 r) (standing_at ports w3.standing r) (all w2.verdicts.no_credit) comes taken).apart
+  wanted : (i o : ℕ) → has_bit (held_at ports b1 r).waiting i ≡ true → has_bit ((held_at ports b1 r).set i) o ≡ true → has_bit (held_at ports b1 r).wanted o ≡ true
+  wanted i o waits may = elim (cases_lt node (nodes net.relation.grid)) [
+    | inl l ↦
+        all-wanted pattern layout (all_starts net) n takes.up b (held_at ports b1 r) (standing_at ports w3.standing r) (all w2.verdicts.no_credit) taken.shows count (view_at net n node) (is.shows l).column i o waits may
+    | inr u ↦
+        let before = was-waiting pattern layout (all_starts net) n takes.up b (held_at ports b1 r) (standing_at ports w3.standing r) (all w2.verdicts.no_credit) taken.shows i waits in
+        absurd (false≢true (sym (ap (λ w. has_bit w i) (is.blank u).waiting ∙ has_bit-zero i) ∙ before))
+  ]
 
-  found : (i : ℕ) → worked.turn.found i ≡ finding_of ports.links.vcs (told_at (channels_of ports) b3 w3 r) (word r w3.idle) (held_at ports b3 r) i
+  found : (i : ℕ) → worked.turn.found i ≡ found_at pattern b3 w3 r i
   found i =
       worked.found i
       ∙ sym (findings-follow pattern layout sets (still_of layout (all_starts net) n takes.up b) (held_at ports b1 r) (held_at ports b2 r) (held_at ports b3 r) (standing_at ports w3.standing r) (decided_at ports w3.decided r)
-      (all b3.grants.granted) (all w3.lost) (all w3.arrived) (links_at ports w2.left r) (links_at ports w3.left r) (verdicts_at ports w2.verdicts r) (verdicts_at ports w3.verdicts r) taken.shows decided concluded apart i)
-      ∙ ap (λ x. finding_of ports.links.vcs (told_at (channels_of ports) b3 w3 r) x (held_at ports b3 r) i) idle-on
+      (all b3.grants.granted) (all w3.lost) (all w3.arrived) (links_at ports w2.left r) (links_at ports w3.left r) (verdicts_at ports w2.verdicts r) (verdicts_at ports w3.verdicts r) taken.shows decided concluded may-decide.apart
+      may-decide.waiting may-decide.idle wanted i)
 
   pub router-turned : (t : Turn) × IsTurned net pattern layout n node r b b3 w3 happens t
   router-turned = (
@@ -355,7 +370,8 @@ module _ (net : Setup) (relation : Routes) (plan : Plan) (n b : ℕ) (words : �
         (held_at all_ports b2 r) (held_at all_ports b3 r) (verdicts_at all_ports w2.verdicts r) (verdicts_at all_ports w3.verdicts r))
         (deciding_block : b2 ≡ record b1 { grants = b2.grants; marks = b2.marks; switch = b2.switch }) (deciding_work : w2 ≡ record w1 { decided = w2.decided; lost = w2.lost; left = w2.left })
         (concluding_block : b3 ≡ record b2 { inputs = b3.inputs; outputs = b3.outputs; marks = b3.marks })
-        (concluding_work : w3 ≡ record w2 { verdicts = w3.verdicts; left = record w2.left { credits = w3.left.credits }; arrived = w3.arrived }) (punctual : IsPunctual n all_ports b1) (idle_kept : w1.idle ≡ b1.marks.idle)
+        (concluding_work : w3 ≡ record w2 { verdicts = w3.verdicts; left = record w2.left { credits = w3.left.credits }; arrived = w3.arrived; leaving = w3.leaving }) (punctual : IsPunctual n all_ports b1)
+        (leaving : w3.leaving ≡ 0 → (r : ℕ) → set_of (channels_of all_ports) r w3.arrived ≡ 0)
         (something : happened
         ≡ some_below 64
         (λ r. has_bit comes r || not (nat_eq
@@ -377,7 +393,7 @@ module _ (net : Setup) (relation : Routes) (plan : Plan) (n b : ℕ) (words : �
 
       turned : (r : ℕ) (l : r < 64) → (t : Turn) × Turned r t
       turned r l = router-turned (bits_of pattern_is) net layout_is pattern_is n (64 * b + r) r (links_at all_ports w0.came r) (held_at all_ports b0 r) (words (64 * b + r)) b1 b2 b3 w1 w2 w3 (has_bit comes r) may.good may.few may.plan_is.fits layout-fits (node r l)
-          (block-taken r l) (decided-by-all r l) (concludes r l) deciding_block deciding_work concluding_block concluding_work idle_kept
+          (block-taken r l) (decided-by-all r l) (concludes r l) deciding_block deciding_work concluding_block concluding_work
 
       chosen : (turns : ℕ → Turn) × ((r : ℕ) → r < 64 → Turned r (turns (64 * b + r)))
       chosen = turns-of b Turned turned
@@ -390,12 +406,13 @@ module _ (net : Setup) (relation : Routes) (plan : Plan) (n b : ℕ) (words : �
           shows = λ r l. (chosen.1 r l).shows;
           packets = λ r l.
               router-packets (bits_of pattern_is) net layout_is pattern_is n (64 * b + r) r (links_at all_ports w0.came r) (held_at all_ports b0 r) (words (64 * b + r)) b1 b2 b3 w1 w2 w3 (has_bit comes r) may.good may.few may.plan_is.fits layout-fits (node r l)
-              (block-taken r l) (decided-by-all r l) (concludes r l) deciding_block deciding_work concluding_block concluding_work idle_kept;
+              (block-taken r l) (decided-by-all r l) (concludes r l) deciding_block deciding_work concluding_block concluding_work;
           leaves = λ r l. (chosen.1 r l).leaves;
           arrived = λ r l. (chosen.1 r l).arrived;
+          leaving = leaving;
           arrive = λ r k l e.
               router-arrives (bits_of pattern_is) net layout_is pattern_is n (64 * b + r) r (links_at all_ports w0.came r) (held_at all_ports b0 r) (words (64 * b + r)) b1 b2 b3 w1 w2 w3 (has_bit comes r) may.good may.few may.plan_is.fits layout-fits (node r l)
-              (block-taken r l) (decided-by-all r l) (concludes r l) deciding_block deciding_work concluding_block concluding_work idle_kept k e;
+              (block-taken r l) (decided-by-all r l) (concludes r l) deciding_block deciding_work concluding_block concluding_work k e;
           told = λ r l. (chosen.1 r l).told;
           counted = λ r i l m. (chosen.1 r l).counted i;
           found = λ r i l. (chosen.1 r l).found i;

@@ -59,6 +59,7 @@ turned-same net plan n b words t u block work happened same has =
       packets = has.packets;
       leaves = λ r l. subst (λ (x : Turn). ShowsLeft (links_count plan.pattern) (links_at ports work.left r) x.left) (same r l) (has.leaves r l);
       arrived = λ r l. subst (λ (x : Turn). set_of (channels_of ports) r work.arrived ≡ x.arrived) (same r l) (has.arrived r l);
+      leaving = has.leaving;
       arrive = has.arrive;
       told = λ r l.
           subst (λ (x : Turn). Tells net.relation.grid net.relation.vcs (64 * b + r) (set_of (channels_of ports) r block.grants.granted) (port_in ports block r) (vc_in ports block r) (packet_in block.packets r) (tells_in net (layout_of plan.pattern) n (words (64 * b + r)) x))

@@ -9,9 +9,10 @@ use Rattle.noc_sets.specs.Counts.{with_verdicts}
 use Rattle.noc_sets.specs.Cycle.{Router, Turn}
 use Rattle.noc_sets.specs.Unions.{some_below}
 use Rattle.noc_theory.specs.Network.{Setup}
+use Rattle.noc_columns.specs.Channels.{links_by}
 use Rattle.noc_columns.specs.Heads.{packet_in}
 use Rattle.noc_columns.specs.Picks.{channels_of}
-use Rattle.noc_columns.specs.Words.{set_of}
+use Rattle.noc_columns.specs.Words.{set_of, word}
 use Rattle.noc_columns.specs.declared.channels.Links.{Links}
 use Rattle.noc_columns.specs.declared.ports.RouterPorts.{RouterPorts}
 use Rattle.noc_columns.specs.declared.words.TheConstants.{ROUTERS}
@@ -65,11 +66,18 @@ packets_or (Some block) r k = packet_in block.packets r k
 abbrev pub packets_of : List Block → ℕ → ℕ → ℕ
 packets_of blocks s = packets_or (slice_get blocks (s / ROUTERS)) (s % ROUTERS)
 
+-- where no router of a block is leaving, no packet leaves the network
+abbrev pub TellLeaving : RouterPorts → List Work → Type 0
+TellLeaving ports works =
+    (b : ℕ) (work : Work) → slice_get works b ≡ Some work → work.leaving ≡ 0
+    → (r : ℕ) → set_of (channels_of ports) r work.arrived ≡ 0
+
 -- ---- what has left
--- this has left the routers
-abbrev pub HaveLeft : ℕ → List Work → List (Links (List ℕ)) → Type 0
-HaveLeft first works left =
-    (b : ℕ) (work : Work) → slice_get works b ≡ Some work → left_by left (first + b) ≡ work.left
+-- this has left the routers, in so many words
+abbrev pub HaveLeft : ℕ → ℕ → List Work → List (Links (List ℕ)) → Type 0
+HaveLeft size first works left =
+    (b k : ℕ) (work : Work) → slice_get works b ≡ Some work → k < size
+    → links_by (word k) (left_by left (first + b)) ≡ links_by (word k) work.left
 
 -- ---- what is told
 -- the routers tell these numbers of packets by output channel

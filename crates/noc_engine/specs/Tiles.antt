@@ -13,15 +13,13 @@ use Rattle.noc_theory_bits.specs.Owners.{granted_to, heard}
 use Rattle.noc_theory_bits.specs.Sends.{Sends}
 use Rattle.noc_columns.specs.Heads.{packet_in}
 use Rattle.noc_columns.specs.Picks.{channels_of, links_of}
-use Rattle.noc_columns.specs.Words.{set_of, word}
+use Rattle.noc_columns.specs.Words.{set_of}
 use Rattle.noc_columns.specs.Sources.{AreDue}
 use Rattle.noc_columns.specs.declared.channels.Links.{Links}
 use Rattle.noc_columns.specs.declared.ports.RouterPorts.{RouterPorts}
 use Rattle.noc_columns.specs.declared.sets.TheConstants.{CHANNELS}
 use Rattle.noc_columns.specs.declared.words.TheConstants.{ROUTERS}
 use Rattle.noc_counts.specs.Counts.{counted_in, counts_at, last_at}
-use Rattle.noc_counts.specs.Findings.{finding_of}
-use Rattle.noc_counts.specs.Told.{told_at}
 use Rattle.noc_counts.specs.declared.counts.Counts.{Counts}
 use Rattle.noc_cycles.specs.Gathered.{left_by}
 use Rattle.noc_cycles.specs.Held.{held_at}
@@ -33,6 +31,7 @@ use Rattle.noc_cycles.specs.declared.block.Work.{Work}
 use Rattle.noc_cycles.specs.declared.notes.Note.{Note}
 use Rattle.noc_theory_cycles.specs.Fits.{layout_of}
 use Rattle.noc_theory_cycles.specs.Nodes.{IsNodeTurn}
+use Rattle.noc_engine.specs.Finds.{found_at}
 use Rattle.noc_engine.specs.Shows.{HasLists, ShowsTile, has_router, words_in}
 use Rattle.noc_engine.specs.declared.plan.Plan.{Plan}
 use Rattle.noc_engine.specs.declared.tile.Tile.{Tile}
@@ -144,9 +143,7 @@ pub record HasTurnedTile (net : Setup) (plan : Plan) (n : ℕ) (words : ℕ → 
       → slice_get is.blocks.items b ≡ Some block → slice_get is.works.items b ≡ Some work
       → r < ROUTERS
       → (turns (ROUTERS * (is.first + b) + r)).found i
-      ≡ finding_of plan.pattern.table.ports.links.vcs
-      (told_at (channels_of plan.pattern.table.ports) block work r) (word r work.idle)
-      (held_at plan.pattern.table.ports block r) i
+      ≡ found_at plan.pattern block work r i
 
 -- these are blocks from which links lead to those of the tile, all but its own
 abbrev pub AreNear : Setup → Tile → (ℕ → Bool) → Type 0

@@ -10,9 +10,8 @@ use Rattle.noc_theory.specs.Network.{Setup}
 use Rattle.noc_theory.specs.declared.limits.TheConstants.{CYCLE_LIMIT}
 use Rattle.noc_theory_bits.specs.Network.{numbers_in, tells_in}
 use Rattle.noc_columns.specs.Picks.{channels_of}
-use Rattle.noc_columns.specs.Words.{set_of, word}
+use Rattle.noc_columns.specs.Words.{set_of}
 use Rattle.noc_columns.specs.declared.words.TheConstants.{ROUTERS}
-use Rattle.noc_counts.specs.Findings.{finding_of}
 use Rattle.noc_counts.specs.Told.{told_at}
 use Rattle.noc_cycles.specs.Gathered.{ShowsLeft}
 use Rattle.noc_columns.specs.Heads.{packet_in}
@@ -24,6 +23,7 @@ use Rattle.noc_cycles.specs.declared.block.Block.{Block}
 use Rattle.noc_cycles.specs.declared.block.Work.{Work}
 use Rattle.noc_theory_cycles.specs.Fits.{bits_of, layout_of}
 use Rattle.noc_theory_cycles.specs.Nodes.{IsNodeTurn, ShowsNode}
+use Rattle.noc_engine.specs.Finds.{found_at}
 use Rattle.noc_engine.specs.Shows.{IsPlanOf}
 use Rattle.noc_engine.specs.declared.plan.Plan.{Plan}
 
@@ -62,6 +62,8 @@ pub record HasTurnedBlock (net : Setup) (plan : Plan) (n b : ℕ) (words : ℕ �
   pub arrived : (r : ℕ) → r < ROUTERS
       → set_of (channels_of plan.pattern.table.ports) r work.arrived
       ≡ (turns (ROUTERS * b + r)).arrived
+  pub leaving : work.leaving ≡ 0 → (r : ℕ)
+      → set_of (channels_of plan.pattern.table.ports) r work.arrived ≡ 0
   pub arrive : (r k : ℕ) → r < ROUTERS
       → has_bit (set_of (channels_of plan.pattern.table.ports) r work.arrived) k ≡ true
       → packet_in block.packets r k < length net.packets
@@ -79,9 +81,7 @@ pub record HasTurnedBlock (net : Setup) (plan : Plan) (n b : ℕ) (words : ℕ �
       ((words (ROUTERS * b + r)).counts i)
   pub found : (r i : ℕ) → r < ROUTERS
       → (turns (ROUTERS * b + r)).found i
-      ≡ finding_of plan.pattern.table.ports.links.vcs
-      (told_at (channels_of plan.pattern.table.ports) block work r) (word r work.idle)
-      (held_at plan.pattern.table.ports block r) i
+      ≡ found_at plan.pattern block work r i
   pub happened_is : happened
       ≡ some_below ROUTERS (λ r. (turns (ROUTERS * b + r)).happened)
   pub punctual : IsPunctual n plan.pattern.table.ports block

@@ -10,7 +10,7 @@ ghost use Rattle.noc_engine.specs.Finds.{HaveFindings, found_at};
 
 use crate::plan::Plan;
 use noc_columns::{CHANNELS, ROUTERS};
-use noc_counts::find;
+use noc_counts::{find, granted_outs};
 use noc_cycles::{Block, Pattern, Work};
 use noc_view::Finding;
 
@@ -63,8 +63,8 @@ fn find_in(
     ensures before { (p : ℕ) → p < first → finding_at found.new p ≡ finding_at found.old p }
 {
     let links = &pattern.table.ports.links;
-    let idle = work.idle[router];
+    let outs = granted_outs(pattern, block, router);
     for channel in 0..(links.width + 1) * links.vcs {
-        found[first + channel] = find(pattern, block, work, idle, router, channel);
+        found[first + channel] = find(pattern, block, work, outs, router, channel);
     }
 }

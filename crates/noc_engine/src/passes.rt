@@ -6,20 +6,25 @@ ghost use Rattle.noc_packet.specs.Set.{has_bit};
 ghost use Rattle.noc_sets.specs.Cycle.{Router, Turn};
 ghost use Rattle.noc_theory.specs.Good.{IsGoodSetup};
 ghost use Rattle.noc_theory.specs.Network.{Setup};
-ghost use Rattle.noc_columns.specs.declared.words.TheConstants.{ROUTERS};
+ghost use Rattle.noc_columns.specs.Channels.{links_by};
+ghost use Rattle.noc_columns.specs.Heads.{packet_in};
+ghost use Rattle.noc_columns.specs.Picks.{channels_of};
+ghost use Rattle.noc_columns.specs.Words.{set_of, word};
+ghost use Rattle.noc_columns.specs.declared.words.TheConstants.{ROUTERS, WORDS};
 ghost use Rattle.noc_counts.specs.declared.counts.Counts.{Counts};
 ghost use Rattle.noc_cycles.specs.Concluding.{HaveArrived};
 ghost use Rattle.noc_cycles.specs.Told.{HaveRoom};
 ghost use Rattle.noc_cycles.specs.declared.block.Block.{Block};
 ghost use Rattle.noc_cycles.specs.declared.block.Work.{Work};
-ghost use Rattle.noc_engine.specs.Passes.{AreAllNotes, HasCounted, HaveGathered, HaveLeft, HaveTurned, MayTurnAll, TellAll, arrived_of, packets_of};
+ghost use Rattle.noc_cycles.specs.declared.pattern.Pattern.{Pattern};
+ghost use Rattle.noc_engine.specs.Passes.{AreAllNotes, HasCounted, HaveGathered, HaveLeft, HaveTurned, MayTurnAll, TellAll, TellLeaving, arrived_of, packets_of};
 ghost use Rattle.noc_engine.specs.Shows.{IsPlanOf};
 
 use crate::plan::Plan;
 use crate::turn::turn;
-use noc_columns::{Links, WORDS, Words};
+use noc_columns::{CHANNELS, Links, ROUTERS, WORDS, Words};
 use noc_counts::Counts;
-use noc_cycles::{Block, Note, Work, arrive_all, gather_links, tell};
+use noc_cycles::{Block, Note, Pattern, Work, arrive_all, gather_links, tell};
 use noc_route::Relation;
 
 // Each block has its turn. The answer is whether something happens in one.
@@ -56,6 +61,7 @@ pub(crate) fn arrive_blocks(
     arrivals: &mut [u32],
 )
     requires works { length works.now ≡ length blocks.now }
+    requires leaving { TellLeaving plan.now.pattern.table.ports works.now }
     requires packets { (s k : ℕ) → s < ROUTERS * length blocks.now
         → has_bit (arrived_of plan.now.pattern.table.ports works.now s) k ≡ true
         → packets_of blocks.now s k < length arrivals.old }
@@ -64,27 +70,64 @@ pub(crate) fn arrive_blocks(
         (slice_index arrivals.old) (slice_index arrivals.new) }
 {
     for number in 0..blocks.len() {
-        arrive_all(
-            &plan.pattern.table,
+        arrive_in(
+            &plan.pattern,
             cycle,
-            &works[number].arrived,
+            &works[number],
             &blocks[number].packets,
             arrivals,
         );
     }
 }
 
-// What has left each block is kept.
-pub(crate) fn keep_left(first: usize, works: &[Work], left: &mut [Links<Words>])
-    requires { first + length works.now ≤ length left.old }
-    ensures { HaveLeft first works.now left.new }
+// .. those of one block, if there are some.
+#[inline(always)]
+fn arrive_in(
+    pattern: &Pattern,
+    cycle: u32,
+    work: &Work,
+    packets: &[[u32; CHANNELS]; ROUTERS],
+    arrivals: &mut [u32],
+)
+    requires leaving { work.now.leaving ≡ 0 → (r : ℕ)
+        → set_of (channels_of pattern.now.table.ports) r work.now.arrived ≡ 0 }
+    requires packets { (r k : ℕ) → r < ROUTERS
+        → has_bit (set_of (channels_of pattern.now.table.ports) r work.now.arrived) k ≡ true
+        → packet_in packets.now r k < length arrivals.old }
+    ensures { HaveArrived cycle ROUTERS
+        (λ r. set_of (channels_of pattern.now.table.ports) r work.now.arrived)
+        (packet_in packets.now) (slice_index arrivals.old) (slice_index arrivals.new) }
+{
+    if work.leaving != 0 {
+        arrive_all(&pattern.table, cycle, &work.arrived, packets, arrivals);
+    }
+}
+
+// What has left each block is kept, of so many groups of four words.
+pub(crate) fn keep_left(groups: usize, first: usize, works: &[Work], left: &mut [Links<Words>])
+    requires groups { 4 * groups ≤ WORDS }
+    requires left { first + length works.now ≤ length left.old }
+    ensures { HaveLeft (4 * groups) first works.now left.new }
 {
     for number in 0..works.len() {
-        keep(&works[number].left, &mut left[first + number]);
+        keep_links(groups, &works[number].left, &mut left[first + number]);
     }
 }
 
 // .. one block.
+fn keep_links(groups: usize, from: &Links<Words>, to: &mut Links<Words>)
+    requires { 4 * groups ≤ WORDS }
+    ensures { (k : ℕ) → k < 4 * groups
+        → links_by (word k) to.new ≡ links_by (word k) from.now }
+{
+    for i in 0..4 * groups {
+        to.flits[i] = from.flits[i];
+        to.tails[i] = from.tails[i];
+        to.credits[i] = from.credits[i];
+    }
+}
+
+// All words of what has left a block are kept.
 pub(crate) fn keep(from: &Links<Words>, to: &mut Links<Words>)
     ensures { to.new ≡ from.now }
 {

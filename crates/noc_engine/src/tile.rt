@@ -59,7 +59,8 @@ impl Tile {
             works,
             self.arrivals.as_mut_slice(),
         );
-        keep_left(self.first, works, self.left.as_mut_slice());
+        let groups = plan.pattern.frame.link_groups;
+        keep_left(groups, self.first, works, self.left.as_mut_slice());
         tell_all(plan, self.first, blocks, self.notes.as_mut_slice());
         count_all(plan, blocks, works, self.counts.as_mut_slice());
         self.cycle += 1;

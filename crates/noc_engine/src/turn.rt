@@ -34,13 +34,13 @@ pub(crate) fn turn(
 {
     let pattern = &plan.pattern;
     let comes = take(pattern, &plan.starts, cycle, block, work);
-    work.idle = block.marks.idle;
     let routing = Routing {
         relation,
         headers: &plan.headers,
     };
     decide(pattern, &routing, (ROUTERS * number) as u32, block, work);
-    conclude(pattern, block, work);
+    let leaving = conclude(pattern, block, work);
+    work.leaving = leaving;
     does_something(pattern, comes, block, work)
 }
 
@@ -56,6 +56,17 @@ fn does_something(pattern: &Pattern, comes: u64, block: &Block, work: &Work) -> 
     if comes != 0 {
         return true;
     }
+    does_something_itself(pattern, block, work)
+}
+
+// Whether something happens in one of these routers, to which nothing comes. (That is seldom so.)
+#[inline(never)]
+fn does_something_itself(pattern: &Pattern, block: &Block, work: &Work) -> bool
+    ensures { let set = set_of (channels_of pattern.now.table.ports) in
+        result ≡ some_below ROUTERS (λ r. not (nat_eq
+        (bit_or (bit_or (set r work.now.standing.heads) (set r block.now.grants.granted))
+        (set r work.now.verdicts.moved)) 0)) }
+{
     let heads = some_of(pattern, &work.standing.heads);
     let granted = some_of(pattern, &block.grants.granted);
     let moved = some_of(pattern, &work.verdicts.moved);

@@ -26,8 +26,7 @@ returns-then-frame-clause-begun c = λ r cycle due_at d due.
     let inputs = c.args.inputs.now in
     let injecting = c.args.injection.now.injecting in
     let rest = bit_or (bit_or (set_of n r inputs.waiting) (set_of n r inputs.active)) (any_from 0 (list_of true (planes_by (set_of n r) inputs.len))) in
-    let first : 0 < c.args.local.now.width = omega (arith, c.requires) in
-    let starts = ap (λ w. has_bit w r) c.less-starts.ensures ∙ starts-is n r c.args.due (slice_index c.any_side.result 0) injecting (nat_le due_at cycle) due (c.any_side.ensures 0 r first) in
+    let starts = ap (λ w. has_bit w r) c.less-starts.ensures ∙ starts-is n r c.args.due c.some_of-busy.result injecting (nat_le due_at cycle) due (c.some_of-busy.ensures r) in
     subst
     (λ b. set_of n r c.inject_all.new.injection.begun ≡ lowest (lane_begins (all_of n) cycle due_at (with_source b (inputs_by (set_of n r) inputs) (set_of n r injecting) d)))
     (sym c.if-frame.true) (c.inject_all.ensures.begun r d ∙ ap lowest (begins-is n r c.less-starts.result rest (nat_le due_at cycle && nat_eq (set_of n r injecting) 0) starts))
@@ -46,8 +45,7 @@ returns-else-frame-clause-begun c = λ r cycle due_at d due.
     let inputs = c.args.inputs.now in
     let injecting = c.args.injection.now.injecting in
     let rest = bit_or (bit_or (set_of n r inputs.waiting) (set_of n r inputs.active)) (any_from 0 (list_of false (planes_by (set_of n r) inputs.len))) in
-    let first : 0 < c.args.local.now.width = omega (arith, c.requires) in
-    let starts = ap (λ w. has_bit w r) c.less-starts.ensures ∙ starts-is n r c.args.due (slice_index c.any_side.result 0) injecting (nat_le due_at cycle) due (c.any_side.ensures 0 r first) in
+    let starts = ap (λ w. has_bit w r) c.less-starts.ensures ∙ starts-is n r c.args.due c.some_of-busy.result injecting (nat_le due_at cycle) due (c.some_of-busy.ensures r) in
     subst
     (λ b. set_of n r c.inject_all-else-frame.new.injection.begun ≡ lowest (lane_begins (all_of n) cycle due_at (with_source b (inputs_by (set_of n r) inputs) (set_of n r injecting) d)))
     (sym c.if-frame.false) (c.inject_all-else-frame.ensures.begun r d ∙ ap lowest (begins-is n r c.less-starts.result rest (nat_le due_at cycle && nat_eq (set_of n r injecting) 0) starts))

@@ -46,7 +46,7 @@ returns-clause-decided c = λ layout r no_credit s l shows.
     let all = λ (d : Decided (List ℕ)). HasDecidedHeld pattern layout sets s (held_at ports block r) (held_at ports (record block { grants = got.grants; marks = marks; switch = went.new.switch }) r)
     (standing_by (set_of n r) standing) (decided_by (set_of n r) d) (set_of n r got.grants.granted) (set_of n r got.lost) (links_at ports went.new.left r) in
     subst all (sym went.ensures.decided)
-    (decided-then pattern r l block standing c.clear.new.words c.clear-2.new.words (none-within n r _ c.clear.new.words within c.clear.ensures) (none-within n r _ c.clear-2.new.words within c.clear-2.ensures)
+    (decided-then pattern r l block standing c.clear.new.first c.clear.new.second (none-within n r _ c.clear.new.first within c.clear.ensures.first) (none-within n r _ c.clear.new.second within c.clear.ensures.second)
     got.marks got.grants got.lost (c.allocate.ensures.asked r l) (c.allocate.ensures.others r)
     sets marks (λ m. routed.routed r m l) (routed.waiting r l) (routed.idle r) routed.turns fits
     decided pick.new.picks went.new.switch went.new.left (λ p b. pick.ensures.picked p r b) (λ p v b d. pick.ensures.picks p r v b d) (λ p b. pick.ensures.any p r b) (went.ensures.traversed r)

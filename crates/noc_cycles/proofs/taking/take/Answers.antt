@@ -10,6 +10,7 @@ use Rattle.noc_cycles.specs.Taking.{HasInjected, MaySend}
 use Rattle.noc_cycles.specs.declared.block.Block.{Block}
 use Rattle.noc_cycles.specs.declared.block.Work.{Work}
 use Rattle.noc_cycles.proofs.PartLemmas.{all-within, none-above}
+use Rattle.noc_cycles.proofs.SomeLemmas.{some-comes}
 use Rattle.noc_cycles.proofs.StillLemmas.{has-taken}
 use Rattle.noc_cycles.proofs.taking.take.Goals as goal
 
@@ -23,7 +24,7 @@ returns-clause-taken c = λ layout r b fits few shows may.
     let old = c.args.block.now in
     let came = c.args.work.now.came in
     let mid = c.count_credits.new in
-    let sent = c.inject_flits.new in
+    let sent = c.inject_flits-injected.new in
     let landed = c.land-heading.new in
     let same_came = ap (λ (w : Work). w.came) c.count_credits.ensures.work in
     let a = held_at ports mid.block r in
@@ -36,13 +37,14 @@ returns-clause-taken c = λ layout r b fits few shows may.
     a d n (set_of all r mid.work.standing.supplied) flits tails (set_of all r sent.came.credits) (set_of all r landed.no_credit) (standing_by (set_of all r) mid.work.standing)
     (standing_by (set_of all r) landed.standing) _
     (c.count_credits.ensures.credits layout r fits few)
-    (subst (λ w. HasInjected pattern layout starts c.args.cycle (links_at ports w r) a d flits tails) same_came (c.inject_flits.ensures.injected layout r fits few))
+    (subst (λ w. HasInjected pattern layout starts c.args.cycle (links_at ports w r) a d flits tails) same_came (c.inject_flits-injected.ensures.injected layout r fits few))
     (c.land-heading.ensures.flits all r (all-within pattern)) refl refl
-    (c.some_come.ensures r ∙ ap (λ w. not (nat_eq (bit_or flits (set_of links r w)) 0)) (c.inject_flits.ensures.credits ∙ ap (λ (w : Work). w.came.credits) c.count_credits.ensures.work))
+    (some-comes pattern r c.inject_flits-injected.result c.some_come.result sent.came.flits sent.came.credits (c.inject_flits-injected.ensures.some r) (c.some_come.ensures r)
+    ∙ ap (λ w. not (nat_eq (bit_or flits (set_of links r w)) 0)) (c.inject_flits-injected.ensures.credits ∙ ap (λ (w : Work). w.came.credits) c.count_credits.ensures.work))
 
 -- credits change nothing that sources read
-pub inject_flits-requires : goal.inject_flits-requires
-inject_flits-requires c =
+pub inject_flits-injected-requires : goal.inject_flits-injected-requires
+inject_flits-injected-requires c =
     let may = c.requires in
     subst (MaySend c.args.pattern.now.table.ports (starts_by c.args.starts.now) c.args.cycle) (sym c.count_credits.ensures.block) (record {
       few = may.few;
@@ -53,19 +55,19 @@ inject_flits-requires c =
     })
 
 pub returns-clause-punctual : goal.returns-clause-punctual
-returns-clause-punctual c = record { due = c.inject_flits.ensures.punctual.due; injected = c.inject_flits.ensures.punctual.injected }
+returns-clause-punctual c = record { due = c.inject_flits-injected.ensures.punctual.due; injected = c.inject_flits-injected.ensures.punctual.injected }
 
 pub returns-clause-block : goal.returns-clause-block
 returns-clause-block c =
-    let new = c.inject_flits.new.block in
-    let same = c.inject_flits.ensures.block ∙ ap (λ (b : Block). record b { injection = new.injection; packets = new.packets; sources = new.sources }) c.count_credits.ensures.block in
+    let new = c.inject_flits-injected.new.block in
+    let same = c.inject_flits-injected.ensures.block ∙ ap (λ (b : Block). record b { injection = new.injection; packets = new.packets; sources = new.sources }) c.count_credits.ensures.block in
     λ x. record (same x) { inputs = c.land-heading.new.inputs; outputs = new.outputs; injection = new.injection; marks = new.marks; packets = new.packets; sources = new.sources }
 
 pub returns-clause-work : goal.returns-clause-work
 returns-clause-work c =
     let same = c.count_credits.ensures.work in
     λ x. record (same x) {
-      came = c.inject_flits.new.came;
+      came = c.inject_flits-injected.new.came;
       returned = c.count_credits.new.work.returned;
       standing = c.land-heading.new.standing;
       verdicts = record ((same x).verdicts) { no_credit = c.land-heading.new.no_credit };

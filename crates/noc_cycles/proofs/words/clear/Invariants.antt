@@ -3,4 +3,7 @@ use Rattle.noc_columns.proofs.PassLemmas.{IsPassed}
 use Rattle.noc_cycles.proofs.words.clear.Given as goal
 
 abbrev pub invariant-loop-i : goal.invariant-loop-i
-invariant-loop-i l = IsPassed (λ k. 0) (λ k. word k l.fn.words) (λ k. word k l.words) l.i
+invariant-loop-i l = record {
+  first : IsPassed (λ k. 0) (λ k. word k l.fn.first) (λ k. word k l.first) l.i;
+  second : IsPassed (λ k. 0) (λ k. word k l.fn.second) (λ k. word k l.second) l.i;
+}

@@ -1,4 +1,7 @@
-use Rattle.std.proofs.Common.{arith, refl}
+use Rattle.std.proofs.Common.{◌*◌, ap, arith, refl}
+use Rattle.noc_columns.specs.Picks.{channels_of}
+use Rattle.noc_cycles.specs.declared.block.Work.{Work}
+use Rattle.noc_cycles.proofs.ConcludingLemmas.{all-within, none-there}
 use Rattle.noc_engine.proofs.TurnLemmas.{block-first, block-headers, block-may-decide, block-may-send, block-ports, turned-block}
 use Rattle.noc_engine.proofs.turn.turn.Goals as goal
 
@@ -37,7 +40,11 @@ decide-requires-clause-may c = λ k l.
 
 pub returns : goal.returns
 returns c = λ net words may.
+    let leaving = c.conclude-leaving.result in
+    let done = c.conclude-leaving.new.work in
     turned-block net c.args.relation.now c.args.plan.now c.args.cycle c.args.number words c.args.block.now c.args.work.now c.deref.result.now c.deref-2.result.now may c.deref.ensures.value c.deref-2.ensures.value
-    c.take-comes.new.block (record c.take-comes.new.work { idle = c.take-comes.new.block.marks.idle }) c.take-comes.result c.take-comes.ensures.taken
-    c.decide.new.block c.conclude.new.block c.decide.new.work c.conclude.new.work c.does_something.result c.decide.ensures.decided c.conclude.ensures.concluded c.decide.ensures.block c.decide.ensures.work c.conclude.ensures.block
-    c.conclude.ensures.work c.take-comes.ensures.punctual refl c.does_something.ensures
+    c.take-comes.new.block c.take-comes.new.work c.take-comes.result c.take-comes.ensures.taken
+    c.decide.new.block c.conclude-leaving.new.block c.decide.new.work (record done { leaving = leaving }) c.does_something.result c.decide.ensures.decided c.conclude-leaving.ensures.concluded c.decide.ensures.block c.decide.ensures.work
+    c.conclude-leaving.ensures.block (ap (λ (w : Work). record w { leaving = leaving }) c.conclude-leaving.ensures.work) c.take-comes.ensures.punctual
+    (λ zero r. none-there (channels_of c.args.plan.now.pattern.table.ports) r (4 * c.args.plan.now.pattern.frame.groups) leaving done.arrived (all-within c.args.plan.now.pattern) (c.conclude-leaving.ensures.arrived r) zero)
+    c.does_something.ensures

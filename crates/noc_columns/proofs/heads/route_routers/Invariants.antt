@@ -2,7 +2,7 @@ use Rattle.std.proofs.Common.{◌≡◌, ℕ, ◌+◌, slice_index}
 use Rattle.noc_columns.specs.Heads.{Heading, headed, heading_at, packet_in}
 use Rattle.noc_columns.specs.Routing.{sets_by}
 use Rattle.noc_columns.proofs.LoopLemmas.{IsEach}
-use Rattle.noc_columns.proofs.heads.route_channel.Given as goal
+use Rattle.noc_columns.proofs.heads.route_routers.Given as goal
 
 abbrev pub invariant-loop-rest : goal.invariant-loop-rest
 invariant-loop-rest l = record {
