@@ -24,7 +24,7 @@ use Rattle.noc_commands.specs.Workers.{HasWorkers}
 use Rattle.noc_commands.specs.declared.command.Command.{Command as Asked}
 use Rattle.noc_commands.specs.declared.command.Command.TheVariants as asked
 use Rattle.noc_cli.specs.Args.{IsCommand, IsNoRequest, IsRefusal, by_rules, no_memory, no_request}
-use Rattle.noc_cli.specs.CommandLine.{AddsLeaf, IsArg, IsLeaf, TakesReports, command_line}
+use Rattle.noc_cli.specs.CommandLine.{IsArg, IsLeaf, TakesReports, command_line}
 
 -- clap's arguments tell its matches exactly
 pub line_is_simple : (names : ValueParser) → is_simple (command_line names) ≡ true
@@ -112,9 +112,6 @@ pushed R (v ∷ ys) (w ∷ zs) y z are here = (are.0, pushed R ys zs y z are.1 h
 pub one_more : {X Y Z : Type 0} (f : X → Y) (R : Y → Z → Type 0) (xs : List X) (zs new : List Z) (i : ℕ) (d : X) (z : Z) → i < length xs
     → AllZip R (map f (take i xs)) zs → R (f (get_or xs i d)) z → new ≡ zs ++ z ∷ [] → AllZip R (map f (take (i + 1) xs)) new
 one_more f R xs zs new i d z inside so_far here more = rw (map_more f xs i d inside, more) (pushed R (map f (take i xs)) zs (f (get_or xs i d)) z so_far here)
-
-pub one_leaf : (shapes : List Shape) (shape : Shape) (old new : List Command) → AllZip IsLeaf shapes old → AddsLeaf shape old new → AllZip IsLeaf (shapes ++ shape ∷ []) new
-one_leaf shapes shape old new are added = subst (AllZip IsLeaf (shapes ++ shape ∷ [])) (sym added.1) (pushed IsLeaf shapes old shape added.0 are added.2)
 
 -- ---- workers
 

@@ -103,6 +103,11 @@ rule_of_kind id (takes.Report value names) =
 abbrev pub rule_in : Bor Text × Takes × Bor Text → Rule
 rule_in (id, kind, help) = rule_of_kind id.now kind
 
+-- the command of a table: its name, two texts of help, and its arguments
+abbrev pub shape_in : Bor Text × Bor Text × Bor Text × Bor (List (Bor Text × Takes × Bor Text)) → Shape
+shape_in (name, about, after_help, arguments) =
+    command_shape name.now (map rule_in arguments.now)
+
 -- ---- what clap holds of them
 
 -- the argument has these rules, in its own command

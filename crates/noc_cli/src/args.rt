@@ -1,6 +1,6 @@
 //! The arguments of the command line.
 
-ghost use Rattle.std.specs.Prelude.{◌≡◌, ◌⊎◌, ◌<◌, ◌≤◌, ℕ, List, codes, map, string_bytes, IfErr, IfNone, IfOk, IfSome, None, OnErr};
+ghost use Rattle.std.specs.Prelude.{◌≡◌, ◌⊎◌, ◌<◌, ◌≤◌, codes, map, string_bytes, IfErr, IfNone, IfOk, IfSome, None, OnErr};
 ghost use Rattle.clap.specs.Words.{first_value, found_of, kind_of, one_text, subcommand_rows_of};
 ghost use Rattle.noc_commands.specs.Workers.{HasWorkers};
 ghost use Rattle.noc_commands.specs.declared.command.TheConstants.{MAX_WORKERS};
@@ -124,9 +124,11 @@ fn explain_of(matches: &ArgMatches<'_>) -> Result<Command, &'static str>
     ensures err { OnErr result (IsSaidIfAny (one_text (found_of matches.now) (codes "cycle")) None
         ⊎ IsSaidIfAny (one_text (found_of matches.now) (codes "router")) None) }
 {
-    let cycle = number_of(matches, "cycle").ok_or(NO_CYCLE)?;
-    let router = index_of(matches, "router").ok_or(NO_ROUTER)?;
-    Ok(Command::Explain { cycle, router })
+    match (number_of(matches, "cycle"), index_of(matches, "router")) {
+        (Some(cycle), Some(router)) => Ok(Command::Explain { cycle, router }),
+        (None, _) => Err(NO_CYCLE),
+        (Some(_), None) => Err(NO_ROUTER),
+    }
 }
 
 // The trace that options ask for, or what is wrong with them.

@@ -4,7 +4,7 @@ ghost use Rattle.std.specs.Prelude.{◌≡◌, IfOk, OnOk, [], ◌∷◌, map};
 ghost use Rattle.std.specs.List.{AllZip};
 ghost use Rattle.clap.specs.declared.builder.value_parser.ValueParser.{ValueParser};
 ghost use Rattle.clap.specs.Words.{app_of};
-ghost use Rattle.noc_cli.specs.CommandLine.{AddsLeaf, IsArg, IsLeaf, IsProgram, TakesReports, check_shape, command_shape, explain_shape, file_arg, flag_arg, number_arg, option_arg, program_shape, ranks_shape, rule_in, run_shape, trace_shape};
+ghost use Rattle.noc_cli.specs.CommandLine.{AddsLeaf, IsArg, IsLeaf, IsProgram, TakesReports, check_shape, explain_shape, file_arg, flag_arg, number_arg, option_arg, program_shape, ranks_shape, rule_in, run_shape, shape_in, trace_shape};
 
 use crate::version::VERSION;
 use clap::{Arg, ArgAction, Command, value_parser};
@@ -47,6 +47,9 @@ impl<'a> Clone for Takes<'a> {
 // An argument of a command: its id, which an option has behind two dashes, what it takes, and what
 // help says of it.
 type Argument<'a> = (&'a str, Takes<'a>, &'a str);
+
+// A command: its name, what it is for, what help says behind its arguments, and these.
+type Subcommand<'a> = (&'a str, &'a str, &'a str, &'a [Argument<'a>]);
 
 const USAGE: &str = "noc COMMAND ..
        noc < JOINED";
@@ -157,6 +160,83 @@ fn bare_program<'a>(alloc: Global) -> Result<Command<'a>, AllocError>
         .bin_name("noc")
 }
 
+// The commands of the program.
+static COMMANDS: [Subcommand<'static>; 5] = [
+    (
+        "run",
+        "Runs the network for the configuration's cycles, and writes a report",
+        AFTER_RUN_HELP,
+        &[
+            ("CONFIG", Takes::File, CONFIG_HELP),
+            ("TRAFFIC", Takes::File, TRAFFIC_HELP),
+            ("table", Takes::Text("F"), TABLE_HELP),
+            ("ranks", Takes::Text("F"), RUN_RANKS_HELP),
+            ("workers", Takes::Count("N"), WORKERS_HELP),
+            ("drain", Takes::Nothing, DRAIN_HELP),
+            (
+                "report",
+                Takes::Report("REPORT", &REPORT_NAMES),
+                REPORT_HELP,
+            ),
+        ],
+    ),
+    (
+        "explain",
+        "Writes what each input channel of a router did in one cycle, and why it waited",
+        "Example: noc explain mesh.toml traffic.csv --cycle 5 --router 2",
+        &[
+            ("CONFIG", Takes::File, CONFIG_HELP),
+            ("TRAFFIC", Takes::File, TRAFFIC_HELP),
+            ("cycle", Takes::NeededNumber("N"), CYCLE_HELP),
+            (
+                "router",
+                Takes::NeededNumber("R"),
+                "The number of the router, from 0",
+            ),
+            ("table", Takes::Text("F"), TABLE_HELP),
+        ],
+    ),
+    (
+        "trace",
+        "Writes what the input channels did in each cycle of a span, and why they waited",
+        AFTER_TRACE_HELP,
+        &[
+            ("CONFIG", Takes::File, CONFIG_HELP),
+            ("TRAFFIC", Takes::File, TRAFFIC_HELP),
+            ("from", Takes::Number("A"), "The first cycle; without it 0"),
+            ("to", Takes::Number("B"), TO_HELP),
+            ("router", Takes::Number("R"), ROUTER_HELP),
+            ("packet", Takes::Number("P"), PACKET_HELP),
+            ("verdict", Takes::Text("V[,V..]"), VERDICT_HELP),
+            ("changes", Takes::Nothing, CHANGES_HELP),
+            ("table", Takes::Text("F"), TABLE_HELP),
+        ],
+    ),
+    (
+        "check",
+        "Writes 'accepted' if the ranks rise with each hop that the routing relation permits",
+        "Example: noc check torus.toml --ranks ranks.csv",
+        &[
+            ("CONFIG", Takes::File, CONFIG_HELP),
+            (
+                "ranks",
+                Takes::NeededText("F"),
+                "The ranks of the channels (CSV)",
+            ),
+            ("table", Takes::Text("F"), TABLE_HELP),
+        ],
+    ),
+    (
+        "ranks",
+        "Writes the ranks by formula of the routing rule, as a rank file",
+        "Example: noc ranks torus.toml > ranks.csv",
+        &[
+            ("CONFIG", Takes::File, CONFIG_HELP),
+            ("table", Takes::Text("F"), TABLE_HELP),
+        ],
+    ),
+];
+
 // Adds the commands of the program.
 fn add_commands<'a>(alloc: Global, commands: &mut Vec<Command<'a>>) -> Result<(), AllocError>
     requires { commands.old.items ≡ [] }
@@ -164,118 +244,22 @@ fn add_commands<'a>(alloc: Global, commands: &mut Vec<Command<'a>>) -> Result<()
         × AllZip IsLeaf (run_shape names ∷ explain_shape ∷ trace_shape ∷ check_shape
         ∷ ranks_shape ∷ []) commands.new.items) }
 {
-    add_run(alloc, commands)?;
-    add_explain(alloc, commands)?;
-    add_trace(alloc, commands)?;
-    add_check(alloc, commands)?;
-    add_ranks(alloc, commands)
+    for command in &COMMANDS {
+        add_command(alloc, command, commands)?;
+    }
+    Ok(())
 }
 
-static RUN: [Argument<'static>; 7] = [
-    ("CONFIG", Takes::File, CONFIG_HELP),
-    ("TRAFFIC", Takes::File, TRAFFIC_HELP),
-    ("table", Takes::Text("F"), TABLE_HELP),
-    ("ranks", Takes::Text("F"), RUN_RANKS_HELP),
-    ("workers", Takes::Count("N"), WORKERS_HELP),
-    ("drain", Takes::Nothing, DRAIN_HELP),
-    (
-        "report",
-        Takes::Report("REPORT", &REPORT_NAMES),
-        REPORT_HELP,
-    ),
-];
-
-fn add_run<'a>(alloc: Global, commands: &mut Vec<Command<'a>>) -> Result<(), AllocError>
-    ensures { OnOk result ((names : ValueParser) × TakesReports names
-        × AddsLeaf (run_shape names) commands.old.items commands.new.items) }
-{
-    let about = "Runs the network for the configuration's cycles, and writes a report";
-    add_command(alloc, "run", about, AFTER_RUN_HELP, &RUN, commands)
-}
-
-static EXPLAIN: [Argument<'static>; 5] = [
-    ("CONFIG", Takes::File, CONFIG_HELP),
-    ("TRAFFIC", Takes::File, TRAFFIC_HELP),
-    ("cycle", Takes::NeededNumber("N"), CYCLE_HELP),
-    (
-        "router",
-        Takes::NeededNumber("R"),
-        "The number of the router, from 0",
-    ),
-    ("table", Takes::Text("F"), TABLE_HELP),
-];
-
-fn add_explain<'a>(alloc: Global, commands: &mut Vec<Command<'a>>) -> Result<(), AllocError>
-    ensures { OnOk result (AddsLeaf explain_shape commands.old.items commands.new.items) }
-{
-    let about = "Writes what each input channel of a router did in one cycle, and why it waited";
-    let example = "Example: noc explain mesh.toml traffic.csv --cycle 5 --router 2";
-    add_command(alloc, "explain", about, example, &EXPLAIN, commands)
-}
-
-static TRACE: [Argument<'static>; 9] = [
-    ("CONFIG", Takes::File, CONFIG_HELP),
-    ("TRAFFIC", Takes::File, TRAFFIC_HELP),
-    ("from", Takes::Number("A"), "The first cycle; without it 0"),
-    ("to", Takes::Number("B"), TO_HELP),
-    ("router", Takes::Number("R"), ROUTER_HELP),
-    ("packet", Takes::Number("P"), PACKET_HELP),
-    ("verdict", Takes::Text("V[,V..]"), VERDICT_HELP),
-    ("changes", Takes::Nothing, CHANGES_HELP),
-    ("table", Takes::Text("F"), TABLE_HELP),
-];
-
-fn add_trace<'a>(alloc: Global, commands: &mut Vec<Command<'a>>) -> Result<(), AllocError>
-    ensures { OnOk result (AddsLeaf trace_shape commands.old.items commands.new.items) }
-{
-    let about = "Writes what the input channels did in each cycle of a span, and why they waited";
-    add_command(alloc, "trace", about, AFTER_TRACE_HELP, &TRACE, commands)
-}
-
-static CHECK: [Argument<'static>; 3] = [
-    ("CONFIG", Takes::File, CONFIG_HELP),
-    (
-        "ranks",
-        Takes::NeededText("F"),
-        "The ranks of the channels (CSV)",
-    ),
-    ("table", Takes::Text("F"), TABLE_HELP),
-];
-
-fn add_check<'a>(alloc: Global, commands: &mut Vec<Command<'a>>) -> Result<(), AllocError>
-    ensures { OnOk result (AddsLeaf check_shape commands.old.items commands.new.items) }
-{
-    let about =
-        "Writes 'accepted' if the ranks rise with each hop that the routing relation permits";
-    let example = "Example: noc check torus.toml --ranks ranks.csv";
-    add_command(alloc, "check", about, example, &CHECK, commands)
-}
-
-static RANKS: [Argument<'static>; 2] = [
-    ("CONFIG", Takes::File, CONFIG_HELP),
-    ("table", Takes::Text("F"), TABLE_HELP),
-];
-
-fn add_ranks<'a>(alloc: Global, commands: &mut Vec<Command<'a>>) -> Result<(), AllocError>
-    ensures { OnOk result (AddsLeaf ranks_shape commands.old.items commands.new.items) }
-{
-    let about = "Writes the ranks by formula of the routing rule, as a rank file";
-    let example = "Example: noc ranks torus.toml > ranks.csv";
-    add_command(alloc, "ranks", about, example, &RANKS, commands)
-}
-
-// Adds a command with these arguments, and with no command below it.
+// Adds a command, which has no command below it.
 fn add_command<'a>(
     alloc: Global,
-    name: &'a str,
-    about: &'a str,
-    after_help: &'a str,
-    arguments: &[Argument<'a>],
+    subcommand: &Subcommand<'a>,
     commands: &mut Vec<Command<'a>>,
 ) -> Result<(), AllocError>
-    ensures { OnOk result (AddsLeaf (command_shape name.entry.now (map rule_in arguments.now))
+    ensures { OnOk result (AddsLeaf (shape_in subcommand.now)
         commands.old.items commands.new.items) }
 {
+    let (name, about, after_help, arguments) = *subcommand;
     let args = args_of(alloc, arguments)?;
     let command = Command::new(alloc, name)
         .about(about)

@@ -6,5 +6,5 @@ use Rattle.noc_cli.proofs.command_line.add_command.Goals as goal
 
 pub returns : goal.returns
 returns c =
-    let start : IsLeaf (new_shape c.args.name.now) c.after_help.result = search rules in
+    let start : IsLeaf (new_shape c.args.subcommand.now.0.now) c.after_help.result = search rules in
     (c.in_ok-command.command, c.in_ok-push.ensures.items, with_args _ _ _ c.in_ok-command.command _ start c.in_ok-args.ensures c.in_ok-command.ensures)
