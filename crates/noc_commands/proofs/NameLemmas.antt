@@ -1,8 +1,8 @@
 -- Texts that name verdicts, with a comma between.
-use Rattle.std.proofs.Common.{◌≡◌, ◌≢◌, ◌∙◌, ℕ, zero, suc, ◌<◌, Bool, false, true, List, [], ◌∷◌, ◌++◌, length, get_or, refl, ap, sym, arith, append_assoc, append-nil, flat_map}
+use Rattle.std.proofs.Common.{◌≡◌, ◌≢◌, ◌∙◌, ℕ, suc, ◌<◌, Bool, false, true, List, [], ◌∷◌, ◌++◌, length, get_or, refl, ap, sym, arith, append_assoc, append-nil, flat_map}
 use Rattle.std.specs.Prelude.{◌==◌, ◌||◌}
 use Rattle.std.specs.List.{list_any}
-use Rattle.std.proofs.lemmas.Bool.{eq-eqb, false≢true, ne_eqb, or_from, or_left, or_parts, or_right}
+use Rattle.std.proofs.lemmas.Bool.{eq-eqb, false≢true, ne_eqb, or_from, or_parts, or_right}
 use Rattle.std.proofs.lemmas.Grind.{flat_map-append}
 use Rattle.std.proofs.lemmas.List.Folds.{list_any-append}
 use Rattle.noc_view.specs.Names.{verdict_name}
@@ -80,10 +80,6 @@ pub record IsRead (text rest : List ℕ) (set : VerdictSet) : Type 0 where
   pub front : text ≡ flat_map name_and_comma first ++ rest
   pub members : (v : Verdict) → is_member set v ≡ is_among first v
   pub left : (before : List Verdict) (last : Verdict) → text ≡ names_text before last → (behind : List Verdict) × (rest ≡ names_text behind last)
-
--- before the first name
-pub opening_read : (text : List ℕ) (set : VerdictSet) → ((v : Verdict) → is_member set v ≡ false) → IsRead text text set
-opening_read text set none = record { first = []; front = refl; members = none; left = λ before last e. (before, e) }
 
 -- one member more is one name more
 members_more : (first : List Verdict) (set more : VerdictSet) (v : Verdict) → ((w : Verdict) → is_member set w ≡ is_among first w)

@@ -6,7 +6,7 @@ ghost use Rattle.std.specs.List.{list_all};
 ghost use Rattle.std.specs.Option.{is_some, ok_or};
 ghost use Rattle.toml.specs.Data.{as_integer, get_member};
 ghost use Rattle.toml.specs.View.{items_view, table_view, view};
-ghost use Rattle.noc_files.specs.Configuration.{all_integers, all_known, config_at, config_of, document_of, is_key, kind_at, lengths_of, integer_in, radix_at, rule_setting, settings, within, string_at, IsConfiguration, IsConfigurationFault, KeepsLimits, Settings};
+ghost use Rattle.noc_files.specs.Configuration.{config_at, config_of, document_of, is_key, kind_at, lengths_of, integer_in, radix_at, settings, within, string_at, IsConfiguration, IsConfigurationFault, KeepsLimits, Settings};
 ghost use Rattle.noc_files.specs.Gives.{Gives, result_map};
 ghost use Rattle.noc_files.specs.Keys.{key_name};
 ghost use Rattle.noc_files.specs.declared.fault.InputFault.{InputFault as Fault};

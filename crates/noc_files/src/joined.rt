@@ -1,7 +1,7 @@
 //! Joined texts.
 
-ghost use Rattle.std.specs.Prelude.{◌≡◌, ◌+◌, ◌≤◌, ◌<◌, ℕ, true, false, length, take, drop, MatchOption};
-ghost use Rattle.noc_files.specs.Joined.{SplitsAt, line_at, line_len};
+ghost use Rattle.std.specs.Prelude.{◌≡◌, ◌+◌, ◌≤◌, ◌<◌, ℕ, length, MatchOption};
+ghost use Rattle.noc_files.specs.Joined.{SplitsAt, line_at};
 
 // How long the line of dashes is that begins at this byte, if one does.
 fn dashes_at(text: &[u8], at: usize) -> usize

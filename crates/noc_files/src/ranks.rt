@@ -1,17 +1,14 @@
 //! Rank files (docs/FORMATS.md).
 
-ghost use Rattle.std.specs.Prelude.{◌≡◌, ◌↔◌, ◌^◌, ◌<◌, ◌≤◌, true, ℕ, List, Ok, Err, IfOk, IsSome};
-ghost use Rattle.std.specs.List.{flat_map};
+ghost use Rattle.std.specs.Prelude.{◌≡◌, ◌↔◌, ◌≤◌, ℕ, List, Ok, Err};
 ghost use Rattle.csv.specs.Records.{fields_of};
-ghost use Rattle.noc_route.specs.Ranks.{is_channel, Ranking};
+ghost use Rattle.noc_route.specs.Ranks.{Ranking};
 ghost use Rattle.noc_rank.specs.Ranking.{IsRanking};
 ghost use Rattle.noc_rank.specs.declared.rows.RankRow.{RankRow as RowValue};
-ghost use Rattle.noc_topo.specs.Shape.{Grid, IsGrid, local_port, neighbour, nodes};
-ghost use Rattle.noc_topo.specs.Lists.{below};
+ghost use Rattle.noc_topo.specs.Shape.{Grid, IsGrid, local_port};
 ghost use Rattle.noc_files.specs.declared.fault.InputFault.{InputFault as Fault};
 ghost use Rattle.noc_files.specs.Gives.{Gives};
-ghost use Rattle.noc_files.specs.Plain.{row_line};
-ghost use Rattle.noc_files.specs.Ranks.{rank_header, rank_line, rank_of, rank_row, rank_row_of, rank_rows, ranks_of, ranks_text, port_rows, router_rows, IsRankFile, IsRankFileFault, ListsRanks};
+ghost use Rattle.noc_files.specs.Ranks.{rank_line, rank_of, rank_row, rank_row_of, rank_rows, ranks_of, ranks_text, IsRankFile, IsRankFileFault, ListsRanks};
 ghost use Rattle.noc_files.specs.Writing.{Wrote};
 
 use crate::fault::InputFault;
@@ -28,6 +25,8 @@ use noc_packet::MAX_CHANNELS;
 use noc_rank::{RankRow, Ranks};
 use noc_topo::Shape;
 use std::alloc::Global;
+
+static HEADER: [&str; 4] = ["router", "port", "vc", "rank"];
 
 // The text in the column of ranks where a channel is adaptive.
 const ADAPTIVE: &str = "adaptive";
@@ -76,8 +75,7 @@ fn rank_row_in(shape: &Shape, row: &ByteRecord, index: usize) -> Result<RankRow,
 pub fn read_ranks(alloc: Global, shape: &Shape, text: &[u8]) -> Result<Vec<RankRow>, InputFault>
     ensures { Gives (λ v. v.items) result (ranks_of shape.now text.now) }
 {
-    let header = ["router", "port", "vc", "rank"];
-    read_sheet(alloc, text, &header, |row, index| {
+    read_sheet(alloc, text, &HEADER, |row, index| {
         rank_row_in(shape, row, index)
     })
 }

@@ -1,6 +1,6 @@
 //! Files of rows under a header.
 
-ghost use Rattle.std.specs.Prelude.{◌≡◌, ℕ, Result, map};
+ghost use Rattle.std.specs.Prelude.{ℕ, Result, map};
 ghost use Rattle.noc_files.specs.declared.fault.InputFault.{InputFault as Fault};
 ghost use Rattle.noc_files.specs.Gives.{Gives};
 ghost use Rattle.noc_files.specs.Rows.{Fields, IsBetweenRows, rows_left, text_rows};

@@ -17,6 +17,10 @@ use noc_route::RouteRow;
 use noc_topo::Shape;
 use std::alloc::Global;
 
+static HEADER: [&str; 7] = [
+    "class", "router", "in_port", "in_vc", "dst", "out_port", "out_vc",
+];
+
 // The row of a table that a row of fields says.
 #[tactic(auto, unfolding(crate::specs::Table::route_row_of))]
 fn route_row_in(shape: &Shape, row: &ByteRecord, index: usize) -> Result<RouteRow, InputFault>
@@ -49,10 +53,7 @@ fn route_row_in(shape: &Shape, row: &ByteRecord, index: usize) -> Result<RouteRo
 pub fn read_table(alloc: Global, shape: &Shape, text: &[u8]) -> Result<Vec<RouteRow>, InputFault>
     ensures { Gives (λ v. v.items) result (table_of shape.now text.now) }
 {
-    let header = [
-        "class", "router", "in_port", "in_vc", "dst", "out_port", "out_vc",
-    ];
-    read_sheet(alloc, text, &header, |row, index| {
+    read_sheet(alloc, text, &HEADER, |row, index| {
         route_row_in(shape, row, index)
     })
 }

@@ -15,6 +15,8 @@ use csv::ByteRecord;
 use noc_packet::Packet;
 use std::alloc::Global;
 
+static HEADER: [&str; 5] = ["source", "destination", "class", "length", "due"];
+
 // The packet of a row.
 #[tactic(auto, unfolding(crate::specs::Traffic::packet_of))]
 fn packet_in(row: &ByteRecord, index: usize) -> Result<Packet, InputFault>
@@ -41,8 +43,7 @@ fn packet_in(row: &ByteRecord, index: usize) -> Result<Packet, InputFault>
 pub fn read_traffic(alloc: Global, text: &[u8]) -> Result<Vec<Packet>, InputFault>
     ensures { Gives (λ v. v.items) result (traffic_of text.now) }
 {
-    let header = ["source", "destination", "class", "length", "due"];
-    read_sheet(alloc, text, &header, packet_in)
+    read_sheet(alloc, text, &HEADER, packet_in)
 }
 
 /// A text is read as these packets exactly where its first row is the header and the rows below it

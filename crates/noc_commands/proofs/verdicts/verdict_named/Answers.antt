@@ -1,4 +1,4 @@
-use Rattle.std.proofs.Common.{◌≡◌, ◌≢◌, ◌∙◌, ◌<◌, ℕ, ap, arith, inl, inr, sym}
+use Rattle.std.proofs.Common.{◌≢◌, ◌∙◌, ap, arith, inl, inr, sym}
 use Rattle.std.proofs.lemmas.Bool.{cases_eq, false≢true}
 use Rattle.std.proofs.lemmas.Slice.Eq.{bytes_eq-Decides}
 use Rattle.noc_view.proofs.ColumnLemmas.{column-small}

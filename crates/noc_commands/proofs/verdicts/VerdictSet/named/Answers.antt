@@ -1,6 +1,6 @@
-use Rattle.std.proofs.Common.{arith, ap, refl, rules}
+use Rattle.std.proofs.Common.{arith, rules}
 use Rattle.std.proofs.lemmas.Str.Pattern.{split_parts}
-use Rattle.noc_commands.proofs.NameLemmas.{all_read, last_none_read, next_read, none_read, opening_read}
+use Rattle.noc_commands.proofs.NameLemmas.{all_read, last_none_read, next_read, none_read}
 use Rattle.noc_commands.proofs.verdicts.VerdictSet.named.Goals as goal
 
 pub names-preserved : goal.names-preserved
