@@ -130,7 +130,7 @@ fn marks_below(alloc: Global, list: &RankList, start: u32) -> Result<Vec<Option<
 {
     let mut marks = Vec::with_capacity(alloc, list.ranks.len())?;
     for index in 0..list.ranks.len() {
-        marks.push(mark_below(list, start, index))?;
+        marks.push_reserved(mark_below(list, start, index));
     }
     Ok(marks)
 }

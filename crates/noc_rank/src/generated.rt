@@ -53,7 +53,7 @@ impl<'a> Formula<'a> {
         let mut ranks = Vec::with_capacity(alloc, count)?;
         for index in 0..count {
             let channel = index / self.vcs;
-            ranks.push(self.rank_at(channel / ports, channel % ports, index % self.vcs))?;
+            ranks.push_reserved(self.rank_at(channel / ports, channel % ports, index % self.vcs));
         }
         Ok(ranks)
     }

@@ -1,5 +1,6 @@
 use Rattle.std.proofs.Common.{◌∙◌, Option, subst, sym}
 use Rattle.std.proofs.lemmas.Bool.{false≢true}
+use Rattle.std.proofs.lemmas.Result.{err_from_is_err_and}
 use Rattle.std.specs.Prelude.{MatchOption}
 use Rattle.noc_route.specs.declared.rule.Entry.{Entry}
 use Rattle.noc_rank.specs.Faults.{HasEscapes, IsFirstBare, HasNoDescent, IsFirstDescent}
@@ -50,3 +51,15 @@ returns-in_err-first_descent-clause-accepted g c = λ full _. absurd (false≢tr
 
 pub returns-in-Some-2-clause-accepted : goal.returns-in-Some-2-clause-accepted
 returns-in-Some-2-clause-accepted g c = λ full _. absurd (false≢true (sym c.if-is_full.false ∙ c.is_full.ensures.full.1 full))
+
+pub returns-in_err-first_descent-clause-ok : goal.returns-in_err-first_descent-clause-ok
+returns-in_err-first_descent-clause-ok g c = let p = err_from_is_err_and c.from_residual.result c.from_residual.ensures.1 in rw p.1 tt
+
+pub returns-in_err-first_descent-clause-err : goal.returns-in_err-first_descent-clause-err
+returns-in_err-first_descent-clause-err g c =
+    let B : Option Entry → Type 0 = λ o. MatchOption o (HasEscapes c.args.relation.now c.args.ranks.now) (IsFirstBare c.args.relation.now c.args.ranks.now) in
+    let p = err_from_is_err_and c.from_residual.result c.from_residual.ensures.1 in
+    rw (p.1, p.2) (λ full. false≢true (sym c.if-is_full.false ∙ c.is_full.ensures.full.1 full), subst B c.in_default.is c.first_bare.ensures)
+
+pub returns-in_err-first_descent-clause-refused : goal.returns-in_err-first_descent-clause-refused
+returns-in_err-first_descent-clause-refused g c = λ _. let p = err_from_is_err_and c.from_residual.result c.from_residual.ensures.1 in rw p.1 p.2

@@ -1,7 +1,7 @@
-use Rattle.std.proofs.Common.{◌≡◌, ◌+◌, ◌*◌, ◌/◌, ◌%◌, ◌<◌, ◌≤◌, ℕ, true, refl, ap, ◌∙◌, arith, inl, inr}
+use Rattle.std.proofs.Common.{◌≡◌, ◌+◌, ◌*◌, ◌/◌, ◌%◌, ◌<◌, ◌≤◌, ℕ, true, refl, ap, sym, ◌∙◌, arith, inl, inr}
 use Rattle.std.specs.Prelude.{◌⊎◌, is_some}
 use Rattle.std.proofs.Math.Nat.{mul-le-mul_right}
-use Rattle.std.proofs.lemmas.Bool.{cases_lt}
+use Rattle.std.proofs.lemmas.Bool.{cases_lt, false≢true}
 use Rattle.noc_topo.specs.Shape.{nodes, local_port}
 use Rattle.noc_route.specs.Ranks.{is_channel, rank_count, rank_at}
 use Rattle.noc_rank.proofs.AcceptLemmas.{full-decoded}
@@ -36,3 +36,15 @@ returns-clause-full c = (
       full-decoded k c.vcs-vcs.result c.link_ports-ports.result c.loop-index.index vcs ports (omega (arith, count, c.loop-index-test.false)) c.loop-index.invariant,
   λ _. refl,
 )
+
+pub returns-then-is_adaptive-clause-full : goal.returns-then-is_adaptive-clause-full
+returns-then-is_adaptive-clause-full c =
+    let n = c.loop-index.index in
+    let v = c.vcs-vcs.result in
+    let ports = c.link_ports-ports.result in (
+      λ e. absurd (false≢true e),
+      λ full. sym (c.is_adaptive.ensures.1 (full (n / v / ports) (n / v % ports) (n % v))) ∙ c.if-is_adaptive.true,
+    )
+
+pub loop-index-init : goal.loop-index-init
+loop-index-init c = λ n l. absurd (omega arith)

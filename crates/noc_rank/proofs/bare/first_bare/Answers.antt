@@ -63,3 +63,19 @@ returns g c =
     let told = searched (IsNotBare relation k) n _ _ c.find_first.result ends.0 ends.1 c.find_first.ensures in
     let found : IsFirstBut (IsNotBare relation k) 0 n c.in_ok-number.number = rw c.in_ok-number.was at told in
     first-is_bare relation k c.vcs.ensures.built c.args.ranked.now.grid c.args.ranked.now.vcs n c.in_ok-number.number c.bare_at.result found c.bare_at.ensures.none c.bare_at.ensures.some
+
+pub overflow_mul-count-2 : goal.overflow_mul-count-2
+overflow_mul-count-2 g c =
+    let classes : c.classes.result ≤ 4 = omega (arith, c.classes.ensures.value, c.classes.ensures.built.table.few_classes) in
+    let a = mul-le c.classes.result c.nodes-nodes.result 4 256 classes (omega (arith, c.nodes-nodes.ensures.few)) in
+    let b = mul-le (c.classes.result * c.nodes-nodes.result) c.ports.result (4 * 256) 7 a (omega (arith, c.ports.ensures.few)) in
+    omega (arith, b)
+
+pub overflow_mul-count-3 : goal.overflow_mul-count-3
+overflow_mul-count-3 g c =
+    let few : c.vcs.result ≤ 8 = omega (arith, c.vcs.ensures.value, c.vcs.ensures.built.table.few_vcs) in
+    let classes : c.classes.result ≤ 4 = omega (arith, c.classes.ensures.value, c.vcs.ensures.built.table.few_classes) in
+    let a = mul-le c.classes.result c.nodes-nodes.result 4 256 classes (omega (arith, c.nodes-nodes.ensures.few)) in
+    let b = mul-le (c.classes.result * c.nodes-nodes.result) c.ports.result (4 * 256) 7 a (omega (arith, c.ports.ensures.few)) in
+    let d = mul-le (c.classes.result * c.nodes-nodes.result * c.ports.result) c.vcs.result (4 * 256 * 7) 8 b few in
+    omega (arith, d)

@@ -1,4 +1,5 @@
-use Rattle.std.proofs.Common.{◌≡◌, ◌*◌, ◌<◌, ℕ, ap, subst, ◌∙◌, arith}
+use Rattle.std.proofs.Common.{◌≡◌, ◌*◌, ◌<◌, ◌≤◌, ℕ, ap, subst, ◌∙◌, arith}
+use Rattle.std.proofs.lemmas.Nat.{mul-le}
 use Rattle.rayon.proofs.ToStd.{nat_range-All}
 use Rattle.noc_topo.specs.Shape.{nodes, ports}
 use Rattle.noc_rank.specs.NotRising.{input_count, HasNoFall}
@@ -52,3 +53,19 @@ returns g c =
     let told = searched (HasNoFall relation k) n _ _ c.find_first.result ends.0 ends.1 c.find_first.ensures in
     let found : IsFirstBut (HasNoFall relation k) 0 n c.in_ok-number.number = rw c.in_ok-number.was at told in
     one-first relation k n c.in_ok-number.number c.first_at.result c.args.ranked.now.grid c.args.ranked.now.vcs c.vcs.ensures.built.table.grid found c.first_at.ensures
+
+pub overflow_mul-count-2 : goal.overflow_mul-count-2
+overflow_mul-count-2 g c =
+    let classes : c.classes.result ≤ 4 = omega (arith, c.classes.ensures.value, c.classes.ensures.built.table.few_classes) in
+    let a = mul-le c.classes.result c.nodes.result 4 256 classes (omega (arith, c.nodes.ensures.few)) in
+    let b = mul-le (c.classes.result * c.nodes.result) c.ports.result (4 * 256) 7 a (omega (arith, c.ports.ensures.few)) in
+    omega (arith, b)
+
+pub overflow_mul-count-3 : goal.overflow_mul-count-3
+overflow_mul-count-3 g c =
+    let few : c.vcs.result ≤ 8 = omega (arith, c.vcs.ensures.value, c.vcs.ensures.built.table.few_vcs) in
+    let classes : c.classes.result ≤ 4 = omega (arith, c.classes.ensures.value, c.vcs.ensures.built.table.few_classes) in
+    let a = mul-le c.classes.result c.nodes.result 4 256 classes (omega (arith, c.nodes.ensures.few)) in
+    let b = mul-le (c.classes.result * c.nodes.result) c.ports.result (4 * 256) 7 a (omega (arith, c.ports.ensures.few)) in
+    let d = mul-le (c.classes.result * c.nodes.result * c.ports.result) c.vcs.result (4 * 256 * 7) 8 b few in
+    omega (arith, d)

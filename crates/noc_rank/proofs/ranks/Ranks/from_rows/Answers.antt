@@ -35,3 +35,18 @@ returns-in-None-clause-ok c =
     let whole : W c.enter.new.named = subst W (c.deref.ensures.value ∙ notes) c.in-None.ensures.none in
     let P : List (Option ℕ) → Type 0 = λ l. IsRankingOf c.args.shape.now c.args.vcs c.args.rows.now (record { grid = c.args.shape.now; vcs = c.args.vcs; ranks = l }) in
     subst P (sym items) (IsRankingOf-entered c.args.shape.now c.args.vcs c.args.rows.now c.enter.new.ranks c.enter.new.named entered c.all_ports.ensures.grid whole)
+
+pub returns-in_err-ranks-clause-ok : goal.returns-in_err-ranks-clause-ok
+returns-in_err-ranks-clause-ok c = let p = err_from_is_err_and c.from_residual.result c.from_residual.ensures.1 in rw p.1 tt
+
+pub returns-in_err-ranks-clause-err : goal.returns-in_err-ranks-clause-err
+returns-in_err-ranks-clause-err c = let p = err_from_is_err_and c.from_residual.result c.from_residual.ensures.1 in rw (p.1, p.2) tt
+
+pub returns-in_err-named-clause-ok : goal.returns-in_err-named-clause-ok
+returns-in_err-named-clause-ok c = let p = err_from_is_err_and c.from_residual-in_err-named.result c.from_residual-in_err-named.ensures.1 in rw p.1 tt
+
+pub returns-in_err-named-clause-err : goal.returns-in_err-named-clause-err
+returns-in_err-named-clause-err c = let p = err_from_is_err_and c.from_residual-in_err-named.result c.from_residual-in_err-named.ensures.1 in rw (p.1, p.2) tt
+
+pub returns-in_err-enter-clause-ok : goal.returns-in_err-enter-clause-ok
+returns-in_err-enter-clause-ok c = let p = err_from_is_err_and c.from_residual-in_err-enter.result c.from_residual-in_err-enter.ensures.1 in rw p.1 tt
