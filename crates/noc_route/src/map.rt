@@ -115,7 +115,7 @@ fn links_of(alloc: Global, sizes: &Sizes) -> Result<Vec<Option<(usize, usize)>>,
     let count = sizes.node_count * ports;
     let mut links = Vec::with_capacity(alloc, count)?;
     for i in 0..count {
-        links.push(sizes.shape.neighbour(i / ports, i % ports))?;
+        links.push_reserved(sizes.shape.neighbour(i / ports, i % ports));
     }
     Ok(links)
 }
@@ -133,7 +133,7 @@ fn distances_of(alloc: Global, sizes: &Sizes) -> Result<Vec<usize>, AllocError>
     let count = nodes * nodes;
     let mut apart = Vec::with_capacity(alloc, count)?;
     for i in 0..count {
-        apart.push(sizes.shape.distance(i / nodes, i % nodes))?;
+        apart.push_reserved(sizes.shape.distance(i / nodes, i % nodes));
     }
     Ok(apart)
 }
