@@ -4,10 +4,15 @@
 mod arbiters;
 mod arrivals;
 mod channels;
+mod committing;
+mod deciding;
+mod injecting;
 mod parts;
 mod plan;
+mod putting;
 mod router;
 mod source;
+mod taking;
 mod tally;
 
 pub use noc_view::{Finding, VERDICTS, Verdict};
