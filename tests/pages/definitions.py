@@ -36,10 +36,12 @@ STATEMENTS = {
 COLUMNS = """| File | What it is | Definitions that contracts name | Part of |
 |---|---|---|---|"""
 IMPORT = re.compile(r"ghost use Rattle\.(\w+)\.specs\.(\w+)\.\{([^}]*)\}")
+# What a file of specs/ passes on.
+PASSED = re.compile(r"^(?:unfoldable )?pub use Rattle\.(\w+)\.specs\.(\w+)\.\{([^}]*)\}", re.MULTILINE)
 # An item at the left margin, to the brace that closes it.
 BLOCK = re.compile(r"^(?:impl(?:<[^>]*>)? (?:(Model) for )?(\w+)|pub fn (\w+)).*?^{?}", re.MULTILINE | re.DOTALL)
 SIGNATURE = re.compile(r"^( *)pub fn .*?^\1{", re.MULTILINE | re.DOTALL)
-CITED = re.compile(r"\bRattle\.(\w+)\.specs\.(\w+)\b")
+CITED = re.compile(r"\bRattle\.(\w+)\.specs\.(\w+)\b(?:\.\{([^}]*)\})?")
 DECLARED = re.compile(r"^ *(?:(?:abbrev|unfoldable|pub|record|data) +)+([^\s:(]+)", re.MULTILINE)
 
 
@@ -59,7 +61,23 @@ def contracts(crate, source):
             yield block[0] if model else "\n".join(part[0] for part in SIGNATURE.finditer(block[0]))
 
 
-def cited(crates):
+def names_of(listed):
+    """The names of an import, each as its home has it, and as it is called here."""
+    for name in listed.split(","):
+        own, *given = name.strip().split(" as ")
+        yield own, (given or [own])[0]
+
+
+def home(files, owner, file, name):
+    """The crate and the file of specs/ that define a name, which other files may pass on."""
+    for crate, passed, names in PASSED.findall(files.get((owner, file), Path("/dev/null")).read_text()):
+        for own, given in names_of(names):
+            if given == name:
+                return home(files, crate, passed, own)
+    return owner, file, name
+
+
+def cited(crates, files):
     """By crate and file of specs/, the names in it by which contracts speak."""
     found = defaultdict(set)
     for crate in crates:
@@ -67,10 +85,10 @@ def cited(crates):
             source = path.read_text()
             words = set(re.findall(r"[^\s(){}\[\].,;]+", "\n".join(contracts(crate, source))))
             for owner, file, names in IMPORT.findall(source):
-                for name in names.split(","):
-                    own, *given = name.strip().split(" as ")
-                    if (given or [own])[0] in words:
-                        found[owner, file].add(own)
+                for own, given in names_of(names):
+                    if given in words:
+                        *place, name = home(files, owner, file, own)
+                        found[tuple(place)].add(name)
     return found
 
 
@@ -79,15 +97,22 @@ def specs_of(crate):
     return [path for path in sorted((TOP / "crates" / crate / "specs").glob("*.antt")) if path.stem != "Lib"]
 
 
+def cites(files, path):
+    """The files of specs/ that a source cites, which are those that define the names where it lists some."""
+    for owner, file, names in CITED.findall(path.read_text()):
+        for own, _ in names_of(names):
+            yield home(files, owner, file, own)[:2]
+
+
 def parts_of(files, sources):
     """The files of specs/ that the sources cite, and those that these cite, at any remove."""
-    todo = [it for path in sources for it in CITED.findall(path.read_text())]
+    todo = [it for path in sources for it in cites(files, path)]
     found = set()
     while todo:
         it = todo.pop()
         if it in files and it not in found:
             found.add(it)
-            todo += CITED.findall(files[it].read_text())
+            todo += cites(files, files[it])
     return found
 
 
@@ -128,7 +153,7 @@ def about(path):
 def page():
     crates = re.findall(r"^(\w+):", (TOP / "crates.txt").read_text(), re.MULTILINE)
     files = {(crate, path.stem): path for crate in crates for path in specs_of(crate)}
-    found, parts = cited(crates), statements(files)
+    found, parts = cited(crates, files), statements(files)
     lines = [head(files, parts)]
     for crate in crates:
         if rows := [it for it in files if it[0] == crate]:
