@@ -178,7 +178,7 @@ module _ (size vcs : ℕ) (a b : Allotment) (some : 0 < vcs) (few : size ≤ 64)
     }
 
 -- ---- which output channel each input channel owns
--- .. of one input channel
+-- the output channel that one input channel owns
 record Owns (ports vcs : ℕ) (b : Allotment) (m : RouterMarks) (i : ℕ) : Type 0 where
   port : b.out_port i < ports
   vc : b.out_vc i < vcs

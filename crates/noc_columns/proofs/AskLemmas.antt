@@ -217,7 +217,7 @@ asking-all waiting idle set requests outs inputs wanted rest none are = asks-sam
 pub asked-some : (n : ℕ) → not (nat_eq n 0) ≡ true → 0 < n
 asked-some n e = elim (cases_eq n 0) [ inl z ↦ absurd (false≢true (sym (ap not (eq-eqb n 0 z)) ∙ e)) | inr o ↦ omega arith ]
 
--- .. and one that is not has none
+-- an output channel that is not asked for has no request
 pub asked-none : (n : ℕ) → not (nat_eq n 0) ≡ false → n ≡ 0
 asked-none n e = elim (cases_eq n 0) [ inl z ↦ z | inr o ↦ absurd (true≢false (sym (ap not (ne_eqb n 0 o)) ∙ e)) ]
 

@@ -46,14 +46,6 @@ module _ (deep : Bool) (places : Planes ℕ) (inputs : Inputs (List ℕ)) (injec
       ap (bit_and (of injecting))
       (value-wrong of one none (leaves deep inputs.len) (likes deep places) ∙ ap₂ (wrong_from 0) (value-leaves of one deep inputs.len) (value-likes of one deep places))
 
-  -- .. some inject a flit
-  pub some-went : (n : Numbering) (r : ℕ) (went : List ℕ) → ((c : ℕ) → c < n.size → word (n.index c) went ≡ room_word deep places inputs injecting (n.index c))
-      → has_bit (union_from 0 n.size (λ k. room_word deep places inputs injecting (n.index k))) r ≡ not (nat_eq (set_of n r went) 0)
-  some-went n r went is =
-      union-members n.size (λ k. room_word deep places inputs injecting (n.index k)) r
-      ∙ some-same n.size _ _ (λ k l. ap (λ w. has_bit w r) (sym (is k l)))
-      ∙ some-asks n r went
-
   pub went-is : (n : Numbering) (r : ℕ) (went : List ℕ)
       → ((c : ℕ) → c < n.size → word (n.index c) went ≡ bit_and (word (n.index c) injecting) (wrong_from 0 (list_of deep (planes_by (word (n.index c)) inputs.len)) (list_of deep places)))
       → set_of n r went ≡ bit_and (set_of n r injecting) (wrong_from 0 (list_of deep (planes_by (set_of n r) inputs.len)) (list_of deep (planes_by (set_alike n r) places)))
@@ -75,7 +67,7 @@ module _ (deep : Bool) (inputs : Inputs (List ℕ)) where
       ∙ by-term n r (free-term starts)
       ∙ value-free starts (set_of n r) (set_alike n r)
 
-  -- .. a packet begins in the first of them
+  -- a packet begins in the first channel that is free
   begins-chain : (n : Numbering) (r starts : ℕ) (begun : List ℕ)
       → ((c : ℕ) → c < n.size → word (n.index c) begun ≡ less (free_word deep inputs starts (n.index c)) (union_from 0 c (λ k. free_word deep inputs starts (n.index k))))
       → set_of n r begun ≡ set_below n.size (λ c. has_bit (free_word deep inputs starts (n.index c)) r && not (some_below c (λ k. has_bit (free_word deep inputs starts (n.index k)) r)))

@@ -114,7 +114,7 @@ module _ (A : Type 0) (P : ℕ → A → Type 0) (old : ℕ → A) (set : ℕ) w
       done k a b (inl same) = subst (λ (x : ℕ). P x (new x)) (sym same) here
       done k a b (inr other) = subst (P k) (sym (others k other)) (each.done k a (was-left rest t k is other b))
 
-  -- .. in the words of the code
+  -- the next step of a walk, in the words of the code
   pub each-stepped : (now new : ℕ → A) (rest left t : ℕ) → IsLeast (has_bit rest) (Some t) → IsEach A P old now set rest
       → P t (new t) → ((k : ℕ) → k ≢ t → new k ≡ now k) → left ≡ less rest (lowest rest) → IsEach A P old new set left
   each-stepped now new rest left t is each here others left_is = subst (IsEach A P old new set) (sym left_is) (each-next now new rest t is each here others)

@@ -39,7 +39,7 @@ asked-still asking now router w s i waiting wanted idle waits wants idles was is
     at true = refl
     at false = was r few
 
--- .. and has these bits besides
+-- an entry that has these bits besides
 pub entry-put-more : (table : List ℕ) (i x k : ℕ) → i < length table
     → slice_index (set table i (bit_or (slice_index table i) x)) k ≡ (if nat_eq k i then bit_or (slice_index table k) x else slice_index table k)
 entry-put-more table i x k within = elim (cases_eq k i) [

@@ -160,7 +160,7 @@ having-is a b c s x y z n few e f g =
     and-true true = refl
     and-true false = refl
 
--- .. and made of its digits
+-- a number is made of its digits
 pub number-of : (n : ℕ) → n < 8 → number (nat_eq (n % 2) 1) (nat_eq (n / 2 % 2) 1) (nat_eq (n / 2 / 2 % 2) 1) ≡ n
 number-of n few = omega (arith, few, odd n, odd (n / 2), odd (n / 2 / 2))
   where

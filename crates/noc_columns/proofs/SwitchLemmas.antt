@@ -324,7 +324,7 @@ module _ (ports vcs : ℕ) (some : 0 < vcs) (few : ports * vcs ≤ 64) (picked :
             told true few = power-members (q * vcs + picks.vc p) k ∙ channel-eq ports vcs some k q (picks.vc p) few ∙ ap (λ b. nat_eq q (k / vcs) && b) (sym (and-true (nat_eq (picks.vc p) (k % vcs))))
             told false few = has_bit-zero k ∙ sym (ap (λ b. nat_eq q (k / vcs) && b) (and-false (nat_eq (picks.vc p) (k % vcs))) ∙ and-false (nat_eq q (k / vcs)))
 
-    -- .. by all of them
+    -- what leaves by all of them
     leaves-all : (test : ℕ → Bool) (leaves : ℕ → ℕ → Bool)
         → ((q p w v : ℕ) → q < ports → v < vcs → IsChosen q p w → leaves q v ≡ (nat_eq (picks.vc p) v && test (p * vcs + w)))
         → ((q v : ℕ) → q < ports → v < vcs → nat_eq (asks_for ports picks q) 0 ≡ true → leaves q v ≡ false)

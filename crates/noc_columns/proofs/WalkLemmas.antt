@@ -87,7 +87,7 @@ walk-start set r f old = sym (ap (λ b. if b then f r else old r) (none-left set
 pub walk-all : {A : Type 0} (set rest r : ℕ) (f old now : ℕ → A) → rest ≡ 0 → now r ≡ (if has_bit set r && not (has_bit rest r) then f r else old r) → now r ≡ (if has_bit set r then f r else old r)
 walk-all set rest r f old now none is = is ∙ ap (λ b. if b then f r else old r) (all-done set rest r none)
 
--- .. or gathers the members that pass a test
+-- a walk that gathers the members that pass a test
 pub last-start : (set r : ℕ) (test : ℕ → Bool) → has_bit 0 r ≡ ((has_bit set r && not (has_bit set r)) && test r)
 last-start set r test = has_bit-zero r ∙ sym (ap (λ b. b && test r) (none-left set r))
 
@@ -154,7 +154,7 @@ port-next vcs port old now new by of is same before =
     ∙ union-more old (port * vcs) vcs of
     ∙ (let e : port * vcs + vcs ≡ (port + 1) * vcs = omega arith in ap (λ k. union_from old k of) e)
 
--- .. and none
+-- the channels of no port
 pub ports-none : (vcs old : ℕ) (of : ℕ → ℕ) → old ≡ union_from old (0 * vcs) of
 ports-none vcs old of = let e : 0 ≡ 0 * vcs = omega arith in ap (λ k. union_from old k of) e
 

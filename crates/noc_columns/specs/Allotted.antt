@@ -22,9 +22,9 @@ pub record Allotment : Type 0 where
   pub granted : ℕ  -- input channels that are granted an output channel
   pub lost : ℕ  -- those that ask for one and are not granted it
   pub out_port : ℕ → ℕ  -- by input channel, the port of the output channel by which it sends
-  pub out_vc : ℕ → ℕ  -- .. and its virtual channel
+  pub out_vc : ℕ → ℕ  -- by input channel, its virtual channel
 
--- .. of router r of a block
+-- what it finds and changes of router r of a block
 abbrev pub allotment_at : Numbering → Marks → Grants (List ℕ) → List ℕ → ℕ → Allotment
 allotment_at n marks grants lost r = record {
   waiting = word r marks.waiting;
@@ -109,7 +109,7 @@ allotted_after size vcs a b c m = record {
   lost = b.lost;
 }
 
--- .. and where then each waiting channel has one of these sets, which are all wanted
+-- after it, where then each waiting channel has one of these sets, which are all wanted
 abbrev pub routed_after : Allocation → (ℕ → ℕ) → ℕ → Allocation
 routed_after b sets all = record b {
   column = record b.column { wanted = all };

@@ -14,7 +14,7 @@ pub record Heading : Type 0 where
   pub wanted : ℕ
   pub set : ℕ → ℕ
 
--- .. of router r of a block
+-- what it changes of router r of a block
 abbrev pub heading_at : Marks → ℕ → Heading
 heading_at marks r = record {
   waiting = word r marks.waiting;
@@ -30,6 +30,6 @@ headed k permitted h = record {
   set = λ j. if nat_eq j k then permitted else h.set j;
 }
 
--- .. in the marks of a router whose input channels are held by these packets
+-- the marks of a router with these sets, whose input channels are held by these packets
 abbrev pub headed_marks : Heading → (ℕ → ℕ) → RouterMarks → RouterMarks
 headed_marks h packet m = record m { set = h.set; packet = packet }

@@ -13,8 +13,8 @@ use Rattle.noc_columns.specs.declared.words.TheConstants.{ROUTERS}
 abbrev pub comes_from : ℕ → ℕ → ℕ → ℕ → Bool
 comes_from distance mask sent r = has_bit mask r && has_bit sent ((r + distance) % ROUTERS)
 
--- .. of link channel k, from neighbours in the same block. (Words of opposite ports stand in
--- pairs.)
+-- whether it gets that of link channel k, from neighbours in the same block. (Words of opposite
+-- ports stand in pairs.)
 abbrev pub comes_at : Neighbours → List ℕ → ℕ → ℕ → Bool
 comes_at n sent k r = comes_from (word k n.distance) (word k n.mask) (word (opposite k) sent) r
 
@@ -46,7 +46,7 @@ pub record ArePlaces (g : Grid) (s p : ℕ) (places : Places) : Type 0 where
   pub some : (t q : ℕ) → neighbour g s p ≡ Some (t, q)
       → (j : ℕ) × (j < places.count) × (has_bit (places.mask j) (s % ROUTERS) ≡ true)
 
--- ---- .. in a mesh or a torus
+-- ---- where they stand in a mesh or a torus
 -- whether port p of router s leads one step on, or to the other end of its line, and to which
 -- router
 abbrev pub leads : Grid → ℕ → ℕ → Bool → Bool

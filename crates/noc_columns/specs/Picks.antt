@@ -1,5 +1,5 @@
 -- The words of ports, and which of their channels are in turn and picked.
-use Rattle.std.specs.Prelude.{◌≡◌, ℕ, ◌+◌, ◌*◌, ◌/◌, ◌%◌, ◌<◌, Bool, true, false, List, nat_eq, nat_lt, if◌then◌else◌}
+use Rattle.std.specs.Prelude.{◌≡◌, ℕ, ◌+◌, ◌*◌, ◌/◌, ◌%◌, ◌<◌, Bool, true, false, List, nat_eq, nat_lt, not, slice_index, if◌then◌else◌}
 use Rattle.noc_packet.specs.Set.{has_bit}
 use Rattle.noc_sets.specs.Sets.{less}
 use Rattle.noc_sets.specs.Turns.{first_bit, in_turn}
@@ -57,7 +57,8 @@ pub record IsPicked (n : Numbering) (r : ℕ) (ready ahead picked past : List �
       → has_bit (set_of n r past) c
       ≡ some_below c (has_bit (in_turn (set_of n r ready) (set_of n r ahead)))
 
--- .. and it may send where it has a ready channel, and then all its channels are told so
+-- of a port a channel is picked, and the port may send where it has a ready one, which all its
+-- channels are told
 pub record IsPassedBy (n : Numbering) (r : ℕ) (ready ahead picked past sends : List ℕ)
     (sending : Bool) : Type 0 where
   pub picks : IsPicked n r ready ahead picked past
@@ -72,3 +73,15 @@ pub record HasPick (n : Numbering) (r p c : ℕ) (last : List ℕ) (sends : Send
   pub port : number_in (digits_by (word p) picks.port) r
       ≡ number_in (digits_by (set_of n r) sends.port) c
   pub vc : number_in (digits_by (word p) picks.vc) r ≡ number_in (digits_by (set_of n r) sends.vc) c
+
+-- the ports of router r pick these channels of the ready ones, and `picks` says of each port
+-- whether it picks one, and what that has
+pub record HavePicked (ports : RouterPorts) (r : ℕ) (ready ahead picked past last : List ℕ)
+    (sends : Sends (List ℕ)) (picks : Picks) : Type 0 where
+  pub first : (p : ℕ) → p < ports.links.width + 1
+      → IsPicked (port_of ports p) r ready ahead picked past
+  pub has : (p c : ℕ) → p < ports.links.width + 1 → c < ports.links.vcs
+      → has_bit (set_of (port_of ports p) r picked) c ≡ true
+      → HasPick (port_of ports p) r p c last sends picks
+  pub any : (p : ℕ) → p < ports.links.width + 1
+      → has_bit (slice_index picks.any p) r ≡ not (nat_eq (set_of (port_of ports p) r ready) 0)

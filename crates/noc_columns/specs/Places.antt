@@ -39,7 +39,7 @@ pub record IsFar (g : Grid) (b p : ℕ) (far : Bool) (c : ℕ) (f : Far) : Type 
   pub mask : (r : ℕ) → r < ROUTERS
       → has_bit f.mask r ≡ stands_in g (ROUTERS * b + r) p far c
 
--- .. if there are some
+-- those neighbours, if there are some
 abbrev pub AreFarIn : Grid → ℕ → ℕ → Bool → ℕ → Option Far → Type 0
 AreFarIn g b p far c None =
     (c ≡ b) ⊎ ((r : ℕ) → r < ROUTERS → stands_in g (ROUTERS * b + r) p far c ≡ false)

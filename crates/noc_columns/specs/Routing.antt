@@ -10,7 +10,7 @@ use Rattle.noc_columns.specs.declared.ports.RouterPorts.{RouterPorts}
 abbrev pub header_of : Packet → Header
 header_of p = record { destination = p.destination; class = p.class }
 
--- .. of packet p
+-- what the head of packet p tells
 abbrev pub header_in : List Header → ℕ → Header
 header_in headers p = slice_index_or headers p (record { destination = 0; class = 0 })
 
@@ -32,7 +32,7 @@ pub record IsOfPorts (all : RouterPorts) (relation : Routes) : Type 0 where
 abbrev pub set_by : Routes → Header → ℕ → ℕ → ℕ → ℕ
 set_by relation h node port vc = set_at relation h.class node port vc h.destination
 
--- .. to packet p in input channel k
+-- the set that it permits to packet p in input channel k
 abbrev pub sets_by : Routes → List Header → ℕ → ℕ → ℕ → ℕ
 sets_by relation headers node k p =
     set_by relation (header_in headers p) node (k / relation.vcs) (k % relation.vcs)

@@ -47,7 +47,7 @@ abbrev pub sent_if : List Start → Bool → Source → Source
 sent_if starts true s = next_source starts s
 sent_if starts false s = s
 
--- .. of the packet that is next, which begins with it
+-- a source from which the first flit of its next packet is injected, if it is
 abbrev pub begun_if : List Start → Bool → Source → Source
 begun_if starts true s = next_source starts (first_source (start_in starts s.queue) s)
 begun_if starts false s = s

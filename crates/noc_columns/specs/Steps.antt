@@ -38,7 +38,7 @@ with_inputs deep i supplied c = record c {
   len = list_of deep i.len;
 }
 
--- .. of which the source injects into these
+-- a router with these input channels, of which the source injects into these
 abbrev pub with_source : Bool → Inputs ℕ → ℕ → Column → Column
 with_source deep i injecting c = record (with_inputs deep i c.supplied c) { injecting = injecting }
 

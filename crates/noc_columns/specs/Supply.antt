@@ -22,7 +22,7 @@ by_four a b f = if b then (if a then f 3 else f 2) else (if a then f 1 else f 0)
 abbrev pub is_fed : ℕ → (ℕ → ℕ) → ℕ → ℕ → Bool
 is_fed links some q v = if nat_lt q links then has_bit (some q) v else true
 
--- .. in router r, by the words of all link channels
+-- whether it has so in router r, by the words of all link channels
 abbrev pub is_fed_word : ℕ → List ℕ → ℕ → ℕ → ℕ → Bool
 is_fed_word links some r q v =
     if nat_lt q links then has_bit (word (v * links + q) some) r else true

@@ -22,7 +22,7 @@ pub record PortPicks : Type 0 where
   pub port : ℕ → ℕ
   pub vc : ℕ → ℕ
 
--- .. in router r of a block
+-- what the input ports of router r of a block pick
 abbrev pub picks_in : Picks → ℕ → PortPicks
 picks_in picks r = record {
   any = λ p. has_bit (word p picks.any) r;
@@ -39,7 +39,7 @@ asks_for ports picks q = set_below ports (λ p. picks.any p && nat_eq (picks.por
 abbrev pub taken_by : ℕ → PortPicks → (ℕ → ℕ) → ℕ → ℕ
 taken_by ports picks ahead q = first_bit (asks_for ports picks q) (ahead q)
 
--- .. in router r of a block
+-- the one that it takes in router r of a block
 abbrev pub taken_in : RouterPorts → Picks → List ℕ → ℕ → ℕ → ℕ
 taken_in ports picks ahead r q =
     taken_by (ports.links.width + 1) (picks_in picks r) (λ o. set_of (output_of ports o) r ahead) q

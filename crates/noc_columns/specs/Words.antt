@@ -28,11 +28,11 @@ set_below (suc n) test = bit_or (set_below n test) (if test n then 2 ^ n else 0)
 abbrev pub set_by : Numbering → ℕ → (ℕ → ℕ) → ℕ
 set_by n r words = set_below n.size (λ c. has_bit (words (n.index c)) r)
 
--- .. of the words of a block
+-- the set of router r, out of the words of a block
 abbrev pub set_of : Numbering → ℕ → List ℕ → ℕ
 set_of n r words = set_by n r (λ i. slice_index words i)
 
--- .. where all channels have one word
+-- the set of router r, where all channels have one word
 abbrev pub set_alike : Numbering → ℕ → ℕ → ℕ
 set_alike n r word = set_by n r (λ i. word)
 

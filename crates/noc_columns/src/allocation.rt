@@ -1,20 +1,16 @@
 //! Waiting channels of the routers of a block are granted output channels.
 
 ghost use Rattle.std.specs.Prelude.{◌≡◌, ◌≢◌, ◌<◌, ◌+◌, ◌*◌, ℕ, true, false, slice_index};
-ghost use Rattle.noc_packet.specs.Set.{has_bit};
-ghost use Rattle.noc_alloc.specs.Members.{MembersAreBelow};
 ghost use Rattle.noc_columns.specs.Allotted.{HasAllotted, allotment_at};
-ghost use Rattle.noc_columns.specs.Picks.{channels_of};
-ghost use Rattle.noc_columns.specs.declared.sets.TheConstants.{CHANNELS};
-ghost use Rattle.noc_columns.specs.declared.words.TheConstants.{ROUTERS};
+ghost use Rattle.noc_columns.specs.Prelude.{MembersAreBelow, channels_of, has_bit};
 
 use crate::asks::ask_all;
+use crate::channel_table::ChannelTable;
 use crate::grants::{Grants, grant_all};
 use crate::marks::Marks;
 use crate::planes::less;
 use crate::sets::{CHANNELS, but_lowest, least};
-use crate::table::ChannelTable;
-use crate::words::Words;
+use crate::words::{ROUTERS, Words};
 
 /// In the routers in which an idle output channel is wanted the waiting channels ask, and each
 /// output channel that is asked for is granted. It is told who is granted one, and who asks for one

@@ -1,9 +1,8 @@
 //! The waiting channels of one router ask for output channels.
 
 ghost use Rattle.std.specs.Prelude.{◌≡◌, ◌<◌, ℕ, slice_index};
-ghost use Rattle.noc_packet.specs.Set.{has_bit};
 ghost use Rattle.noc_sets.specs.Grants.{AreAsks};
-ghost use Rattle.noc_columns.specs.declared.sets.TheConstants.{CHANNELS};
+ghost use Rattle.noc_columns.specs.Prelude.{has_bit};
 
 use crate::sets::{CHANNELS, but_lowest, least, least_or_any, lowest, where_some};
 

@@ -1,9 +1,7 @@
 //! The words of one virtual channel of all ports of a router.
 
 ghost use Rattle.std.specs.Prelude.{◌≡◌, ◌≢◌, ◌⊎◌, ◌<◌, ◌≤◌, ◌+◌, ◌*◌, ℕ, slice_index};
-ghost use Rattle.noc_columns.specs.Picks.{channels_of, output_of, port_at, port_of};
-ghost use Rattle.noc_columns.specs.Words.{word};
-ghost use Rattle.noc_columns.specs.declared.words.TheConstants.{WORDS};
+ghost use Rattle.noc_columns.specs.Prelude.{channels_of, output_of, port_at, port_of, word};
 
 use crate::ports::{PORTS, Ports, RouterPorts};
 use crate::words::{WORDS, Words};

@@ -1,17 +1,12 @@
 //! Output channels of routers are idle again, out of words of channels.
 
 ghost use Rattle.std.specs.Prelude.{◌≡◌, ◌+◌, ◌*◌, ◌^◌, ◌<◌, ◌≤◌, ℕ, bit_or, slice_index, if◌then◌else◌};
-ghost use Rattle.noc_packet.specs.Set.{has_bit};
-ghost use Rattle.noc_sets.specs.Unions.{union_from};
 ghost use Rattle.noc_columns.specs.Marks.{ChangesIdle};
-ghost use Rattle.noc_columns.specs.Picks.{links_of, port_at};
-ghost use Rattle.noc_columns.specs.Words.{set_of, word};
-ghost use Rattle.noc_columns.specs.declared.sets.TheConstants.{CHANNELS};
-ghost use Rattle.noc_columns.specs.declared.words.TheConstants.{ROUTERS};
+ghost use Rattle.noc_columns.specs.Prelude.{has_bit, links_of, port_at, set_of, union_from, word};
 
 use crate::marks::Marks;
 use crate::ports::Ports;
-use crate::sets::{but_lowest, least};
+use crate::sets::{CHANNELS, but_lowest, least};
 use crate::words::{ROUTERS, Words};
 
 /// The link channels that a router has in these words are idle again.
@@ -36,9 +31,13 @@ fn add_port(links: &Ports, port: usize, words: &Words, marks: &mut Marks)
         then 2 ^ (port * links.now.vcs + v) else 0) }
     ensures kept { ChangesIdle marks.old marks.new }
 {
-    for v in 0..links.vcs {
-        let routers = words[links.first + v * links.width + port];
-        add_channel(routers, port * links.vcs + v, marks);
+    // (These are copied, so that they are not read again in each turn.)
+    let first = links.first;
+    let width = links.width;
+    let vcs = links.vcs;
+    for v in 0..vcs {
+        let routers = words[first + v * width + port];
+        add_channel(routers, port * vcs + v, marks);
     }
 }
 

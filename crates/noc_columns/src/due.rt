@@ -2,7 +2,6 @@
 
 ghost use Rattle.std.specs.Prelude.{◌≡◌, ◌≢◌, ◌<◌, ◌≤◌, ℕ, nat_le, slice_index, if◌then◌else◌};
 ghost use Rattle.noc_columns.specs.Sources.{AreDue};
-ghost use Rattle.noc_columns.specs.declared.words.TheConstants.{ROUTERS};
 
 use crate::planes::less;
 use crate::words::{ROUTERS, router_if};

@@ -1,78 +1,118 @@
 //! What is decided takes effect.
 
 ghost use Rattle.std.specs.Prelude.{◌≡◌, ◌<◌, ◌*◌, ℕ, nat_lt};
-ghost use Rattle.noc_packet.specs.Set.{has_bit};
-ghost use Rattle.noc_sets.specs.Unions.{some_below};
+ghost use Rattle.noc_columns.specs.Arrivals.{leaves_from};
 ghost use Rattle.noc_columns.specs.Channels.{decided_by, inputs_by, standing_by, verdicts_by};
 ghost use Rattle.noc_columns.specs.Steps.{Settles};
-ghost use Rattle.noc_columns.specs.Words.{IsWithin, Numbering, set_of, word};
+ghost use Rattle.noc_columns.specs.Supply.{digits_by, number_in};
+ghost use Rattle.noc_columns.specs.Prelude.{IsWithin, Numbering, has_bit, set_of, some_below, word};
 
 use crate::channels::{Decided, Inputs, Standing, Verdicts};
 use crate::frame::Frame;
+use crate::grants::Grants;
 use crate::planes::less;
-use crate::words::Words;
+use crate::supply::NUMBERS;
+use crate::words::{GROUP, Words, put};
 
-/// Heads, grants and moves take effect on the input channels, and the verdicts are told. It is
-/// decided which channels move a flit, and these are granted an output channel. The answer is the
-/// routers of which a flit moves.
+/// What is decided of the input channels of a block, and what it follows from.
+#[derive(Drop)]
+pub struct Moves<'a> {
+    /// What the input channels can do.
+    pub standing: &'a Standing<Words>,
+    /// What is decided of them.
+    pub decided: &'a Decided<Words>,
+    /// Which of them are granted an output channel, and by which one each of them sends.
+    pub grants: &'a Grants<Words>,
+}
+
+/// Heads, grants and moves take effect on the input channels, and the verdicts are told. Of those
+/// that a tail leaves it is told from which it leaves the network: it goes by the local port, which
+/// has this number. The answer is the routers of which a flit moves, and those that a tail leaves.
 #[inline(always)]
 pub fn settle(
     frame: &Frame,
-    standing: &Standing<Words>,
-    decided: &Decided<Words>,
-    granted: &Words,
+    local: usize,
+    moves: &Moves<'_>,
     inputs: &mut Inputs<Words>,
     verdicts: &mut Verdicts<Words>,
-) -> u64
-    ensures settles { (n : Numbering) (r : ℕ) → IsWithin (4 * frame.now.groups) n
-        → Settles frame.now.deep (standing_by (set_of n r) standing.now)
-        (decided_by (set_of n r) decided.now) (set_of n r granted.now)
+    arrived: &mut Words,
+) -> (u64, u64)
+    requires { local < NUMBERS }
+    ensures settles { (n : Numbering) (r : ℕ) → IsWithin (GROUP * frame.now.groups) n
+        → Settles frame.now.deep (standing_by (set_of n r) moves.now.standing.now)
+        (decided_by (set_of n r) moves.now.decided.now) (set_of n r moves.now.grants.now.granted)
         (inputs_by (set_of n r) inputs.old) (inputs_by (set_of n r) inputs.new)
         (verdicts_by (set_of n r) verdicts.old) (verdicts_by (set_of n r) verdicts.new) }
+    ensures arrived { (n : Numbering) (r c : ℕ) → IsWithin (GROUP * frame.now.groups) n → c < n.size
+        → has_bit (set_of n r arrived.new) c
+        ≡ leaves_from local (set_of n r verdicts.new.moved)
+        (set_of n r moves.now.standing.now.last)
+        (number_in (digits_by (set_of n r) moves.now.grants.now.sends.port)) c }
     ensures moved { (r : ℕ)
-        → has_bit result r
-        ≡ some_below (4 * frame.now.groups) (λ i. has_bit (word i verdicts.new.moved) r) }
+        → has_bit result.0 r
+        ≡ some_below (GROUP * frame.now.groups) (λ i. has_bit (word i verdicts.new.moved) r) }
+    ensures some { (r : ℕ)
+        → has_bit result.1 r
+        ≡ some_below (GROUP * frame.now.groups) (λ i. has_bit (word i arrived.new) r) }
 {
     if frame.deep {
-        settle_all::<5>(frame, standing, decided, granted, inputs, verdicts)
+        settle_all::<5>(frame, local, moves, inputs, verdicts, arrived)
     } else {
-        settle_all::<3>(frame, standing, decided, granted, inputs, verdicts)
+        settle_all::<SHALLOW>(frame, local, moves, inputs, verdicts, arrived)
     }
 }
 
+// How many bits a count has that is not deep.
+const SHALLOW: usize = 3;
+
 // What was decided takes effect, where it is told how many bits a count has. (That is a const
-// parameter, so that each of both loops has one kind of count.)
+// parameter, so that each of both loops has one kind of count. And all is told in one loop, since
+// one that does less is unrolled, and does the words one by one that are left over.)
 #[inline(always)]
 fn settle_all<const BITS: usize>(
     frame: &Frame,
-    standing: &Standing<Words>,
-    decided: &Decided<Words>,
-    granted: &Words,
+    local: usize,
+    moves: &Moves<'_>,
     inputs: &mut Inputs<Words>,
     verdicts: &mut Verdicts<Words>,
-) -> u64
-    ensures settles { (n : Numbering) (r : ℕ) → IsWithin (4 * frame.now.groups) n
-        → Settles (nat_lt 3 BITS) (standing_by (set_of n r) standing.now)
-        (decided_by (set_of n r) decided.now) (set_of n r granted.now)
+    arrived: &mut Words,
+) -> (u64, u64)
+    requires { local < NUMBERS }
+    ensures settles { (n : Numbering) (r : ℕ) → IsWithin (GROUP * frame.now.groups) n
+        → Settles (nat_lt SHALLOW BITS) (standing_by (set_of n r) moves.now.standing.now)
+        (decided_by (set_of n r) moves.now.decided.now) (set_of n r moves.now.grants.now.granted)
         (inputs_by (set_of n r) inputs.old) (inputs_by (set_of n r) inputs.new)
         (verdicts_by (set_of n r) verdicts.old) (verdicts_by (set_of n r) verdicts.new) }
+    ensures arrived { (n : Numbering) (r c : ℕ) → IsWithin (GROUP * frame.now.groups) n → c < n.size
+        → has_bit (set_of n r arrived.new) c
+        ≡ leaves_from local (set_of n r verdicts.new.moved)
+        (set_of n r moves.now.standing.now.last)
+        (number_in (digits_by (set_of n r) moves.now.grants.now.sends.port)) c }
     ensures moved { (r : ℕ)
-        → has_bit result r
-        ≡ some_below (4 * frame.now.groups) (λ i. has_bit (word i verdicts.new.moved) r) }
+        → has_bit result.0 r
+        ≡ some_below (GROUP * frame.now.groups) (λ i. has_bit (word i verdicts.new.moved) r) }
+    ensures some { (r : ℕ)
+        → has_bit result.1 r
+        ≡ some_below (GROUP * frame.now.groups) (λ i. has_bit (word i arrived.new) r) }
 {
-    let deep = BITS > 3;
+    let deep = BITS > SHALLOW;
     let mut moving = 0;
-    for i in 0..4 * frame.groups {
-        let could = standing.at(i);
-        let what = decided.at(i);
+    let mut leaving = 0;
+    for i in 0..GROUP * frame.groups {
+        let could = moves.standing.at(i);
+        let what = moves.decided.at(i);
         let had = inputs.at(i);
         let told = verdicts.at(i);
-        let settled = with_effects(deep, &could, &what, granted[i], &had, &told);
+        let settled = with_effects(deep, &could, &what, moves.grants.granted[i], &had, &told);
+        let tails = settled.verdicts.moved & could.last;
+        let gone = moves.grants.sends.port.at(i).having(local, tails);
         verdicts.put(i, &settled.verdicts);
         inputs.put(i, deep, &settled.inputs);
+        put(arrived, i, gone);
         moving = moving | settled.verdicts.moved;
+        leaving = leaving | gone;
     }
-    moving
+    (moving, leaving)
 }
 
 // What one channel is then.

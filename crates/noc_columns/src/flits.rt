@@ -1,16 +1,14 @@
 //! The flits that have come land.
 
 ghost use Rattle.std.specs.Prelude.{◌≡◌, ◌<◌, ◌*◌, ℕ};
-ghost use Rattle.noc_packet.specs.Set.{has_bit};
-ghost use Rattle.noc_sets.specs.Unions.{some_below};
 ghost use Rattle.noc_columns.specs.Channels.{inputs_by, links_by, standing_by};
 ghost use Rattle.noc_columns.specs.Steps.{Lands};
-ghost use Rattle.noc_columns.specs.Words.{IsWithin, Numbering, set_of, word};
+ghost use Rattle.noc_columns.specs.Prelude.{IsWithin, Numbering, has_bit, set_of, some_below, word};
 
 use crate::channels::{Inputs, Links, Standing};
 use crate::frame::Frame;
 use crate::planes::less;
-use crate::words::{Words, put};
+use crate::words::{GROUP, Words, put};
 
 /// The flits that have come land, and it is told what each channel can do, of those that are
 /// supplied, and which are not. The answer is the routers in which a head is first in a buffer.
@@ -22,14 +20,14 @@ pub fn land(
     standing: &mut Standing<Words>,
     no_credit: &mut Words,
 ) -> u64
-    ensures flits { (n : Numbering) (r : ℕ) → IsWithin (4 * frame.now.groups) n
+    ensures flits { (n : Numbering) (r : ℕ) → IsWithin (GROUP * frame.now.groups) n
         → Lands frame.now.deep (links_by (set_of n r) links.now)
         (inputs_by (set_of n r) inputs.old) (inputs_by (set_of n r) inputs.new)
         (standing_by (set_of n r) standing.old) (standing_by (set_of n r) standing.new)
         (set_of n r no_credit.new) }
     ensures heads { (r : ℕ)
         → has_bit result r
-        ≡ some_below (4 * frame.now.groups) (λ i. has_bit (word i standing.new.heads) r) }
+        ≡ some_below (GROUP * frame.now.groups) (λ i. has_bit (word i standing.new.heads) r) }
 {
     if frame.deep {
         land_all(frame, true, links, inputs, standing, no_credit)
@@ -48,17 +46,17 @@ fn land_all(
     standing: &mut Standing<Words>,
     no_credit: &mut Words,
 ) -> u64
-    ensures flits { (n : Numbering) (r : ℕ) → IsWithin (4 * frame.now.groups) n
+    ensures flits { (n : Numbering) (r : ℕ) → IsWithin (GROUP * frame.now.groups) n
         → Lands deep (links_by (set_of n r) links.now)
         (inputs_by (set_of n r) inputs.old) (inputs_by (set_of n r) inputs.new)
         (standing_by (set_of n r) standing.old) (standing_by (set_of n r) standing.new)
         (set_of n r no_credit.new) }
     ensures heads { (r : ℕ)
         → has_bit result r
-        ≡ some_below (4 * frame.now.groups) (λ i. has_bit (word i standing.new.heads) r) }
+        ≡ some_below (GROUP * frame.now.groups) (λ i. has_bit (word i standing.new.heads) r) }
 {
     let mut heading = 0;
-    for i in 0..4 * frame.groups {
+    for i in 0..GROUP * frame.groups {
         let came = links.at(i);
         let had = inputs.at(i);
         let could = standing.at(i);

@@ -1,7 +1,7 @@
 //! What is the same in all blocks of a network.
 
 ghost use Rattle.std.specs.Prelude.{◌≤◌, ◌*◌};
-ghost use Rattle.noc_columns.specs.declared.words.TheConstants.{WORDS};
+ghost use Rattle.noc_columns.specs.Prelude.{GROUP, WORDS};
 
 use crate::planes::Planes;
 
@@ -16,6 +16,6 @@ pub struct Frame {
     pub deep: bool,
     /// How many flits the buffer of each channel holds, in every router.
     pub places: Planes<u64>,
-    ghost few: { 4 * groups ≤ WORDS },
+    ghost few: { GROUP * groups ≤ WORDS },
     ghost links: { link_groups ≤ groups },
 }

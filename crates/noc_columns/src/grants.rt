@@ -1,18 +1,14 @@
 //! Output channels are granted to the channels of a router that ask for them.
 
 ghost use Rattle.std.specs.Prelude.{◌≡◌, ◌≢◌, ◌+◌, ◌*◌, ◌/◌, ◌%◌, ◌^◌, ◌<◌, ℕ, true, false, nat_lt, slice_index};
-ghost use Rattle.noc_packet.specs.Set.{has_bit};
-ghost use Rattle.noc_alloc.specs.Members.{MembersAreBelow};
 ghost use Rattle.noc_sets.specs.Turns.{first_bit};
 ghost use Rattle.noc_columns.specs.Grants.{AreGranted, IsNumbered, first_of};
-ghost use Rattle.noc_columns.specs.Picks.{channels_of};
-ghost use Rattle.noc_columns.specs.declared.sets.TheConstants.{CHANNELS};
-ghost use Rattle.noc_columns.specs.declared.words.TheConstants.{ROUTERS};
+ghost use Rattle.noc_columns.specs.Prelude.{MembersAreBelow, channels_of, has_bit};
 
+use crate::channel_table::ChannelTable;
 use crate::sets::{CHANNELS, but_lowest, first_in_turn, least, past};
 use crate::supply::Sends;
-use crate::table::ChannelTable;
-use crate::words::{Words, put_router};
+use crate::words::{ROUTERS, Words, put_router};
 
 /// The input channels that are granted an output channel, and by which each sends.
 #[derive(Drop)]

@@ -1,16 +1,13 @@
 //! What the sources inject into the local channels.
 
-ghost use Rattle.std.specs.Prelude.{◌≡◌, ◌⊎◌, ◌+◌, ◌<◌, ◌≤◌, ℕ, bit_or, nat_eq, nat_le, not, if◌then◌else◌};
-ghost use Rattle.noc_packet.specs.Set.{has_bit};
+ghost use Rattle.std.specs.Prelude.{◌≡◌, ◌⊎◌, ◌+◌, ◌<◌, ◌≤◌, ℕ, bit_and, bit_or, nat_eq, nat_le, not, if◌then◌else◌};
 ghost use Rattle.noc_sets.specs.Column.{Column};
 ghost use Rattle.noc_sets.specs.Passes.{lane_begins, lane_free, lane_injected};
-ghost use Rattle.noc_sets.specs.Sets.{less, lowest};
-ghost use Rattle.noc_sets.specs.Unions.{some_below};
+ghost use Rattle.noc_sets.specs.Planes.{any_from, wrong_from};
 ghost use Rattle.noc_columns.specs.Channels.{inputs_by};
-ghost use Rattle.noc_columns.specs.Picks.{port_at};
 ghost use Rattle.noc_columns.specs.Planes.{list_of, planes_by};
 ghost use Rattle.noc_columns.specs.Steps.{with_source};
-ghost use Rattle.noc_columns.specs.Words.{all_of, set_alike, set_of, word};
+ghost use Rattle.noc_columns.specs.Prelude.{all_of, has_bit, less, lowest, port_at, set_alike, set_of, some_below, union_from, word};
 
 use crate::channels::{Inputs, Links};
 use crate::frame::Frame;
@@ -93,19 +90,93 @@ fn inject_all(
     ensures some_begun { (r : ℕ) → has_bit result.1 r
         ≡ not (nat_eq (set_of (port_at local.now 0) r injection.new.begun) 0) }
 {
+    let went = inject_each(frame, deep, local, starts, inputs, injection);
+    let begins = begin_first(local, starts, &mut injection.begun);
+    (went, begins)
+}
+
+// In each local channel a flit of its packet is injected, where that is not full, and it is told
+// in which of these routers it is free. The answer is the routers in which a flit is injected.
+#[inline(always)]
+fn inject_each(
+    frame: &Frame,
+    deep: bool,
+    local: &Ports,
+    starts: u64,
+    inputs: &Inputs<Words>,
+    injection: &mut Injection<Words>,
+) -> u64
+    requires { local.now.width ≡ 1 }
+    ensures injecting { injection.new.injecting ≡ injection.old.injecting }
+    ensures went { (v : ℕ) → v < local.now.vcs
+        → word (local.now.first + v) injection.new.went
+        ≡ bit_and (word (local.now.first + v) injection.old.injecting) (wrong_from 0
+        (list_of deep (planes_by (word (local.now.first + v)) inputs.now.len))
+        (list_of deep frame.now.places)) }
+    ensures free { (v : ℕ) → v < local.now.vcs
+        → word (local.now.first + v) injection.new.begun
+        ≡ less starts (bit_or (bit_or (word (local.now.first + v) inputs.now.waiting)
+        (word (local.now.first + v) inputs.now.active)) (any_from 0
+        (list_of deep (planes_by (word (local.now.first + v)) inputs.now.len)))) }
+    ensures some { (r : ℕ) → has_bit result r
+        ≡ some_below local.now.vcs
+        (λ v. has_bit (word (local.now.first + v) injection.new.went) r) }
+{
+    // (Both are copied, so that the compiler takes several words at a time.)
+    let places = frame.places;
+    let first = local.first;
     let mut some = 0;
+    for v in 0..local.vcs {
+        let i = first + v;
+        let had = inputs.at(i);
+        let went = injection.injecting[i] & had.len.other_than(deep, &places);
+        injection.went[i] = went;
+        injection.begun[i] = less(starts, had.waiting | had.active | had.len.some(deep, 0));
+        some = some | went;
+    }
+    some
+}
+
+// Of the local channels that are free in these routers the first of each router stays. The answer
+// is the routers that have one. (Mostly there are none.)
+#[inline(always)]
+fn begin_first(local: &Ports, starts: u64, begun: &mut Words) -> u64
+    requires width { local.now.width ≡ 1 }
+    requires none { starts ≡ 0 → (v : ℕ) → v < local.now.vcs
+        → word (local.now.first + v) begun.old ≡ 0 }
+    ensures begun { (v : ℕ) → v < local.now.vcs
+        → word (local.now.first + v) begun.new
+        ≡ less (word (local.now.first + v) begun.old)
+        (union_from 0 v (λ k. word (local.now.first + k) begun.old)) }
+    ensures some { result
+        ≡ union_from 0 local.now.vcs (λ v. word (local.now.first + v) begun.old) }
+{
+    if starts != 0 {
+        first_free(local, begun)
+    } else {
+        0
+    }
+}
+
+// Of the local channels in these words the first of each router stays. The answer is the routers
+// that have one.
+fn first_free(local: &Ports, begun: &mut Words) -> u64
+    requires { local.now.width ≡ 1 }
+    ensures begun { (v : ℕ) → v < local.now.vcs
+        → word (local.now.first + v) begun.new
+        ≡ less (word (local.now.first + v) begun.old)
+        (union_from 0 v (λ k. word (local.now.first + k) begun.old)) }
+    ensures some { result
+        ≡ union_from 0 local.now.vcs (λ v. word (local.now.first + v) begun.old) }
+{
     let mut before = 0;
     for v in 0..local.vcs {
         let i = local.first + v;
-        let had = inputs.at(i);
-        let begins = less(starts, had.waiting | had.active | had.len.some(deep, 0));
-        let went = injection.injecting[i] & had.len.other_than(deep, &frame.places);
-        injection.went[i] = went;
-        some = some | went;
-        injection.begun[i] = less(begins, before);
-        before = before | begins;
+        let free = begun[i];
+        begun[i] = less(free, before);
+        before = before | free;
     }
-    (some, before)
+    before
 }
 
 // The routers that have a channel of the local port in these words.
@@ -145,8 +216,9 @@ pub fn bring(local: &Ports, last: u64, injection: &mut Injection<Words>, came: &
         × (word k came.new.tails ≡ word k came.old.tails) }
     ensures credits { came.new.credits ≡ came.old.credits }
 {
+    let first = local.first;
     for v in 0..local.vcs {
-        let i = local.first + v;
+        let i = first + v;
         let flits = injection.went[i] | injection.begun[i];
         let tails = flits & last;
         came.flits[i] = flits;

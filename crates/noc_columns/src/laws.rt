@@ -1,40 +1,38 @@
 //! What the picks of all ports of a router are. Nothing here runs.
 
-ghost use Rattle.std.specs.Prelude.{◌≡◌, ◌≢◌, ◌<◌, ◌≤◌, ◌+◌, ◌*◌, ◌/◌, ◌%◌, ◌^◌, ◌&&◌, ◌||◌, ℕ, Bool, true, false, List, not, nat_eq, bit_and, bit_or, slice_index, if◌then◌else◌, ◌⊎◌, nat_le, nat_lt};
+ghost use Rattle.std.specs.Prelude.{◌≡◌, ◌≢◌, ◌<◌, ◌≤◌, ◌+◌, ◌*◌, ◌/◌, ◌%◌, ◌^◌, ◌&&◌, ◌||◌, ℕ, Bool, true, false, List, not, nat_eq, bit_and, bit_or, if◌then◌else◌, ◌⊎◌, nat_le, nat_lt};
 ghost use Rattle.noc_topo.specs.Shape.{Grid, IsGrid, local_port, neighbour, nodes, opposite};
-ghost use Rattle.noc_packet.specs.Set.{has_bit};
-ghost use Rattle.noc_alloc.specs.Members.{MembersAreBelow};
 ghost use Rattle.noc_sets.specs.Column.{Column, RouterMarks};
 ghost use Rattle.noc_sets.specs.Gather.{is_over};
 ghost use Rattle.noc_sets.specs.Grants.{HasAllocated};
 ghost use Rattle.noc_sets.specs.Moves.{HasSwitched, chosen_by, dry_by};
 ghost use Rattle.noc_sets.specs.Passes.{Effects};
 ghost use Rattle.noc_sets.specs.Routed.{HasChosen, HasRouted};
-ghost use Rattle.noc_sets.specs.Sets.{less, lowest};
 ghost use Rattle.noc_sets.specs.Turns.{ArePast, ArePicked, first_bit};
-ghost use Rattle.noc_sets.specs.Unions.{rest_from};
 ghost use Rattle.noc_columns.specs.Allotted.{Allotment, HasAllotted, ShowsOwned, allotted_after, allotted_before, allotted_marks, routed_after};
 ghost use Rattle.noc_columns.specs.Near.{ArePlaces, ArePlacesOf, Places, comes_by, comes_from};
 ghost use Rattle.noc_sets.specs.Source.{Source, Start, begun_source, sent_source};
 ghost use Rattle.noc_columns.specs.Arrivals.{given_back, leaves_from};
 ghost use Rattle.noc_columns.specs.Places.{AreFar, IsNear, far_places, places_by, way_by};
-ghost use Rattle.noc_columns.specs.Picks.{HasPick, IsPassedBy, IsPicked, channels_of, port_of};
+ghost use Rattle.noc_columns.specs.Picks.{HavePicked, IsPassedBy};
 ghost use Rattle.noc_columns.specs.Sources.{begun_if, sent_if};
 ghost use Rattle.noc_columns.specs.Supply.{digits_by, number_in};
-ghost use Rattle.noc_columns.specs.Words.{AreApart, Numbering, set_of, word};
 ghost use Rattle.noc_columns.specs.Wants.{asks_of};
 ghost use Rattle.noc_columns.specs.Switch.{HasTraversed, PortPicks, ShowsOutputs, ShowsPicks, ShowsSends, leaves_by, picks_in, switched_effects, switched_marks};
 ghost use Rattle.noc_columns.specs.declared.neighbours.Far.{Far};
 ghost use Rattle.noc_columns.specs.declared.neighbours.Near.{Near};
 ghost use Rattle.noc_columns.specs.declared.picks.Picks.{Picks};
 ghost use Rattle.noc_columns.specs.declared.supply.Sends.{Sends};
-ghost use Rattle.noc_columns.specs.declared.words.TheConstants.{ROUTERS};
+ghost use Rattle.noc_columns.specs.Prelude.{AreApart, MembersAreBelow, Numbering, channels_of, has_bit, less, lowest, port_of, rest_from, set_of, word};
 ghost use Rattle.noc_columns.specs.declared.ports.RouterPorts.{RouterPorts};
+
+use crate::sets::CHANNELS;
+use crate::words::ROUTERS;
 
 /// Where of each port the first channel in turn is picked, these are the picks of the router.
 pub fn ports_pick_what_a_router_picks()
     ensures { (ports : RouterPorts) (r : ℕ) (ready ahead picked : List ℕ)
-        → 0 < ports.links.vcs → ports.links.vcs ≤ 64
+        → 0 < ports.links.vcs → ports.links.vcs ≤ CHANNELS
         → ((p : ℕ) → p < ports.links.width + 1
         → set_of (port_of ports p) r picked
         ≡ first_bit (set_of (port_of ports p) r ready)
@@ -46,7 +44,8 @@ pub fn ports_pick_what_a_router_picks()
 /// Where the pointers of the ports that send go past their picks, these are those of the router.
 pub fn ports_pass_what_a_router_passes()
     ensures { (ports : RouterPorts) (r : ℕ) (ready ahead picked past sends : List ℕ)
-        (sending : ℕ → Bool) → 0 < ports.links.vcs → (ports.links.width + 1) * ports.links.vcs ≤ 64
+        (sending : ℕ → Bool) → 0 < ports.links.vcs
+        → (ports.links.width + 1) * ports.links.vcs ≤ CHANNELS
         → ((p : ℕ) → p < ports.links.width + 1
         → IsPassedBy (port_of ports p) r ready ahead picked past sends (sending p))
         → (let all = channels_of ports in
@@ -61,14 +60,7 @@ pub fn ports_pass_what_a_router_passes()
 pub fn picked_channels_are_those_of_the_ports()
     ensures { (ports : RouterPorts) (r : ℕ) (ready ahead picked past last : List ℕ)
         (sends : Sends (List ℕ)) (picks : Picks) (m : RouterMarks)
-        → ((p : ℕ) → p < ports.links.width + 1
-        → IsPicked (port_of ports p) r ready ahead picked past)
-        → ((p c : ℕ) → p < ports.links.width + 1 → c < ports.links.vcs
-        → has_bit (set_of (port_of ports p) r picked) c ≡ true
-        → HasPick (port_of ports p) r p c last sends picks)
-        → ((p : ℕ) → p < ports.links.width + 1
-        → has_bit (slice_index picks.any p) r
-        ≡ not (nat_eq (set_of (port_of ports p) r ready) 0))
+        → HavePicked ports r ready ahead picked past last sends picks
         → (let all = channels_of ports in
         ShowsSends (ports.links.width + 1) ports.links.vcs (set_of all r picked)
         (number_in (digits_by (set_of all r) sends.port))
@@ -81,7 +73,7 @@ pub fn picked_channels_are_those_of_the_ports()
 pub fn ports_switch_what_a_router_switches()
     ensures { (ports vcs picked single old : ℕ) (tail : ℕ → Bool) (m : RouterMarks) (e : Effects)
         (picks : PortPicks) (ahead after : ℕ → ℕ) (sends flits tails : ℕ → ℕ → Bool)
-        → 0 < vcs → ports * vcs ≤ 64
+        → 0 < vcs → ports * vcs ≤ CHANNELS
         → ShowsPicks ports vcs picked tail m picks → ShowsOutputs ports vcs ahead m
         → HasTraversed ports vcs picks ahead after sends flits tails
         → HasSwitched vcs ports picked single tail m
@@ -143,7 +135,7 @@ pub fn what_leaves_by_the_local_port_arrives()
 pub fn what_leaves_gives_its_channel_back()
     ensures { (links vcs picked single : ℕ) (tail : ℕ → Bool) (m w : RouterMarks) (e : Effects)
         (old new idle local : ℕ) (port vc : ℕ → ℕ)
-        → (links + 1) * vcs ≤ 64 → MembersAreBelow ((links + 1) * vcs) picked
+        → (links + 1) * vcs ≤ CHANNELS → MembersAreBelow ((links + 1) * vcs) picked
         → ShowsSends (links + 1) vcs picked port vc m
         → HasSwitched vcs (links + 1) picked single tail m w e old new
         → ((o : ℕ) → has_bit local o
@@ -155,7 +147,7 @@ pub fn what_leaves_gives_its_channel_back()
 /// A source that sends a flit of the packet that has begun, or else begins the next packet, makes
 /// what a router makes of it.
 pub fn sources_send_what_a_router_sends()
-    ensures { (starts : List Start) (injected begins : ℕ) (s : Source) → begins < 2 ^ 64
+    ensures { (starts : List Start) (injected begins : ℕ) (s : Source) → begins < 2 ^ CHANNELS
         → (injected ≡ 0) ⊎ (begins ≡ 0)
         → sent_source starts (bit_or injected (lowest begins)) (begun_source starts begins s)
         ≡ begun_if starts (not (nat_eq (lowest begins) 0))
@@ -189,8 +181,9 @@ pub fn channels_of_a_router_are_apart()
 /// What allocation makes of a router of a block is what a router allocates, where nothing was
 /// granted and lost before.
 pub fn allotments_are_what_a_router_allocates()
-    ensures { (size vcs : ℕ) (a b : Allotment) (c : Column) (m : RouterMarks) → 0 < vcs → size ≤ 64
-        → MembersAreBelow size a.waiting → a.granted ≡ 0 → a.lost ≡ 0 → HasAllotted vcs a b
+    ensures { (size vcs : ℕ) (a b : Allotment) (c : Column) (m : RouterMarks) → 0 < vcs
+        → size ≤ CHANNELS → MembersAreBelow size a.waiting → a.granted ≡ 0 → a.lost ≡ 0
+        → HasAllotted vcs a b
         → HasAllocated size (λ o. o / vcs) (allotted_before a c m)
         (allotted_after size vcs a b c m) }
 {}
@@ -199,7 +192,7 @@ pub fn allotments_are_what_a_router_allocates()
 /// of those that are active: the owner is the one with the number of the output channel.
 pub fn allotments_show_who_owns_a_channel()
     ensures { (ports vcs active : ℕ) (a b : Allotment) (m : RouterMarks) → 0 < vcs
-        → ports * vcs ≤ 64 → MembersAreBelow (ports * vcs) a.waiting
+        → ports * vcs ≤ CHANNELS → MembersAreBelow (ports * vcs) a.waiting
         → MembersAreBelow (ports * vcs) a.idle → a.granted ≡ 0
         → ((i : ℕ) → has_bit active i ≡ true → has_bit a.waiting i ≡ false)
         → ((i : ℕ) → has_bit active i ≡ true
@@ -212,8 +205,8 @@ pub fn allotments_show_who_owns_a_channel()
 /// Allocation where an idle output channel is wanted, and then routes, are what a router chooses.
 pub fn allotments_and_routes_are_what_a_router_chooses()
     ensures { (size vcs heads all : ℕ) (sets : ℕ → ℕ → ℕ) (set : ℕ → ℕ) (a b : Allotment)
-        (c : Column) (m : RouterMarks) → 0 < vcs → size ≤ 64 → MembersAreBelow size a.waiting
-        → a.granted ≡ 0 → a.lost ≡ 0 → all < 2 ^ 64
+        (c : Column) (m : RouterMarks) → 0 < vcs → size ≤ CHANNELS → MembersAreBelow size a.waiting
+        → a.granted ≡ 0 → a.lost ≡ 0 → all < 2 ^ CHANNELS
         → (asks_of a.waiting a.wanted a.idle ≢ 0 → HasAllotted vcs a b)
         → (asks_of a.waiting a.wanted a.idle ≡ 0 → b ≡ a)
         → HasRouted heads sets (allotted_marks size vcs b m)

@@ -1,14 +1,13 @@
 //! How many flits are left of the packets that are injected.
 
 ghost use Rattle.std.specs.Prelude.{◌≡◌, ◌-◌, ◌<◌, ◌&&◌, ℕ, true, false, nat_eq, if◌then◌else◌};
-ghost use Rattle.noc_packet.specs.Set.{has_bit};
 ghost use Rattle.noc_sets.specs.Planes.{any_from, lowered_by};
-ghost use Rattle.noc_sets.specs.Sets.{less};
 ghost use Rattle.noc_columns.specs.Sources.{left_in, planes_of};
-ghost use Rattle.noc_columns.specs.declared.words.TheConstants.{ROUTERS};
+ghost use Rattle.noc_columns.specs.Prelude.{has_bit, less};
 
 use crate::planes::less;
 use crate::words::{ROUTERS, with_router};
+use noc_packet::MAX_LENGTH;
 
 /// How many flits are left of the packet that each router injects, bit by bit: 63 at most, since
 /// the first of 64 is injected where the packet begins.
@@ -73,7 +72,7 @@ impl Left {
     /// So many are left in one router.
     pub fn put(&mut self, router: usize, number: u32)
         requires router { router < ROUTERS }
-        requires number { number < 64 }
+        requires number { number < MAX_LENGTH }
         ensures { (r : ℕ) → left_in self.new r
             ≡ (if nat_eq r router then number else left_in self.old r) }
     {

@@ -6,52 +6,52 @@
 #![tactic(auto)]
 
 mod allocation;
-mod arrivals;
 mod asks;
 mod by_port;
 mod by_router;
+mod channel_table;
 mod channels;
 mod credits;
 mod due;
 mod effects;
+mod ejection;
 mod flits;
 mod frame;
 mod grants;
 mod header;
-mod heads;
 mod injection;
 mod laws;
 mod left;
 mod marks;
-mod near;
 mod neighbours;
+mod over_links;
 mod payments;
 mod picks;
 mod places;
 mod planes;
 mod ports;
+mod routes;
 mod sets;
 mod sources;
 mod starts;
 mod supply;
 mod switch;
-mod table;
 mod tally;
 mod words;
 
 pub use allocation::allocate;
-pub use arrivals::{arrive, give_back};
 pub use asks::{Asks, ask_all};
 pub use by_router::add_links;
+pub use channel_table::ChannelTable;
 pub use channels::{Decided, Inputs, Links, Outputs, Returned, Standing, Verdicts};
 pub use credits::take_credits;
 pub use due::{Due, NEVER};
-pub use effects::settle;
+pub use effects::{Moves, settle};
+pub use ejection::give_back;
 pub use flits::land;
 pub use frame::Frame;
 pub use grants::{Grants, grant, grant_all};
 pub use header::Header;
-pub use heads::{Guide, route};
 pub use injection::{Injection, bring, inject};
 pub use laws::{
     a_router_that_is_put_has_the_channel, a_router_that_is_taken_has_the_channel_no_more,
@@ -66,20 +66,20 @@ pub use laws::{
 };
 pub use left::Left;
 pub use marks::Marks;
-pub use near::{gather, gather_far};
 pub use neighbours::{Far, Near, Neighbours};
+pub use over_links::{gather, gather_far};
 pub use payments::pay;
 pub use picks::{Picks, any_both, pick, pick_each};
 pub use places::{far_of, near_of};
 pub use planes::{Planes, less};
 pub use ports::{PORTS, Ports, RouterPorts};
+pub use routes::{Guide, route};
 pub use sets::{
     CHANNELS, but_lowest, first_in_turn, least, least_or_any, lowest, past, where_some,
 };
 pub use sources::Sources;
 pub use starts::Start;
-pub use supply::{Digits, Sends, look_up};
+pub use supply::{Digits, NUMBERS, Sends, look_up};
 pub use switch::{Switch, traverse};
-pub use table::ChannelTable;
 pub use tally::{Cycles, LEVELS, Tally};
-pub use words::{ROUTERS, WORDS, Words, put, put_router, take_router, with_router};
+pub use words::{GROUP, ROUTERS, WORDS, Words, put, put_router, take_router, with_router};

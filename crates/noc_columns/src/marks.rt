@@ -1,9 +1,8 @@
 //! What the routers of a block keep of their channels, which is read and written one by one.
 
 ghost use Rattle.std.specs.Prelude.{◌≡◌, ◌<◌, ◌^◌, ℕ, nat_eq, not, bit_or, slice_index, if◌then◌else◌};
-ghost use Rattle.noc_packet.specs.Set.{has_bit};
 ghost use Rattle.noc_columns.specs.Wants.{asks_of};
-ghost use Rattle.noc_columns.specs.declared.words.TheConstants.{ROUTERS};
+ghost use Rattle.noc_columns.specs.Prelude.{CHANNELS, ROUTERS, has_bit};
 
 use crate::sets::{CHANNELS, where_some};
 use crate::words::{ROUTERS, with_router};
@@ -26,7 +25,7 @@ pub struct Marks {
     ghost asks: { (r : ℕ) → r < ROUTERS → has_bit asking r
         ≡ not (nat_eq (asks_of (slice_index waiting r) (slice_index wanted r) (slice_index idle r))
         0) },
-    ghost fit: { (r : ℕ) → r < ROUTERS → slice_index wanted r < 2 ^ 64 },
+    ghost fit: { (r : ℕ) → r < ROUTERS → slice_index wanted r < 2 ^ CHANNELS },
 }
 
 impl Marks {

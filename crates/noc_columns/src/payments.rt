@@ -3,17 +3,17 @@
 ghost use Rattle.std.specs.Prelude.{◌*◌, ℕ};
 ghost use Rattle.noc_columns.specs.Channels.{outputs_by};
 ghost use Rattle.noc_columns.specs.Steps.{Pays};
-ghost use Rattle.noc_columns.specs.Words.{IsWithin, Numbering, set_of};
+ghost use Rattle.noc_columns.specs.Prelude.{IsWithin, Numbering, set_of};
 
 use crate::channels::Outputs;
 use crate::frame::Frame;
-use crate::words::Words;
+use crate::words::{GROUP, Words};
 
 /// Each link channel by which a flit is sent has one credit less, and one by which a tail is sent
 /// drains from then on.
 #[inline(always)]
 pub fn pay(frame: &Frame, out: &Words, freed: &Words, outputs: &mut Outputs<Words>)
-    ensures { (n : Numbering) (r : ℕ) → IsWithin (4 * frame.now.link_groups) n
+    ensures { (n : Numbering) (r : ℕ) → IsWithin (GROUP * frame.now.link_groups) n
         → Pays frame.now.deep (set_of n r out.now) (set_of n r freed.now)
         (outputs_by (set_of n r) outputs.old) (outputs_by (set_of n r) outputs.new) }
 {
@@ -27,11 +27,11 @@ pub fn pay(frame: &Frame, out: &Words, freed: &Words, outputs: &mut Outputs<Word
 // What is sent costs credits, where it is told whether counts are deep.
 #[inline(always)]
 fn pay_all(frame: &Frame, deep: bool, out: &Words, freed: &Words, outputs: &mut Outputs<Words>)
-    ensures { (n : Numbering) (r : ℕ) → IsWithin (4 * frame.now.link_groups) n
+    ensures { (n : Numbering) (r : ℕ) → IsWithin (GROUP * frame.now.link_groups) n
         → Pays deep (set_of n r out.now) (set_of n r freed.now)
         (outputs_by (set_of n r) outputs.old) (outputs_by (set_of n r) outputs.new) }
 {
-    for i in 0..4 * frame.link_groups {
+    for i in 0..GROUP * frame.link_groups {
         let credit = outputs.credit.at(i).lowered(deep, out[i]);
         outputs.credit.put(i, deep, &credit);
         outputs.draining[i] = outputs.draining[i] | freed[i];

@@ -1,11 +1,8 @@
 //! Each input port picks one of its channels.
 
 ghost use Rattle.std.specs.Prelude.{◌≡◌, ◌⊎◌, ◌<◌, ◌≤◌, ◌+◌, ◌*◌, ◌&&◌, ℕ, true, not, nat_eq, bit_and, bit_or, slice_index};
-ghost use Rattle.noc_packet.specs.Set.{has_bit};
-ghost use Rattle.noc_sets.specs.Sets.{less};
-ghost use Rattle.noc_sets.specs.Unions.{some_below};
-ghost use Rattle.noc_columns.specs.Picks.{HasPick, IsPicked, port_at, port_of, turn_word};
-ghost use Rattle.noc_columns.specs.Words.{set_of, word};
+ghost use Rattle.noc_columns.specs.Picks.{HasPick, IsPicked, turn_word};
+ghost use Rattle.noc_columns.specs.Prelude.{has_bit, less, port_at, port_of, set_of, some_below, word};
 
 use crate::by_port::write_side;
 use crate::channels::{Decided, Inputs, Standing};

@@ -1,24 +1,22 @@
 //! Where the neighbours of the routers of a block stand is worked out of the shape of the network.
 
 ghost use Rattle.std.specs.Prelude.{◌≡◌, ◌+◌, ◌*◌, ◌^◌, ◌<◌, ◌≤◌, ℕ, IfOk, if◌then◌else◌};
-ghost use Rattle.noc_packet.specs.Set.{has_bit};
 ghost use Rattle.noc_sets.specs.Gather.{span, stride};
-ghost use Rattle.noc_topo.specs.declared.limits.TheConstants.{MAX_NODES};
 ghost use Rattle.noc_topo.specs.Shape.{IsGrid, dimensions, local_port, nodes};
 ghost use Rattle.noc_columns.specs.Near.{distance_by, leads};
 ghost use Rattle.noc_columns.specs.Places.{AreFar, AreFarIn, AreNeighbours, IsNear, stands_in};
-ghost use Rattle.noc_columns.specs.declared.words.TheConstants.{ROUTERS};
+ghost use Rattle.noc_columns.specs.Prelude.{has_bit};
 
 use crate::neighbours::{Far, Near, Neighbours};
 use crate::words::{ROUTERS, WORDS, router_if};
-use noc_packet::Memory;
-use noc_topo::{Kind, Shape};
+use noc_packet::{MAX_CHANNELS, Memory};
+use noc_topo::{Kind, MAX_NODES, MAX_RADIX, Shape};
 use std::alloc::Global;
 
 /// The neighbours of the routers of a block that stand in it, where each port has so many virtual
 /// channels.
 pub fn near_of(shape: &Shape, vcs: usize, block: usize) -> Near
-    requires vcs { vcs ≤ 8 }
+    requires vcs { vcs ≤ MAX_CHANNELS }
     requires block { ROUTERS * block < nodes shape.now }
     ensures { IsNear shape.now vcs block result }
 {
@@ -40,7 +38,7 @@ fn write_neighbours(
     round: bool,
     neighbours: &mut Neighbours,
 )
-    requires vcs { vcs ≤ 8 }
+    requires vcs { vcs ≤ MAX_CHANNELS }
     requires block { ROUTERS * block < nodes shape.now }
     ensures { AreNeighbours shape.now vcs block round neighbours.new }
 {
@@ -179,7 +177,7 @@ fn step_of(shape: &Shape, dimension: usize, round: bool) -> usize
 fn stride_of(shape: &Shape, dimension: usize) -> usize
     requires { dimension < dimensions shape.now }
     ensures is { result ≡ stride shape.now dimension }
-    ensures few { result ≤ 16 ^ dimension }
+    ensures few { result ≤ MAX_RADIX ^ dimension }
 {
     let mut stride = 1;
     for lower in 0..dimension {

@@ -2,9 +2,8 @@
 
 ghost use Rattle.std.specs.Prelude.{◌≡◌, ◌≢◌, ◌<◌, ℕ};
 ghost use Rattle.noc_columns.specs.Planes.{list_of, planes_by};
-ghost use Rattle.noc_columns.specs.Words.{word};
 ghost use Rattle.noc_sets.specs.Planes.{any_from, lowered_by, more_than_one, raised_by, wrong_from};
-ghost use Rattle.noc_sets.specs.Sets.{less};
+ghost use Rattle.noc_columns.specs.Prelude.{less, word};
 
 use crate::words::{WORDS, Words};
 use std::alloc::AllocError;

@@ -1,6 +1,7 @@
 //! The ports of a router, and where the words of their channels stand.
 
 ghost use Rattle.std.specs.Prelude.{◌≡◌, ◌<◌, ◌≤◌, ◌+◌, ◌*◌};
+ghost use Rattle.noc_packet.specs.declared.limits.TheConstants.{MAX_CHANNELS};
 ghost use Rattle.noc_columns.specs.declared.words.TheConstants.{WORDS};
 ghost use Rattle.noc_columns.specs.declared.ports.TheConstants.{PORTS};
 
@@ -34,5 +35,5 @@ pub struct RouterPorts {
     ghost one: { local.width ≡ 1 },
     ghost alike: { local.vcs ≡ links.vcs },
     ghost behind: { links.first + links.vcs * links.width ≤ local.first },
-    ghost few: { links.vcs ≤ 8 },
+    ghost few: { links.vcs ≤ MAX_CHANNELS },
 }

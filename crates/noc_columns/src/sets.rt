@@ -1,10 +1,9 @@
 //! Sets of channels of one router: their least members.
 
 ghost use Rattle.std.specs.Prelude.{◌≡◌, ◌^◌, ◌<◌, ℕ, Some, nat_eq, nat_lt, if◌then◌else◌};
-ghost use Rattle.noc_packet.specs.Set.{IsLeast, has_bit};
-ghost use Rattle.noc_sets.specs.Sets.{less, lowest};
+ghost use Rattle.noc_packet.specs.Set.{IsLeast};
 ghost use Rattle.noc_sets.specs.Turns.{first_bit};
-ghost use Rattle.noc_columns.specs.declared.sets.TheConstants.{CHANNELS};
+ghost use Rattle.noc_columns.specs.Prelude.{has_bit, less, lowest};
 
 use crate::planes::less;
 

@@ -1,10 +1,9 @@
 //! The sources of the routers of a block: packets begin, and sources go on to the next.
 
 ghost use Rattle.std.specs.Prelude.{◌≡◌, ◌≢◌, ◌+◌, ◌-◌, ◌^◌, ◌<◌, ◌≤◌, ◌&&◌, ℕ, true, length, nat_eq, slice_index, if◌then◌else◌};
-ghost use Rattle.noc_packet.specs.Set.{has_bit};
 ghost use Rattle.noc_sets.specs.Source.{start_in};
 ghost use Rattle.noc_columns.specs.Sources.{AreDue, begun_if, left_in, sent_if, source_in, starts_by};
-ghost use Rattle.noc_columns.specs.declared.words.TheConstants.{ROUTERS};
+ghost use Rattle.noc_columns.specs.Prelude.{has_bit};
 
 use crate::due::Due;
 use crate::left::Left;

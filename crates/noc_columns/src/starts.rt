@@ -1,6 +1,7 @@
 //! The packets that start at the routers.
 
 ghost use Rattle.std.specs.Prelude.{◌≡◌, ◌<◌, ◌≤◌, ⊤};
+ghost use Rattle.noc_packet.specs.declared.limits.TheConstants.{MAX_LENGTH};
 
 use std::alloc::AllocError;
 
@@ -14,7 +15,7 @@ pub struct Start {
     /// The cycle in which it is due.
     pub due: u32,
     ghost some: { 0 < length },
-    ghost few: { length ≤ 64 },
+    ghost few: { length ≤ MAX_LENGTH },
 }
 
 impl Clone for Start {

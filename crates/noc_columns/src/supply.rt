@@ -2,17 +2,20 @@
 //! a credit.
 
 ghost use Rattle.std.specs.Prelude.{◌≡◌, ◌⊎◌, ◌<◌, ◌≤◌, ◌+◌, ◌*◌, ◌&&◌, ℕ, false, not, nat_eq, [], ◌∷◌, if◌then◌else◌, slice_index};
-ghost use Rattle.noc_packet.specs.Set.{has_bit};
-ghost use Rattle.noc_columns.specs.Picks.{port_at};
 ghost use Rattle.noc_columns.specs.Supply.{by_four, digits_by, is_fed, is_fed_word, number_in};
-ghost use Rattle.noc_columns.specs.Words.{IsWithin, Numbering, set_of, word};
+ghost use Rattle.noc_columns.specs.Prelude.{IsWithin, Numbering, has_bit, port_at, set_of, word};
 
 use crate::frame::Frame;
 use crate::planes::less;
 use crate::ports::{PORTS, Ports};
-use crate::words::{ROUTERS, WORDS, Words, bit, put_router, take_router};
+use crate::words::{GROUP, ROUTERS, WORDS, Words, bit, put_router, take_router};
+use noc_packet::MAX_CHANNELS;
+use noc_topo::LINKS;
 
-/// A number of each channel, 0 to 7, bit by bit.
+/// How many numbers three bits have: as many as there are ports, or virtual channels of one.
+pub const NUMBERS: usize = 8;
+
+/// A number of each channel, bit by bit.
 #[derive(Drop)]
 pub struct Digits<T> {
     /// The channels whose number has bit 0.
@@ -42,7 +45,7 @@ impl Digits<Words> {
     pub fn put_number(&mut self, index: usize, router: usize, number: usize)
         requires index { index < WORDS }
         requires router { router < ROUTERS }
-        requires number { number < 8 }
+        requires number { number < NUMBERS }
         ensures { (k r : ℕ) → number_in (digits_by (word k) self.new) r
             ≡ (if nat_eq k index && nat_eq r router
             then number
@@ -90,7 +93,7 @@ impl Digits<u64> {
     pub fn number(&self, router: usize) -> usize
         requires { router < ROUTERS }
         ensures is { result ≡ number_in self.now router }
-        ensures few { result < 8 }
+        ensures few { result < NUMBERS }
     {
         let ones = bit(self.ones, router);
         let twos = bit(self.twos, router);
@@ -101,7 +104,7 @@ impl Digits<u64> {
     /// Those of a set that have this number.
     #[inline(always)]
     pub fn having(&self, number: usize, set: u64) -> u64
-        requires { number < 8 }
+        requires { number < NUMBERS }
         ensures { (r : ℕ)
             → has_bit result r ≡ (has_bit set r && nat_eq (number_in self.now r) number) }
     {
@@ -146,7 +149,7 @@ pub fn look_up(
 )
     requires first { links.now.first ≡ 0 }
     requires pairs { (links.now.width ≡ 2) ⊎ ((links.now.width ≡ 4) ⊎ (links.now.width ≡ 6)) }
-    ensures { (n : Numbering) (r c : ℕ) → IsWithin (4 * frame.now.groups) n → c < n.size
+    ensures { (n : Numbering) (r c : ℕ) → IsWithin (GROUP * frame.now.groups) n → c < n.size
         → number_in (digits_by (set_of n r) sends.now.port) c ≤ links.now.width
         → number_in (digits_by (set_of n r) sends.now.vc) c < links.now.vcs
         → has_bit (set_of n r supplied.new) c
@@ -171,7 +174,7 @@ fn look_up_by<const VCS: usize>(
     supplied: &mut Words,
 )
     requires { (width ≡ 2) ⊎ ((width ≡ 4) ⊎ (width ≡ 6)) }
-    ensures { (k r : ℕ) → k < 4 * frame.now.groups
+    ensures { (k r : ℕ) → k < GROUP * frame.now.groups
         → number_in (digits_by (word k) sends.now.vc) r < VCS
         → number_in (digits_by (word k) sends.now.port) r ≤ width
         → has_bit (word k supplied.new) r
@@ -197,7 +200,7 @@ fn look_up_of<const WIDTH: usize, const VCS: usize>(
     supplied: &mut Words,
 )
     requires { (WIDTH ≡ 2) ⊎ ((WIDTH ≡ 4) ⊎ (WIDTH ≡ 6)) }
-    ensures { (k r : ℕ) → k < 4 * frame.now.groups
+    ensures { (k r : ℕ) → k < GROUP * frame.now.groups
         → number_in (digits_by (word k) sends.now.vc) r < VCS
         → number_in (digits_by (word k) sends.now.port) r ≤ WIDTH
         → has_bit (word k supplied.new) r
@@ -207,7 +210,7 @@ fn look_up_of<const WIDTH: usize, const VCS: usize>(
     // (A value of its own is none of the words that are written. So the compiler takes several
     // words at a time.)
     let fed = *some;
-    for i in 0..4 * frame.groups {
+    for i in 0..GROUP * frame.groups {
         let port = sends.port.at(i);
         let vc = sends.vc.at(i);
         supplied[i] = fed_by(WIDTH, VCS > 4, &port, &vc, &fed);
@@ -276,7 +279,7 @@ fn of_six(wide: bool, port: &Digits<u64>, vc: &Digits<u64>, some: &Words) -> u64
 // The routers in which the virtual channel with this number, of one port, is in a set.
 #[inline(always)]
 fn by_vc(width: usize, wide: bool, vc: &Digits<u64>, port: usize, some: &Words) -> u64
-    requires few { width ≤ 6 }
+    requires few { width ≤ LINKS }
     requires port { port < width }
     ensures { (r : ℕ) → (wide ≡ false → number_in vc.now r < 4)
         → has_bit result r ≡ has_bit (word (number_in vc.now r * width + port) some.now) r }
@@ -296,7 +299,7 @@ fn by_vc(width: usize, wide: bool, vc: &Digits<u64>, port: usize, some: &Words) 
 // The routers in which that virtual channel is in the set, where those below four give this.
 #[inline(always)]
 fn high_vc(low: u64, width: usize, vc: &Digits<u64>, port: usize, some: &Words) -> u64
-    requires few { width ≤ 6 }
+    requires few { width ≤ LINKS }
     requires port { port < width }
     ensures { (r : ℕ)
         → has_bit result r
@@ -315,8 +318,8 @@ fn high_vc(low: u64, width: usize, vc: &Digits<u64>, port: usize, some: &Words) 
 // The word of a virtual channel of a port.
 #[inline(always)]
 fn channel(words: &Words, vc: usize, width: usize, port: usize) -> u64
-    requires vc { vc < 8 }
-    requires few { width ≤ 6 }
+    requires vc { vc < MAX_CHANNELS }
+    requires few { width ≤ LINKS }
     requires port { port < width }
     ensures { result ≡ word (vc * width + port) words.now }
 {

@@ -2,15 +2,10 @@
 //! for it.
 
 ghost use Rattle.std.specs.Prelude.{◌≡◌, ◌⊎◌, ◌<◌, ◌≤◌, ◌+◌, ◌*◌, ◌&&◌, ℕ, true, not, nat_eq, bit_and, bit_or, slice_index, if◌then◌else◌};
-ghost use Rattle.noc_packet.specs.Set.{has_bit};
-ghost use Rattle.noc_sets.specs.Sets.{less};
 ghost use Rattle.noc_sets.specs.Turns.{in_turn};
-ghost use Rattle.noc_sets.specs.Unions.{some_below};
-ghost use Rattle.noc_columns.specs.Picks.{output_of, port_at, port_of};
 ghost use Rattle.noc_columns.specs.Supply.{digits_by, number_in};
 ghost use Rattle.noc_columns.specs.Switch.{HasTraversed, asks_for, picks_in, taken_in};
-ghost use Rattle.noc_columns.specs.Words.{set_of, word};
-ghost use Rattle.noc_columns.specs.declared.ports.TheConstants.{PORTS};
+ghost use Rattle.noc_columns.specs.Prelude.{has_bit, less, output_of, port_at, port_of, set_of, some_below, word};
 
 use crate::channels::{Decided, Links};
 use crate::picks::{Picks, pick_each};
@@ -18,6 +13,7 @@ use crate::planes::less;
 use crate::ports::{PORTS, Ports, RouterPorts};
 use crate::supply::Digits;
 use crate::words::{WORDS, Words};
+use noc_packet::MAX_CHANNELS;
 
 /// The pointers of a switch: of each output port a word for each input port.
 #[derive(Drop)]
@@ -328,7 +324,7 @@ fn send(ports: &RouterPorts, taken: &Taken, decided: &mut Decided<Words>, left: 
 #[inline(always)]
 fn send_by(links: &Ports, v: usize, taken: &Taken, left: &mut Links<Words>)
     requires vc { v < links.now.vcs }
-    requires few { links.now.vcs ≤ 8 }
+    requires few { links.now.vcs ≤ MAX_CHANNELS }
     ensures flits { (q r : ℕ) → q < links.now.width
         → has_bit (word ((port_at links.now q).index v) left.new.flits) r
         ≡ (has_bit (slice_index taken.now.any q) r

@@ -1,12 +1,10 @@
 //! How often each channel of a block had one verdict, bit by bit.
 
 ghost use Rattle.std.specs.Prelude.{◌≡◌, ◌+◌, ◌*◌, ◌^◌, ◌<◌, ◌≤◌, ℕ, [], slice_index_or, if◌then◌else◌};
-ghost use Rattle.noc_packet.specs.Set.{has_bit};
-ghost use Rattle.noc_topo.specs.Lists.{one_if};
 ghost use Rattle.noc_columns.specs.Tallies.{at_level, bit_level, carry_over, counted_at, number_by, sum_of, with_four};
-ghost use Rattle.noc_columns.specs.Words.{word};
+ghost use Rattle.noc_columns.specs.Prelude.{has_bit, one_if, word};
 
-use crate::words::{ROUTERS, WORDS, Words, bit};
+use crate::words::{GROUP, ROUTERS, WORDS, Words, bit};
 
 /// How many bits a count has above the lowest two: with them it has 32.
 pub const LEVELS: usize = 30;
@@ -64,8 +62,8 @@ impl Tally {
     /// sets of four cycles were added so many times. The counts are right for 2^30 - 1 times.
     #[inline(always)]
     pub fn add(&mut self, groups: usize, sets: &Cycles<'_>, times: u32)
-        requires { 4 * groups ≤ WORDS }
-        ensures { times + 1 < 2 ^ LEVELS → (i r : ℕ) → i < 4 * groups
+        requires { GROUP * groups ≤ WORDS }
+        ensures { times + 1 < 2 ^ LEVELS → (i r : ℕ) → i < GROUP * groups
             → counted_at self.new (times + 1) i r
             ≡ counted_at self.old times i r
             + one_if (has_bit (word i sets.now.first.now) r)
@@ -81,8 +79,8 @@ impl Tally {
     /// Adds one set so many times, also between two sets of four cycles. The counts are right where
     /// they stay below 2^32.
     pub fn repeat(&mut self, groups: usize, set: &Words, cycles: u32)
-        requires { 4 * groups ≤ WORDS }
-        ensures { (times i r : ℕ) → i < 4 * groups
+        requires { GROUP * groups ≤ WORDS }
+        ensures { (times i r : ℕ) → i < GROUP * groups
             → counted_at self.old times i r + cycles < 2 ^ 32
             → counted_at self.new times i r
             ≡ counted_at self.old times i r + cycles * one_if (has_bit (word i set.now) r) }
@@ -132,8 +130,8 @@ impl Tally {
 
 // A set is added so many times to the bits above the lowest two, with what these carry.
 fn add_number(groups: usize, bits: &mut [Words; LEVELS], set: &Words, times: u32, carry: &mut Words)
-    requires { 4 * groups ≤ WORDS }
-    ensures { times < 2 ^ LEVELS → (j k : ℕ) → j < 4 * groups
+    requires { GROUP * groups ≤ WORDS }
+    ensures { times < 2 ^ LEVELS → (j k : ℕ) → j < GROUP * groups
         → number_by (bit_level bits.new j k) LEVELS
         + 2 ^ LEVELS * one_if (has_bit (word j carry.new) k)
         ≡ number_by (bit_level bits.old j k) LEVELS + times * one_if (has_bit (word j set.now) k)
@@ -178,8 +176,8 @@ fn add_carry(
     carry: &mut Words,
     times: u32,
 )
-    requires { 4 * groups ≤ WORDS }
-    ensures { times + 1 < 2 ^ LEVELS → (j k : ℕ) → j < 4 * groups
+    requires { GROUP * groups ≤ WORDS }
+    ensures { times + 1 < 2 ^ LEVELS → (j k : ℕ) → j < GROUP * groups
         → number_by (at_level bits.new pending.new (times + 1) j k) LEVELS
         ≡ number_by (at_level bits.old pending.old times j k) LEVELS
         + one_if (has_bit (word j carry.old) k) }
@@ -194,24 +192,24 @@ fn add_carry(
 // The sets of four cycles are added to the two lowest bits. What they carry is of the third.
 #[inline(always)]
 fn add_four(groups: usize, ones: &mut Words, twos: &mut Words, sets: &Cycles<'_>, carry: &mut Words)
-    requires { 4 * groups ≤ WORDS }
-    ensures ones { (k : ℕ) → k < 4 * groups
+    requires { GROUP * groups ≤ WORDS }
+    ensures ones { (k : ℕ) → k < GROUP * groups
         → word k ones.new
         ≡ (with_four (word k ones.old) (word k twos.old) (word k sets.now.first.now)
         (word k sets.now.second.now) (word k sets.now.third.now)
         (word k sets.now.fourth.now)).ones }
-    ensures twos { (k : ℕ) → k < 4 * groups
+    ensures twos { (k : ℕ) → k < GROUP * groups
         → word k twos.new
         ≡ (with_four (word k ones.old) (word k twos.old) (word k sets.now.first.now)
         (word k sets.now.second.now) (word k sets.now.third.now)
         (word k sets.now.fourth.now)).twos }
-    ensures carry { (k : ℕ) → k < 4 * groups
+    ensures carry { (k : ℕ) → k < GROUP * groups
         → word k carry.new
         ≡ (with_four (word k ones.old) (word k twos.old) (word k sets.now.first.now)
         (word k sets.now.second.now) (word k sets.now.third.now)
         (word k sets.now.fourth.now)).carry }
 {
-    for i in 0..4 * groups {
+    for i in 0..GROUP * groups {
         let with_a = ones[i] ^ sets.first[i];
         let first = (ones[i] & sets.first[i]) | (with_a & sets.second[i]);
         let with_b = with_a ^ sets.second[i];
@@ -228,13 +226,13 @@ fn add_four(groups: usize, ones: &mut Words, twos: &mut Words, sets: &Cycles<'_>
 // on.
 #[inline(always)]
 fn add_pending(groups: usize, bits: &mut Words, pending: &Words, carry: &mut Words)
-    requires { 4 * groups ≤ WORDS }
-    ensures bits { (k : ℕ) → k < 4 * groups
+    requires { GROUP * groups ≤ WORDS }
+    ensures bits { (k : ℕ) → k < GROUP * groups
         → word k bits.new ≡ sum_of (word k bits.old) (word k pending.now) (word k carry.old) }
-    ensures carry { (k : ℕ) → k < 4 * groups
+    ensures carry { (k : ℕ) → k < GROUP * groups
         → word k carry.new ≡ carry_over (word k bits.old) (word k pending.now) (word k carry.old) }
 {
-    for i in 0..4 * groups {
+    for i in 0..GROUP * groups {
         let with = bits[i] ^ pending[i];
         let over = (bits[i] & pending[i]) | (with & carry[i]);
         bits[i] = with ^ carry[i];
@@ -245,10 +243,10 @@ fn add_pending(groups: usize, bits: &mut Words, pending: &Words, carry: &mut Wor
 // Words become those of another set.
 #[inline(always)]
 fn copy(groups: usize, from: &Words, to: &mut Words)
-    requires { 4 * groups ≤ WORDS }
-    ensures { (k : ℕ) → k < 4 * groups → word k to.new ≡ word k from.now }
+    requires { GROUP * groups ≤ WORDS }
+    ensures { (k : ℕ) → k < GROUP * groups → word k to.new ≡ word k from.now }
 {
-    for i in 0..4 * groups {
+    for i in 0..GROUP * groups {
         to[i] = from[i];
     }
 }

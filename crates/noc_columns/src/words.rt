@@ -1,9 +1,7 @@
 //! Words of channels.
 
 ghost use Rattle.std.specs.Prelude.{◌≡◌, ◌≢◌, ◌^◌, ◌<◌, ◌&&◌, ◌||◌, ℕ, nat_eq, not, slice_index, if◌then◌else◌};
-ghost use Rattle.noc_packet.specs.Set.{has_bit};
-ghost use Rattle.noc_topo.specs.Lists.{one_if};
-ghost use Rattle.noc_columns.specs.Words.{word};
+ghost use Rattle.noc_columns.specs.Prelude.{has_bit, one_if, word};
 
 use crate::planes::less;
 
@@ -14,6 +12,9 @@ pub const ROUTERS: usize = 64;
 /// most. (They are nine lines of the cache, so that the words of a channel do not all meet in the
 /// same sets of it.)
 pub const WORDS: usize = 72;
+
+/// How many words are taken at a time. How many of them channels have is a multiple of it.
+pub const GROUP: usize = 4;
 
 /// A word for each channel. Bit `r` of it is router `r` of the block.
 pub type Words = [u64; WORDS];

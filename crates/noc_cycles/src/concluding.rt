@@ -15,7 +15,7 @@ ghost use Rattle.noc_cycles.specs.Held.{held_at, links_at};
 use crate::block::{Block, Work};
 use crate::pattern::Pattern;
 use crate::words::copy;
-use noc_columns::{Digits, Marks, RouterPorts, Words, arrive, give_back, pay, settle};
+use noc_columns::{Digits, Marks, Moves, RouterPorts, Words, give_back, pay, settle};
 
 /// What is decided in a block takes effect: on its channels, on their verdicts, and on what leaves
 /// the routers. The answer is the routers from which a packet leaves the network.
@@ -44,20 +44,17 @@ pub fn conclude(pattern: &Pattern, block: &mut Block, work: &mut Work) -> u64
       arrived = work.new.arrived;
     } }
 {
-    let _moved = settle(
-        &pattern.frame,
-        &work.standing,
-        &work.decided,
-        &block.grants.granted,
-        &mut block.inputs,
-        &mut work.verdicts,
-    );
-    let arrived = arrive(
+    let moves = Moves {
+        standing: &work.standing,
+        decided: &work.decided,
+        grants: &block.grants,
+    };
+    let (_moved, arrived) = settle(
         &pattern.frame,
         pattern.table.ports.links.width,
-        &work.standing,
-        &work.verdicts,
-        &block.grants.sends,
+        &moves,
+        &mut block.inputs,
+        &mut work.verdicts,
         &mut work.arrived,
     );
     free_local(

@@ -40,11 +40,11 @@ overflow_add-routers c = omega (arith, within c.loop-v.v c.args.links.now.vcs c.
 pub overflow_add-routers-in-loop-v : goal.overflow_add-routers-in-loop-v
 overflow_add-routers-in-loop-v c = omega (arith, within c.loop-v.v c.args.links.now.vcs c.args.links.now.width (omega arith), c.requires.port)
 
-pub offset_bounds-words-links : goal.offset_bounds-words-links
-offset_bounds-words-links c = omega (arith, within c.loop-v.v c.args.links.now.vcs c.args.links.now.width (omega arith), c.requires.port)
+pub offset_bounds-words-first : goal.offset_bounds-words-first
+offset_bounds-words-first c = omega (arith, within c.loop-v.v c.args.links.now.vcs c.args.links.now.width (omega arith), c.requires.port)
 
-pub bounds-words-links : goal.bounds-words-links
-bounds-words-links c = omega (arith, within c.loop-v.v c.args.links.now.vcs c.args.links.now.width (omega arith), c.requires.port)
+pub bounds-words-first : goal.bounds-words-first
+bounds-words-first c = omega (arith, within c.loop-v.v c.args.links.now.vcs c.args.links.now.width (omega arith), c.requires.port)
 
 -- the channels of a port
 row : (port vcs : ℕ) → (port + 1) * vcs ≤ 64 → port * vcs + vcs ≤ 64

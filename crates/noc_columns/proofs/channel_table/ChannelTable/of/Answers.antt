@@ -1,0 +1,43 @@
+use Rattle.std.proofs.Common.{◌≡◌, ◌≢◌, ℕ, ◌/◌, ◌%◌, ◌+◌, ◌<◌, ◌∙◌, List, length, arith, set, slice_index, subst, sym, get_or-set_same, get_or-set_other}
+use Rattle.std.proofs.lemmas.List.{length-set}
+use Rattle.noc_columns.specs.Picks.{channels_of}
+use Rattle.noc_columns.proofs.ChannelLemmas.{part, port-below, positive}
+use Rattle.noc_columns.proofs.PassLemmas.{all-next}
+use Rattle.noc_columns.proofs.channel_table.ChannelTable.of.Goals as goal
+
+-- one entry more
+entry-next : (table : List ℕ) (i x : ℕ) (P : ℕ → ℕ → Type 0) → length table ≡ 64 → i < 64 → ((k : ℕ) → k < i → P k (slice_index table k)) → P i x → (k : ℕ) → k < i + 1 → P k (slice_index (set table i x) k)
+entry-next table i x P long few done here = all-next (λ k. P k (slice_index (set table i x) k)) i
+    (λ k l. let other : k ≢ i = omega (arith, l) in subst (P k) (sym (get_or-set_other table i k x 0 other)) (done k l))
+    (subst (P i) (sym (get_or-set_same table i x 0 (omega (arith, long, few)))) here)
+
+pub loop-c-preserved : goal.loop-c-preserved
+loop-c-preserved c =
+    let inv = c.loop-c.invariant in
+    let i = c.loop-c.c in
+    let ports = c.args.ports in
+    let few : i < 64 = omega arith in
+    record {
+      index_size = length-set c.loop-c.index i c.index-stands.result ∙ inv.index_size;
+      port_size = length-set c.loop-c.port i (i / ports.links.vcs) ∙ inv.port_size;
+      vc_size = length-set c.loop-c.vc i (i % ports.links.vcs) ∙ inv.vc_size;
+      stands = entry-next c.loop-c.index i c.index-stands.result (λ k x. x ≡ (channels_of ports).index k) inv.index_size few inv.stands c.index-stands.ensures.is;
+      within = entry-next c.loop-c.index i c.index-stands.result (λ k x. x < 72) inv.index_size few inv.within c.index-stands.ensures.within;
+      by_port = entry-next c.loop-c.port i (i / ports.links.vcs) (λ k x. x ≡ k / ports.links.vcs) inv.port_size few inv.by_port (λ x. i / ports.links.vcs);
+      by_vc = entry-next c.loop-c.vc i (i % ports.links.vcs) (λ k x. x ≡ k % ports.links.vcs) inv.vc_size few inv.by_vc (λ x. i % ports.links.vcs);
+    }
+
+pub index-stands-requires-clause-some : goal.index-stands-requires-clause-some
+index-stands-requires-clause-some c = positive c.args.ports.links.vcs (c.args.ports.links.width + 1) c.loop-c.c (omega arith)
+
+pub nonzero_div-port : goal.nonzero_div-port
+nonzero_div-port c = let some = positive c.args.ports.links.vcs (c.args.ports.links.width + 1) c.loop-c.c (omega arith) in omega (arith, some)
+
+pub nonzero_rem-vc : goal.nonzero_rem-vc
+nonzero_rem-vc c = let some = positive c.args.ports.links.vcs (c.args.ports.links.width + 1) c.loop-c.c (omega arith) in omega (arith, some)
+
+pub overflow_cast-port : goal.overflow_cast-port
+overflow_cast-port c = let below = port-below (c.args.ports.links.width + 1) c.args.ports.links.vcs (positive c.args.ports.links.vcs (c.args.ports.links.width + 1) c.loop-c.c (omega arith)) c.loop-c.c (omega arith) in omega (arith, below)
+
+pub overflow_cast-vc : goal.overflow_cast-vc
+overflow_cast-vc c = let below = part (c.args.ports.links.width + 1) c.args.ports.links.vcs (positive c.args.ports.links.vcs (c.args.ports.links.width + 1) c.loop-c.c (omega arith)) c.loop-c.c in omega (arith, below)

@@ -1,0 +1,202 @@
+//! What comes over the links: a word of the channel at the other end, turned and masked.
+
+ghost use Rattle.std.specs.Prelude.{◌≡◌, ◌≢◌, ◌⊎◌, ◌<◌, ◌≤◌, ◌+◌, ◌*◌, ◌%◌, ◌&&◌, ◌||◌, ℕ, bit_or, slice_index};
+ghost use Rattle.noc_topo.specs.Shape.{opposite};
+ghost use Rattle.noc_columns.specs.Channels.{links_by};
+ghost use Rattle.noc_columns.specs.Near.{comes_from, comes_near};
+ghost use Rattle.noc_columns.specs.Prelude.{has_bit, port_at, word};
+
+use crate::channels::Links;
+use crate::frame::Frame;
+use crate::neighbours::{Far, Near, Neighbours};
+use crate::ports::{PORTS, Ports};
+use crate::words::{GROUP, ROUTERS, WORDS, Words};
+
+/// What has left the routers of a block comes over the links within it.
+#[inline(always)]
+pub fn gather(frame: &Frame, near: &Near, left: &Links<Words>, came: &mut Links<Words>)
+    ensures flits { (k r : ℕ) → k < GROUP * frame.now.link_groups → r < ROUTERS
+        → has_bit (word k came.new.flits) r ≡ comes_near near.now left.now.flits k r }
+    ensures tails { (k r : ℕ) → k < GROUP * frame.now.link_groups → r < ROUTERS
+        → has_bit (word k came.new.tails) r ≡ comes_near near.now left.now.tails k r }
+    ensures credits { (k r : ℕ) → k < GROUP * frame.now.link_groups → r < ROUTERS
+        → has_bit (word k came.new.credits) r ≡ comes_near near.now left.now.credits k r }
+{
+    if near.rings {
+        gather_all(frame, near, true, left, came);
+    } else {
+        gather_all(frame, near, false, left, came);
+    }
+}
+
+// Gathers from the same block, where it is told whether lines are rings.
+#[inline(always)]
+fn gather_all(frame: &Frame, near: &Near, rings: bool, left: &Links<Words>, came: &mut Links<Words>)
+    requires { rings ≡ near.now.rings }
+    ensures flits { (k r : ℕ) → k < GROUP * frame.now.link_groups → r < ROUTERS
+        → has_bit (word k came.new.flits) r ≡ comes_near near.now left.now.flits k r }
+    ensures tails { (k r : ℕ) → k < GROUP * frame.now.link_groups → r < ROUTERS
+        → has_bit (word k came.new.tails) r ≡ comes_near near.now left.now.tails k r }
+    ensures credits { (k r : ℕ) → k < GROUP * frame.now.link_groups → r < ROUTERS
+        → has_bit (word k came.new.credits) r ≡ comes_near near.now left.now.credits k r }
+{
+    // (All three stand in one loop. Else the compiler takes the same word of four groups at a time,
+    // and moves words about. And all are read before one is written, so that where neighbours stand
+    // is read once.)
+    for g in 0..frame.link_groups {
+        let at = GROUP * g;
+        let flits = near_four(near, rings, &left.flits, at);
+        let tails = near_four(near, rings, &left.tails, at);
+        let credits = near_four(near, rings, &left.credits, at);
+        put_four(&mut came.flits, at, &flits);
+        put_four(&mut came.tails, at, &tails);
+        put_four(&mut came.credits, at, &credits);
+    }
+}
+
+/// What has left another block comes over the links to these neighbours, besides what has come to
+/// them already.
+#[inline(always)]
+pub fn gather_far(links: &Ports, far: &Far, left: &Links<Words>, came: &mut Links<Words>)
+    requires first { links.now.first ≡ 0 }
+    requires port { far.now.port < links.now.width }
+    requires opposite { opposite far.now.port < links.now.width }
+    ensures flits { (v r : ℕ) → v < links.now.vcs → r < ROUTERS
+        → has_bit (word ((port_at links.now far.now.port).index v) came.new.flits) r
+        ≡ (has_bit (word ((port_at links.now far.now.port).index v) came.old.flits) r
+        || comes_from far.now.distance far.now.mask
+        (word ((port_at links.now (opposite far.now.port)).index v) left.now.flits) r) }
+    ensures tails { (v r : ℕ) → v < links.now.vcs → r < ROUTERS
+        → has_bit (word ((port_at links.now far.now.port).index v) came.new.tails) r
+        ≡ (has_bit (word ((port_at links.now far.now.port).index v) came.old.tails) r
+        || comes_from far.now.distance far.now.mask
+        (word ((port_at links.now (opposite far.now.port)).index v) left.now.tails) r) }
+    ensures credits { (v r : ℕ) → v < links.now.vcs → r < ROUTERS
+        → has_bit (word ((port_at links.now far.now.port).index v) came.new.credits) r
+        ≡ (has_bit (word ((port_at links.now far.now.port).index v) came.old.credits) r
+        || comes_from far.now.distance far.now.mask
+        (word ((port_at links.now (opposite far.now.port)).index v) left.now.credits) r) }
+    ensures others { (k : ℕ)
+        → ((v : ℕ) → v < links.now.vcs → k ≢ (port_at links.now far.now.port).index v)
+        → links_by (word k) came.new ≡ links_by (word k) came.old }
+{
+    join_far(links, far, &left.flits, &mut came.flits);
+    join_far(links, far, &left.tails, &mut came.tails);
+    join_far(links, far, &left.credits, &mut came.credits);
+}
+
+// The words of the channels at the other ends of four links.
+#[inline(always)]
+fn opposite_four(from: &Words, at: usize) -> [u64; GROUP]
+    requires fit { at + GROUP ≤ WORDS }
+    requires even { at % 2 ≡ 0 }
+    ensures { (j : ℕ) → j < GROUP → slice_index result j ≡ word (opposite (at + j)) from.now }
+{
+    [from[at + 1], from[at], from[at + 3], from[at + 2]]
+}
+
+// What comes by four links, of the words of one kind, from neighbours at both distances.
+#[inline(always)]
+fn near_four(near: &Near, rings: bool, from: &Words, at: usize) -> [u64; GROUP]
+    requires rings { rings ≡ near.now.rings }
+    requires fit { at + GROUP ≤ WORDS }
+    requires even { at % 2 ≡ 0 }
+    ensures { (j r : ℕ) → j < GROUP → r < ROUTERS
+        → has_bit (slice_index result j) r ≡ comes_near near.now from.now (at + j) r }
+{
+    let sent = opposite_four(from, at);
+    let straight = turned_four(&near.straight, &sent, at);
+    if rings {
+        let round = turned_four(&near.round, &sent, at);
+        join_four(&straight, &round)
+    } else {
+        straight
+    }
+}
+
+// What comes by four links from neighbours at one distance.
+#[inline(always)]
+fn turned_four(neighbours: &Neighbours, sent: &[u64; GROUP], at: usize) -> [u64; GROUP]
+    requires { at + GROUP ≤ WORDS }
+    ensures { (j r : ℕ) → j < GROUP → r < ROUTERS
+        → has_bit (slice_index result j) r
+        ≡ comes_from (word (at + j) neighbours.now.distance) (word (at + j) neighbours.now.mask)
+        (slice_index sent.now j) r }
+{
+    let mut all = [0; GROUP];
+    for j in 0..GROUP {
+        all[j] = turned(
+            sent[j],
+            neighbours.distance[at + j],
+            neighbours.mask[at + j],
+        );
+    }
+    all
+}
+
+// Four words that are joined.
+#[inline(always)]
+fn join_four(first: &[u64; GROUP], second: &[u64; GROUP]) -> [u64; GROUP]
+    ensures { (j : ℕ) → j < GROUP
+        → slice_index result j ≡ bit_or (slice_index first.now j) (slice_index second.now j) }
+{
+    let mut all = [0; GROUP];
+    for j in 0..GROUP {
+        all[j] = first[j] | second[j];
+    }
+    all
+}
+
+// Writes four words, from this index on.
+#[inline(always)]
+fn put_four(words: &mut Words, at: usize, four: &[u64; GROUP])
+    requires { at + GROUP ≤ WORDS }
+    ensures here { (j : ℕ) → j < GROUP → word (at + j) words.new ≡ slice_index four.now j }
+    ensures others { (k : ℕ) → (k < at) ⊎ (at + GROUP ≤ k) → word k words.new ≡ word k words.old }
+{
+    for j in 0..GROUP {
+        words[at + j] = four[j];
+    }
+}
+
+// With the words of one kind from another block.
+#[inline(always)]
+fn join_far(links: &Ports, far: &Far, from: &Words, to: &mut Words)
+    requires first { links.now.first ≡ 0 }
+    requires port { far.now.port < links.now.width }
+    requires opposite { opposite far.now.port < links.now.width }
+    ensures here { (v r : ℕ) → v < links.now.vcs → r < ROUTERS
+        → has_bit (word ((port_at links.now far.now.port).index v) to.new) r
+        ≡ (has_bit (word ((port_at links.now far.now.port).index v) to.old) r
+        || comes_from far.now.distance far.now.mask
+        (word ((port_at links.now (opposite far.now.port)).index v) from.now) r) }
+    ensures others { (k : ℕ)
+        → ((v : ℕ) → v < links.now.vcs → k ≢ (port_at links.now far.now.port).index v)
+        → word k to.new ≡ word k to.old }
+{
+    let other = opposite(far.port);
+    for v in 0..links.vcs {
+        let at = v * links.width;
+        to[at + far.port] = to[at + far.port] | turned(from[at + other], far.distance, far.mask);
+    }
+}
+
+// The port at the other end of a link.
+#[inline(always)]
+fn opposite(port: usize) -> usize
+    requires { port < PORTS }
+    ensures { result ≡ opposite port }
+{
+    if port % 2 == 0 { port + 1 } else { port - 1 }
+}
+
+// Each of these routers gets what the one has that stands so far from it.
+#[inline(always)]
+fn turned(word: u64, distance: u64, mask: u64) -> u64
+    requires { distance < ROUTERS }
+    ensures { (r : ℕ) → r < ROUTERS → has_bit result r ≡ comes_from distance mask word r }
+{
+    // (Back by one step, and then by the others: a turn at once is done one word at a time.)
+    let back = ROUTERS as u64 - 1 - distance;
+    ((word >> distance) | (word << 1 << back)) & mask
+}

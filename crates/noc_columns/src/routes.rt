@@ -1,0 +1,200 @@
+//! Heads are routed in the routers of a block.
+
+ghost use Rattle.std.specs.Prelude.{◌≡◌, ◌≢◌, ◌<◌, ◌+◌, ◌*◌, ◌&&◌, ℕ, true, nat_eq, bit_or, length, slice_index, if◌then◌else◌};
+ghost use Rattle.noc_topo.specs.Shape.{nodes, ports};
+ghost use Rattle.noc_sets.specs.Column.{RouterMarks};
+ghost use Rattle.noc_sets.specs.Routed.{HasRouted};
+ghost use Rattle.noc_columns.specs.Heads.{headed, headed_marks, heading_at, packet_in};
+ghost use Rattle.noc_columns.specs.Marks.{ChangesWaiting};
+ghost use Rattle.noc_columns.specs.Routing.{AreRoutable, IsOfPorts, IsRoutable, set_by, sets_by};
+ghost use Rattle.noc_columns.specs.Prelude.{channels_of, has_bit, set_of, word};
+
+use crate::channel_table::ChannelTable;
+use crate::header::Header;
+use crate::marks::Marks;
+use crate::sets::{CHANNELS, but_lowest, least};
+use crate::words::{ROUTERS, Words};
+use noc_packet::{ChannelSet, INDICES};
+use noc_route::Relation;
+
+/// What the heads in a block are routed by.
+#[derive(Drop)]
+pub struct Guide<'a> {
+    /// The channels that packets may take.
+    pub relation: &'a Relation,
+    /// The headers of the packets, by number.
+    pub headers: &'a [Header],
+    /// Where the channels of a router stand.
+    pub table: &'a ChannelTable,
+    /// The number of the first router of the block.
+    pub first: u32,
+}
+
+/// Each of these heads waits for one of the output channels that its packet may take, where the
+/// input channels of the routers are held by these packets.
+pub fn route(
+    guide: &Guide<'_>,
+    heads: &Words,
+    packets: &[[u32; CHANNELS]; ROUTERS],
+    marks: &mut Marks,
+)
+    requires ports { IsOfPorts guide.now.table.now.ports guide.now.relation.now }
+    requires headers { AreRoutable guide.now.relation.now guide.now.headers.now }
+    requires heads { (r k : ℕ) → r < ROUTERS
+        → has_bit (set_of (channels_of guide.now.table.now.ports) r heads.now) k ≡ true
+        → (guide.now.first + r < nodes guide.now.relation.now.grid)
+        × (packet_in packets.now r k < length guide.now.headers.now) }
+    ensures routed { (r : ℕ) (m : RouterMarks) → r < ROUTERS
+        → HasRouted (set_of (channels_of guide.now.table.now.ports) r heads.now)
+        (sets_by guide.now.relation.now guide.now.headers.now (guide.now.first + r))
+        (headed_marks (heading_at marks.old r) (packet_in packets.now r) m)
+        (headed_marks (heading_at marks.new r) (packet_in packets.now r) m)
+        (slice_index marks.old.wanted r) (slice_index marks.new.wanted r) }
+    ensures waiting { (r : ℕ) → r < ROUTERS → slice_index marks.new.waiting r
+        ≡ bit_or (slice_index marks.old.waiting r)
+        (set_of (channels_of guide.now.table.now.ports) r heads.now) }
+    ensures idle { (r : ℕ) → slice_index marks.new.idle r ≡ slice_index marks.old.idle r }
+    ensures turns { marks.new.turns ≡ marks.old.turns }
+{
+    let links = &guide.table.ports.links;
+    let size = (links.width + 1) * links.vcs;
+    for channel in 0..size {
+        let index = guide.table.index(channel);
+        route_channel(guide, channel, heads[index], packets, marks);
+    }
+}
+
+// The heads in one channel of these routers are routed, if there are some.
+#[inline(always)]
+fn route_channel(
+    guide: &Guide<'_>,
+    channel: usize,
+    routers: u64,
+    packets: &[[u32; CHANNELS]; ROUTERS],
+    marks: &mut Marks,
+)
+    requires ports { IsOfPorts guide.now.table.now.ports guide.now.relation.now }
+    requires headers { AreRoutable guide.now.relation.now guide.now.headers.now }
+    requires channel { channel < (guide.now.table.now.ports.links.width + 1)
+        * guide.now.table.now.ports.links.vcs }
+    requires heads { (r : ℕ) → r < ROUTERS → has_bit routers r ≡ true
+        → (guide.now.first + r < nodes guide.now.relation.now.grid)
+        × (packet_in packets.now r channel < length guide.now.headers.now) }
+    ensures routed { (r : ℕ) → r < ROUTERS → heading_at marks.new r
+        ≡ (if has_bit routers r
+        then headed channel
+        (sets_by guide.now.relation.now guide.now.headers.now (guide.now.first + r) channel
+        (packet_in packets.now r channel)) (heading_at marks.old r)
+        else heading_at marks.old r) }
+    ensures kept { ChangesWaiting marks.old marks.new }
+{
+    if routers != 0 {
+        route_routers(guide, channel, routers, packets, marks);
+    }
+}
+
+// The heads in one channel of these routers are routed. (This is no part of the loop over channels,
+// so that the loop has registers for what it reads.)
+#[inline(never)]
+fn route_routers(
+    guide: &Guide<'_>,
+    channel: usize,
+    routers: u64,
+    packets: &[[u32; CHANNELS]; ROUTERS],
+    marks: &mut Marks,
+)
+    requires ports { IsOfPorts guide.now.table.now.ports guide.now.relation.now }
+    requires headers { AreRoutable guide.now.relation.now guide.now.headers.now }
+    requires channel { channel < (guide.now.table.now.ports.links.width + 1)
+        * guide.now.table.now.ports.links.vcs }
+    requires heads { (r : ℕ) → r < ROUTERS → has_bit routers r ≡ true
+        → (guide.now.first + r < nodes guide.now.relation.now.grid)
+        × (packet_in packets.now r channel < length guide.now.headers.now) }
+    ensures routed { (r : ℕ) → r < ROUTERS → heading_at marks.new r
+        ≡ (if has_bit routers r
+        then headed channel
+        (sets_by guide.now.relation.now guide.now.headers.now (guide.now.first + r) channel
+        (packet_in packets.now r channel)) (heading_at marks.old r)
+        else heading_at marks.old r) }
+    ensures kept { ChangesWaiting marks.old marks.new }
+{
+    let mut rest = routers;
+    while rest != 0 {
+        let router = least(rest);
+        let packet = packets[router][channel] as usize;
+        route_head(guide, channel, router, packet, marks);
+        rest = but_lowest(rest);
+    }
+}
+
+// The head of one packet is routed.
+fn route_head(guide: &Guide<'_>, channel: usize, router: usize, packet: usize, marks: &mut Marks)
+    requires ports { IsOfPorts guide.now.table.now.ports guide.now.relation.now }
+    requires headers { AreRoutable guide.now.relation.now guide.now.headers.now }
+    requires channel { channel < (guide.now.table.now.ports.links.width + 1)
+        * guide.now.table.now.ports.links.vcs }
+    requires router { router < ROUTERS }
+    requires head { (guide.now.first + router < nodes guide.now.relation.now.grid)
+        × (packet < length guide.now.headers.now) }
+    ensures here { heading_at marks.new router ≡ headed channel
+        (sets_by guide.now.relation.now guide.now.headers.now (guide.now.first + router) channel
+        packet) (heading_at marks.old router) }
+    ensures others { (r : ℕ) → r ≢ router → heading_at marks.new r ≡ heading_at marks.old r }
+    ensures kept { ChangesWaiting marks.old marks.new }
+{
+    let header = guide.headers[packet];
+    let node = guide.first as usize + router;
+    let port = guide.table.port(channel);
+    let vc = guide.table.vc(channel);
+    let set = set_for(guide.relation, header, node, port, vc);
+    note(&mut marks.sets[router], channel, set);
+    let waiting = marks.waiting[router] | 1 << channel as u32;
+    let wanted = marks.wanted[router] | set;
+    let idle = marks.idle[router];
+    marks.put(router, waiting, wanted, idle);
+}
+
+// The set of a channel is written.
+#[inline(always)]
+fn note(sets: &mut [u64; CHANNELS], channel: usize, set: u64)
+    requires { channel < CHANNELS }
+    ensures { (k : ℕ)
+        → slice_index sets.new k ≡ (if nat_eq k channel then set else slice_index sets.old k) }
+{
+    sets[channel] = set;
+}
+
+// The channels that a packet with this header may take which came to a node by this port and
+// virtual channel.
+fn set_for(relation: &Relation, header: Header, node: usize, port: usize, vc: usize) -> u64
+    requires node { node < nodes relation.now.grid }
+    requires header { IsRoutable relation.now header }
+    requires port { port < ports relation.now.grid }
+    requires vc { vc < relation.now.vcs }
+    ensures { result ≡ set_by relation.now header node port vc }
+{
+    let class = usize::from(header.class);
+    let destination = usize::from(header.destination);
+    bits_of(relation.permitted(class, node, port, vc, destination))
+}
+
+// A set of channels, as a number. (Nothing depends on how many there are, so the processor need not
+// wait for the set before it goes on.)
+fn bits_of(set: ChannelSet) -> u64
+    ensures { result ≡ set }
+{
+    let mut bits = 0u64;
+    for channel in 0..INDICES {
+        bits |= alone_where(channel, set.contains(channel));
+    }
+    bits
+}
+
+// A channel alone, or none.
+#[inline(always)]
+fn alone_where(channel: usize, is_member: bool) -> u64
+    requires { channel < INDICES }
+    ensures { (k : ℕ) → has_bit result k ≡ (nat_eq k channel && is_member) }
+{
+    u64::from(is_member) << channel as u32
+}
