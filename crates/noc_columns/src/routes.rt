@@ -31,7 +31,8 @@ pub struct Guide<'a> {
 }
 
 /// Each of these heads waits for one of the output channels that its packet may take, where the
-/// input channels of the routers are held by these packets.
+/// input channels of the routers are held by these packets. (What calls this is not to grow by it.)
+#[inline(never)]
 pub fn route(
     guide: &Guide<'_>,
     heads: &Words,
@@ -93,9 +94,8 @@ fn route_channel(
     }
 }
 
-// The heads in one channel of these routers are routed. (This is no part of the loop over channels,
-// so that the loop has registers for what it reads.)
-#[inline(never)]
+// The heads in one channel of these routers are routed.
+#[inline(always)]
 fn route_routers(
     guide: &Guide<'_>,
     channel: usize,
