@@ -16,6 +16,7 @@ pub mod PastLemmas
 pub mod SwitchLemmas
 pub mod ShownLemmas
 pub mod NearLemmas
+pub mod FarLemmas
 pub mod PlaceLemmas
 pub mod InjectionLemmas
 pub mod LoopLemmas

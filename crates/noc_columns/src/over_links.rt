@@ -80,9 +80,17 @@ pub fn gather_far(links: &Ports, far: &Far, left: &Links<Words>, came: &mut Link
         → ((v : ℕ) → v < links.now.vcs → k ≢ (port_at links.now far.now.port).index v)
         → links_by (word k) came.new ≡ links_by (word k) came.old }
 {
-    join_far(links, far, &left.flits, &mut came.flits);
-    join_far(links, far, &left.tails, &mut came.tails);
-    join_far(links, far, &left.credits, &mut came.credits);
+    // (All three stand in one loop, so that where a channel stands is worked out once.)
+    let width = links.width;
+    let port = far.port;
+    let other = opposite(port);
+    for v in 0..links.vcs {
+        let from = v * width + other;
+        let to = v * width + port;
+        join_far(far, &left.flits, from, &mut came.flits, to);
+        join_far(far, &left.tails, from, &mut came.tails, to);
+        join_far(far, &left.credits, from, &mut came.credits, to);
+    }
 }
 
 // The words of the channels at the other ends of four links.
@@ -159,26 +167,17 @@ fn put_four(words: &mut Words, at: usize, four: &[u64; GROUP])
     }
 }
 
-// With the words of one kind from another block.
+// A word of one kind with the one of a channel at the other end of a link, from another block.
 #[inline(always)]
-fn join_far(links: &Ports, far: &Far, from: &Words, to: &mut Words)
-    requires first { links.now.first ≡ 0 }
-    requires port { far.now.port < links.now.width }
-    requires opposite { opposite far.now.port < links.now.width }
-    ensures here { (v r : ℕ) → v < links.now.vcs → r < ROUTERS
-        → has_bit (word ((port_at links.now far.now.port).index v) to.new) r
-        ≡ (has_bit (word ((port_at links.now far.now.port).index v) to.old) r
-        || comes_from far.now.distance far.now.mask
-        (word ((port_at links.now (opposite far.now.port)).index v) from.now) r) }
-    ensures others { (k : ℕ)
-        → ((v : ℕ) → v < links.now.vcs → k ≢ (port_at links.now far.now.port).index v)
-        → word k to.new ≡ word k to.old }
+fn join_far(far: &Far, from: &Words, other: usize, to: &mut Words, index: usize)
+    requires other { other < WORDS }
+    requires index { index < WORDS }
+    ensures here { (r : ℕ) → r < ROUTERS → has_bit (word index to.new) r
+        ≡ (has_bit (word index to.old) r
+        || comes_from far.now.distance far.now.mask (word other from.now) r) }
+    ensures others { (k : ℕ) → k ≢ index → word k to.new ≡ word k to.old }
 {
-    let other = opposite(far.port);
-    for v in 0..links.vcs {
-        let at = v * links.width;
-        to[at + far.port] = to[at + far.port] | turned(from[at + other], far.distance, far.mask);
-    }
+    to[index] = to[index] | turned(from[other], far.distance, far.mask);
 }
 
 // The port at the other end of a link.
