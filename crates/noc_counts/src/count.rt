@@ -5,10 +5,8 @@ ghost use Rattle.noc_packet.specs.Set.{has_bit};
 ghost use Rattle.noc_topo.specs.Lists.{one_if};
 ghost use Rattle.noc_columns.specs.Tallies.{counted_at};
 ghost use Rattle.noc_columns.specs.Words.{word};
-ghost use Rattle.noc_columns.specs.declared.words.TheConstants.{ROUTERS, WORDS};
 ghost use Rattle.noc_counts.specs.Counted.{HasAdded, IsPut, count_in, last_of};
 ghost use Rattle.noc_counts.specs.Low.{low_at, set_sum};
-ghost use Rattle.noc_counts.specs.declared.low.TheConstants.{SLOTS};
 
 use crate::low::{Low, SLOTS};
 use noc_columns::{Cycles, ROUTERS, Tally, WORDS, Words, put};
@@ -116,9 +114,9 @@ impl Count {
 fn repeat(groups: usize, low: &mut Low<Words>, tally: &mut Tally, set: &Words, times: u32)
     requires { 4 * groups ≤ WORDS }
     ensures { (before j r : ℕ) → j < 4 * groups
-        → low_at low.old j r + 16 * counted_at tally.old before j r + times < 2 ^ 32
-        → low_at low.new j r + 16 * counted_at tally.new before j r
-        ≡ low_at low.old j r + 16 * counted_at tally.old before j r
+        → low_at low.old j r + SLOTS * counted_at tally.old before j r + times < 2 ^ 32
+        → low_at low.new j r + SLOTS * counted_at tally.new before j r
+        ≡ low_at low.old j r + SLOTS * counted_at tally.old before j r
         + times * one_if (has_bit (word j set.now) r) }
 {
     let mut carry = [0; WORDS];

@@ -4,16 +4,14 @@ ghost use Rattle.std.specs.Prelude.{◌≡◌, ◌+◌, ◌*◌, ◌%◌, ◌^�
 ghost use Rattle.noc_sets.specs.Counts.{ByVerdict, RunOn, nine_counts, ten_counts, with_verdicts};
 ghost use Rattle.noc_columns.specs.Picks.{channels_of};
 ghost use Rattle.noc_columns.specs.Words.{IsWithin, Numbering, word};
-ghost use Rattle.noc_columns.specs.declared.words.TheConstants.{ROUTERS, WORDS};
 ghost use Rattle.noc_counts.specs.Counted.{count_in, last_of};
 ghost use Rattle.noc_counts.specs.Counts.{AreAdded, AreClear, AreNoted, AreSmall, IsClear, counted_in, counts_at, last_at, nine_by, numbers_of, word_counts};
-ghost use Rattle.noc_counts.specs.declared.low.TheConstants.{SLOTS};
 ghost use Rattle.noc_counts.specs.Told.{told_at, told_by};
 
 use crate::count::Count;
 use crate::low::SLOTS;
 use crate::nine::Nine;
-use crate::told::words_at;
+use crate::verdicts::words_at;
 use noc_columns::{ChannelTable, Frame, ROUTERS, WORDS};
 use noc_cycles::{Block, Work};
 use noc_packet::Memory;

@@ -7,7 +7,6 @@ ghost use Rattle.noc_sets.specs.Grants.{asked_of};
 ghost use Rattle.noc_columns.specs.Picks.{channels_of};
 ghost use Rattle.noc_columns.specs.Supply.{digits_by, number_in};
 ghost use Rattle.noc_columns.specs.Words.{set_of, word};
-ghost use Rattle.noc_columns.specs.declared.words.TheConstants.{ROUTERS, WORDS};
 ghost use Rattle.noc_cycles.specs.Held.{held_at};
 ghost use Rattle.noc_counts.specs.Counts.{numbers_of};
 ghost use Rattle.noc_counts.specs.Findings.{finding_of, out_by, outs_of, packet_by};
@@ -15,7 +14,7 @@ ghost use Rattle.noc_counts.specs.Told.{told_at};
 
 use crate::count::has;
 use crate::nine::Nine;
-use crate::told::words_at;
+use crate::verdicts::words_at;
 use noc_columns::{ROUTERS, RouterPorts, Sends, WORDS, Words, least};
 use noc_cycles::{Block, Pattern, Work};
 use noc_view::{Finding, Verdict};

@@ -11,7 +11,7 @@ mod findings;
 mod laws;
 mod low;
 mod nine;
-mod told;
+mod verdicts;
 
 pub use counts::{Counts, no_counts};
 pub use findings::{find, granted_outs};

@@ -4,9 +4,7 @@ ghost use Rattle.std.specs.Prelude.{◌≡◌, ◌≢◌, ◌+◌, ◌*◌, ◌%
 ghost use Rattle.noc_packet.specs.Set.{has_bit};
 ghost use Rattle.noc_topo.specs.Lists.{one_if};
 ghost use Rattle.noc_columns.specs.Words.{word};
-ghost use Rattle.noc_columns.specs.declared.words.TheConstants.{ROUTERS, WORDS};
 ghost use Rattle.noc_counts.specs.Low.{low_at, low_by, low_in, set_sum};
-ghost use Rattle.noc_counts.specs.declared.low.TheConstants.{SLOTS};
 
 use crate::count::has;
 use noc_columns::{ROUTERS, WORDS, Words, put};
@@ -47,7 +45,7 @@ impl Low<Words> {
     pub(crate) fn add(&mut self, groups: usize, sets: &[Words; SLOTS], carry: &mut Words)
         requires { 4 * groups ≤ WORDS }
         ensures { (j r : ℕ) → j < 4 * groups
-            → low_at self.new j r + 16 * one_if (has_bit (word j carry.new) r)
+            → low_at self.new j r + SLOTS * one_if (has_bit (word j carry.new) r)
             ≡ low_at self.old j r + set_sum sets.now SLOTS j r }
     {
         for i in 0..4 * groups {
@@ -60,9 +58,9 @@ impl Low<Words> {
     // Adds one set so many times. It is written what is carried.
     pub(crate) fn repeat(&mut self, groups: usize, set: &Words, times: u32, carry: &mut Words)
         requires groups { 4 * groups ≤ WORDS }
-        requires times { times < 16 }
+        requires times { times < SLOTS }
         ensures { (j r : ℕ) → j < 4 * groups
-            → low_at self.new j r + 16 * one_if (has_bit (word j carry.new) r)
+            → low_at self.new j r + SLOTS * one_if (has_bit (word j carry.new) r)
             ≡ low_at self.old j r + times * one_if (has_bit (word j set.now) r) }
     {
         for i in 0..4 * groups {
@@ -77,7 +75,7 @@ impl Low<Words> {
         requires index { index < WORDS }
         requires router { router < ROUTERS }
         ensures count { result ≡ low_at self.now index router }
-        ensures small { result < 16 }
+        ensures small { result < SLOTS }
     {
         let low = self.at(index);
         let ones = u64::from(has(low.ones, router));
@@ -128,7 +126,7 @@ struct Added {
 #[inline(always)]
 fn with_sets(low: &Low<u64>, sets: &[Words; SLOTS], index: usize) -> Added
     requires { index < WORDS }
-    ensures { (r : ℕ) → low_in result.low r + 16 * one_if (has_bit result.carry r)
+    ensures { (r : ℕ) → low_in result.low r + SLOTS * one_if (has_bit result.carry r)
         ≡ low_in low.now r + set_sum sets.now SLOTS index r }
 {
     let first = with_slots(low.ones, low.twos, sets, 0, index);
@@ -203,8 +201,8 @@ fn with_four(low: u64, high: u64, first: u64, second: u64, third: u64, fourth: u
 // One channel with a set that is added so many times.
 #[inline(always)]
 fn with_times(low: &Low<u64>, set: u64, times: u32) -> Added
-    requires { times < 16 }
-    ensures { (r : ℕ) → low_in result.low r + 16 * one_if (has_bit result.carry r)
+    requires { times < SLOTS }
+    ensures { (r : ℕ) → low_in result.low r + SLOTS * one_if (has_bit result.carry r)
         ≡ low_in low.now r + times * one_if (has_bit set r) }
 {
     let one = where_odd(times, set);

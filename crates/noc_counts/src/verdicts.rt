@@ -2,7 +2,6 @@
 
 ghost use Rattle.std.specs.Prelude.{◌≡◌, ◌<◌, ℕ};
 ghost use Rattle.noc_columns.specs.Words.{word};
-ghost use Rattle.noc_columns.specs.declared.words.TheConstants.{WORDS};
 ghost use Rattle.noc_counts.specs.Counts.{numbers_of};
 ghost use Rattle.noc_counts.specs.Told.{told_by};
 
