@@ -11,7 +11,7 @@ use Rattle.noc_workers.specs.Workers.{AreReady, HasNear, IsWorkerAt, MayRunFrom}
 use Rattle.noc_engine.specs.declared.plan.Plan.{Plan}
 use Rattle.noc_workers.specs.declared.post.Post.{Post}
 use Rattle.noc_engine.specs.declared.tile.Tile.{Tile}
-use Rattle.noc_workers.specs.declared.threads.Stretch.{Stretch}
+use Rattle.noc_workers.specs.declared.fork.Stretch.{Stretch}
 use Rattle.noc_workers.specs.declared.worker.Worker.{Worker}
 
 -- ---- rings between two tiles

@@ -1,19 +1,13 @@
 //! A network whose blocks run in tiles, each by a worker.
 
-ghost use Rattle.std.specs.Prelude.{◌≡◌, ℕ, ◌+◌, ◌<◌, ◌≤◌, true, length, Some, IfOk, IsTrue};
-ghost use Rattle.std.specs.List.{slice_get};
-ghost use Rattle.noc_theory.specs.Good.{IsGoodSetup};
-ghost use Rattle.noc_theory.specs.declared.limits.TheConstants.{CYCLE_LIMIT};
-ghost use Rattle.noc_workers.specs.Cuts.{AllMayRun, AllShow};
-ghost use Rattle.noc_workers.specs.Rounds.{setup_by, start_by};
-ghost use Rattle.noc_engine.specs.Runs.{MayRun, ShowsRun};
-ghost use Rattle.noc_workers.specs.declared.worker.Worker.{Worker as One};
+ghost use Rattle.std.specs.Prelude.{◌≡◌, ℕ, ◌+◌, ◌<◌, ◌≤◌, true, length, Some, IfOk, IsTrue, slice_get};
+ghost use Rattle.noc_workers.specs.Prelude.{AllMayRun, AllShow, CYCLE_LIMIT, IsGoodSetup, MayRun, ShowsRun, Worker as One, setup_by, start_by};
 
 use crate::cut::cut;
+use crate::fork::{NotRun, Stretch, run_all};
 use crate::join::join;
 use crate::origin::{Run, Setup};
 use crate::pace::{Pace, each};
-use crate::threads::{NotRun, Stretch, run_all};
 use crate::worker::Worker;
 use noc_engine::Engine;
 use std::alloc::Global;

@@ -1,13 +1,12 @@
 //! A network runs by workers.
 
 ghost use Rattle.std.specs.Prelude.{◌≡◌, ℕ, ◌+◌, ◌<◌, ◌≤◌, IfOk, IsOk};
-ghost use Rattle.noc_workers.specs.Rounds.{setup_by};
-ghost use Rattle.noc_engine.specs.Runs.{AreFindings, MayRun, ShowsRun};
+ghost use Rattle.noc_workers.specs.Prelude.{AreFindings, MayRun, ShowsRun, setup_by};
 
 use crate::apart::{Ahead, Ran, run_apart};
+use crate::fork::NotRun;
 use crate::origin::Setup;
 use crate::pace::{Pace, each, together};
-use crate::threads::NotRun;
 use noc_engine::Engine;
 use std::alloc::Global;
 use std::sync::Wait;

@@ -1,13 +1,9 @@
 //! A tile cut into tiles that stand side by side, each with a worker that runs it.
 
 ghost use Rattle.std.specs.Prelude.{◌≡◌, ℕ, ◌+◌, ◌++◌, ◌∷◌, [], ◌<◌, ◌≤◌, true, All, Contains, length, IfOk, OnOk};
-ghost use Rattle.noc_theory.specs.Good.{IsGoodSetup};
-ghost use Rattle.noc_workers.specs.Cuts.{AreNew, IsNew, MeetsMore};
-ghost use Rattle.noc_workers.specs.Rounds.{start_by};
-ghost use Rattle.noc_engine.specs.Shows.{IsPlanOf, has_block};
-ghost use Rattle.noc_engine.specs.Tiles.{Shows};
+ghost use Rattle.noc_workers.specs.Prelude.{AreNew, IsGoodSetup, IsNew, IsPlanOf, MeetsMore, Shows, has_block, start_by};
 
-use crate::near::near_blocks;
+use crate::borders::near_blocks;
 use crate::origin::Run;
 use crate::post::Post;
 use crate::rings::meet;

@@ -1,9 +1,7 @@
 //! The tiles of workers joined to one.
 
 ghost use Rattle.std.specs.Prelude.{◌≡◌, ℕ, ◌+◌, ◌<◌, length, IfOk};
-ghost use Rattle.noc_theory.specs.Network.{Setup};
-ghost use Rattle.noc_workers.specs.Cuts.{AllShow};
-ghost use Rattle.noc_engine.specs.Tiles.{Shows};
+ghost use Rattle.noc_workers.specs.Prelude.{AllShow, Setup, Shows};
 
 use crate::worker::Worker;
 use noc_engine::{Plan, Tile};

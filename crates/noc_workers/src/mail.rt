@@ -1,11 +1,7 @@
 //! What a tile of a network sends another one in a cycle.
 
 ghost use Rattle.std.specs.Prelude.{◌≡◌, ℕ, Bool, true, All, IfOk, length};
-ghost use Rattle.noc_theory.specs.Network.{Setup};
-ghost use Rattle.noc_workers.specs.Mails.{HasHeard, IsMail, blocks_in, with_blocks};
-ghost use Rattle.noc_workers.specs.Rounds.{start_by, start_in};
-ghost use Rattle.noc_engine.specs.Shows.{has_block};
-ghost use Rattle.noc_engine.specs.declared.plan.Plan.{Plan};
+ghost use Rattle.noc_workers.specs.Prelude.{HasHeard, IsMail, Plan, Setup, blocks_in, has_block, start_by, start_in, with_blocks};
 
 use crate::origin::{Origin, Run};
 use noc_engine::{Tile, Told};

@@ -1,6 +1,7 @@
 //! A run of a network, of which mails say that they are.
 
 ghost use Rattle.std.specs.Prelude.{◌≡◌};
+ghost use Rattle.noc_workers.specs.Rounds.{start_by, start_of};
 
 use noc_engine::Plan;
 use noc_packet::Packet;
@@ -29,6 +30,28 @@ pub(crate) struct Run<'a> {
     pub(crate) plan: &'a Plan,
     /// The cycle with which it begins.
     pub(crate) cycle: u32,
+}
+
+impl<'a> Run<'a> {
+    /// A run of what is made from this, by this plan, from this cycle on.
+    pub(crate) fn of(
+        relation: &'a Relation,
+        depth: usize,
+        packets: &'a Vec<Packet>,
+        plan: &'a Plan,
+        cycle: u32,
+    ) -> Run<'a>
+        ensures { start_by result
+            ≡ start_of relation.now depth packets.now.items plan.now cycle }
+    {
+        Run {
+            relation,
+            depth,
+            packets,
+            plan,
+            cycle,
+        }
+    }
 }
 
 /// A run of tiles as clauses see it: it has no bytes.

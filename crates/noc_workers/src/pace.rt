@@ -1,6 +1,7 @@
 //! How many tiles run a network, and for how long: a clock says what is faster.
 
 ghost use Rattle.std.specs.Prelude.{◌≡◌, ◌<◌, ◌≤◌};
+ghost use Rattle.noc_workers.specs.declared.pace.TheConstants.{LONGEST, LONGEST_REST};
 
 use std::time::{Clock, Instant};
 
@@ -51,8 +52,8 @@ pub(crate) struct Pace {
     last: u64,
     before: u64,
     ghost some: { 0 < cycles },
-    ghost few: { cycles ≤ 65536 },
-    ghost short: { next_rest ≤ 1024000000 },
+    ghost few: { cycles ≤ LONGEST },
+    ghost short: { next_rest ≤ LONGEST_REST },
     ghost within: { tiles ≤ workers },
 }
 

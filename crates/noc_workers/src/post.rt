@@ -2,10 +2,7 @@
 
 ghost use Rattle.std.specs.Prelude.{◌≡◌, ℕ, ◌+◌, ◌<◌, ◌++◌, ◌∷◌, [], Bool, false, length, IsTrue};
 ghost use Rattle.rtrb.specs.Ring.{known_items, received, sent};
-ghost use Rattle.noc_workers.specs.Mails.{HasHeard, HasSameBlocks, with_blocks};
-ghost use Rattle.noc_workers.specs.Rounds.{Follows, Start};
-ghost use Rattle.noc_engine.specs.Shows.{has_block};
-ghost use Rattle.noc_workers.specs.Workers.{IsPost, IsReadyPost, near_in};
+ghost use Rattle.noc_workers.specs.Prelude.{Follows, HasHeard, HasSameBlocks, IsPost, IsReadyPost, Start, has_block, near_in, with_blocks};
 
 use crate::mail::Mail;
 use noc_engine::Tile;

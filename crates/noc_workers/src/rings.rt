@@ -2,8 +2,7 @@
 
 ghost use Rattle.std.specs.Prelude.{◌≡◌, ℕ, ◌∷◌, [], Bool, true, All, IfOk, length};
 ghost use Rattle.rtrb.specs.Ring.{received, sent};
-ghost use Rattle.noc_workers.specs.Rounds.{start_by};
-ghost use Rattle.noc_workers.specs.Workers.{IsReadyPost, near_in};
+ghost use Rattle.noc_workers.specs.Prelude.{IsReadyPost, near_in, start_by};
 
 use crate::mail::Mail;
 use crate::origin::Run;

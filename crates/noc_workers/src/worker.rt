@@ -1,10 +1,7 @@
 //! A tile that one thread runs, and its rings to the tiles near it.
 
 ghost use Rattle.std.specs.Prelude.{◌≡◌, ℕ, ◌+◌, Bool, false, IsTrue};
-ghost use Rattle.noc_workers.specs.Mails.{HasHeard, HasSameBlocks, with_blocks};
-ghost use Rattle.noc_workers.specs.Rounds.{Start, start_by};
-ghost use Rattle.noc_engine.specs.Shows.{has_block};
-ghost use Rattle.noc_workers.specs.Workers.{ArePosts, AreReady, HasCome, IsWorkerAt, MayRunFrom, nears_in};
+ghost use Rattle.noc_workers.specs.Prelude.{ArePosts, AreReady, HasCome, HasHeard, HasSameBlocks, IsWorkerAt, MayRunFrom, Start, has_block, nears_in, start_by, with_blocks};
 
 use crate::origin::Run;
 use crate::post::Post;

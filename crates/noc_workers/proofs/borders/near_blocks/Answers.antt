@@ -5,8 +5,8 @@ use Rattle.std.proofs.lemmas.List.Elements.{All-push}
 use Rattle.noc_engine.specs.Shows.{has_block}
 use Rattle.noc_engine.proofs.ListLemmas.{read}
 use Rattle.noc_workers.proofs.NearLemmas.{HasAllBelow, below-more, below-same, near-done, own-block}
-use Rattle.noc_workers.proofs.near.near_blocks.Goals as goal
-use Rattle.noc_workers.proofs.near.near_blocks.Goals.{then-leads+in_ok-push, else-leads}
+use Rattle.noc_workers.proofs.borders.near_blocks.Goals as goal
+use Rattle.noc_workers.proofs.borders.near_blocks.Goals.{then-leads+in_ok-push, else-leads}
 
 pub loop-block-preserved : goal.loop-block-preserved
 loop-block-preserved c =

@@ -2,8 +2,7 @@
 
 ghost use Rattle.std.specs.Prelude.{◌≡◌, ◌⊎◌, ◌+◌, ◌<◌, ◌≤◌, ◌++◌, Err, IfOk, IsOkAnd, vec_len};
 ghost use Rattle.std.specs.Thread.{IsSync};
-ghost use Rattle.noc_workers.specs.Cuts.{AllHaveRun, AreHalves, HaveRunStretch, MayRunStretch};
-ghost use Rattle.noc_workers.specs.Rounds.{start_by, start_of};
+ghost use Rattle.noc_workers.specs.Prelude.{AllHaveRun, AreHalves, HaveRunStretch, MayRunStretch, start_by, start_of};
 
 use crate::origin::Run;
 use crate::worker::{Worker, run_worker};
@@ -23,7 +22,7 @@ pub enum NotRun {
 }
 
 impl From<Memory> for NotRun {
-    ghost use Rattle.noc_workers.specs.declared.threads.NotRun.{NotRun};
+    ghost use Rattle.noc_workers.specs.declared.fork.NotRun.{NotRun};
 
     ghost from_gives = { λ _ e. e ≡ NotRun.Memory };
 
@@ -54,6 +53,7 @@ impl<'a> Promise<Result<Vec<Worker>, NotRun>> for RunsOf<'a> {
 /// Runs the cycles of a stretch by each worker, and the second half of them in a thread of its own.
 /// It fails only where memory or a thread is refused: the rings of the workers that do not run are
 /// let go then, and the others come back without their cycles.
+#[cycle(run)]
 pub(crate) fn run_all<R: Threads + Wait + Sync>(
     rt: &R,
     run: &Run<'_>,
@@ -80,6 +80,27 @@ pub(crate) fn run_all<R: Threads + Wait + Sync>(
         from: middle,
         ..stretch
     };
+    run_both(rt, run, here, there, first, second)
+}
+
+// Runs both halves of a stretch by the workers of each, those of the second in a thread of their
+// own.
+#[cycle(run)]
+fn run_both<R: Threads + Wait + Sync>(
+    rt: &R,
+    run: &Run<'_>,
+    here: Stretch,
+    there: Stretch,
+    first: Vec<Worker>,
+    second: Vec<Worker>,
+) -> Result<Vec<Worker>, NotRun>
+    requires some { (0 < vec_len first) × (0 < vec_len second) }
+    requires halves { AreHalves here there }
+    requires first { MayRunStretch (start_by run.now) here first.items }
+    requires second { MayRunStretch (start_by run.now) there second.items }
+    ensures { IfOk result (λ v. AllHaveRun (start_by run.now) (here.done + here.more) here.from
+        there.to v.items) }
+{
     // (what closures ensure is known where they capture the parts of a run, and not the run)
     let Run {
         relation,
@@ -92,23 +113,14 @@ pub(crate) fn run_all<R: Threads + Wait + Sync>(
         thread::scope_env(),
         rt,
         |scope| -> Result<Vec<Worker>, NotRun>
-            requires { IsSync R.row × (0 < vec_len first) × (0 < vec_len second)
-                × AreHalves here there
-                × MayRunStretch (start_of relation.now depth packets.now.items plan.now cycle) here
-                first.items
-                × MayRunStretch (start_of relation.now depth packets.now.items plan.now cycle) there
-                second.items }
+            requires { let start = start_of relation.now depth packets.now.items plan.now cycle in
+                IsSync R.row × (0 < vec_len first) × (0 < vec_len second) × AreHalves here there
+                × MayRunStretch start here first.items × MayRunStretch start there second.items }
             ensures { IfOk result (λ v. AllHaveRun (start_of relation.entry.now depth
                 packets.entry.now.items plan.entry.now cycle) (here.done + here.more) here.from
                 there.to v.items) }
         {
-            let run = Run {
-                relation,
-                depth,
-                packets,
-                plan,
-                cycle,
-            };
+            let run = Run::of(relation, depth, packets, plan, cycle);
             let child = scope.spawn_with(
                 RunsOf(run, there),
                 move || -> Result<Vec<Worker>, NotRun>
@@ -118,13 +130,7 @@ pub(crate) fn run_all<R: Threads + Wait + Sync>(
                     ensures { IfOk result (λ v. HaveRunStretch (start_of relation.entry.now depth
                         packets.entry.now.items plan.entry.now cycle) there v.items) }
                 {
-                    let run = Run {
-                        relation,
-                        depth,
-                        packets,
-                        plan,
-                        cycle,
-                    };
+                    let run = Run::of(relation, depth, packets, plan, cycle);
                     run_all(rt, &run, there, second)
                 },
             );

@@ -1,7 +1,7 @@
 use Rattle.std.proofs.Common.{◌≤◌, arith, length}
 use Rattle.noc_workers.specs.Rounds.{start_by}
 use Rattle.noc_workers.proofs.ThreadLemmas.{last-may, last-run, room-left, run-none}
-use Rattle.noc_workers.proofs.threads.run_last.Goals as goal
+use Rattle.noc_workers.proofs.fork.run_last.Goals as goal
 
 pub run_worker-ended-requires : goal.run_worker-ended-requires
 run_worker-ended-requires g c =

@@ -2,7 +2,7 @@ use Rattle.std.proofs.Common.{◌≡◌, ◌<◌, ℕ, true}
 use Rattle.noc_columns.specs.declared.ports.TheConstants.{PORTS}
 use Rattle.noc_cycles.specs.Around.{end_by}
 use Rattle.noc_engine.specs.Shows.{has_router}
-use Rattle.noc_workers.proofs.near.leads.Given as goal
+use Rattle.noc_workers.proofs.borders.leads.Given as goal
 
 -- none of those of the routers so far
 abbrev pub invariant-loop-r : goal.invariant-loop-r

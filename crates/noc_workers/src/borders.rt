@@ -1,11 +1,7 @@
 //! The blocks of a tile from which links lead to another one.
 
 ghost use Rattle.std.specs.Prelude.{◌≡◌, ℕ, ◌+◌, ◌/◌, ◌<◌, ◌≤◌, All, true, IfOk, length, slice_index};
-ghost use Rattle.noc_columns.specs.declared.ports.TheConstants.{PORTS};
-ghost use Rattle.noc_columns.specs.declared.words.TheConstants.{ROUTERS};
-ghost use Rattle.noc_cycles.specs.Around.{end_by};
-ghost use Rattle.noc_workers.specs.Cuts.{HasAllNear};
-ghost use Rattle.noc_engine.specs.Shows.{has_block, has_router};
+ghost use Rattle.noc_workers.specs.Prelude.{HasAllNear, end_by, has_block, has_router};
 
 use noc_columns::{PORTS, ROUTERS};
 use noc_cycles::Around;
