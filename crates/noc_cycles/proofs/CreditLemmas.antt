@@ -24,7 +24,8 @@ use Rattle.noc_columns.proofs.SupplyLemmas.{member-is}
 use Rattle.noc_cycles.specs.Held.{Held}
 use Rattle.noc_cycles.specs.Taking.{FitsLayout, HasCredits}
 use Rattle.noc_cycles.specs.declared.pattern.Pattern.{Pattern}
-use Rattle.noc_cycles.proofs.PartLemmas.{links-within, none-above, size-is}
+use Rattle.noc_cycles.proofs.ConcludingLemmas.{links-within}
+use Rattle.noc_cycles.proofs.PartLemmas.{none-above, size-is}
 use Rattle.noc_cycles.proofs.PlaneLemmas.{planes-at, same-at, wrong-at}
 
 -- where all channels have one word

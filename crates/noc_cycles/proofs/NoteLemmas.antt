@@ -24,10 +24,7 @@ note-other x r i before (inr other) = ap (λ b. if nat_eq x.router r && b then S
     none true = refl
     none false = refl
 
-module _ (old new : List Note) (x : Note) (done : Bool) (items : new ≡ (if done then old ++ x ∷ [] else old)) (good : done ≡ true) where
-  pushed : new ≡ old ++ x ∷ []
-  pushed = items ∙ ap (λ b. if b then old ++ x ∷ [] else old) good
-
+module _ (old new : List Note) (x : Note) (pushed : new ≡ old ++ x ∷ []) where
   pub pushed-here : noted new x.router x.channel ≡ Some x.packet
   pushed-here = ap (λ (notes : List Note). noted notes x.router x.channel) pushed ∙ noted-push old x x.router x.channel ∙ note-here x _
 

@@ -7,12 +7,12 @@ use Rattle.noc_packet.proofs.SetLemmas.{either_members}
 use Rattle.noc_sets.specs.Sets.{up_by}
 use Rattle.noc_sets.proofs.MemberLemmas.{or-false, same-word, up_members, up_none}
 use Rattle.noc_columns.specs.Picks.{channels_of, links_of, port_at}
-use Rattle.noc_columns.specs.Words.{IsWithin, Numbering, set_of, word}
+use Rattle.noc_columns.specs.Words.{Numbering, set_of, word}
 use Rattle.noc_columns.specs.declared.ports.RouterPorts.{RouterPorts}
 use Rattle.noc_columns.proofs.ByRouterLemmas.{local-word}
 use Rattle.noc_columns.proofs.ChannelLemmas.{part, port-below, positive}
 use Rattle.noc_columns.proofs.PickLemmas.{apart}
-use Rattle.noc_columns.proofs.PortLemmas.{link-index, local-place, member-below}
+use Rattle.noc_columns.proofs.PortLemmas.{link-index, member-below}
 use Rattle.noc_columns.proofs.SetLemmas.{below-same}
 use Rattle.noc_columns.proofs.SupplyLemmas.{member-is}
 use Rattle.noc_cycles.specs.declared.pattern.Pattern.{Pattern}
@@ -85,34 +85,6 @@ module _ (pattern : Pattern) where
       let far = apart (c % vcs) vcs wide (c / vcs) (part wide vcs pattern.some c) (port-below wide vcs pattern.some c l) in
       let first = pattern.first in
       omega (arith, far, first)
-
-  pub links-within : IsWithin (4 * pattern.frame.link_groups) (links_of pattern.table.ports.links)
-  links-within c l =
-      let below = link-index-below c l in
-      let few = pattern.links in
-      omega (arith, below, few)
-
-  pub all-within : IsWithin (4 * pattern.frame.groups) (channels_of pattern.table.ports)
-  all-within c l = at (cases_lt (c / vcs) wide)
-    where
-      v : ℕ
-      v = c % vcs
-
-      few : c % vcs < vcs
-      few = part (wide + 1) vcs pattern.some c
-
-      at : (c / vcs < wide) ⊎ (wide ≤ c / vcs) → (channels_of pattern.table.ports).index c < 4 * pattern.frame.groups
-      at (inl m) =
-          let far = apart (c % vcs) vcs wide (c / vcs) few m in
-          let first = pattern.first in
-          let is = link-index ps (c / vcs) (c % vcs) m in
-          let all = pattern.all in
-          omega (arith, far, first, is, all)
-      at (inr m) =
-          let is = local-place ps (c / vcs) (c % vcs) m ps.one in
-          let behind = pattern.behind in
-          let all = pattern.all in
-          omega (arith, is, behind, all, few)
 
   -- words of link channels that are as they were
   pub links-kept : (r : ℕ) (old new : List ℕ) → ((k : ℕ) → k < pattern.table.ports.local.first → word k new ≡ word k old)

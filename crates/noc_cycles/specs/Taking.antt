@@ -13,7 +13,7 @@ use Rattle.noc_columns.specs.Picks.{channels_of, links_of, port_at}
 use Rattle.noc_columns.specs.Planes.{list_of, planes_by}
 use Rattle.noc_columns.specs.Sources.{AreDue}
 use Rattle.noc_columns.specs.Supply.{is_fed}
-use Rattle.noc_columns.specs.Words.{all_of, set_alike, set_below}
+use Rattle.noc_columns.specs.Words.{all_of, set_alike, set_below, set_of}
 use Rattle.noc_columns.specs.declared.channels.Links.{Links}
 use Rattle.noc_columns.specs.declared.channels.Standing.{Standing}
 use Rattle.noc_columns.specs.declared.ports.RouterPorts.{RouterPorts}
@@ -21,6 +21,7 @@ use Rattle.noc_columns.specs.declared.words.TheConstants.{ROUTERS}
 use Rattle.noc_cycles.specs.Held.{Held, ShowsStill, column_by, held_at}
 use Rattle.noc_cycles.specs.May.{MayInject}
 use Rattle.noc_cycles.specs.declared.block.Block.{Block}
+use Rattle.noc_cycles.specs.declared.block.Work.{Work}
 use Rattle.noc_cycles.specs.declared.pattern.Pattern.{Pattern}
 
 -- how many link channels a router has, and its column, but for who is supplied
@@ -111,6 +112,10 @@ pub record MaySend (ports : RouterPorts) (starts : List Start) (cycle : ℕ) (bl
   pub earlier : before ≤ cycle
   pub punctual : IsPunctual before ports block
   pub each : (r : ℕ) → r < ROUTERS → MayInject starts cycle (held_at ports block r)
+
+-- where the word of the routers with heads has none, no router has one
+abbrev pub TellsHeads : RouterPorts → Work → Type 0
+TellsHeads ports w = w.heading ≡ 0 → (r : ℕ) → set_of (channels_of ports) r w.standing.heads ≡ 0
 
 -- a router with these words has taken what comes, and then holds h; it is told what its input
 -- channels can do, and whether something comes

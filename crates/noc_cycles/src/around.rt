@@ -3,11 +3,10 @@
 ghost use Rattle.std.specs.Prelude.{◌≡◌, ◌<◌, ◌≤◌, ◌*◌, ◌+◌, ℕ, IfOk, slice_index};
 ghost use Rattle.noc_columns.specs.Places.{IsNear};
 ghost use Rattle.noc_topo.specs.Shape.{local_port, neighbour, nodes};
-ghost use Rattle.noc_columns.specs.declared.words.TheConstants.{ROUTERS};
 ghost use Rattle.noc_cycles.specs.Around.{AreAround, AreEnds, AreFarBy, number_or_nowhere};
 
 use noc_columns::{Far, Near, Neighbours, PORTS, ROUTERS, WORDS, far_of, near_of};
-use noc_packet::Memory;
+use noc_packet::{MAX_CHANNELS, Memory};
 use noc_topo::Shape;
 use std::alloc::Global;
 
@@ -35,7 +34,7 @@ pub fn all_around(
     vcs: usize,
     count: usize,
 ) -> Result<Vec<Around>, Memory>
-    requires vcs { vcs ≤ 8 }
+    requires vcs { vcs ≤ MAX_CHANNELS }
     requires count { ROUTERS * count < nodes shape.now + ROUTERS }
     ensures { IfOk result (λ all. AreAround shape.now vcs count all.items) }
 {
@@ -55,7 +54,7 @@ pub fn all_around(
 impl Around {
     // The neighbours of the routers of a block.
     fn find(&mut self, shape: &Shape, vcs: usize, block: usize)
-        requires vcs { vcs ≤ 8 }
+        requires vcs { vcs ≤ MAX_CHANNELS }
         requires block { ROUTERS * block < nodes shape.now }
         ensures near { IsNear shape.now vcs block self.new.near }
         ensures ends { AreEnds shape.now block self.new.ends }
@@ -70,7 +69,7 @@ impl Around {
 // The neighbours that stand in a block.
 #[inline(never)]
 fn write_near(shape: &Shape, vcs: usize, block: usize, near: &mut Near)
-    requires vcs { vcs ≤ 8 }
+    requires vcs { vcs ≤ MAX_CHANNELS }
     requires block { ROUTERS * block < nodes shape.now }
     ensures { IsNear shape.now vcs block near.new }
 {

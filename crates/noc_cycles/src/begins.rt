@@ -1,18 +1,13 @@
 //! The numbers of the packets that begin.
 
-ghost use Rattle.std.specs.Prelude.{◌≡◌, ◌+◌, ◌*◌, ◌<◌, ◌≤◌, ◌&&◌, ℕ, true, length, nat_eq, slice_index, if◌then◌else◌};
-ghost use Rattle.noc_packet.specs.Set.{has_bit};
+ghost use Rattle.std.specs.Prelude.{◌≡◌, ◌+◌, ◌<◌, ◌≤◌, ◌&&◌, ℕ, true, length, nat_eq, slice_index, if◌then◌else◌};
 ghost use Rattle.noc_sets.specs.Sets.{up_by};
 ghost use Rattle.noc_sets.specs.Source.{start_in};
-ghost use Rattle.noc_sets.specs.Unions.{some_below};
 ghost use Rattle.noc_columns.specs.Heads.{packet_in};
-ghost use Rattle.noc_columns.specs.Picks.{port_at};
 ghost use Rattle.noc_columns.specs.Sources.{starts_by};
-ghost use Rattle.noc_columns.specs.Words.{set_of, word};
-ghost use Rattle.noc_columns.specs.declared.sets.TheConstants.{CHANNELS};
-ghost use Rattle.noc_columns.specs.declared.words.TheConstants.{ROUTERS, WORDS};
+ghost use Rattle.noc_columns.specs.Prelude.{has_bit, port_at, set_of, some_below, word};
 
-use noc_columns::{CHANNELS, Ports, ROUTERS, Start, Words, but_lowest, least};
+use noc_columns::{CHANNELS, Ports, ROUTERS, Start, WORDS, Words, but_lowest, least};
 
 /// A packet begins in these local channels, which stand behind so many link channels. The number
 /// of each is kept: it is the next of its router.

@@ -36,14 +36,14 @@ pub struct Work {
     pub returned: Returned<Words>,
     /// What the input channels can do.
     pub standing: Standing<Words>,
+    /// The routers in which a head is first in a buffer.
+    pub heading: u64,
     /// What is decided of them.
     pub decided: Decided<Words>,
     /// Those that ask for an output channel and are not granted it.
     pub lost: Words,
     /// Their verdicts.
     pub verdicts: Verdicts<Words>,
-    /// What leaves the routers.
-    pub left: Links<Words>,
     /// The input channels from which packets leave the network.
     pub arrived: Words,
     /// The routers that have such a channel.

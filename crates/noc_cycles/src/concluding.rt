@@ -1,38 +1,41 @@
 //! What is decided takes effect.
 
 ghost use Rattle.std.specs.Prelude.{◌≡◌, ◌<◌, ◌+◌, ◌*◌, ℕ, slice_index};
-ghost use Rattle.noc_packet.specs.Set.{has_bit};
-ghost use Rattle.noc_sets.specs.Unions.{some_below};
 ghost use Rattle.noc_columns.specs.Arrivals.{given_back};
 ghost use Rattle.noc_columns.specs.Marks.{ChangesIdle};
-ghost use Rattle.noc_columns.specs.Picks.{channels_of};
 ghost use Rattle.noc_columns.specs.Supply.{digits_by, number_in};
-ghost use Rattle.noc_columns.specs.Words.{set_of, word};
-ghost use Rattle.noc_columns.specs.declared.words.TheConstants.{ROUTERS};
+ghost use Rattle.noc_columns.specs.Prelude.{channels_of, has_bit, set_of, some_below, word};
 ghost use Rattle.noc_cycles.specs.Concluding.{HasConcludedHeld, decided_at, standing_at, verdicts_at};
 ghost use Rattle.noc_cycles.specs.Held.{held_at, links_at};
 
 use crate::block::{Block, Work};
+use crate::copies::copy;
 use crate::pattern::Pattern;
-use crate::words::copy;
-use noc_columns::{Digits, Marks, Moves, RouterPorts, Words, give_back, pay, settle};
+use noc_columns::{
+    Digits, GROUP, Links, Marks, Moves, ROUTERS, RouterPorts, Words, give_back, pay, settle,
+};
 
 /// What is decided in a block takes effect: on its channels, on their verdicts, and on what leaves
 /// the routers. The answer is the routers from which a packet leaves the network.
 #[inline(never)]
-pub fn conclude(pattern: &Pattern, block: &mut Block, work: &mut Work) -> u64
+pub fn conclude(
+    pattern: &Pattern,
+    block: &mut Block,
+    work: &mut Work,
+    left: &mut Links<Words>,
+) -> u64
     ensures concluded { (r : ℕ) → r < ROUTERS → HasConcludedHeld pattern.now
         (standing_at pattern.now.table.ports work.old.standing r)
         (decided_at pattern.now.table.ports work.old.decided r)
         (set_of (channels_of pattern.now.table.ports) r block.old.grants.granted)
-        (links_at pattern.now.table.ports work.new.left r)
+        (links_at pattern.now.table.ports left.new r)
         (set_of (channels_of pattern.now.table.ports) r work.new.arrived)
         (held_at pattern.now.table.ports block.old r)
         (held_at pattern.now.table.ports block.new r)
         (verdicts_at pattern.now.table.ports work.old.verdicts r)
         (verdicts_at pattern.now.table.ports work.new.verdicts r) }
     ensures arrived { (r : ℕ) → has_bit result r
-        ≡ some_below (4 * pattern.now.frame.groups) (λ i. has_bit (word i work.new.arrived) r) }
+        ≡ some_below (GROUP * pattern.now.frame.groups) (λ i. has_bit (word i work.new.arrived) r) }
     ensures block { block.new ≡ record block.old {
       inputs = block.new.inputs;
       outputs = block.new.outputs;
@@ -40,9 +43,9 @@ pub fn conclude(pattern: &Pattern, block: &mut Block, work: &mut Work) -> u64
     } }
     ensures work { work.new ≡ record work.old {
       verdicts = work.new.verdicts;
-      left = record work.old.left { credits = work.new.left.credits };
       arrived = work.new.arrived;
     } }
+    ensures left { left.new ≡ record left.old { credits = left.new.credits } }
 {
     let moves = Moves {
         standing: &work.standing,
@@ -64,14 +67,9 @@ pub fn conclude(pattern: &Pattern, block: &mut Block, work: &mut Work) -> u64
         &block.grants.sends.vc,
         &mut block.marks,
     );
-    pay(
-        &pattern.frame,
-        &work.left.flits,
-        &work.left.tails,
-        &mut block.outputs,
-    );
+    pay(&pattern.frame, &left.flits, &left.tails, &mut block.outputs);
     let groups = pattern.frame.link_groups;
-    copy(groups, &work.verdicts.moved, &mut work.left.credits);
+    copy(groups, &work.verdicts.moved, &mut left.credits);
     arrived
 }
 

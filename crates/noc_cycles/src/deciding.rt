@@ -1,23 +1,27 @@
 //! It is decided what the channels of a block do: output channels are granted, heads are routed,
 //! and flits go through the switch.
 
-ghost use Rattle.std.specs.Prelude.{◌≡◌, ◌<◌, ◌+◌, ◌*◌, ℕ, length};
+ghost use Rattle.std.specs.Prelude.{◌≡◌, ◌<◌, ◌+◌, ℕ, true, bit_or, length, slice_index};
 ghost use Rattle.noc_topo.specs.Shape.{nodes};
+ghost use Rattle.noc_sets.specs.Column.{RouterMarks};
 ghost use Rattle.noc_sets.specs.Cycle.{Still};
 ghost use Rattle.noc_sets.specs.Layout.{Layout};
-ghost use Rattle.noc_columns.specs.Channels.{decided_by, standing_by};
-ghost use Rattle.noc_columns.specs.Picks.{channels_of};
+ghost use Rattle.noc_sets.specs.Routed.{HasRouted};
+ghost use Rattle.noc_columns.specs.Heads.{headed_marks, heading_at, packet_in};
 ghost use Rattle.noc_columns.specs.Routing.{AreRoutable, IsOfPorts, sets_by};
-ghost use Rattle.noc_columns.specs.Words.{set_of};
-ghost use Rattle.noc_columns.specs.declared.words.TheConstants.{ROUTERS};
-ghost use Rattle.noc_cycles.specs.Deciding.{HasDecidedHeld};
-ghost use Rattle.noc_cycles.specs.Held.{ShowsStill, held_at, links_at};
+ghost use Rattle.noc_columns.specs.Prelude.{channels_of, has_bit, set_of};
+ghost use Rattle.noc_cycles.specs.Concluding.{standing_at};
+ghost use Rattle.noc_cycles.specs.Held.{ShowsStill, held_at};
 ghost use Rattle.noc_cycles.specs.May.{MayDecide};
+ghost use Rattle.noc_cycles.specs.Taking.{TellsHeads};
+ghost use Rattle.noc_cycles.specs.Through.{HasDecidedAt};
 
 use crate::block::{Block, Work};
+use crate::copies::clear;
 use crate::pattern::Pattern;
-use crate::words::clear;
-use noc_columns::{Guide, Header, Picks, allocate, pick, route, traverse};
+use noc_columns::{
+    CHANNELS, Guide, Header, Links, Marks, Picks, ROUTERS, Words, allocate, pick, route, traverse,
+};
 use noc_route::Relation;
 
 /// What the heads in a network are routed by.
@@ -38,24 +42,22 @@ pub fn decide(
     first: u32,
     block: &mut Block,
     work: &mut Work,
+    left: &mut Links<Words>,
 )
     requires ports { IsOfPorts pattern.now.table.ports routing.now.relation.now }
     requires headers { AreRoutable routing.now.relation.now routing.now.headers.now }
+    requires heading { TellsHeads pattern.now.table.ports work.old }
     requires may { (r : ℕ) → r < ROUTERS
         → MayDecide pattern.now (length routing.now.headers.now)
         (nodes routing.now.relation.now.grid) (first + r)
         (held_at pattern.now.table.ports block.old r)
-        (standing_by (set_of (channels_of pattern.now.table.ports) r) work.old.standing) }
+        (standing_at pattern.now.table.ports work.old.standing r) }
     ensures decided { (layout : Layout) (r no_credit : ℕ) (s : Still) → r < ROUTERS
         → ShowsStill pattern.now (held_at pattern.now.table.ports block.old r)
-        (standing_by (set_of (channels_of pattern.now.table.ports) r) work.old.standing) no_credit s
-        → (let all = set_of (channels_of pattern.now.table.ports) r in
-        HasDecidedHeld pattern.now layout
-        (sets_by routing.now.relation.now routing.now.headers.now (first + r)) s
-        (held_at pattern.now.table.ports block.old r) (held_at pattern.now.table.ports block.new r)
-        (standing_by all work.old.standing) (decided_by all work.new.decided)
-        (all block.new.grants.granted) (all work.new.lost)
-        (links_at pattern.now.table.ports work.new.left r)) }
+        (standing_at pattern.now.table.ports work.old.standing r) no_credit s
+        → HasDecidedAt pattern.now layout
+        (sets_by routing.now.relation.now routing.now.headers.now (first + r)) s r
+        block.old block.new work.old work.new left.new }
     ensures block { block.new ≡ record block.old {
       grants = block.new.grants;
       marks = block.new.marks;
@@ -64,7 +66,6 @@ pub fn decide(
     ensures work { work.new ≡ record work.old {
       decided = work.new.decided;
       lost = work.new.lost;
-      left = work.new.left;
     } }
 {
     let groups = pattern.frame.groups;
@@ -81,8 +82,9 @@ pub fn decide(
         table: &pattern.table,
         first,
     };
-    route(
+    route_if(
         &guide,
+        work.heading,
         &work.standing.heads,
         &block.packets,
         &mut block.marks,
@@ -97,11 +99,39 @@ pub fn decide(
         &mut work.decided,
         &mut picks,
     );
-    traverse(
-        ports,
-        &picks,
-        &mut block.switch,
-        &mut work.decided,
-        &mut work.left,
-    );
+    traverse(ports, &picks, &mut block.switch, &mut work.decided, left);
+}
+
+// Heads are routed, if there are some in these routers.
+#[inline(always)]
+fn route_if(
+    guide: &Guide<'_>,
+    routers: u64,
+    heads: &Words,
+    packets: &[[u32; CHANNELS]; ROUTERS],
+    marks: &mut Marks,
+)
+    requires ports { IsOfPorts guide.now.table.now.ports guide.now.relation.now }
+    requires headers { AreRoutable guide.now.relation.now guide.now.headers.now }
+    requires heads { (r k : ℕ) → r < ROUTERS
+        → has_bit (set_of (channels_of guide.now.table.now.ports) r heads.now) k ≡ true
+        → (guide.now.first + r < nodes guide.now.relation.now.grid)
+        × (packet_in packets.now r k < length guide.now.headers.now) }
+    requires none { routers ≡ 0 → (r : ℕ)
+        → set_of (channels_of guide.now.table.now.ports) r heads.now ≡ 0 }
+    ensures routed { (r : ℕ) (m : RouterMarks) → r < ROUTERS
+        → HasRouted (set_of (channels_of guide.now.table.now.ports) r heads.now)
+        (sets_by guide.now.relation.now guide.now.headers.now (guide.now.first + r))
+        (headed_marks (heading_at marks.old r) (packet_in packets.now r) m)
+        (headed_marks (heading_at marks.new r) (packet_in packets.now r) m)
+        (slice_index marks.old.wanted r) (slice_index marks.new.wanted r) }
+    ensures waiting { (r : ℕ) → r < ROUTERS → slice_index marks.new.waiting r
+        ≡ bit_or (slice_index marks.old.waiting r)
+        (set_of (channels_of guide.now.table.now.ports) r heads.now) }
+    ensures idle { (r : ℕ) → slice_index marks.new.idle r ≡ slice_index marks.old.idle r }
+    ensures turns { marks.new.turns ≡ marks.old.turns }
+{
+    if routers != 0 {
+        route(guide, heads, packets, marks);
+    }
 }

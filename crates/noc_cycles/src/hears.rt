@@ -2,7 +2,6 @@
 
 ghost use Rattle.std.specs.Prelude.{◌≡◌, ◌∷◌, [], ◌/◌, ◌%◌, ◌+◌, ℕ, None, Some, slice_get, unwrap_or};
 ghost use Rattle.noc_columns.specs.Heads.{packet_in};
-ghost use Rattle.noc_columns.specs.declared.words.TheConstants.{ROUTERS};
 ghost use Rattle.noc_cycles.specs.Told.{HasHeard, with_note};
 ghost use Rattle.noc_cycles.specs.declared.block.Block.{Block};
 ghost use Rattle.noc_cycles.specs.declared.notes.Note.{Note};

@@ -7,14 +7,15 @@
 #![tactic(auto)]
 
 mod around;
-mod arrivals;
 mod begins;
 mod block;
 mod concluding;
+mod copies;
 mod deciding;
+mod deliveries;
 mod first;
-mod gather;
 mod hears;
+mod incoming;
 mod laws;
 mod notes;
 mod nothing;
@@ -23,17 +24,16 @@ mod pattern;
 mod taking;
 mod tells;
 mod turning;
-mod words;
 
 pub use around::{Around, all_around};
-pub use arrivals::arrive_all;
 pub use begins::{begin_packets, some_in};
 pub use block::{Block, Work};
 pub use concluding::conclude;
 pub use deciding::{Routing, decide};
+pub use deliveries::arrive_all;
 pub use first::First;
-pub use gather::gather_links;
 pub use hears::hear;
+pub use incoming::gather_links;
 pub use laws::routers_that_hold_nothing_are_empty;
 pub use notes::Note;
 pub use opening::{empty_works, open_blocks};

@@ -68,6 +68,7 @@ pub(crate) const NO_WORK: Work = Work {
         ready: NO_WORDS,
         last: NO_WORDS,
     },
+    heading: 0,
     decided: Decided {
         picked: NO_WORDS,
         past: NO_WORDS,
@@ -81,7 +82,6 @@ pub(crate) const NO_WORK: Work = Work {
         lost_switch: NO_WORDS,
         moved: NO_WORDS,
     },
-    left: NO_LINKS,
     arrived: NO_WORDS,
     leaving: 0,
 };

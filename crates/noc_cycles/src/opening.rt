@@ -1,11 +1,8 @@
 //! Blocks before the first cycle.
 
-ghost use Rattle.std.specs.Prelude.{◌≡◌, ℕ, ◌+◌, ◌-◌, ◌*◌, ◌^◌, ◌<◌, ◌≤◌, IfOk, [], length, replicate, slice_index, slice_index_or};
-ghost use Rattle.noc_topo.specs.declared.limits.TheConstants.{MAX_NODES};
+ghost use Rattle.std.specs.Prelude.{◌≡◌, ℕ, ◌+◌, ◌-◌, ◌*◌, ◌^◌, ◌<◌, ◌≤◌, IfOk, [], replicate, slice_index, slice_index_or};
 ghost use Rattle.noc_columns.specs.Channels.{inputs_by, outputs_by};
 ghost use Rattle.noc_columns.specs.Sources.{AreDue, source_in};
-ghost use Rattle.noc_columns.specs.declared.sets.TheConstants.{CHANNELS};
-ghost use Rattle.noc_columns.specs.declared.words.TheConstants.{ROUTERS, WORDS};
 ghost use Rattle.noc_cycles.specs.Opened.{AreEmptyWorks, AreOpened, IsOpened, first_in, free_outputs, no_inputs};
 
 use crate::block::{Block, Work};
@@ -14,6 +11,7 @@ use crate::nothing::{NO_BLOCK, NO_WORK, NONE_LEFT};
 use crate::pattern::Pattern;
 use noc_columns::{CHANNELS, Frame, Inputs, Marks, NEVER, Outputs, ROUTERS, Sources, WORDS, Words};
 use noc_packet::Memory;
+use noc_topo::MAX_NODES;
 use std::alloc::Global;
 
 /// So many blocks before the first cycle, where these are the first packets of all routers. (Each

@@ -2,11 +2,12 @@
 
 ghost use Rattle.std.specs.Prelude.{◌≡◌, ◌<◌, ◌≤◌, ◌+◌, ◌*◌, ◌^◌, ◌/◌, ◌%◌, nat_lt};
 ghost use Rattle.noc_cycles.specs.Alike.{all_if, same_count};
-ghost use Rattle.noc_columns.specs.Picks.{channels_of};
-ghost use Rattle.noc_columns.specs.declared.words.TheConstants.{WORDS};
+ghost use Rattle.noc_columns.specs.Prelude.{channels_of};
+ghost use Rattle.noc_columns.specs.declared.words.TheConstants.{GROUP};
 
-use noc_columns::{ChannelTable, Frame, Planes, Ports, RouterPorts, WORDS};
-use noc_topo::Shape;
+use noc_columns::{ChannelTable, Frame, GROUP, Planes, Ports, RouterPorts, WORDS};
+use noc_packet::MAX_CHANNELS;
+use noc_topo::{LINKS, Shape};
 
 /// Up to how many flits or credits a count goes that is not deep.
 pub const SHALLOW: usize = 7;
@@ -24,9 +25,9 @@ pub struct Pattern {
     ghost first: { table.ports.links.first ≡ 0 },
     ghost behind: { table.ports.local.first
         ≡ table.ports.links.vcs * table.ports.links.width },
-    ghost links: { table.ports.links.vcs * table.ports.links.width ≤ 4 * frame.link_groups },
+    ghost links: { table.ports.links.vcs * table.ports.links.width ≤ GROUP * frame.link_groups },
     ghost all: { table.ports.links.vcs * table.ports.links.width + table.ports.links.vcs
-        ≤ 4 * frame.groups },
+        ≤ GROUP * frame.groups },
 }
 
 impl Pattern {
@@ -36,7 +37,7 @@ impl Pattern {
     /// of each channel so many places.
     pub fn of(shape: &Shape, vcs: usize, places: usize) -> Pattern
         requires some { 0 < vcs }
-        requires vcs { vcs ≤ 8 }
+        requires vcs { vcs ≤ MAX_CHANNELS }
         requires places { places < 2 ^ 5 }
         ensures { IsPatternOf shape.now vcs places result }
     {
@@ -86,8 +87,8 @@ fn divided(number: usize, width: usize) -> (usize, usize)
 
 // The ports of a router with so many link ports.
 fn ports_of(width: usize, vcs: usize) -> RouterPorts
-    requires width { width ≤ 6 }
-    requires vcs { vcs ≤ 8 }
+    requires width { width ≤ LINKS }
+    requires vcs { vcs ≤ MAX_CHANNELS }
     ensures width { result.links.width ≡ width }
     ensures vcs { result.links.vcs ≡ vcs }
     ensures first { result.links.first ≡ 0 }
@@ -110,14 +111,14 @@ fn ports_of(width: usize, vcs: usize) -> RouterPorts
 fn frame_of(links: usize, all: usize, places: usize) -> Frame
     requires links { links ≤ all }
     requires all { all ≤ WORDS }
-    ensures links { links ≤ 4 * result.link_groups }
-    ensures all { all ≤ 4 * result.groups }
+    ensures links { links ≤ GROUP * result.link_groups }
+    ensures all { all ≤ GROUP * result.groups }
     ensures deep { result.deep ≡ nat_lt SHALLOW places }
     ensures places { result.places ≡ same_count places }
 {
     Frame {
-        groups: (all + 3) / 4,
-        link_groups: (links + 3) / 4,
+        groups: (all + GROUP - 1) / GROUP,
+        link_groups: (links + GROUP - 1) / GROUP,
         deep: places > SHALLOW,
         places: same_count(places),
     }

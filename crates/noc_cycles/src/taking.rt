@@ -1,7 +1,6 @@
 //! What comes to the routers of a block is taken: credits, what their sources inject, and flits.
 
-ghost use Rattle.std.specs.Prelude.{◌≡◌, ◌≢◌, ◌+◌, ◌*◌, ◌<◌, ◌≤◌, ◌^◌, ◌&&◌, ◌||◌, ℕ, true, false, length, nat_eq, not, slice_index, bit_or, if◌then◌else◌};
-ghost use Rattle.noc_packet.specs.Set.{has_bit};
+ghost use Rattle.std.specs.Prelude.{◌≡◌, ◌+◌, ◌*◌, ◌<◌, ◌≤◌, ◌^◌, ◌&&◌, ◌||◌, ℕ, true, false, length, nat_eq, not, slice_index, bit_or, if◌then◌else◌};
 ghost use Rattle.noc_sets.specs.Cycle.{Router};
 ghost use Rattle.noc_sets.specs.Layout.{Layout};
 ghost use Rattle.noc_sets.specs.Sets.{up_by};
@@ -9,13 +8,11 @@ ghost use Rattle.noc_sets.specs.Source.{start_in};
 ghost use Rattle.noc_columns.specs.Channels.{standing_by};
 ghost use Rattle.noc_columns.specs.Heads.{packet_in};
 ghost use Rattle.noc_columns.specs.Marks.{ChangesIdle};
-ghost use Rattle.noc_columns.specs.Picks.{channels_of, links_of, port_at};
 ghost use Rattle.noc_columns.specs.Sources.{AreDue, begun_if, left_in, sent_if, source_in, starts_by};
-ghost use Rattle.noc_columns.specs.Words.{set_of};
-ghost use Rattle.noc_columns.specs.declared.words.TheConstants.{ROUTERS};
+ghost use Rattle.noc_columns.specs.Prelude.{channels_of, has_bit, links_of, port_at, set_of};
 ghost use Rattle.noc_cycles.specs.Held.{ShowsHeld, held_at, links_at};
 ghost use Rattle.noc_cycles.specs.May.{MayTake};
-ghost use Rattle.noc_cycles.specs.Taking.{FitsLayout, HasCredits, HasInjected, HasTaken, IsPunctual, MaySend};
+ghost use Rattle.noc_cycles.specs.Taking.{FitsLayout, HasCredits, HasInjected, HasTaken, IsPunctual, MaySend, TellsHeads};
 
 use crate::begins::begin_packets;
 use crate::block::{Block, Work};
@@ -45,6 +42,7 @@ pub fn take(
         HasTaken pattern.now layout (starts_by starts.now) cycle b
         (held_at pattern.now.table.ports block.new r) (standing_by all work.new.standing)
         (all work.new.verdicts.no_credit) (has_bit result r)) }
+    ensures heading { TellsHeads pattern.now.table.ports work.new }
     ensures punctual { IsPunctual cycle pattern.now.table.ports block.new }
     ensures block { block.new ≡ record block.old {
       inputs = block.new.inputs;
@@ -58,18 +56,20 @@ pub fn take(
       came = work.new.came;
       returned = work.new.returned;
       standing = work.new.standing;
+      heading = work.new.heading;
       verdicts = record work.old.verdicts { no_credit = work.new.verdicts.no_credit };
     } }
 {
     count_credits(pattern, block, work);
     let injected = inject_flits(pattern, starts, cycle, block, &mut work.came);
-    let _heading = land(
+    let heading = land(
         &pattern.frame,
         &work.came,
         &mut block.inputs,
         &mut work.standing,
         &mut work.verdicts.no_credit,
     );
+    work.heading = heading;
     injected | some_come(pattern, &work.came)
 }
 

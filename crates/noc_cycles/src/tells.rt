@@ -3,18 +3,15 @@
 ghost use Rattle.std.specs.Prelude.{◌≡◌, ◌<◌, ◌≤◌, ◌+◌, ◌*◌, ◌⊎◌, ◌||◌, ◌≢◌, ℕ, Bool, IfOk, Option, Some, vec_capacity, vec_len, nat_eq, true};
 ghost use Rattle.noc_topo.specs.Shape.{Grid, neighbour, nodes, opposite};
 ghost use Rattle.noc_columns.specs.Heads.{packet_in};
-ghost use Rattle.noc_columns.specs.Picks.{channels_of};
-ghost use Rattle.noc_columns.specs.declared.ports.TheConstants.{PORTS};
-ghost use Rattle.noc_columns.specs.declared.sets.TheConstants.{CHANNELS};
-ghost use Rattle.noc_columns.specs.declared.words.TheConstants.{ROUTERS};
+ghost use Rattle.noc_columns.specs.Prelude.{channels_of};
 ghost use Rattle.noc_cycles.specs.Gathered.{IsWired};
 ghost use Rattle.noc_cycles.specs.Told.{AreNotes, AreTold, HaveRoom, IsNotedOver, NotesSome, noted, port_in, told_by, vc_in};
 
 use crate::around::{Around, NOWHERE};
 use crate::block::Block;
+use crate::copies::used_words;
 use crate::notes::Note;
 use crate::pattern::Pattern;
-use crate::words::used_words;
 use noc_columns::{CHANNELS, PORTS, ROUTERS, but_lowest, least};
 use noc_packet::Memory;
 use std::alloc::Global;
@@ -153,12 +150,11 @@ fn note(notes: &mut Vec<Note>, router: u16, channel: usize, packet: u32)
     ensures more { vec_len notes.new ≡ vec_len notes.old + 1 }
     ensures room { vec_capacity notes.old ≤ vec_capacity notes.new }
 {
-    let one = Note {
+    notes.push_reserved(Note {
         router,
         channel: channel as u8,
         packet,
-    };
-    let _ = notes.push(one);
+    });
 }
 
 // The port at the other end of a link.

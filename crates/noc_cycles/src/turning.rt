@@ -1,6 +1,6 @@
 //! What the parts of a cycle are of one router. Nothing here runs.
 
-ghost use Rattle.std.specs.Prelude.{◌≡◌, ℕ, Bool, List};
+ghost use Rattle.std.specs.Prelude.{ℕ, Bool, List};
 ghost use Rattle.noc_sets.specs.Cycle.{Router, still_of};
 ghost use Rattle.noc_sets.specs.Layout.{Layout};
 ghost use Rattle.noc_sets.specs.Source.{Start};

@@ -35,7 +35,7 @@ use Rattle.noc_engine.specs.Tiles.{AreNear, HasRunBlock, HasRunTile, HasStepped,
 use Rattle.noc_engine.specs.declared.plan.Plan.{Plan}
 use Rattle.noc_engine.specs.declared.tile.Tile.{Tile}
 use Rattle.noc_engine.proofs.ListLemmas.{place-of, there}
-use Rattle.noc_engine.proofs.WholeLemmas.{block-is, is-block, is-router, own-fewer}
+use Rattle.noc_engine.proofs.WholeLemmas.{block-is, is-block, is-router, own-fewer, plan-fits}
 
 module _ (net : Setup) (plan : Plan) (n : ℕ) (from : ℕ → Bool) (words : ℕ → Router) (turns : ℕ → Turn) (was is : Tile) (run : HasRunTile net plan n from words turns was is) where
   abbrev g : Grid
@@ -89,7 +89,7 @@ module _ (net : Setup) (plan : Plan) (n : ℕ) (from : ℕ → Bool) (words : �
 
       sends-at : (port : ℕ) → 64 * (is.first + b) + r < nodes g → port < ports g
           → Sends net n (64 * (is.first + b) + r) port (turns (64 * (is.first + b) + r)).left (tells_in net layout n (words (64 * (is.first + b) + r)) (turns (64 * (is.first + b) + r)))
-      sends-at = node-sends (bits_of pattern) net layout pattern n (64 * (is.first + b) + r) _ _ (words (64 * (is.first + b) + r)) run.good run.few run.before.plan_is.fits node-was (turns (64 * (is.first + b) + r)) (ran.turn r low)
+      sends-at = node-sends (bits_of pattern) net layout pattern n (64 * (is.first + b) + r) _ _ (words (64 * (is.first + b) + r)) run.good run.few (plan-fits net plan run.good run.before.plan_is) node-was (turns (64 * (is.first + b) + r)) (ran.turn r low)
 
   -- ---- own router s
   module _ (s : ℕ) (k : IsOwn net own s) where
@@ -103,7 +103,7 @@ module _ (net : Setup) (plan : Plan) (n : ℕ) (from : ℕ → Bool) (words : �
     in-block = mod_below s 64 (omega arith)
 
     makes-turn : IsTurn net layout n s (words s) (turns s)
-    makes-turn = node-turn (bits_of pattern) net layout pattern n s (words s) (turns s) run.before.plan_is.fits
+    makes-turn = node-turn (bits_of pattern) net layout pattern n s (words s) (turns s) (plan-fits net plan run.good run.before.plan_is)
         (subst (λ t. IsNodeTurn net pattern layout n t (words t) (turns t)) whole ((ran (s / 64 - is.first) block-in).turn (s % 64) in-block))
 
     own-sends : (port : ℕ) → port < ports g → Sends net n s port (turns s).left (tells_in net layout n (words s) (turns s))
@@ -230,7 +230,7 @@ module _ (net : Setup) (plan : Plan) (n : ℕ) (from : ℕ → Bool) (words : �
       }
 
       own-shown : ShowsOwn (bits_of pattern) net own (n + 1) (words_in next now)
-      own-shown = subst (λ m. ShowsOwn (bits_of pattern) net own m (words_in next now)) (sym (add-one n)) (own-next net run.good layout run.before.plan_is.fits.layout_is own n (words_in words was) turns left tells (words_in next now) run.few before-own runs)
+      own-shown = subst (λ m. ShowsOwn (bits_of pattern) net own m (words_in next now)) (sym (add-one n)) (own-next net run.good layout (plan-fits net plan run.good run.before.plan_is).layout_is own n (words_in words was) turns left tells (words_in next now) run.few before-own runs)
 
       -- ---- block by block
       module _ (b : ℕ) (block : Block) (work : Work) (counts : Counts) (at : slice_get is.blocks.items b ≡ Some block) (doing : slice_get works.items b ≡ Some work) (on : slice_get is.counts.items b ≡ Some counts) where
@@ -260,7 +260,7 @@ module _ (net : Setup) (plan : Plan) (n : ℕ) (from : ℕ → Bool) (words : �
           node-then = record {
             held = held;
             shows = λ l. own-shown.routers s (l, is-router is b r inside low);
-            blank = λ u. node-blank (bits_of pattern) net layout pattern n s _ _ (words s) run.good run.few run.before.plan_is.fits (node-was b inside r low) (turns s) (has.turn r low) u (next s)
+            blank = λ u. node-blank (bits_of pattern) net layout pattern n s _ _ (words s) run.good run.few (plan-fits net plan run.good run.before.plan_is) (node-was b inside r low) (turns s) (has.turn r low) u (next s)
                 (turn-after (turns s) (packets_or (slice_get is.blocks.items (s / 64 - is.first)) (s % 64)) (coming net all is.left.items s))
                 (ap (λ (x : Links ℕ). x.flits) (blank-links u)) (ap (λ (x : Links ℕ). x.credits) (blank-links u));
           }

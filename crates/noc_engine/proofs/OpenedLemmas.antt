@@ -33,12 +33,11 @@ use Rattle.noc_cycles.specs.declared.block.Block.{Block}
 use Rattle.noc_cycles.specs.declared.block.Work.{Work}
 use Rattle.noc_cycles.specs.declared.first.First.{First}
 use Rattle.noc_cycles.specs.declared.pattern.Pattern.{Pattern}
-use Rattle.noc_cycles.proofs.PartLemmas.{all-within}
+use Rattle.noc_cycles.proofs.ConcludingLemmas.{all-within}
 use Rattle.noc_theory_cycles.specs.Firsts.{AreFirsts}
 use Rattle.noc_theory_cycles.specs.Fits.{bits_of}
 use Rattle.noc_theory_cycles.specs.Nodes.{ShowsNode}
 use Rattle.noc_theory_cycles.specs.Steps.{held_in, opened_words}
-use Rattle.noc_theory_cycles.proofs.LayoutLemmas.{fits-network}
 use Rattle.noc_theory_cycles.proofs.OpeningLemmas.{all-open, node-opens}
 use Rattle.noc_engine.specs.Opened.{IsMadeFrom, IsOpenedTile}
 use Rattle.noc_engine.specs.Shows.{IsPlanOf, ShowsAt, ShowsBlock, ShowsTile, arrival_by, has_router, words_in}
@@ -90,7 +89,6 @@ module _ (relation : Routes) (places : ℕ) (packets : List Packet) (plan : Plan
 
     pub plan-is : IsPlanOf net plan
     plan-is = record {
-      fits = fits-network net good plan.pattern pattern-is;
       pattern_is = pattern-is;
       blocks = subst (λ m. m ≤ 64 * length plan.around.items) nodes-are (let m = around.many in omega (arith, counted, m));
       some = λ b l. subst (λ m. 64 * b < m) nodes-are (let m = around.many in omega (arith, counted, m, l));

@@ -18,7 +18,7 @@ use Rattle.noc_cycles.specs.Concluding.{HaveArrived}
 use Rattle.noc_cycles.specs.declared.block.Block.{Block}
 use Rattle.noc_cycles.specs.declared.block.Work.{Work}
 use Rattle.noc_cycles.specs.declared.pattern.Pattern.{Pattern}
-use Rattle.noc_cycles.proofs.PartLemmas.{all-within}
+use Rattle.noc_cycles.proofs.ConcludingLemmas.{all-within}
 use Rattle.noc_engine.specs.Passes.{HasCounted, TellLeaving, arrived_of, arrived_or, packets_of, packets_or}
 use Rattle.noc_engine.proofs.ListLemmas.{block-of, place-of}
 

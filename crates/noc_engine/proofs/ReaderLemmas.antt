@@ -24,7 +24,7 @@ use Rattle.noc_engine.specs.Runs.{AreFindings}
 use Rattle.noc_engine.specs.Shows.{ShowsAt, arrival_by, words_in}
 use Rattle.noc_engine.specs.declared.engine.Engine.{Engine}
 use Rattle.noc_engine.proofs.ListLemmas.{there}
-use Rattle.noc_engine.proofs.WholeLemmas.{in-block, network-shown}
+use Rattle.noc_engine.proofs.WholeLemmas.{in-block, network-shown, plan-fits}
 
 -- ---- a part of a list
 part : (xs ys : List Finding) (first many : ℕ) → length ys ≡ many → first + many ≤ length xs
@@ -64,7 +64,7 @@ found-size net (suc n) r some = length-tabulate (size net) _
 module _ (net : Setup) (n : ℕ) (words : ℕ → Router) (all : Engine) (shows : ShowsAt net n words all) where
   -- how many channels a router has
   pub sizes : size net ≡ (all.plan.pattern.table.ports.links.width + 1) * all.plan.pattern.table.ports.links.vcs
-  sizes = ap₂ (λ p v. p * v) shows.tile.plan_is.fits.ports.count shows.tile.plan_is.fits.ports.vcs
+  sizes = ap₂ (λ p v. p * v) (plan-fits net all.plan shows.good shows.tile.plan_is).ports.count (plan-fits net all.plan shows.good shows.tile.plan_is).ports.vcs
 
   -- what was counted of it is what its word has
   pub counted-word : (r i : ℕ) (c : Counts) → r < nodes net.relation.grid → i < size net → slice_get all.tile.counts.items (r / 64) ≡ Some c
@@ -89,7 +89,7 @@ module _ (net : Setup) (n : ℕ) (words : ℕ → Router) (all : Engine) (shows 
       let same : (links.width + 1) * links.vcs ≡ links.vcs * links.width + links.vcs = omega arith in
       let low = in-block net n words all shows r l in
       let long = shows.tile.lists.counts_are in (
-        subst (λ k. port * k + vc < (links.width + 1) * links.vcs) shows.tile.plan_is.fits.ports.vcs (subst (λ m. port * net.relation.vcs + vc < m) sizes few),
+        subst (λ k. port * k + vc < (links.width + 1) * links.vcs) (plan-fits net all.plan shows.good shows.tile.plan_is).ports.vcs (subst (λ m. port * net.relation.vcs + vc < m) sizes few),
         omega (arith, all_few, frame, same),
         omega (arith, low, long),
       )
@@ -103,7 +103,7 @@ module _ (net : Setup) (n : ℕ) (words : ℕ → Router) (all : Engine) (shows 
       let few : i < size net = flat-below port (ports net.relation.grid) vc net.relation.vcs u v in
       let at : slice_get all.tile.counts.items (r / 64) ≡ Some c =
       slice_get-get_or all.tile.counts.items (r / 64) c (let low = in-block net n words all shows r l in let long = shows.tile.lists.counts_are in omega (arith, low, long)) ∙ ap Some (sym c_is) in
-      is ∙ ap (λ k. ten_counts all.tile.cycle (counts_at (channels_of all.plan.pattern.table.ports) c (r % 64) (port * k + vc))) (sym shows.tile.plan_is.fits.ports.vcs)
+      is ∙ ap (λ k. ten_counts all.tile.cycle (counts_at (channels_of all.plan.pattern.table.ports) c (r % 64) (port * k + vc))) (sym (plan-fits net all.plan shows.good shows.tile.plan_is).ports.vcs)
       ∙ ap (λ (x : ByVerdict). ten_counts all.tile.cycle x) (sym (counted-word r i c l few at))
       ∙ ap (λ m. ten_counts m ((words r).counts i)) shows.tile.cycle
       ∙ counts-read net n (words_in words all.tile) (network-shown net n words all shows) r i l few

@@ -12,7 +12,7 @@ use Rattle.noc_counts.specs.Counts.{counted_in, counts_at, last_at}
 use Rattle.noc_counts.specs.declared.counts.Counts.{Counts}
 use Rattle.noc_cycles.specs.declared.block.Block.{Block}
 use Rattle.noc_cycles.specs.declared.pattern.Pattern.{Pattern}
-use Rattle.noc_cycles.proofs.PartLemmas.{all-within}
+use Rattle.noc_cycles.proofs.ConcludingLemmas.{all-within}
 use Rattle.noc_engine.specs.Runs.{HasRepeated, IsNextDue}
 use Rattle.noc_engine.proofs.ListLemmas.{same-item}
 

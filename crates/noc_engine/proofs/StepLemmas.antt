@@ -26,7 +26,7 @@ use Rattle.noc_engine.specs.declared.engine.Engine.{Engine}
 use Rattle.noc_engine.specs.declared.tile.Tile.{Tile}
 use Rattle.noc_engine.proofs.ListLemmas.{there}
 use Rattle.noc_engine.proofs.ReaderLemmas.{sizes}
-use Rattle.noc_engine.proofs.WholeLemmas.{block-is, is-block, network-shown}
+use Rattle.noc_engine.proofs.WholeLemmas.{block-is, is-block, network-shown, plan-fits}
 
 module _ (net : Setup) (relation : Routes) (n : ℕ) (words : ℕ → Router) (all : Engine) (may : MayStep net relation n words all) where
   pub may-turn : MayRunTile net relation all.plan n words all.tile
@@ -71,7 +71,7 @@ module _ (net : Setup) (relation : Routes) (n : ℕ) (words : ℕ → Router) (a
         let whole : 64 * (turned.first + s / 64) + s % 64 ≡ s = omega (arith, first-is) in
         let node : IsNodeTurn net all.plan.pattern (layout_of all.plan.pattern) n s (words s) (turns s)
         = subst (λ t. IsNodeTurn net all.plan.pattern (layout_of all.plan.pattern) n t (words t) (turns t)) whole ((has.ran.blocks b block counts.0 at counts.1).turn (s % 64) low) in
-        let fits = may.shows.tile.plan_is.fits in
+        let fits = plan-fits net all.plan may.shows.good may.shows.tile.plan_is in
         let turn : IsTurn net (layout_of all.plan.pattern) n s (words s) (turns s) = node-turn (bits_of all.plan.pattern) net (layout_of all.plan.pattern) all.plan.pattern n s (words s) (turns s) fits node in
         sym (has.found b (s % 64) i block work at doing low) ∙ ap (λ t. (turns t).found i) whole
         ∙ (through net may.shows.good n may.few (layout_of all.plan.pattern) fits.layout_is (all_starts net) s l (words s) ((network-shown net n words all may.shows).routers s l) (turns s) turn).found i u

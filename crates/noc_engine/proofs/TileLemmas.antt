@@ -40,19 +40,18 @@ use Rattle.noc_cycles.specs.declared.block.Block.{Block}
 use Rattle.noc_cycles.specs.declared.block.Work.{Work}
 use Rattle.noc_cycles.specs.declared.notes.Note.{Note}
 use Rattle.noc_cycles.specs.declared.pattern.Pattern.{Pattern}
-use Rattle.noc_cycles.proofs.PartLemmas.{links-within}
 use Rattle.noc_theory_cycles.specs.Blank.{DoesNothing}
 use Rattle.noc_theory_cycles.specs.Fits.{bits_of, layout_of}
 use Rattle.noc_theory_cycles.proofs.ArriveLemmas.{arrived-network}
 use Rattle.noc_theory_cycles.proofs.NodeLemmas.{node-nothing, node-sends}
-use Rattle.noc_engine.specs.Passes.{AreAllNotes, HasCounted, HaveLeft, HaveTurned, MayTurnAll, TellAll, TellLeaving, arrived_of, arrived_or, packets_of, packets_or}
+use Rattle.noc_engine.specs.Passes.{AreAllNotes, HasCounted, HaveTurned, MayTurnAll, TellAll, TellLeaving, arrived_of, arrived_or, packets_of, packets_or}
 use Rattle.noc_engine.specs.Shows.{HasLists, IsPlanOf, ShowsBlock, ShowsTile, arrival_by, has_router}
 use Rattle.noc_engine.specs.Tiles.{AreNotesBy, AreNotesOf, HasRunBlock, HasTurnedTile, MayRunTile, granted_in, left_at, left_of}
 use Rattle.noc_engine.specs.Turns.{HasTurnedBlock, MayTurn}
 use Rattle.noc_engine.specs.declared.plan.Plan.{Plan}
 use Rattle.noc_engine.specs.declared.tile.Tile.{Tile}
 use Rattle.noc_engine.proofs.ListLemmas.{block-of, place-of, there}
-use Rattle.noc_engine.proofs.WholeLemmas.{block-is, is-block}
+use Rattle.noc_engine.proofs.WholeLemmas.{block-is, is-block, plan-fits}
 
 -- ---- the routers of a tile
 -- each is a router of one of its blocks
@@ -71,15 +70,6 @@ placed tile s e =
 -- tiles of the same blocks have the same
 pub same-routers : (a b : Tile) (s : ℕ) → a.first ≡ b.first → length a.blocks.items ≡ length b.blocks.items → has_router a s ≡ has_router b s
 same-routers a b s first long = ap₂ (λ f l. nat_le f (s / 64) && nat_lt (s / 64) (f + l)) first long
-
--- what leaves a router is told by the words of its link channels
-left-alike : (pattern : Pattern) (r : ℕ) (a b : Links (List ℕ)) → ((k : ℕ) → k < 4 * pattern.frame.link_groups → links_by (word k) a ≡ links_by (word k) b) → left_at pattern.table.ports a r ≡ left_at pattern.table.ports b r
-left-alike pattern r a b same = λ x. record { flits = of (λ (w : Links ℕ). w.flits) a.flits b.flits (λ k. refl) (λ k. refl) x; tails = of (λ (w : Links ℕ). w.tails) a.tails b.tails (λ k. refl) (λ k. refl) x; credits = of (λ (w : Links ℕ). w.credits) a.credits b.credits (λ k. refl) (λ k. refl) x }
-  where
-    of : (kind : Links ℕ → ℕ) (s t : List ℕ) → ((k : ℕ) → word k s ≡ kind (links_by (word k) a)) → ((k : ℕ) → word k t ≡ kind (links_by (word k) b)) → set_of (links_of pattern.table.ports.links) r s ≡ set_of (links_of pattern.table.ports.links) r t
-    of kind s t of_s of_t =
-        let n = links_of pattern.table.ports.links in
-        below-same n.size _ _ (λ c l. ap (λ w. has_bit w r) (of_s (n.index c) ∙ ap kind (same (n.index c) (links-within pattern c l)) ∙ sym (of_t (n.index c))))
 
 -- the cycle that is to run is the one that a tile counts
 pub at-cycle : (net : Setup) (relation : Routes) (plan : Plan) (n : ℕ) (words : ℕ → Router) (tile : Tile) → MayRunTile net relation plan n words tile → MayRunTile net relation plan tile.cycle words tile
@@ -152,14 +142,14 @@ module _ (net : Setup) (relation : Routes) (plan : Plan) (n : ℕ) (words : ℕ 
       subst (λ (xs : List Block). MayTurnAll net relation plan n first words xs works) (sym same_blocks) (subst (MayTurnAll net relation plan n first words was.blocks.items) (sym same_works) may-turn)
 
   -- ---- once the blocks have had their turn
-  module _ (turns : ℕ → Turn) (happened : Bool) (turned : List Block) (worked : List Work) (long : length turned ≡ many) (works_long : length worked ≡ many) (has : HaveTurned net plan n first words turns turned worked happened) where
+  module _ (turns : ℕ → Turn) (happened : Bool) (turned : List Block) (worked : List Work) (sent : List (Links (List ℕ))) (long : length turned ≡ many) (works_long : length worked ≡ many) (has : HaveTurned net plan n first words turns turned worked sent happened) where
     -- block b
     pub record IsTurned (b : ℕ) : Type 0 where
       pub block : Block
       pub work : Work
       pub at : slice_get turned b ≡ Some block
       pub on : slice_get worked b ≡ Some work
-      pub is : HasTurnedBlock net plan n (first + b) words turns block work (some_below 64 (λ r. (turns (64 * (first + b) + r)).happened))
+      pub is : HasTurnedBlock net plan n (first + b) words turns block work (left_by sent (first + b)) (some_below 64 (λ r. (turns (64 * (first + b) + r)).happened))
 
     pub turned-at : (b : ℕ) → b < many → IsTurned b
     turned-at b l =
@@ -183,7 +173,7 @@ module _ (net : Setup) (relation : Routes) (plan : Plan) (n : ℕ) (words : ℕ 
         let one = turned-at b l in
         let block = there was.blocks.items b l in
         let work = there was.works.items b (let same = lists.works_are in omega (arith, l, same)) in
-        node-nothing (bits_of pattern) net layout pattern n (64 * (first + b) + r) _ _ (words (64 * (first + b) + r)) may.good may.few is_plan.fits ((block-shown b block.0 work.0 block.1 work.1).2.routers r m) (turns (64 * (first + b) + r)) (one.is.turn r m) u
+        node-nothing (bits_of pattern) net layout pattern n (64 * (first + b) + r) _ _ (words (64 * (first + b) + r)) may.good may.few (plan-fits net plan may.good is_plan) ((block-shown b block.0 work.0 block.1 work.1).2.routers r m) (turns (64 * (first + b) + r)) (one.is.turn r m) u
 
     router-sends : (b r port : ℕ) → b < many → r < 64 → 64 * (first + b) + r < nodes g → port < ports g
         → Sends net n (64 * (first + b) + r) port (turns (64 * (first + b) + r)).left (tells (64 * (first + b) + r))
@@ -191,7 +181,7 @@ module _ (net : Setup) (relation : Routes) (plan : Plan) (n : ℕ) (words : ℕ 
         let one = turned-at b l in
         let block = there was.blocks.items b l in
         let work = there was.works.items b (let same = lists.works_are in omega (arith, l, same)) in
-        node-sends (bits_of pattern) net layout pattern n (64 * (first + b) + r) _ _ (words (64 * (first + b) + r)) may.good may.few is_plan.fits ((block-shown b block.0 work.0 block.1 work.1).2.routers r m) (turns (64 * (first + b) + r)) (one.is.turn r m) port known low
+        node-sends (bits_of pattern) net layout pattern n (64 * (first + b) + r) _ _ (words (64 * (first + b) + r)) may.good may.few (plan-fits net plan may.good is_plan) ((block-shown b block.0 work.0 block.1 work.1).2.routers r m) (turns (64 * (first + b) + r)) (one.is.turn r m) port known low
 
     -- ---- what leaves the network
     -- the routers from the first one on
@@ -230,7 +220,7 @@ module _ (net : Setup) (relation : Routes) (plan : Plan) (n : ℕ) (words : ℕ 
         (one.is.arrive (s % 64) k (in-block s) (ap (λ (o : Option Work). has_bit (arrived_or all o (s % 64)) k) (sym one.on) ∙ e))
 
     sizes : size net ≡ (all.links.width + 1) * all.links.vcs
-    sizes = ap₂ (λ p v. p * v) is_plan.fits.ports.count is_plan.fits.ports.vcs
+    sizes = ap₂ (λ p v. p * v) (plan-fits net plan may.good is_plan).ports.count (plan-fits net plan may.good is_plan).ports.vcs
 
     channel-of : (s : ℕ) → MembersAreBelow (size net) (arrived_of all worked s)
     channel-of s k e = at (slice_get worked (s / 64)) e
@@ -273,7 +263,7 @@ module _ (net : Setup) (relation : Routes) (plan : Plan) (n : ℕ) (words : ℕ 
 
     -- ---- once that is kept, told and counted
     module _ (is : Tile) (first_is : is.first ≡ first) (cycle_is : is.cycle ≡ n + 1) (blocks_are : is.blocks.items ≡ turned) (works_are : is.works.items ≡ worked)
-        (gone : HaveLeft (4 * pattern.frame.link_groups) first worked is.left.items) (left_long : length is.left.items ≡ length plan.around.items)
+        (left_is : is.left.items ≡ sent) (left_long : length is.left.items ≡ length plan.around.items)
         (noted : AreAllNotes net tells first (length turned) is.notes.items) (room : HaveRoom (length turned) is.notes.items)
         (counted : (b : ℕ) (block : Block) (work : Work) (old new : Counts) → slice_get turned b ≡ Some block → slice_get worked b ≡ Some work → slice_get was.counts.items b ≡ Some old → slice_get is.counts.items b ≡ Some new → HasCounted all block work old new)
         (counts_long : length is.counts.items ≡ many)
@@ -309,7 +299,7 @@ module _ (net : Setup) (relation : Routes) (plan : Plan) (n : ℕ) (words : ℕ 
         abbrev work : Work
         work = a-work.0
 
-        turned-one : HasTurnedBlock net plan n (first + b) words turns block work (some_below 64 (λ r. (turns (64 * (first + b) + r)).happened))
+        turned-one : HasTurnedBlock net plan n (first + b) words turns block work (left_by sent (first + b)) (some_below 64 (λ r. (turns (64 * (first + b) + r)).happened))
         turned-one = has.each b block work at a-work.1
 
         an-old-block : (x : Block) × (slice_get was.blocks.items b ≡ Some x)
@@ -361,7 +351,7 @@ module _ (net : Setup) (relation : Routes) (plan : Plan) (n : ℕ) (words : ℕ 
           let leaves = one.is.leaves r m in
           let sends = router-sends b r port l m known (omega (arith, low)) in
           let inside : (vc : ℕ) → vc < net.relation.vcs → port * net.relation.vcs + vc < links_count pattern = λ vc u. subst (λ k. port * net.relation.vcs + vc < k) link-count (let k = mul-add-lt port net.relation.vcs vc (local_port g) low u in omega (arith, k)) in
-          let words_are : left_of all is.left.items (64 * (first + b) + r) ≡ left_at all one.work.left r = ap₂ (left_at all) (ap (left_by is.left.items) (block-of (first + b) r m)) (place-of (first + b) r m) ∙ left-alike pattern r (left_by is.left.items (first + b)) one.work.left (λ k u. gone b k one.work one.on u) in
+          let words_are : left_of all is.left.items (64 * (first + b) + r) ≡ left_at all (left_by sent (first + b)) r = ap₂ (left_at all) (ap (left_by is.left.items) (block-of (first + b) r m) ∙ ap (λ xs. left_by xs (first + b)) left_is) (place-of (first + b) r m) in
           subst (λ (w : Left). Sends net n (64 * (first + b) + r) port w (granted_to net n (64 * (first + b) + r))) (sym words_are) (record {
             beat = record {
               flits = λ vc u. leaves.flits (port * net.relation.vcs + vc) (inside vc u) ∙ sends.beat.flits vc u;

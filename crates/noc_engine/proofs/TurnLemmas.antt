@@ -64,6 +64,7 @@ use Rattle.noc_theory_cycles.proofs.TellLemmas.{node-tells}
 use Rattle.noc_engine.specs.Finds.{found_at}
 use Rattle.noc_engine.specs.Turns.{HasTurnedBlock, MayTurn}
 use Rattle.noc_engine.specs.declared.plan.Plan.{Plan}
+use Rattle.noc_engine.proofs.WholeLemmas.{plan-fits}
 
 -- ---- in which routers something is
 some-bits : (x : ℕ) → x < 2 ^ 64 → not (nat_eq x 0) ≡ some_below 64 (has_bit x)
@@ -123,26 +124,26 @@ findings-follow pattern layout sets s a h n standing decided granted lost arrive
     ∙ (λ x. asked_of (outs_of size vcs granted (sym done.rest x)) (s.marks.set k)))) i
 
 -- this is its turn, of which these words of its block tell
-pub record IsTurned (net : Setup) (pattern : Pattern) (layout : Layout) (n node r : ℕ) (b : Router) (block : Block) (work : Work) (happens : Bool) (t : Turn) : Type 0 where
+pub record IsTurned (net : Setup) (pattern : Pattern) (layout : Layout) (n node r : ℕ) (b : Router) (block : Block) (work : Work) (left : Links (List ℕ)) (happens : Bool) (t : Turn) : Type 0 where
   pub turn : IsNodeTurn net pattern layout n node b t
   pub shows : ShowsTurn pattern (held_at pattern.table.ports block r) t
-  pub leaves : ShowsLeft (links_count pattern) (links_at pattern.table.ports work.left r) t.left
+  pub leaves : ShowsLeft (links_count pattern) (links_at pattern.table.ports left r) t.left
   pub arrived : set_of (channels_of pattern.table.ports) r work.arrived ≡ t.arrived
   pub told : Tells net.relation.grid net.relation.vcs node (set_of (channels_of pattern.table.ports) r block.grants.granted) (port_in pattern.table.ports block r) (vc_in pattern.table.ports block r) (packet_in block.packets r) (tells_in net layout n b t)
   pub counted : (i : ℕ) → t.counts i ≡ with_verdicts (told_at (channels_of pattern.table.ports) block work r) i (b.counts i)
   pub found : (i : ℕ) → t.found i ≡ found_at pattern block work r i
   pub happened : t.happened ≡ happens
 
-module _ (count : ℕ) (net : Setup) (layout : Layout) (pattern : Pattern) (n node r : ℕ) (links : Links ℕ) (h : Held) (b : Router) (b1 b2 b3 : Block) (w1 w2 w3 : Work) (comes : Bool)
+module _ (count : ℕ) (net : Setup) (layout : Layout) (pattern : Pattern) (n node r : ℕ) (links : Links ℕ) (h : Held) (b : Router) (b1 b2 b3 : Block) (w1 w2 w3 : Work) (sent gone : Links (List ℕ)) (comes : Bool)
     (setup : IsGoodSetup net) (few : n < CYCLE_LIMIT) (fits : FitsNetwork count net layout pattern) (fits_layout : FitsLayout pattern layout) (is : ShowsNode count net pattern n node links h b)
     (takes : HasTaken pattern layout (all_starts net) n b (held_at pattern.table.ports b1 r) (standing_at pattern.table.ports w1.standing r) (set_of (channels_of pattern.table.ports) r w1.verdicts.no_credit) comes)
     (decides : HasDecidedHeld pattern layout (sets_by net.relation (map header_of net.packets) node) (still_of layout (all_starts net) n takes.up b) (held_at pattern.table.ports b1 r) (held_at pattern.table.ports b2 r)
-    (standing_at pattern.table.ports w1.standing r) (decided_at pattern.table.ports w2.decided r) (set_of (channels_of pattern.table.ports) r b2.grants.granted) (set_of (channels_of pattern.table.ports) r w2.lost) (links_at pattern.table.ports w2.left r))
-    (concludes : HasConcludedHeld pattern (standing_at pattern.table.ports w2.standing r) (decided_at pattern.table.ports w2.decided r) (set_of (channels_of pattern.table.ports) r b2.grants.granted) (links_at pattern.table.ports w3.left r)
+    (standing_at pattern.table.ports w1.standing r) (decided_at pattern.table.ports w2.decided r) (set_of (channels_of pattern.table.ports) r b2.grants.granted) (set_of (channels_of pattern.table.ports) r w2.lost) (links_at pattern.table.ports sent r))
+    (concludes : HasConcludedHeld pattern (standing_at pattern.table.ports w2.standing r) (decided_at pattern.table.ports w2.decided r) (set_of (channels_of pattern.table.ports) r b2.grants.granted) (links_at pattern.table.ports gone r)
     (set_of (channels_of pattern.table.ports) r w3.arrived) (held_at pattern.table.ports b2 r) (held_at pattern.table.ports b3 r) (verdicts_at pattern.table.ports w2.verdicts r) (verdicts_at pattern.table.ports w3.verdicts r))
-    (deciding_block : b2 ≡ record b1 { grants = b2.grants; marks = b2.marks; switch = b2.switch }) (deciding_work : w2 ≡ record w1 { decided = w2.decided; lost = w2.lost; left = w2.left })
+    (deciding_block : b2 ≡ record b1 { grants = b2.grants; marks = b2.marks; switch = b2.switch }) (deciding_work : w2 ≡ record w1 { decided = w2.decided; lost = w2.lost })
     (concluding_block : b3 ≡ record b2 { inputs = b3.inputs; outputs = b3.outputs; marks = b3.marks })
-    (concluding_work : w3 ≡ record w2 { verdicts = w3.verdicts; left = record w2.left { credits = w3.left.credits }; arrived = w3.arrived; leaving = w3.leaving }) where
+    (concluding_work : w3 ≡ record w2 { verdicts = w3.verdicts; arrived = w3.arrived; leaving = w3.leaving }) (concluding_left : gone ≡ record sent { credits = gone.credits }) where
   abbrev ports : RouterPorts
   ports = pattern.table.ports
 
@@ -187,40 +188,40 @@ module _ (count : ℕ) (net : Setup) (layout : Layout) (pattern : Pattern) (n no
     happened = takes.happened;
   }
 
-  decided : HasDecidedHeld pattern layout sets (still_of layout (all_starts net) n takes.up b) (held_at ports b1 r) (held_at ports b2 r) (standing_at ports w3.standing r) (decided_at ports w3.decided r) (all b3.grants.granted) (all w3.lost) (links_at ports w2.left r)
+  decided : HasDecidedHeld pattern layout sets (still_of layout (all_starts net) n takes.up b) (held_at ports b1 r) (held_at ports b2 r) (standing_at ports w3.standing r) (decided_at ports w3.decided r) (all b3.grants.granted) (all w3.lost) (links_at ports sent r)
   decided = coe 0 1
-      (x. HasDecidedHeld pattern layout sets (still_of layout (all_starts net) n takes.up b) (held_at ports b1 r) (held_at ports b2 r) (standing_at ports (standing-on x) r) (decided_at ports (decided-on x) r) (all (grants-on x).granted) (all (lost-on x)) (links_at ports w2.left r))
+      (x. HasDecidedHeld pattern layout sets (still_of layout (all_starts net) n takes.up b) (held_at ports b1 r) (held_at ports b2 r) (standing_at ports (standing-on x) r) (decided_at ports (decided-on x) r) (all (grants-on x).granted) (all (lost-on x)) (links_at ports sent r))
       decides
 
-  concluded : HasConcludedHeld pattern (standing_at ports w3.standing r) (decided_at ports w3.decided r) (all b3.grants.granted) (links_at ports w3.left r) (all w3.arrived) (held_at ports b2 r) (held_at ports b3 r) (verdicts_at ports w2.verdicts r) (verdicts_at ports w3.verdicts r)
+  concluded : HasConcludedHeld pattern (standing_at ports w3.standing r) (decided_at ports w3.decided r) (all b3.grants.granted) (links_at ports gone r) (all w3.arrived) (held_at ports b2 r) (held_at ports b3 r) (verdicts_at ports w2.verdicts r) (verdicts_at ports w3.verdicts r)
   concluded = coe 0 1
-      (x. HasConcludedHeld pattern (standing_at ports (standing-later x) r) (decided_at ports (decided-on x) r) (all (grants-on x).granted) (links_at ports w3.left r) (all w3.arrived) (held_at ports b2 r) (held_at ports b3 r) (verdicts_at ports w2.verdicts r) (verdicts_at ports w3.verdicts r))
+      (x. HasConcludedHeld pattern (standing_at ports (standing-later x) r) (decided_at ports (decided-on x) r) (all (grants-on x).granted) (links_at ports gone r) (all w3.arrived) (held_at ports b2 r) (held_at ports b3 r) (verdicts_at ports w2.verdicts r) (verdicts_at ports w3.verdicts r))
       concludes
 
   abbrev happens : Bool
   happens = comes || not (nat_eq (bit_or (bit_or (all w3.standing.heads) (all b3.grants.granted)) (all w3.verdicts.moved)) 0)
 
-  abbrev goes : HasGoneThrough pattern layout (all_starts net) sets n b (held_at ports b3 r) (worked_at ports b3 w3 r) happens
+  abbrev goes : HasGoneThrough pattern layout (all_starts net) sets n b (held_at ports b3 r) (worked_at ports b3 w3 gone r) happens
   goes = record {
     still = held_at ports b1 r;
     chosen = held_at ports b2 r;
-    sent = links_at ports w2.left r;
+    sent = links_at ports sent r;
     before = verdicts_at ports w2.verdicts r;
     comes = comes;
     takes = taken;
     decides = decided;
     concludes = concluded;
-    sent_is = ap (λ (w : Work). links_at ports w.left r) concluding_work;
+    sent_is = ap (λ (x : Links (List ℕ)). links_at ports x r) concluding_left;
     happened = refl;
   }
 
   worked : HasWorkedHeld pattern layout (all_starts net) sets n b (still_of layout (all_starts net) n takes.up b) goes.decides.chosen (held_at ports b3 r)
-      (verdict_sets_by (standing_at ports w3.standing r) (verdicts_at ports w3.verdicts r) (all b3.inputs.waiting) (all b3.grants.granted) (all w3.lost)) (links_at ports w3.left r) (all w3.arrived) happens
-  worked = worked-through pattern layout (all_starts net) sets n b (held_at ports b3 r) (worked_at ports b3 w3 r) happens goes fits_layout
+      (verdict_sets_by (standing_at ports w3.standing r) (verdicts_at ports w3.verdicts r) (all b3.inputs.waiting) (all b3.grants.granted) (all w3.lost)) (links_at ports gone r) (all w3.arrived) happens
+  worked = worked-through pattern layout (all_starts net) sets n b (held_at ports b3 r) (worked_at ports b3 w3 gone r) happens goes fits_layout
 
   tells : Tells net.relation.grid pattern.table.ports.links.vcs node (all b3.grants.granted) (held_at ports b2 r).out_port (held_at ports b2 r).out_vc (held_at ports b2 r).packet (tells_in net layout n b worked.turn)
   tells = node-tells count net layout pattern n node links h b setup few fits is (held_at ports b1 r) (standing_at ports w3.standing r) (all w2.verdicts.no_credit) comes taken sets (held_at ports b2 r) (decided_at ports w3.decided r)
-      (all b3.grants.granted) (all w3.lost) (links_at ports w2.left r) decided worked.turn worked.grants
+      (all b3.grants.granted) (all w3.lost) (links_at ports sent r) decided worked.turn worked.grants
 
   -- what is asked of it before it is decided what it does
   may-decide : MayDecide pattern (length net.packets) (nodes net.relation.grid) node (held_at ports b1 r) (standing_at ports w3.standing r)
@@ -239,14 +240,14 @@ module _ (count : ℕ) (net : Setup) (layout : Layout) (pattern : Pattern) (n no
   found i =
       worked.found i
       ∙ sym (findings-follow pattern layout sets (still_of layout (all_starts net) n takes.up b) (held_at ports b1 r) (held_at ports b2 r) (held_at ports b3 r) (standing_at ports w3.standing r) (decided_at ports w3.decided r)
-      (all b3.grants.granted) (all w3.lost) (all w3.arrived) (links_at ports w2.left r) (links_at ports w3.left r) (verdicts_at ports w2.verdicts r) (verdicts_at ports w3.verdicts r) taken.shows decided concluded may-decide.apart
+      (all b3.grants.granted) (all w3.lost) (all w3.arrived) (links_at ports sent r) (links_at ports gone r) (verdicts_at ports w2.verdicts r) (verdicts_at ports w3.verdicts r) taken.shows decided concluded may-decide.apart
       may-decide.waiting may-decide.idle wanted i)
 
-  pub router-turned : (t : Turn) × IsTurned net pattern layout n node r b b3 w3 happens t
+  pub router-turned : (t : Turn) × IsTurned net pattern layout n node r b b3 w3 gone happens t
   router-turned = (
     worked.turn,
     record {
-      turn = inl worked.works;
+      turn = worked.works;
       shows = worked.shows;
       leaves = worked.leaves;
       arrived = worked.arrived_is;
@@ -267,7 +268,7 @@ module _ (count : ℕ) (net : Setup) (layout : Layout) (pattern : Pattern) (n no
   pub router-arrives : (k : ℕ) → has_bit (all w3.arrived) k ≡ true → packet_in b3.packets r k < length net.packets
   router-arrives =
       (node-may-conclude count net layout pattern n node links h b setup few fits is (held_at ports b1 r) (standing_at ports w3.standing r) (all w2.verdicts.no_credit) comes taken sets (held_at ports b2 r) (held_at ports b3 r) (decided_at ports w3.decided r)
-      (all b3.grants.granted) (all w3.lost) (all w3.arrived) (links_at ports w2.left r) (links_at ports w3.left r) (verdicts_at ports w2.verdicts r) (verdicts_at ports w3.verdicts r) decided concluded).packet
+      (all b3.grants.granted) (all w3.lost) (all w3.arrived) (links_at ports sent r) (links_at ports gone r) (verdicts_at ports w2.verdicts r) (verdicts_at ports w3.verdicts r) decided concluded).packet
 
 -- ---- all routers of a block
 -- its sources are as they were
@@ -326,7 +327,7 @@ module _ (net : Setup) (relation : Routes) (plan : Plan) (n b : ℕ) (words : �
     before = may.before;
     earlier = may.known;
     punctual = may.punctual;
-    each = λ r l. subst (λ s. MayInject s n (held_at all_ports b0 r)) (sym starts-are) (node-may-inject (bits_of pattern_is) net layout_is pattern_is n (64 * b + r) (links_at all_ports w0.came r) (held_at all_ports b0 r) (words (64 * b + r)) may.good may.few may.plan_is.fits (node r l));
+    each = λ r l. subst (λ s. MayInject s n (held_at all_ports b0 r)) (sym starts-are) (node-may-inject (bits_of pattern_is) net layout_is pattern_is n (64 * b + r) (links_at all_ports w0.came r) (held_at all_ports b0 r) (words (64 * b + r)) may.good may.few (plan-fits net plan may.good may.plan_is) (node r l));
   }
 
   pub block-first : 64 * b < 256
@@ -336,7 +337,7 @@ module _ (net : Setup) (relation : Routes) (plan : Plan) (n b : ℕ) (words : �
       omega (arith, some, few)
 
   pub block-ports : IsOfPorts all_ports relation
-  block-ports = subst (IsOfPorts all_ports) may.is may.plan_is.fits.ports
+  block-ports = subst (IsOfPorts all_ports) may.is (plan-fits net plan may.good may.plan_is).ports
 
   pub block-headers : AreRoutable relation headers
   block-headers = coe 0 1 (x. AreRoutable (may.is x) (sym headers-are x)) (routable net may.good)
@@ -349,7 +350,7 @@ module _ (net : Setup) (relation : Routes) (plan : Plan) (n b : ℕ) (words : �
         → HasTaken pattern_is layout_is (all_starts net) n (words (64 * b + r)) (held_at all_ports b1 r) (standing_at all_ports w1.standing r) (set_of (channels_of all_ports) r w1.verdicts.no_credit) (has_bit comes r)
     block-taken r l =
         let one = words (64 * b + r) in
-        let may-take = node-may-take (bits_of pattern_is) net layout_is pattern_is n (64 * b + r) (links_at all_ports w0.came r) (held_at all_ports b0 r) one may.good may.few may.plan_is.fits (node r l) in
+        let may-take = node-may-take (bits_of pattern_is) net layout_is pattern_is n (64 * b + r) (links_at all_ports w0.came r) (held_at all_ports b0 r) one may.good may.few (plan-fits net plan may.good may.plan_is) (node r l) in
         subst (λ s. HasTaken pattern_is layout_is s n one (held_at all_ports b1 r) (standing_at all_ports w1.standing r) (set_of (channels_of all_ports) r w1.verdicts.no_credit) (has_bit comes r)) starts-are
         (takes layout_is r one layout-fits l (node r l).held (subst (λ s. MayTake pattern_is s (held_at all_ports b0 r) one) (sym starts-are) may-take))
 
@@ -357,20 +358,20 @@ module _ (net : Setup) (relation : Routes) (plan : Plan) (n b : ℕ) (words : �
     block-may-decide r l =
         let many : length (map header_of net.packets) ≡ length net.packets = length-map net.packets header_of in
         coe 0 1 (x. MayDecide pattern_is ((sym many ∙ ap length (sym headers-are)) x) (nodes (may.is x).grid) (64 * b + r) (held_at all_ports b1 r) (standing_at all_ports w1.standing r))
-        (node-may-decide (bits_of pattern_is) net layout_is pattern_is n (64 * b + r) (links_at all_ports w0.came r) (held_at all_ports b0 r) (words (64 * b + r)) may.good may.few may.plan_is.fits (node r l) (held_at all_ports b1 r)
+        (node-may-decide (bits_of pattern_is) net layout_is pattern_is n (64 * b + r) (links_at all_ports w0.came r) (held_at all_ports b0 r) (words (64 * b + r)) may.good may.few (plan-fits net plan may.good may.plan_is) (node r l) (held_at all_ports b1 r)
         (standing_at all_ports w1.standing r) (set_of (channels_of all_ports) r w1.verdicts.no_credit) (has_bit comes r) (block-taken r l))
 
     -- .. and what is decided, and takes effect
-    module _ (b2 b3 : Block) (w2 w3 : Work) (happened : Bool)
+    module _ (b2 b3 : Block) (w2 w3 : Work) (sent gone : Links (List ℕ)) (happened : Bool)
         (decides : (layout : Layout) (r no_credit : ℕ) (s : Still) → r < 64 → ShowsStill pattern_is (held_at all_ports b1 r) (standing_at all_ports w1.standing r) no_credit s
         → HasDecidedHeld pattern_is layout (sets_by relation headers (64 * b + r)) s (held_at all_ports b1 r) (held_at all_ports b2 r) (standing_at all_ports w1.standing r) (decided_at all_ports w2.decided r) (set_of (channels_of all_ports) r b2.grants.granted)
-        (set_of (channels_of all_ports) r w2.lost) (links_at all_ports w2.left r))
+        (set_of (channels_of all_ports) r w2.lost) (links_at all_ports sent r))
         (concludes : (r : ℕ) → r < 64
-        → HasConcludedHeld pattern_is (standing_at all_ports w2.standing r) (decided_at all_ports w2.decided r) (set_of (channels_of all_ports) r b2.grants.granted) (links_at all_ports w3.left r) (set_of (channels_of all_ports) r w3.arrived)
+        → HasConcludedHeld pattern_is (standing_at all_ports w2.standing r) (decided_at all_ports w2.decided r) (set_of (channels_of all_ports) r b2.grants.granted) (links_at all_ports gone r) (set_of (channels_of all_ports) r w3.arrived)
         (held_at all_ports b2 r) (held_at all_ports b3 r) (verdicts_at all_ports w2.verdicts r) (verdicts_at all_ports w3.verdicts r))
-        (deciding_block : b2 ≡ record b1 { grants = b2.grants; marks = b2.marks; switch = b2.switch }) (deciding_work : w2 ≡ record w1 { decided = w2.decided; lost = w2.lost; left = w2.left })
+        (deciding_block : b2 ≡ record b1 { grants = b2.grants; marks = b2.marks; switch = b2.switch }) (deciding_work : w2 ≡ record w1 { decided = w2.decided; lost = w2.lost })
         (concluding_block : b3 ≡ record b2 { inputs = b3.inputs; outputs = b3.outputs; marks = b3.marks })
-        (concluding_work : w3 ≡ record w2 { verdicts = w3.verdicts; left = record w2.left { credits = w3.left.credits }; arrived = w3.arrived; leaving = w3.leaving }) (punctual : IsPunctual n all_ports b1)
+        (concluding_work : w3 ≡ record w2 { verdicts = w3.verdicts; arrived = w3.arrived; leaving = w3.leaving }) (concluding_left : gone ≡ record sent { credits = gone.credits }) (punctual : IsPunctual n all_ports b1)
         (leaving : w3.leaving ≡ 0 → (r : ℕ) → set_of (channels_of all_ports) r w3.arrived ≡ 0)
         (something : happened
         ≡ some_below 64
@@ -378,10 +379,10 @@ module _ (net : Setup) (relation : Routes) (plan : Plan) (n b : ℕ) (words : �
         (bit_or (bit_or (set_of (channels_of all_ports) r w3.standing.heads) (set_of (channels_of all_ports) r b3.grants.granted)) (set_of (channels_of all_ports) r w3.verdicts.moved)) 0))) where
       decided-by-all : (r : ℕ) (l : r < 64)
           → HasDecidedHeld pattern_is layout_is (sets_by net.relation (map header_of net.packets) (64 * b + r)) (still_of layout_is (all_starts net) n (block-taken r l).up (words (64 * b + r))) (held_at all_ports b1 r) (held_at all_ports b2 r)
-          (standing_at all_ports w1.standing r) (decided_at all_ports w2.decided r) (set_of (channels_of all_ports) r b2.grants.granted) (set_of (channels_of all_ports) r w2.lost) (links_at all_ports w2.left r)
+          (standing_at all_ports w1.standing r) (decided_at all_ports w2.decided r) (set_of (channels_of all_ports) r b2.grants.granted) (set_of (channels_of all_ports) r w2.lost) (links_at all_ports sent r)
       decided-by-all r l = coe 0 1
           (x. HasDecidedHeld pattern_is layout_is (sets_by (sym may.is x) (headers-are x) (64 * b + r)) (still_of layout_is (all_starts net) n (block-taken r l).up (words (64 * b + r))) (held_at all_ports b1 r) (held_at all_ports b2 r)
-          (standing_at all_ports w1.standing r) (decided_at all_ports w2.decided r) (set_of (channels_of all_ports) r b2.grants.granted) (set_of (channels_of all_ports) r w2.lost) (links_at all_ports w2.left r))
+          (standing_at all_ports w1.standing r) (decided_at all_ports w2.decided r) (set_of (channels_of all_ports) r b2.grants.granted) (set_of (channels_of all_ports) r w2.lost) (links_at all_ports sent r))
           (decides layout_is r (set_of (channels_of all_ports) r w1.verdicts.no_credit) (still_of layout_is (all_starts net) n (block-taken r l).up (words (64 * b + r))) l (block-taken r l).shows)
 
       abbrev happening : ℕ → Bool
@@ -389,30 +390,30 @@ module _ (net : Setup) (relation : Routes) (plan : Plan) (n b : ℕ) (words : �
           || not (nat_eq (bit_or (bit_or (set_of (channels_of all_ports) r w3.standing.heads) (set_of (channels_of all_ports) r b3.grants.granted)) (set_of (channels_of all_ports) r w3.verdicts.moved)) 0)
 
       abbrev Turned : ℕ → Turn → Type 0
-      Turned r t = IsTurned net pattern_is layout_is n (64 * b + r) r (words (64 * b + r)) b3 w3 (happening r) t
+      Turned r t = IsTurned net pattern_is layout_is n (64 * b + r) r (words (64 * b + r)) b3 w3 gone (happening r) t
 
       turned : (r : ℕ) (l : r < 64) → (t : Turn) × Turned r t
-      turned r l = router-turned (bits_of pattern_is) net layout_is pattern_is n (64 * b + r) r (links_at all_ports w0.came r) (held_at all_ports b0 r) (words (64 * b + r)) b1 b2 b3 w1 w2 w3 (has_bit comes r) may.good may.few may.plan_is.fits layout-fits (node r l)
-          (block-taken r l) (decided-by-all r l) (concludes r l) deciding_block deciding_work concluding_block concluding_work
+      turned r l = router-turned (bits_of pattern_is) net layout_is pattern_is n (64 * b + r) r (links_at all_ports w0.came r) (held_at all_ports b0 r) (words (64 * b + r)) b1 b2 b3 w1 w2 w3 sent gone (has_bit comes r) may.good may.few (plan-fits net plan may.good may.plan_is) layout-fits (node r l)
+          (block-taken r l) (decided-by-all r l) (concludes r l) deciding_block deciding_work concluding_block concluding_work concluding_left
 
       chosen : (turns : ℕ → Turn) × ((r : ℕ) → r < 64 → Turned r (turns (64 * b + r)))
       chosen = turns-of b Turned turned
 
-      pub turned-block : (turns : ℕ → Turn) × HasTurnedBlock net plan n b words turns b3 w3 happened
+      pub turned-block : (turns : ℕ → Turn) × HasTurnedBlock net plan n b words turns b3 w3 gone happened
       turned-block = (
         chosen.0,
         record {
           turn = λ r l. (chosen.1 r l).turn;
           shows = λ r l. (chosen.1 r l).shows;
           packets = λ r l.
-              router-packets (bits_of pattern_is) net layout_is pattern_is n (64 * b + r) r (links_at all_ports w0.came r) (held_at all_ports b0 r) (words (64 * b + r)) b1 b2 b3 w1 w2 w3 (has_bit comes r) may.good may.few may.plan_is.fits layout-fits (node r l)
-              (block-taken r l) (decided-by-all r l) (concludes r l) deciding_block deciding_work concluding_block concluding_work;
+              router-packets (bits_of pattern_is) net layout_is pattern_is n (64 * b + r) r (links_at all_ports w0.came r) (held_at all_ports b0 r) (words (64 * b + r)) b1 b2 b3 w1 w2 w3 sent gone (has_bit comes r) may.good may.few (plan-fits net plan may.good may.plan_is) layout-fits (node r l)
+              (block-taken r l) (decided-by-all r l) (concludes r l) deciding_block deciding_work concluding_block concluding_work concluding_left;
           leaves = λ r l. (chosen.1 r l).leaves;
           arrived = λ r l. (chosen.1 r l).arrived;
           leaving = leaving;
           arrive = λ r k l e.
-              router-arrives (bits_of pattern_is) net layout_is pattern_is n (64 * b + r) r (links_at all_ports w0.came r) (held_at all_ports b0 r) (words (64 * b + r)) b1 b2 b3 w1 w2 w3 (has_bit comes r) may.good may.few may.plan_is.fits layout-fits (node r l)
-              (block-taken r l) (decided-by-all r l) (concludes r l) deciding_block deciding_work concluding_block concluding_work k e;
+              router-arrives (bits_of pattern_is) net layout_is pattern_is n (64 * b + r) r (links_at all_ports w0.came r) (held_at all_ports b0 r) (words (64 * b + r)) b1 b2 b3 w1 w2 w3 sent gone (has_bit comes r) may.good may.few (plan-fits net plan may.good may.plan_is) layout-fits (node r l)
+              (block-taken r l) (decided-by-all r l) (concludes r l) deciding_block deciding_work concluding_block concluding_work concluding_left k e;
           told = λ r l. (chosen.1 r l).told;
           counted = λ r i l m. (chosen.1 r l).counted i;
           found = λ r i l. (chosen.1 r l).found i;

@@ -1,5 +1,5 @@
 -- The turns of all blocks, one block after the other.
-use Rattle.std.proofs.Common.{◌≡◌, ◌≢◌, ℕ, ◌+◌, ◌*◌, ◌/◌, ◌<◌, Bool, false, List, Some, None, length, set as write, ap, ap₂, sym, ◌∙◌, subst, refl, arith, inl, inr}
+use Rattle.std.proofs.Common.{◌≡◌, ◌≢◌, ℕ, ◌+◌, ◌*◌, ◌/◌, ◌<◌, Bool, false, List, [], Some, None, length, get_or-set_other, get_or-set_same, set as write, ap, ap₂, sym, ◌∙◌, subst, refl, arith, inl, inr}
 use Rattle.std.specs.Prelude.{◌⊎◌, ◌||◌, slice_get, nat_eq, if◌then◌else◌}
 use Rattle.std.proofs.lemmas.Bool.{cases_eq, eq-eqb, ne_eqb}
 use Rattle.noc_view.specs.Found.{empty_finding}
@@ -12,8 +12,9 @@ use Rattle.noc_theory_bits.specs.Network.{tells_in}
 use Rattle.noc_columns.specs.Heads.{packet_in}
 use Rattle.noc_columns.specs.Picks.{channels_of}
 use Rattle.noc_columns.specs.Words.{set_of}
+use Rattle.noc_columns.specs.declared.channels.Links.{Links}
 use Rattle.noc_counts.specs.Told.{told_at}
-use Rattle.noc_cycles.specs.Gathered.{ShowsLeft}
+use Rattle.noc_cycles.specs.Gathered.{ShowsLeft, left_by}
 use Rattle.noc_cycles.specs.Held.{held_at, links_at}
 use Rattle.noc_cycles.specs.Taking.{links_count}
 use Rattle.noc_cycles.specs.Told.{Tells, port_in, vc_in}
@@ -43,21 +44,21 @@ idle_turns words s = record {
 }
 
 -- the blocks from `first` on have had their turn, so many of them
-pub record HaveTurnedBelow (net : Setup) (plan : Plan) (n first number : ℕ) (words : ℕ → Router) (turns : ℕ → Turn) (blocks : List Block) (works : List Work) (happened : Bool) : Type 0 where
+pub record HaveTurnedBelow (net : Setup) (plan : Plan) (n first number : ℕ) (words : ℕ → Router) (turns : ℕ → Turn) (blocks : List Block) (works : List Work) (lefts : List (Links (List ℕ))) (happened : Bool) : Type 0 where
   pub each : (b : ℕ) (block : Block) (work : Work) → b < number → slice_get blocks b ≡ Some block → slice_get works b ≡ Some work
-      → HasTurnedBlock net plan n (first + b) words turns block work (some_below 64 (λ r. (turns (64 * (first + b) + r)).happened))
+      → HasTurnedBlock net plan n (first + b) words turns block work (left_by lefts (first + b)) (some_below 64 (λ r. (turns (64 * (first + b) + r)).happened))
   pub happened_is : happened ≡ some_below (64 * number) (λ s. (turns (64 * first + s)).happened)
 
 -- a block that has had its turn has it by all turns that are those of its routers
-pub turned-same : (net : Setup) (plan : Plan) (n b : ℕ) (words : ℕ → Router) (t u : ℕ → Turn) (block : Block) (work : Work) (happened : Bool)
-    → ((r : ℕ) → r < 64 → t (64 * b + r) ≡ u (64 * b + r)) → HasTurnedBlock net plan n b words t block work happened → HasTurnedBlock net plan n b words u block work (some_below 64 (λ r. (u (64 * b + r)).happened))
-turned-same net plan n b words t u block work happened same has =
+pub turned-same : (net : Setup) (plan : Plan) (n b : ℕ) (words : ℕ → Router) (t u : ℕ → Turn) (block : Block) (work : Work) (left : Links (List ℕ)) (happened : Bool)
+    → ((r : ℕ) → r < 64 → t (64 * b + r) ≡ u (64 * b + r)) → HasTurnedBlock net plan n b words t block work left happened → HasTurnedBlock net plan n b words u block work left (some_below 64 (λ r. (u (64 * b + r)).happened))
+turned-same net plan n b words t u block work left happened same has =
     let ports = plan.pattern.table.ports in
     record {
       turn = λ r l. subst (IsNodeTurn net plan.pattern (layout_of plan.pattern) n (64 * b + r) (words (64 * b + r))) (same r l) (has.turn r l);
       shows = λ r l. subst (ShowsTurn plan.pattern (held_at ports block r)) (same r l) (has.shows r l);
       packets = has.packets;
-      leaves = λ r l. subst (λ (x : Turn). ShowsLeft (links_count plan.pattern) (links_at ports work.left r) x.left) (same r l) (has.leaves r l);
+      leaves = λ r l. subst (λ (x : Turn). ShowsLeft (links_count plan.pattern) (links_at ports left r) x.left) (same r l) (has.leaves r l);
       arrived = λ r l. subst (λ (x : Turn). set_of (channels_of ports) r work.arrived ≡ x.arrived) (same r l) (has.arrived r l);
       leaving = has.leaving;
       arrive = has.arrive;
@@ -81,29 +82,40 @@ own-turns b r t u l = let e : (64 * b + r) / 64 ≡ b = omega (arith, l) in sym 
 pub other-turns : (b s : ℕ) (t u : ℕ → Turn) → s / 64 ≢ b → t s ≡ with_turns b t u s
 other-turns b s t u other = sym (ap (λ x. if x then u s else t s) (ne_eqb (s / 64) b other))
 
-module _ (net : Setup) (plan : Plan) (n first number : ℕ) (words : ℕ → Router) (t u : ℕ → Turn) (blocks : List Block) (works : List Work) (happened : Bool) (block : Block) (work : Work) (here : Bool)
-    (l : number < length blocks) (m : number < length works) (before : HaveTurnedBelow net plan n first number words t blocks works happened) (has : HasTurnedBlock net plan n (first + number) words u block work here) where
+module _ (net : Setup) (plan : Plan) (n first number : ℕ) (words : ℕ → Router) (t u : ℕ → Turn) (blocks : List Block) (works : List Work) (lefts : List (Links (List ℕ))) (happened : Bool) (block : Block) (work : Work) (left : Links (List ℕ)) (here : Bool)
+    (l : number < length blocks) (m : number < length works) (o : first + number < length lefts) (before : HaveTurnedBelow net plan n first number words t blocks works lefts happened) (has : HasTurnedBlock net plan n (first + number) words u block work left here) where
   abbrev later : ℕ → Turn
   later = with_turns (first + number) t u
 
+  abbrev left-later : List (Links (List ℕ))
+  left-later = write lefts (first + number) left
+
+  left-here : left_by left-later (first + number) ≡ left
+  left-here = get_or-set_same lefts (first + number) left (record { flits = []; tails = []; credits = [] }) o
+
+  left-other : (b : ℕ) → b ≢ first + number → left_by left-later b ≡ left_by lefts b
+  left-other b other = get_or-set_other lefts (first + number) b left (record { flits = []; tails = []; credits = [] }) other
+
   each : (b : ℕ) (x : Block) (y : Work) → b < number + 1 → slice_get (write blocks number block) b ≡ Some x → slice_get (write works number work) b ≡ Some y → (b ≡ number) ⊎ (b ≢ number)
-      → HasTurnedBlock net plan n (first + b) words later x y (some_below 64 (λ r. (later (64 * (first + b) + r)).happened))
+      → HasTurnedBlock net plan n (first + b) words later x y (left_by left-later (first + b)) (some_below 64 (λ r. (later (64 * (first + b) + r)).happened))
   each b x y k is-block is-work (inl same) =
-      subst (λ (c : ℕ). HasTurnedBlock net plan n (first + c) words later x y (some_below 64 (λ r. (later (64 * (first + c) + r)).happened))) (sym same)
-      (subst (λ (p : Block). HasTurnedBlock net plan n (first + number) words later p y (some_below 64 (λ r. (later (64 * (first + number) + r)).happened)))
+      subst (λ (c : ℕ). HasTurnedBlock net plan n (first + c) words later x y (left_by left-later (first + c)) (some_below 64 (λ r. (later (64 * (first + c) + r)).happened))) (sym same)
+      (subst (λ (p : Block). HasTurnedBlock net plan n (first + number) words later p y (left_by left-later (first + number)) (some_below 64 (λ r. (later (64 * (first + number) + r)).happened)))
       (same-item block x _ (written blocks number block l) (subst (λ (c : ℕ). slice_get (write blocks number block) c ≡ Some x) same is-block))
-      (subst (λ (q : Work). HasTurnedBlock net plan n (first + number) words later block q (some_below 64 (λ r. (later (64 * (first + number) + r)).happened)))
+      (subst (λ (q : Work). HasTurnedBlock net plan n (first + number) words later block q (left_by left-later (first + number)) (some_below 64 (λ r. (later (64 * (first + number) + r)).happened)))
       (same-item work y _ (written works number work m) (subst (λ (c : ℕ). slice_get (write works number work) c ≡ Some y) same is-work))
-      (turned-same net plan n (first + number) words u later block work here (λ r low. own-turns (first + number) r t u low) has)))
+      (subst (λ (w : Links (List ℕ)). HasTurnedBlock net plan n (first + number) words later block work w (some_below 64 (λ r. (later (64 * (first + number) + r)).happened))) (sym left-here)
+      (turned-same net plan n (first + number) words u later block work left here (λ r low. own-turns (first + number) r t u low) has))))
   each b x y k is-block is-work (inr other) =
-      turned-same net plan n (first + b) words t later x y _ (λ r low. other-turns (first + number) (64 * (first + b) + r) t u (λ e. other (omega (arith, e, low))))
-      (before.each b x y (omega (arith, k, other)) (sym (others blocks number b block other) ∙ is-block) (sym (others works number b work other) ∙ is-work))
+      subst (λ (w : Links (List ℕ)). HasTurnedBlock net plan n (first + b) words later x y w (some_below 64 (λ r. (later (64 * (first + b) + r)).happened))) (sym (left-other (first + b) (λ e. other (omega (arith, e)))))
+      (turned-same net plan n (first + b) words t later x y (left_by lefts (first + b)) _ (λ r low. other-turns (first + number) (64 * (first + b) + r) t u (λ e. other (omega (arith, e, low))))
+      (before.each b x y (omega (arith, k, other)) (sym (others blocks number b block other) ∙ is-block) (sym (others works number b work other) ∙ is-work)))
 
   -- the routers of the block are the next ones
   next-place : (r : ℕ) → 64 * (first + number) + r ≡ 64 * first + (64 * number + r)
   next-place r = omega arith
 
-  pub turned-next : HaveTurnedBelow net plan n first (number + 1) words later (write blocks number block) (write works number work) (happened || here)
+  pub turned-next : HaveTurnedBelow net plan n first (number + 1) words later (write blocks number block) (write works number work) left-later (happened || here)
   turned-next = record {
     each = λ b x y k is-block is-work. each b x y k is-block is-work (cases_eq b number);
     happened_is =

@@ -4,15 +4,21 @@ use Rattle.std.specs.Prelude.{nat_le, nat_lt}
 use Rattle.std.proofs.lemmas.Bool.{and_from, and_parts, le-leb, leb-true, lt-ltb, ltb-true}
 use Rattle.noc_topo.specs.Shape.{nodes}
 use Rattle.noc_sets.specs.Cycle.{Router}
+use Rattle.noc_theory.specs.Good.{IsGoodSetup}
 use Rattle.noc_theory.specs.Network.{Setup, packet_at}
 use Rattle.noc_theory_bits.specs.Network.{ShowsNetwork, ShowsOwn, Words}
 use Rattle.noc_theory_bits.proofs.bits.NetworkLemmas.{own-network}
-use Rattle.noc_theory_cycles.specs.Fits.{bits_of}
-use Rattle.noc_engine.specs.Shows.{ShowsAt, ShowsTile, has_block, has_router, words_in}
+use Rattle.noc_theory_cycles.specs.Fits.{FitsNetwork, bits_of, layout_of}
+use Rattle.noc_theory_cycles.proofs.LayoutLemmas.{fits-network}
+use Rattle.noc_engine.specs.Shows.{IsPlanOf, ShowsAt, ShowsTile, has_block, has_router, words_in}
 use Rattle.noc_engine.specs.Steps.{HasStepped}
 use Rattle.noc_engine.specs.declared.engine.Engine.{Engine}
 use Rattle.noc_engine.specs.declared.plan.Plan.{Plan}
 use Rattle.noc_engine.specs.declared.tile.Tile.{Tile}
+
+-- ---- what stays as it is
+pub plan-fits : (net : Setup) (plan : Plan) → IsGoodSetup net → IsPlanOf net plan → FitsNetwork (bits_of plan.pattern) net (layout_of plan.pattern) plan.pattern
+plan-fits net plan good is = fits-network net good plan.pattern is.pattern_is
 
 -- ---- the blocks of a tile
 pub block-is : (tile : Tile) (b : ℕ) → has_block tile b ≡ true → (tile.first ≤ b) × (b < tile.first + length tile.blocks.items)

@@ -1,5 +1,5 @@
 -- The turn of a block of a network in a cycle.
-use Rattle.std.specs.Prelude.{◌≡◌, ℕ, ◌+◌, ◌*◌, ◌<◌, ◌≤◌, Bool, true, length}
+use Rattle.std.specs.Prelude.{◌≡◌, ℕ, ◌+◌, ◌*◌, ◌<◌, ◌≤◌, Bool, List, true, length}
 use Rattle.noc_packet.specs.Set.{has_bit}
 use Rattle.noc_route.specs.Routes.{Routes}
 use Rattle.noc_sets.specs.Counts.{with_verdicts}
@@ -11,6 +11,7 @@ use Rattle.noc_theory.specs.declared.limits.TheConstants.{CYCLE_LIMIT}
 use Rattle.noc_theory_bits.specs.Network.{numbers_in, tells_in}
 use Rattle.noc_columns.specs.Picks.{channels_of}
 use Rattle.noc_columns.specs.Words.{set_of}
+use Rattle.noc_columns.specs.declared.channels.Links.{Links}
 use Rattle.noc_columns.specs.declared.words.TheConstants.{ROUTERS}
 use Rattle.noc_counts.specs.Told.{told_at}
 use Rattle.noc_cycles.specs.Gathered.{ShowsLeft}
@@ -46,7 +47,8 @@ pub record MayTurn (net : Setup) (relation : Routes) (plan : Plan) (n b : ℕ) (
 -- it has had it: each of its routers makes one of these turns, and this is what it holds then, and
 -- has worked out
 pub record HasTurnedBlock (net : Setup) (plan : Plan) (n b : ℕ) (words : ℕ → Router)
-    (turns : ℕ → Turn) (block : Block) (work : Work) (happened : Bool) : Type 0 where
+    (turns : ℕ → Turn) (block : Block) (work : Work) (left : Links (List ℕ)) (happened : Bool)
+    : Type 0 where
   pub turn : (r : ℕ) → r < ROUTERS
       → IsNodeTurn net plan.pattern (layout_of plan.pattern) n (ROUTERS * b + r)
       (words (ROUTERS * b + r)) (turns (ROUTERS * b + r))
@@ -57,7 +59,7 @@ pub record HasTurnedBlock (net : Setup) (plan : Plan) (n b : ℕ) (words : ℕ �
       → packet_in block.packets r
       ≡ numbers_in net (layout_of plan.pattern) n (words (ROUTERS * b + r))
   pub leaves : (r : ℕ) → r < ROUTERS
-      → ShowsLeft (links_count plan.pattern) (links_at plan.pattern.table.ports work.left r)
+      → ShowsLeft (links_count plan.pattern) (links_at plan.pattern.table.ports left r)
       (turns (ROUTERS * b + r)).left
   pub arrived : (r : ℕ) → r < ROUTERS
       → set_of (channels_of plan.pattern.table.ports) r work.arrived

@@ -17,37 +17,41 @@ ghost use Rattle.noc_cycles.specs.Told.{HaveRoom};
 ghost use Rattle.noc_cycles.specs.declared.block.Block.{Block};
 ghost use Rattle.noc_cycles.specs.declared.block.Work.{Work};
 ghost use Rattle.noc_cycles.specs.declared.pattern.Pattern.{Pattern};
-ghost use Rattle.noc_engine.specs.Passes.{AreAllNotes, HasCounted, HaveGathered, HaveLeft, HaveTurned, MayTurnAll, TellAll, TellLeaving, arrived_of, packets_of};
+ghost use Rattle.noc_engine.specs.Passes.{AreAllNotes, HasCounted, HaveGathered, HaveTurned, MayTurnAll, TellAll, TellLeaving, arrived_of, packets_of};
 ghost use Rattle.noc_engine.specs.Shows.{IsPlanOf};
 
 use crate::plan::Plan;
-use crate::turn::turn;
+use crate::turn::{Cycle, turn};
 use noc_columns::{CHANNELS, Links, ROUTERS, WORDS, Words};
 use noc_counts::Counts;
 use noc_cycles::{Block, Note, Pattern, Work, arrive_all, gather_links, tell};
-use noc_route::Relation;
 
-// Each block has its turn. The answer is whether something happens in one.
+// Each block has its turn, and it is written what leaves it. The answer is whether something
+// happens in one.
 pub(crate) fn turn_all(
-    plan: &Plan,
-    relation: &Relation,
-    cycle: u32,
+    cycle: &Cycle<'_>,
     first: usize,
     blocks: &mut [Block],
     works: &mut [Work],
+    left: &mut [Links<Words>],
 ) -> bool
-    requires { (net : Setup) × (words : ℕ → Router)
-        × MayTurnAll net relation.now plan.now cycle first words blocks.old works.old }
+    requires may { (net : Setup) × (words : ℕ → Router)
+        × MayTurnAll net cycle.now.relation.now cycle.now.plan.now cycle.now.number first words
+        blocks.old works.old }
+    requires left { first + length blocks.old ≤ length left.old }
     ensures { (net : Setup) (words : ℕ → Router)
-        → MayTurnAll net relation.now plan.now cycle first words blocks.old works.old
+        → MayTurnAll net cycle.now.relation.now cycle.now.plan.now cycle.now.number first words
+        blocks.old works.old
         → (turns : ℕ → Turn)
-        × HaveTurned net plan.now cycle first words turns blocks.new works.new result }
+        × HaveTurned net cycle.now.plan.now cycle.now.number first words turns blocks.new works.new
+        left.new result }
 {
     let mut happened = false;
     for number in 0..blocks.len() {
         let block = &mut blocks[number];
         let work = &mut works[number];
-        happened |= turn(plan, relation, cycle, first + number, block, work);
+        let left = &mut left[first + number];
+        happened |= turn(cycle, first + number, block, work, left);
     }
     happened
 }
@@ -100,30 +104,6 @@ fn arrive_in(
 {
     if work.leaving != 0 {
         arrive_all(&pattern.table, cycle, &work.arrived, packets, arrivals);
-    }
-}
-
-// What has left each block is kept, of so many groups of four words.
-pub(crate) fn keep_left(groups: usize, first: usize, works: &[Work], left: &mut [Links<Words>])
-    requires groups { 4 * groups ≤ WORDS }
-    requires left { first + length works.now ≤ length left.old }
-    ensures { HaveLeft (4 * groups) first works.now left.new }
-{
-    for number in 0..works.len() {
-        keep_links(groups, &works[number].left, &mut left[first + number]);
-    }
-}
-
-// .. one block.
-fn keep_links(groups: usize, from: &Links<Words>, to: &mut Links<Words>)
-    requires { 4 * groups ≤ WORDS }
-    ensures { (k : ℕ) → k < 4 * groups
-        → links_by (word k) to.new ≡ links_by (word k) from.now }
-{
-    for i in 0..4 * groups {
-        to.flits[i] = from.flits[i];
-        to.tails[i] = from.tails[i];
-        to.credits[i] = from.credits[i];
     }
 }
 

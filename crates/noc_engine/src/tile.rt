@@ -6,9 +6,10 @@ ghost use Rattle.noc_theory.specs.Network.{Setup};
 ghost use Rattle.noc_engine.specs.Shows.{has_block};
 ghost use Rattle.noc_engine.specs.Tiles.{AreNear, HasRunTile, HasStepped, HasTurnedTile, IsTold, MayRunTile};
 
-use crate::passes::{arrive_blocks, count_all, gather_all, keep, keep_left, tell_all, turn_all};
+use crate::passes::{arrive_blocks, count_all, gather_all, keep, tell_all, turn_all};
 use crate::plan::Plan;
 use crate::told::Told;
+use crate::turn::Cycle;
 use noc_columns::{Links, Words};
 use noc_counts::Counts;
 use noc_cycles::{Block, Note, Work, hear};
@@ -51,7 +52,13 @@ impl Tile {
     {
         let blocks = self.blocks.as_mut_slice();
         let works = self.works.as_mut_slice();
-        let happened = turn_all(plan, relation, self.cycle, self.first, blocks, works);
+        let left = self.left.as_mut_slice();
+        let cycle = Cycle {
+            plan,
+            relation,
+            number: self.cycle,
+        };
+        let happened = turn_all(&cycle, self.first, blocks, works, left);
         arrive_blocks(
             plan,
             self.cycle,
@@ -59,8 +66,6 @@ impl Tile {
             works,
             self.arrivals.as_mut_slice(),
         );
-        let groups = plan.pattern.frame.link_groups;
-        keep_left(groups, self.first, works, self.left.as_mut_slice());
         tell_all(plan, self.first, blocks, self.notes.as_mut_slice());
         count_all(plan, blocks, works, self.counts.as_mut_slice());
         self.cycle += 1;

@@ -11,35 +11,48 @@ ghost use Rattle.noc_columns.specs.declared.words.TheConstants.{ROUTERS};
 ghost use Rattle.noc_engine.specs.Turns.{HasTurnedBlock, MayTurn};
 
 use crate::plan::Plan;
-use noc_columns::{ROUTERS, Words};
+use noc_columns::{Links, ROUTERS, Words};
 use noc_cycles::{Block, Pattern, Routing, Work, conclude, decide, some_in, take};
 use noc_route::Relation;
 
+// By what blocks have their turn in a cycle.
+#[derive(Drop)]
+pub(crate) struct Cycle<'a> {
+    // What stays as it is.
+    pub(crate) plan: &'a Plan,
+    // The relation that the network was made for.
+    pub(crate) relation: &'a Relation,
+    // How many cycles have run before it.
+    pub(crate) number: u32,
+}
+
 // The block with this number takes what comes, it is decided what its routers do, and that takes
-// effect. The answer is whether something happens in one of them.
+// effect. It is written what leaves them, and the answer is whether something happens in one.
 pub(crate) fn turn(
-    plan: &Plan,
-    relation: &Relation,
-    cycle: u32,
+    cycle: &Cycle<'_>,
     number: usize,
     block: &mut Block,
     work: &mut Work,
+    left: &mut Links<Words>,
 ) -> bool
     requires { (net : Setup) × (words : ℕ → Router)
-        × MayTurn net relation.now plan.now cycle number words block.old work.old }
+        × MayTurn net cycle.now.relation.now cycle.now.plan.now cycle.now.number number words
+        block.old work.old }
     ensures { (net : Setup) (words : ℕ → Router)
-        → MayTurn net relation.now plan.now cycle number words block.old work.old
-        → (turns : ℕ → Turn) × HasTurnedBlock net plan.now cycle number words turns block.new
-        work.new result }
+        → MayTurn net cycle.now.relation.now cycle.now.plan.now cycle.now.number number words
+        block.old work.old
+        → (turns : ℕ → Turn) × HasTurnedBlock net cycle.now.plan.now cycle.now.number number words
+        turns block.new work.new left.new result }
 {
+    let plan = cycle.plan;
     let pattern = &plan.pattern;
-    let comes = take(pattern, &plan.starts, cycle, block, work);
+    let comes = take(pattern, &plan.starts, cycle.number, block, work);
     let routing = Routing {
-        relation,
+        relation: cycle.relation,
         headers: &plan.headers,
     };
-    decide(pattern, &routing, (ROUTERS * number) as u32, block, work);
-    let leaving = conclude(pattern, block, work);
+    decide(pattern, &routing, (ROUTERS * number) as u32, block, work, left);
+    let leaving = conclude(pattern, block, work, left);
     work.leaving = leaving;
     does_something(pattern, comes, block, work)
 }

@@ -1,3 +1,4 @@
+pub mod Common
 pub mod bits
 pub mod network
 pub mod opening

@@ -1,5 +1,4 @@
 pub mod ArrivedLemmas
-pub mod AsleepLemmas
 pub mod BegunLemmas
 pub mod BufferLemmas
 pub mod CameLemmas

@@ -13,12 +13,11 @@ pub mod InjectLemmas
 pub mod InjectedLemmas
 pub mod MarkedLemmas
 pub mod MoveLemmas
-pub mod RestLemmas
 pub mod RouteLemmas
 pub mod SettleLemmas
 pub mod SettledLemmas
 pub mod SettlingLemmas
-pub mod SleepLemmas
+pub mod SilentLemmas
 pub mod StayLemmas
 pub mod StillLemmas
 pub mod SwitchedLemmas

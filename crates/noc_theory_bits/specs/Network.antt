@@ -1,5 +1,5 @@
 -- What the words of all routers show of a network, and a cycle of all of them.
-use Rattle.std.specs.Prelude.{◌≡◌, ◌≢◌, ◌⊎◌, ℕ, suc, ◌+◌, ◌*◌, ◌/◌, ◌%◌, ◌<◌, ◌≤◌, Bool, true, false, List, length, Option, Some, None, nat_eq, option_map, unwrap_or}
+use Rattle.std.specs.Prelude.{◌≡◌, ◌≢◌, ℕ, suc, ◌+◌, ◌*◌, ◌/◌, ◌%◌, ◌<◌, ◌≤◌, Bool, true, false, List, length, Option, Some, None, nat_eq, option_map, unwrap_or}
 use Rattle.noc_topo.specs.Shape.{Grid, neighbour, nodes, ports}
 use Rattle.noc_packet.specs.Set.{has_bit}
 use Rattle.noc_route.specs.Routes.{set_at}
@@ -9,7 +9,7 @@ use Rattle.noc_theory.specs.Network.{Setup, arrival_in, packet_at, size, state_a
 use Rattle.noc_theory.specs.Progress.{events, last_event_before}
 use Rattle.noc_sets.specs.Column.{IsColumn}
 use Rattle.noc_sets.specs.Counts.{RunOn, ShowsCounts, ShowsLastEvent, no_counts}
-use Rattle.noc_sets.specs.Cycle.{HasSlept, HasWorked, Links, Router, Turn, packets_in}
+use Rattle.noc_sets.specs.Cycle.{HasWorked, Links, Router, Turn, packets_in}
 use Rattle.noc_sets.specs.Ended.{ShowsEnded}
 use Rattle.noc_sets.specs.Gather.{gathered}
 use Rattle.noc_sets.specs.Layout.{Layout}
@@ -114,11 +114,11 @@ permitted net r k p =
     set_at net.relation (packet_at net p).class r (k / net.relation.vcs) (k % net.relation.vcs)
     (packet_at net p).destination
 
--- router r makes this turn of cycle n: it has worked or slept
+-- router r makes this turn of cycle n
 abbrev pub IsTurn : Setup → Layout → ℕ → ℕ → Router → Turn → Type 0
 IsTurn net layout n r b t =
     HasWorked (ports net.relation.grid) net.relation.vcs layout (all_starts net)
-    (permitted net r) n b t ⊎ HasSlept n b t
+    (permitted net r) n b t
 
 -- what router r has of all that left the routers, and of the numbers of packets that they told by
 -- output channel: what its links bring, and the numbers of its packets, which were these

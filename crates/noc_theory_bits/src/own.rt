@@ -11,8 +11,7 @@ ghost use Rattle.noc_theory.specs.declared.limits.TheConstants.{CYCLE_LIMIT};
 ghost use Rattle.noc_theory_bits.specs.Network.{AreJoined, HasGathered, HasRunOwn, HasTurned, IsTurn, ShowsNetwork, ShowsOwn, ShowsRouter, Words, all_starts, numbers_in, tells_in, with_router};
 ghost use Rattle.noc_theory_bits.specs.Sends.{Sends};
 
-/// A router that shows the network, and has worked or slept, sends by each port what that of the
-/// network sends.
+/// A router that shows the network sends by each port what that of the network sends.
 pub fn a_router_sends_what_the_network_does()
     ensures { (count : ℕ) (net : Setup) (layout : Layout) (n r port : ℕ) (b : Router) (t : Turn)
         → IsGoodSetup net → IsLayoutOf count net.relation net.depth layout → n < CYCLE_LIMIT

@@ -1,5 +1,5 @@
 -- A router of a block of which more is counted.
-use Rattle.std.proofs.Common.{◌≡◌, ℕ, ◌+◌, ◌*◌, ◌<◌, ◌≤◌, subst, sym, ◌∙◌}
+use Rattle.std.proofs.Common.{◌≡◌, ℕ, subst, sym}
 use Rattle.noc_sets.specs.Cycle.{Router}
 use Rattle.noc_columns.specs.declared.channels.Links.{Links}
 use Rattle.noc_cycles.specs.Held.{Held, ShowsHeld}

@@ -1,14 +1,12 @@
 -- A router of a block, which is one of a network or one that the network does not have, through a
 -- cycle.
-use Rattle.std.proofs.Common.{◌≡◌, ℕ, ◌*◌, ◌<◌, ◌≤◌, Bool, true, length, ap, arith, inl, inr, subst, sym, ◌∙◌}
+use Rattle.std.proofs.Common.{◌≡◌, ℕ, ◌*◌, ◌<◌, ◌≤◌, Bool, true, length, arith, inl, inr}
 use Rattle.std.proofs.lemmas.Bool.{cases_lt}
 use Rattle.noc_topo.specs.Shape.{nodes, ports}
 use Rattle.noc_packet.specs.Set.{has_bit}
-use Rattle.noc_packet.proofs.SetLemmas.{has_bit-zero}
-use Rattle.noc_sets.specs.Column.{Column}
-use Rattle.noc_sets.specs.Cycle.{HasSlept, Router, Turn, still_of}
+use Rattle.noc_sets.specs.Cycle.{Router, Turn, still_of}
 use Rattle.noc_sets.specs.Layout.{Layout}
-use Rattle.noc_sets.specs.Source.{NEVER, Source}
+use Rattle.noc_sets.specs.Source.{NEVER}
 use Rattle.noc_theory.specs.Good.{IsGoodSetup}
 use Rattle.noc_theory.specs.Network.{Setup}
 use Rattle.noc_theory.specs.declared.limits.TheConstants.{CYCLE_LIMIT}
@@ -35,8 +33,7 @@ use Rattle.noc_theory_cycles.proofs.RouterLemmas.{arrived-picked, concluded-may,
 
 -- its turn is one of the network
 pub node-turn : (count : ℕ) (net : Setup) (layout : Layout) (pattern : Pattern) (n node : ℕ) (b : Router) (t : Turn) → FitsNetwork count net layout pattern → IsNodeTurn net pattern layout n node b t → IsTurn net layout n node b t
-node-turn count net layout pattern n node b t fits (inl works) = inl (works-as-permitted net pattern.table.ports layout (all_starts net) n node b t fits.ports works)
-node-turn count net layout pattern n node b t fits (inr slept) = inr slept
+node-turn count net layout pattern n node b t fits works = works-as-permitted net pattern.table.ports layout (all_starts net) n node b t fits.ports works
 
 module _ (count : ℕ) (net : Setup) (layout : Layout) (pattern : Pattern) (n node : ℕ) (links : Links ℕ) (h : Held) (b : Router)
     (setup : IsGoodSetup net) (few : n < CYCLE_LIMIT) (fits : FitsNetwork count net layout pattern) (is : ShowsNode count net pattern n node links h b) where
@@ -87,46 +84,8 @@ module _ (count : ℕ) (net : Setup) (layout : Layout) (pattern : Pattern) (n no
         sends net setup n (all_starts net) node l (numbers_in net layout n b) t (through net setup n few layout fits.layout_is (all_starts net) node l b (is.shows l) t (node-turn count net layout pattern n node b t fits turn)) port low
 
     -- one that the network does not have
-    slept-nothing : HasSlept n b t → DoesNothing (ports net.relation.grid * net.relation.vcs) t
-    slept-nothing slept = record {
-      flits = ap (λ (x : Turn). x.left.flits) slept.is;
-      tails = λ o l. ap (λ (x : Turn). has_bit x.left.tails o) slept.is ∙ has_bit-zero o;
-      credits = ap (λ (x : Turn). x.left.credits) slept.is;
-      grants = λ o l. ap (λ (x : Turn). x.grants o) slept.is;
-      arrived = ap (λ (x : Turn). x.arrived) slept.is;
-      happened = ap (λ (x : Turn). x.happened) slept.is;
-    }
-
     pub node-nothing : nodes net.relation.grid ≤ node → DoesNothing (ports net.relation.grid * net.relation.vcs) t
-    node-nothing u = elim (node-turn count net layout pattern n node b t fits turn) [
-      | inl works ↦ does-nothing count net layout fits.layout_is (all_starts net) _ n b t soon (channels_count pattern) (is.blank u) works
-      | inr slept ↦ slept-nothing slept
-    ]
-
-    slept-blank : HasSlept n b t → IsBlank (channels_count pattern) b → (next : Router) → HasTurned t next → next.links.flits ≡ 0 → next.links.credits ≡ 0 → IsBlank (channels_count pattern) next
-    slept-blank slept blank next turned flits credits =
-        subst (λ (c : Column). IsBlank (channels_count pattern) (record next { column = c })) (sym column)
-        (subst (λ (s : Source). IsBlank (channels_count pattern) (record next { column = b.column; source = s })) (sym source) (record {
-          waiting = blank.waiting;
-          active = blank.active;
-          flits = blank.flits;
-          supplied = blank.supplied;
-          idle = blank.idle;
-          draining = blank.draining;
-          injecting = blank.injecting;
-          due = blank.due;
-          flits_come = flits;
-          credits_come = credits;
-        }))
-      where
-        column : next.column ≡ b.column
-        column = turned.column ∙ ap (λ (x : Turn). x.column) slept.is
-
-        source : next.source ≡ b.source
-        source = turned.source ∙ ap (λ (x : Turn). x.source) slept.is
+    node-nothing u = does-nothing count net layout fits.layout_is (all_starts net) _ n b t soon (channels_count pattern) (is.blank u) (node-turn count net layout pattern n node b t fits turn)
 
     pub node-blank : nodes net.relation.grid ≤ node → (next : Router) → HasTurned t next → next.links.flits ≡ 0 → next.links.credits ≡ 0 → IsBlank (channels_count pattern) next
-    node-blank u next turned flits credits = elim (node-turn count net layout pattern n node b t fits turn) [
-      | inl works ↦ stays-blank count net layout fits.layout_is (all_starts net) _ n b t soon (channels_count pattern) (is.blank u) works next turned flits credits
-      | inr slept ↦ slept-blank slept (is.blank u) next turned flits credits
-    ]
+    node-blank u next turned flits credits = stays-blank count net layout fits.layout_is (all_starts net) _ n b t soon (channels_count pattern) (is.blank u) (node-turn count net layout pattern n node b t fits turn) next turned flits credits

@@ -17,7 +17,7 @@ use Rattle.noc_theory.specs.Lockstep.{has_flit_at_source, starts_at, view_at}
 use Rattle.noc_theory.specs.Network.{Setup, state_at}
 use Rattle.noc_theory.proofs.join.ViewLemmas.{view_at-seen}
 use Rattle.noc_theory.proofs.worms.MemberLemmas.{Has-filter}
-use Rattle.noc_theory_bits.proofs.opening.StartLemmas.{start-has}
+use Rattle.noc_theory.proofs.injection.StartLemmas.{start-has}
 
 -- ---- the packet that it injects
 -- of which some flits are left

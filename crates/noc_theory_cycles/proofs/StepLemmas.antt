@@ -1,6 +1,5 @@
 -- A turn of a router is shown by what it holds, and what leaves routers by links is brought.
-use Rattle.std.proofs.Common.{◌≡◌, ◌≢◌, ℕ, ◌*◌, ◌/◌, ◌%◌, ◌<◌, ◌≤◌, arith, refl, ◌∙◌}
-use Rattle.std.specs.Prelude.{if◌then◌else◌}
+use Rattle.std.proofs.Common.{◌≡◌, ℕ, ◌*◌, ◌/◌, ◌%◌, ◌<◌, arith, refl}
 use Rattle.std.proofs.lemmas.Nat.{div-add-mod', mod_below, mul-add-lt}
 use Rattle.noc_topo.specs.Shape.{Grid, IsGrid, local_port, nodes}
 use Rattle.noc_sets.specs.Cycle.{Links as Left, Turn}

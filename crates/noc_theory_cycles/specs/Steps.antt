@@ -1,5 +1,5 @@
 -- The words of the routers of blocks: before the first cycle, and after a turn.
-use Rattle.std.specs.Prelude.{◌≡◌, ℕ, ◌/◌, ◌%◌, ◌<◌, ◌≤◌, None, if◌then◌else◌}
+use Rattle.std.specs.Prelude.{ℕ, ◌/◌, ◌%◌, None}
 use Rattle.noc_sets.specs.Cycle.{Links as Left, Router, Turn}
 use Rattle.noc_theory_bits.specs.Network.{Words}
 use Rattle.noc_columns.specs.declared.channels.Links.{Links}

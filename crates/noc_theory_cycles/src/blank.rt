@@ -3,19 +3,18 @@
 ghost use Rattle.std.specs.Prelude.{◌≡◌, ℕ, ◌*◌, ◌<◌, Bool, true, List};
 ghost use Rattle.noc_topo.specs.Shape.{ports};
 ghost use Rattle.noc_packet.specs.Set.{has_bit};
-ghost use Rattle.noc_sets.specs.Cycle.{HasWorked, Router, Turn, still_of};
+ghost use Rattle.noc_sets.specs.Cycle.{HasWorked, Router, Turn};
 ghost use Rattle.noc_sets.specs.Layout.{IsLayoutOf, Layout};
 ghost use Rattle.noc_sets.specs.Source.{NEVER, Start};
 ghost use Rattle.noc_theory.specs.Network.{Setup};
 ghost use Rattle.noc_theory_bits.specs.Network.{HasTurned};
-ghost use Rattle.noc_columns.specs.declared.channels.Decided.{Decided};
 ghost use Rattle.noc_columns.specs.declared.channels.Links.{Links};
 ghost use Rattle.noc_columns.specs.declared.channels.Standing.{Standing};
-ghost use Rattle.noc_cycles.specs.Deciding.{HasDecidedHeld};
 ghost use Rattle.noc_cycles.specs.Held.{Held, ShowsHeld};
 ghost use Rattle.noc_cycles.specs.May.{MayConclude, MayDecide, MayInject, MayTake};
 ghost use Rattle.noc_cycles.specs.Opened.{HoldsNothing, router_of};
 ghost use Rattle.noc_cycles.specs.Taking.{HasTaken};
+ghost use Rattle.noc_cycles.specs.Through.{HasTakenAndDecided, Worked};
 ghost use Rattle.noc_cycles.specs.declared.first.First.{First};
 ghost use Rattle.noc_cycles.specs.declared.pattern.Pattern.{Pattern};
 ghost use Rattle.noc_theory_cycles.specs.Blank.{DoesNothing, HoldsBlank, IsBlank, channels_count};
@@ -47,13 +46,10 @@ pub fn blank_routers_have_what_is_asked_for()
         → HasTaken pattern layout starts n b h standing no_credit comes
         → MayDecide pattern packets nodes node h standing }
     ensures concluding { (pattern : Pattern) (layout : Layout) (starts : List Start) (n : ℕ)
-        (b : Router) (a : Held) (standing : Standing ℕ) (no_credit : ℕ) (comes : Bool)
-        (sets : ℕ → ℕ → ℕ) (h : Held) (decided : Decided ℕ) (granted lost released packets : ℕ)
-        (left : Links ℕ) (taken : HasTaken pattern layout starts n b a standing no_credit comes)
+        (b : Router) (a h : Held) (sets : ℕ → ℕ → ℕ) (x : Worked) (released packets : ℕ)
         → n < NEVER → IsBlank (channels_count pattern) b
-        → HasDecidedHeld pattern layout sets (still_of layout starts n taken.up b) a h standing
-        decided granted lost left
-        → ((i : ℕ) → has_bit released i ≡ true → has_bit decided.picked i ≡ true)
+        → HasTakenAndDecided pattern layout starts sets n b a h x
+        → ((i : ℕ) → has_bit released i ≡ true → has_bit x.decided.picked i ≡ true)
         → MayConclude packets h released }
 {}
 

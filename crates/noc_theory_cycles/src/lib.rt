@@ -13,7 +13,7 @@ mod granted;
 mod heads;
 mod layouts;
 mod nodes;
-mod opening;
+mod opened;
 mod routers;
 mod steps;
 
@@ -26,7 +26,7 @@ pub use heads::{
 };
 pub use layouts::patterns_have_a_layout;
 pub use nodes::{nodes_have_what_is_asked_for, nodes_make_turns_of_the_network};
-pub use opening::opened_blocks_show_the_network;
+pub use opened::opened_blocks_show_the_network;
 pub use routers::routers_have_what_is_asked_for;
 pub use steps::{
     arrivals_are_read_from_words, nodes_tell_what_they_grant, turns_are_shown_by_what_is_held,

@@ -1,23 +1,22 @@
 //! The routers of a block, which are those of a network or such that the network does not have.
 
-ghost use Rattle.std.specs.Prelude.{◌≡◌, ℕ, ◌*◌, ◌<◌, ◌≤◌, Bool, length};
+ghost use Rattle.std.specs.Prelude.{ℕ, ◌*◌, ◌<◌, ◌≤◌, Bool, length};
 ghost use Rattle.noc_topo.specs.Shape.{nodes, ports};
-ghost use Rattle.noc_sets.specs.Cycle.{Router, Turn, still_of};
+ghost use Rattle.noc_sets.specs.Cycle.{Router, Turn};
 ghost use Rattle.noc_sets.specs.Layout.{Layout};
 ghost use Rattle.noc_theory.specs.Good.{IsGoodSetup};
 ghost use Rattle.noc_theory.specs.Network.{Setup};
 ghost use Rattle.noc_theory.specs.declared.limits.TheConstants.{CYCLE_LIMIT};
 ghost use Rattle.noc_theory_bits.specs.Network.{IsTurn, all_starts, tells_in};
 ghost use Rattle.noc_theory_bits.specs.Sends.{Sends};
-ghost use Rattle.noc_columns.specs.declared.channels.Decided.{Decided};
 ghost use Rattle.noc_columns.specs.declared.channels.Links.{Links};
 ghost use Rattle.noc_columns.specs.declared.channels.Standing.{Standing};
 ghost use Rattle.noc_columns.specs.declared.channels.Verdicts.{Verdicts};
 ghost use Rattle.noc_cycles.specs.Concluding.{HasConcludedHeld};
-ghost use Rattle.noc_cycles.specs.Deciding.{HasDecidedHeld};
 ghost use Rattle.noc_cycles.specs.Held.{Held};
 ghost use Rattle.noc_cycles.specs.May.{MayConclude, MayDecide, MayInject, MayTake};
 ghost use Rattle.noc_cycles.specs.Taking.{HasTaken};
+ghost use Rattle.noc_cycles.specs.Through.{HasTakenAndDecided, Worked};
 ghost use Rattle.noc_cycles.specs.declared.pattern.Pattern.{Pattern};
 ghost use Rattle.noc_theory_cycles.specs.Blank.{DoesNothing};
 ghost use Rattle.noc_theory_cycles.specs.Fits.{FitsNetwork};
@@ -42,15 +41,12 @@ pub fn nodes_have_what_is_asked_for()
         → HasTaken pattern layout (all_starts net) n b a standing no_credit comes
         → MayDecide pattern (length net.packets) (nodes net.relation.grid) node a standing }
     ensures arriving { (count : ℕ) (net : Setup) (layout : Layout) (pattern : Pattern)
-        (n node : ℕ) (links : Links ℕ) (h a d k : Held) (b : Router) (standing : Standing ℕ)
-        (no_credit : ℕ) (comes : Bool) (sets : ℕ → ℕ → ℕ) (decided : Decided ℕ)
-        (granted lost arrived : ℕ) (left after : Links ℕ) (before verdicts : Verdicts ℕ)
-        (taken : HasTaken pattern layout (all_starts net) n b a standing no_credit comes)
+        (n node : ℕ) (links : Links ℕ) (h a d k : Held) (b : Router) (sets : ℕ → ℕ → ℕ)
+        (x : Worked) (after : Links ℕ) (arrived : ℕ) (before verdicts : Verdicts ℕ)
         → IsGoodSetup net → n < CYCLE_LIMIT → FitsNetwork count net layout pattern
         → ShowsNode count net pattern n node links h b
-        → HasDecidedHeld pattern layout sets (still_of layout (all_starts net) n taken.up b) a d
-        standing decided granted lost left
-        → HasConcludedHeld pattern standing decided granted after arrived d k before verdicts
+        → HasTakenAndDecided pattern layout (all_starts net) sets n b a d x
+        → HasConcludedHeld pattern x.standing x.decided x.granted after arrived d k before verdicts
         → MayConclude (length net.packets) k arrived }
 {}
 

@@ -1,6 +1,6 @@
 //! What the turns of routers of blocks make of a network.
 
-ghost use Rattle.std.specs.Prelude.{◌≡◌, ℕ, ◌*◌, ◌/◌, ◌%◌, ◌<◌, Bool, Option, Some};
+ghost use Rattle.std.specs.Prelude.{◌≡◌, ℕ, ◌*◌, ◌<◌, Option, Some};
 ghost use Rattle.noc_topo.specs.Shape.{Grid, IsGrid, local_port, nodes};
 ghost use Rattle.noc_alloc.specs.Members.{MembersAreBelow};
 ghost use Rattle.noc_sets.specs.Cycle.{Links as Left, Router, Turn, granted_in, still_of};
@@ -9,14 +9,12 @@ ghost use Rattle.noc_theory.specs.Good.{IsGoodSetup};
 ghost use Rattle.noc_theory.specs.Network.{Setup, size};
 ghost use Rattle.noc_theory.specs.declared.limits.TheConstants.{CYCLE_LIMIT};
 ghost use Rattle.noc_theory_bits.specs.Network.{AreArrivals, HasTurned, all_starts, tells_in};
-ghost use Rattle.noc_columns.specs.declared.channels.Decided.{Decided};
 ghost use Rattle.noc_columns.specs.declared.channels.Links.{Links};
-ghost use Rattle.noc_columns.specs.declared.channels.Standing.{Standing};
 ghost use Rattle.noc_cycles.specs.Concluding.{HaveArrived};
-ghost use Rattle.noc_cycles.specs.Deciding.{HasDecidedHeld, undecided};
+ghost use Rattle.noc_cycles.specs.Deciding.{undecided};
 ghost use Rattle.noc_cycles.specs.Gathered.{ShowsLeft, brought};
 ghost use Rattle.noc_cycles.specs.Held.{Held, ShowsHeld};
-ghost use Rattle.noc_cycles.specs.Taking.{HasTaken};
+ghost use Rattle.noc_cycles.specs.Through.{HasTakenAndDecided, Worked};
 ghost use Rattle.noc_cycles.specs.Told.{Tells};
 ghost use Rattle.noc_cycles.specs.Turning.{ShowsTurn};
 ghost use Rattle.noc_cycles.specs.declared.pattern.Pattern.{Pattern};
@@ -28,17 +26,13 @@ ghost use Rattle.noc_theory_cycles.specs.Steps.{left_as, router_after};
 /// output channels.
 pub fn nodes_tell_what_they_grant()
     ensures { (count : ℕ) (net : Setup) (layout : Layout) (pattern : Pattern) (n node : ℕ)
-        (links : Links ℕ) (h a d : Held) (b : Router) (standing : Standing ℕ) (no_credit : ℕ)
-        (comes : Bool) (sets : ℕ → ℕ → ℕ) (decided : Decided ℕ) (granted lost : ℕ)
-        (left : Links ℕ) (t : Turn)
-        (taken : HasTaken pattern layout (all_starts net) n b a standing no_credit comes)
-        (decides : HasDecidedHeld pattern layout sets
-        (still_of layout (all_starts net) n taken.up b) a d standing decided granted lost left)
+        (links : Links ℕ) (h a d : Held) (b : Router) (sets : ℕ → ℕ → ℕ) (x : Worked) (t : Turn)
+        (has : HasTakenAndDecided pattern layout (all_starts net) sets n b a d x)
         → IsGoodSetup net → n < CYCLE_LIMIT → FitsNetwork count net layout pattern
         → ShowsNode count net pattern n node links h b
-        → t.grants ≡ granted_in (undecided (still_of layout (all_starts net) n taken.up b))
-        decides.chosen
-        → Tells net.relation.grid pattern.table.ports.links.vcs node granted d.out_port d.out_vc
+        → t.grants ≡ granted_in (undecided (still_of layout (all_starts net) n has.takes.up b))
+        has.decides.chosen
+        → Tells net.relation.grid pattern.table.ports.links.vcs node x.granted d.out_port d.out_vc
         d.packet (tells_in net layout n b t) }
 {}
 

@@ -1,27 +1,8 @@
 -- The channels of a router whose packets arrive in a cycle, by its words.
 use Rattle.std.proofs.Common.{◌≡◌, ℕ, ◌+◌, ◌-◌, ◌*◌, ◌/◌, ◌<◌, true, List, ap, ap₂, sym, ◌∙◌, subst, arith, bit_and}
 use Rattle.std.specs.Prelude.{◌&&◌, nat_eq, slice_get}
-use Rattle.std.proofs.lemmas.Bool.{and_parts, eq-eqb, eqb-true}
-use Rattle.noc_topo.specs.Shape.{dimensions, local_port, nodes, ports}
-use Rattle.noc_packet.specs.Set.{has_bit}
-use Rattle.noc_packet.specs.declared.packet.Flit.{Flit}
-use Rattle.noc_packet.proofs.SetLemmas.{both_members}
-use Rattle.noc_vc.specs.declared.input.InputState.{InputState}
-use Rattle.noc_vc.specs.declared.input.InputState.TheVariants.{Active}
-use Rattle.noc_view.specs.Verdict.{ask_of}
-use Rattle.noc_view.specs.View.{Site, View, claim_in, first_flit, is_tail, size_of, view_round}
-use Rattle.noc_theory.specs.declared.limits.TheConstants.{CYCLE_LIMIT}
-use Rattle.noc_theory.specs.Good.{IsGoodSetup}
-use Rattle.noc_theory.specs.Lockstep.{site_at}
-use Rattle.noc_theory.specs.Network.{Setup, size}
-use Rattle.noc_sets.specs.Column.{Column, RouterMarks, sends_by}
-use Rattle.noc_sets.specs.Cycle.{HasDecided, Still}
-use Rattle.noc_sets.specs.Grants.{Allocation, phase_granted, with_grant}
-use Rattle.noc_sets.specs.Layout.{IsLayoutOf, Layout}
-use Rattle.noc_sets.specs.Passes.{Effects}
-use Rattle.noc_sets.specs.Source.{Start}
-use Rattle.noc_theory_bits.specs.Network.{permitted}
-use Rattle.noc_theory_bits.specs.Owners.{frozen_of}
+use Rattle.noc_topo.specs.Shape.{dimensions}
+use Rattle.noc_theory_bits.proofs.Common.{and_parts, eq-eqb, eqb-true, local_port, nodes, ports, has_bit, Flit, both_members, InputState, Active, ask_of, Site, View, claim_in, first_flit, is_tail, size_of, view_round, CYCLE_LIMIT, IsGoodSetup, site_at, Setup, size, Column, RouterMarks, sends_by, HasDecided, Still, Allocation, phase_granted, with_grant, IsLayoutOf, Layout, Effects, Start, permitted, frozen_of}
 use Rattle.noc_theory_bits.proofs.bits.CycleLemmas.{decisions, first-is, moved-are, put}
 use Rattle.noc_theory_bits.proofs.bits.FreezeLemmas.{ShowsStill}
 use Rattle.noc_theory_bits.proofs.network.ArrivalLemmas.{GoesOut}

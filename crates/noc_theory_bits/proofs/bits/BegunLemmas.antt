@@ -2,41 +2,25 @@
 -- free channels, and a packet may begin.
 use Rattle.std.proofs.Common.{◌≡◌, ◌≢◌, ℕ, zero, suc, ◌+◌, ◌*◌, ◌/◌, ◌%◌, ◌<◌, Bool, true, false, List, [], ◌∷◌, length, Option, Some, None, refl, ap, sym, ◌∙◌, subst, arith, inl, inr}
 use Rattle.std.specs.Prelude.{◌⊎◌, count_by, find, nat_eq, nat_lt, not, option_map, if◌then◌else◌}
-use Rattle.std.proofs.lemmas.Bool.{eq-eqb, eqb-true, or_left, false≢true}
-use Rattle.std.proofs.lemmas.Nat.{div-mul-add, mod-mul-add, mul-add-lt}
-use Rattle.std.proofs.lemmas.Option.{none-some, same_Some}
-use Rattle.noc_topo.specs.Lists.{Has, below}
-use Rattle.noc_topo.specs.Shape.{nodes, ports, local_port, neighbour}
-use Rattle.noc_packet.specs.Packet.{flit_at}
-use Rattle.noc_packet.specs.declared.packet.Flit.{Flit}
-use Rattle.noc_packet.specs.declared.packet.Packet.{Packet}
-use Rattle.noc_route.specs.Channel.{Channel, Link, Inject, Eject, channel_vc}
-use Rattle.noc_vc.specs.Input.{Input}
-use Rattle.noc_view.specs.View.{Site, View, size_of, local_channel, view_buffer, view_input}
-use Rattle.noc_theory.specs.Good.{IsGoodSetup}
-use Rattle.noc_theory.specs.Lockstep.{seen_input, seen_sending, site_at}
-use Rattle.noc_theory.specs.Network.{Setup, State, Located, Place, On, In, Out, Injection, injections, injection_at, size, arriving, place_of_flit, tail_place, is_in, is_past, is_at_source, flits_of, owned_by, first_waiting, is_injection_of, is_freed, state_at, frozen_at, frozen_state, after_landing, after_credits, after_injection, Source}
-use Rattle.noc_theory.specs.Progress.{head_place}
-use Rattle.noc_theory.proofs.worms.BufferLemmas.{same_channel-refl, find-passes}
-use Rattle.noc_theory.proofs.worms.GrantLemmas.{Has-below}
+use Rattle.std.proofs.lemmas.Bool.{or_left}
+use Rattle.noc_route.specs.Channel.{channel_vc}
+use Rattle.noc_theory.specs.Lockstep.{seen_sending}
+use Rattle.noc_theory.specs.Network.{Injection, injections, injection_at, is_at_source, flits_of, owned_by, first_waiting, is_injection_of, is_freed, after_landing, after_credits, Source}
+use Rattle.noc_theory.proofs.worms.BufferLemmas.{find-passes}
 use Rattle.noc_theory.proofs.worms.InjectionPhaseLemmas.{IsEntry}
 use Rattle.noc_theory.proofs.worms.InjectionStateLemmas.{injection_of-is}
-use Rattle.noc_theory.proofs.worms.MemberLemmas.{Has-filter, Has-filter_map, find-has}
+use Rattle.noc_theory.proofs.worms.MemberLemmas.{Has-filter_map}
 use Rattle.noc_theory.proofs.worms.OwnedLemmas.{of-has}
 use Rattle.noc_theory.proofs.worms.RoutedRecordLemmas.{entering-behind}
-use Rattle.noc_theory.proofs.worms.StateWordLemmas.{IsEject, goal}
 use Rattle.noc_theory.proofs.injection.EntryLemmas.{WasHeld, was-held, worm, keyed, Enters, held, begun}
 use Rattle.noc_theory.proofs.injection.EntryChannelLemmas.{is_entry, entered}
 use Rattle.noc_theory.proofs.join.OrderedLemmas.{IsOrderedFrozen}
-use Rattle.noc_theory.proofs.join.OrderedStateLemmas.{ordered-mid}
-use Rattle.noc_theory.proofs.join.PhaseLemmas.{mid}
-use Rattle.noc_sets.specs.Injected.{HasInjected, injected_to, injection_from, injection_in}
 use Rattle.noc_sets.specs.Taken.{landed_by}
+use Rattle.noc_theory_bits.proofs.Common.{eq-eqb, eqb-true, false≢true, div-mul-add, mod-mul-add, mul-add-lt, none-some, same_Some, Has, below, nodes, ports, local_port, neighbour, flit_at, Flit, Packet, Channel, Link, Inject, Eject, Input, Site, View, size_of, local_channel, view_buffer, view_input, IsGoodSetup, seen_input, site_at, Setup, State, Located, Place, On, In, Out, size, arriving, place_of_flit, tail_place, is_in, is_past, state_at, frozen_at, frozen_state, after_injection, head_place, same_channel-refl, Has-below, Has-filter, find-has, IsEject, goal, ordered-mid, mid, HasInjected, injected_to, injection_from, injection_in, holder_at}
 use Rattle.noc_theory_bits.proofs.network.NetworkLemmas.{good, beats, taken_view, taken-seen, frozen_view, frozen-seen, start-size, steady-state, steady-still}
 use Rattle.noc_theory_bits.proofs.network.PresentLemmas.{packet-there}
 use Rattle.noc_theory_bits.proofs.routers.CommittedLemmas.{size-taken}
 use Rattle.noc_theory_bits.proofs.routers.InjectedLemmas.{has-injected}
-use Rattle.noc_theory_bits.specs.Owners.{holder_at}
 use Rattle.noc_theory_bits.proofs.bits.HolderLemmas.{holder-has, has-holder, seen-packet}
 
 module _ (net : Setup) (setup : IsGoodSetup net) (n r : ℕ) (l : r < nodes net.relation.grid) where

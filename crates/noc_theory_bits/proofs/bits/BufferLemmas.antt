@@ -2,24 +2,10 @@
 -- router's own view.
 use Rattle.std.proofs.Common.{◌≡◌, ℕ, ◌+◌, ◌<◌, false, List, [], ◌∷◌, map, Option, Some, None, refl, ap, sym, ◌∙◌, subst, arith, inl, inr}
 use Rattle.std.specs.Prelude.{◌⊎◌}
-use Rattle.std.proofs.lemmas.Bool.{ne_eqb}
-use Rattle.noc_topo.specs.Lists.{Has}
-use Rattle.noc_topo.specs.Shape.{nodes}
-use Rattle.noc_packet.specs.Packet.{flit_at}
-use Rattle.noc_packet.specs.declared.packet.Flit.{Flit}
-use Rattle.noc_route.specs.Channel.{Channel}
-use Rattle.noc_view.specs.View.{View, view_buffer}
-use Rattle.noc_theory.specs.Good.{IsGoodSetup, IsValid}
-use Rattle.noc_theory.specs.Lockstep.{seen_flits, view_at}
-use Rattle.noc_theory.specs.Network.{Setup, State, Located, size, arriving, packet_at, is_in, buffer_of, owner_of, state_at, frozen_at}
-use Rattle.noc_theory.specs.Seen.{IsSeen}
 use Rattle.noc_theory.specs.Worm.{IsRun, IsWormOrder}
-use Rattle.noc_theory.proofs.join.ViewLemmas.{view_at-seen}
-use Rattle.noc_theory.proofs.worms.MemberLemmas.{Has-filter}
 use Rattle.noc_theory.proofs.worms.StateWordLemmas.{IsKeyed}
-use Rattle.noc_theory.proofs.worms.BuiltLemmas.{well-formed}
 use Rattle.noc_theory.proofs.worms.WormOrderLemmas.{worm_order-at, worm_order-frozen_at}
-use Rattle.noc_sets.specs.Ended.{AreConsecutive}
+use Rattle.noc_theory_bits.proofs.Common.{ne_eqb, Has, nodes, flit_at, Flit, Channel, View, view_buffer, IsGoodSetup, IsValid, seen_flits, view_at, Setup, State, Located, size, arriving, packet_at, is_in, buffer_of, owner_of, state_at, frozen_at, IsSeen, view_at-seen, Has-filter, well-formed, AreConsecutive}
 use Rattle.noc_theory_bits.proofs.network.NetworkLemmas.{frozen_view, frozen-seen, steady-state, steady-still}
 
 module _ (net : Setup) where

@@ -1,34 +1,17 @@
 -- Whether something came to a router or was injected before its verdicts, by its words.
 use Rattle.std.proofs.Common.{◌≡◌, ◌≢◌, ℕ, ◌+◌, ◌^◌, ◌<◌, ◌≤◌, Bool, true, false, List, [], ◌∷◌, ◌++◌, Option, Some, None, refl, ap, ap₂, sym, ◌∙◌, subst, arith, inl, inr, bit_or}
 use Rattle.std.specs.Prelude.{◌⊎◌, ◌&&◌, ◌||◌, not, is_some, nat_eq}
-use Rattle.std.proofs.lemmas.Bool.{cases_eq, eq-eqb, false≢true, ne_eqb}
 use Rattle.std.proofs.lemmas.Nat.{le_or_l, le_or_r}
-use Rattle.std.proofs.lemmas.Option.{same_Some}
-use Rattle.noc_topo.specs.Shape.{nodes}
-use Rattle.noc_packet.specs.Set.{has_bit}
-use Rattle.noc_packet.specs.declared.packet.Flit.{Flit}
-use Rattle.noc_packet.proofs.SetLemmas.{zero_from_none}
-use Rattle.noc_vc.specs.Output.{Output, credit_fits, credit_fits_at, output_after_credit, output_with_credit}
-use Rattle.noc_view.specs.View.{View, view_after_takes, size_of, view_buffer, view_output}
-use Rattle.noc_theory.specs.declared.limits.TheConstants.{CYCLE_LIMIT}
-use Rattle.noc_theory.specs.Good.{IsGoodSetup}
-use Rattle.noc_theory.specs.Lockstep.{beats_in, view_at, view_in, beats_at}
-use Rattle.noc_theory.specs.Network.{Setup, state_at}
-use Rattle.noc_sets.specs.Sets.{lowest}
-use Rattle.noc_sets.specs.Injected.{injection_in}
-use Rattle.noc_sets.specs.Passes.{AreOwners, lane_begins, lane_injected, lane_raised, lane_landed}
-use Rattle.noc_sets.specs.Source.{Start}
-use Rattle.noc_sets.specs.Taken.{credit_from, credited_by, flit_from, with_one}
+use Rattle.noc_vc.specs.Output.{credit_fits_at, output_with_credit}
+use Rattle.noc_sets.specs.Passes.{lane_landed}
+use Rattle.noc_sets.specs.Taken.{credited_by}
 use Rattle.noc_sets.proofs.MemberLemmas.{either-zero}
-use Rattle.noc_sets.specs.Cycle.{Router, came_in}
-use Rattle.noc_sets.specs.Layout.{IsLayoutOf, Layout}
-use Rattle.noc_theory_bits.specs.Wires.{ShowsWires}
+use Rattle.noc_sets.specs.Cycle.{came_in}
+use Rattle.noc_theory_bits.proofs.Common.{cases_eq, eq-eqb, false≢true, ne_eqb, same_Some, nodes, has_bit, Flit, zero_from_none, Output, credit_fits, output_after_credit, View, view_after_takes, size_of, view_buffer, view_output, CYCLE_LIMIT, IsGoodSetup, beats_in, view_at, view_in, beats_at, Setup, state_at, lowest, injection_in, AreOwners, lane_begins, lane_injected, lane_raised, Start, credit_from, flit_from, with_one, Router, IsLayoutOf, Layout, ShowsWires, ShowsRouter}
 use Rattle.noc_theory_bits.proofs.routers.InjectLemmas.{HasSent}
 use Rattle.noc_theory_bits.proofs.routers.CameLemmas.{injected-event, taken-quiet, went-some}
 use Rattle.noc_theory_bits.proofs.network.NetworkLemmas.{beats, beats-taken, frozen_view, taken-seen, taken_view}
-use Rattle.noc_theory_bits.proofs.routers.RestLemmas.{words-silent}
-use Rattle.noc_theory_bits.proofs.routers.SleepLemmas.{all-silent}
-use Rattle.noc_theory_bits.specs.Network.{ShowsRouter}
+use Rattle.noc_theory_bits.proofs.routers.SilentLemmas.{all-silent, words-silent}
 use Rattle.noc_theory_bits.proofs.bits.FreezeLemmas.{worded-sent, low}
 
 -- something came or was injected where one of four words has a member

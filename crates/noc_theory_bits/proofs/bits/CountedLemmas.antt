@@ -2,30 +2,9 @@
 -- in it.
 use Rattle.std.proofs.Common.{◌≡◌, ℕ, suc, ◌+◌, ◌<◌, ◌≤◌, Bool, true, false, List, length, Option, Some, None, refl, ap, sym, ◌∙◌, subst, arith, add-one, bit_or, zero, [], sum}
 use Rattle.std.specs.Prelude.{not, nat_eq, if◌then◌else◌, slice_index_or}
-use Rattle.std.proofs.lemmas.Option.{same_Some}
-use Rattle.noc_topo.specs.Shape.{nodes, ports, local_port}
-use Rattle.noc_topo.proofs.ListLemmas.{length-tabulate}
-use Rattle.noc_packet.specs.declared.packet.Beat.{Beat}
-use Rattle.noc_route.specs.Routes.{Routes}
-use Rattle.noc_alloc.specs.Arbiter.{arbiter_at}
-use Rattle.noc_alloc.specs.Members.{MembersAreBelow}
-use Rattle.noc_view.specs.View.{Decisions, Site, View, decisions_of, has_event, local_step, size_of, view_after_commit, view_after_inject, view_after_takes, flit_out, tail_packet, with_arrival, with_misfit}
-use Rattle.noc_view.specs.Arrivals.{arrivals_after, is_expected_in}
-use Rattle.noc_theory.specs.declared.limits.TheConstants.{CYCLE_LIMIT}
-use Rattle.noc_theory.specs.Good.{IsGoodSetup}
-use Rattle.noc_theory.specs.Lockstep.{counts_before, has_event_at, last_event_at, view_at, view_in}
-use Rattle.noc_theory.specs.Network.{Setup, size}
-use Rattle.noc_theory.proofs.join.ViewLemmas.{view_at-seen}
-use Rattle.noc_sets.specs.Column.{Column, RouterMarks, IsColumn}
-use Rattle.noc_sets.specs.Counts.{ByVerdict, ShowsCounts, lane_verdicts, with_verdicts, nine_counts, ten_counts}
-use Rattle.noc_sets.specs.Cycle.{HasDecided, Still}
-use Rattle.noc_sets.specs.Grants.{Allocation}
-use Rattle.noc_sets.specs.Layout.{IsLayoutOf, Layout}
-use Rattle.noc_sets.specs.Passes.{Effects, lane_heads}
-use Rattle.noc_sets.specs.Source.{Start}
-use Rattle.noc_sets.proofs.SettleLemmas.{AreEffects}
-use Rattle.noc_sets.proofs.MemberLemmas.{or-zero}
-use Rattle.noc_theory_bits.specs.Network.{permitted}
+use Rattle.noc_theory.specs.Lockstep.{last_event_at}
+use Rattle.noc_sets.specs.Counts.{with_verdicts}
+use Rattle.noc_theory_bits.proofs.Common.{same_Some, nodes, ports, local_port, length-tabulate, Beat, Routes, arbiter_at, MembersAreBelow, Decisions, Site, View, decisions_of, has_event, local_step, size_of, view_after_commit, view_after_inject, view_after_takes, flit_out, tail_packet, with_arrival, with_misfit, arrivals_after, is_expected_in, CYCLE_LIMIT, IsGoodSetup, counts_before, has_event_at, view_at, view_in, Setup, size, view_at-seen, Column, RouterMarks, IsColumn, ByVerdict, ShowsCounts, lane_verdicts, nine_counts, ten_counts, HasDecided, Still, Allocation, IsLayoutOf, Layout, Effects, lane_heads, Start, AreEffects, or-zero, permitted}
 use Rattle.noc_theory_bits.proofs.bits.CycleLemmas.{around, column-was, decisions, picks-there, put, quiet, switched-there}
 use Rattle.noc_theory_bits.proofs.bits.FreezeLemmas.{ShowsStill}
 use Rattle.noc_theory_bits.proofs.network.NetworkLemmas.{beats, beats-taken, frozen-arbiters, frozen-seen, frozen_view, next-count, taken_view}

@@ -2,35 +2,13 @@
 -- where its heads are routed by the numbers of packets.
 use Rattle.std.proofs.Common.{◌≡◌, ℕ, suc, ◌/◌, ◌^◌, ◌<◌, Bool, true, false, List, [], ◌∷◌, Option, Some, None, IfSome, refl, ap, ap₂, sym, ◌∙◌, subst, arith, inl, ◌%◌}
 use Rattle.std.specs.Prelude.{is_some, if◌then◌else◌, ◌&&◌, not, slice_get, slice_index_or}
-use Rattle.noc_topo.specs.Lists.{Has}
-use Rattle.noc_topo.specs.Shape.{nodes, local_port, ports}
-use Rattle.noc_packet.specs.Set.{has_bit}
-use Rattle.noc_packet.specs.declared.packet.Flit.{Flit}
-use Rattle.noc_packet.specs.declared.packet.Packet.{Packet}
-use Rattle.noc_packet.specs.declared.packet.Beat.{Beat}
-use Rattle.noc_route.specs.Routes.{Routes, set_at}
-use Rattle.noc_vc.specs.Input.{is_empty, is_idle_phase}
-use Rattle.noc_view.specs.Arrivals.{is_expected_in, arrivals_after}
-use Rattle.noc_view.specs.View.{Site, View, size_of, view_buffer, view_input, view_round, decisions_of, Decisions, flit_out, mover_to, tail_packet, view_after_commit, view_after_inject, view_after_takes, with_arrival, with_misfit, local_step, route_for, first_flit}
-use Rattle.noc_theory.specs.declared.limits.TheConstants.{CYCLE_LIMIT}
-use Rattle.noc_theory.specs.Good.{IsGoodSetup}
-use Rattle.noc_theory.specs.Lockstep.{site_at, view_at}
-use Rattle.noc_theory.specs.Network.{Setup, frozen_at, packet_at, size}
-use Rattle.noc_sets.specs.Sets.{less}
-use Rattle.noc_sets.specs.Column.{Column, RouterMarks, IsColumn}
-use Rattle.noc_sets.specs.Grants.{Allocation}
-use Rattle.noc_sets.specs.Passes.{Effects, lane_heads, lane_ready}
-use Rattle.noc_sets.specs.Source.{due_of, ShowsNext, ShowsQueue, ShowsSource, Source, Start}
-use Rattle.noc_sets.proofs.MemberLemmas.{below_fits, less_members}
+use Rattle.noc_route.specs.Routes.{set_at}
+use Rattle.noc_view.specs.View.{route_for}
 use Rattle.noc_sets.proofs.SettleLemmas.{is_tail_by}
-use Rattle.noc_sets.proofs.SwitchLemmas.{AreMoved}
-use Rattle.noc_sets.specs.Moves.{AreTails, single_in, HasSwitched}
-use Rattle.noc_sets.specs.Cycle.{Still, granted_in, HasDecided}
-use Rattle.noc_sets.specs.Ended.{ShowsEnded, leads_tail, AreConsecutive}
-use Rattle.noc_sets.specs.Around.{Surroundings}
-use Rattle.noc_sets.specs.Layout.{IsLayoutOf, Layout}
+use Rattle.noc_sets.specs.Cycle.{granted_in}
+use Rattle.noc_sets.specs.Ended.{leads_tail}
 use Rattle.noc_sets.specs.Routed.{HasChosen}
-use Rattle.noc_sets.specs.Turns.{ArePast, ArePicked}
+use Rattle.noc_theory_bits.proofs.Common.{Has, nodes, local_port, ports, has_bit, Flit, Packet, Beat, Routes, is_empty, is_idle_phase, is_expected_in, arrivals_after, Site, View, size_of, view_buffer, view_input, view_round, decisions_of, Decisions, flit_out, mover_to, tail_packet, view_after_commit, view_after_inject, view_after_takes, with_arrival, with_misfit, local_step, first_flit, CYCLE_LIMIT, IsGoodSetup, site_at, view_at, Setup, frozen_at, packet_at, size, less, Column, RouterMarks, IsColumn, Allocation, Effects, lane_heads, lane_ready, due_of, ShowsNext, ShowsQueue, ShowsSource, Source, Start, below_fits, less_members, AreMoved, AreTails, single_in, HasSwitched, Still, HasDecided, ShowsEnded, AreConsecutive, Surroundings, IsLayoutOf, Layout, ArePast, ArePicked, holder_at, ShowsLeaving, permitted}
 use Rattle.noc_theory_bits.proofs.network.FlitLemmas.{IsFlitOf, frozen-flits}
 use Rattle.noc_theory_bits.proofs.routers.MoveLemmas.{moved-is}
 use Rattle.noc_theory_bits.proofs.network.NetworkLemmas.{beats, frozen_view, frozen-seen, frozen-size, frozen-tidy, next-count}
@@ -39,13 +17,11 @@ use Rattle.noc_theory_bits.proofs.routers.CycleLemmas.{still}
 use Rattle.noc_theory_bits.proofs.routers.SettleLemmas.{committed-site, column-put}
 use Rattle.noc_theory_bits.proofs.routers.SettlingLemmas.{moves-below, says-out, decided as all-decided}
 use Rattle.noc_theory_bits.proofs.routers.SwitchedLemmas.{moving}
-use Rattle.noc_theory_bits.specs.Owners.{holder_at}
-use Rattle.noc_theory_bits.specs.Wires.{ShowsLeaving, is_tail_of}
+use Rattle.noc_theory_bits.specs.Wires.{is_tail_of}
 use Rattle.noc_theory_bits.proofs.bits.BufferLemmas.{frozen-consecutive}
 use Rattle.noc_theory_bits.proofs.bits.EndedLemmas.{ended-moved, released-told, tails-told}
 use Rattle.noc_theory_bits.proofs.bits.FreezeLemmas.{ShowsStill}
 use Rattle.noc_theory_bits.proofs.bits.HolderLemmas.{seen-packet}
-use Rattle.noc_theory_bits.specs.Network.{permitted}
 use Rattle.noc_theory_bits.proofs.routers.SettledLemmas.{column-settled}
 use Rattle.noc_theory_bits.proofs.routers.DecideLemmas.{AreDecided}
 

@@ -1,27 +1,13 @@
 -- In whose buffer the tail is: kept through a cycle, as equations on sets.
 use Rattle.std.proofs.Common.{◌≡◌, ℕ, ◌^◌, ◌<◌, ◌≤◌, Bool, true, false, List, [], ◌∷◌, length, Option, refl, ap, ap₂, sym, ◌∙◌, subst, arith, inl, inr, bit_and, bit_or}
 use Rattle.std.specs.Prelude.{◌⊎◌, ◌&&◌, ◌||◌, drop, nat_eq, nat_lt, not, slice_get, if◌then◌else◌}
-use Rattle.std.proofs.lemmas.Bool.{and_parts, cases_lt, eq-eqb, le-ltb, lt-ltb, ne_eqb}
-use Rattle.noc_packet.specs.Set.{has_bit}
-use Rattle.noc_packet.specs.declared.packet.Beat.{Beat}
-use Rattle.noc_packet.specs.declared.packet.Flit.{Flit}
-use Rattle.noc_packet.proofs.SetLemmas.{both_members, either_members}
-use Rattle.noc_route.specs.Routes.{Routes}
-use Rattle.noc_alloc.specs.Members.{MembersAreBelow}
-use Rattle.noc_view.specs.View.{Site, View, size_of, view_buffer, first_flit, is_tail, decisions_of, view_after_commit}
-use Rattle.noc_sets.specs.Injected.{HasInjected, injected_to}
-use Rattle.noc_sets.specs.Column.{Column, RouterMarks, IsColumn}
 use Rattle.noc_sets.specs.Planes.{more_than_one}
-use Rattle.noc_sets.specs.Taken.{HasSize, HasTaken, credit_from, flit_from}
-use Rattle.noc_sets.proofs.MemberLemmas.{less_members}
 use Rattle.noc_sets.proofs.PlaneLemmas.{more-members}
-use Rattle.noc_sets.proofs.SwitchLemmas.{AreMoved}
-use Rattle.noc_sets.specs.Moves.{AreTails}
-use Rattle.noc_sets.specs.Ended.{ShowsEnded, ended_next, ended_taken, lane_released, leads_tail, AreConsecutive, holds_tail}
+use Rattle.noc_sets.specs.Ended.{ended_next, ended_taken, lane_released, leads_tail}
 use Rattle.noc_sets.proofs.TailLemmas.{tail-first, tail-joined, tail-left}
+use Rattle.noc_theory_bits.proofs.Common.{and_parts, cases_lt, eq-eqb, le-ltb, lt-ltb, ne_eqb, has_bit, Beat, Flit, both_members, either_members, Routes, MembersAreBelow, Site, View, size_of, view_buffer, first_flit, is_tail, decisions_of, view_after_commit, HasInjected, injected_to, Column, RouterMarks, IsColumn, HasSize, HasTaken, credit_from, flit_from, less_members, AreMoved, AreTails, ShowsEnded, AreConsecutive, holds_tail, ShowsWires}
 use Rattle.noc_theory_bits.proofs.network.PutLemmas.{buffer-next}
 use Rattle.noc_theory_bits.proofs.routers.SettleLemmas.{committed-site}
-use Rattle.noc_theory_bits.specs.Wires.{ShowsWires}
 
 or-below : (n a b : ℕ) → MembersAreBelow n a → MembersAreBelow n b → MembersAreBelow n (bit_or a b)
 or-below n a b la lb k e = by (has_bit a k) refl

@@ -1,41 +1,12 @@
 -- What the words of a router find of a channel in a cycle is what its view finds.
 use Rattle.std.proofs.Common.{◌≡◌, ◌≢◌, ℕ, suc, ◌/◌, ◌%◌, ◌^◌, ◌<◌, Bool, true, false, List, Option, Some, None, refl, ap, ap₂, sym, ◌∙◌, subst, arith, bit_or}
 use Rattle.std.specs.Prelude.{◌&&◌, ◌||◌, not, option_map, slice_index_or, if◌then◌else◌}
-use Rattle.std.proofs.lemmas.Bool.{eq-eqb, eqb-true, false≢true}
-use Rattle.noc_topo.specs.Shape.{local_port, nodes, ports}
-use Rattle.noc_topo.specs.Lists.{tabulate}
-use Rattle.noc_topo.proofs.ListLemmas.{get_or-tabulate}
-use Rattle.noc_packet.specs.Set.{IsLeast, has_bit}
-use Rattle.noc_packet.specs.declared.packet.Beat.{Beat}
-use Rattle.noc_packet.proofs.SetLemmas.{either_members, has_bit-zero}
-use Rattle.noc_route.specs.Routes.{Routes}
-use Rattle.noc_vc.specs.Input.{is_active, is_empty, is_idle_phase, is_waiting}
-use Rattle.noc_vc.specs.declared.input.InputState.{InputState}
-use Rattle.noc_vc.specs.declared.input.InputState.TheVariants.{Idle, Waiting, Active}
-use Rattle.noc_view.specs.Arrivals.{arrivals_after, is_expected_in}
-use Rattle.noc_view.specs.Found.{empty_finding}
-use Rattle.noc_view.specs.Verdict.{out_of}
 use Rattle.noc_view.specs.VerdictSets.{verdict_by}
-use Rattle.noc_view.specs.View.{Site, View, claim_in, decisions_of, finding_of, flit_out, local_step, port_and_vc, size_of, tail_packet, view_after_commit, view_after_inject, view_after_takes, view_buffer, view_claim, view_input, view_round, with_arrival, with_misfit}
-use Rattle.noc_view.specs.declared.finding.Finding.{Finding}
-use Rattle.noc_view.specs.declared.verdict.Verdict.{Verdict}
-use Rattle.noc_theory.specs.declared.limits.TheConstants.{CYCLE_LIMIT}
-use Rattle.noc_theory.specs.Good.{IsGoodSetup}
-use Rattle.noc_theory.specs.Lockstep.{findings_before, view_at, view_in}
-use Rattle.noc_theory.specs.Network.{Setup, size}
-use Rattle.noc_sets.specs.Column.{Column, RouterMarks, ShowsPhase, IsColumn}
-use Rattle.noc_sets.specs.Counts.{lane_verdicts, verdict_sets}
-use Rattle.noc_sets.specs.Cycle.{HasDecided, Still}
+use Rattle.noc_view.specs.View.{port_and_vc}
+use Rattle.noc_sets.specs.Counts.{verdict_sets}
 use Rattle.noc_sets.specs.Found.{found_in, out_in, packet_in}
-use Rattle.noc_sets.specs.Grants.{Allocation, asked_of}
-use Rattle.noc_sets.specs.Layout.{IsLayoutOf, Layout}
-use Rattle.noc_sets.specs.Passes.{Effects}
-use Rattle.noc_sets.specs.Sets.{least}
-use Rattle.noc_sets.specs.Source.{Start}
 use Rattle.noc_sets.proofs.AskLemmas.{asked-is}
-use Rattle.noc_sets.proofs.MemberLemmas.{below_fits, least_is, power-members}
-use Rattle.noc_sets.proofs.StandLemmas.{verdicts}
-use Rattle.noc_theory_bits.specs.Network.{permitted}
+use Rattle.noc_theory_bits.proofs.Common.{eq-eqb, eqb-true, false≢true, local_port, nodes, ports, tabulate, get_or-tabulate, IsLeast, has_bit, Beat, either_members, has_bit-zero, Routes, is_active, is_empty, is_idle_phase, is_waiting, InputState, Idle, Waiting, Active, arrivals_after, is_expected_in, empty_finding, out_of, Site, View, claim_in, decisions_of, finding_of, flit_out, local_step, size_of, tail_packet, view_after_commit, view_after_inject, view_after_takes, view_buffer, view_claim, view_input, view_round, with_arrival, with_misfit, Finding, Verdict, CYCLE_LIMIT, IsGoodSetup, findings_before, view_at, view_in, Setup, size, Column, RouterMarks, ShowsPhase, IsColumn, lane_verdicts, HasDecided, Still, Allocation, asked_of, IsLayoutOf, Layout, Effects, least, Start, below_fits, least_is, power-members, verdicts, permitted}
 use Rattle.noc_theory_bits.proofs.bits.CountedLemmas.{decides, fit, some-vcs, turns, was}
 use Rattle.noc_theory_bits.proofs.bits.CycleLemmas.{packet-found, picks-there}
 use Rattle.noc_theory_bits.proofs.bits.FreezeLemmas.{ShowsStill}

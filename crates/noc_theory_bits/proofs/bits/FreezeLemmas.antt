@@ -2,45 +2,20 @@
 -- and a flit is injected.
 use Rattle.std.proofs.Common.{◌≡◌, ◌≢◌, ℕ, ◌+◌, ◌*◌, ◌^◌, ◌<◌, ◌≤◌, Bool, true, false, List, [], length, Option, Some, None, IfSome, refl, ap, sym, ◌∙◌, subst, arith, inl, inr, bit_or}
 use Rattle.std.specs.Prelude.{◌⊎◌, ◌&&◌, ◌||◌, is_some, nat_eq, nat_le, nat_lt, if◌then◌else◌}
-use Rattle.std.proofs.lemmas.Bool.{cases_eq, eq-eqb, eqb-true, false≢true, ne_eqb, true≢false}
-use Rattle.std.proofs.lemmas.Nat.{mul-add-lt}
-use Rattle.std.proofs.lemmas.Option.{same_Some}
 use Rattle.std.proofs.Math.Pow.{pow_pos}
-use Rattle.noc_topo.specs.Shape.{nodes, local_port, neighbour, ports}
-use Rattle.noc_topo.specs.Lists.{tabulate}
-use Rattle.noc_topo.proofs.ListLemmas.{get_or-tabulate, length-tabulate}
-use Rattle.noc_packet.specs.Set.{has_bit}
-use Rattle.noc_packet.specs.declared.packet.Beat.{Beat}
-use Rattle.noc_packet.specs.declared.packet.Flit.{Flit}
-use Rattle.noc_packet.specs.declared.packet.Packet.{Packet}
-use Rattle.noc_packet.proofs.SetLemmas.{both_members, either_members, has_bit-zero, zero_from_none}
-use Rattle.noc_view.specs.View.{Site, View, size_of, local_channel, is_tail, view_after_takes}
-use Rattle.noc_theory.specs.declared.limits.TheConstants.{CYCLE_LIMIT}
-use Rattle.noc_theory.specs.Good.{IsGoodSetup}
-use Rattle.noc_theory.specs.Lockstep.{beats_at, beats_in, beat_by, site_at, view_at}
-use Rattle.noc_theory.specs.Network.{Setup, frozen_at, state_at}
-use Rattle.noc_theory.proofs.join.ViewLemmas.{view_at-seen}
-use Rattle.noc_sets.specs.Sets.{lowest, least}
-use Rattle.noc_sets.specs.Column.{Column, IsColumn, RouterMarks, ShowsSending}
-use Rattle.noc_sets.specs.Passes.{AreOwners, frozen_column, lane_begins, lane_filled, lane_free, lane_injected, lane_raised}
-use Rattle.noc_sets.specs.Planes.{wrong_from, AreAll}
-use Rattle.noc_sets.specs.Source.{due_of, ShowsNext, ShowsQueue, ShowsSource, Source, Start, begun_source, first_source, next_source, packet_begun, sent_source, start_in}
-use Rattle.noc_sets.proofs.MemberLemmas.{least_is, lowest_members, zero_members}
-use Rattle.noc_sets.proofs.StandLemmas.{AreFilled}
+use Rattle.noc_sets.specs.Passes.{frozen_column, lane_filled, lane_free}
+use Rattle.noc_sets.specs.Source.{first_source, next_source, packet_begun, sent_source, start_in}
+use Rattle.noc_sets.proofs.MemberLemmas.{zero_members}
 use Rattle.noc_sets.proofs.FlitLemmas.{begins_fits}
-use Rattle.noc_sets.specs.Injected.{HasInjected, injected_to, injection_in}
-use Rattle.noc_sets.specs.Cycle.{Router}
-use Rattle.noc_sets.specs.Ended.{ShowsEnded, ended_frozen, ended_taken}
+use Rattle.noc_sets.specs.Ended.{ended_frozen, ended_taken}
 use Rattle.noc_sets.proofs.SourceLemmas.{HasInjectedFrom, first-injected, next-injected, nothing-injected}
-use Rattle.noc_sets.specs.Layout.{IsLayoutOf, Layout}
+use Rattle.noc_theory_bits.proofs.Common.{cases_eq, eq-eqb, eqb-true, false≢true, ne_eqb, true≢false, mul-add-lt, same_Some, nodes, local_port, neighbour, ports, tabulate, get_or-tabulate, length-tabulate, has_bit, Beat, Flit, Packet, both_members, either_members, has_bit-zero, zero_from_none, Site, View, size_of, local_channel, is_tail, view_after_takes, CYCLE_LIMIT, IsGoodSetup, beats_at, beats_in, beat_by, site_at, view_at, Setup, frozen_at, state_at, view_at-seen, lowest, least, Column, IsColumn, RouterMarks, ShowsSending, AreOwners, lane_begins, lane_injected, lane_raised, wrong_from, AreAll, due_of, ShowsNext, ShowsQueue, ShowsSource, Source, Start, begun_source, least_is, lowest_members, AreFilled, HasInjected, injected_to, injection_in, Router, ShowsEnded, IsLayoutOf, Layout, ShowsHolders, holder_at, ShowsRouter}
 use Rattle.noc_theory_bits.proofs.network.NetworkLemmas.{beats-taken, taken_view, taken-seen, frozen_view, frozen-seen, frozen-tidy, start-size, start-tidy}
 use Rattle.noc_theory_bits.proofs.routers.CameLemmas.{SendsLow, injection-low}
 use Rattle.noc_theory_bits.proofs.routers.FreezeLemmas.{sent, column-frozen, filled-frozen}
 use Rattle.noc_theory_bits.proofs.routers.InjectLemmas.{HasSent}
 use Rattle.noc_theory_bits.proofs.routers.CommittedLemmas.{size-taken}
 use Rattle.noc_theory_bits.proofs.routers.InjectedLemmas.{has-injected}
-use Rattle.noc_theory_bits.specs.Owners.{ShowsHolders, holder_at}
-use Rattle.noc_theory_bits.specs.Network.{ShowsRouter}
 use Rattle.noc_theory_bits.proofs.bits.BegunLemmas.{Begins, begun-holds, holder-frozen}
 use Rattle.noc_theory_bits.proofs.bits.EndedLemmas.{ended-injected, ended-taken}
 use Rattle.noc_theory_bits.proofs.bits.PacketLemmas.{with-packets}

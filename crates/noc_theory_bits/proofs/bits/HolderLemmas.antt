@@ -2,45 +2,24 @@
 -- the grants of the senders.
 use Rattle.std.proofs.Common.{◌≡◌, ℕ, ◌+◌, ◌-◌, ◌*◌, ◌/◌, ◌%◌, ◌<◌, ◌≤◌, Bool, true, false, List, [], ◌∷◌, length, Option, Some, None, IfSome, suc, refl, ap, ap₂, sym, ◌∙◌, subst, arith, inl, inr, get_or}
 use Rattle.std.specs.Prelude.{◌⊎◌, ◌&&◌, ◌||◌, find, not, is_some, nat_eq, option_and_then, option_map, unwrap_or, IsTrue, if◌then◌else◌}
-use Rattle.std.proofs.lemmas.Bool.{cases_lt, eqb-true, false≢true, ne_eqb}
-use Rattle.std.proofs.lemmas.List.{get_or_past}
-use Rattle.std.proofs.lemmas.Nat.{div-mul-add, mod-mul-add, mod_below, mul-add-lt, div-add-mod'}
-use Rattle.std.proofs.lemmas.Option.{none-some, same_Some}
-use Rattle.noc_topo.specs.Lists.{Has, below, tabulate}
-use Rattle.noc_topo.specs.Shape.{IsLinkBack, nodes, ports, local_port, neighbour}
-use Rattle.noc_topo.proofs.LinkLemmas.{hop_of, link_back}
-use Rattle.noc_topo.proofs.ListLemmas.{get_or-tabulate, length-tabulate}
-use Rattle.noc_packet.specs.declared.packet.Flit.{Flit}
-use Rattle.noc_packet.specs.declared.packet.Beat.{Beat}
-use Rattle.noc_packet.specs.Packet.{flit_at}
-use Rattle.noc_route.specs.Channel.{Channel, Link, Inject, Eject, is_link}
+use Rattle.noc_topo.specs.Shape.{IsLinkBack}
+use Rattle.noc_topo.proofs.LinkLemmas.{hop_of}
 use Rattle.noc_route.specs.Routes.{permits}
-use Rattle.noc_vc.specs.Input.{Input}
-use Rattle.noc_vc.specs.Output.{Output, ejection_output}
-use Rattle.noc_vc.specs.declared.output.OutputState.TheVariants.{Owned, Draining}
-use Rattle.noc_view.specs.View.{Site, View, size_of, view_buffer, view_input, view_output, view_round, decisions_of, idle_beat}
-use Rattle.noc_view.specs.Verdict.{Round}
-use Rattle.noc_theory.specs.Good.{IsGoodSetup}
-use Rattle.noc_theory.specs.Lockstep.{beats_at, beats_in, beat_by, flit_on, view_at, seen_input, seen_holder, seen_sender, is_present, has_come}
-use Rattle.noc_theory.specs.Network.{Setup, State, Located, Place, On, In, Out, credit_of, size, arriving, leaving, packet_at, owner_of, is_on, tail_place, state_at, frozen_at, after_verdicts, is_released, network_cycle, Source}
-use Rattle.noc_theory.specs.Seen.{IsSeen}
-use Rattle.noc_theory.proofs.worms.OwnedLemmas.{IsOnce, once-same, owner-has, owner-is}
+use Rattle.noc_theory.specs.Lockstep.{flit_on, is_present}
+use Rattle.noc_theory.specs.Network.{credit_of, is_released, Source}
+use Rattle.noc_theory.proofs.worms.OwnedLemmas.{IsOnce, once-same}
 use Rattle.noc_theory.proofs.worms.BufferLemmas.{find-passes, same_channel-true}
-use Rattle.noc_theory.proofs.worms.MemberLemmas.{find-has}
 use Rattle.noc_theory.proofs.worms.GrantLemmas.{IsGrant}
 use Rattle.noc_theory.proofs.worms.PathLemmas.{no-inject}
 use Rattle.noc_theory.proofs.verdicts.AfterLemmas.{owned-given}
 use Rattle.noc_theory.proofs.join.PlaceViewLemmas.{arrives-in}
 use Rattle.noc_theory.proofs.worms.VerdictPhaseLemmas.{owned-before}
 use Rattle.noc_theory.proofs.verdicts.MoverLemmas.{GivenTo, grant-given, given-grant}
-use Rattle.noc_theory.proofs.join.OrderedStateLemmas.{ordered-frozen}
-use Rattle.noc_theory.proofs.join.ViewLemmas.{view_at-seen}
-use Rattle.noc_theory.proofs.worms.BuiltLemmas.{well-formed}
 use Rattle.noc_theory.proofs.worms.WormOrderLemmas.{worm_order-at}
-use Rattle.noc_sets.specs.Taken.{flit_from, flit_on_vc}
+use Rattle.noc_theory_bits.proofs.Common.{cases_lt, eqb-true, false≢true, ne_eqb, get_or_past, div-mul-add, mod-mul-add, mod_below, mul-add-lt, div-add-mod', none-some, same_Some, Has, below, tabulate, nodes, ports, local_port, neighbour, link_back, get_or-tabulate, length-tabulate, Flit, Beat, flit_at, Channel, Link, Inject, Eject, is_link, Input, Output, ejection_output, Owned, Draining, Site, View, size_of, view_buffer, view_input, view_output, view_round, decisions_of, idle_beat, Round, IsGoodSetup, beats_at, beats_in, beat_by, view_at, seen_input, seen_holder, seen_sender, has_come, Setup, State, Located, Place, On, In, Out, size, arriving, leaving, packet_at, owner_of, is_on, tail_place, state_at, frozen_at, after_verdicts, network_cycle, IsSeen, owner-has, owner-is, find-has, ordered-frozen, view_at-seen, well-formed, flit_from, flit_on_vc, ShowsHolders, frozen_of, holder_at}
 use Rattle.noc_theory_bits.proofs.network.NetworkLemmas.{good, frozen-seen, frozen-tidy, steady-state, steady-still}
 use Rattle.noc_theory_bits.proofs.wiring.WireLemmas.{flit-at}
-use Rattle.noc_theory_bits.specs.Owners.{ShowsHolders, frozen_of, granted_to, grants_of, heard, heard_over, holder_at, told}
+use Rattle.noc_theory_bits.specs.Owners.{granted_to, grants_of, heard, heard_over, told}
 
 -- ---- what a router sees
 module _ (net : Setup) (S : State) (r : ℕ) (v : View) (seen : IsSeen net S r v) where

@@ -1,21 +1,8 @@
 -- The numbers that a still router keeps of its channels with a flit are those of packets.
 use Rattle.std.proofs.Common.{◌≡◌, ℕ, ◌^◌, ◌<◌, true, List, [], ◌∷◌, length, Option, Some, IfSome, refl, subst, sym, ◌∙◌}
 use Rattle.std.specs.Prelude.{not}
-use Rattle.std.proofs.lemmas.Bool.{false≢true}
-use Rattle.noc_topo.specs.Shape.{nodes}
-use Rattle.noc_packet.specs.Set.{has_bit}
-use Rattle.noc_packet.specs.declared.packet.Flit.{Flit}
-use Rattle.noc_vc.specs.Input.{is_empty}
-use Rattle.noc_view.specs.View.{Site, size_of, view_buffer}
-use Rattle.noc_theory.specs.Good.{IsGoodSetup}
-use Rattle.noc_theory.specs.Network.{Setup, frozen_at, size}
-use Rattle.noc_theory.specs.declared.limits.TheConstants.{CYCLE_LIMIT}
-use Rattle.noc_sets.specs.Cycle.{Router, packets_in, still_of}
-use Rattle.noc_sets.specs.Layout.{IsLayoutOf, Layout}
-use Rattle.noc_sets.specs.Passes.{AreOwners, lane_raised}
-use Rattle.noc_sets.specs.Source.{Start}
-use Rattle.noc_theory_bits.specs.Network.{ShowsRouter}
-use Rattle.noc_theory_bits.specs.Owners.{frozen_of, holder_at}
+use Rattle.noc_sets.specs.Cycle.{packets_in, still_of}
+use Rattle.noc_theory_bits.proofs.Common.{false≢true, nodes, has_bit, Flit, is_empty, Site, size_of, view_buffer, IsGoodSetup, Setup, frozen_at, size, CYCLE_LIMIT, Router, IsLayoutOf, Layout, AreOwners, lane_raised, Start, ShowsRouter, frozen_of, holder_at}
 use Rattle.noc_theory_bits.proofs.bits.FreezeLemmas.{ShowsStill, shows-still}
 use Rattle.noc_theory_bits.proofs.bits.HolderLemmas.{first-holder, holder-has}
 use Rattle.noc_theory_bits.proofs.network.NetworkLemmas.{frozen-seen, steady-still}

@@ -1,18 +1,8 @@
 -- A network by the words of its routers: after a cycle, and after many.
 use Rattle.std.proofs.Common.{◌≡◌, ℕ, zero, suc, ◌<◌, ◌≤◌, Bool, true, refl, sym, ◌∙◌, arith, [], subst}
 use Rattle.std.specs.Prelude.{slice_index_or}
-use Rattle.std.proofs.lemmas.Bool.{eq-eqb, true≢false}
-use Rattle.noc_topo.specs.Shape.{nodes}
-use Rattle.noc_topo.proofs.ListLemmas.{get_or-tabulate}
-use Rattle.noc_view.specs.Found.{empty_finding}
-use Rattle.noc_theory.specs.declared.limits.TheConstants.{CYCLE_LIMIT}
-use Rattle.noc_theory.specs.Good.{IsGoodSetup}
-use Rattle.noc_theory.specs.Lockstep.{counts_before, findings_before, view_at, view_in}
-use Rattle.noc_theory.specs.Network.{Setup, packet_at, size}
-use Rattle.noc_sets.specs.Counts.{ten_counts}
-use Rattle.noc_sets.specs.Cycle.{Router, Turn}
-use Rattle.noc_sets.specs.Layout.{IsLayoutOf, Layout}
-use Rattle.noc_theory_bits.specs.Network.{AreJoined, HasRun, HasRunTo, ShowsNetwork, ShowsOwn, ShowsRouter, Words, all_starts, tells_in, with_router}
+use Rattle.noc_theory_bits.proofs.Common.{eq-eqb, true≢false, nodes, get_or-tabulate, empty_finding, CYCLE_LIMIT, IsGoodSetup, counts_before, findings_before, view_at, view_in, Setup, packet_at, size, ten_counts, Router, Turn, IsLayoutOf, Layout, ShowsNetwork, ShowsRouter, Words, all_starts}
+use Rattle.noc_theory_bits.specs.Network.{AreJoined, HasRun, HasRunTo, ShowsOwn, tells_in, with_router}
 use Rattle.noc_theory_bits.proofs.bits.OwnLemmas.{last-of-all, last-of-own, own-next}
 use Rattle.noc_theory_bits.proofs.bits.OpeningLemmas.{network-opens}
 use Rattle.noc_theory_bits.proofs.bits.ThroughLemmas.{through}

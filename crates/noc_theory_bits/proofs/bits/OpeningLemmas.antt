@@ -1,24 +1,13 @@
 -- The words of all routers before the first cycle show the network.
 use Rattle.std.proofs.Common.{◌≡◌, ℕ, ◌<◌, ◌≤◌, [], Option, Some, None, IfSome, sum, refl, ap, sym, ◌∙◌, subst, arith, length, ◌-◌}
-use Rattle.std.proofs.lemmas.Bool.{false≢true}
 use Rattle.std.specs.Prelude.{replicate, slice_index_or}
-use Rattle.std.proofs.lemmas.List.{get_or-replicate}
-use Rattle.noc_topo.specs.Shape.{nodes}
-use Rattle.noc_packet.proofs.SetLemmas.{has_bit-zero}
-use Rattle.noc_view.specs.View.{size_of, View}
-use Rattle.noc_theory.specs.Good.{IsGoodSetup, IsGoodPacket}
-use Rattle.noc_theory.specs.Lockstep.{beats_at, beats_in, view_at, site_at}
-use Rattle.noc_theory.specs.Network.{Setup, opening_state, state_at, arrival_in, out_cycle, packet_at, tail_place, Source}
-use Rattle.noc_theory.proofs.join.OpeningViewLemmas.{opens}
+use Rattle.noc_theory.specs.Good.{IsGoodPacket}
+use Rattle.noc_theory.specs.Network.{out_cycle, Source}
 use Rattle.noc_theory.proofs.worms.OpeningLemmas.{at-source}
-use Rattle.noc_sets.specs.Source.{ShowsSource, Source as SourceWords}
-use Rattle.noc_sets.specs.Counts.{ByVerdict, ShowsCounts, nine_counts, no_counts, ten_counts}
-use Rattle.noc_sets.specs.Cycle.{Links, Router}
-use Rattle.noc_sets.specs.Ended.{ShowsEnded, holds_tail}
-use Rattle.noc_sets.specs.Layout.{IsLayoutOf, Layout}
-use Rattle.noc_theory_bits.specs.Network.{HasOpened, ShowsRouter, HaveOpened, ShowsNetwork, Words, all_starts}
-use Rattle.noc_theory_bits.specs.Owners.{ShowsHolders, holder_at}
-use Rattle.noc_theory_bits.specs.Wires.{ShowsWires}
+use Rattle.noc_sets.specs.Source.{Source as SourceWords}
+use Rattle.noc_sets.specs.Counts.{no_counts}
+use Rattle.noc_theory_bits.proofs.Common.{false≢true, get_or-replicate, nodes, has_bit-zero, size_of, View, IsGoodSetup, beats_at, beats_in, view_at, site_at, Setup, opening_state, state_at, arrival_in, packet_at, tail_place, opens, ShowsSource, ByVerdict, ShowsCounts, nine_counts, ten_counts, Links, Router, ShowsEnded, holds_tail, IsLayoutOf, Layout, ShowsRouter, ShowsNetwork, Words, all_starts, ShowsHolders, holder_at, ShowsWires}
+use Rattle.noc_theory_bits.specs.Network.{HasOpened, HaveOpened}
 use Rattle.noc_theory_bits.proofs.bits.HolderLemmas.{holder-has}
 use Rattle.noc_theory_bits.proofs.network.NetworkLemmas.{good}
 use Rattle.noc_theory_bits.proofs.opening.OpeningLemmas.{opening-shows}

@@ -2,22 +2,12 @@
 -- after the cycle show it at the next, if what comes from the others is right.
 use Rattle.std.proofs.Common.{◌≡◌, ℕ, zero, suc, ◌+◌, ◌*◌, ◌<◌, ◌≤◌, Bool, true, false, length, Option, Some, refl, ap, sym, ◌∙◌, subst, arith, inl, inr}
 use Rattle.std.specs.Prelude.{◌⊎◌, ◌&&◌, nat_lt, if◌then◌else◌}
-use Rattle.std.proofs.lemmas.Bool.{and_parts, cases_lt, false≢true, lt-ltb, ltb-true, true≢false}
-use Rattle.std.proofs.lemmas.Nat.{mul-add-lt}
-use Rattle.noc_topo.specs.Shape.{neighbour, nodes, ports}
-use Rattle.noc_topo.proofs.LinkLemmas.{link_back}
-use Rattle.noc_theory.specs.declared.limits.TheConstants.{CYCLE_LIMIT}
-use Rattle.noc_theory.specs.Good.{IsGoodSetup}
-use Rattle.noc_theory.specs.Lockstep.{has_event_at}
-use Rattle.noc_theory.specs.Network.{Setup, arrival_in, packet_at, state_at}
 use Rattle.noc_theory.specs.Progress.{events, last_event_before}
 use Rattle.noc_theory.proofs.join.LastEventLemmas.{event-here, event-somewhere}
 use Rattle.noc_sets.specs.Counts.{ShowsLastEvent}
-use Rattle.noc_sets.specs.Cycle.{Links, Turn}
-use Rattle.noc_sets.specs.Layout.{IsLayoutOf, Layout}
-use Rattle.noc_theory_bits.specs.Network.{HasRunOwn, IsOwn, ShowsLastOf, ShowsOwn, Words, all_starts, numbers_in}
-use Rattle.noc_theory_bits.specs.Sends.{Sends, beat_of}
-use Rattle.noc_theory_bits.specs.Wires.{ShowsBeat}
+use Rattle.noc_theory_bits.proofs.Common.{and_parts, cases_lt, false≢true, lt-ltb, ltb-true, true≢false, mul-add-lt, neighbour, nodes, ports, link_back, CYCLE_LIMIT, IsGoodSetup, has_event_at, Setup, arrival_in, packet_at, state_at, Links, Turn, IsLayoutOf, Layout, Words, all_starts, numbers_in, beat_of, ShowsBeat}
+use Rattle.noc_theory_bits.specs.Network.{HasRunOwn, IsOwn, ShowsLastOf, ShowsOwn}
+use Rattle.noc_theory_bits.specs.Sends.{Sends}
 use Rattle.noc_theory_bits.proofs.bits.ThroughLemmas.{IsThrough, router-next, sends, through}
 use Rattle.noc_theory_bits.proofs.network.ArrivalLemmas.{TailOut, no-arrival, out-or-not, tail-arrives, tail-ends}
 use Rattle.noc_theory_bits.proofs.network.NetworkLemmas.{good}

@@ -2,13 +2,8 @@
 -- that hold the channels.
 use Rattle.std.proofs.Common.{◌≡◌, ℕ, ◌<◌, Option, Some, refl, ap, sym, ◌∙◌, subst}
 use Rattle.std.specs.Prelude.{IfSome}
-use Rattle.noc_vc.specs.declared.output.OutputState.{OutputState}
-use Rattle.noc_vc.specs.declared.output.OutputState.TheVariants.{Idle as Free, Owned, Draining}
-use Rattle.noc_view.specs.View.{Site, View, size_of, view_input, view_output}
-use Rattle.noc_theory.specs.Network.{Setup, State, size}
-use Rattle.noc_theory.specs.Seen.{IsSeen}
-use Rattle.noc_sets.specs.Column.{Column, IsColumn, RouterMarks, ShowsHolder}
-use Rattle.noc_theory_bits.specs.Owners.{ShowsHolders, holder_at}
+use Rattle.noc_vc.specs.declared.output.OutputState.TheVariants.{Idle as Free}
+use Rattle.noc_theory_bits.proofs.Common.{OutputState, Owned, Draining, Site, View, size_of, view_input, view_output, Setup, State, size, IsSeen, Column, IsColumn, RouterMarks, ShowsHolder, ShowsHolders, holder_at}
 use Rattle.noc_theory_bits.proofs.bits.HolderLemmas.{seen-packet}
 use Rattle.noc_theory_bits.proofs.routers.ChosenLemmas.{phase-as}
 

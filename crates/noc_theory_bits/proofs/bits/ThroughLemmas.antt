@@ -1,35 +1,14 @@
 -- A cycle of one router: where its words show its view at a count, what leaves it is what it sends
 -- in the network, and once it has what its neighbours send, its words show the next.
-use Rattle.std.proofs.Common.{◌≡◌, ℕ, suc, ◌+◌, ◌*◌, ◌/◌, ◌%◌, ◌<◌, ◌≤◌, List, Option, ap, sym, ◌∙◌, subst, arith, inl, inr, mul-le-mul_right, Some, None, true}
-use Rattle.std.specs.Prelude.{◌⊎◌, IfSome, is_some, option_map, slice_index_or}
-use Rattle.std.proofs.lemmas.Nat.{div-add-mod', mod_below, mul-add-lt}
-use Rattle.std.proofs.lemmas.Bool.{false≢true}
-use Rattle.noc_topo.specs.Shape.{IsGrid, nodes, ports, neighbour}
-use Rattle.noc_packet.specs.Set.{has_bit}
-use Rattle.noc_packet.specs.declared.packet.Beat.{Beat}
-use Rattle.noc_packet.proofs.SetLemmas.{has_bit-zero}
-use Rattle.noc_alloc.specs.Members.{MembersAreBelow}
-use Rattle.noc_view.specs.View.{Site, View, size_of, is_tail, view_round}
-use Rattle.noc_view.specs.Found.{empty_finding}
-use Rattle.noc_theory.specs.declared.limits.TheConstants.{CYCLE_LIMIT}
-use Rattle.noc_theory.specs.Good.{IsGoodSetup}
-use Rattle.noc_theory.specs.Lockstep.{beats_at, beats_in, has_event_at, site_at, view_at, findings_before}
-use Rattle.noc_theory.specs.Network.{Setup, frozen_at, size, state_at}
-use Rattle.noc_theory.proofs.join.ViewLemmas.{view_at-seen}
-use Rattle.noc_sets.specs.Column.{Column, IsColumn, RouterMarks}
-use Rattle.noc_sets.specs.Counts.{ByVerdict, ShowsCounts}
-use Rattle.noc_sets.specs.Cycle.{HasSlept, HasWorked, Links, Router, Still, Turn, came_in, packets_in, still_of}
-use Rattle.noc_sets.specs.Ended.{ShowsEnded}
+use Rattle.std.proofs.Common.{◌≡◌, ℕ, suc, ◌+◌, ◌*◌, ◌/◌, ◌%◌, ◌<◌, ◌≤◌, List, Option, ap, sym, ◌∙◌, subst, arith, mul-le-mul_right, Some, None}
+use Rattle.std.specs.Prelude.{IfSome, is_some, option_map, slice_index_or}
+use Rattle.noc_topo.specs.Shape.{IsGrid}
+use Rattle.noc_sets.specs.Cycle.{HasWorked, came_in, packets_in, still_of}
 use Rattle.noc_sets.specs.Gather.{comes_over, gathered}
-use Rattle.noc_sets.specs.Layout.{IsLayoutOf, Layout}
-use Rattle.noc_sets.specs.Source.{ShowsSource, Source, Start}
-use Rattle.noc_sets.specs.Taken.{credit_from, flit_from}
 use Rattle.noc_sets.proofs.GatherLemmas.{gathered-is, gathered-links}
-use Rattle.noc_theory_bits.specs.Network.{HasGathered, HasTurned, ShowsRouter, permitted}
-use Rattle.noc_theory_bits.specs.Owners.{ShowsHolders, frozen_of, holder_at}
-use Rattle.noc_theory_bits.specs.Sends.{Sends, beat_of}
-use Rattle.noc_theory_bits.specs.Wires.{ShowsBeat, ShowsLeaving, ShowsWires}
-use Rattle.noc_theory_bits.proofs.bits.AsleepLemmas.{column-rests, counts-rest, ended-rests, event-rests, grants-nothing, holders-rest, leaves-nothing, source-rests, found-nothing}
+use Rattle.noc_theory_bits.proofs.Common.{div-add-mod', mod_below, mul-add-lt, nodes, ports, neighbour, has_bit, Beat, MembersAreBelow, Site, View, size_of, is_tail, view_round, empty_finding, CYCLE_LIMIT, IsGoodSetup, beats_at, beats_in, has_event_at, site_at, view_at, findings_before, Setup, frozen_at, size, state_at, view_at-seen, Column, IsColumn, RouterMarks, ByVerdict, ShowsCounts, Links, Router, Still, Turn, ShowsEnded, IsLayoutOf, Layout, ShowsSource, Source, Start, credit_from, flit_from, ShowsRouter, permitted, ShowsHolders, frozen_of, holder_at, beat_of, ShowsBeat, ShowsLeaving, ShowsWires}
+use Rattle.noc_theory_bits.specs.Network.{HasGathered, HasTurned}
+use Rattle.noc_theory_bits.specs.Sends.{Sends}
 use Rattle.noc_theory_bits.proofs.bits.CameLemmas.{came-event}
 use Rattle.noc_theory_bits.proofs.bits.CountedLemmas.{counts-next, event-next}
 use Rattle.noc_theory_bits.proofs.bits.CycleLemmas.{column-next, ended-after, grants-are, leaves, source-after}
@@ -37,10 +16,8 @@ use Rattle.noc_theory_bits.proofs.bits.FreezeLemmas.{ShowsStill, shows-still}
 use Rattle.noc_theory_bits.proofs.bits.HolderLemmas.{holders-heard, tells-granted}
 use Rattle.noc_theory_bits.proofs.bits.PacketLemmas.{with-packets}
 use Rattle.noc_theory_bits.proofs.bits.WireLemmas.{beat-shown, credits-over, flits-over, tails-over}
-use Rattle.noc_theory_bits.proofs.network.NetworkLemmas.{frozen-seen, frozen_view, good}
+use Rattle.noc_theory_bits.proofs.network.NetworkLemmas.{frozen_view, good}
 use Rattle.noc_theory_bits.proofs.bits.ArrivedLemmas.{ShowsArrived, arrived-shows}
-use Rattle.noc_theory_bits.proofs.network.ArrivalLemmas.{GoesOut}
-use Rattle.noc_theory_bits.proofs.network.MovingLemmas.{moves-are}
 use Rattle.noc_theory_bits.proofs.bits.FoundLemmas.{found-is, found-next}
 
 -- router r is through a cycle: its words after it, but for the numbers of packets that it is told,
@@ -59,12 +36,6 @@ pub record IsThrough (count : ℕ) (net : Setup) (n r : ℕ) (starts : List Star
 
 module _ {count : ℕ} (net : Setup) (setup : IsGoodSetup net) (n : ℕ) (few : n < CYCLE_LIMIT) (layout : Layout) (is_layout : IsLayoutOf count net.relation net.depth layout) (starts : List Start) (r : ℕ) (l : r < nodes net.relation.grid)
     (b : Router) (shows : ShowsRouter count net n r starts b) (t : Turn) where
-  abbrev Works : Type 0
-  Works = HasWorked (ports net.relation.grid) net.relation.vcs layout starts (permitted net r) n b t
-
-  abbrev Through : Type 0
-  Through = IsThrough count net n r starts (packets_in layout starts n b) t
-
   abbrev pub still : HasWorked (ports net.relation.grid) net.relation.vcs layout starts (permitted net r) n b t → Still
   still k = still_of layout starts n k.up b
 
@@ -72,8 +43,8 @@ module _ {count : ℕ} (net : Setup) (setup : IsGoodSetup net) (n : ℕ) (few : 
       → ShowsStill count net n r starts (frozen_view net setup n r l) (still k).column (still k).marks (still k).ended (still k).filled (still k).source
   still-shows k = shows-still net setup n r l starts b shows few layout k.up is_layout k.ups k.up_fits
 
-  awake : HasWorked (ports net.relation.grid) net.relation.vcs layout starts (permitted net r) n b t → Through
-  awake k = record {
+  pub through : HasWorked (ports net.relation.grid) net.relation.vcs layout starts (permitted net r) n b t → IsThrough count net n r starts (packets_in layout starts n b) t
+  through k = record {
     column = column-next net setup n r l layout is_layout starts few (still k) (still-shows k) k.before k.chosen k.picked k.ahead k.effects t.column t.marks t.ended k.decided;
     tails = ended-after net setup n r l layout is_layout starts few (still k) (still-shows k) k.before k.chosen k.picked k.ahead k.effects t.column t.marks t.ended k.decided;
     queue =
@@ -99,33 +70,6 @@ module _ {count : ℕ} (net : Setup) (setup : IsGoodSetup net) (n : ℕ) (few : 
         ∙ found-is net setup n r l layout is_layout starts few (still k) (still-shows k) k.before k.chosen k.picked k.ahead k.effects t.column t.marks t.ended k.decided i u
         ∙ found-next net setup n r l few i u;
   }
-
-  -- of one that sleeps nothing moves
-  nothing : HasSlept n b t → (i : ℕ) → GoesOut net n r i → has_bit 0 i ≡ true
-  nothing k i y =
-      let u : i < size_of (frozen_of net n r).site = subst (λ (s : Site). i < size_of s) (sym (frozen-seen net setup n r l).site) y.mover.channel in
-      (leaves-nothing net setup n r l few starts b shows k.waiting k.active k.injecting k.due k.flits k.credits).credits i u ∙ sym ((moves-are (frozen_of net n r)).each i u) ∙ y.bit
-
-  asleep : HasSlept n b t → Through
-  asleep k = subst (λ (u : Turn). IsThrough count net n r starts (packets_in layout starts n b) u) (sym k.is) (record {
-    column = column-rests net setup n r l few starts b shows k.waiting k.active k.injecting k.due k.flits k.credits;
-    tails = ended-rests net setup n r l few starts b shows k.waiting k.active k.injecting k.due k.flits k.credits;
-    queue = source-rests net setup n r l few starts b shows k.waiting k.active k.injecting k.due k.flits k.credits;
-    counts = counts-rest net setup n r l few starts b shows k.waiting k.active k.injecting k.due k.flits k.credits;
-    leaves = leaves-nothing net setup n r l few starts b shows k.waiting k.active k.injecting k.due k.flits k.credits;
-    holders = holders-rest net setup n r l few starts b shows k.waiting k.active k.injecting k.due k.flits k.credits layout;
-    granted = λ o u. grants-nothing net setup n r l few starts b shows k.waiting k.active k.injecting k.due k.flits k.credits o u;
-    happened = event-rests net setup n r l few starts b shows k.waiting k.active k.injecting k.due k.flits k.credits;
-    arrived = record {
-      goes = λ i u h. absurd (false≢true (sym (has_bit-zero i) ∙ h));
-      comes = λ i y last. absurd (false≢true (sym (has_bit-zero i) ∙ nothing k i y));
-    };
-    found = λ i u. found-nothing net setup n r l few starts b shows k.waiting k.active k.injecting k.due k.flits k.credits i u;
-  })
-
-  pub through : Works ⊎ HasSlept n b t → Through
-  through (inl k) = awake k
-  through (inr k) = asleep k
 
 -- ---- it is, and so are its neighbours
 module _ {count : ℕ} (net : Setup) (setup : IsGoodSetup net) (n : ℕ) (starts : List Start) (r : ℕ) (l : r < nodes net.relation.grid) (packets : ℕ → ℕ) (t : Turn) (one : IsThrough count net n r starts packets t) where

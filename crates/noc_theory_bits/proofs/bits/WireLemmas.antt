@@ -1,32 +1,15 @@
 -- What leaves the routers of a network in a cycle is on the wires at the next count, bit by bit.
 use Rattle.std.proofs.Common.{◌≡◌, ℕ, suc, ◌+◌, ◌*◌, ◌/◌, ◌%◌, ◌<◌, Bool, true, false, List, Option, Some, None, refl, ap, ap₂, sym, ◌∙◌, subst, arith}
 use Rattle.std.specs.Prelude.{option_and_then, option_map, is_some, nat_eq, if◌then◌else◌}
-use Rattle.std.proofs.lemmas.Bool.{eq-eqb, eqb-true}
-use Rattle.std.proofs.lemmas.Nat.{div-add-mod', div-mul-add, mod-mul-add, mod_below, mul-add-lt}
-use Rattle.noc_topo.specs.Lists.{is_some_of}
-use Rattle.noc_topo.specs.Shape.{nodes, ports, neighbour}
-use Rattle.noc_packet.specs.Set.{has_bit}
-use Rattle.noc_packet.specs.declared.packet.Beat.{Beat}
-use Rattle.noc_packet.specs.declared.packet.Flit.{Flit}
-use Rattle.noc_route.specs.Routes.{Routes}
-use Rattle.noc_view.specs.Verdict.{Claim, out_of}
-use Rattle.noc_view.specs.View.{Site, View, size_of, view_claim, view_round, first_flit, flit_out, is_tail, beat_out, mover, mover_to, decisions_of}
-use Rattle.noc_view.proofs.PlanLemmas.{Mover, lists_of_round, mover-is}
+use Rattle.noc_view.proofs.PlanLemmas.{Mover, mover-is}
 use Rattle.noc_view.proofs.MoverLemmas.{flit-first}
-use Rattle.noc_theory.specs.declared.limits.TheConstants.{CYCLE_LIMIT}
-use Rattle.noc_theory.specs.Good.{IsGoodSetup}
-use Rattle.noc_theory.specs.Lockstep.{beats_at, beats_in, site_at}
-use Rattle.noc_theory.specs.Network.{Setup, size, state_at}
-use Rattle.noc_sets.specs.Taken.{flit_from, flit_on_vc, credit_from}
-use Rattle.noc_sets.specs.Cycle.{Links}
 use Rattle.noc_sets.specs.Gather.{comes_over, is_over}
+use Rattle.noc_theory_bits.proofs.Common.{eq-eqb, eqb-true, div-add-mod', div-mul-add, mod-mul-add, mod_below, mul-add-lt, is_some_of, nodes, ports, neighbour, has_bit, Beat, Flit, Routes, Claim, out_of, Site, View, size_of, view_claim, view_round, first_flit, flit_out, is_tail, beat_out, mover, mover_to, decisions_of, lists_of_round, CYCLE_LIMIT, IsGoodSetup, beats_at, beats_in, site_at, Setup, size, state_at, flit_from, flit_on_vc, credit_from, Links, beat_of, ShowsBeat, ShowsLeaving, frozen_of}
 use Rattle.noc_theory_bits.proofs.network.NetworkLemmas.{good, frozen-seen}
 use Rattle.noc_theory_bits.proofs.network.PutLemmas.{credit-put}
 use Rattle.noc_theory_bits.proofs.network.SteadyLemmas.{same-truth}
 use Rattle.noc_theory_bits.proofs.wiring.LinkLemmas.{put_by, flit-came, credit-came}
-use Rattle.noc_theory_bits.specs.Sends.{beat_of}
-use Rattle.noc_theory_bits.specs.Wires.{ShowsBeat, ShowsLeaving, is_tail_of}
-use Rattle.noc_theory_bits.specs.Owners.{frozen_of}
+use Rattle.noc_theory_bits.specs.Wires.{is_tail_of}
 
 -- ---- of one router: the flit on a virtual channel of a beat, and the input channel that moves to the output channel
 module _ (relation : Routes) (v : View) (port vc : ℕ) (low : port < ports v.site.grid) (u : vc < v.site.vcs) where

@@ -2,26 +2,14 @@
 -- and no other.
 use Rattle.std.proofs.Common.{◌≡◌, ◌≢◌, ℕ, suc, ◌/◌, ◌<◌, Bool, true, false, length, Option, Some, None, refl, ap, sym, ◌∙◌, subst, inl, inr, arith}
 use Rattle.std.specs.Prelude.{◌⊎◌, if◌then◌else◌}
-use Rattle.std.proofs.lemmas.Bool.{cases_eq, eq-eqb, ne_eqb}
-use Rattle.std.proofs.lemmas.Option.{none-some, same_Some}
-use Rattle.noc_topo.specs.Lists.{Has}
-use Rattle.noc_topo.specs.Shape.{nodes, local_port}
-use Rattle.noc_packet.specs.Set.{has_bit}
-use Rattle.noc_packet.specs.declared.packet.Flit.{Flit}
-use Rattle.noc_view.specs.View.{Site, decisions_of, flit_out, tail_packet, view_round}
-use Rattle.noc_theory.specs.Good.{IsGoodSetup}
-use Rattle.noc_theory.specs.Lockstep.{ends_at, site_at}
-use Rattle.noc_theory.specs.Network.{Setup, State, Place, On, In, Out, packet_at, state_at, frozen_at, frozen_state, network_cycle, after_injection, after_verdicts, arrival_in, landed_place, out_cycle, tail_place, Source}
+use Rattle.noc_theory.specs.Lockstep.{ends_at}
+use Rattle.noc_theory.specs.Network.{landed_place, out_cycle, Source}
 use Rattle.noc_theory.proofs.verdicts.CommitEndLemmas.{Arrives, nobody, somebody, arrives, ends-here, here-ends}
 use Rattle.noc_theory.proofs.injection.EntryLemmas.{Goes, goes, goes_in, stays}
 use Rattle.noc_theory.proofs.landing.LandLemmas.{landed-tail}
-use Rattle.noc_theory.proofs.join.OrderedStateLemmas.{ordered-state, ordered-mid, ordered-frozen}
-use Rattle.noc_theory.proofs.join.PhaseLemmas.{mid}
-use Rattle.noc_theory.proofs.worms.StateWordLemmas.{last_of}
-use Rattle.noc_theory.proofs.worms.WormRecordLemmas.{valid-last}
+use Rattle.noc_theory_bits.proofs.Common.{cases_eq, eq-eqb, ne_eqb, none-some, same_Some, Has, nodes, local_port, has_bit, Flit, Site, decisions_of, flit_out, tail_packet, view_round, IsGoodSetup, site_at, Setup, State, Place, On, In, Out, packet_at, state_at, frozen_at, frozen_state, network_cycle, after_injection, after_verdicts, arrival_in, tail_place, ordered-state, ordered-mid, ordered-frozen, mid, last_of, valid-last, frozen_of}
 use Rattle.noc_theory_bits.proofs.network.NetworkLemmas.{good, frozen-seen}
 use Rattle.noc_theory_bits.proofs.network.PutLemmas.{IsMover, IsPut, flit-put}
-use Rattle.noc_theory_bits.specs.Owners.{frozen_of}
 use Rattle.noc_theory_bits.proofs.network.MovingLemmas.{moves_at, moves-are}
 
 -- the flit of channel i of router r moves in cycle n, out of the network

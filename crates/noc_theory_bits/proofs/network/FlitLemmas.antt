@@ -1,16 +1,8 @@
 -- The flits in the buffers of a router, and on the wires to it, are flits of packets within the
 -- limits: they fit the bits of a word.
-use Rattle.std.proofs.Common.{◌≡◌, ℕ, ◌^◌, ◌<◌, List, Option, Some, None, sym, subst}
-use Rattle.noc_topo.specs.Lists.{Has}
-use Rattle.noc_topo.specs.Shape.{nodes}
-use Rattle.noc_packet.specs.Packet.{flit_at}
-use Rattle.noc_packet.specs.declared.packet.Flit.{Flit}
-use Rattle.noc_view.specs.View.{View, view_buffer}
-use Rattle.noc_theory.specs.Good.{IsGoodSetup, IsValid}
-use Rattle.noc_theory.specs.Lockstep.{seen_flits}
-use Rattle.noc_theory.specs.Network.{Setup, State, Located, size, arriving, packet_at, is_in, buffer_of, frozen_at}
-use Rattle.noc_theory.proofs.worms.MemberLemmas.{Has-filter, Has-map}
-use Rattle.noc_theory.specs.Seen.{IsSeen}
+use Rattle.std.proofs.Common.{◌≡◌, ℕ, ◌<◌, List, Option, Some, None, sym, subst}
+use Rattle.noc_theory.proofs.worms.MemberLemmas.{Has-map}
+use Rattle.noc_theory_bits.proofs.Common.{Has, nodes, flit_at, Flit, View, view_buffer, IsGoodSetup, IsValid, seen_flits, Setup, State, Located, size, arriving, packet_at, is_in, buffer_of, frozen_at, Has-filter, IsSeen}
 use Rattle.noc_theory_bits.proofs.network.NetworkLemmas.{good, frozen_view, frozen-seen, steady-still}
 use Rattle.noc_theory_bits.proofs.network.SteadyLemmas.{IsSteady}
 

@@ -1,22 +1,10 @@
 -- The credits that routers put on their wires: one for the flit that leaves a buffer of the port.
 use Rattle.std.proofs.Common.{◌≡◌, ◌≢◌, ℕ, ◌+◌, ◌*◌, ◌/◌, ◌%◌, ◌<◌, ◌≤◌, Bool, true, false, Option, Some, None, refl, ap, ap₂, sym, ◌∙◌, arith, inl, inr}
 use Rattle.std.specs.Prelude.{◌⊎◌, ◌&&◌, not, is_some, find, slice_index_or, if◌then◌else◌}
-use Rattle.std.proofs.lemmas.Bool.{eq-eqb, ne_eqb, cases_eq, cases_lt, false≢true}
-use Rattle.std.proofs.lemmas.Nat.{div-mul-add, mod-mul-add, mul-add-lt}
-use Rattle.noc_topo.specs.Lists.{below, is_some_of}
-use Rattle.noc_topo.specs.Shape.{ports}
-use Rattle.noc_packet.specs.Set.{has_bit}
-use Rattle.noc_route.specs.Routes.{Routes}
-use Rattle.noc_vc.specs.Input.{is_empty}
-use Rattle.noc_vc.specs.Output.{has_credit}
-use Rattle.noc_vc.specs.declared.input.InputState.{InputState}
-use Rattle.noc_vc.specs.declared.input.InputState.TheVariants.{Idle, Waiting, Active}
-use Rattle.noc_view.specs.States.{is_won_from}
-use Rattle.noc_view.specs.Verdict.{is_moved, ready_port, verdict_of, Holds, Waits}
-use Rattle.noc_view.specs.declared.verdict.Verdict.TheVariants.{Moved, LostSwitch}
-use Rattle.noc_view.specs.View.{View, size_of, view_buffer, view_input, view_output, view_claim, claim_in, view_round, asked_for, decisions_of, decided_verdict, beat_out}
+use Rattle.noc_view.specs.Verdict.{verdict_of, Holds, Waits}
+use Rattle.noc_view.specs.View.{asked_for}
 use Rattle.noc_view.proofs.FindLemmas.{find-below, find-none}
-use Rattle.noc_sets.proofs.SwitchLemmas.{AreMoved}
+use Rattle.noc_theory_bits.proofs.Common.{eq-eqb, ne_eqb, cases_eq, cases_lt, false≢true, div-mul-add, mod-mul-add, mul-add-lt, below, is_some_of, ports, has_bit, Routes, is_empty, has_credit, InputState, Idle, Waiting, Active, is_won_from, is_moved, ready_port, Moved, LostSwitch, View, size_of, view_buffer, view_input, view_output, view_claim, claim_in, view_round, decisions_of, decided_verdict, beat_out, AreMoved}
 use Rattle.noc_theory_bits.proofs.routers.CommittedLemmas.{verdict-planned}
 
 and-none : (b : Bool) → (b && false) ≡ false

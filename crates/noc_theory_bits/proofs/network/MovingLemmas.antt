@@ -1,18 +1,8 @@
 -- The channels whose flits move in a cycle, as a set.
 use Rattle.std.proofs.Common.{◌≡◌, ℕ, ◌/◌, ◌%◌, ◌^◌, ◌<◌, ◌≤◌, Bool, true, false, None, refl, ap, sym, ◌∙◌, arith, inl, inr}
 use Rattle.std.specs.Prelude.{◌⊎◌, ◌&&◌, ◌||◌, nat_eq, nat_lt, slice_index_or, if◌then◌else◌}
-use Rattle.std.proofs.lemmas.Bool.{cases_lt, eq-eqb, le-ltb, lt-ltb, ne_eqb}
-use Rattle.noc_topo.specs.Lists.{is_some_of}
-use Rattle.noc_packet.specs.Set.{has_bit}
-use Rattle.noc_packet.proofs.SetLemmas.{has_bit-zero}
-use Rattle.noc_view.specs.States.{is_won_from}
-use Rattle.noc_view.specs.View.{View, size_of, view_input, view_round}
-use Rattle.noc_theory.specs.Network.{Setup}
-use Rattle.noc_sets.specs.Unions.{some_below, union_from}
-use Rattle.noc_sets.proofs.MemberLemmas.{power-members}
-use Rattle.noc_sets.proofs.SwitchLemmas.{AreMoved}
-use Rattle.noc_sets.proofs.UnionLemmas.{some-none, some-one, union-members}
-use Rattle.noc_theory_bits.specs.Owners.{frozen_of}
+use Rattle.noc_sets.proofs.UnionLemmas.{some-none, some-one}
+use Rattle.noc_theory_bits.proofs.Common.{cases_lt, eq-eqb, le-ltb, lt-ltb, ne_eqb, is_some_of, has_bit, has_bit-zero, is_won_from, View, size_of, view_input, view_round, Setup, some_below, union_from, power-members, AreMoved, union-members, frozen_of}
 
 -- ---- a set by a test
 

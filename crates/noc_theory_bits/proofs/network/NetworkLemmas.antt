@@ -1,27 +1,10 @@
 -- What the passes of a cycle rest on, for every network that was made, at every count.
 use Rattle.std.proofs.Common.{◌≡◌, ℕ, suc, ◌<◌, ◌≤◌, true, List, [], length, IfSome, refl, ap, sym, ◌∙◌, subst, arith}
-use Rattle.noc_topo.specs.Lists.{tabulate}
-use Rattle.noc_topo.specs.Shape.{nodes, ports, local_port, neighbour}
-use Rattle.noc_topo.proofs.ListLemmas.{get_or-tabulate, length-tabulate}
-use Rattle.noc_packet.specs.declared.packet.Beat.{Beat}
-use Rattle.noc_vc.specs.Output.{is_free}
-use Rattle.noc_view.specs.View.{Site, View, size_of, view_output, view_after_takes, view_after_inject, local_step}
-use Rattle.noc_view.specs.Verdict.{ArbiterStates}
-use Rattle.noc_theory.specs.declared.limits.TheConstants.{CYCLE_LIMIT}
-use Rattle.noc_theory.specs.Good.{IsGoodSetup}
-use Rattle.noc_theory.specs.Lockstep.{beats_at, beats_in, beat_by, view_in, view_at}
-use Rattle.noc_theory.specs.Network.{Setup, State, state_at, frozen_state, frozen_at, after_injection}
 use Rattle.noc_theory.proofs.join.JoinLemmas.{next-view}
 use Rattle.noc_theory.proofs.join.JoinedLemmas.{phases}
-use Rattle.noc_theory.proofs.join.OrderedLemmas.{IsGood}
-use Rattle.noc_theory.proofs.join.OrderedStateLemmas.{ordered-state, ordered-mid, ordered-frozen}
-use Rattle.noc_theory.proofs.join.PhaseLemmas.{mid, IsTaken, IsInjected}
-use Rattle.noc_theory.proofs.worms.BuiltLemmas.{well-formed}
+use Rattle.noc_theory.proofs.join.PhaseLemmas.{IsTaken, IsInjected}
 use Rattle.noc_theory.proofs.join.LockstepTheoremLemmas.{are-short, good-network}
-use Rattle.noc_theory.proofs.join.ViewLemmas.{view_at-seen}
-use Rattle.noc_theory.specs.Seen.{IsSeen}
-use Rattle.noc_sets.specs.Column.{IsTidy}
-use Rattle.noc_sets.specs.Taken.{HasSize, HasTaken, flit_from, credit_from}
+use Rattle.noc_theory_bits.proofs.Common.{tabulate, nodes, ports, local_port, neighbour, get_or-tabulate, length-tabulate, Beat, is_free, Site, View, size_of, view_output, view_after_takes, view_after_inject, local_step, ArbiterStates, CYCLE_LIMIT, IsGoodSetup, beats_at, beats_in, beat_by, view_in, view_at, Setup, State, state_at, frozen_state, frozen_at, after_injection, IsGood, ordered-state, ordered-mid, ordered-frozen, mid, well-formed, view_at-seen, IsSeen, IsTidy, HasSize, HasTaken, flit_from, credit_from}
 use Rattle.noc_theory_bits.proofs.routers.CommittedLemmas.{beats-fit}
 use Rattle.noc_theory_bits.proofs.network.PointerLemmas.{AreArbiters, arbiters-frozen_at}
 use Rattle.noc_theory_bits.proofs.network.SteadyLemmas.{IsSteady, steady-start, steady-frozen, owed-at}

@@ -1,14 +1,13 @@
 -- The arbiters of each router of a network have their sizes, and their pointers are below them.
 use Rattle.std.proofs.Common.{◌≡◌, ℕ, zero, suc, ◌+◌, ◌*◌, ◌%◌, ◌<◌, List, [], length, Option, Some, None, ap, sym, ◌∙◌, subst, arith, get_or, replicate, mod-lt}
 use Rattle.std.proofs.Math.Nat.{mul-pos}
-use Rattle.std.proofs.lemmas.List.{get_or-replicate, length-replicate}
-use Rattle.noc_topo.specs.Shape.{nodes, ports}
-use Rattle.noc_topo.proofs.ListLemmas.{length-map_indexed, get_or-map_indexed}
-use Rattle.noc_alloc.specs.Arbiter.{RoundRobin, arbiter_at, arbiter_after, pointer_after}
+use Rattle.std.proofs.lemmas.List.{length-replicate}
+use Rattle.noc_topo.proofs.ListLemmas.{length-map_indexed}
 use Rattle.noc_alloc.specs.Allocation.{arbiters_after_winners, winning_pick}
-use Rattle.noc_view.specs.Verdict.{ArbiterStates, Round, arbiters_after, opening_arbiters}
-use Rattle.noc_theory.specs.Network.{Setup, arbiters_at, round_at, opening_state, after_verdicts, network_cycle, state_at, frozen_at}
+use Rattle.noc_view.specs.Verdict.{opening_arbiters}
+use Rattle.noc_theory.specs.Network.{arbiters_at, round_at}
 use Rattle.noc_theory.proofs.worms.OneBackLemmas.{arbiters-frozen, arbiters-state}
+use Rattle.noc_theory_bits.proofs.Common.{get_or-replicate, nodes, ports, get_or-map_indexed, RoundRobin, arbiter_at, arbiter_after, pointer_after, ArbiterStates, Round, arbiters_after, Setup, opening_state, after_verdicts, network_cycle, state_at, frozen_at}
 
 -- so many arbiters, each over so many requesters, with its pointer at one of them
 pub record AreTurns (n size : ℕ) (turns : List RoundRobin) : Type 0 where

@@ -1,24 +1,17 @@
 -- Which packet an input channel of a router has, in a steady state of a network.
 use Rattle.std.proofs.Common.{◌≡◌, ℕ, zero, suc, ◌+◌, ◌*◌, ◌<◌, Bool, true, false, cond, Option, Some, None, refl, ap, sym, ◌∙◌, inl, inr, subst, arith}
 use Rattle.std.specs.Prelude.{option_and_then, ◌⊎◌, ◌&&◌, not, nat_lt, if◌then◌else◌}
-use Rattle.std.proofs.lemmas.Bool.{false≢true, and_parts, lt-ltb, ltb-true, not-true, or_cases, or_left}
-use Rattle.noc_topo.specs.Lists.{Has}
-use Rattle.noc_route.specs.Channel.{Channel, Link, Inject, Eject}
-use Rattle.noc_vc.specs.Input.{is_idle_phase}
-use Rattle.noc_vc.specs.declared.input.InputState.TheVariants.{Idle}
-use Rattle.noc_theory.specs.Lockstep.{has_come, come_count, is_present, seen_input, seen_phase, seen_phase_with}
-use Rattle.noc_theory.specs.Network.{Setup, State, Located, Place, In, place_of_flit, tail_place, is_in, is_past, owner_of, next_channel, has_channel, count_in}
-use Rattle.noc_theory.specs.Progress.{head_place, weight}
-use Rattle.noc_theory.proofs.worms.BufferLemmas.{same_channel-refl}
+use Rattle.std.proofs.lemmas.Bool.{not-true, or_cases, or_left}
+use Rattle.noc_theory.specs.Lockstep.{come_count, is_present, seen_phase}
+use Rattle.noc_theory.specs.Network.{count_in}
+use Rattle.noc_theory.specs.Progress.{weight}
 use Rattle.noc_theory.proofs.landing.ComeLemmas.{come-before, count-none, count-some}
 use Rattle.noc_theory.proofs.worms.InjectionRoomLemmas.{filter-none}
-use Rattle.noc_theory.proofs.join.OrderedLemmas.{IsGood}
-use Rattle.noc_theory.proofs.worms.OwnedLemmas.{owner-has, owner-is}
-use Rattle.noc_theory.proofs.worms.StateWordLemmas.{IsEject, IsHeld, IsPlaced, goal, last_of, far_of}
-use Rattle.noc_theory.specs.Good.{IsValid}
+use Rattle.noc_theory.proofs.worms.StateWordLemmas.{IsHeld, far_of}
 use Rattle.noc_theory.proofs.worms.PlaceLemmas.{flit-there, is_in-is, place-of-flit}
 use Rattle.noc_theory.proofs.worms.RoutedRecordLemmas.{entering-behind}
-use Rattle.noc_theory.proofs.worms.WormRecordLemmas.{heavy-not-past, valid-first, valid-last}
+use Rattle.noc_theory.proofs.worms.WormRecordLemmas.{heavy-not-past, valid-first}
+use Rattle.noc_theory_bits.proofs.Common.{false≢true, and_parts, lt-ltb, ltb-true, Has, Channel, Link, Inject, Eject, is_idle_phase, Idle, has_come, seen_input, seen_phase_with, Setup, State, Located, Place, In, place_of_flit, tail_place, is_in, is_past, owner_of, next_channel, has_channel, head_place, same_channel-refl, IsGood, owner-has, owner-is, IsEject, IsPlaced, goal, last_of, IsValid, valid-last}
 use Rattle.noc_theory_bits.proofs.network.SteadyLemmas.{IsSteady}
 
 module _ (net : Setup) (good : IsGood net) (S : State) (x : IsSteady net good S) where

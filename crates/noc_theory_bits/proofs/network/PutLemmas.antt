@@ -2,36 +2,14 @@
 -- the port is its first flit.
 use Rattle.std.proofs.Common.{◌≡◌, ℕ, ◌+◌, ◌*◌, ◌/◌, ◌%◌, ◌<◌, ◌≤◌, Bool, true, false, List, [], ◌∷◌, Option, Some, None, refl, ap, ap₂, sym, ◌∙◌, arith, get_or, inl, inr, length}
 use Rattle.std.specs.Prelude.{◌⊎◌, ◌&&◌, not, is_some, drop, option_and_then, option_map, slice_get, slice_index, if◌then◌else◌}
-use Rattle.std.proofs.lemmas.Bool.{and_parts, cases_lt, false≢true}
-use Rattle.std.proofs.lemmas.List.{get_or_past}
-use Rattle.std.proofs.lemmas.Nat.{div-add-mod'}
-use Rattle.std.proofs.lemmas.Option.{none-some, same_Some}
-use Rattle.noc_topo.specs.Lists.{is_some_of, tabulate}
-use Rattle.noc_topo.specs.Shape.{ports, local_port}
-use Rattle.noc_topo.proofs.ListLemmas.{get_or-tabulate, length-tabulate}
-use Rattle.noc_packet.specs.Set.{has_bit}
-use Rattle.noc_packet.specs.declared.packet.Flit.{Flit}
-use Rattle.noc_packet.specs.declared.packet.Beat.{Beat}
-use Rattle.noc_route.specs.Routes.{Routes}
 use Rattle.noc_alloc.specs.Allocation.{pick_of, winner_of}
 use Rattle.noc_alloc.proofs.ArbiterLemmas.{first_in_turn-picks}
 use Rattle.noc_alloc.proofs.WordLemmas.{is_some_of-true, is_some_of-some}
-use Rattle.noc_alloc.specs.Arbiter.{pointers_of}
-use Rattle.noc_vc.specs.Input.{is_empty}
-use Rattle.noc_vc.specs.Output.{has_credit}
-use Rattle.noc_vc.specs.declared.input.InputState.{InputState}
-use Rattle.noc_vc.specs.declared.input.InputState.TheVariants.{Idle, Waiting, Active}
-use Rattle.noc_view.specs.Arrivals.{is_expected_in, arrivals_after}
-use Rattle.noc_view.specs.States.{is_won_from}
-use Rattle.noc_view.specs.Verdict.{Claim, Round, out_of, ready_of, ready_port, is_moved}
-use Rattle.noc_view.specs.declared.verdict.Verdict.{Verdict}
-use Rattle.noc_view.specs.declared.verdict.Verdict.TheVariants.{Moved, Empty, NoFlit, Routed, NoIdleChannel, LostChannel, Granted, NoCredit, LostInput, LostSwitch}
-use Rattle.noc_view.specs.View.{Site, View, size_of, view_buffer, view_input, view_output, view_claim, claim_in, view_round, view_stands, first_flit, flit_out, idle_beat, beat_out, mover, decisions_of, view_after_commit, decided_verdict, with_arrival, with_misfit, tail_packet}
-use Rattle.noc_view.proofs.PlanLemmas.{Mover, Moves, claim-holds, lists_of_round, mover-is, moves-is, verdict-moved, decided-is, verdict_in, holds_flit}
-use Rattle.noc_view.proofs.MoverLemmas.{flit-first, port_below}
+use Rattle.noc_view.specs.Verdict.{ready_of}
+use Rattle.noc_view.proofs.PlanLemmas.{Mover, Moves, claim-holds, mover-is, moves-is, verdict-moved, decided-is, verdict_in, holds_flit}
+use Rattle.noc_view.proofs.MoverLemmas.{flit-first, is_moved-true, port_below}
 use Rattle.noc_view.proofs.StandLemmas.{ready_of-stands}
-use Rattle.noc_sets.specs.Taken.{HasSize}
-use Rattle.noc_sets.proofs.SwitchLemmas.{AreMoved}
+use Rattle.noc_theory_bits.proofs.Common.{and_parts, cases_lt, false≢true, get_or_past, div-add-mod', none-some, same_Some, is_some_of, tabulate, ports, local_port, get_or-tabulate, length-tabulate, has_bit, Flit, Beat, Routes, pointers_of, is_empty, has_credit, InputState, Idle, Waiting, Active, is_expected_in, arrivals_after, is_won_from, Claim, Round, out_of, ready_port, is_moved, Moved, Site, View, size_of, view_buffer, view_input, view_output, view_claim, claim_in, view_round, view_stands, first_flit, flit_out, idle_beat, beat_out, mover, decisions_of, view_after_commit, decided_verdict, with_arrival, with_misfit, tail_packet, lists_of_round, HasSize, AreMoved}
 use Rattle.noc_theory_bits.proofs.routers.CommittedLemmas.{buffer-committed}
 use Rattle.noc_theory_bits.proofs.network.GiveBackLemmas.{credit-left}
 
@@ -70,18 +48,6 @@ unfolding view_after_commit
 beat-next relation v port l =
     ap (λ (beats : List Beat). get_or beats port idle_beat) (arrival-puts (tail_packet (flit_out v (decisions_of relation v).round (local_port v.site.grid))) _)
     ∙ get_or-tabulate (local_port v.site.grid) port (beat_out (decisions_of relation v) v) idle_beat l
-
-is_moved-is : (x : Verdict) → is_moved x ≡ true → x ≡ Moved
-is_moved-is Moved e = refl
-is_moved-is Empty e = absurd (false≢true e)
-is_moved-is NoFlit e = absurd (false≢true e)
-is_moved-is Routed e = absurd (false≢true e)
-is_moved-is NoIdleChannel e = absurd (false≢true e)
-is_moved-is LostChannel e = absurd (false≢true e)
-is_moved-is Granted e = absurd (false≢true e)
-is_moved-is NoCredit e = absurd (false≢true e)
-is_moved-is LostInput e = absurd (false≢true e)
-is_moved-is LostSwitch e = absurd (false≢true e)
 
 module _ (relation : Routes) (v : View) (moved : ℕ) (some_vc : 0 < v.site.vcs) (are : AreMoved v moved) where
   same-round : (decisions_of relation v).round ≡ view_round v
@@ -163,7 +129,7 @@ module _ (relation : Routes) (v : View) (moved : ℕ) (some_vc : 0 < v.site.vcs)
   decided-moves k l = ap is_moved (decided-is (decisions_of relation v) v k (lists_of_round relation v) l) ∙ same (is_moved (verdict_in (decisions_of relation v) v k)) refl (has_bit moved k) refl
     where
       same : (a : Bool) → is_moved (verdict_in (decisions_of relation v) v k) ≡ a → (b : Bool) → has_bit moved k ≡ b → is_moved (verdict_in (decisions_of relation v) v k) ≡ has_bit moved k
-      same true a b e = a ∙ sym (verdict-bit k l (is_moved-is _ a))
+      same true a b e = a ∙ sym (verdict-bit k l (is_moved-true _ a))
       same false a true e = absurd (false≢true (sym a ∙ ap is_moved (bit-verdict k l e)))
       same false a false e = a ∙ sym e
 

@@ -2,36 +2,29 @@
 -- of a router owns which.
 use Rattle.std.proofs.Common.{◌≡◌, ℕ, zero, suc, ◌+◌, ◌*◌, ◌/◌, ◌<◌, ◌≤◌, Bool, true, false, cond, Option, Some, None, refl, ap, sym, ◌∙◌, subst, arith}
 use Rattle.std.specs.Prelude.{option_map, ◌&&◌, ◌||◌, nat_lt}
-use Rattle.std.proofs.lemmas.Bool.{false≢true, true≢false, and_parts, le-ltb, ltb-false}
-use Rattle.std.proofs.lemmas.Option.{same_Some}
-use Rattle.noc_topo.specs.Lists.{Has, one_if}
-use Rattle.noc_topo.specs.Shape.{nodes, local_port, distance}
-use Rattle.noc_route.specs.Channel.{Channel, Link, Inject, Eject, sending_router, is_link, same_channel, output_index}
+use Rattle.std.proofs.lemmas.Bool.{ltb-false}
+use Rattle.noc_topo.specs.Shape.{distance}
+use Rattle.noc_route.specs.Channel.{sending_router, same_channel, output_index}
 use Rattle.noc_route.proofs.BuiltLemmas.{linked-port}
-use Rattle.noc_vc.specs.declared.input.InputState.TheVariants.{Idle, Waiting, Active}
-use Rattle.noc_vc.specs.declared.output.OutputState.TheVariants.{Owned, Draining}
-use Rattle.noc_view.specs.Verdict.{is_moved}
 use Rattle.noc_theory.specs.Good.{slots_taken}
-use Rattle.noc_theory.specs.Lockstep.{has_come, seen_phase, seen_phase_with, seen_holder, seen_sender, seen_set}
-use Rattle.noc_theory.specs.Network.{Setup, State, Place, On, In, Out, leaving, place_of_flit, tail_place, is_on, is_in, is_past, owner_of, leads_from, next_channel, verdict_in, is_released, after_verdicts, all_inputs, has_channel, opening_state, network_cycle, state_at, frozen_at, Source}
+use Rattle.noc_theory.specs.Lockstep.{seen_phase, seen_set}
+use Rattle.noc_theory.specs.Network.{leads_from, verdict_in, is_released, all_inputs, Source}
 use Rattle.noc_theory.specs.Progress.{hops}
-use Rattle.noc_theory.proofs.worms.BufferLemmas.{same_channel-refl, same_channel-true}
-use Rattle.noc_theory.proofs.worms.MemberLemmas.{Has-filter}
+use Rattle.noc_theory.proofs.worms.BufferLemmas.{same_channel-true}
 use Rattle.noc_theory.proofs.worms.MoveLemmas.{IsNext, leads-end, far-link, far-eject, same-far}
 use Rattle.noc_theory.proofs.worms.NextLemmas.{next-from}
-use Rattle.noc_theory.proofs.worms.OwnedLemmas.{owner-has, owner-is}
-use Rattle.noc_theory.proofs.worms.StateWordLemmas.{IsKeyed, IsHeld, IsRoutedMid, IsPlaced, goal, last_of, far_of}
+use Rattle.noc_theory.proofs.worms.StateWordLemmas.{IsKeyed, IsHeld, IsRoutedMid, far_of}
 use Rattle.noc_theory.proofs.worms.RoutedStateLemmas.{IsCovered}
 use Rattle.noc_theory.proofs.worms.RoutedVerdictLemmas.{channel-has}
 use Rattle.noc_theory.proofs.worms.SourceOfLemmas.{has-source}
 use Rattle.noc_theory.proofs.worms.VerdictRoomLemmas.{none-on}
-use Rattle.noc_theory.proofs.worms.WormRecordLemmas.{IsWorm, valid-last}
+use Rattle.noc_theory.proofs.worms.WormRecordLemmas.{IsWorm}
 use Rattle.noc_theory.proofs.verdicts.AfterHolderLemmas.{unowned-verdict}
 use Rattle.noc_theory.proofs.verdicts.AfterLemmas.{owned-kept}
-use Rattle.noc_theory.proofs.join.OrderedLemmas.{IsGood, IsOrdered, IsOrderedFrozen}
-use Rattle.noc_theory.proofs.join.OrderedStateLemmas.{ordered-frozen}
+use Rattle.noc_theory.proofs.join.OrderedLemmas.{IsOrdered, IsOrderedFrozen}
 use Rattle.noc_theory.proofs.join.PlaceViewLemmas.{IsAt, IsFrom, input-at, eject-from, link-from, mod-below}
 use Rattle.noc_theory.proofs.injection.SourceLemmas.{same-owner, next-owner, at-router, sender-is, not-end}
+use Rattle.noc_theory_bits.proofs.Common.{false≢true, true≢false, and_parts, le-ltb, same_Some, Has, one_if, nodes, local_port, Channel, Link, Inject, Eject, is_link, Idle, Waiting, Active, Owned, Draining, is_moved, has_come, seen_phase_with, seen_holder, seen_sender, Setup, State, Place, On, In, Out, leaving, place_of_flit, tail_place, is_on, is_in, is_past, owner_of, next_channel, after_verdicts, has_channel, opening_state, network_cycle, state_at, frozen_at, same_channel-refl, Has-filter, owner-has, owner-is, IsPlaced, goal, last_of, valid-last, IsGood, ordered-frozen}
 
 -- equal where each follows from the other
 pub same-truth : (a b : Bool) → (a ≡ true → b ≡ true) → (b ≡ true → a ≡ true) → a ≡ b

@@ -1,44 +1,20 @@
 -- A view that shows a steady state is tidy.
 use Rattle.std.proofs.Common.{◌≡◌, ℕ, zero, suc, ◌*◌, ◌/◌, ◌<◌, ◌≤◌, Bool, true, false, cond, List, [], ◌∷◌, map, length, Option, Some, None, IfSome, refl, ap, sym, ◌∙◌, inl, inr, subst, arith, div-lt_iff_lt-mul}
 use Rattle.std.specs.Prelude.{find, option_map, unwrap_or, ◌⊎◌, ◌&&◌, ◌||◌, nat_lt, is_some}
-use Rattle.std.proofs.lemmas.Bool.{false≢true, lt-ltb, le-ltb, eqb-true, eq-eqb}
-use Rattle.std.proofs.lemmas.List.{length-map}
-use Rattle.std.proofs.lemmas.Nat.{div-add-mod'}
-use Rattle.std.proofs.lemmas.Option.{none-some}
-use Rattle.noc_topo.specs.Lists.{below, Has, one_if}
-use Rattle.noc_topo.specs.Shape.{nodes, local_port}
-use Rattle.noc_packet.specs.Packet.{flit_at}
-use Rattle.noc_packet.specs.declared.packet.Flit.{Flit}
-use Rattle.noc_route.specs.Channel.{Channel, Link, Inject, Eject, is_link}
-use Rattle.noc_vc.specs.Input.{Input, is_idle_phase, is_waiting, is_empty}
-use Rattle.noc_vc.specs.Output.{Output, is_free}
-use Rattle.noc_vc.specs.declared.input.InputState.{InputState}
-use Rattle.noc_vc.specs.declared.input.InputState.TheVariants.{Idle, Waiting, Active}
-use Rattle.noc_vc.specs.declared.output.OutputState.{OutputState}
-use Rattle.noc_vc.specs.declared.output.OutputState.TheVariants.{Idle as Free, Owned, Draining}
-use Rattle.noc_view.specs.States.{owns, is_owned_from}
-use Rattle.noc_view.specs.View.{Site, View, size_of, view_buffer, view_output}
-use Rattle.noc_theory.specs.Lockstep.{has_come, seen_flits, seen_input, seen_output, seen_phase_with, seen_holder, seen_sender, goes_on_by}
-use Rattle.noc_theory.specs.Network.{Setup, State, Located, Place, On, In, Out, size, arriving, leaving, packet_at, place_of_flit, tail_place, is_on, is_in, is_past, owner_of, next_channel, has_channel, count_in, count_on, credit_of, buffer_of, Source}
-use Rattle.noc_theory.specs.Progress.{head_place}
-use Rattle.noc_theory.proofs.worms.BufferLemmas.{same_channel-refl}
+use Rattle.noc_vc.specs.declared.output.OutputState.TheVariants.{Idle as Free}
+use Rattle.noc_theory.specs.Lockstep.{seen_output, goes_on_by}
+use Rattle.noc_theory.specs.Network.{count_in, count_on, credit_of, Source}
 use Rattle.noc_theory.proofs.verdicts.CommitGrantLemmas.{come-true}
-use Rattle.noc_theory.proofs.worms.GrantLemmas.{Has-below}
 use Rattle.noc_theory.proofs.worms.InjectionRoomLemmas.{filter-none}
-use Rattle.noc_theory.proofs.worms.MemberLemmas.{Has-filter, find-has}
 use Rattle.noc_theory.proofs.worms.NextLemmas.{next-from}
-use Rattle.noc_theory.proofs.worms.OwnedLemmas.{owner-has, idle-none}
-use Rattle.noc_theory.proofs.worms.StateWordLemmas.{IsEject, Come, IsPlaced, goal, last_of}
-use Rattle.noc_theory.specs.Good.{IsValid}
+use Rattle.noc_theory.proofs.worms.OwnedLemmas.{idle-none}
+use Rattle.noc_theory.proofs.worms.StateWordLemmas.{Come}
 use Rattle.noc_theory.proofs.worms.PlaceLemmas.{flit-there, place-of-flit}
 use Rattle.noc_theory.proofs.worms.RoomLemmas.{filter-some, unowned-empty}
 use Rattle.noc_theory.proofs.injection.SourceLemmas.{same-owner}
-use Rattle.noc_theory.proofs.worms.WormRecordLemmas.{valid-last, valid-first}
-use Rattle.noc_theory.proofs.join.OrderedLemmas.{IsGood}
+use Rattle.noc_theory.proofs.worms.WormRecordLemmas.{valid-first}
 use Rattle.noc_theory.proofs.join.PlaceViewLemmas.{arriving-at, leaving-from, not-eject, OutputCase, ejects, output-case, links}
-use Rattle.noc_theory.specs.Seen.{IsSeen}
-use Rattle.noc_sets.specs.Column.{IsTidy, is_draining}
-use Rattle.noc_sets.specs.Taken.{HasSize}
+use Rattle.noc_theory_bits.proofs.Common.{false≢true, lt-ltb, le-ltb, eqb-true, eq-eqb, length-map, div-add-mod', none-some, below, Has, one_if, nodes, local_port, flit_at, Flit, Channel, Link, Inject, Eject, is_link, Input, is_idle_phase, is_waiting, is_empty, Output, is_free, InputState, Idle, Waiting, Active, OutputState, Owned, Draining, owns, is_owned_from, Site, View, size_of, view_buffer, view_output, has_come, seen_flits, seen_input, seen_phase_with, seen_holder, seen_sender, Setup, State, Located, Place, On, In, Out, size, arriving, leaving, packet_at, place_of_flit, tail_place, is_on, is_in, is_past, owner_of, next_channel, has_channel, buffer_of, head_place, same_channel-refl, Has-below, Has-filter, find-has, owner-has, IsEject, IsPlaced, goal, last_of, IsValid, valid-last, IsGood, IsSeen, IsTidy, is_draining, HasSize}
 use Rattle.noc_theory_bits.proofs.network.PresentLemmas.{in-some, packet-in, packet-none, packet-there}
 use Rattle.noc_theory_bits.proofs.network.SteadyLemmas.{IsSteady, Sends, sends-active, sends-owned, holder-sends, active-sends, same-truth}
 

@@ -1,20 +1,15 @@
 -- Before the first cycle the sources show the packets that start at their nodes.
-use Rattle.std.proofs.Common.{◌≡◌, ◌≢◌, ℕ, zero, suc, ◌+◌, ◌*◌, ◌-◌, ◌<◌, ◌≤◌, List, [], ◌∷◌, ◌++◌, length, map, refl, ap, ap₂, sym, subst, ◌∙◌, arith, inl, inr, add-one, length-append, append_assoc, None, mul-le-mul}
+use Rattle.std.proofs.Common.{◌≡◌, ◌≢◌, ℕ, zero, suc, ◌+◌, ◌*◌, ◌<◌, ◌≤◌, List, [], ◌∷◌, ◌++◌, length, map, refl, ap, ap₂, sym, subst, ◌∙◌, arith, inl, inr, add-one, length-append, append_assoc, None, mul-le-mul}
 use Rattle.std.specs.Prelude.{◌⊎◌, Some, slice_get}
-use Rattle.std.proofs.lemmas.Bool.{cases_eq}
-use Rattle.std.proofs.lemmas.List.{length-map, append-nil}
-use Rattle.noc_topo.specs.Lists.{Has}
-use Rattle.noc_topo.specs.Shape.{nodes}
-use Rattle.noc_packet.specs.declared.packet.Packet.{Packet}
+use Rattle.std.proofs.lemmas.List.{append-nil}
 use Rattle.noc_packet.specs.ByNode.{starts_of}
-use Rattle.noc_theory.specs.Lockstep.{view_at}
-use Rattle.noc_theory.specs.Good.{IsGoodPacket, IsGoodSetup}
-use Rattle.noc_theory.specs.Network.{Setup}
-use Rattle.noc_theory.proofs.join.OpeningViewLemmas.{opens}
-use Rattle.noc_sets.specs.Source.{ShowsQueue, Start, END, ShowsNext, ShowsSource, HasFlits}
+use Rattle.noc_theory.proofs.injection.StartLemmas.{start-has}
+use Rattle.noc_theory.specs.Good.{IsGoodPacket}
+use Rattle.noc_sets.specs.Source.{END, HasFlits}
+use Rattle.noc_theory_bits.proofs.Common.{cases_eq, length-map, Has, nodes, Packet, view_at, IsGoodSetup, Setup, opens, ShowsQueue, Start, ShowsNext, ShowsSource}
 use Rattle.noc_theory_bits.specs.Starts.{start_of, with_end, starts_list, opened_source}
 use Rattle.noc_theory_bits.proofs.network.NetworkLemmas.{good}
-use Rattle.noc_theory_bits.proofs.opening.StartLemmas.{start-has, starts-few}
+use Rattle.noc_theory_bits.proofs.opening.StartLemmas.{starts-few}
 
 -- one node more
 pub list-more : (packets : List Packet) (n : ℕ) → starts_list packets (n + 1) ≡ starts_list packets n ++ with_end (starts_of packets n)

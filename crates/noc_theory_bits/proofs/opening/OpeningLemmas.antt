@@ -1,28 +1,17 @@
 -- Before the first cycle the words of an empty router show its opening view.
 use Rattle.std.proofs.Common.{◌≡◌, ℕ, ◌+◌, ◌-◌, ◌*◌, ◌/◌, ◌<◌, ◌≤◌, true, false, List, [], length, replicate, refl, ap, sym, ◌∙◌, inl, inr, subst, arith}
 use Rattle.std.specs.Prelude.{◌⊎◌, ◌||◌, nat_lt, nat_le}
-use Rattle.std.proofs.lemmas.Bool.{false≢true, true≢false, lt-ltb, le-ltb, ltb-true, le-leb, or_cases, and_parts, cases_lt}
-use Rattle.std.proofs.lemmas.List.{get_or-replicate, length-replicate, get_or_append_left, get_or-append_right}
+use Rattle.std.proofs.lemmas.Bool.{or_cases}
+use Rattle.std.proofs.lemmas.List.{length-replicate, get_or_append_left, get_or-append_right}
 use Rattle.std.proofs.Math.Nat.{mul-le-mul_right, add-mul}
-use Rattle.noc_topo.specs.Shape.{nodes, ports, local_port}
-use Rattle.noc_packet.specs.Set.{has_bit}
-use Rattle.noc_packet.proofs.SetLemmas.{either_members, has_bit-zero}
-use Rattle.noc_packet.specs.declared.packet.Packet.{Packet}
-use Rattle.noc_packet.specs.declared.packet.Flit.{Flit}
-use Rattle.noc_alloc.specs.Arbiter.{RoundRobin, arbiter_at}
 use Rattle.noc_alloc.proofs.RequestLemmas.{at_replicate}
-use Rattle.noc_vc.specs.Input.{Input, idle_input, is_idle_phase}
-use Rattle.noc_vc.specs.Output.{Output, link_output, ejection_output}
+use Rattle.noc_vc.specs.Output.{link_output}
 use Rattle.noc_vc.specs.declared.output.OutputState.TheVariants.{Idle as Free}
-use Rattle.noc_view.specs.States.{is_supplied}
-use Rattle.noc_view.specs.View.{Site, View, size_of, view_buffer, view_input, view_output, opening_view}
-use Rattle.noc_theory.specs.Good.{IsGoodSetup}
-use Rattle.noc_theory.specs.Lockstep.{site_at, starts_at, ends_at, view_at}
-use Rattle.noc_theory.specs.Network.{Setup}
-use Rattle.noc_theory.proofs.join.OpeningViewLemmas.{opens}
-use Rattle.noc_sets.specs.Column.{Column, RouterMarks, ShowsInput, ShowsOutput, ShowsChannels, ShowsTurns, ShowsMarks, ShowsPhase, ShowsHolder, sends_by, IsColumn}
-use Rattle.noc_sets.specs.Turns.{ShowsPointer}
-use Rattle.noc_sets.specs.Opening.{AreEmptyMarks, AreSides, IsEmptyColumn}
+use Rattle.noc_view.specs.View.{opening_view}
+use Rattle.noc_theory.specs.Lockstep.{starts_at, ends_at}
+use Rattle.noc_sets.specs.Column.{ShowsTurns}
+use Rattle.noc_sets.specs.Opening.{AreEmptyMarks, IsEmptyColumn}
+use Rattle.noc_theory_bits.proofs.Common.{false≢true, true≢false, lt-ltb, le-ltb, ltb-true, le-leb, and_parts, cases_lt, get_or-replicate, nodes, ports, local_port, has_bit, either_members, has_bit-zero, Packet, Flit, RoundRobin, arbiter_at, Input, idle_input, is_idle_phase, Output, ejection_output, is_supplied, Site, View, size_of, view_buffer, view_input, view_output, IsGoodSetup, site_at, view_at, Setup, opens, Column, RouterMarks, ShowsInput, ShowsOutput, ShowsChannels, ShowsMarks, ShowsPhase, ShowsHolder, sends_by, IsColumn, ShowsPointer, AreSides}
 use Rattle.noc_theory_bits.proofs.network.NetworkLemmas.{good}
 
 module _ (count : ℕ) (site : Site) (starts : List (ℕ × Packet)) (ends : List ℕ) (c : Column) (m : RouterMarks) (links local : ℕ) (sides : AreSides site.grid site.vcs links local)

@@ -1,22 +1,9 @@
 -- Before the first cycle nothing is on the wires, and the rings are empty.
 use Rattle.std.proofs.Common.{◌≡◌, ℕ, ◌-◌, ◌/◌, ◌%◌, ◌<◌, ◌≤◌, false, List, [], length, None, ap, sym, ◌∙◌, arith, inl, inr, get_or}
 use Rattle.std.specs.Prelude.{◌⊎◌, is_some}
-use Rattle.std.proofs.lemmas.Bool.{cases_lt, false≢true}
-use Rattle.std.proofs.lemmas.List.{get_or_past}
-use Rattle.noc_topo.specs.Lists.{tabulate, is_some_of}
-use Rattle.noc_topo.specs.Shape.{nodes, local_port, neighbour}
-use Rattle.noc_topo.proofs.ListLemmas.{get_or-tabulate, length-tabulate}
-use Rattle.noc_packet.proofs.SetLemmas.{has_bit-zero}
-use Rattle.noc_packet.specs.declared.packet.Beat.{Beat}
 use Rattle.noc_alloc.proofs.RequestLemmas.{at_replicate}
-use Rattle.noc_view.specs.View.{View, size_of, idle_beat, view_buffer, is_tail}
-use Rattle.noc_theory.specs.Good.{IsGoodSetup}
-use Rattle.noc_theory.specs.Lockstep.{beat_by, beats_at, beats_in, site_at, view_at}
-use Rattle.noc_theory.specs.Network.{Setup, opening_state, state_at}
-use Rattle.noc_theory.proofs.join.OpeningViewLemmas.{opens}
 use Rattle.noc_theory.proofs.join.OpeningStateLemmas.{no-beat}
-use Rattle.noc_sets.specs.Taken.{flit_from, flit_on_vc, credit_from}
-use Rattle.noc_theory_bits.specs.Wires.{ShowsWires}
+use Rattle.noc_theory_bits.proofs.Common.{cases_lt, false≢true, get_or_past, tabulate, is_some_of, nodes, local_port, neighbour, get_or-tabulate, length-tabulate, has_bit-zero, Beat, View, size_of, idle_beat, view_buffer, is_tail, IsGoodSetup, beat_by, beats_at, beats_in, site_at, view_at, Setup, opening_state, state_at, opens, flit_from, flit_on_vc, credit_from, ShowsWires}
 use Rattle.noc_theory_bits.proofs.network.NetworkLemmas.{good}
 use Rattle.noc_theory_bits.proofs.wiring.WireLemmas.{flit-at, credit-at}
 

@@ -1,35 +1,19 @@
 -- What allocation decides of a router is what the round of its frozen view has.
 use Rattle.std.proofs.Common.{◌≡◌, ◌≢◌, ℕ, ◌+◌, ◌/◌, ◌%◌, ◌^◌, ◌<◌, ◌≤◌, Bool, true, false, length, get_or, Option, Some, None, refl, ap, ap₂, sym, ◌∙◌, subst, arith, inl, inr, bit_and, bit_or}
 use Rattle.std.specs.Prelude.{◌⊎◌, ◌&&◌, ◌||◌, not, is_some, nat_eq, slice_index_or, if◌then◌else◌}
-use Rattle.std.proofs.lemmas.Bool.{cases_eq, cases_lt, eq-eqb, ne_eqb, eqb-true, false≢true, true≢false, and_parts}
-use Rattle.std.proofs.lemmas.Nat.{pow_below}
-use Rattle.std.proofs.lemmas.List.{get_or-map}
-use Rattle.noc_topo.specs.Lists.{is_some_of}
-use Rattle.noc_topo.specs.Shape.{ports}
-use Rattle.noc_topo.proofs.ListLemmas.{get_or-tabulate, get_or-map_indexed}
-use Rattle.noc_packet.specs.Set.{has_bit}
-use Rattle.noc_packet.proofs.SetLemmas.{has_bit-zero, both_members}
-use Rattle.noc_alloc.specs.Arbiter.{RoundRobin, first_in_turn, arbiter_at, arbiter_after, pointer_after, pointers_of}
+use Rattle.noc_alloc.specs.Arbiter.{first_in_turn}
 use Rattle.noc_alloc.specs.Allocation.{grant_of}
 use Rattle.noc_alloc.proofs.ArbiterLemmas.{first_in_turn-same, first_in_turn-none}
-use Rattle.noc_alloc.specs.Members.{MembersAreBelow}
-use Rattle.noc_alloc.specs.Requests.{is_given}
-use Rattle.noc_vc.specs.Input.{is_waiting}
-use Rattle.noc_vc.specs.Output.{is_free}
-use Rattle.noc_vc.specs.declared.input.InputState.{InputState}
-use Rattle.noc_vc.specs.declared.input.InputState.TheVariants.{Idle, Waiting, Active}
-use Rattle.noc_view.specs.Verdict.{ask_of, asks_of, arbiters_after}
-use Rattle.noc_view.specs.View.{View, size_of, claim_in, view_claim, view_input, view_output, view_round, view_stands}
+use Rattle.noc_view.specs.Verdict.{asks_of}
 use Rattle.noc_view.proofs.FindLemmas.{find-some}
 use Rattle.noc_view.proofs.StandLemmas.{asks_of-stands}
-use Rattle.noc_sets.specs.Sets.{less, least}
-use Rattle.noc_sets.specs.Column.{Column, RouterMarks, IsColumn, ShowsPhase, sends_by}
-use Rattle.noc_sets.specs.Turns.{ShowsPointer, in_turn}
-use Rattle.noc_sets.specs.Grants.{Allocation, HasAllocated, KeepsInput, ShowsGrants, asked_of, phase_granted, winner, with_grant}
+use Rattle.noc_sets.specs.Turns.{in_turn}
+use Rattle.noc_sets.specs.Grants.{HasAllocated, KeepsInput, ShowsGrants, winner}
 use Rattle.noc_sets.specs.Passes.{lane_asks}
 use Rattle.noc_sets.proofs.AskLemmas.{asked-is}
-use Rattle.noc_sets.proofs.MemberLemmas.{eq-turned, or-false, or-zero, same-word, below_fits, least_is, less_members, power-members, above_64}
+use Rattle.noc_sets.proofs.MemberLemmas.{eq-turned, or-false, same-word, above_64}
 use Rattle.noc_sets.proofs.TurnLemmas.{first-among, first-is, first-members, mask-past}
+use Rattle.noc_theory_bits.proofs.Common.{cases_eq, cases_lt, eq-eqb, ne_eqb, eqb-true, false≢true, true≢false, and_parts, pow_below, get_or-map, is_some_of, ports, get_or-tabulate, get_or-map_indexed, has_bit, has_bit-zero, both_members, RoundRobin, arbiter_at, arbiter_after, pointer_after, pointers_of, MembersAreBelow, is_given, is_waiting, is_free, InputState, Idle, Waiting, Active, ask_of, arbiters_after, View, size_of, claim_in, view_claim, view_input, view_output, view_round, view_stands, less, least, Column, RouterMarks, IsColumn, ShowsPhase, sends_by, ShowsPointer, Allocation, asked_of, phase_granted, with_grant, or-zero, below_fits, least_is, less_members, power-members}
 use Rattle.noc_theory_bits.proofs.network.PointerLemmas.{AreTurns}
 
 some-of : (o : Option ℕ) (x : ℕ) → is_some_of o x ≡ true → o ≡ Some x

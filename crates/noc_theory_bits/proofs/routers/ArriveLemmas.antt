@@ -1,22 +1,12 @@
 -- Beats are taken and a flit is injected: the words of a lane show the view after it.
 use Rattle.std.proofs.Common.{◌≡◌, ℕ, ◌+◌, ◌/◌, ◌%◌, ◌^◌, ◌<◌, ◌≤◌, Bool, true, length, Option, Some, None, IfSome, ap, sym, ◌∙◌, subst, arith, bit_or, List}
 use Rattle.std.specs.Prelude.{is_some, nat_lt}
-use Rattle.std.proofs.lemmas.Bool.{false≢true, and_parts, ltb-true, lt-ltb}
-use Rattle.noc_topo.specs.Lists.{one_if}
-use Rattle.noc_packet.specs.Set.{has_bit}
-use Rattle.noc_packet.specs.declared.packet.Flit.{Flit}
-use Rattle.noc_route.specs.Routes.{Routes}
-use Rattle.noc_vc.specs.Input.{Input, is_expected, fits}
-use Rattle.noc_vc.specs.Output.{Output, credit_fits, credit_fits_at}
-use Rattle.noc_vc.specs.declared.output.OutputState.TheVariants.{Owned}
-use Rattle.noc_view.specs.States.{is_supplied}
-use Rattle.noc_view.specs.View.{View, size_of, view_buffer, view_input, view_output}
-use Rattle.noc_sets.specs.Taken.{HasTaken}
-use Rattle.noc_sets.specs.Column.{Column, RouterMarks, AreWords, ShowsOutput, ShowsChannels, IsTidy, is_draining}
-use Rattle.noc_sets.specs.Passes.{lane_raised, with_credits, AreOwners}
+use Rattle.noc_vc.specs.Input.{is_expected}
+use Rattle.noc_vc.specs.Output.{credit_fits_at}
+use Rattle.noc_sets.specs.Passes.{with_credits}
 use Rattle.noc_sets.proofs.CreditLemmas.{credited-shows, supplied-shows}
 use Rattle.noc_sets.proofs.FlitLemmas.{phase-kept}
-use Rattle.noc_sets.specs.Planes.{AreAll}
+use Rattle.noc_theory_bits.proofs.Common.{false≢true, and_parts, ltb-true, lt-ltb, one_if, has_bit, Flit, Routes, Input, fits, Output, credit_fits, Owned, is_supplied, View, size_of, view_buffer, view_input, view_output, HasTaken, Column, RouterMarks, AreWords, ShowsOutput, ShowsChannels, IsTidy, is_draining, lane_raised, AreOwners, AreAll}
 
 -- a word of credits, by the channels to which one comes
 pub record AreCredits (v : View) (came : ℕ) (credit : ℕ → Bool) : Type 0 where

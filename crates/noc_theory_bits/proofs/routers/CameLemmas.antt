@@ -1,24 +1,8 @@
 -- Whether something came to a router, or was injected, before its verdicts.
 use Rattle.std.proofs.Common.{◌≡◌, ℕ, ◌+◌, ◌*◌, ◌<◌, Bool, true, false, List, [], ◌∷◌, length, Option, Some, None, refl, ap, sym, ◌∙◌, arith, inl, inr}
 use Rattle.std.specs.Prelude.{◌&&◌, ◌||◌, not, find, is_some, nat_eq, nat_le, nat_lt, option_map, if◌then◌else◌, slice_set}
-use Rattle.std.proofs.lemmas.Bool.{cases_eq, eq-eqb, false≢true, ne_eqb, true≢false}
-use Rattle.std.proofs.lemmas.Nat.{mul-add-lt}
-use Rattle.std.proofs.lemmas.Option.{same_Some}
-use Rattle.noc_topo.specs.Shape.{local_port, ports}
-use Rattle.noc_topo.specs.Lists.{below}
-use Rattle.noc_packet.specs.Set.{has_bit}
-use Rattle.noc_packet.specs.Packet.{flit_at}
-use Rattle.noc_packet.specs.declared.packet.Beat.{Beat}
-use Rattle.noc_packet.specs.declared.packet.Flit.{Flit}
-use Rattle.noc_packet.specs.declared.packet.Packet.{Packet}
-use Rattle.noc_packet.proofs.SetLemmas.{has_bit-zero, zero_from_none}
-use Rattle.noc_route.specs.Routes.{Routes}
-use Rattle.noc_vc.specs.Input.{fits}
-use Rattle.noc_vc.specs.Output.{credit_fits, output_after_credit}
-use Rattle.noc_view.specs.View.{View, begun_on, has_link, view_after_inject, view_after_inject_from, is_vacant, local_channel, size_of, view_after_take, view_after_takes_from, view_buffer, view_input, view_output, with_credit, with_flit, with_injected, with_landed, with_misfit}
-use Rattle.noc_theory.proofs.worms.GrantLemmas.{Has-below}
-use Rattle.noc_theory.proofs.worms.MemberLemmas.{find-has}
-use Rattle.noc_sets.specs.Injected.{injected_to, injection_from, injection_in}
+use Rattle.noc_view.specs.View.{has_link, view_after_take, view_after_takes_from, with_credit, with_flit, with_landed}
+use Rattle.noc_theory_bits.proofs.Common.{cases_eq, eq-eqb, false≢true, ne_eqb, true≢false, mul-add-lt, same_Some, local_port, ports, below, has_bit, flit_at, Beat, Flit, Packet, has_bit-zero, zero_from_none, Routes, fits, credit_fits, output_after_credit, View, begun_on, view_after_inject, view_after_inject_from, is_vacant, local_channel, size_of, view_buffer, view_input, view_output, with_injected, with_misfit, Has-below, find-has, injected_to, injection_from, injection_in}
 
 -- ---- beats that change nothing
 

@@ -1,37 +1,13 @@
 -- What grants and routes leave in the words of a router.
 use Rattle.std.proofs.Common.{◌≡◌, ◌≢◌, ℕ, ◌/◌, ◌^◌, ◌<◌, ◌≤◌, Bool, true, false, List, [], ◌∷◌, Some, None, IfSome, refl, ap, sym, ◌∙◌, subst, arith, inl, inr, bit_or}
 use Rattle.std.specs.Prelude.{◌⊎◌, ◌&&◌, not, is_some, slice_index_or}
-use Rattle.std.proofs.lemmas.Bool.{cases_eq, cases_lt, true≢false, false≢true, and_parts}
-use Rattle.std.proofs.lemmas.Nat.{pow_below}
-use Rattle.noc_topo.specs.Lists.{is_some_of}
-use Rattle.noc_topo.specs.Shape.{ports}
-use Rattle.noc_packet.specs.Set.{has_bit}
-use Rattle.noc_packet.specs.declared.packet.Flit.{Flit}
-use Rattle.noc_packet.proofs.SetLemmas.{has_bit-zero}
-use Rattle.noc_route.specs.Routes.{Routes, IsRelation, width}
-use Rattle.noc_alloc.specs.Arbiter.{arbiter_at}
-use Rattle.noc_alloc.specs.Members.{MembersAreBelow}
-use Rattle.noc_alloc.specs.Requests.{is_given}
-use Rattle.noc_vc.specs.Output.{is_free}
-use Rattle.noc_vc.specs.declared.input.InputState.{InputState}
-use Rattle.noc_vc.specs.declared.input.InputState.TheVariants.{Idle, Waiting, Active}
-use Rattle.noc_vc.specs.Input.{is_empty, is_idle_phase}
-use Rattle.noc_view.specs.Verdict.{ask_of, arbiters_after}
-use Rattle.noc_view.specs.View.{Site, View, size_of, view_buffer, view_claim, view_input, view_output, view_round, route_of}
-use Rattle.noc_sets.specs.Sets.{less}
-use Rattle.noc_sets.specs.Column.{Column, RouterMarks, IsColumn, IsTidy, ShowsPhase, sends_by}
-use Rattle.noc_sets.specs.Moves.{AreTails}
+use Rattle.noc_route.specs.Routes.{IsRelation, width}
 use Rattle.noc_sets.specs.Routed.{HasChosen}
-use Rattle.noc_sets.specs.Turns.{ShowsPointer}
-use Rattle.noc_sets.specs.Grants.{Allocation, HasAllocated, ShowsGrants, asked_of, phase_granted, winner}
-use Rattle.noc_sets.specs.Opening.{AreSides}
-use Rattle.noc_sets.specs.Passes.{lane_asks, lane_heads}
-use Rattle.noc_sets.specs.Taken.{HasSize}
-use Rattle.noc_sets.proofs.MemberLemmas.{below_fits, less_fits, above_64}
+use Rattle.noc_sets.specs.Grants.{HasAllocated, ShowsGrants, winner}
+use Rattle.noc_sets.specs.Passes.{lane_asks}
+use Rattle.noc_sets.proofs.MemberLemmas.{above_64}
 use Rattle.noc_sets.proofs.TurnLemmas.{first-among}
-use Rattle.noc_sets.proofs.StandLemmas.{AreFilled, standing}
-use Rattle.noc_sets.specs.Around.{Surroundings}
-use Rattle.noc_sets.specs.Layout.{Layout}
+use Rattle.noc_theory_bits.proofs.Common.{cases_eq, cases_lt, true≢false, false≢true, and_parts, pow_below, is_some_of, ports, has_bit, Flit, has_bit-zero, Routes, arbiter_at, MembersAreBelow, is_given, is_free, InputState, Idle, Waiting, Active, is_empty, is_idle_phase, ask_of, arbiters_after, Site, View, size_of, view_buffer, view_claim, view_input, view_output, view_round, route_of, less, Column, RouterMarks, IsColumn, IsTidy, ShowsPhase, sends_by, AreTails, ShowsPointer, Allocation, asked_of, phase_granted, AreSides, lane_heads, HasSize, below_fits, less_fits, AreFilled, standing, Surroundings, Layout}
 use Rattle.noc_theory_bits.proofs.routers.AllocateLemmas.{allocated, not-allocated}
 use Rattle.noc_theory_bits.proofs.network.PointerLemmas.{AreArbiters}
 use Rattle.noc_theory_bits.proofs.routers.RouteLemmas.{route-fits}

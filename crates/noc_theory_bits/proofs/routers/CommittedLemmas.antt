@@ -1,28 +1,11 @@
 -- A router after its verdicts, channel by channel; and what the words of a lane then show.
 use Rattle.std.proofs.Common.{◌≡◌, ℕ, ◌+◌, ◌*◌, ◌<◌, ◌≤◌, Bool, true, false, List, [], ◌∷◌, length, Option, Some, None, refl, ap, sym, ◌∙◌, subst, arith, get_or}
 use Rattle.std.specs.Prelude.{◌&&◌, nat_lt, slice_set, if◌then◌else◌}
-use Rattle.std.proofs.lemmas.Bool.{true≢false}
-use Rattle.std.proofs.lemmas.List.{get_or-map, length-set}
-use Rattle.noc_topo.specs.Lists.{tabulate}
-use Rattle.noc_topo.specs.Shape.{ports, local_port}
-use Rattle.noc_topo.proofs.ListLemmas.{get_or-tabulate, get_or-map_indexed, length-tabulate}
-use Rattle.noc_packet.specs.Set.{has_bit}
-use Rattle.noc_packet.specs.declared.packet.Flit.{Flit}
-use Rattle.noc_packet.specs.declared.packet.Beat.{Beat}
-use Rattle.noc_route.specs.Routes.{Routes}
-use Rattle.noc_vc.specs.Input.{Input, idle_input, is_idle_phase, fits}
-use Rattle.noc_vc.specs.Output.{Output, ejection_output, credit_fits, output_after_credit}
-use Rattle.noc_view.specs.Arrivals.{is_expected_in, arrivals_after}
-use Rattle.noc_view.specs.Verdict.{arbiters_after, ask_of}
-use Rattle.noc_view.specs.declared.verdict.Verdict.{Verdict}
-use Rattle.noc_view.specs.declared.verdict.Verdict.TheVariants.{Empty, Routed, Granted, Moved, NoFlit, NoIdleChannel, LostChannel, NoCredit, LostInput, LostSwitch}
-use Rattle.noc_view.specs.declared.finding.Finding.{Finding}
-use Rattle.noc_view.specs.View.{View, Decisions, size_of, has_link, view_buffer, view_input, view_output, view_round, finding_of, decisions_of, view_after_commit, decided_verdict, view_claim, first_flit, granted_to, sent_from, buffer_after, input_after, output_after, with_arrival, with_misfit, with_landed, with_flit, with_credit, view_after_take, view_after_takes_from, view_after_takes, tail_packet, flit_out, local_step}
-use Rattle.noc_sets.specs.Taken.{HasTaken, HasSize, flit_from, credit_from}
-use Rattle.noc_sets.specs.Column.{Column, AreWords, ShowsInput}
-use Rattle.noc_sets.specs.Passes.{Effects, settled_lane}
-use Rattle.noc_sets.proofs.SettleLemmas.{AreEffects, SaysOf, settled-input, verdict_of_bits}
+use Rattle.std.proofs.lemmas.List.{length-set}
+use Rattle.noc_view.specs.View.{has_link, granted_to, sent_from, buffer_after, input_after, output_after, with_landed, with_flit, with_credit, view_after_take, view_after_takes_from}
+use Rattle.noc_sets.proofs.SettleLemmas.{SaysOf, settled-input}
 use Rattle.noc_sets.proofs.TakenLemmas.{all-taken}
+use Rattle.noc_theory_bits.proofs.Common.{true≢false, get_or-map, tabulate, ports, local_port, get_or-tabulate, get_or-map_indexed, length-tabulate, has_bit, Flit, Beat, Routes, Input, idle_input, is_idle_phase, fits, Output, ejection_output, credit_fits, output_after_credit, is_expected_in, arrivals_after, arbiters_after, ask_of, Verdict, Empty, Routed, Granted, Moved, NoFlit, NoIdleChannel, LostChannel, NoCredit, LostInput, LostSwitch, Finding, View, Decisions, size_of, view_buffer, view_input, view_output, view_round, finding_of, decisions_of, view_after_commit, decided_verdict, view_claim, first_flit, with_arrival, with_misfit, view_after_takes, tail_packet, flit_out, local_step, HasTaken, HasSize, flit_from, credit_from, Column, AreWords, ShowsInput, Effects, settled_lane, AreEffects, verdict_of_bits}
 use Rattle.noc_theory_bits.proofs.routers.InjectedLemmas.{step-none}
 
 -- an arrival changes no channel and no arbiter

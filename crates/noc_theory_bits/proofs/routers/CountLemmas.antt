@@ -1,25 +1,11 @@
 -- The counts of a channel after one more cycle, and the last event.
 use Rattle.std.proofs.Common.{◌≡◌, ℕ, ◌+◌, ◌-◌, ◌^◌, ◌<◌, ◌≤◌, Bool, true, false, List, [], ◌∷◌, length, Option, Some, None, sum, refl, ap, sym, ◌∙◌, subst, arith}
 use Rattle.std.specs.Prelude.{find, nat_le, nat_lt, slice_index, slice_index_or, slice_set, if◌then◌else◌}
-use Rattle.std.proofs.lemmas.Bool.{lt-ltb}
-use Rattle.noc_topo.specs.Shape.{local_port, ports}
-use Rattle.noc_topo.proofs.ListLemmas.{get_or-map_indexed}
-use Rattle.noc_topo.specs.Lists.{below, one_if}
-use Rattle.noc_packet.specs.declared.packet.Beat.{Beat}
-use Rattle.noc_packet.specs.declared.packet.Packet.{Packet}
-use Rattle.noc_packet.specs.Set.{has_bit}
-use Rattle.noc_route.specs.Routes.{Routes}
-use Rattle.noc_view.specs.Arrivals.{is_expected_in, arrivals_after}
 use Rattle.noc_view.specs.Verdict.{column}
 use Rattle.noc_view.specs.VerdictSets.{verdict_by, sets_with}
-use Rattle.noc_view.specs.View.{Site, View, Decisions, size_of, counts_after, view_after_commit, decisions_of, view_after_inject, view_after_inject_from, with_injected, begun_on, is_vacant, local_channel, view_buffer, view_after_takes, local_step, decided_verdict, with_arrival, with_misfit, tail_packet, flit_out}
-use Rattle.noc_view.specs.declared.verdict.Verdict.{Verdict}
-use Rattle.noc_sets.specs.Counts.{nine_counts, ten_counts, with_verdicts, ShowsCounts, ByVerdict, verdict_sets, lane_verdicts}
-use Rattle.noc_sets.specs.Column.{Column, AreWords, ShowsChannels}
-use Rattle.noc_sets.specs.Passes.{Effects, lane_heads, lane_ready}
-use Rattle.noc_sets.proofs.SettleLemmas.{AreEffects, verdict_of_bits}
-use Rattle.noc_sets.proofs.StandLemmas.{AreFilled, verdicts, verdicts-apart}
-use Rattle.noc_sets.specs.Turns.{ArePicked}
+use Rattle.noc_sets.specs.Counts.{with_verdicts, verdict_sets}
+use Rattle.noc_sets.proofs.StandLemmas.{verdicts-apart}
+use Rattle.noc_theory_bits.proofs.Common.{lt-ltb, local_port, ports, get_or-map_indexed, below, one_if, Beat, Packet, has_bit, Routes, is_expected_in, arrivals_after, Site, View, Decisions, size_of, counts_after, view_after_commit, decisions_of, view_after_inject, view_after_inject_from, with_injected, begun_on, is_vacant, local_channel, view_buffer, view_after_takes, local_step, decided_verdict, with_arrival, with_misfit, tail_packet, flit_out, Verdict, nine_counts, ten_counts, ShowsCounts, ByVerdict, lane_verdicts, Column, AreWords, ShowsChannels, Effects, lane_heads, lane_ready, AreEffects, verdict_of_bits, AreFilled, verdicts, ArePicked}
 use Rattle.noc_theory_bits.proofs.routers.CommittedLemmas.{verdict-planned}
 use Rattle.noc_theory_bits.proofs.routers.DecideLemmas.{AreDecided, HasTurns}
 use Rattle.noc_theory_bits.proofs.routers.SettleLemmas.{committed-site}

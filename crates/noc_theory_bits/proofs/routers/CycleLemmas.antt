@@ -1,16 +1,7 @@
 -- A whole cycle of one router: the words that showed its frozen state show its view at the next
 -- count.
 use Rattle.std.proofs.Common.{◌≡◌, ℕ, ◌<◌, ◌≤◌, sym, subst}
-use Rattle.noc_topo.specs.Shape.{nodes, ports}
-use Rattle.noc_view.specs.View.{Site, size_of}
-use Rattle.noc_theory.specs.Good.{IsGoodSetup}
-use Rattle.noc_theory.specs.Lockstep.{site_at}
-use Rattle.noc_theory.specs.Network.{Setup}
-use Rattle.noc_sets.specs.Around.{Surroundings}
-use Rattle.noc_sets.specs.Layout.{IsLayoutOf, Layout}
-use Rattle.noc_sets.specs.Moves.{AreTails}
-use Rattle.noc_sets.specs.Opening.{AreSides}
-use Rattle.noc_sets.proofs.StandLemmas.{AreFilled}
+use Rattle.noc_theory_bits.proofs.Common.{nodes, ports, Site, size_of, IsGoodSetup, site_at, Setup, Surroundings, IsLayoutOf, Layout, AreTails, AreSides, AreFilled}
 use Rattle.noc_theory_bits.proofs.network.NetworkLemmas.{frozen_view, frozen-seen, frozen-tidy, frozen-size, frozen-full, frozen-arbiters}
 use Rattle.noc_theory_bits.proofs.network.PointerLemmas.{AreArbiters}
 use Rattle.noc_theory_bits.proofs.routers.ChosenLemmas.{IsStill}

@@ -2,23 +2,8 @@
 -- the view after it.
 use Rattle.std.proofs.Common.{◌≡◌, ℕ, ◌^◌, ◌<◌, Bool, true, false, length, refl, ap, sym, ◌∙◌}
 use Rattle.std.specs.Prelude.{◌&&◌, not, is_some}
-use Rattle.std.proofs.lemmas.Bool.{false≢true, and_parts}
-use Rattle.noc_topo.specs.Shape.{ports}
-use Rattle.noc_packet.specs.Set.{has_bit}
-use Rattle.noc_route.specs.Routes.{Routes}
-use Rattle.noc_alloc.specs.Arbiter.{arbiter_at}
-use Rattle.noc_alloc.specs.Requests.{is_given}
-use Rattle.noc_vc.specs.Input.{is_active, is_empty}
-use Rattle.noc_view.specs.States.{is_supplied, is_won_from}
-use Rattle.noc_view.specs.Verdict.{ask_of}
-use Rattle.noc_view.specs.View.{View, size_of, view_buffer, view_input, view_claim, view_round, first_flit, decisions_of, view_after_commit, is_tail}
-use Rattle.noc_sets.specs.Sets.{less}
-use Rattle.noc_sets.specs.Turns.{ShowsPointer, ArePicked}
-use Rattle.noc_sets.specs.Taken.{HasSize}
-use Rattle.noc_sets.specs.Column.{Column, AreWords, ShowsInput, ShowsChannels}
-use Rattle.noc_sets.specs.Passes.{Effects, settled_lane, lane_heads, lane_ready, lane_no_flit, lane_no_idle_channel, lane_no_credit}
-use Rattle.noc_sets.proofs.StandLemmas.{AreFilled, standing, picked-ready, verdicts}
-use Rattle.noc_sets.proofs.SettleLemmas.{AreEffects, verdict_of_bits}
+use Rattle.noc_sets.proofs.StandLemmas.{picked-ready}
+use Rattle.noc_theory_bits.proofs.Common.{false≢true, and_parts, ports, has_bit, Routes, arbiter_at, is_given, is_active, is_empty, is_supplied, is_won_from, ask_of, View, size_of, view_buffer, view_input, view_claim, view_round, first_flit, decisions_of, view_after_commit, is_tail, less, ShowsPointer, ArePicked, HasSize, Column, AreWords, ShowsInput, ShowsChannels, Effects, settled_lane, lane_heads, lane_ready, lane_no_flit, lane_no_idle_channel, lane_no_credit, AreFilled, standing, verdicts, AreEffects, verdict_of_bits}
 use Rattle.noc_theory_bits.proofs.routers.CommittedLemmas.{input-shows}
 
 -- what is decided by the scalar parts: grants, losses and moves, by the round of the view

@@ -2,25 +2,9 @@
 use Rattle.std.proofs.Common.{◌≡◌, ℕ, suc, ◌<◌, ◌≤◌, Bool, true, false, List, [], ◌∷◌, length, get_or, refl, ap, ap₂, sym, ◌∙◌, arith, inl, inr, bit_or}
 use Rattle.std.specs.Prelude.{◌⊎◌, ◌&&◌, ◌||◌, not, nat_eq}
 use Rattle.std.specs.List.{list_any}
-use Rattle.std.proofs.lemmas.Bool.{cases_eq, cases_lt, eq-eqb, ne_eqb, false≢true, true≢false}
 use Rattle.std.proofs.lemmas.List.Folds.{list_any_at}
-use Rattle.noc_topo.specs.Shape.{ports}
-use Rattle.noc_topo.specs.Lists.{tabulate}
-use Rattle.noc_topo.proofs.ListLemmas.{get_or-tabulate, length-tabulate}
-use Rattle.noc_packet.specs.Set.{has_bit}
-use Rattle.noc_packet.proofs.SetLemmas.{has_bit-zero, zero_from_none}
-use Rattle.noc_route.specs.Routes.{Routes}
-use Rattle.noc_alloc.specs.Members.{MembersAreBelow}
-use Rattle.noc_view.specs.Verdict.{is_event}
-use Rattle.noc_view.specs.View.{View, size_of, view_round, finding_of, decisions_of, has_event}
-use Rattle.noc_view.specs.declared.finding.Finding.{Finding}
-use Rattle.noc_sets.specs.Sets.{less}
-use Rattle.noc_sets.specs.Column.{Column, AreWords, ShowsChannels}
-use Rattle.noc_sets.specs.Passes.{Effects, lane_heads, lane_no_credit, lane_no_flit, lane_no_idle_channel, lane_ready}
-use Rattle.noc_sets.proofs.SettleLemmas.{AreEffects, verdict_of_bits}
-use Rattle.noc_sets.proofs.StandLemmas.{AreFilled, verdicts}
 use Rattle.noc_sets.proofs.MemberLemmas.{either-zero}
-use Rattle.noc_sets.specs.Turns.{ArePicked}
+use Rattle.noc_theory_bits.proofs.Common.{cases_eq, cases_lt, eq-eqb, ne_eqb, false≢true, true≢false, ports, tabulate, get_or-tabulate, length-tabulate, has_bit, has_bit-zero, zero_from_none, Routes, MembersAreBelow, is_event, View, size_of, view_round, finding_of, decisions_of, has_event, Finding, less, Column, AreWords, ShowsChannels, Effects, lane_heads, lane_no_credit, lane_no_flit, lane_no_idle_channel, lane_ready, AreEffects, verdict_of_bits, AreFilled, verdicts, ArePicked}
 use Rattle.noc_theory_bits.proofs.routers.DecideLemmas.{AreDecided, HasTurns}
 use Rattle.noc_theory_bits.proofs.routers.SettleLemmas.{less-below, none-above}
 

@@ -1,40 +1,16 @@
 -- What becomes of each input channel of a router in a cycle, and which are supplied after it.
 use Rattle.std.proofs.Common.{◌≡◌, ℕ, ◌<◌, Bool, true, false, List, [], ◌∷◌, Option, Some, None, IfSome, refl, ap, ap₂, sym, ◌∙◌, arith, bit_or}
 use Rattle.std.specs.Prelude.{◌&&◌, ◌||◌, not, is_some, nat_lt, slice_get, slice_index, slice_index_or, if◌then◌else◌}
-use Rattle.std.proofs.lemmas.Bool.{eq-eqb, eqb-true, lt-ltb, true≢false, false≢true, and_parts}
-use Rattle.noc_topo.specs.Shape.{ports}
-use Rattle.noc_topo.proofs.ListLemmas.{get_or-tabulate}
-use Rattle.noc_packet.specs.Set.{has_bit}
-use Rattle.noc_packet.specs.declared.packet.Flit.{Flit}
-use Rattle.noc_packet.proofs.SetLemmas.{either_members, has_bit-zero}
-use Rattle.noc_route.specs.Routes.{Routes}
-use Rattle.noc_alloc.specs.Requests.{is_given}
-use Rattle.noc_vc.specs.Input.{Input, idle_input, is_active, is_empty, is_idle_phase}
-use Rattle.noc_vc.specs.Output.{has_credit, has_credit_at, output_after_spend}
-use Rattle.noc_vc.specs.declared.input.InputState.{InputState}
-use Rattle.noc_vc.specs.declared.input.InputState.TheVariants.{Idle, Waiting, Active}
-use Rattle.noc_vc.specs.declared.output.OutputState.{OutputState}
-use Rattle.noc_vc.specs.declared.output.OutputState.TheVariants.{Idle as Free, Owned, Draining}
-use Rattle.noc_view.specs.States.{is_owned_from, is_supplied, owns}
-use Rattle.noc_view.specs.Verdict.{ask_of}
-use Rattle.noc_view.specs.declared.verdict.Verdict.{Verdict}
-use Rattle.noc_view.specs.View.{View, size_of, view_buffer, view_claim, claim_in, view_input, view_output, view_round, first_flit, is_tail, mover_to, decisions_of, view_after_commit, decided_verdict, input_after, held_by, spent_by, sent_from, granted_to, route_of}
-use Rattle.noc_sets.specs.Sets.{less}
-use Rattle.noc_sets.specs.Column.{IsColumn, RouterMarks}
-use Rattle.noc_sets.specs.Moves.{HasSwitched, chosen_by, single_in, dry_by}
-use Rattle.noc_sets.specs.Grants.{Allocation}
-use Rattle.noc_sets.specs.Unions.{some_below, union_from}
-use Rattle.noc_sets.specs.Passes.{Effects, lane_heads, lane_no_credit, lane_no_flit, lane_no_idle_channel, lane_ready}
-use Rattle.noc_sets.specs.Planes.{more_than_one, plane_number}
-use Rattle.noc_sets.proofs.MemberLemmas.{less_members}
+use Rattle.noc_vc.specs.Output.{has_credit_at, output_after_spend}
+use Rattle.noc_vc.specs.declared.output.OutputState.TheVariants.{Idle as Free}
+use Rattle.noc_view.specs.View.{input_after, held_by, spent_by, sent_from, granted_to}
+use Rattle.noc_sets.specs.Moves.{dry_by}
+use Rattle.noc_sets.specs.Planes.{more_than_one}
 use Rattle.noc_sets.proofs.PlaneLemmas.{more-members}
-use Rattle.noc_sets.proofs.SettleLemmas.{quiet-input, verdict_of_bits}
-use Rattle.noc_sets.proofs.StandLemmas.{verdicts}
+use Rattle.noc_sets.proofs.SettleLemmas.{quiet-input}
 use Rattle.noc_sets.proofs.SuppliedLemmas.{Gone, Gets as GetsOne, Stays, Sends as SendsOn, Waits}
-use Rattle.noc_sets.proofs.UnionLemmas.{rest-members, union-members}
-use Rattle.noc_sets.specs.Around.{Surroundings}
-use Rattle.noc_sets.specs.Layout.{Layout}
-use Rattle.noc_sets.specs.Turns.{ArePicked}
+use Rattle.noc_sets.proofs.UnionLemmas.{rest-members}
+use Rattle.noc_theory_bits.proofs.Common.{eq-eqb, eqb-true, lt-ltb, true≢false, false≢true, and_parts, ports, get_or-tabulate, has_bit, Flit, either_members, has_bit-zero, Routes, is_given, Input, idle_input, is_active, is_empty, is_idle_phase, has_credit, InputState, Idle, Waiting, Active, OutputState, Owned, Draining, is_owned_from, is_supplied, owns, ask_of, Verdict, View, size_of, view_buffer, view_claim, claim_in, view_input, view_output, view_round, first_flit, is_tail, mover_to, decisions_of, view_after_commit, decided_verdict, route_of, less, IsColumn, RouterMarks, HasSwitched, chosen_by, single_in, Allocation, some_below, union_from, Effects, lane_heads, lane_no_credit, lane_no_flit, lane_no_idle_channel, lane_ready, plane_number, less_members, verdict_of_bits, verdicts, union-members, Surroundings, Layout, ArePicked}
 use Rattle.noc_theory_bits.proofs.routers.ChosenLemmas.{IsStill, ShowsChosen}
 use Rattle.noc_theory_bits.proofs.routers.CommittedLemmas.{input-committed, output-committed, verdict-planned}
 use Rattle.noc_theory_bits.proofs.routers.MoveLemmas.{dry-is, spends}

@@ -2,38 +2,18 @@
 -- flit is injected.
 use Rattle.std.proofs.Common.{◌≡◌, ℕ, zero, suc, ◌+◌, ◌/◌, ◌^◌, ◌<◌, ◌≤◌, Bool, true, false, List, [], ◌∷◌, length, Option, Some, None, refl, ap, ap₂, sym, ◌∙◌, subst, arith, inl, inr, bit_or}
 use Rattle.std.specs.Prelude.{◌⊎◌, ◌&&◌, ◌||◌, not, is_some, nat_le, nat_lt, slice_index_or}
-use Rattle.std.proofs.lemmas.Bool.{cases_lt, eq-eqb, eqb-true, le-ltb, true≢false, false≢true, and_parts, ltb-true}
 use Rattle.std.proofs.Math.Nat.{le-div_iff_mul-le}
-use Rattle.noc_topo.specs.Shape.{local_port}
-use Rattle.noc_topo.specs.Lists.{one_if}
-use Rattle.noc_packet.specs.Set.{has_bit}
-use Rattle.noc_packet.specs.declared.packet.Packet.{Packet}
-use Rattle.noc_packet.specs.declared.packet.Flit.{Flit}
-use Rattle.noc_packet.specs.declared.packet.Beat.{Beat}
-use Rattle.noc_packet.proofs.SetLemmas.{either_members}
-use Rattle.noc_route.specs.Routes.{Routes}
-use Rattle.noc_alloc.specs.Members.{MembersAreBelow}
-use Rattle.noc_vc.specs.Input.{Input, is_active, is_empty, is_idle_phase, is_waiting}
-use Rattle.noc_vc.specs.Output.{Output, ejection_output}
-use Rattle.noc_vc.specs.declared.input.InputState.{InputState}
-use Rattle.noc_vc.specs.declared.output.OutputState.{OutputState}
-use Rattle.noc_vc.specs.declared.input.InputState.TheVariants.{Idle, Waiting, Active}
-use Rattle.noc_vc.specs.declared.output.OutputState.TheVariants.{Idle as Free, Owned, Draining}
-use Rattle.noc_view.specs.States.{is_owned_from, is_supplied, owns}
-use Rattle.noc_view.specs.View.{Site, View, size_of, local_channel, view_buffer, view_input, view_output, view_after_takes, view_after_inject, view_after_inject_from}
-use Rattle.noc_sets.specs.Sets.{differ, lowest}
-use Rattle.noc_sets.specs.Column.{Column, RouterMarks, IsColumn, IsTidy, ShowsHolder, ShowsInput, ShowsOutput, ShowsSending}
-use Rattle.noc_sets.specs.Injected.{HasInjected, injected_to, injection_from, injection_in}
-use Rattle.noc_sets.specs.Passes.{AreOwners, frozen_column, lane_begins, lane_filled, lane_home, lane_injected, lane_landed, lane_raised}
-use Rattle.noc_sets.specs.Planes.{any_from, plane_number, raised_by, wrong_from, AreAll}
-use Rattle.noc_sets.specs.Source.{ShowsNext, ShowsQueue, ShowsSource, begun_source, due_of, Source, Start, NEVER}
-use Rattle.noc_sets.specs.Taken.{HasSize, HasTaken, credit_from, credited_by, flit_from, with_one}
-use Rattle.noc_sets.proofs.MemberLemmas.{and_fits, below_fits, less_members, or_fits, xor_members, lowest_fits}
+use Rattle.noc_vc.specs.declared.output.OutputState.TheVariants.{Idle as Free}
+use Rattle.noc_sets.specs.Sets.{differ}
+use Rattle.noc_sets.specs.Passes.{frozen_column, lane_filled, lane_home, lane_landed}
+use Rattle.noc_sets.specs.Planes.{any_from, raised_by}
+use Rattle.noc_sets.specs.Source.{NEVER}
+use Rattle.noc_sets.specs.Taken.{credited_by}
+use Rattle.noc_sets.proofs.MemberLemmas.{xor_members, lowest_fits}
 use Rattle.noc_sets.proofs.FlitLemmas.{empty-length, phase-kept, with-one-empty, with-one-length, begins_fits}
 use Rattle.noc_sets.proofs.FrozenLemmas.{first-number, flit_from-beyond, frozen-words, marks-kept, owned-kept, sending-kept, turns-kept}
 use Rattle.noc_sets.proofs.PlaneLemmas.{any-fits, filled-members, raised-length, raised-number}
-use Rattle.noc_sets.proofs.StandLemmas.{AreFilled}
-use Rattle.noc_theory_bits.specs.Wires.{ShowsWires}
+use Rattle.noc_theory_bits.proofs.Common.{cases_lt, eq-eqb, eqb-true, le-ltb, true≢false, false≢true, and_parts, ltb-true, local_port, one_if, has_bit, Packet, Flit, Beat, either_members, Routes, MembersAreBelow, Input, is_active, is_empty, is_idle_phase, is_waiting, Output, ejection_output, InputState, OutputState, Idle, Waiting, Active, Owned, Draining, is_owned_from, is_supplied, owns, Site, View, size_of, local_channel, view_buffer, view_input, view_output, view_after_takes, view_after_inject, view_after_inject_from, lowest, Column, RouterMarks, IsColumn, IsTidy, ShowsHolder, ShowsInput, ShowsOutput, ShowsSending, HasInjected, injected_to, injection_from, injection_in, AreOwners, lane_begins, lane_injected, lane_raised, plane_number, wrong_from, AreAll, ShowsNext, ShowsQueue, ShowsSource, begun_source, due_of, Source, Start, HasSize, HasTaken, credit_from, flit_from, with_one, and_fits, below_fits, less_members, or_fits, AreFilled, ShowsWires}
 use Rattle.noc_theory_bits.proofs.routers.ArriveLemmas.{AreCredits, outputs-arrived, place-left, supplied-arrived}
 use Rattle.noc_theory_bits.proofs.routers.CommittedLemmas.{size-taken}
 use Rattle.noc_theory_bits.proofs.routers.InjectLemmas.{HasSent, sent-by}

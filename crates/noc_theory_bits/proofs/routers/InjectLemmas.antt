@@ -1,30 +1,18 @@
 -- What the words of a router give its source to inject, and what the view after it has.
 use Rattle.std.proofs.Common.{◌≡◌, ◌≢◌, ℕ, ◌+◌, ◌-◌, ◌*◌, ◌^◌, ◌<◌, ◌≤◌, Bool, true, false, List, [], ◌∷◌, length, Option, Some, None, refl, ap, ap₂, sym, ◌∙◌, subst, arith, add-one, add-zero, zero-add, inl, inr, bit_and, bit_or}
 use Rattle.std.specs.Prelude.{◌⊎◌, ◌&&◌, ◌||◌, not, find, is_some, option_map, unwrap_or, nat_eq, nat_le, nat_lt, if◌then◌else◌}
-use Rattle.std.proofs.lemmas.Bool.{cases_eq, cases_lt, eq-eqb, ne_eqb, eqb-true, lt-leb, le-leb, lt-ltb, le-ltb, ltb-true, leb-true, true≢false, false≢true, and_parts}
+use Rattle.std.proofs.lemmas.Bool.{leb-true}
 use Rattle.std.proofs.Math.Nat.{pow-le-pow_right}
-use Rattle.noc_topo.specs.Lists.{below, one_if}
-use Rattle.noc_topo.specs.Shape.{local_port}
-use Rattle.noc_packet.specs.Packet.{flit_at}
-use Rattle.noc_packet.specs.Set.{has_bit, IsLeast}
-use Rattle.noc_packet.specs.declared.packet.Packet.{Packet}
-use Rattle.noc_packet.specs.declared.packet.Flit.{Flit}
-use Rattle.noc_packet.proofs.SetLemmas.{both_members, either_members, has_bit-zero, same_set}
-use Rattle.noc_vc.specs.Input.{is_active, is_empty, is_idle_phase, is_waiting}
-use Rattle.noc_vc.specs.declared.input.InputState.{InputState}
-use Rattle.noc_vc.specs.declared.input.InputState.TheVariants.{Idle, Waiting, Active}
-use Rattle.noc_view.specs.View.{View, size_of, local_channel, view_buffer, view_input, is_vacant, with_injected, begun_on, view_after_inject_from}
-use Rattle.noc_sets.specs.Sets.{lowest, least}
-use Rattle.noc_sets.specs.Column.{Column, AreWords, ShowsSending}
-use Rattle.noc_sets.specs.Injected.{injection_from, injected_to}
-use Rattle.noc_sets.specs.Passes.{injecting_after, lane_begins, lane_free, lane_injected}
-use Rattle.noc_sets.specs.Planes.{any_from, plane_number, wrong_from, AreAll}
-use Rattle.noc_sets.specs.Source.{ShowsNext, ShowsQueue, ShowsSource, begun_source, due_of, first_source, next_source, sent_source, start_in, Source, Start, NEVER, END}
+use Rattle.noc_packet.proofs.SetLemmas.{same_set}
+use Rattle.noc_sets.specs.Passes.{injecting_after, lane_free}
+use Rattle.noc_sets.specs.Planes.{any_from}
+use Rattle.noc_sets.specs.Source.{first_source, next_source, sent_source, start_in, NEVER, END}
 use Rattle.noc_sets.proofs.AskLemmas.{vacant-is}
-use Rattle.noc_sets.proofs.MemberLemmas.{least_is, lowest_members, or-zero, power-members, lowest-one, below_fits, less_fits}
+use Rattle.noc_sets.proofs.MemberLemmas.{lowest-one}
 use Rattle.noc_sets.proofs.FlitLemmas.{free-members}
 use Rattle.noc_sets.proofs.SourceLemmas.{next-shows, tail-is}
 use Rattle.noc_sets.proofs.PlaneLemmas.{wrong-members}
+use Rattle.noc_theory_bits.proofs.Common.{cases_eq, cases_lt, eq-eqb, ne_eqb, eqb-true, lt-leb, le-leb, lt-ltb, le-ltb, ltb-true, true≢false, false≢true, and_parts, below, one_if, local_port, flit_at, has_bit, IsLeast, Packet, Flit, both_members, either_members, has_bit-zero, is_active, is_empty, is_idle_phase, is_waiting, InputState, Idle, Waiting, Active, View, size_of, local_channel, view_buffer, view_input, is_vacant, with_injected, begun_on, view_after_inject_from, lowest, least, Column, AreWords, ShowsSending, injection_from, injected_to, lane_begins, lane_injected, plane_number, wrong_from, AreAll, ShowsNext, ShowsQueue, ShowsSource, begun_source, due_of, Source, Start, least_is, lowest_members, or-zero, power-members, below_fits, less_fits}
 
 zero-or : (a : ℕ) → bit_or 0 a ≡ a
 zero-or a = same_set (bit_or 0 a) a (λ k. either_members 0 a k ∙ ap (λ b. b || has_bit a k) (has_bit-zero k))

@@ -1,19 +1,10 @@
 -- A router injects; and a router with no misfit after a cycle had none before its verdicts.
 use Rattle.std.proofs.Common.{◌≡◌, ℕ, ◌<◌, Bool, true, false, List, [], ◌∷◌, ◌++◌, length, Option, Some, None, refl, ap, sym, ◌∙◌, arith, inl, inr}
 use Rattle.std.specs.Prelude.{◌⊎◌, find, option_map, nat_lt, nat_le, if◌then◌else◌}
-use Rattle.std.proofs.lemmas.Bool.{eq-eqb, ne_eqb, cases_eq}
 use Rattle.std.proofs.lemmas.List.{length-set, get_or-set_same, get_or-set_other}
-use Rattle.noc_topo.specs.Lists.{below}
-use Rattle.noc_topo.specs.Shape.{local_port}
-use Rattle.noc_packet.specs.Packet.{flit_at}
-use Rattle.noc_packet.specs.declared.packet.Packet.{Packet}
-use Rattle.noc_packet.specs.declared.packet.Beat.{Beat}
-use Rattle.noc_route.specs.Routes.{Routes}
-use Rattle.noc_vc.specs.Input.{idle_input, input_after_land}
-use Rattle.noc_view.specs.Arrivals.{is_expected_in, arrivals_after}
-use Rattle.noc_view.specs.View.{View, size_of, local_channel, view_buffer, view_input, is_vacant, with_injected, begun_on, view_after_inject_from, view_after_inject, with_misfit, with_arrival, tail_packet, flit_out, view_after_commit, decisions_of, view_after_takes, local_step}
-use Rattle.noc_sets.specs.Taken.{with_one, landed_by, HasSize}
-use Rattle.noc_sets.specs.Injected.{injection_from, injection_in, injected_to, HasInjected}
+use Rattle.noc_vc.specs.Input.{input_after_land}
+use Rattle.noc_sets.specs.Taken.{landed_by}
+use Rattle.noc_theory_bits.proofs.Common.{eq-eqb, ne_eqb, cases_eq, below, local_port, flit_at, Packet, Beat, Routes, idle_input, is_expected_in, arrivals_after, View, size_of, local_channel, view_buffer, view_input, is_vacant, with_injected, begun_on, view_after_inject_from, view_after_inject, with_misfit, with_arrival, tail_packet, flit_out, view_after_commit, decisions_of, view_after_takes, local_step, with_one, HasSize, injection_from, injection_in, injected_to, HasInjected}
 
 not-injected : (n : ℕ) (v : View) → HasInjected v (record v { given = n }) None
 not-injected n v = record {

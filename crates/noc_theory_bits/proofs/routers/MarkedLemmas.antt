@@ -1,27 +1,10 @@
 -- The marks of a router after a cycle show its view after it.
 use Rattle.std.proofs.Common.{◌≡◌, ℕ, ◌<◌, Bool, true, false, Option, Some, None, refl, ap, ap₂, sym, ◌∙◌, subst}
 use Rattle.std.specs.Prelude.{◌&&◌, not, is_some, slice_index_or, if◌then◌else◌}
-use Rattle.std.proofs.lemmas.Bool.{eq-eqb, true≢false}
-use Rattle.noc_topo.specs.Lists.{is_some_of}
-use Rattle.noc_topo.specs.Shape.{ports}
-use Rattle.noc_packet.specs.Set.{has_bit}
-use Rattle.noc_route.specs.Routes.{Routes}
-use Rattle.noc_alloc.specs.Requests.{is_given}
-use Rattle.noc_vc.specs.Input.{is_empty, is_idle_phase}
-use Rattle.noc_vc.specs.Output.{Output, output_after_spend, output_without_credit}
-use Rattle.noc_vc.specs.declared.input.InputState.{InputState}
-use Rattle.noc_vc.specs.declared.input.InputState.TheVariants.{Idle, Waiting, Active}
-use Rattle.noc_vc.specs.declared.output.OutputState.{OutputState}
-use Rattle.noc_vc.specs.declared.output.OutputState.TheVariants.{Idle as Free, Owned, Draining}
-use Rattle.noc_view.specs.Verdict.{ask_of}
-use Rattle.noc_view.specs.View.{Site, View, size_of, view_buffer, view_claim, claim_in, view_input, view_output, view_round, first_flit, is_tail, mover_to, decisions_of, view_after_commit, held_by, spent_by, route_of}
-use Rattle.noc_sets.specs.Column.{Column, IsColumn, RouterMarks, ShowsHolder, ShowsMarks, ShowsPhase, sends_by}
-use Rattle.noc_sets.specs.Moves.{HasSwitched, single_in}
-use Rattle.noc_sets.specs.Grants.{Allocation, phase_granted, with_grant}
-use Rattle.noc_sets.specs.Passes.{Effects, lane_heads, settled_lane, lane_ready}
-use Rattle.noc_sets.specs.Around.{Surroundings}
-use Rattle.noc_sets.specs.Layout.{Layout}
-use Rattle.noc_sets.specs.Turns.{ArePicked}
+use Rattle.noc_vc.specs.Output.{output_after_spend, output_without_credit}
+use Rattle.noc_vc.specs.declared.output.OutputState.TheVariants.{Idle as Free}
+use Rattle.noc_view.specs.View.{held_by, spent_by}
+use Rattle.noc_theory_bits.proofs.Common.{eq-eqb, true≢false, is_some_of, ports, has_bit, Routes, is_given, is_empty, is_idle_phase, Output, InputState, Idle, Waiting, Active, OutputState, Owned, Draining, ask_of, Site, View, size_of, view_buffer, view_claim, claim_in, view_input, view_output, view_round, first_flit, is_tail, mover_to, decisions_of, view_after_commit, route_of, Column, IsColumn, RouterMarks, ShowsHolder, ShowsMarks, ShowsPhase, sends_by, HasSwitched, single_in, Allocation, phase_granted, with_grant, Effects, lane_heads, settled_lane, lane_ready, Surroundings, Layout, ArePicked}
 use Rattle.noc_theory_bits.proofs.routers.ChosenLemmas.{IsStill, ShowsChosen, phase-as}
 use Rattle.noc_theory_bits.proofs.routers.CommittedLemmas.{packet-committed}
 use Rattle.noc_theory_bits.proofs.routers.FateLemmas.{Fate, Leaves, Gets, Rests, fate, output-by, Sends, Begins}

@@ -3,34 +3,18 @@
 -- it.
 use Rattle.std.proofs.Common.{◌≡◌, ◌≢◌, ℕ, ◌+◌, ◌*◌, ◌/◌, ◌%◌, ◌^◌, ◌<◌, ◌≤◌, Bool, true, false, length, Option, Some, None, refl, ap, ap₂, sym, ◌∙◌, subst, arith, inl, inr, bit_and, div-add-mod', mod-eq_of_lt}
 use Rattle.std.specs.Prelude.{nat_eq, nat_le, nat_lt, ◌⊎◌, ◌&&◌, ◌||◌, not, is_some, option_and_then, option_map, slice_index, slice_index_or, if◌then◌else◌}
-use Rattle.std.proofs.lemmas.Bool.{eq-eqb, ne_eqb, cases_eq, cases_lt, false≢true, and_parts, eqb-true, lt-leb, le-leb, lt-ltb, le-ltb}
-use Rattle.std.proofs.lemmas.List.{get_or-map}
-use Rattle.std.proofs.lemmas.Nat.{div_below, mod_below, mul-add-lt, pow_pos}
+use Rattle.std.proofs.lemmas.Nat.{pow_pos}
 use Rattle.std.proofs.lemmas.Nat.Bits.{and_pow}
 use Rattle.std.proofs.Math.Nat.{mod_self}
-use Rattle.noc_topo.specs.Lists.{is_some_of}
-use Rattle.noc_topo.specs.Shape.{ports}
-use Rattle.noc_topo.proofs.ListLemmas.{get_or-map_indexed}
-use Rattle.noc_packet.specs.Set.{has_bit, IsLeast}
-use Rattle.noc_packet.proofs.SetLemmas.{bit_at-true, bit_at-false, both_members, has_bit-zero}
-use Rattle.noc_alloc.specs.Arbiter.{RoundRobin, pointer_after, pointers_of, arbiter_at, arbiter_after}
-use Rattle.noc_alloc.specs.Members.{MembersAreBelow}
-use Rattle.noc_vc.specs.declared.input.InputState.{InputState}
-use Rattle.noc_vc.specs.declared.input.InputState.TheVariants.{Idle, Waiting, Active}
-use Rattle.noc_view.specs.States.{is_won_from}
-use Rattle.noc_view.specs.Verdict.{arbiters_after, out_of}
-use Rattle.noc_view.specs.View.{View, size_of, view_input, view_claim, claim_in, view_round, first_flit, is_tail, mover, mover_to}
-use Rattle.noc_sets.specs.Column.{sends_by}
+use Rattle.noc_packet.proofs.SetLemmas.{bit_at-true, bit_at-false}
 use Rattle.noc_sets.specs.Moves.{selected_by, dry_by, HasAdvanced}
-use Rattle.noc_sets.specs.Sets.{of_one, least}
-use Rattle.noc_sets.specs.Unions.{some_below, union_from}
+use Rattle.noc_sets.specs.Sets.{of_one}
 use Rattle.noc_sets.specs.Turns.{in_turn}
-use Rattle.noc_sets.proofs.MemberLemmas.{and_fits, least_is, lowest_members, power-members, lowest_fits}
+use Rattle.noc_sets.proofs.MemberLemmas.{lowest_fits}
 use Rattle.noc_sets.proofs.SelectLemmas.{selected, wins-is, pick-of-member, in_turn-some}
 use Rattle.noc_sets.proofs.SettleLemmas.{is_tail_by}
-use Rattle.noc_sets.proofs.SwitchLemmas.{AreMoved}
-use Rattle.noc_sets.proofs.UnionLemmas.{some-none, some-one, some-same, some-and, union-members}
-use Rattle.noc_sets.proofs.WinnerLemmas.{ShowsPorts}
+use Rattle.noc_sets.proofs.UnionLemmas.{some-none, some-one, some-same, some-and}
+use Rattle.noc_theory_bits.proofs.Common.{eq-eqb, ne_eqb, cases_eq, cases_lt, false≢true, and_parts, eqb-true, lt-leb, le-leb, lt-ltb, le-ltb, get_or-map, div_below, mod_below, mul-add-lt, is_some_of, ports, get_or-map_indexed, has_bit, IsLeast, both_members, has_bit-zero, RoundRobin, pointer_after, pointers_of, arbiter_at, arbiter_after, MembersAreBelow, InputState, Idle, Waiting, Active, is_won_from, arbiters_after, out_of, View, size_of, view_input, view_claim, claim_in, view_round, first_flit, is_tail, mover, mover_to, sends_by, least, some_below, union_from, and_fits, least_is, lowest_members, power-members, AreMoved, union-members, ShowsPorts}
 
 -- the words that the switch of a router goes by: the picked channels, by output port those that go
 -- by it, and the pointers

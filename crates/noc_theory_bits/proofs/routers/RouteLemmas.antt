@@ -1,15 +1,9 @@
 -- The set to which a head is routed is a word.
 use Rattle.std.proofs.Common.{◌≡◌, ℕ, ◌/◌, ◌%◌, ◌^◌, ◌<◌, ◌≤◌, Bool, true, false, Option, Some, None, sym, ◌∙◌, arith}
 use Rattle.std.specs.Prelude.{if◌then◌else◌}
-use Rattle.std.proofs.lemmas.Bool.{false≢true}
-use Rattle.std.proofs.lemmas.Nat.{pow_below}
-use Rattle.noc_packet.specs.Set.{has_bit}
-use Rattle.noc_packet.specs.declared.packet.Flit.{Flit}
-use Rattle.noc_packet.proofs.SetLemmas.{has_bit-zero}
-use Rattle.noc_route.specs.Routes.{Routes, IsRelation, width}
-use Rattle.noc_vc.specs.Input.{is_idle_phase}
-use Rattle.noc_view.specs.View.{View, view_input, first_flit, route_of, route_for}
-use Rattle.noc_sets.proofs.MemberLemmas.{below_fits}
+use Rattle.noc_route.specs.Routes.{IsRelation, width}
+use Rattle.noc_view.specs.View.{route_for}
+use Rattle.noc_theory_bits.proofs.Common.{false≢true, pow_below, has_bit, Flit, has_bit-zero, Routes, is_idle_phase, View, view_input, first_flit, route_of, below_fits}
 
 pub route-fits : (relation : Routes) (v : View) → IsRelation relation → width relation.grid relation.vcs ≤ 63 → (k : ℕ) → route_of relation v k < 2 ^ 64
 route-fits relation v are few k = small (route_of relation v k) (λ o h. real (first_flit v k) (is_idle_phase (view_input v k).phase) o h)

@@ -1,32 +1,13 @@
 -- A cycle takes effect: the words of a lane show the view of its router after the cycle.
 use Rattle.std.proofs.Common.{◌≡◌, ℕ, ◌/◌, ◌^◌, ◌<◌, ◌≤◌, Bool, true, false, List, Option, Some, None, refl, ap, sym, ◌∙◌, subst, arith, bit_and, bit_or}
 use Rattle.std.specs.Prelude.{◌⊎◌, ◌&&◌, ◌||◌, not, nat_le, slice_index_or, if◌then◌else◌}
-use Rattle.std.proofs.lemmas.Bool.{and_parts}
-use Rattle.noc_topo.specs.Shape.{ports, local_port}
-use Rattle.noc_topo.specs.Lists.{one_if}
-use Rattle.noc_packet.specs.Set.{has_bit}
-use Rattle.noc_packet.specs.declared.packet.Beat.{Beat}
-use Rattle.noc_packet.proofs.SetLemmas.{both_members, either_members}
-use Rattle.noc_route.specs.Routes.{Routes}
-use Rattle.noc_alloc.specs.Arbiter.{arbiter_at}
-use Rattle.noc_alloc.specs.Members.{MembersAreBelow}
-use Rattle.noc_vc.specs.Output.{Output}
-use Rattle.noc_view.specs.Arrivals.{is_expected_in, arrivals_after}
-use Rattle.noc_view.specs.States.{is_supplied, is_won_from}
-use Rattle.noc_view.specs.Verdict.{ArbiterStates, arbiters_after}
-use Rattle.noc_view.specs.View.{Site, View, Decisions, size_of, local_channel, view_buffer, view_input, view_output, view_round, mover_to, decisions_of, view_after_commit, with_arrival, with_misfit, tail_packet, flit_out, view_after_inject, view_after_takes, local_step}
-use Rattle.noc_sets.specs.Sets.{less}
-use Rattle.noc_sets.specs.Turns.{ShowsPointer, ArePicked, ArePast}
-use Rattle.noc_sets.specs.Planes.{plane_number}
-use Rattle.noc_sets.specs.Taken.{HasSize}
-use Rattle.noc_sets.specs.Column.{Column, RouterMarks, AreWords, ShowsInput, ShowsOutput, ShowsChannels, ShowsTurns, ShowsMarks, ShowsSending, IsColumn}
-use Rattle.noc_sets.specs.Passes.{lane_ready, Effects, settled_lane}
-use Rattle.noc_sets.proofs.MemberLemmas.{and_fits, or_fits, less_fits, less_members}
+use Rattle.noc_sets.specs.Column.{ShowsTurns}
 use Rattle.noc_sets.proofs.PlaneLemmas.{lowered-fits, lowered-length, lowered-number}
-use Rattle.noc_sets.proofs.StandLemmas.{AreFilled, draws}
-use Rattle.noc_sets.proofs.SettleLemmas.{AreEffects, SaysOut, settled-output}
+use Rattle.noc_sets.proofs.StandLemmas.{draws}
+use Rattle.noc_sets.proofs.SettleLemmas.{SaysOut, settled-output}
 use Rattle.noc_sets.proofs.SuppliedLemmas.{Turn, Says, supplied-after}
 use Rattle.noc_sets.proofs.SwitchLemmas.{ahead-after}
+use Rattle.noc_theory_bits.proofs.Common.{and_parts, ports, local_port, one_if, has_bit, Beat, both_members, either_members, Routes, arbiter_at, MembersAreBelow, Output, is_expected_in, arrivals_after, is_supplied, is_won_from, ArbiterStates, arbiters_after, Site, View, Decisions, size_of, local_channel, view_buffer, view_input, view_output, view_round, mover_to, decisions_of, view_after_commit, with_arrival, with_misfit, tail_packet, flit_out, view_after_inject, view_after_takes, local_step, less, ShowsPointer, ArePicked, ArePast, plane_number, HasSize, Column, RouterMarks, AreWords, ShowsInput, ShowsOutput, ShowsChannels, ShowsMarks, ShowsSending, IsColumn, lane_ready, Effects, settled_lane, and_fits, or_fits, less_fits, less_members, AreFilled, AreEffects}
 use Rattle.noc_theory_bits.proofs.routers.CommittedLemmas.{output-committed, arbiters-committed}
 use Rattle.noc_theory_bits.proofs.routers.DecideLemmas.{AreDecided, HasTurns, inputs-decided}
 

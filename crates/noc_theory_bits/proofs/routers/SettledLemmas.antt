@@ -1,23 +1,7 @@
 -- What was decided in a cycle takes effect: the words of a router show its view after its verdicts.
-use Rattle.std.proofs.Common.{◌≡◌, ℕ, ◌*◌, ◌/◌, ◌<◌, ◌≤◌, true, false, ap, sym, ◌∙◌, subst, arith, inl, inr, mul-le-mul_right}
-use Rattle.std.specs.Prelude.{◌⊎◌, nat_le, nat_lt, if◌then◌else◌}
-use Rattle.std.proofs.lemmas.Bool.{and_parts, ltb-true}
-use Rattle.std.proofs.lemmas.Nat.{div_below}
-use Rattle.noc_topo.specs.Shape.{local_port, ports}
-use Rattle.noc_packet.specs.Set.{has_bit}
-use Rattle.noc_route.specs.Routes.{Routes}
-use Rattle.noc_alloc.specs.Arbiter.{arbiter_at}
-use Rattle.noc_alloc.specs.Members.{MembersAreBelow}
-use Rattle.noc_view.specs.Verdict.{arbiters_after}
-use Rattle.noc_view.specs.View.{View, size_of, view_round, decisions_of, view_after_commit}
-use Rattle.noc_sets.specs.Column.{Column, IsColumn, RouterMarks, ShowsMarks}
-use Rattle.noc_sets.specs.Moves.{HasSwitched, single_in}
-use Rattle.noc_sets.specs.Grants.{Allocation}
-use Rattle.noc_sets.specs.Turns.{ShowsPointer, ArePicked, ArePast}
-use Rattle.noc_sets.specs.Passes.{Effects, lane_heads, settled_lane, lane_ready}
-use Rattle.noc_sets.proofs.WinnerLemmas.{ShowsPorts}
-use Rattle.noc_sets.specs.Around.{Surroundings}
-use Rattle.noc_sets.specs.Layout.{Layout}
+use Rattle.std.proofs.Common.{◌≡◌, ℕ, ◌*◌, ◌/◌, ◌<◌, ◌≤◌, false, ap, sym, ◌∙◌, subst, arith, inl, inr, mul-le-mul_right}
+use Rattle.std.specs.Prelude.{◌⊎◌, nat_le, nat_lt}
+use Rattle.noc_theory_bits.proofs.Common.{and_parts, ltb-true, div_below, local_port, ports, has_bit, Routes, arbiter_at, MembersAreBelow, arbiters_after, View, size_of, view_round, decisions_of, view_after_commit, Column, IsColumn, RouterMarks, ShowsMarks, HasSwitched, single_in, Allocation, ShowsPointer, ArePicked, ArePast, Effects, lane_heads, settled_lane, lane_ready, ShowsPorts, Surroundings, Layout}
 use Rattle.noc_theory_bits.proofs.routers.ChosenLemmas.{IsStill, ShowsChosen}
 use Rattle.noc_theory_bits.proofs.routers.FateLemmas.{dry, says-supplied}
 use Rattle.noc_theory_bits.proofs.routers.MarkedLemmas.{marks-after}

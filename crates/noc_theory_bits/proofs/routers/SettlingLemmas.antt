@@ -2,39 +2,14 @@
 -- it.
 use Rattle.std.proofs.Common.{◌≡◌, ◌≢◌, ℕ, ◌*◌, ◌^◌, ◌<◌, ◌≤◌, Bool, true, false, List, [], ◌∷◌, Option, Some, None, IfSome, refl, ap, sym, ◌∙◌, subst, inl, inr, bit_or}
 use Rattle.std.specs.Prelude.{◌⊎◌, ◌&&◌, ◌||◌, not, is_some, nat_eq, nat_le, nat_lt, slice_get, slice_index_or, if◌then◌else◌}
-use Rattle.std.proofs.lemmas.Bool.{cases_eq, cases_lt, eq-eqb, ne_eqb, eqb-true, le-leb, lt-leb, lt-ltb, le-ltb, true≢false, false≢true, and_parts}
-use Rattle.noc_topo.specs.Lists.{is_some_of}
-use Rattle.noc_topo.specs.Shape.{local_port, ports}
-use Rattle.noc_packet.specs.Set.{has_bit}
-use Rattle.noc_packet.specs.declared.packet.Flit.{Flit}
-use Rattle.noc_packet.proofs.SetLemmas.{has_bit-zero}
-use Rattle.noc_route.specs.Routes.{Routes}
-use Rattle.noc_alloc.specs.Arbiter.{arbiter_at}
 use Rattle.noc_alloc.proofs.ArbiterLemmas.{first_in_turn-picks}
-use Rattle.noc_alloc.specs.Members.{MembersAreBelow}
-use Rattle.noc_alloc.specs.Requests.{is_given}
-use Rattle.noc_vc.specs.Input.{is_empty}
-use Rattle.noc_vc.specs.Output.{has_credit_at, is_free}
-use Rattle.noc_vc.specs.declared.input.InputState.{InputState}
-use Rattle.noc_vc.specs.declared.input.InputState.TheVariants.{Idle, Waiting, Active}
-use Rattle.noc_vc.specs.declared.output.OutputState.{OutputState}
-use Rattle.noc_vc.specs.declared.output.OutputState.TheVariants.{Idle as Free, Owned, Draining}
-use Rattle.noc_view.specs.States.{is_owned_from, is_supplied, owns}
-use Rattle.noc_view.specs.Verdict.{ask_of}
-use Rattle.noc_view.specs.View.{View, size_of, view_buffer, view_claim, claim_in, view_input, view_output, view_round, first_flit, is_tail, mover_to}
+use Rattle.noc_vc.specs.Output.{has_credit_at}
+use Rattle.noc_vc.specs.declared.output.OutputState.TheVariants.{Idle as Free}
 use Rattle.noc_view.proofs.FindLemmas.{find-some}
-use Rattle.noc_sets.specs.Column.{Column, IsColumn, RouterMarks, is_draining}
-use Rattle.noc_sets.specs.Moves.{HasSwitched, chosen_by, single_in}
-use Rattle.noc_sets.specs.Grants.{Allocation}
-use Rattle.noc_sets.specs.Sets.{of_one, least}
-use Rattle.noc_sets.specs.Unions.{some_below}
-use Rattle.noc_sets.specs.Passes.{Effects, lane_heads, lane_ready}
-use Rattle.noc_sets.proofs.MemberLemmas.{less_fits, or_fits, power-members}
-use Rattle.noc_sets.proofs.SettleLemmas.{AreEffects, SaysOut}
-use Rattle.noc_sets.proofs.UnionLemmas.{union-members, union-same, rest-fits}
-use Rattle.noc_sets.specs.Around.{Surroundings}
-use Rattle.noc_sets.specs.Layout.{Layout}
-use Rattle.noc_sets.specs.Turns.{ArePicked}
+use Rattle.noc_sets.specs.Sets.{of_one}
+use Rattle.noc_sets.proofs.SettleLemmas.{SaysOut}
+use Rattle.noc_sets.proofs.UnionLemmas.{union-same, rest-fits}
+use Rattle.noc_theory_bits.proofs.Common.{cases_eq, cases_lt, eq-eqb, ne_eqb, eqb-true, le-leb, lt-leb, lt-ltb, le-ltb, true≢false, false≢true, and_parts, is_some_of, local_port, ports, has_bit, Flit, has_bit-zero, Routes, arbiter_at, MembersAreBelow, is_given, is_empty, is_free, InputState, Idle, Waiting, Active, OutputState, Owned, Draining, is_owned_from, is_supplied, owns, ask_of, View, size_of, view_buffer, view_claim, claim_in, view_input, view_output, view_round, first_flit, is_tail, mover_to, Column, IsColumn, RouterMarks, is_draining, HasSwitched, chosen_by, single_in, Allocation, least, some_below, Effects, lane_heads, lane_ready, less_fits, or_fits, power-members, AreEffects, union-members, Surroundings, Layout, ArePicked}
 use Rattle.noc_theory_bits.proofs.routers.AllocateLemmas.{grants-at}
 use Rattle.noc_theory_bits.proofs.routers.ChosenLemmas.{IsStill, ShowsChosen}
 use Rattle.noc_theory_bits.proofs.routers.DecideLemmas.{AreDecided}

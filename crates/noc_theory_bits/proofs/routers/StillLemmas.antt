@@ -2,21 +2,14 @@
 -- for its counts.
 use Rattle.std.proofs.Common.{◌≡◌, ℕ, ◌-◌, ◌<◌, ◌≤◌, false, List, get_or, ap, sym, ◌∙◌, subst, ⊎_elim, arith}
 use Rattle.std.specs.List.{All}
-use Rattle.std.proofs.lemmas.Bool.{cases_lt}
-use Rattle.noc_topo.specs.Shape.{nodes}
-use Rattle.noc_topo.proofs.ListLemmas.{get_or-tabulate}
-use Rattle.noc_packet.specs.declared.packet.Beat.{Beat}
-use Rattle.noc_view.specs.Still.{IsHeldBefore, takes_effect, view_after_waiting}
-use Rattle.noc_view.specs.View.{View, idle_beat}
-use Rattle.noc_theory.specs.declared.limits.TheConstants.{CYCLE_LIMIT}
-use Rattle.noc_theory.specs.Good.{IsGoodSetup}
-use Rattle.noc_theory.specs.Halves.{IsSilent, beat_at}
-use Rattle.noc_theory.specs.Lockstep.{beats_at, beats_in, lockstep_at, view_at}
-use Rattle.noc_theory.specs.Network.{Setup, state_at}
+use Rattle.noc_view.specs.Still.{view_after_waiting}
+use Rattle.noc_theory.specs.Halves.{beat_at}
+use Rattle.noc_theory.specs.Lockstep.{lockstep_at}
 use Rattle.noc_theory.specs.Seen.{AreSeen}
 use Rattle.noc_theory.proofs.runs.RunLemmas.{count_views, past_wires}
 use Rattle.noc_theory.proofs.runs.StillRunLemmas.{still-wait, without_findings}
 use Rattle.noc_theory.proofs.join.LockstepTheoremLemmas.{lockstep-is_state}
+use Rattle.noc_theory_bits.proofs.Common.{cases_lt, nodes, get_or-tabulate, Beat, IsHeldBefore, takes_effect, View, idle_beat, CYCLE_LIMIT, IsGoodSetup, IsSilent, beats_at, beats_in, view_at, Setup, state_at}
 
 module _ (net : Setup) (setup : IsGoodSetup net) (n end : ℕ) (less : n < end) (limit : end ≤ CYCLE_LIMIT)
     (effect : (r : ℕ) → r < nodes net.relation.grid → takes_effect net.relation (view_at net n r) ≡ false)

@@ -1,35 +1,8 @@
 -- What the switch leaves in the words of a router is what the round of its frozen view has.
 use Rattle.std.proofs.Common.{◌≡◌, ◌≢◌, ℕ, zero, suc, ◌+◌, ◌*◌, ◌/◌, ◌%◌, ◌^◌, ◌<◌, Bool, true, false, Option, Some, None, refl, ap, ap₂, sym, ◌∙◌, subst, arith, inl, inr, div-add-mod'}
 use Rattle.std.specs.Prelude.{◌⊎◌, ◌&&◌, ◌||◌, not, is_some, nat_eq, nat_le, option_and_then, slice_index, slice_index_or, if◌then◌else◌}
-use Rattle.std.proofs.lemmas.Bool.{cases_eq, eq-eqb, le-leb, ne_eqb, eqb-true, true≢false, false≢true, and_parts}
-use Rattle.std.proofs.lemmas.List.{get_or-map}
-use Rattle.std.proofs.lemmas.Nat.{div_below, mod_below, mul-add-lt, pow_below}
-use Rattle.noc_topo.specs.Lists.{is_some_of}
-use Rattle.noc_topo.specs.Shape.{ports}
-use Rattle.noc_packet.specs.Set.{has_bit}
-use Rattle.noc_packet.proofs.SetLemmas.{has_bit-zero}
-use Rattle.noc_route.specs.Routes.{Routes}
-use Rattle.noc_alloc.specs.Arbiter.{RoundRobin, arbiter_at, pointers_of}
-use Rattle.noc_alloc.specs.Members.{MembersAreBelow}
-use Rattle.noc_vc.specs.Input.{is_active, is_empty, is_idle_phase}
-use Rattle.noc_vc.specs.declared.input.InputState.{InputState}
-use Rattle.noc_vc.specs.declared.input.InputState.TheVariants.{Idle, Waiting, Active}
-use Rattle.noc_view.specs.States.{is_supplied, is_won_from}
-use Rattle.noc_view.specs.Verdict.{ask_of, out_of}
-use Rattle.noc_view.specs.View.{View, size_of, view_buffer, view_claim, claim_in, view_input, view_round, mover_to}
-use Rattle.noc_sets.specs.Column.{IsColumn, ShowsPhase, sends_by}
-use Rattle.noc_sets.specs.Moves.{chosen_by}
-use Rattle.noc_sets.specs.Grants.{Allocation, phase_granted, with_grant}
-use Rattle.noc_sets.specs.Unions.{some_below, union_from}
-use Rattle.noc_sets.specs.Passes.{lane_heads, lane_ready}
-use Rattle.noc_sets.specs.Sets.{least}
-use Rattle.noc_sets.proofs.MemberLemmas.{below_fits}
-use Rattle.noc_sets.proofs.StandLemmas.{draws, standing}
-use Rattle.noc_sets.proofs.UnionLemmas.{union-members}
-use Rattle.noc_sets.proofs.WinnerLemmas.{ShowsPorts}
-use Rattle.noc_sets.specs.Around.{Surroundings}
-use Rattle.noc_sets.specs.Layout.{Layout}
-use Rattle.noc_sets.specs.Turns.{ArePicked}
+use Rattle.noc_sets.proofs.StandLemmas.{draws}
+use Rattle.noc_theory_bits.proofs.Common.{cases_eq, eq-eqb, le-leb, ne_eqb, eqb-true, true≢false, false≢true, and_parts, get_or-map, div_below, mod_below, mul-add-lt, pow_below, is_some_of, ports, has_bit, has_bit-zero, Routes, RoundRobin, arbiter_at, pointers_of, MembersAreBelow, is_active, is_empty, is_idle_phase, InputState, Idle, Waiting, Active, is_supplied, is_won_from, ask_of, out_of, View, size_of, view_buffer, view_claim, claim_in, view_input, view_round, mover_to, IsColumn, ShowsPhase, sends_by, chosen_by, Allocation, phase_granted, with_grant, some_below, union_from, lane_heads, lane_ready, least, below_fits, standing, union-members, ShowsPorts, Surroundings, Layout, ArePicked}
 use Rattle.noc_theory_bits.proofs.routers.ChosenLemmas.{IsStill, ShowsChosen}
 use Rattle.noc_theory_bits.proofs.routers.MoveLemmas.{AreMoving, IsTaken, bit-is, moved-is, mover-is, taken-is}
 

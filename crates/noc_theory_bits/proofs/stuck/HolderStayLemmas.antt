@@ -1,14 +1,8 @@
 -- Where nothing happens in a cycle, the packets that hold the channels are those that held them.
 use Rattle.std.proofs.Common.{◌≡◌, ℕ, suc, ◌+◌, ◌*◌, ◌/◌, ◌%◌, ◌<◌, false, Option, Some, None, IfSome, refl, ap, sym, ◌∙◌, subst, inl, inr}
 use Rattle.std.specs.Prelude.{◌⊎◌, is_some}
-use Rattle.std.proofs.lemmas.Bool.{true≢false}
-use Rattle.noc_topo.specs.Shape.{nodes, neighbour}
-use Rattle.noc_topo.proofs.LinkLemmas.{link_back}
-use Rattle.noc_theory.specs.declared.limits.TheConstants.{CYCLE_LIMIT}
-use Rattle.noc_theory.specs.Good.{IsGoodSetup}
-use Rattle.noc_theory.specs.Lockstep.{has_event_at}
-use Rattle.noc_theory.specs.Network.{Setup, frozen_at, state_at}
-use Rattle.noc_theory_bits.specs.Owners.{ShowsHolders, grants_of, holder_at, told_by, told_over}
+use Rattle.noc_theory_bits.proofs.Common.{true≢false, nodes, neighbour, link_back, CYCLE_LIMIT, IsGoodSetup, has_event_at, Setup, frozen_at, state_at, ShowsHolders, holder_at}
+use Rattle.noc_theory_bits.specs.Owners.{grants_of, told_by, told_over}
 use Rattle.noc_theory_bits.proofs.bits.BegunLemmas.{Begins, holder-frozen}
 use Rattle.noc_theory_bits.proofs.bits.HolderLemmas.{holders-told, link-size}
 use Rattle.noc_theory_bits.proofs.network.NetworkLemmas.{good}

@@ -3,32 +3,13 @@
 use Rattle.std.proofs.Common.{◌≡◌, ℕ, suc, ◌<◌, ◌≤◌, Bool, true, false, List, [], ◌∷◌, length, Option, Some, None, refl, ap, sym, ◌∙◌, subst, arith, inl, inr}
 use Rattle.std.specs.Prelude.{◌⊎◌, find, is_some, nat_le, nat_lt, option_map, if◌then◌else◌, slice_index_or, ◌||◌}
 use Rattle.std.specs.List.{list_any}
-use Rattle.std.proofs.lemmas.Bool.{cases_lt, le-leb, lt-leb, true≢false}
-use Rattle.noc_topo.specs.Shape.{nodes}
-use Rattle.noc_topo.specs.Lists.{below}
-use Rattle.noc_packet.specs.Packet.{flit_at}
-use Rattle.noc_packet.specs.declared.packet.Flit.{Flit}
-use Rattle.noc_packet.specs.declared.packet.Packet.{Packet}
-use Rattle.noc_route.specs.Routes.{Routes}
-use Rattle.noc_view.specs.Still.{IsHeldBefore, takes_effect}
-use Rattle.noc_view.specs.Verdict.{is_event, Round}
-use Rattle.noc_view.specs.View.{Decisions, View, begun_on, decisions_of, has_event, is_vacant, local_channel, local_step, view_after_inject, view_after_inject_from, view_after_takes, view_buffer, view_round, with_injected, Site, size_of}
-use Rattle.noc_view.specs.declared.finding.Finding.{Finding}
 use Rattle.noc_view.proofs.StillLemmas.{still-committed}
-use Rattle.noc_theory.specs.declared.limits.TheConstants.{CYCLE_LIMIT}
-use Rattle.noc_theory.specs.Good.{IsGoodSetup}
-use Rattle.noc_theory.specs.Halves.{IsSilent}
-use Rattle.noc_theory.specs.Lockstep.{view_at, has_event_at}
-use Rattle.noc_theory.specs.Network.{Setup, size}
-use Rattle.noc_sets.specs.Injected.{injection_from, injection_in}
-use Rattle.noc_sets.specs.Source.{due_of}
+use Rattle.noc_theory_bits.proofs.Common.{cases_lt, le-leb, lt-leb, true≢false, nodes, below, flit_at, Flit, Packet, Routes, IsHeldBefore, takes_effect, is_event, Round, Decisions, View, begun_on, decisions_of, has_event, is_vacant, local_channel, local_step, view_after_inject, view_after_inject_from, view_after_takes, view_buffer, view_round, with_injected, Site, size_of, Finding, CYCLE_LIMIT, IsGoodSetup, IsSilent, view_at, has_event_at, Setup, size, injection_from, injection_in, due_of, ShowsWires, frozen_of}
 use Rattle.noc_theory_bits.proofs.bits.CameLemmas.{all-quiet, nothing-comes, nothing-returns}
 use Rattle.noc_theory_bits.proofs.routers.CameLemmas.{injected-event}
 use Rattle.noc_theory_bits.proofs.network.NetworkLemmas.{beats, frozen_view, next-count, frozen-seen, frozen-size, frozen-tidy}
 use Rattle.noc_theory_bits.proofs.bits.CountedLemmas.{event-is}
-use Rattle.noc_theory_bits.specs.Wires.{ShowsWires}
-use Rattle.noc_theory_bits.specs.Owners.{frozen_of}
-use Rattle.noc_theory_bits.proofs.routers.RestLemmas.{words-silent}
+use Rattle.noc_theory_bits.proofs.routers.SilentLemmas.{words-silent}
 use Rattle.noc_theory_bits.proofs.stuck.StillVerdictLemmas.{no-grant}
 
 neither : (a b : Bool) → (a || b) ≡ false → (a ≡ false) × (b ≡ false)

@@ -2,15 +2,9 @@
 -- each.
 use Rattle.std.proofs.Common.{◌≡◌, ℕ, zero, suc, ◌+◌, ◌-◌, ◌*◌, ◌^◌, ◌<◌, ◌≤◌, Bool, true, false, List, sum, refl, ap, sym, ◌∙◌, subst, arith}
 use Rattle.std.specs.Prelude.{nat_lt, slice_index, if◌then◌else◌}
-use Rattle.std.proofs.lemmas.Bool.{lt-ltb, true≢false}
-use Rattle.noc_topo.specs.Lists.{one_if}
 use Rattle.noc_view.specs.Still.{counted_times}
-use Rattle.noc_view.specs.Verdict.{is_event}
-use Rattle.noc_view.specs.View.{counts_after}
-use Rattle.noc_view.specs.declared.verdict.Verdict.{Verdict}
-use Rattle.noc_view.specs.declared.verdict.Verdict.TheVariants.{Empty, Routed, Granted, Moved, NoFlit, NoIdleChannel, LostChannel, NoCredit, LostInput, LostSwitch}
-use Rattle.noc_sets.specs.Counts.{ByVerdict, RisesOn, RunOn, nine_counts, ten_counts}
-use Rattle.noc_sets.proofs.SettleLemmas.{verdict_of_bits}
+use Rattle.noc_sets.specs.Counts.{RisesOn, RunOn}
+use Rattle.noc_theory_bits.proofs.Common.{lt-ltb, true≢false, one_if, is_event, counts_after, Verdict, Empty, Routed, Granted, Moved, NoFlit, NoIdleChannel, LostChannel, NoCredit, LostInput, LostSwitch, ByVerdict, nine_counts, ten_counts, verdict_of_bits}
 use Rattle.noc_theory_bits.proofs.routers.CountLemmas.{rises, risen, ten-same}
 use Rattle.noc_theory_bits.proofs.stuck.StillVerdictLemmas.{is_loss}
 

@@ -2,30 +2,16 @@
 -- counted meanwhile.
 use Rattle.std.proofs.Common.{◌≡◌, ℕ, suc, ◌+◌, ◌-◌, ◌<◌, ◌≤◌, false, List, [], sum, ap, sym, ◌∙◌, subst, arith}
 use Rattle.std.specs.Prelude.{slice_index_or}
-use Rattle.noc_topo.specs.Shape.{nodes}
-use Rattle.noc_topo.proofs.ListLemmas.{get_or-map_indexed}
-use Rattle.noc_packet.specs.declared.packet.Flit.{Flit}
-use Rattle.noc_alloc.specs.Members.{MembersAreBelow}
-use Rattle.noc_view.specs.Still.{IsHeldBefore, counted_times, takes_effect, view_after_waiting}
-use Rattle.noc_view.specs.View.{Site, View, counts_after, decided_verdict, decisions_of, size_of}
+use Rattle.noc_view.specs.Still.{counted_times, view_after_waiting}
 use Rattle.noc_view.proofs.StillLemmas.{still-verdict}
-use Rattle.noc_theory.specs.declared.limits.TheConstants.{CYCLE_LIMIT}
-use Rattle.noc_theory.specs.Good.{IsGoodSetup}
-use Rattle.noc_theory.specs.Halves.{IsSilent}
-use Rattle.noc_theory.specs.Lockstep.{beats_at, beats_in, view_at}
-use Rattle.noc_theory.specs.Network.{Setup, state_at}
-use Rattle.noc_sets.specs.Counts.{ShowsCounts, nine_counts, ten_counts, ByVerdict, RunOn}
-use Rattle.noc_sets.specs.Source.{Start}
-use Rattle.noc_sets.specs.Cycle.{Router}
-use Rattle.noc_sets.specs.Ended.{holds_tail}
-use Rattle.noc_theory_bits.specs.Network.{ShowsRouter}
+use Rattle.noc_sets.specs.Counts.{RunOn}
+use Rattle.noc_theory_bits.proofs.Common.{nodes, get_or-map_indexed, Flit, MembersAreBelow, IsHeldBefore, takes_effect, Site, View, counts_after, decided_verdict, decisions_of, size_of, CYCLE_LIMIT, IsGoodSetup, IsSilent, beats_at, beats_in, view_at, Setup, state_at, ShowsCounts, nine_counts, ten_counts, ByVerdict, Start, Router, holds_tail, ShowsRouter, ShowsHolders}
 use Rattle.noc_theory_bits.proofs.network.NetworkLemmas.{start-size, start-tidy}
-use Rattle.noc_theory_bits.proofs.routers.RestLemmas.{bare, bare-column}
+use Rattle.noc_theory_bits.proofs.routers.SilentLemmas.{bare, bare-column}
 use Rattle.noc_theory_bits.proofs.routers.StayLemmas.{counts-many, source-same, wires-same}
 use Rattle.noc_theory_bits.proofs.stuck.StillCountLemmas.{Waits, still-counts, still-few, waits-for}
 use Rattle.noc_theory_bits.proofs.routers.StillLemmas.{all-still, still-silent}
 use Rattle.noc_theory_bits.proofs.stuck.StillVerdictLemmas.{no-loss}
-use Rattle.noc_theory_bits.specs.Owners.{ShowsHolders}
 
 -- ---- after so many cycles
 module _ (net : Setup) (setup : IsGoodSetup net) (n k end : ℕ) (sums : n + suc k ≡ end) (limit : end ≤ CYCLE_LIMIT)

@@ -2,28 +2,15 @@
 -- waits for a flit, an idle channel or a credit.
 use Rattle.std.proofs.Common.{◌≡◌, ℕ, ◌+◌, ◌*◌, ◌/◌, ◌%◌, ◌<◌, ◌≤◌, Bool, true, false, length, get_or, Some, None, refl, ap, sym, ◌∙◌, subst, arith, inl, inr, Option}
 use Rattle.std.specs.Prelude.{◌⊎◌, not}
-use Rattle.std.proofs.lemmas.Bool.{cases_lt, false≢true}
-use Rattle.std.proofs.lemmas.List.{get_or-map, get_or_past, length-map}
-use Rattle.std.proofs.lemmas.Nat.{div-add-mod', mul-add-lt}
-use Rattle.std.proofs.lemmas.Option.{none-some}
 use Rattle.std.proofs.Math.Nat.{div-lt_iff_lt-mul, mod-lt}
-use Rattle.noc_topo.specs.Shape.{ports}
-use Rattle.noc_topo.specs.Lists.{is_some_of, tabulate}
-use Rattle.noc_topo.proofs.ListLemmas.{get_or-tabulate, length-tabulate}
-use Rattle.noc_route.specs.Routes.{Routes}
 use Rattle.noc_alloc.specs.Allocation.{grant_of, pick_of, winner_of}
 use Rattle.noc_alloc.proofs.WordLemmas.{is_some_of-some}
-use Rattle.noc_alloc.specs.Arbiter.{pointers_of}
-use Rattle.noc_vc.specs.Input.{is_empty}
-use Rattle.noc_vc.specs.declared.input.InputState.TheVariants.{Active}
-use Rattle.noc_view.specs.Still.{takes_effect}
-use Rattle.noc_view.specs.Verdict.{Claim, Stand, ask_of, asks_of, is_event, ready_of, ready_port, verdict_of, Unrouted, Holds, Waits}
-use Rattle.noc_view.specs.View.{View, decided_verdict, decisions_of, size_of, view_buffer, view_claim, view_input, view_stand, view_stands}
-use Rattle.noc_view.specs.declared.verdict.Verdict.{Verdict}
-use Rattle.noc_view.specs.declared.verdict.Verdict.TheVariants.{Granted, LostChannel, LostInput, LostSwitch, Moved}
-use Rattle.noc_view.proofs.PlanLemmas.{Lists, asks-at, claim-holds, claim-waits, decided-is, granted-asks, is-granted, lists_of_round, ready_port-some, verdict_in}
+use Rattle.noc_view.specs.Verdict.{Stand, asks_of, ready_of, verdict_of, Unrouted, Holds, Waits}
+use Rattle.noc_view.specs.View.{view_stand}
+use Rattle.noc_view.proofs.PlanLemmas.{Lists, asks-at, claim-holds, claim-waits, decided-is, granted-asks, is-granted, ready_port-some, verdict_in}
 use Rattle.noc_view.proofs.StillLemmas.{still-verdict}
 use Rattle.noc_theory.proofs.budget.AllocationLemmas.{first_in_turn-some, moves-at, switch-moves}
+use Rattle.noc_theory_bits.proofs.Common.{cases_lt, false≢true, get_or-map, get_or_past, length-map, div-add-mod', mul-add-lt, none-some, ports, is_some_of, tabulate, get_or-tabulate, length-tabulate, Routes, pointers_of, is_empty, Active, takes_effect, Claim, ask_of, is_event, ready_port, View, decided_verdict, decisions_of, size_of, view_buffer, view_claim, view_input, view_stands, Verdict, Granted, LostChannel, LostInput, LostSwitch, Moved, lists_of_round}
 
 -- whether a channel has lost to another
 abbrev pub is_loss : Verdict → Bool

@@ -1,23 +1,14 @@
 -- After a cycle in which nothing happened the words show the network as long as no packet comes to
 -- be due, with what is counted meanwhile.
-use Rattle.std.proofs.Common.{◌≡◌, ◌≢◌, ℕ, zero, suc, ◌+◌, ◌<◌, ◌≤◌, Bool, true, false, length, Option, Some, refl, ap, sym, ◌∙◌, subst, arith, inl, inr}
+use Rattle.std.proofs.Common.{◌≡◌, ℕ, zero, suc, ◌+◌, ◌<◌, ◌≤◌, Bool, true, false, length, Option, Some, refl, ap, sym, ◌∙◌, subst, arith, inl, inr}
 use Rattle.std.specs.Prelude.{◌⊎◌, find, nat_eq, nat_lt, option_and_then, if◌then◌else◌}
-use Rattle.std.proofs.lemmas.Bool.{cases_lt, false≢true, lt-ltb, ltb-true}
-use Rattle.noc_topo.specs.Shape.{nodes}
-use Rattle.noc_view.specs.Still.{IsHeldBefore, takes_effect}
-use Rattle.noc_view.specs.View.{Site, View, size_of}
-use Rattle.noc_theory.specs.declared.limits.TheConstants.{CYCLE_LIMIT}
-use Rattle.noc_theory.specs.Good.{IsGoodSetup}
-use Rattle.noc_theory.specs.Halves.{IsSilent}
-use Rattle.noc_theory.specs.Lockstep.{beats_at, beats_in, has_event_at, last_event_at, view_at, view_in}
-use Rattle.noc_theory.specs.Network.{Setup, arrival_in, packet_at, state_at}
+use Rattle.noc_theory.specs.Lockstep.{last_event_at}
 use Rattle.noc_theory.specs.Progress.{events, last_event_before}
 use Rattle.noc_theory.proofs.join.LastEventLemmas.{event-here, event-somewhere}
-use Rattle.noc_theory.proofs.join.ViewLemmas.{view_at-seen}
 use Rattle.noc_theory.proofs.join.ArrivalLemmas.{arrival-noted}
 use Rattle.noc_sets.specs.Counts.{ShowsLastEvent}
-use Rattle.noc_theory_bits.specs.Network.{HasWaited, MayWait, ShowsNetwork, ShowsRouter, Words, all_starts}
-use Rattle.noc_theory_bits.specs.Owners.{ShowsHolders}
+use Rattle.noc_theory_bits.proofs.Common.{cases_lt, false≢true, lt-ltb, ltb-true, nodes, IsHeldBefore, takes_effect, Site, View, size_of, CYCLE_LIMIT, IsGoodSetup, IsSilent, beats_at, beats_in, has_event_at, view_at, view_in, Setup, arrival_in, packet_at, state_at, view_at-seen, ShowsNetwork, ShowsRouter, Words, all_starts, ShowsHolders}
+use Rattle.noc_theory_bits.specs.Network.{HasWaited, MayWait}
 use Rattle.noc_theory_bits.proofs.bits.CountedLemmas.{last-before}
 use Rattle.noc_theory_bits.proofs.stuck.HolderStayLemmas.{holders-next}
 use Rattle.noc_theory_bits.proofs.stuck.QuietLemmas.{quiet-effect, quiet-held, quiet-silent}

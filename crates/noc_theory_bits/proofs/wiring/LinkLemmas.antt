@@ -1,28 +1,16 @@
 -- What goes over the links of a network in a cycle: the flits that have gone to their targets, and
 -- the credits that went back for them.
-use Rattle.std.proofs.Common.{◌≡◌, ℕ, suc, ◌+◌, ◌-◌, ◌*◌, ◌/◌, ◌%◌, ◌<◌, ◌≤◌, List, [], length, Option, Some, None, refl, ap, sym, ◌∙◌, subst, arith, inl, inr, get_or}
+use Rattle.std.proofs.Common.{◌≡◌, ℕ, suc, ◌-◌, ◌/◌, ◌%◌, ◌<◌, ◌≤◌, List, [], length, Option, Some, None, refl, ap, sym, ◌∙◌, subst, arith, inl, inr, get_or}
 use Rattle.std.specs.Prelude.{◌⊎◌}
-use Rattle.std.proofs.lemmas.Bool.{cases_lt}
-use Rattle.std.proofs.lemmas.List.{get_or_past}
-use Rattle.noc_topo.specs.Lists.{tabulate, is_some_of}
-use Rattle.noc_topo.specs.Shape.{IsGrid, IsLinkBack, nodes, local_port, neighbour}
-use Rattle.noc_topo.proofs.LinkLemmas.{hop_of, link_back}
-use Rattle.noc_topo.proofs.ListLemmas.{get_or-tabulate, length-tabulate}
-use Rattle.noc_packet.specs.declared.packet.Beat.{Beat}
-use Rattle.noc_view.specs.View.{Site, idle_beat, decisions_of, beat_out}
-use Rattle.noc_theory.specs.declared.limits.TheConstants.{CYCLE_LIMIT}
-use Rattle.noc_theory.specs.Good.{IsGoodSetup}
-use Rattle.noc_theory.specs.Lockstep.{beats_at, beats_in, beat_by, site_at}
-use Rattle.noc_theory.specs.Network.{Setup, state_at}
+use Rattle.noc_topo.specs.Shape.{IsGrid, IsLinkBack}
+use Rattle.noc_topo.proofs.LinkLemmas.{hop_of}
 use Rattle.noc_theory.proofs.join.JoinLemmas.{next-beats}
 use Rattle.noc_theory.proofs.join.JoinedLemmas.{phases}
 use Rattle.noc_theory.proofs.join.LockstepTheoremLemmas.{are-short}
-use Rattle.noc_theory.proofs.join.OrderedStateLemmas.{ordered-state, ordered-mid, ordered-frozen}
-use Rattle.noc_sets.specs.Taken.{flit_from, flit_on_vc, credit_from}
+use Rattle.noc_theory_bits.proofs.Common.{cases_lt, get_or_past, tabulate, is_some_of, nodes, local_port, neighbour, link_back, get_or-tabulate, length-tabulate, Beat, Site, idle_beat, decisions_of, beat_out, CYCLE_LIMIT, IsGoodSetup, beats_at, beats_in, beat_by, site_at, Setup, state_at, ordered-state, ordered-mid, ordered-frozen, flit_from, flit_on_vc, credit_from, frozen_of}
 use Rattle.noc_theory_bits.proofs.network.PutLemmas.{beat-next}
 use Rattle.noc_theory_bits.proofs.network.NetworkLemmas.{good, frozen-seen}
 use Rattle.noc_theory_bits.proofs.wiring.WireLemmas.{flit-at, credit-at}
-use Rattle.noc_theory_bits.specs.Owners.{frozen_of}
 
 module _ (net : Setup) (setup : IsGoodSetup net) where
   is-grid : IsGrid net.relation.grid

@@ -1,12 +1,8 @@
 -- The beats that routers exchange: what comes to a channel by a link is what the router at the
 -- other end has put.
-use Rattle.std.proofs.Common.{◌≡◌, ℕ, suc, ◌+◌, ◌-◌, ◌/◌, ◌%◌, ◌<◌, ◌≤◌, List, [], ◌∷◌, refl, ap, ◌∙◌, arith, inl, inr}
+use Rattle.std.proofs.Common.{◌≡◌, ℕ, suc, ◌+◌, ◌-◌, ◌/◌, ◌%◌, ◌≤◌, List, [], ◌∷◌, refl, ap, ◌∙◌, arith, inl, inr}
 use Rattle.std.specs.Prelude.{slice_index_or, if◌then◌else◌}
-use Rattle.std.proofs.lemmas.Bool.{cases_eq, eq-eqb, ne_eqb}
-use Rattle.noc_topo.specs.Lists.{is_some_of}
-use Rattle.noc_packet.specs.declared.packet.Beat.{Beat}
-use Rattle.noc_view.specs.View.{idle_beat}
-use Rattle.noc_sets.specs.Taken.{flit_from, flit_on_vc, credit_from}
+use Rattle.noc_theory_bits.proofs.Common.{cases_eq, eq-eqb, ne_eqb, is_some_of, Beat, idle_beat, flit_from, flit_on_vc, credit_from}
 
 -- by beats of this port and those behind it, the beat of the channel's port
 pub flit-at : (vcs port : ℕ) (beats : List Beat) (i : ℕ) → port ≤ i / vcs → flit_from vcs port beats i ≡ flit_on_vc (i % vcs) (slice_index_or beats (i / vcs - port) idle_beat).flit

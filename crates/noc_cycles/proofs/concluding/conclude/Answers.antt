@@ -20,8 +20,8 @@ returns-clause-concluded c = λ r few.
       arrived_below = λ k e. member-below all r c.settle-moved.new.arrived k e;
       active_below = λ k e. member-below all r c.args.block.now.inputs.active k e;
       granted_below = λ k e. member-below all r c.args.block.now.grants.granted k e;
-      flits_below = λ k e. member-below links r c.args.work.now.left.flits k e;
-      tails_below = λ k e. member-below links r c.args.work.now.left.tails k e;
+      flits_below = λ k e. member-below links r c.args.left.now.flits k e;
+      tails_below = λ k e. member-below links r c.args.left.now.tails k e;
     }
 
 pub free_local-requires : goal.free_local-requires

@@ -20,8 +20,8 @@ allocate-requires-clause-waiting c = λ r l. (c.requires.may r l).waiting
 pub allocate-requires-clause-idle : goal.allocate-requires-clause-idle
 allocate-requires-clause-idle c = λ r l. (c.requires.may r l).idle
 
-pub route-requires-clause-heads : goal.route-requires-clause-heads
-route-requires-clause-heads c = λ r k few e.
+pub route_if-requires-clause-heads : goal.route_if-requires-clause-heads
+route_if-requires-clause-heads c = λ r k few e.
     let may = c.requires.may r few in
     let node = may.node_is (λ none. true≢false (sym e ∙ ap (λ s. has_bit s k) none ∙ has_bit-zero k)) in
     (omega (arith, node), may.heads k e)
@@ -37,8 +37,8 @@ returns-clause-decided c = λ layout r no_credit s l shows.
     let sets = sets_by guide.relation.now guide.headers.now (c.args.first + r) in
     let within = all-within pattern in
     let got = c.allocate.new in
-    let routed = c.route.ensures in
-    let marks = c.route.new.marks in
+    let routed = c.route_if.ensures in
+    let marks = c.route_if.new.marks in
     let pick = c.pick in
     let went = c.traverse in
     let fits : word r marks.wanted < 2 ^ 64 = marks.fit r l in

@@ -4,7 +4,8 @@ use Rattle.noc_columns.specs.Picks.{channels_of, links_of}
 use Rattle.noc_columns.specs.Words.{set_of, word}
 use Rattle.noc_cycles.specs.Held.{held_at}
 use Rattle.noc_cycles.proofs.CreditLemmas.{has-credits, none-home}
-use Rattle.noc_cycles.proofs.PartLemmas.{all-within, links-within, none-above}
+use Rattle.noc_cycles.proofs.ConcludingLemmas.{all-within, links-within}
+use Rattle.noc_cycles.proofs.PartLemmas.{none-above}
 use Rattle.noc_cycles.proofs.taking.count_credits.Goals as goal
 
 pub free_links-requires : goal.free_links-requires

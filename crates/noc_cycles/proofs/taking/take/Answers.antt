@@ -1,4 +1,4 @@
-use Rattle.std.proofs.Common.{ap, bit_or, refl, subst, sym, ◌∙◌}
+use Rattle.std.proofs.Common.{◌*◌, ap, bit_or, refl, subst, sym, ◌∙◌}
 use Rattle.std.specs.Prelude.{not, nat_eq}
 use Rattle.noc_columns.specs.Channels.{standing_by}
 use Rattle.noc_columns.specs.Picks.{channels_of, links_of}
@@ -9,7 +9,8 @@ use Rattle.noc_cycles.specs.Held.{held_at, links_at}
 use Rattle.noc_cycles.specs.Taking.{HasInjected, MaySend}
 use Rattle.noc_cycles.specs.declared.block.Block.{Block}
 use Rattle.noc_cycles.specs.declared.block.Work.{Work}
-use Rattle.noc_cycles.proofs.PartLemmas.{all-within, none-above}
+use Rattle.noc_cycles.proofs.ConcludingLemmas.{all-within, none-there}
+use Rattle.noc_cycles.proofs.PartLemmas.{none-above}
 use Rattle.noc_cycles.proofs.SomeLemmas.{some-comes}
 use Rattle.noc_cycles.proofs.StillLemmas.{has-taken}
 use Rattle.noc_cycles.proofs.taking.take.Goals as goal
@@ -42,6 +43,11 @@ returns-clause-taken c = λ layout r b fits few shows may.
     (some-comes pattern r c.inject_flits-injected.result c.some_come.result sent.came.flits sent.came.credits (c.inject_flits-injected.ensures.some r) (c.some_come.ensures r)
     ∙ ap (λ w. not (nat_eq (bit_or flits (set_of links r w)) 0)) (c.inject_flits-injected.ensures.credits ∙ ap (λ (w : Work). w.came.credits) c.count_credits.ensures.work))
 
+pub returns-clause-heading : goal.returns-clause-heading
+returns-clause-heading c = λ none r.
+    let pattern = c.args.pattern.now in
+    none-there (channels_of pattern.table.ports) r (4 * pattern.frame.groups) c.land-heading.result c.land-heading.new.standing.heads (all-within pattern) (c.land-heading.ensures.heads r) none
+
 -- credits change nothing that sources read
 pub inject_flits-injected-requires : goal.inject_flits-injected-requires
 inject_flits-injected-requires c =
@@ -70,5 +76,6 @@ returns-clause-work c =
       came = c.inject_flits-injected.new.came;
       returned = c.count_credits.new.work.returned;
       standing = c.land-heading.new.standing;
+      heading = c.land-heading.result;
       verdicts = record ((same x).verdicts) { no_credit = c.land-heading.new.no_credit };
     }

@@ -16,7 +16,7 @@ pub turn-happened-requires : goal.turn-happened-requires
 turn-happened-requires c =
     let n = c.loop-number.number in
     let inv = c.loop-number.invariant in
-    let may = c.requires in
+    let may = c.requires.may in
     let l : n < length c.loop-number.blocks = omega arith in
     let m : n < length c.loop-number.works = let same = may.2.works_are in omega (arith, same) in
     (may.0, may.1, may.2.each n _ _ (sym (inv.blocks n (omega arith)) ∙ slice_get-get_or c.loop-number.blocks n _ l) (sym (inv.works n (omega arith)) ∙ slice_get-get_or c.loop-number.works n _ m))
@@ -26,7 +26,7 @@ loop-number-preserved c =
     let n = c.loop-number.number in
     let inv = c.loop-number.invariant in
     let l : n < length c.loop-number.blocks = omega arith in
-    let m : n < length c.loop-number.works = let same = c.requires.2.works_are in omega (arith, same) in
+    let m : n < length c.loop-number.works = let same = c.requires.may.2.works_are in omega (arith, same) in
     record {
       blocks = left-next c.args.blocks.now c.loop-number.blocks n c.turn-happened.new.block inv.blocks;
       works = left-next c.args.works.now c.loop-number.works n c.turn-happened.new.work inv.works;
@@ -34,7 +34,8 @@ loop-number-preserved c =
           let before = inv.turned net words may in
           let here = c.turn-happened.ensures net words (may.each n _ _ (sym (inv.blocks n (omega arith)) ∙ slice_get-get_or c.loop-number.blocks n _ l) (sym (inv.works n (omega arith)) ∙ slice_get-get_or c.loop-number.works n _ m)) in (
             with_turns (c.args.first + n) before.0 here.0,
-            turned-next net c.args.plan.now c.args.cycle c.args.first n words before.0 here.0 c.loop-number.blocks c.loop-number.works c.loop-number.happened c.turn-happened.new.block c.turn-happened.new.work c.turn-happened.result l m before.1 here.1,
+            turned-next net c.args.cycle.now.plan.now c.args.cycle.now.number c.args.first n words before.0 here.0 c.loop-number.blocks c.loop-number.works c.loop-number.left c.loop-number.happened c.turn-happened.new.block c.turn-happened.new.work c.turn-happened.new.left c.turn-happened.result l m
+            (omega (arith, l, c.requires.left)) before.1 here.1,
           );
     }
 

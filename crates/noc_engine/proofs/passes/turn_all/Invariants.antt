@@ -10,6 +10,6 @@ abbrev pub invariant-loop-number : goal.invariant-loop-number
 invariant-loop-number l = record {
   blocks : IsLeftFrom l.fn.blocks l.blocks l.number;
   works : IsLeftFrom l.fn.works l.works l.number;
-  turned : (net : Setup) (words : ℕ → Router) → MayTurnAll net l.relation l.plan l.cycle l.first words l.fn.blocks l.fn.works
-      → (turns : ℕ → Turn) × HaveTurnedBelow net l.plan l.cycle l.first l.number words turns l.blocks l.works l.happened;
+  turned : (net : Setup) (words : ℕ → Router) → MayTurnAll net l.cycle.relation.now l.cycle.plan.now l.cycle.number l.first words l.fn.blocks l.fn.works
+      → (turns : ℕ → Turn) × HaveTurnedBelow net l.cycle.plan.now l.cycle.number l.first l.number words turns l.blocks l.works l.left l.happened;
 }

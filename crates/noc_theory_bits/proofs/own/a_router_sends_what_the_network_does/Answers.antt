@@ -1,4 +1,4 @@
-use Rattle.noc_theory_bits.specs.Network.{all_starts, numbers_in}
+use Rattle.noc_theory_bits.proofs.Common.{all_starts, numbers_in}
 use Rattle.noc_theory_bits.proofs.bits.ThroughLemmas.{sends, through}
 use Rattle.noc_theory_bits.proofs.own.a_router_sends_what_the_network_does.Goals as goal
 

@@ -1,4 +1,4 @@
-use Rattle.noc_theory_bits.specs.Network.{all_starts, numbers_in}
+use Rattle.noc_theory_bits.proofs.Common.{all_starts, numbers_in}
 use Rattle.noc_theory_bits.proofs.bits.ThroughLemmas.{router-next, through}
 use Rattle.noc_theory_bits.proofs.own.a_router_shows_the_next_count.Goals as goal
 

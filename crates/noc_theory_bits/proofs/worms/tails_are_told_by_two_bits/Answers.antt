@@ -1,6 +1,5 @@
-use Rattle.noc_view.specs.View.{view_buffer}
 use Rattle.noc_sets.proofs.TailLemmas.{tail-first}
-use Rattle.noc_theory_bits.specs.Owners.{frozen_of}
+use Rattle.noc_theory_bits.proofs.Common.{view_buffer, frozen_of}
 use Rattle.noc_theory_bits.proofs.bits.BufferLemmas.{frozen-consecutive}
 use Rattle.noc_theory_bits.proofs.worms.tails_are_told_by_two_bits.Goals as goal
 

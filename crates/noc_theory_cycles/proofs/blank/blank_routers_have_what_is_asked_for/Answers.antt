@@ -12,5 +12,5 @@ returns-clause-deciding c = λ pattern layout starts n b h standing no_credit co
     blank-may-decide pattern layout starts n b h standing no_credit comes soon blank taken packets nodes node
 
 pub returns-clause-concluding : goal.returns-clause-concluding
-returns-clause-concluding c = λ pattern layout starts n b a standing no_credit comes sets h decided granted lost released packets left taken soon blank has among.
-    blank-may-conclude pattern layout starts n b a standing no_credit comes soon blank taken sets h decided granted lost released packets left has among
+returns-clause-concluding c = λ pattern layout starts n b a h sets x released packets soon blank has among.
+    blank-may-conclude pattern layout starts n b a x.standing has.no_credit has.comes soon blank has.takes sets h x.decided x.granted x.lost released packets x.left has.decides among

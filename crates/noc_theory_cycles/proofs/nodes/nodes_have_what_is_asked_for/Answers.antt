@@ -12,5 +12,5 @@ returns-clause-deciding c = λ count net layout pattern n node links h a b stand
     node-may-decide count net layout pattern n node links h b setup few fits is a standing no_credit comes taken
 
 pub returns-clause-arriving : goal.returns-clause-arriving
-returns-clause-arriving c = λ count net layout pattern n node links h a d k b standing no_credit comes sets decided granted lost arrived left after before verdicts taken setup few fits is decides concludes.
-    node-may-conclude count net layout pattern n node links h b setup few fits is a standing no_credit comes taken sets d k decided granted lost arrived left after before verdicts decides concludes
+returns-clause-arriving c = λ count net layout pattern n node links h a d k b sets x after arrived before verdicts setup few fits is has concludes.
+    node-may-conclude count net layout pattern n node links h b setup few fits is a x.standing has.no_credit has.comes has.takes sets d k x.decided x.granted x.lost arrived x.left after before verdicts has.decides concludes

@@ -12,5 +12,5 @@ pub returns-clause-deciding : goal.returns-clause-deciding
 returns-clause-deciding c = may-decide
 
 pub returns-clause-concluding : goal.returns-clause-concluding
-returns-clause-concluding c = λ count net layout pattern starts n r b a standing no_credit comes sets h decided granted lost released left taken setup few fits l shows has among.
-    may-conclude count net layout pattern starts n r b a standing no_credit comes setup few fits l shows taken sets h decided granted lost released left has among
+returns-clause-concluding c = λ count net layout pattern starts n r b a h sets x released setup few fits l shows has among.
+    may-conclude count net layout pattern starts n r b a x.standing has.no_credit has.comes setup few fits l shows has.takes sets h x.decided x.granted x.lost released x.left has.decides among
