@@ -1,7 +1,7 @@
 -- What follows from a request's command, and from how its texts are lent.
 use Rattle.std.proofs.Common.{◌≡◌, ℕ, false, List, Option, Some, None, Result, refl, is_some, option_map, unwrap_or}
 use Rattle.std.specs.Borrow.{Bor}
-use Rattle.noc_files.specs.declared.fault.InputFault.{InputFault}
+use Rattle.noc_bytes.specs.declared.input_fault.InputFault.{InputFault}
 use Rattle.noc_answers.specs.Asked.{is_joined, lent_text}
 use Rattle.noc_commands.specs.declared.command.Command.{Command}
 use Rattle.noc_commands.specs.declared.command.Command.TheVariants as command

@@ -1,7 +1,7 @@
 -- How answering ends.
 use Rattle.std.proofs.Common.{◌≡◌, ℕ, Bool, List, Option, Result, Ok, Err, subst, sym}
 use Rattle.noc_files.specs.Writing.{Wrote}
-use Rattle.noc_files.specs.declared.writing.WriteFault.{WriteFault}
+use Rattle.noc_bytes.specs.declared.writing.WriteFault.{WriteFault}
 use Rattle.noc_answers.specs.Asked.{Asked}
 use Rattle.noc_answers.specs.Answer.{AsksFor, IsAnswered}
 use Rattle.noc_answers.specs.Ending.{Ends, Refuses, at_fault, cut_off, ended, in_full, unstarted}

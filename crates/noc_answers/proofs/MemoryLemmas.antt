@@ -1,9 +1,9 @@
 -- What it means that a fault is not that of memory.
 use Rattle.std.proofs.Common.{◌≡◌, ◌≢◌, false, ap}
-use Rattle.noc_files.specs.declared.fault.InputFault.{InputFault}
-use Rattle.noc_files.specs.declared.fault.InputFault.TheVariants as input
-use Rattle.noc_net.specs.declared.fault.NetFault.{NetFault}
-use Rattle.noc_net.specs.declared.fault.NetFault.TheVariants as net
+use Rattle.noc_bytes.specs.declared.input_fault.InputFault.{InputFault}
+use Rattle.noc_bytes.specs.declared.input_fault.InputFault.TheVariants as input
+use Rattle.noc_net.specs.declared.net_fault.NetFault.{NetFault}
+use Rattle.noc_net.specs.declared.net_fault.NetFault.TheVariants as net
 use Rattle.noc_faults.specs.Status.{is_memory}
 use Rattle.noc_faults.specs.declared.fault.Fault.TheVariants as fault
 

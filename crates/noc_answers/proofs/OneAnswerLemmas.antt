@@ -8,7 +8,7 @@ use Rattle.noc_rank.specs.Formulas.{IsGenerated}
 use Rattle.noc_route.specs.Ranks.{Ranking}
 use Rattle.noc_files.specs.Configuration.{Settings}
 use Rattle.noc_files.specs.Findings.{findings_text}
-use Rattle.noc_files.specs.Joined.{SplitsAt, line_at}
+use Rattle.noc_bytes.specs.Joined.{SplitsAt, line_at}
 use Rattle.noc_files.specs.Ranks.{ranks_text}
 use Rattle.noc_files.specs.Trace.{trace_text}
 use Rattle.noc_files.specs.declared.trace.Traced.{Traced}

@@ -17,15 +17,15 @@ use Rattle.noc_rank.specs.declared.fault.RankFault.{RankFault}
 use Rattle.noc_rank.specs.declared.fault.RankFault.TheVariants as rank
 use Rattle.noc_rank.specs.declared.rows.RankRow.{RankRow}
 use Rattle.noc_files.specs.Configuration.{Settings}
-use Rattle.noc_files.specs.Joined.{SplitsAt, line_at, line_len}
+use Rattle.noc_bytes.specs.Joined.{SplitsAt, line_at, line_len}
 use Rattle.noc_files.specs.Ranks.{ranks_of}
-use Rattle.noc_files.specs.declared.fault.InputFault.{InputFault}
+use Rattle.noc_bytes.specs.declared.input_fault.InputFault.{InputFault}
 use Rattle.noc_answers.specs.Asked.{Asked, TextValue, ReadsAs, as_files, as_joined, is_joined, owned_text, read_by}
 use Rattle.noc_answers.specs.Answer.{Asks, AsksFor, a_report, findings, traces, accepted, ranks, TextsFault, in_settings, in_formula, in_ranks, in_packets, no_packet, runs, FirstFault, unread, unsplit, in_texts}
 use Rattle.noc_answers.specs.Check.{Accepts, AsksForChecked, HasRanking, RanksFault, bad_file, bad_rows, bad_ranks, checked_by, checked_ranks}
 use Rattle.noc_answers.specs.Formula.{HasRanks, IsFormulaFault}
-use Rattle.noc_net.specs.declared.fault.NetFault.{NetFault}
-use Rattle.noc_net.specs.declared.fault.NetFault.TheVariants as net
+use Rattle.noc_net.specs.declared.net_fault.NetFault.{NetFault}
+use Rattle.noc_net.specs.declared.net_fault.NetFault.TheVariants as net
 use Rattle.noc_packet.specs.declared.packet.Packet.{Packet}
 use Rattle.noc_answers.specs.Settings.{AsksForRelation}
 use Rattle.noc_route.specs.Names.{rule_named}

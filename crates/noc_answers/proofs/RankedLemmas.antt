@@ -9,7 +9,7 @@ use Rattle.noc_net.specs.Limit.{are_all_out}
 use Rattle.noc_theory.specs.Network.{Run, state_at}
 use Rattle.noc_theory.proofs.worms.BuiltLemmas.{well-formed}
 use Rattle.noc_theory.proofs.budget.ProgressTheoremLemmas.{not-stuck}
-use Rattle.noc_files.specs.declared.writing.WriteFault.{WriteFault}
+use Rattle.noc_bytes.specs.declared.writing.WriteFault.{WriteFault}
 use Rattle.noc_answers.specs.Asked.{Asked, TextValue, ReadsAs, as_files, as_joined, is_joined, owned_text}
 use Rattle.noc_answers.specs.Ending.{Ends, at_fault, cut_off, in_full, unstarted}
 use Rattle.noc_commands.specs.declared.command.Command.{Command}

@@ -7,13 +7,13 @@ use Rattle.noc_route.specs.Ranks.{Ranking}
 use Rattle.noc_rank.specs.declared.fault.RankFault.{RankFault}
 use Rattle.noc_files.specs.Configuration.{Settings}
 use Rattle.noc_files.specs.Findings.{findings_text}
-use Rattle.noc_files.specs.Joined.{line_at}
+use Rattle.noc_bytes.specs.Joined.{line_at}
 use Rattle.noc_files.specs.Ranks.{ranks_text}
 use Rattle.noc_files.specs.Trace.{trace_text}
 use Rattle.noc_files.specs.Writing.{Wrote}
 use Rattle.noc_files.specs.declared.trace.Traced.{Traced}
-use Rattle.noc_files.specs.declared.fault.InputFault.{InputFault}
-use Rattle.noc_files.specs.declared.fault.InputFault.TheVariants as input
+use Rattle.noc_bytes.specs.declared.input_fault.InputFault.{InputFault}
+use Rattle.noc_bytes.specs.declared.input_fault.InputFault.TheVariants as input
 use Rattle.noc_answers.specs.Asked.{Asked, TextValue, ReadsAs, is_joined, owned_text}
 use Rattle.noc_answers.specs.Ending.{Ends}
 use Rattle.noc_commands.specs.Workers.{workers_of}

@@ -9,7 +9,7 @@ use Rattle.noc_rank.specs.declared.fault.RankFault.{RankFault}
 use Rattle.noc_rank.specs.declared.rows.RankRow.{RankRow}
 use Rattle.noc_files.specs.Configuration.{Settings}
 use Rattle.noc_files.specs.Ranks.{ranks_of}
-use Rattle.noc_files.specs.declared.fault.InputFault.{InputFault}
+use Rattle.noc_bytes.specs.declared.input_fault.InputFault.{InputFault}
 use Rattle.noc_answers.specs.Asked.{Asked, IsUnread, TextValue, read_by}
 use Rattle.noc_answers.specs.Settings.{AsksForRelation}
 use Rattle.noc_faults.specs.declared.fault.Fault.{Fault}

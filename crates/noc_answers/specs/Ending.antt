@@ -1,6 +1,6 @@
 -- How answering ends.
 use Rattle.std.specs.Prelude.{◌≡◌, ◌≢◌, ◌<◌, ℕ, Bool, true, false, List, Result, Ok, Err}
-use Rattle.noc_files.specs.declared.writing.WriteFault.{WriteFault}
+use Rattle.noc_bytes.specs.declared.writing.WriteFault.{WriteFault}
 use Rattle.noc_net.specs.declared.workers.RunFault.{RunFault}
 use Rattle.noc_net.specs.declared.workers.RunFault.TheVariants.{LostWorker}
 use Rattle.noc_faults.specs.declared.status.Status.{Status}

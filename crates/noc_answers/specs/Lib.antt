@@ -8,3 +8,4 @@ pub mod Formula
 pub mod Run
 pub mod Answer
 pub mod Arriving
+pub mod Prelude

@@ -2,15 +2,15 @@
 use Rattle.std.specs.Prelude.{◌≡◌, ◌⊎◌, ℕ, ◌+◌, Bool, false, List, Option, Some, None, Ok, if◌then◌else◌}
 use Rattle.noc_packet.specs.declared.packet.Packet.{Packet}
 use Rattle.noc_route.specs.Routes.{Routes}
-use Rattle.noc_net.specs.declared.fault.NetFault.{NetFault}
-use Rattle.noc_net.specs.declared.fault.NetFault.TheVariants as net
+use Rattle.noc_net.specs.declared.net_fault.NetFault.{NetFault}
+use Rattle.noc_net.specs.declared.net_fault.NetFault.TheVariants as net
 use Rattle.noc_net.specs.Faults.{fault_of}
 use Rattle.noc_theory.specs.Good.{IsGoodSetup}
 use Rattle.noc_theory.specs.Network.{Run, Setup}
 use Rattle.noc_theory.specs.Progress.{is_stuck}
 use Rattle.noc_files.specs.Configuration.{Settings}
 use Rattle.noc_files.specs.Traffic.{traffic_of}
-use Rattle.noc_files.specs.declared.fault.InputFault.{InputFault}
+use Rattle.noc_bytes.specs.declared.input_fault.InputFault.{InputFault}
 use Rattle.noc_answers.specs.Asked.{Asked, IsUnread, TextValue, read_by}
 use Rattle.noc_answers.specs.Options.{last_cycle}
 use Rattle.noc_commands.specs.declared.command.Command.{Command}

@@ -16,7 +16,7 @@ use Rattle.noc_route.specs.declared.rule.RuleName.{RuleName}
 use Rattle.noc_route.specs.declared.rule.RuleName.TheVariants as rule_name
 use Rattle.noc_files.specs.Configuration.{Settings, config_of}
 use Rattle.noc_files.specs.Table.{table_of}
-use Rattle.noc_files.specs.declared.fault.InputFault.{InputFault}
+use Rattle.noc_bytes.specs.declared.input_fault.InputFault.{InputFault}
 use Rattle.noc_answers.specs.Asked.{Asked, IsUnread, TextValue, read_by}
 use Rattle.noc_answers.specs.Options.{early_fault, late_fault}
 use Rattle.noc_faults.specs.declared.fault.Fault.{Fault}

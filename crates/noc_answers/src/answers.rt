@@ -1,19 +1,14 @@
 //! What is answered to a request.
 
 ghost use Rattle.std.specs.Prelude.{◌≡◌, ℕ, IfErr, IfOk, List, Ok};
-ghost use Rattle.noc_files.specs.Writing.{Wrote};
-ghost use Rattle.noc_answers.specs.Asked.{ReadsAs, lent_files};
-ghost use Rattle.noc_answers.specs.Ending.{Ends, Refuses};
-ghost use Rattle.noc_faults.specs.declared.status.Status.TheVariants.{Done as done};
-ghost use Rattle.noc_answers.specs.Answer.{Asks, AsksForArrivals, FirstFault, IsAnswered, IsRankedDrain, IsRankedRun};
-ghost use Rattle.noc_commands.specs.Workers.{HasWorkers, workers_of};
+ghost use Rattle.noc_answers.specs.Prelude.{Wrote, ReadsAs, lent_files, Ends, Refuses, Asks, AsksForArrivals, FirstFault, IsAnswered, IsRankedDrain, IsRankedRun, HasWorkers, workers_of};
 
-use crate::accept::answer_check;
+use crate::checking::answer_check;
 use crate::explain::explain;
 use crate::formula::answer_ranks;
 use crate::request::{Files, Request, files_of};
 use crate::run::{Task, run, run_by_workers};
-use crate::trace::{Span, trace};
+use crate::tracing::{Span, trace};
 use noc_commands::{Command, Report};
 use noc_faults::{Fault, Status};
 use noc_files::{InputFault, Sink, Traced, split_joined};
@@ -45,7 +40,7 @@ pub fn answer<R: Threads + Wait + Clock + Sync, W: Sink>(
     ensures ends { Ends (workers_of request.now.command)
         (Wrote W.contents W.has_failed sink.old sink.new) (sink.new ≡ sink.old) (Asks request.now)
         (FirstFault request.now) result }
-    ensures ranked { IsRankedRun request.now → IfOk result (λ status. status ≡ done) }
+    ensures ranked { IsRankedRun request.now → IfOk result (λ status. status ≡ Status.Done) }
     ensures drained { IsRankedDrain request.now
         → IfOk result (λ _. (text : List ℕ) × AsksForArrivals request.now text
         × Wrote W.contents W.has_failed sink.old sink.new text (Ok tt)) }
@@ -77,7 +72,7 @@ pub fn answer_one<W: Sink>(
     ensures ends { Ends (workers_of request.now.command)
         (Wrote W.contents W.has_failed sink.old sink.new) (sink.new ≡ sink.old) (Asks request.now)
         (FirstFault request.now) result }
-    ensures ranked { IsRankedRun request.now → IfOk result (λ status. status ≡ done) }
+    ensures ranked { IsRankedRun request.now → IfOk result (λ status. status ≡ Status.Done) }
     ensures drained { IsRankedDrain request.now
         → IfOk result (λ _. (text : List ℕ) × AsksForArrivals request.now text
         × Wrote W.contents W.has_failed sink.old sink.new text (Ok tt)) }

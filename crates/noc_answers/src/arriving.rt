@@ -1,13 +1,11 @@
 //! How long it takes until packets to one node are out.
 
 ghost use Rattle.std.specs.Prelude.{◌≡◌, ℕ, ◌+◌, ◌<◌, ◌≤◌, IfSome, None, false, length, sum_by, true};
-ghost use Rattle.noc_packet.specs.declared.limits.TheConstants.{MAX_LENGTH};
 ghost use Rattle.noc_answers.specs.Arriving.{is_left, left_for};
-ghost use Rattle.noc_answers.specs.Drain.{is_out_at};
-ghost use Rattle.noc_theory.specs.Good.{IsGoodSetup};
-ghost use Rattle.noc_theory.specs.Network.{arrival_in, packet_at, state_at};
+ghost use Rattle.noc_answers.specs.Prelude.{is_out_at, IsGoodSetup, arrival_in, packet_at, state_at};
 
 use noc_net::Network;
+use noc_packet::MAX_LENGTH;
 
 // How many of the next cycles, at most `most`, it takes until every packet is out, as far as those
 // packets say that go to one node, since they take turns

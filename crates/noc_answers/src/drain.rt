@@ -1,13 +1,10 @@
 //! Running a network for its cycles, and on until every packet is out.
 
 ghost use Rattle.std.specs.Prelude.{◌≡◌, ℕ, ◌+◌, ◌*◌, ◌<◌, ◌≤◌, max, false, true, IfOk};
-ghost use Rattle.noc_answers.specs.Drain.{DrainsBy, RunsTo, is_out_at};
-ghost use Rattle.noc_theory.specs.Network.{state_at};
-ghost use Rattle.noc_theory.specs.Progress.{events};
-ghost use Rattle.noc_theory.specs.declared.limits.TheConstants.{CYCLE_LIMIT};
+ghost use Rattle.noc_answers.specs.Prelude.{DrainsBy, RunsTo, is_out_at, state_at, events};
 
 use crate::arriving::arriving_cycles;
-use noc_net::{Network, NotRun};
+use noc_net::{CYCLE_LIMIT, Network, NotRun};
 use std::alloc::Global;
 use std::sync::Wait;
 use std::thread::Threads;

@@ -1,8 +1,7 @@
 //! How an answer ends.
 
 ghost use Rattle.std.specs.Prelude.{◌≡◌};
-ghost use Rattle.noc_answers.specs.Ending.{ended};
-ghost use Rattle.noc_answers.specs.Run.{ending};
+ghost use Rattle.noc_answers.specs.Prelude.{ended, ending};
 
 use noc_faults::{Fault, Status};
 use noc_files::WriteFault;

@@ -1,8 +1,7 @@
 //! Explaining what a router found in a cycle.
 
 ghost use Rattle.std.specs.Prelude.{◌≡◌};
-ghost use Rattle.noc_answers.specs.Asked.{lent_files};
-ghost use Rattle.noc_answers.specs.Answer.{IsAnswered};
+ghost use Rattle.noc_answers.specs.Prelude.{lent_files, IsAnswered};
 
 use crate::ending::ended;
 use crate::request::Files;

@@ -1,8 +1,7 @@
 //! Writing the ranks by formula of a routing rule.
 
 ghost use Rattle.std.specs.Prelude.{◌≡◌};
-ghost use Rattle.noc_answers.specs.Asked.{lent_files};
-ghost use Rattle.noc_answers.specs.Answer.{IsAnswered};
+ghost use Rattle.noc_answers.specs.Prelude.{lent_files, IsAnswered};
 
 use crate::ending::ended;
 use crate::request::Files;

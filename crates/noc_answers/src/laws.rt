@@ -1,16 +1,11 @@
 //! What every request has in common.
 
 ghost use Rattle.std.specs.Prelude.{ℕ, Bool, List, [], ◌∷◌, ◌++◌, Some, length, decimal, ◌≡◌, ◌-◌, ◌<◌, ◌≤◌, false, true};
-ghost use Rattle.noc_net.specs.Limit.{are_all_out};
-ghost use Rattle.noc_theory.specs.Network.{Run, arrival_in, packet_at, state_at};
-ghost use Rattle.noc_files.specs.Latency.{latency_line, packet_start};
-ghost use Rattle.noc_files.specs.Writing.{comma, text_of_pieces, line_end};
-ghost use Rattle.noc_faults.specs.Status.{is_memory};
+ghost use Rattle.noc_answers.specs.Prelude.{are_all_out, Run, arrival_in, packet_at, state_at, latency_line, packet_start, comma, text_of_pieces, line_end, is_memory, Asks, FirstFault, by_workers};
 ghost use Rattle.noc_faults.specs.declared.fault.Fault.{Fault as FaultValue};
 ghost use Rattle.noc_answers.specs.declared.request.Request.{Request as RequestValue};
 ghost use Rattle.noc_faults.specs.declared.status.Status.{Status as StatusValue};
 ghost use Rattle.noc_commands.specs.declared.report.Report.{Report as ReportValue};
-ghost use Rattle.noc_answers.specs.Answer.{Asks, FirstFault, by_workers};
 
 /// A request has one answer. Two texts that it asks for are the same, and so is how they end. Where
 /// it asks for a text, no fault is its first but that memory was refused. Two first faults, neither

@@ -2,9 +2,9 @@
 //! checked, the network is run, and what is asked for is written.
 #![tactic(auto)]
 
-mod accept;
 mod answers;
 mod arriving;
+mod checking;
 mod drain;
 mod ending;
 mod explain;
@@ -13,7 +13,7 @@ mod laws;
 mod request;
 mod run;
 mod settings;
-mod trace;
+mod tracing;
 
 pub use answers::{answer, answer_one};
 pub use laws::{

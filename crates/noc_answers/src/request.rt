@@ -1,7 +1,7 @@
 //! Requests: commands with the texts of their files.
 
 ghost use Rattle.std.specs.Prelude.{◌≡◌};
-ghost use Rattle.noc_answers.specs.Asked.{files_of, lent_files, lent_text, owned_text};
+ghost use Rattle.noc_answers.specs.Prelude.{files_of, lent_files, lent_text, owned_text};
 
 use noc_commands::Command;
 use noc_files::InputFault;

@@ -1,25 +1,16 @@
 //! Running the network that is asked for.
 
 ghost use Rattle.std.specs.Prelude.{◌≡◌, ◌+◌, ◌<◌, ◌≤◌, Some, true, IfErr, IfOk};
-ghost use Rattle.noc_files.specs.Gives.{Gives};
-ghost use Rattle.noc_files.specs.Traffic.{traffic_of};
-ghost use Rattle.noc_files.specs.Writing.{Wrote};
-ghost use Rattle.noc_answers.specs.Asked.{lent_files, lent_text, read_by};
-ghost use Rattle.noc_answers.specs.Ending.{Refuses};
-ghost use Rattle.noc_commands.specs.Workers.{workers_of};
-ghost use Rattle.noc_answers.specs.Answer.{IsAnswered, TextsFault, runs};
-ghost use Rattle.noc_answers.specs.Drain.{RunsTo};
-ghost use Rattle.noc_theory.specs.declared.limits.TheConstants.{CYCLE_LIMIT};
-ghost use Rattle.noc_answers.specs.Run.{IsNetworkOf, Opens, PacketsFault, runs_until_out, report_of};
+ghost use Rattle.noc_answers.specs.Prelude.{Gives, traffic_of, lent_files, lent_text, read_by, Refuses, workers_of, IsAnswered, TextsFault, runs, RunsTo, IsNetworkOf, Opens, PacketsFault, runs_until_out, report_of};
 
-use crate::accept::checked_relation;
+use crate::checking::checked_relation;
 use crate::drain::{run_on, run_on_by};
 use crate::ending::{ended, ending};
 use crate::request::{Bytes, Files};
 use noc_commands::Report;
 use noc_faults::{Fault, Status};
 use noc_files::{InputFault, MAX_CYCLES, Sink, read_traffic, write_report};
-use noc_net::{Network, NotRun, RunFault};
+use noc_net::{CYCLE_LIMIT, Network, NotRun, RunFault};
 use noc_packet::{MAX_BUFFER, Packet};
 use noc_route::Relation;
 use std::alloc::Global;

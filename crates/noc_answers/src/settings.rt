@@ -1,11 +1,7 @@
 //! What a configuration asks for: its options, its shape, and its routing relation.
 
 ghost use Rattle.std.specs.Prelude.{◌≡◌, None, IfErr, IfOk, is_some, option_map};
-ghost use Rattle.noc_files.specs.Configuration.{config_of, settings, KeepsLimits};
-ghost use Rattle.noc_files.specs.Gives.{Gives};
-ghost use Rattle.noc_files.specs.Table.{table_of};
-ghost use Rattle.noc_answers.specs.Ending.{Refuses};
-ghost use Rattle.noc_answers.specs.Asked.{lent_files, lent_text, read_by};
+ghost use Rattle.noc_answers.specs.Prelude.{config_of, settings, KeepsLimits, Gives, table_of, Refuses, lent_files, lent_text, read_by};
 ghost use Rattle.noc_answers.specs.Options.{cycle_fault, early_fault, last_cycle, late_fault, packet_option_fault, router_fault, table_fault};
 ghost use Rattle.noc_answers.specs.Settings.{AsksForRelation, AsksForShape, IsRuleOf, RefusesTable, SettingsFault};
 

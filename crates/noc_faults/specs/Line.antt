@@ -6,14 +6,14 @@ use Rattle.noc_topo.specs.Titles.{shape_title}
 use Rattle.noc_route.specs.Titles.{route_title}
 use Rattle.noc_rank.specs.Titles.{rank_title}
 use Rattle.noc_net.specs.Titles.{net_title, run_title}
-use Rattle.noc_files.specs.Titles.{input_title, write_title}
-use Rattle.noc_files.specs.Keys.{key_name}
+use Rattle.noc_bytes.specs.Titles.{input_title, write_title}
+use Rattle.noc_bytes.specs.Keys.{key_name}
 use Rattle.noc_files.specs.Ports.{name_of_port}
 use Rattle.noc_files.specs.Writing.{line_end}
-use Rattle.noc_files.specs.declared.fault.InputFault.{InputFault}
-use Rattle.noc_files.specs.declared.fault.InputFault.TheVariants as input
-use Rattle.noc_net.specs.declared.fault.NetFault.{NetFault}
-use Rattle.noc_net.specs.declared.fault.NetFault.TheVariants as net
+use Rattle.noc_bytes.specs.declared.input_fault.InputFault.{InputFault}
+use Rattle.noc_bytes.specs.declared.input_fault.InputFault.TheVariants as input
+use Rattle.noc_net.specs.declared.net_fault.NetFault.{NetFault}
+use Rattle.noc_net.specs.declared.net_fault.NetFault.TheVariants as net
 use Rattle.noc_rank.specs.Faults.{step_of}
 use Rattle.noc_rank.specs.declared.fault.RankFault.{RankFault}
 use Rattle.noc_rank.specs.declared.fault.RankFault.TheVariants as rank

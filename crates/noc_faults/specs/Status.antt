@@ -1,7 +1,7 @@
 -- The exit statuses (docs/FORMATS.md, "Exit statuses").
 use Rattle.std.specs.Prelude.{ℕ, Bool, true, false, if◌then◌else◌}
-use Rattle.noc_files.specs.declared.fault.InputFault.TheVariants as input
-use Rattle.noc_net.specs.declared.fault.NetFault.TheVariants as net
+use Rattle.noc_bytes.specs.declared.input_fault.InputFault.TheVariants as input
+use Rattle.noc_net.specs.declared.net_fault.NetFault.TheVariants as net
 use Rattle.noc_rank.specs.declared.fault.RankFault.TheVariants as rank
 use Rattle.noc_route.specs.declared.rule.RouteFault.TheVariants as route
 use Rattle.noc_net.specs.declared.workers.RunFault.TheVariants as run

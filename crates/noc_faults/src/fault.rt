@@ -4,7 +4,7 @@ ghost use Rattle.std.specs.Prelude.{◌≡◌, ◌≤◌, Some, length};
 ghost use Rattle.noc_faults.specs.Line.{option_title};
 ghost use Rattle.noc_faults.specs.Status.{status_of_fault};
 
-use noc_files::{InputFault, WriteFault};
+use noc_bytes::{InputFault, LONGEST_TITLE, WriteFault};
 use noc_net::{NetFault, RunFault};
 use noc_rank::RankFault;
 use noc_route::RouteFault;
@@ -31,11 +31,11 @@ pub enum OptionFault {
 }
 
 impl OptionFault {
-    /// The number and the name of the fault, as its fault line has them; at most 20 bytes
-    /// (docs/FORMATS.md, "Fault lines").
+    /// The number and the name of the fault, as its fault line has them; at most `LONGEST_TITLE`
+    /// bytes (docs/FORMATS.md, "Fault lines").
     pub fn title(&self) -> &'static str
         ensures title { result.now ≡ option_title self.now }
-        ensures short { length result.now ≤ 20 }
+        ensures short { length result.now ≤ LONGEST_TITLE }
     {
         match self {
             OptionFault::BadCycle => "1 BadCycle",

@@ -2,9 +2,8 @@
 
 ghost use Rattle.std.specs.Prelude.{◌≡◌, ◌<◌, ◌≤◌, Some, length};
 ghost use Rattle.noc_files.specs.Writing.{Wrote};
-ghost use Rattle.noc_faults.specs.Line.{channel_details, descent_details, entry_details, fall_details};
-ghost use Rattle.noc_faults.specs.Line.{hop_details, input_details, line_of, name_of, text_of, text_with, value_of};
-ghost use Rattle.noc_files.specs.Titles.{input_title};
+ghost use Rattle.noc_faults.specs.Line.{channel_details, descent_details, entry_details, fall_details, hop_details, input_details, line_of, name_of, text_of, text_with, value_of};
+ghost use Rattle.noc_bytes.specs.Titles.{input_title};
 
 use crate::fault::Fault;
 use arrayvec::ArrayString;
@@ -16,6 +15,16 @@ use noc_route::{Entry, RouteFault, RouteRow};
 use noc_topo::Shape;
 use std::error::Error;
 use std::fmt;
+
+// The most bytes of a family, of a title, and of the name or the value of a detail.
+const WORD: usize = 20;
+
+// The most details of a fault.
+const DETAILS: usize = 9;
+
+// The most bytes of a line: `fault` and a family, a title, two such words for each detail, and the
+// spaces and the end.
+const LINE: usize = 2 * WORD * (DETAILS + 1) + 8;
 
 // A detail of a fault: a name and its value. A port comes with the shape that names it.
 #[derive(Clone, Copy)]
@@ -39,7 +48,7 @@ impl Detail {
     // The name before the value.
     fn name(self) -> &'static str
         ensures name { result.now ≡ name_of self }
-        ensures short { length result.now ≤ 20 }
+        ensures short { length result.now ≤ WORD }
     {
         match self {
             Detail::Key(_) => " key ",
@@ -61,7 +70,7 @@ impl Detail {
     // The value as a text.
     fn value(self, buffer: &mut Buffer) -> &str
         ensures value { result.now ≡ value_of self }
-        ensures short { length result.now ≤ 20 }
+        ensures short { length result.now ≤ WORD }
     {
         match self {
             Detail::Key(key) => key.name(),
@@ -83,8 +92,7 @@ impl Detail {
     }
 }
 
-// 46 bytes up to the title, 40 for each of up to 9 details, and the end of the line.
-type FaultText = ArrayString<512>;
+type FaultText = ArrayString<LINE>;
 
 /// Writes the line of a fault: `fault`, its family, its number, its name and its details
 /// (docs/FORMATS.md, "Fault lines").
@@ -110,7 +118,7 @@ impl Error for Fault {}
 // The line of a fault, without its end.
 fn text_of(fault: &Fault) -> FaultText
     ensures text { result.bytes ≡ text_of fault.now }
-    ensures short { length result.bytes < 512 }
+    ensures short { length result.bytes < LINE }
 {
     match fault {
         Fault::Joined(fault) => input_text("joined", *fault),
@@ -130,11 +138,11 @@ fn text_of(fault: &Fault) -> FaultText
 
 // `fault`, a family, a number with its name, and details.
 fn text_with(family: &str, title: &str, details: &[Detail]) -> FaultText
-    requires family { length family.now ≤ 20 }
-    requires title { length title.now ≤ 20 }
-    requires details { length details.now ≤ 9 }
+    requires family { length family.now ≤ WORD }
+    requires title { length title.now ≤ WORD }
+    requires details { length details.now ≤ DETAILS }
     ensures text { result.bytes ≡ text_with family.now title.now details.now }
-    ensures short { length result.bytes < 512 }
+    ensures short { length result.bytes < LINE }
 {
     let mut text = FaultText::new();
     text.push_str("fault ");
@@ -151,9 +159,9 @@ fn text_with(family: &str, title: &str, details: &[Detail]) -> FaultText
 
 // A fault of a text.
 fn input_text(family: &str, fault: InputFault) -> FaultText
-    requires { length family.now ≤ 20 }
+    requires { length family.now ≤ WORD }
     ensures text { result.bytes ≡ text_with family.now (input_title fault) (input_details fault) }
-    ensures short { length result.bytes < 512 }
+    ensures short { length result.bytes < LINE }
 {
     let title = fault.title();
     match fault {
@@ -171,7 +179,7 @@ fn input_text(family: &str, fault: InputFault) -> FaultText
 // A fault of a relation.
 fn relation_text(fault: &RouteFault, shape: &Shape) -> FaultText
     ensures text { result.bytes ≡ text_of (Fault.Relation fault.now shape.now) }
-    ensures short { length result.bytes < 512 }
+    ensures short { length result.bytes < LINE }
 {
     let title = fault.title();
     match fault {
@@ -215,7 +223,7 @@ fn hop_details(shape: &Shape, row: &RouteRow) -> [Detail; 7]
 // A fault of ranks.
 fn rank_text(fault: &RankFault, shape: &Shape) -> FaultText
     ensures text { result.bytes ≡ text_of (Fault.Rank fault.now shape.now) }
-    ensures short { length result.bytes < 512 }
+    ensures short { length result.bytes < LINE }
 {
     let title = fault.title();
     match fault {
@@ -309,7 +317,7 @@ fn descent_details(
 // A fault of a network.
 fn network_text(fault: NetFault) -> FaultText
     ensures text { result.bytes ≡ text_of (Fault.Network fault) }
-    ensures short { length result.bytes < 512 }
+    ensures short { length result.bytes < LINE }
 {
     let title = fault.title();
     match fault {
@@ -325,7 +333,7 @@ fn network_text(fault: NetFault) -> FaultText
 // A fault of writing.
 fn write_text(fault: WriteFault) -> FaultText
     ensures text { result.bytes ≡ text_of (Fault.Write fault) }
-    ensures short { length result.bytes < 512 }
+    ensures short { length result.bytes < LINE }
 {
     text_with("write", fault.title(), &[Detail::Written(fault.written)])
 }

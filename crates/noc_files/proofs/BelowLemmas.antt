@@ -7,9 +7,9 @@ use Rattle.std.proofs.KnownBytes.{Appends-trans}
 use Rattle.std.specs.Io.KnownBytes.{Appends}
 use Rattle.std.specs.List.{cons_option, filter_map, range_with_len}
 use Rattle.noc_topo.specs.Lists.{below}
-use Rattle.noc_files.specs.declared.writing.WriteFault.{WriteFault}
+use Rattle.noc_bytes.specs.declared.writing.WriteFault.{WriteFault}
 use Rattle.noc_files.specs.Writing.{Wrote}
-use Rattle.noc_files.proofs.SinkLemmas.{fault_within}
+use Rattle.noc_bytes.proofs.SinkLemmas.{fault_within}
 
 range_split : (a m n : ℕ) → range_with_len a (m + n) ≡ range_with_len a m ++ range_with_len (a + m) n
 range_split a zero n = rw (zero-add n, add-zero a)

@@ -12,15 +12,15 @@ use Rattle.noc_topo.specs.declared.shape.Kind.{Kind}
 use Rattle.noc_route.specs.Names.{rule_of, rule_name}
 use Rattle.noc_route.specs.declared.rule.RuleName.{RuleName}
 use Rattle.noc_route.proofs.NameLemmas.{rule-of_name}
-use Rattle.noc_files.specs.declared.fault.InputFault.{InputFault}
-use Rattle.noc_files.specs.declared.fault.InputFault.TheVariants.{BadToml, BadValue, MissingKey, UnknownKey, WrongType}
-use Rattle.noc_files.specs.declared.fault.Key.{Key}
-use Rattle.noc_files.specs.declared.fault.Key.TheVariants as key
+use Rattle.noc_bytes.specs.declared.input_fault.InputFault.{InputFault}
+use Rattle.noc_bytes.specs.declared.input_fault.InputFault.TheVariants.{BadToml, BadValue, MissingKey, UnknownKey, WrongType}
+use Rattle.noc_bytes.specs.declared.input_fault.Key.{Key}
+use Rattle.noc_bytes.specs.declared.input_fault.Key.TheVariants as key
 use Rattle.noc_files.specs.declared.configuration.TheConstants.{MAX_CYCLES}
 use Rattle.noc_packet.specs.declared.limits.TheConstants.{MAX_BUFFER, MAX_CHANNELS, MAX_CLASSES}
 use Rattle.noc_files.specs.Configuration.{AreIntegers, HasAllowed, HasBadKey, HasValue, IsAllowed, IsConfigurationFault, IsDocument, IsIntegerIn, IsKeyFault, IsNoDocument, IsOfType, Settings, all_integers, all_known, config_at, config_of, document_of, integers, kind_at, kind_of, kind_name, lengths_of, integer_in, radix_at, rule_setting, typed_at, within}
 use Rattle.noc_files.specs.Gives.{◌>>=◌}
-use Rattle.noc_files.specs.Keys.{key_name}
+use Rattle.noc_bytes.specs.Keys.{key_name}
 use Rattle.noc_files.proofs.ConfigurationLemmas.{are_keys, are_lengths, array_is, document_is, integer_is, is_kind, is_within, keys_are, kind_at_is, integer_found, radix_is, rule_at_is, string_is, typed_is}
 use Rattle.noc_files.proofs.SheetLemmas.{bind_ok}
 use Rattle.noc_files.proofs.TrafficLemmas.{found_in}

@@ -22,7 +22,6 @@ pub mod RankListingLemmas
 pub mod RowLemmas
 pub mod SheetLemmas
 pub mod SheetRowLemmas
-pub mod SinkLemmas
 pub mod TableFaultLemmas
 pub mod TableLemmas
 pub mod TotalLemmas

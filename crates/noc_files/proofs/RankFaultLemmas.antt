@@ -4,8 +4,8 @@ use Rattle.std.proofs.lemmas.Option.{none-some}
 use Rattle.csv.specs.Records.{field_at}
 use Rattle.noc_rank.specs.declared.rows.RankRow.{RankRow}
 use Rattle.noc_topo.specs.Shape.{Grid, IsGrid}
-use Rattle.noc_files.specs.declared.fault.InputFault.{InputFault}
-use Rattle.noc_files.specs.declared.fault.InputFault.TheVariants.{BadCount, BadNumber, BadPort}
+use Rattle.noc_bytes.specs.declared.input_fault.InputFault.{InputFault}
+use Rattle.noc_bytes.specs.declared.input_fault.InputFault.TheVariants.{BadCount, BadNumber, BadPort}
 use Rattle.noc_files.specs.Columns.{HasBadColumn, field_fault}
 use Rattle.noc_files.specs.Ports.{port_named}
 use Rattle.noc_files.specs.Rows.{Fields, number_of, text_rows}

@@ -7,8 +7,8 @@ use Rattle.std.specs.Str.{bytes_eq}
 use Rattle.csv.specs.Records.{field_at}
 use Rattle.noc_rank.specs.declared.rows.RankRow.{RankRow}
 use Rattle.noc_topo.specs.Shape.{Grid, IsGrid}
-use Rattle.noc_files.specs.declared.fault.InputFault.{InputFault}
-use Rattle.noc_files.specs.declared.fault.InputFault.TheVariants.{BadCount, BadNumber}
+use Rattle.noc_bytes.specs.declared.input_fault.InputFault.{InputFault}
+use Rattle.noc_bytes.specs.declared.input_fault.InputFault.TheVariants.{BadCount, BadNumber}
 use Rattle.noc_files.specs.Rows.{Fields, number_of, text_rows}
 use Rattle.noc_files.specs.Ranks.{IsRankField, IsRankFile, WritesRank, adaptive, rank_header, rank_of, rank_row_of, ranks_of}
 use Rattle.noc_files.proofs.PortLemmas.{is_port}

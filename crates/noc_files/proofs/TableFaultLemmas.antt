@@ -4,8 +4,8 @@ use Rattle.std.proofs.lemmas.Option.{none-some}
 use Rattle.csv.specs.Records.{field_at}
 use Rattle.noc_route.specs.declared.rule.RouteRow.{RouteRow}
 use Rattle.noc_topo.specs.Shape.{Grid, IsGrid}
-use Rattle.noc_files.specs.declared.fault.InputFault.{InputFault}
-use Rattle.noc_files.specs.declared.fault.InputFault.TheVariants.{BadCount, BadNumber, BadPort}
+use Rattle.noc_bytes.specs.declared.input_fault.InputFault.{InputFault}
+use Rattle.noc_bytes.specs.declared.input_fault.InputFault.TheVariants.{BadCount, BadNumber, BadPort}
 use Rattle.noc_files.specs.Ports.{IsPortName, port_named}
 use Rattle.noc_files.specs.Rows.{Fields, number_of, text_rows}
 use Rattle.noc_files.specs.Columns.{HasBadField, IsField, field_fault}

@@ -4,8 +4,8 @@ use Rattle.std.specs.Option.{ok_or}
 use Rattle.csv.specs.Records.{field_at}
 use Rattle.noc_route.specs.declared.rule.RouteRow.{RouteRow}
 use Rattle.noc_topo.specs.Shape.{Grid, IsGrid}
-use Rattle.noc_files.specs.declared.fault.InputFault.{InputFault}
-use Rattle.noc_files.specs.declared.fault.InputFault.TheVariants.{BadCount, BadPort}
+use Rattle.noc_bytes.specs.declared.input_fault.InputFault.{InputFault}
+use Rattle.noc_bytes.specs.declared.input_fault.InputFault.TheVariants.{BadCount, BadPort}
 use Rattle.noc_files.specs.Ports.{IsPortName, port_named}
 use Rattle.noc_files.specs.Rows.{Fields, text_rows}
 use Rattle.noc_files.specs.Table.{IsTable, IsWritableRow, WritesRoute, table_header, route_fields, route_row_of, table_of, table_text}

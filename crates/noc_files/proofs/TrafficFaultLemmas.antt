@@ -4,8 +4,8 @@ use Rattle.std.proofs.lemmas.Bool.Decides.{nat_tests}
 use Rattle.std.proofs.lemmas.Option.{none-some}
 use Rattle.csv.specs.Records.{field_at}
 use Rattle.noc_packet.specs.declared.packet.Packet.{Packet}
-use Rattle.noc_files.specs.declared.fault.InputFault.{InputFault}
-use Rattle.noc_files.specs.declared.fault.InputFault.TheVariants.{BadCount, BadNumber}
+use Rattle.noc_bytes.specs.declared.input_fault.InputFault.{InputFault}
+use Rattle.noc_bytes.specs.declared.input_fault.InputFault.TheVariants.{BadCount, BadNumber}
 use Rattle.noc_files.specs.Rows.{Fields, HasNumeral, number_of, text_rows}
 use Rattle.noc_files.specs.Columns.{HasBadColumn}
 use Rattle.noc_files.specs.Traffic.{IsPacketFault, IsTrafficFault, WritesPacket, traffic_header, packet_of, traffic_of}

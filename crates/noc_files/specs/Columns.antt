@@ -1,8 +1,8 @@
 -- Rows of numerals and names of ports, and their faults.
 use Rattle.std.specs.Prelude.{◌≡◌, ◌≢◌, ◌⊎◌, ℕ, ◌<◌, Bool, true, false, List, [], length, slice_index_or}
 use Rattle.noc_topo.specs.Shape.{Grid}
-use Rattle.noc_files.specs.declared.fault.InputFault.{InputFault}
-use Rattle.noc_files.specs.declared.fault.InputFault.TheVariants.{BadCount, BadNumber, BadPort}
+use Rattle.noc_bytes.specs.declared.input_fault.InputFault.{InputFault}
+use Rattle.noc_bytes.specs.declared.input_fault.InputFault.TheVariants.{BadCount, BadNumber, BadPort}
 use Rattle.noc_files.specs.Ports.{IsPortName}
 use Rattle.noc_files.specs.Rows.{Fields, HasNumeral}
 

@@ -4,10 +4,10 @@ use Rattle.std.specs.Option.{ok_or}
 use Rattle.std.specs.Str.{IsUtf8, bytes_eq, is_utf8}
 use Rattle.toml.specs.Data.{Data, Items, no_items, item, Members, no_members, member, as_array, as_integer, as_str, array, get_member, integer, string}
 use Rattle.toml.specs.Parse.{parse_document}
-use Rattle.noc_files.specs.declared.fault.InputFault.{InputFault}
-use Rattle.noc_files.specs.declared.fault.InputFault.TheVariants.{BadToml, BadValue, MissingKey, UnknownKey, WrongType}
-use Rattle.noc_files.specs.declared.fault.Key.{Key}
-use Rattle.noc_files.specs.declared.fault.Key.TheVariants as key
+use Rattle.noc_bytes.specs.declared.input_fault.InputFault.{InputFault}
+use Rattle.noc_bytes.specs.declared.input_fault.InputFault.TheVariants.{BadToml, BadValue, MissingKey, UnknownKey, WrongType}
+use Rattle.noc_bytes.specs.declared.input_fault.Key.{Key}
+use Rattle.noc_bytes.specs.declared.input_fault.Key.TheVariants as key
 use Rattle.noc_files.specs.declared.configuration.Config.{Config}
 use Rattle.noc_topo.specs.declared.shape.Kind.{Kind}
 use Rattle.noc_topo.specs.declared.shape.Kind.TheVariants.{Mesh, Torus}
@@ -15,7 +15,7 @@ use Rattle.noc_route.specs.Names.{rule_of, rule_name}
 use Rattle.noc_route.specs.declared.rule.RuleName.{RuleName}
 use Rattle.noc_files.specs.declared.configuration.TheConstants.{MAX_CYCLES}
 use Rattle.noc_files.specs.Gives.{◌>>=◌}
-use Rattle.noc_files.specs.Keys.{key_name}
+use Rattle.noc_bytes.specs.Keys.{key_name}
 use Rattle.noc_topo.specs.Lists.{Each}
 use Rattle.noc_packet.specs.declared.limits.TheConstants.{MAX_BUFFER, MAX_CHANNELS, MAX_CLASSES}
 

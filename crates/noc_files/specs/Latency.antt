@@ -1,18 +1,14 @@
 -- The latency report.
-use Rattle.std.specs.Prelude.{ℕ, ◌-◌, length, List, [], ◌∷◌, ◌++◌, Option, Some, None, decimal, codes}
+use Rattle.std.specs.Prelude.{ℕ, length, List, [], ◌∷◌, ◌++◌, Option, decimal, codes}
 use Rattle.std.specs.List.{flat_map}
 use Rattle.noc_theory.specs.Network.{Run, arrival_in, packet_at, state_at}
 use Rattle.noc_topo.specs.Lists.{below}
 use Rattle.noc_packet.specs.declared.packet.Packet.{Packet}
+use Rattle.noc_net.specs.Latency.{packet_latency}
 use Rattle.noc_files.specs.Writing.{comma, dash_or, text_of_pieces, line_end}
 
 unfoldable pub latency_header : List ℕ
 latency_header = codes "packet,source,destination,class,length,due,out,latency\n"
-
--- the cycles from a packet's due time to the one in which its tail is out
-abbrev pub packet_latency : Packet → Option ℕ → Option ℕ
-packet_latency p None = None
-packet_latency p (Some cycle) = Some (cycle - p.due)
 
 -- the number of a packet and what it was made of, each before a comma
 abbrev pub packet_start : ℕ → Packet → List ℕ

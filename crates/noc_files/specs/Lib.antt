@@ -3,21 +3,23 @@ pub mod Columns
 pub mod Configuration
 pub mod Findings
 pub mod Gives
-pub mod Joined
-pub mod Keys
 pub mod Labels
 pub mod Latency
 pub mod Plain
 pub mod Ports
+pub mod Prelude
 pub mod Ranks
-pub mod Reading
 pub mod Reports
 pub mod Rows
 pub mod Sheet
 pub mod Stalls
 pub mod Summary
 pub mod Table
-pub mod Titles
 pub mod Trace
 pub mod Traffic
 pub mod Writing
+-- What is known of bytes alone.
+pub use Rattle.noc_bytes.specs.Joined
+pub use Rattle.noc_bytes.specs.Keys
+pub use Rattle.noc_bytes.specs.Reading
+pub use Rattle.noc_bytes.specs.Titles

@@ -5,8 +5,8 @@ use Rattle.std.specs.Str.{bytes_eq}
 use Rattle.csv.specs.Records.{field_at}
 use Rattle.noc_topo.specs.Shape.{Grid, is_plus, local_port, ports}
 use Rattle.noc_topo.specs.Lists.{below}
-use Rattle.noc_files.specs.declared.fault.InputFault.{InputFault}
-use Rattle.noc_files.specs.declared.fault.InputFault.TheVariants.{BadPort}
+use Rattle.noc_bytes.specs.declared.input_fault.InputFault.{InputFault}
+use Rattle.noc_bytes.specs.declared.input_fault.InputFault.TheVariants.{BadPort}
 use Rattle.noc_files.specs.Rows.{Fields}
 
 -- whether a link leads up or down

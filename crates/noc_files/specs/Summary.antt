@@ -8,19 +8,15 @@ use Rattle.noc_view.specs.Verdict.{column}
 use Rattle.noc_view.specs.declared.verdict.TheConstants.{VERDICTS}
 use Rattle.noc_view.specs.declared.verdict.TheConstants.Verdict.{ALL}
 use Rattle.noc_view.specs.declared.verdict.Verdict.{Verdict}
-use Rattle.noc_theory.specs.Network.{Run, arrival_in, packet_at, state_at}
+use Rattle.noc_theory.specs.Network.{Run}
 use Rattle.noc_theory.specs.Progress.{last_event_before}
+use Rattle.noc_net.specs.Latency.{latency_at}
 use Rattle.noc_files.specs.Channels.{over_port, over_router, over_routers}
-use Rattle.noc_files.specs.Latency.{packet_latency}
 use Rattle.noc_files.specs.Stalls.{channel_counts}
 use Rattle.noc_files.specs.Writing.{dash_or, text_of_pieces, line_end}
 use Rattle.noc_files.specs.declared.summary.Summary.{Summary}
 
 -- ---- what it says of a run
-
--- the latency of packet p, if its tail was out
-unfoldable pub latency_at : Run → ℕ → Option ℕ
-latency_at u p = packet_latency (packet_at u.net p) (arrival_in u.net (state_at u.net u.count) p)
 
 -- the latencies of the packets whose tails were out
 abbrev pub latencies : Run → List ℕ
@@ -57,12 +53,13 @@ column_total u column = sum (over_routers u.net.relation (column_entry u column)
 
 -- no total is above n
 abbrev pub AreUpTo : ℕ → List ℕ → Type 0
-AreUpTo n totals = (column : ℕ) → column < 10 → slice_index totals column ≤ n
+AreUpTo n totals = (column : ℕ) → column < VERDICTS → slice_index totals column ≤ n
 
 -- each total is more by f of its column, which is at most so many numbers of 64 bits
 pub record AreRaised (f : ℕ → ℕ) (numbers : ℕ) (old new : List ℕ) : Type 0 where
-  pub more : (column : ℕ) → column < 10 → slice_index new column ≡ slice_index old column + f column
-  pub bound : (column : ℕ) → column < 10 → f column ≤ numbers * 2 ^ 64
+  pub more : (column : ℕ) → column < VERDICTS
+      → slice_index new column ≡ slice_index old column + f column
+  pub bound : (column : ℕ) → column < VERDICTS → f column ≤ numbers * 2 ^ 64
 
 unfoldable pub summary_of : Run → Summary
 summary_of u = record {

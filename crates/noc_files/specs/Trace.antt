@@ -9,6 +9,7 @@ use Rattle.noc_route.specs.Routes.{Routes, set_at}
 use Rattle.noc_view.specs.Found.{empty_finding}
 use Rattle.noc_view.specs.Verdict.{column}
 use Rattle.noc_view.specs.declared.finding.Finding.{Finding}
+use Rattle.noc_view.specs.declared.verdict.TheConstants.{VERDICTS}
 use Rattle.noc_view.specs.declared.verdict.Verdict.{Verdict}
 use Rattle.noc_view.specs.declared.verdict.Verdict.TheVariants.{Empty, Granted, LostChannel, NoIdleChannel}
 use Rattle.noc_theory.specs.Network.{Run, Setup, size}
@@ -227,5 +228,6 @@ told_verdict (Some f) = f.verdict
 -- in how many cycles of the whole trace of a run each verdict is told of an input channel
 abbrev pub told_counts : Run → ℕ → ℕ → List ℕ
 told_counts u r i =
-    tabulate 10 (λ k. count_by (λ n. nat_eq (column (told_verdict (told_at u.net whole n r i))) k)
+    tabulate VERDICTS
+    (λ k. count_by (λ n. nat_eq (column (told_verdict (told_at u.net whole n r i))) k)
     (below u.count))

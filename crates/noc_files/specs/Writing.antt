@@ -1,18 +1,11 @@
--- What a sink took of a text, and the small texts of which reports are made.
-use Rattle.std.specs.Prelude.{◌≡◌, ℕ, ◌<◌, Bool, true, List, length, take, codes, decimal, Option, Some, None, Result, Ok, Err}
-use Rattle.std.specs.Io.KnownBytes.{Appends}
+-- What a sink took of a text whose bytes are counted, and the small texts of which reports are
+-- made.
+use Rattle.std.specs.Prelude.{◌≡◌, ℕ, Bool, List, length, codes, decimal, Option, Some, None, Result, Ok, Err}
 use Rattle.std.specs.List.{flat_map}
-use Rattle.noc_files.specs.declared.writing.WriteFault.{WriteFault}
+use Rattle.noc_bytes.specs.declared.writing.WriteFault.{WriteFault}
+pub use Rattle.noc_bytes.specs.Writing.{Wrote}
 
--- a sink took all of a text, or failed after just the bytes that the fault counts
-abbrev pub Wrote : {S : Type 0} → (S → Option (List ℕ)) → (S → Bool) → S → S → List ℕ
-    → Result (Unit {0}) WriteFault → Type 0
-Wrote contents failed old new text (Ok _) = Appends (contents old) (contents new) text
-Wrote contents failed old new text (Err f) =
-    (f.written < length text) × Appends (contents old) (contents new) (take f.written text)
-    × (failed new ≡ true)
-
--- the same, where the bytes of the whole text are counted too
+-- `Wrote`, where the bytes of the whole text are counted too
 abbrev pub Puts : {S : Type 0} → (S → Option (List ℕ)) → (S → Bool) → S → S → List ℕ
     → Result ℕ WriteFault → Type 0
 Puts contents failed old new text (Ok n) =

@@ -2,18 +2,14 @@
 
 ghost use Rattle.std.specs.Prelude.{◌≡◌, ◌≤◌, ◌↔◌, ℕ, List, string_bytes, IfOk, IfSome};
 ghost use Rattle.std.specs.BTreeMap.{keys};
-ghost use Rattle.std.specs.List.{list_all};
+ghost use Rattle.noc_files.specs.Prelude.{list_all, Gives, result_map, InputFault as Fault};
 ghost use Rattle.std.specs.Option.{is_some, ok_or};
 ghost use Rattle.toml.specs.Data.{as_integer, get_member};
 ghost use Rattle.toml.specs.View.{items_view, table_view, view};
 ghost use Rattle.noc_files.specs.Configuration.{config_at, config_of, document_of, is_key, kind_at, lengths_of, integer_in, radix_at, settings, within, string_at, IsConfiguration, IsConfigurationFault, KeepsLimits, Settings};
-ghost use Rattle.noc_files.specs.Gives.{Gives, result_map};
-ghost use Rattle.noc_files.specs.Keys.{key_name};
-ghost use Rattle.noc_files.specs.declared.fault.InputFault.{InputFault as Fault};
-ghost use Rattle.noc_files.specs.declared.fault.InputFault.TheVariants.{BadValue, MissingKey};
-ghost use Rattle.noc_files.specs.declared.fault.Key.TheVariants as key;
+ghost use Rattle.noc_bytes.specs.Keys.{key_name};
 
-use crate::fault::{InputFault, Key};
+use noc_bytes::{InputFault, Key};
 use noc_packet::{MAX_BUFFER, MAX_CHANNELS, MAX_CLASSES};
 pub use noc_route::RuleName;
 use noc_topo::Kind;
@@ -81,7 +77,7 @@ fn document(alloc: Global, text: &[u8]) -> Result<Table, InputFault>
 // The value at a key.
 fn value(table: &Table, key: Key) -> Result<&Value, InputFault>
     ensures { result_map (λ v. view v.now) result
-        ≡ ok_or (get_member (key_name key) (table_view table.now)) (MissingKey key) }
+        ≡ ok_or (get_member (key_name key) (table_view table.now)) (InputFault.MissingKey key) }
 {
     match table.get(key.name()) {
         Some(value) => Ok(value),
@@ -141,7 +137,7 @@ fn are_integers(values: &[Value]) -> bool
 // The integers from 0 to 1000 of an array.
 fn lengths(alloc: Global, values: &[Value]) -> Result<Vec<usize>, InputFault>
     ensures { Gives (λ v. v.items) result
-        (ok_or (lengths_of (items_view values.now)) (BadValue key.Radix)) }
+        (ok_or (lengths_of (items_view values.now)) (InputFault.BadValue Key.Radix)) }
 {
     let mut lengths = Vec::new(alloc);
     for value in values {

@@ -1,27 +1,22 @@
 //! The lines of a trace in one cycle.
 
 ghost use Rattle.std.specs.Prelude.{◌≡◌, ◌+◌, ◌-◌, ◌<◌, ◌≤◌, ◌++◌, IfSome, decimal, length};
-ghost use Rattle.noc_topo.specs.Shape.{nodes, ports};
+ghost use Rattle.noc_files.specs.Prelude.{nodes, ports, Puts, comma, taken};
 ghost use Rattle.noc_files.specs.Channels.{AreInputs};
 ghost use Rattle.noc_files.specs.Trace.{kept_line, over_traced, told_text};
 ghost use Rattle.noc_files.specs.Labels.{AreLabels, label_text};
-ghost use Rattle.noc_files.specs.Writing.{Puts, comma, taken};
-ghost use Rattle.noc_files.specs.declared.page.TheConstants.{PAGE};
-ghost use Rattle.noc_files.specs.declared.pages.TheConstants.{LONGEST_TEXT};
-ghost use Rattle.noc_files.specs.declared.cycle_lines.TheConstants.{TOLD};
 
 use crate::inputs::Inputs;
 use crate::label::{LABEL, Label};
 use crate::labels::{LONGEST_VERDICT, Labels};
 use crate::listing::{Lines, Listing};
-use crate::page::Page;
-use crate::pages::put_pages;
+use crate::page::{PAGE, Page};
+use crate::pages::{LONGEST_TEXT, put_pages};
 use crate::permitted::permitted_to;
 use crate::sets::{SET, add_permitted};
-use crate::sink::Sink;
 use crate::told::{is_same, is_wanted, tells_nothing, told_at};
 use crate::trace::Trace;
-use crate::writing::WriteFault;
+use noc_bytes::{Sink, WriteFault};
 use noc_net::Network;
 use noc_view::Finding;
 

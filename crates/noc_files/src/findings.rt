@@ -1,18 +1,15 @@
 //! The report of a router's findings in one cycle (docs/FORMATS.md).
 
 ghost use Rattle.std.specs.Prelude.{ℕ, ◌≡◌, ◌<◌};
-ghost use Rattle.noc_theory.specs.Network.{Run};
-ghost use Rattle.noc_topo.specs.Shape.{nodes, ports};
+ghost use Rattle.noc_files.specs.Prelude.{Run, nodes, ports, Wrote};
 ghost use Rattle.noc_files.specs.Findings.{finding_header, findings_text, found_line};
 ghost use Rattle.noc_files.specs.Labels.{AreLabels};
-ghost use Rattle.noc_files.specs.Writing.{Wrote};
 
 use crate::inputs::inputs_of;
 use crate::labels::Labels;
 use crate::listing::{Lines, Listing, write_lines};
 use crate::page::Page;
-use crate::sink::Sink;
-use crate::writing::WriteFault;
+use noc_bytes::{Sink, WriteFault};
 use noc_net::Network;
 use noc_route::Relation;
 use noc_view::Finding;

@@ -1,7 +1,7 @@
 //! The input ports of a network: those that are local or have a link.
 
 ghost use Rattle.std.specs.Prelude.{◌≡◌, ◌*◌, ◌/◌, ◌%◌, ◌<◌};
-ghost use Rattle.noc_topo.specs.Shape.{nodes, ports};
+ghost use Rattle.noc_files.specs.Prelude.{nodes, ports};
 ghost use Rattle.noc_files.specs.Channels.{AreInputs, is_input};
 
 use crate::ports::has_inputs;

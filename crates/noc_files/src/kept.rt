@@ -1,10 +1,8 @@
 //! What a trace of changes keeps of the cycle before.
 
 ghost use Rattle.std.specs.Prelude.{◌≡◌, ℕ, ◌<◌, ◌≤◌, IfOk, Some, length, map, replicate, slice_get};
-ghost use Rattle.noc_topo.specs.Shape.{nodes};
+ghost use Rattle.noc_files.specs.Prelude.{nodes, findings_before, size};
 ghost use Rattle.noc_view.specs.Found.{empty_finding};
-ghost use Rattle.noc_theory.specs.Lockstep.{findings_before};
-ghost use Rattle.noc_theory.specs.Network.{size};
 ghost use Rattle.noc_files.specs.Trace.{HaveChannels};
 
 use noc_net::Network;

@@ -1,19 +1,15 @@
 //! The texts that are the same in many lines on the channels of a network, each made once.
 
 ghost use Rattle.std.specs.Prelude.{◌≡◌, ◌+◌, ◌<◌, ◌≤◌, ◌++◌, [], ◌∷◌, Some, length, option_map, slice_get};
-ghost use Rattle.noc_topo.specs.Shape.{ports};
-ghost use Rattle.noc_packet.specs.declared.limits.TheConstants.{MAX_CHANNELS};
+ghost use Rattle.noc_files.specs.Prelude.{ports, comma};
 ghost use Rattle.noc_view.specs.Names.{verdict_name};
 ghost use Rattle.noc_view.specs.Verdict.{column};
 ghost use Rattle.noc_view.specs.declared.verdict.Verdict.{Verdict as VerdictValue};
 ghost use Rattle.noc_files.specs.Findings.{out_name, verdict_text};
 ghost use Rattle.noc_files.specs.Labels.{AreLabels, HasTexts, channel_name, channel_text, label_text};
-ghost use Rattle.noc_files.specs.Writing.{comma};
-ghost use Rattle.noc_files.specs.declared.page.TheConstants.{PAGE};
-ghost use Rattle.noc_files.specs.declared.labels.TheConstants.{LONGEST_VERDICT};
 
 use crate::label::{EMPTY, LABEL, Label};
-use crate::page::{COLUMN, Page};
+use crate::page::{COLUMN, PAGE, Page};
 use crate::ports::port_name;
 use noc_packet::{INDICES, MAX_CHANNELS, MAX_PORTS};
 use noc_route::Relation;

@@ -1,28 +1,13 @@
 //! The latency report (docs/FORMATS.md).
 
-ghost use Rattle.std.specs.Prelude.{◌≡◌, ◌<◌, length};
+ghost use Rattle.std.specs.Prelude.{length};
 ghost use Rattle.noc_files.specs.Latency.{latency_line, latency_text};
-ghost use Rattle.noc_files.specs.Summary.{latency_at};
-ghost use Rattle.noc_files.specs.Writing.{Wrote};
+ghost use Rattle.noc_files.specs.Prelude.{Wrote};
 
 use crate::page::Page;
 use crate::pages::{Pages, write_pages};
-use crate::sink::Sink;
-use crate::writing::WriteFault;
+use noc_bytes::{Sink, WriteFault};
 use noc_net::Network;
-
-// How many cycles lie between the due time of the packet with this number and the cycle
-// in which its tail is out.
-#[tactic(auto, unfolding(crate::specs::Summary::latency_at))]
-pub(crate) fn latency(network: &Network, packet: usize) -> Option<u64>
-    requires { packet < length network.now.net.packets }
-    ensures { result ≡ latency_at network.now packet }
-{
-    match network.arrival(packet) {
-        Some(cycle) => Some(cycle.saturating_sub(u64::from(network.packet(packet).due))),
-        None => None,
-    }
-}
 
 // The lines of a latency report, a page for each packet.
 #[derive(Drop)]
@@ -50,7 +35,7 @@ impl<'a> Pages for LatencyLines<'a> {
         page.add_column(u64::from(packet.due));
         page.add_or(self.network.arrival(number), "-");
         page.add_byte(b',');
-        page.add_or(latency(self.network, number), "-");
+        page.add_or(self.network.latency(number), "-");
         page.add_byte(b'\n');
     }
 }

@@ -1,13 +1,11 @@
-//! The texts of the simulator: configurations, joined texts and files of rows are read,
-//! and reports are written.
+//! The texts of the simulator: configurations and files of rows are read, and reports are written.
+//! What it takes of `noc_bytes` it passes on.
 #![tactic(auto)]
 
 mod configuration;
 mod cycle_lines;
-mod fault;
 mod findings;
 mod inputs;
-mod joined;
 mod kept;
 mod label;
 mod labels;
@@ -18,37 +16,31 @@ mod pages;
 mod permitted;
 mod ports;
 mod ranks;
-mod reading;
 mod reports;
 mod rows;
 mod sets;
 mod sheet;
-mod sink;
 mod stalls;
 mod summary;
 mod table;
 mod told;
 mod trace;
 mod traffic;
-mod writing;
 
 pub use configuration::{
     Config, MAX_CYCLES, RuleName, configuration_is_document_with_keys,
     configuration_is_refused_with_its_first_fault, read_config,
 };
-pub use fault::{InputFault, Key};
 pub use findings::{findings_before_the_first_cycle_are_the_header, write_findings};
-pub use joined::split_joined;
 pub use latency::write_latency;
-pub use ports::port_name;
+pub use noc_bytes::{InputFault, Key, Out, Sink, WriteFault, read_all, split_joined, write_pieces};
+pub use ports::{LONGEST_PORT_NAME, port_name};
 pub use ranks::{
     rank_file_is_header_and_rows, rank_file_is_refused_with_its_first_fault, read_ranks,
     write_ranks, written_ranks_are_read_back,
 };
-pub use reading::read_all;
 pub use reports::write_report;
 pub use rows::{plain_rows_are_read_back, rows_are_records};
-pub use sink::{Out, Sink};
 pub use stalls::{the_counts_of_a_line_add_up, write_stalls};
 pub use summary::{the_greatest_is_one_of_them, write_summary};
 pub use table::{
@@ -63,4 +55,3 @@ pub use traffic::{
     read_traffic, traffic_is_header_and_numerals, traffic_is_refused_with_its_first_fault,
     written_traffic_is_read_back,
 };
-pub use writing::{WriteFault, write_pieces};

@@ -2,17 +2,14 @@
 
 ghost use Rattle.std.specs.Prelude.{◌≡◌, ◌+◌, ◌<◌, ◌≤◌, ◌++◌, [], true, ℕ, List, Option, length, IfSome};
 ghost use Rattle.std.proofs.Props.{props};
-ghost use Rattle.noc_topo.specs.Shape.{Grid, nodes, ports};
+ghost use Rattle.noc_files.specs.Prelude.{Grid, nodes, ports, Wrote};
 ghost use Rattle.noc_files.specs.Channels.{AreInputs, is_input, lines_listed, lines_of_port, lines_of_router, page_router, router_pages};
 ghost use Rattle.noc_packet.specs.declared.limits.TheConstants.{MAX_CHANNELS as CHANNELS, MAX_PORTS as PORTS};
-ghost use Rattle.noc_files.specs.Writing.{Wrote};
-ghost use Rattle.noc_files.specs.declared.listing.TheConstants.{LONGEST_LINE, LONGEST_PORT};
 
 use crate::inputs::Inputs;
 use crate::page::{PAGE, Page};
 use crate::pages::{Pages, write_pages};
-use crate::sink::Sink;
-use crate::writing::WriteFault;
+use noc_bytes::{Sink, WriteFault};
 use noc_packet::{INDICES, MAX_CHANNELS, MAX_PORTS};
 use noc_topo::Shape;
 

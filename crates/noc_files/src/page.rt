@@ -2,8 +2,7 @@
 
 ghost use Rattle.std.specs.Prelude.{◌≡◌, ◌+◌, ◌<◌, ◌≤◌, ◌++◌, [], ◌∷◌, ℕ, List, decimal, length, take};
 ghost use Rattle.noc_files.specs.Labels.{label_text};
-ghost use Rattle.noc_files.specs.Writing.{comma, number_or};
-ghost use Rattle.noc_files.specs.declared.label.TheConstants.{LABEL};
+ghost use Rattle.noc_files.specs.Prelude.{comma, number_or};
 
 use crate::label::{LABEL, Label};
 use itoa::Buffer;

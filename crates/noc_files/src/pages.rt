@@ -1,13 +1,10 @@
 //! Texts that are put page by page.
 
 ghost use Rattle.std.specs.Prelude.{◌≡◌, ◌<◌, ◌≤◌, ◌++◌, ℕ, List};
-ghost use Rattle.std.specs.List.{flat_map};
-ghost use Rattle.noc_topo.specs.Lists.{below};
-ghost use Rattle.noc_files.specs.Writing.{Puts, Wrote, taken};
+ghost use Rattle.noc_files.specs.Prelude.{flat_map, below, Puts, Wrote, taken};
 
 use crate::page::{PAGE, Page};
-use crate::sink::Sink;
-use crate::writing::{WriteFault, put_all};
+use noc_bytes::{Sink, WriteFault, put_all};
 use noc_packet::MAX_PACKETS;
 
 // The most bytes of a text of pages.

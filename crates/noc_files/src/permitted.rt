@@ -1,7 +1,7 @@
 //! The output channels that were permitted to a packet that asked for one.
 
 ghost use Rattle.std.specs.Prelude.{◌≡◌, ◌<◌};
-ghost use Rattle.noc_topo.specs.Shape.{nodes, ports};
+ghost use Rattle.noc_files.specs.Prelude.{nodes, ports};
 ghost use Rattle.noc_files.specs.Trace.{is_asking, permitted_to};
 
 use noc_net::Network;

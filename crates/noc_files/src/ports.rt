@@ -1,17 +1,20 @@
 //! The names of ports (docs/FORMATS.md).
 
 ghost use Rattle.std.specs.Prelude.{◌≡◌, ◌<◌, ◌≤◌, length, option_map, IfSome};
-ghost use Rattle.noc_topo.specs.Shape.{nodes, ports};
+ghost use Rattle.noc_files.specs.Prelude.{nodes, ports};
 ghost use Rattle.noc_files.specs.Channels.{is_input};
 ghost use Rattle.noc_files.specs.Ports.{name_of_port, port_named, port_text};
 
 use noc_topo::Shape;
 
+/// The most bytes of the name of a port.
+pub const LONGEST_PORT_NAME: usize = 5;
+
 /// The name of a port of a shape: `+0`, `-0` and so on for the links of each dimension, and `local`
 /// for the last port; None where the shape has no such port.
 pub fn port_name(shape: &Shape, port: usize) -> Option<&'static str>
     ensures text { option_map (λ name. name.now) result ≡ port_text shape.now port }
-    ensures short { IfSome result (λ name. length name.now ≤ 5) }
+    ensures short { IfSome result (λ name. length name.now ≤ LONGEST_PORT_NAME) }
 {
     if port < shape.ports() {
         Some(known_name(shape, port))
@@ -24,7 +27,7 @@ pub fn port_name(shape: &Shape, port: usize) -> Option<&'static str>
 pub(crate) fn known_name(shape: &Shape, port: usize) -> &'static str
     requires { port < ports shape.now }
     ensures text { result.now ≡ name_of_port shape.now port }
-    ensures short { length result.now ≤ 5 }
+    ensures short { length result.now ≤ LONGEST_PORT_NAME }
 {
     if port == 2 * shape.dimensions() {
         return "local";

@@ -1,26 +1,20 @@
 //! Rank files (docs/FORMATS.md).
 
 ghost use Rattle.std.specs.Prelude.{◌≡◌, ◌↔◌, ◌≤◌, ℕ, List, Ok, Err};
-ghost use Rattle.csv.specs.Records.{fields_of};
+ghost use Rattle.noc_files.specs.Prelude.{fields_of, Grid, IsGrid, local_port, InputFault as Fault, Gives, Wrote};
 ghost use Rattle.noc_route.specs.Ranks.{Ranking};
 ghost use Rattle.noc_rank.specs.Ranking.{IsRanking};
 ghost use Rattle.noc_rank.specs.declared.rows.RankRow.{RankRow as RowValue};
-ghost use Rattle.noc_topo.specs.Shape.{Grid, IsGrid, local_port};
-ghost use Rattle.noc_files.specs.declared.fault.InputFault.{InputFault as Fault};
-ghost use Rattle.noc_files.specs.Gives.{Gives};
 ghost use Rattle.noc_files.specs.Ranks.{rank_line, rank_of, rank_row, rank_row_of, rank_rows, ranks_of, ranks_text, IsRankFile, IsRankFileFault, ListsRanks};
-ghost use Rattle.noc_files.specs.Writing.{Wrote};
 
-use crate::fault::InputFault;
 use crate::inputs::inputs_of;
 use crate::listing::{Lines, Listing, write_lines};
 use crate::page::Page;
 use crate::ports::known_name;
 use crate::rows::{number, number_in, port_in};
 use crate::sheet::read_sheet;
-use crate::sink::Sink;
-use crate::writing::WriteFault;
 use csv::ByteRecord;
+use noc_bytes::{InputFault, Sink, WriteFault};
 use noc_packet::MAX_CHANNELS;
 use noc_rank::{RankRow, Ranks};
 use noc_topo::Shape;

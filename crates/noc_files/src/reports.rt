@@ -1,13 +1,12 @@
 //! The reports of a run.
 
 ghost use Rattle.noc_files.specs.Reports.{report_text};
-ghost use Rattle.noc_files.specs.Writing.{Wrote};
+ghost use Rattle.noc_files.specs.Prelude.{Wrote};
 
 use crate::latency::write_latency;
-use crate::sink::Sink;
 use crate::stalls::write_stalls;
 use crate::summary::write_summary;
-use crate::writing::WriteFault;
+use noc_bytes::{Sink, WriteFault};
 use noc_commands::Report;
 use noc_net::Network;
 

@@ -4,17 +4,15 @@ ghost use Rattle.csv.specs.declared.parser.State.TheVariants as st;
 ghost use Rattle.std.specs.Prelude.{ℕ, List, ◌≡◌, ◌∷◌, [], true, false, map, IfOk, IfErr};
 ghost use Rattle.std.specs.Cmp.Lexicographic.{pointwise};
 ghost use Rattle.std.specs.Str.{bytes_eq};
-ghost use Rattle.csv.specs.Records.{fields_of};
+ghost use Rattle.noc_files.specs.Prelude.{fields_of, Each};
 ghost use Rattle.csv.specs.Reading.{AreRecords, default_config, strip_bom};
-ghost use Rattle.noc_files.specs.declared.fault.InputFault.TheVariants.{Memory};
-ghost use Rattle.noc_topo.specs.Lists.{Each};
 ghost use Rattle.noc_files.specs.Plain.{IsPlainRow, plain_text};
 ghost use Rattle.noc_files.specs.Ports.{port_at};
 ghost use Rattle.noc_files.specs.Rows.{Fields, IsBetweenRows, number_of, number_at, rows_left, text_rows};
 
-use crate::fault::InputFault;
 use crate::ports::port_named;
 use csv::{ByteRecord, ErrorKind, Reader, ReaderBuilder};
+use noc_bytes::InputFault;
 use noc_topo::Shape;
 use std::alloc::Global;
 
@@ -37,7 +35,7 @@ pub(crate) fn next_row(reader: &mut Reader<&[u8]>, row: &mut ByteRecord) -> Resu
     ensures row { IfOk result (λ found. found ≡ true
         → rows_left reader.old ≡ fields_of row.new ∷ rows_left reader.new) }
     ensures end { IfOk result (λ found. found ≡ false → rows_left reader.old ≡ []) }
-    ensures err { IfErr result (λ e. e ≡ Memory) }
+    ensures err { IfErr result (λ e. e ≡ InputFault.Memory) }
 {
     match reader.read_byte_record(row) {
         Ok(found) => Ok(found),

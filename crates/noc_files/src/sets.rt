@@ -1,18 +1,15 @@
 //! Sets of output channels as texts.
 
 ghost use Rattle.std.specs.Prelude.{◌≡◌, ℕ, ◌+◌, ◌*◌, ◌/◌, ◌%◌, ◌<◌, ◌≤◌, ◌++◌, [], ◌∷◌, codes, decimal, false, if◌then◌else◌, length, true};
-ghost use Rattle.noc_topo.specs.Shape.{ports};
+ghost use Rattle.noc_files.specs.Prelude.{ports, text_of_pieces};
 ghost use Rattle.noc_packet.specs.Set.{has_bit};
 ghost use Rattle.noc_files.specs.Ports.{name_of_port};
 ghost use Rattle.noc_files.specs.Trace.{permitted_text, set_text};
 ghost use Rattle.noc_files.specs.Labels.{AreLabels};
-ghost use Rattle.noc_files.specs.Writing.{text_of_pieces};
-ghost use Rattle.noc_files.specs.declared.page.TheConstants.{PAGE};
-ghost use Rattle.noc_files.specs.declared.sets.TheConstants.{MEMBER, SET};
 
 use crate::label::LABEL;
 use crate::labels::Labels;
-use crate::page::Page;
+use crate::page::{PAGE, Page};
 use noc_packet::{ChannelSet, INDICES};
 use noc_route::Relation;
 

@@ -1,14 +1,13 @@
 //! Files of rows under a header.
 
 ghost use Rattle.std.specs.Prelude.{ℕ, Result, map};
-ghost use Rattle.noc_files.specs.declared.fault.InputFault.{InputFault as Fault};
-ghost use Rattle.noc_files.specs.Gives.{Gives};
+ghost use Rattle.noc_files.specs.Prelude.{InputFault as Fault, Gives};
 ghost use Rattle.noc_files.specs.Rows.{Fields, IsBetweenRows, rows_left, text_rows};
 ghost use Rattle.noc_files.specs.Sheet.{ReadsRows, sheet};
 
-use crate::fault::InputFault;
 use crate::rows::{has_fields, next_row, rows};
 use csv::{ByteRecord, Reader};
+use noc_bytes::InputFault;
 use std::alloc::Global;
 
 // What the rows under this header say, by what each row is read as, or the first fault.

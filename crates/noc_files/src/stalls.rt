@@ -1,22 +1,16 @@
 //! The stall report (docs/FORMATS.md).
 
 ghost use Rattle.std.specs.Prelude.{◌≡◌, ◌+◌, ◌≤◌, ◌++◌, ℕ, length, sum};
-ghost use Rattle.std.specs.List.{flat_map};
-ghost use Rattle.noc_topo.specs.Shape.{ports};
-ghost use Rattle.noc_theory.specs.Network.{Run as RunValue};
+ghost use Rattle.noc_files.specs.Prelude.{flat_map, ports, Run as RunValue, Wrote};
 ghost use Rattle.noc_files.specs.Stalls.{channel_counts, channel_line, count_text, stall_header, stalls_text};
-ghost use Rattle.noc_files.specs.Writing.{Wrote};
-ghost use Rattle.noc_files.specs.declared.page.TheConstants.{PAGE};
-ghost use Rattle.noc_files.specs.declared.stalls.TheConstants.{COUNTS};
 
 use crate::inputs::inputs_of;
 use crate::listing::{Lines, Listing, write_lines};
-use crate::page::{COLUMN, Page};
+use crate::page::{COLUMN, PAGE, Page};
 use crate::ports::known_name;
-use crate::sink::Sink;
 use crate::summary::LONGEST_NAME;
-use crate::writing::WriteFault;
 use arrayvec::ArrayString;
+use noc_bytes::{Sink, WriteFault};
 use noc_net::Network;
 use noc_view::{VERDICTS, Verdict};
 

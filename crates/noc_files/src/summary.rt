@@ -1,21 +1,13 @@
 //! The summary report (docs/FORMATS.md).
 
 ghost use Rattle.std.specs.Prelude.{◌+◌, ◌*◌, ◌^◌, ◌<◌, ◌≤◌, ◌++◌, [], length, nat_le, slice_index, sum, true, ◌≡◌, ℕ, List, Some, None};
-ghost use Rattle.std.specs.List.{flat_map, list_all};
-ghost use Rattle.noc_topo.specs.Shape.{nodes, ports};
-ghost use Rattle.noc_topo.specs.Lists.{tabulate};
-ghost use Rattle.noc_view.specs.declared.verdict.TheConstants.Verdict.{ALL};
+ghost use Rattle.noc_files.specs.Prelude.{flat_map, list_all, nodes, ports, tabulate, Wrote, dash_or};
 ghost use Rattle.noc_files.specs.Summary.{AreRaised, AreUpTo, IsGreatest, column_total, entry_value, greatest_of, latencies, port_total, router_total, summary_line, summary_lines, summary_of, summary_text, total_line};
-ghost use Rattle.noc_files.specs.Writing.{Wrote, dash_or};
-ghost use Rattle.noc_files.specs.declared.page.TheConstants.{PAGE};
-ghost use Rattle.noc_files.specs.declared.summary.TheConstants.{LINE, LONGEST_NAME, WIDE};
 
-use crate::latency::latency;
-use crate::page::Page;
+use crate::page::{PAGE, Page};
 use crate::ports::has_inputs;
-use crate::sink::Sink;
-use crate::writing::{WriteFault, put_all};
 use itoa::Buffer;
+use noc_bytes::{Sink, WriteFault, put_all};
 use noc_net::Network;
 use noc_packet::{INDICES, MAX_CHANNELS};
 use noc_view::{VERDICTS, Verdict};
@@ -94,7 +86,7 @@ fn add_lines(entries: &[(&str, Option<u128>)], page: &mut Page)
 // Adds the lines of the totals.
 fn add_totals(totals: &[u128; VERDICTS], page: &mut Page)
     requires { length page.old + LINE * VERDICTS ≤ PAGE }
-    ensures { page.new ≡ page.old ++ flat_map (total_line totals.now) ALL }
+    ensures { page.new ≡ page.old ++ flat_map (total_line totals.now) Verdict.ALL }
 {
     for index in 0..VERDICTS {
         let name = Verdict::ALL[index].column_name();
@@ -134,7 +126,7 @@ fn latencies(network: &Network) -> LatencyTotals
     let mut sum = 0u128;
     let mut greatest: Option<u64> = None;
     for packet in 0..network.packets() {
-        if let Some(latency) = latency(network, packet) {
+        if let Some(latency) = network.latency(packet) {
             count += 1;
             sum += u128::from(latency);
             greatest = Some(greatest.unwrap_or(0).max(latency));

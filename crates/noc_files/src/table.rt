@@ -1,18 +1,14 @@
 //! Table files (docs/FORMATS.md).
 
 ghost use Rattle.std.specs.Prelude.{◌≡◌, ◌↔◌, ℕ, List, Ok, Err};
-ghost use Rattle.csv.specs.Records.{fields_of};
+ghost use Rattle.noc_files.specs.Prelude.{fields_of, Grid, IsGrid, Each, InputFault as Fault, Gives};
 ghost use Rattle.noc_route.specs.declared.rule.RouteRow.{RouteRow as Route};
-ghost use Rattle.noc_topo.specs.Shape.{Grid, IsGrid};
-ghost use Rattle.noc_topo.specs.Lists.{Each};
-ghost use Rattle.noc_files.specs.declared.fault.InputFault.{InputFault as Fault};
-ghost use Rattle.noc_files.specs.Gives.{Gives};
 ghost use Rattle.noc_files.specs.Table.{route_row_of, table_of, table_text, IsTable, IsTableFault, IsWritableRow};
 
-use crate::fault::InputFault;
 use crate::rows::{number_in, port_in};
 use crate::sheet::read_sheet;
 use csv::ByteRecord;
+use noc_bytes::InputFault;
 use noc_route::RouteRow;
 use noc_topo::Shape;
 use std::alloc::Global;

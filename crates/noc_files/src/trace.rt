@@ -1,23 +1,18 @@
 //! The trace: what each input channel did in each cycle of a span (docs/FORMATS.md).
 
 ghost use Rattle.std.specs.Prelude.{◌≡◌, ℕ, ◌+◌, ◌*◌, ◌<◌, ◌≤◌, ◌++◌, [], IfErr, IfOk, IfSome, List, Option, Some, if◌then◌else◌, length, slice_get, true};
-ghost use Rattle.noc_topo.specs.Shape.{nodes, ports};
+ghost use Rattle.noc_files.specs.Prelude.{nodes, ports, Finding as FindingValue, findings_before, findings_in_cycle, Run as RunValue, Setup as SetupValue, size, Wrote, comma, line_end};
 ghost use Rattle.noc_route.specs.Routes.{Routes as RoutesValue};
-ghost use Rattle.noc_view.specs.declared.finding.Finding.{Finding as FindingValue};
-ghost use Rattle.noc_theory.specs.Lockstep.{findings_before, findings_in_cycle};
-ghost use Rattle.noc_theory.specs.Network.{Run as RunValue, Setup as SetupValue, size};
 ghost use Rattle.noc_files.specs.Findings.{found_line};
 ghost use Rattle.noc_files.specs.Stalls.{channel_counts};
 ghost use Rattle.noc_files.specs.Trace.{HaveChannels, IsCutOff, finds_empty, is_same, kept_at, nothing_found, permitted_text, permitted_to, said_by_both, told_counts, trace_text, traced_line, when_text, whole};
-ghost use Rattle.noc_files.specs.Writing.{Wrote, comma, line_end};
 
 use crate::cycle_lines::put_cycle;
 use crate::inputs::inputs_of;
 use crate::kept::{keep_all, nothing_kept};
 use crate::labels::Labels;
 use crate::page::Page;
-use crate::sink::Sink;
-use crate::writing::{WriteFault, put_all};
+use noc_bytes::{Sink, WriteFault, put_all};
 use noc_commands::VerdictSet;
 use noc_net::{CYCLE_LIMIT, Network};
 use noc_packet::Memory;

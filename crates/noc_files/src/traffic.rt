@@ -1,17 +1,14 @@
 //! Traffic files.
 
 ghost use Rattle.std.specs.Prelude.{◌≡◌, ◌↔◌, ℕ, List, Ok, Err};
-ghost use Rattle.csv.specs.Records.{fields_of};
+ghost use Rattle.noc_files.specs.Prelude.{fields_of, Each, InputFault as Fault, Gives};
 ghost use Rattle.noc_packet.specs.declared.packet.Packet.{Packet as PacketValue};
-ghost use Rattle.noc_topo.specs.Lists.{Each};
-ghost use Rattle.noc_files.specs.declared.fault.InputFault.{InputFault as Fault};
-ghost use Rattle.noc_files.specs.Gives.{Gives};
 ghost use Rattle.noc_files.specs.Traffic.{packet_of, traffic_of, traffic_text, IsTraffic, IsTrafficFault, IsWritablePacket};
 
-use crate::fault::InputFault;
 use crate::rows::number_in;
 use crate::sheet::read_sheet;
 use csv::ByteRecord;
+use noc_bytes::InputFault;
 use noc_packet::Packet;
 use std::alloc::Global;
 

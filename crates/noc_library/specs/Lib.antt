@@ -23,6 +23,7 @@ pub use Rattle.noc_theory.specs.Lockstep
 pub use Rattle.noc_theory.specs.Network
 pub use Rattle.noc_theory.specs.Progress
 pub use Rattle.noc_net.specs.Faults as NetFaults
+pub use Rattle.noc_net.specs.Latency as PacketLatency
 pub use Rattle.noc_net.specs.Limit
 pub use Rattle.noc_net.specs.Titles as NetTitles
 -- Files.
@@ -31,17 +32,17 @@ pub use Rattle.noc_commands.specs.Verdicts
 pub use Rattle.noc_files.specs.Configuration
 pub use Rattle.noc_files.specs.Findings
 pub use Rattle.noc_files.specs.Gives
-pub use Rattle.noc_files.specs.Joined
-pub use Rattle.noc_files.specs.Keys
+pub use Rattle.noc_bytes.specs.Joined
+pub use Rattle.noc_bytes.specs.Keys
 pub use Rattle.noc_files.specs.Latency
 pub use Rattle.noc_files.specs.Ports
 pub use Rattle.noc_files.specs.Ranks as RankFiles
-pub use Rattle.noc_files.specs.Reading
+pub use Rattle.noc_bytes.specs.Reading
 pub use Rattle.noc_files.specs.Reports
 pub use Rattle.noc_files.specs.Stalls
 pub use Rattle.noc_files.specs.Summary
 pub use Rattle.noc_files.specs.Table
-pub use Rattle.noc_files.specs.Titles as FileTitles
+pub use Rattle.noc_bytes.specs.Titles as FileTitles
 pub use Rattle.noc_files.specs.Trace
 pub use Rattle.noc_files.specs.Traffic
 pub use Rattle.noc_files.specs.Writing

@@ -5,8 +5,8 @@ use Rattle.noc_packet.specs.declared.packet.Packet.{Packet}
 use Rattle.noc_packet.specs.declared.limits.TheConstants.{MAX_LENGTH, MAX_DUE, MAX_PACKETS}
 use Rattle.noc_packet.specs.Packet.{IsWithinLimits}
 use Rattle.noc_route.specs.Routes.{Routes}
-use Rattle.noc_net.specs.declared.fault.NetFault.{NetFault}
-use Rattle.noc_net.specs.declared.fault.NetFault.TheVariants.{SelfPacket, BadNode, BadClass, BadLength, TooMany, BadDue}
+use Rattle.noc_net.specs.declared.net_fault.NetFault.{NetFault}
+use Rattle.noc_net.specs.declared.net_fault.NetFault.TheVariants.{SelfPacket, BadNode, BadClass, BadLength, TooMany, BadDue}
 
 -- the first fault of the packet in a row
 abbrev pub packet_fault : Routes → ℕ → Packet → Option NetFault

@@ -1,8 +1,10 @@
 pub mod Faults
 pub mod Inside
+pub mod Latency
 pub mod Latest
 pub mod Limit
 pub mod Parts
+pub mod Prelude
 pub mod Room
 pub mod Stored
 pub mod Titles

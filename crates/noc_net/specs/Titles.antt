@@ -1,7 +1,7 @@
 -- The number and the name of a fault of packets or of a run (docs/FORMATS.md, "Fault lines").
 use Rattle.std.specs.Prelude.{ℕ, List, codes}
-use Rattle.noc_net.specs.declared.fault.NetFault.{NetFault}
-use Rattle.noc_net.specs.declared.fault.NetFault.TheVariants as net
+use Rattle.noc_net.specs.declared.net_fault.NetFault.{NetFault}
+use Rattle.noc_net.specs.declared.net_fault.NetFault.TheVariants as net
 use Rattle.noc_net.specs.declared.workers.RunFault.{RunFault}
 use Rattle.noc_net.specs.declared.workers.RunFault.TheVariants as run
 

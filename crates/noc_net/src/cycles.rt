@@ -2,18 +2,13 @@
 //! (docs/ARCHITECTURE.md, "Routers, one at a time").
 
 ghost use Rattle.std.specs.Prelude.{◌≡◌, ℕ, ◌<◌, ◌≤◌, All, IfSome, Some, length, map};
-ghost use Rattle.noc_topo.specs.declared.limits.TheConstants.{MAX_NODES};
-ghost use Rattle.noc_topo.specs.Lists.{map_indexed};
-ghost use Rattle.noc_topo.specs.Shape.{nodes as nodes_of, neighbour as neighbour_of};
-ghost use Rattle.noc_view.specs.View.{IsRelationOf, idle_beat};
-ghost use Rattle.noc_theory.specs.Halves.{HaveTheirBeats, IsLinked, HasItsBeats, IsSilent, beat_at, view_after_decide, view_after_puts, incoming, wire_after_puts, sent_on};
-ghost use Rattle.noc_theory.specs.Lockstep.{beat_from, beats_at};
+ghost use Rattle.noc_net.specs.Prelude.{map_indexed, nodes as nodes_of, neighbour as neighbour_of, IsRelationOf, idle_beat, HaveTheirBeats, IsLinked, HasItsBeats, IsSilent, beat_at, view_after_decide, view_after_puts, incoming, wire_after_puts, sent_on, beat_from, beats_at};
 
 use crate::takes::take_beats;
 use noc_packet::Beat;
 use noc_route::Relation;
 use noc_router::{Plan, Router};
-use noc_topo::LINKS;
+use noc_topo::{LINKS, MAX_NODES};
 
 // Each router takes the beats that came to it, injects, decides and commits.
 pub(crate) fn decide_all(

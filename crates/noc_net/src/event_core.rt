@@ -1,13 +1,8 @@
 //! The event core.
 
-ghost use Rattle.std.specs.Prelude.{◌≡◌, ℕ, [], take, slice_index_or, ◌<◌, ◌≤◌, ◌&&◌, IfErr, IfOk, Some, true, is_ok, is_some, length};
-ghost use Rattle.std.specs.List.{list_all, slice_get};
-ghost use Rattle.noc_topo.specs.Shape.{local_port, nodes as nodes_of, ports as ports_of};
-ghost use Rattle.noc_view.specs.View.{IsRelationOf, View};
+ghost use Rattle.std.specs.Prelude.{◌≡◌, ℕ, [], take, slice_index_or, ◌<◌, ◌≤◌, ◌&&◌, IfErr, IfOk, Some, true, is_ok, is_some, length, slice_get};
+ghost use Rattle.noc_net.specs.Prelude.{list_all, local_port, nodes as nodes_of, ports as ports_of, IsRelationOf, View, IsGoodSetup, beat_at, Setup};
 ghost use Rattle.noc_theory.specs.Core.{after_event, are_between, deciding, happens, is_linked, is_ready, opening_core, post_at, steps_at, view_of_post, wire_at};
-ghost use Rattle.noc_theory.specs.Good.{IsGoodSetup};
-ghost use Rattle.noc_theory.specs.Halves.{beat_at};
-ghost use Rattle.noc_theory.specs.Network.{Setup};
 ghost use Rattle.noc_net.specs.declared.room.Room.{Room};
 ghost use Rattle.noc_net.specs.Room.{front_of, opened_post, post_of, rests_at, wires_in};
 

@@ -40,8 +40,8 @@
 
 mod cycles;
 mod event_core;
-mod fault;
 mod limit;
+mod net_fault;
 mod network;
 mod packets;
 mod parts;
@@ -52,8 +52,8 @@ mod workers;
 
 pub use cycles::deliver;
 pub use event_core::Core;
-pub use fault::NetFault;
 pub use limit::MAX_LIMIT;
+pub use net_fault::{LONGEST_TITLE, NetFault};
 pub use network::Network;
 pub use noc_theory::{CYCLE_LIMIT, Event, NotReady};
 pub use noc_workers::NotRun;

@@ -1,7 +1,7 @@
 //! By when all packets of a network have to be out.
 
 ghost use Rattle.std.specs.Prelude.{◌≡◌, ◌*◌, ◌≤◌};
-ghost use Rattle.noc_theory.specs.Progress.{budget};
+ghost use Rattle.noc_net.specs.Prelude.{budget};
 ghost use Rattle.noc_net.specs.Limit.{IsLastDue};
 
 use crate::network::Network;

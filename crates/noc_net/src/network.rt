@@ -7,34 +7,21 @@
 //! lets the engine go. After `from_parts` the routers run. The readers ask whichever of the two has
 //! run.
 
-ghost use Rattle.std.specs.Prelude.{◌≡◌, ℕ, ◌+◌, ◌*◌, ◌<◌, ◌≤◌, ◌&&◌, All, Err, IfErr, IfOk, IsOk, None, Some, false, true, is_none, length, nat_le, vec_len};
-ghost use Rattle.std.specs.List.{slice_get};
-ghost use Rattle.noc_topo.specs.Lists.{tabulate};
-ghost use Rattle.noc_topo.specs.Shape.{nodes as nodes_of, ports as ports_of};
-ghost use Rattle.noc_route.specs.Ranks.{IsRankedBy, Ranking};
-ghost use Rattle.noc_view.specs.View.{opening_view};
-ghost use Rattle.noc_net.specs.declared.fault.NetFault.TheVariants.{Memory as memory_fault};
-ghost use Rattle.noc_net.specs.declared.fault.NetFault.{NetFault as NetFaultValue};
+ghost use Rattle.std.specs.Prelude.{◌≡◌, ℕ, ◌+◌, ◌*◌, ◌<◌, ◌≤◌, ◌&&◌, All, Err, IfErr, IfOk, IsOk, None, Some, false, true, is_none, length, nat_le, slice_get, vec_len};
+ghost use Rattle.noc_net.specs.Prelude.{tabulate, nodes as nodes_of, ports as ports_of, IsRankedBy, Ranking, opening_view, IsSilent, counts_before, findings_before, ends_of, starts_of, AreByNode, empty_plan_contents, IsGoodSetup, arrival_in, packet_at, state_at, is_pending, is_stuck, last_event_before};
+ghost use Rattle.noc_net.specs.declared.net_fault.NetFault.{NetFault as NetFaultValue};
 ghost use Rattle.noc_net.specs.Faults.{IsSendable, fault_of};
-ghost use Rattle.noc_theory.specs.Halves.{IsSilent};
-ghost use Rattle.noc_theory.specs.Lockstep.{counts_before, findings_before};
-ghost use Rattle.noc_packet.specs.ByNode.{ends_of, starts_of};
-ghost use Rattle.noc_queues.specs.Queues.{AreByNode};
-ghost use Rattle.noc_packet.specs.declared.limits.TheConstants.{MAX_BUFFER};
-ghost use Rattle.noc_router.specs.Decided.{empty_plan_contents};
-ghost use Rattle.noc_theory.specs.Good.{IsGoodSetup};
-ghost use Rattle.noc_theory.specs.Network.{arrival_in, packet_at, state_at};
-ghost use Rattle.noc_theory.specs.Progress.{is_pending, is_stuck, last_event_before};
 ghost use Rattle.noc_net.specs.Parts.{AreParts, run_in};
+ghost use Rattle.noc_net.specs.Latency.{latency_at};
 ghost use Rattle.noc_net.specs.Limit.{IsLimit, are_all_out};
 
-use crate::fault::NetFault;
 use crate::limit::{MAX_LIMIT, budget, last_due};
+use crate::net_fault::NetFault;
 use crate::packets::first_fault;
 use crate::parts::Parts;
 use crate::room::Room;
 use noc_engine::Engine;
-use noc_packet::{Beat, MAX_PACKETS, Memory, Packet};
+use noc_packet::{Beat, MAX_BUFFER, MAX_PACKETS, Memory, Packet};
 use noc_queues::{ends_by_node, starts_by_node};
 use noc_route::Relation;
 use noc_router::{Finding, Plan, Router, VERDICTS};
@@ -96,7 +83,7 @@ impl Network {
         ensures fault { (e : NetFaultValue) → fault_of relation packets.items ≡ Some e
             → result ≡ Err e }
         ensures memory { fault_of relation packets.items ≡ None
-            → IfErr result (λ e. e ≡ memory_fault) }
+            → IfErr result (λ e. e ≡ NetFault.Memory) }
     {
         if let Some(fault) = first_fault(&relation, &packets) {
             return Err(fault);
@@ -309,6 +296,19 @@ impl Network {
         }
     }
 
+    /// How many cycles lie between the due time of a packet and the cycle in which its tail was
+    /// out, if it was.
+    #[tactic(auto, unfolding(crate::specs::Latency::latency_at))]
+    pub fn latency(&self, packet: usize) -> Option<u64>
+        requires { packet < length self.now.net.packets }
+        ensures { result ≡ latency_at self.now packet }
+    {
+        match self.arrival(packet) {
+            Some(cycle) => Some(cycle.saturating_sub(u64::from(self.packet(packet).due))),
+            None => None,
+        }
+    }
+
     /// In how many of the cycles each verdict was that of an input channel, in the order of
     /// `Verdict`. The ten counts add up to the cycles (`noc_theory::counts_add_up`).
     pub fn counts(&self, router: usize, port: usize, vc: usize) -> [u64; VERDICTS]
@@ -411,8 +411,7 @@ fn equipment_of(
     packets: &[Packet],
     starts: Vec<Vec<(u32, Packet)>>,
 ) -> Result<Equipment, Memory>
-    requires some_depth { 0 < depth }
-    requires depth { depth ≤ MAX_BUFFER }
+    requires depth { (0 < depth) × (depth ≤ MAX_BUFFER) }
     requires few { length packets.now ≤ MAX_PACKETS }
     requires sendable { All IsSendable packets.now }
     requires starts { AreByNode (starts_of packets.now) (nodes_of relation.now.grid) starts.items }
@@ -446,8 +445,7 @@ fn new_routers(
     packets: &[Packet],
     starts: Vec<Vec<(u32, Packet)>>,
 ) -> Result<Vec<Router>, Memory>
-    requires some_depth { 0 < depth }
-    requires depth { depth ≤ MAX_BUFFER }
+    requires depth { (0 < depth) × (depth ≤ MAX_BUFFER) }
     requires few { length packets.now ≤ MAX_PACKETS }
     requires sendable { All IsSendable packets.now }
     requires starts { AreByNode (starts_of packets.now) (nodes_of relation.now.grid) starts.items }

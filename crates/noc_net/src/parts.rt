@@ -1,10 +1,7 @@
 //! A network taken apart: its routers, how they run, and what they answer.
 
 ghost use Rattle.std.specs.Prelude.{◌≡◌, ◌+◌, ◌*◌, ◌<◌, ◌≤◌, length};
-ghost use Rattle.noc_topo.specs.Shape.{nodes as nodes_of, ports as ports_of};
-ghost use Rattle.noc_theory.specs.Lockstep.{counts_before, findings_before};
-ghost use Rattle.noc_theory.specs.Network.{arrival_in, state_at};
-ghost use Rattle.noc_theory.specs.Progress.{last_event_before};
+ghost use Rattle.noc_net.specs.Prelude.{nodes as nodes_of, ports as ports_of, counts_before, findings_before, arrival_in, state_at, last_event_before};
 ghost use Rattle.noc_net.specs.Parts.{AreParts, run_in, setup_in};
 ghost use Rattle.noc_net.specs.Latest.{later_of};
 

@@ -1,10 +1,8 @@
 //! What a core keeps of one router.
 
 ghost use Rattle.std.specs.Prelude.{◌≡◌, ℕ, ◌<◌, ◌≤◌, ◌&&◌, [], None, false, length, map, replicate, slice_index_or, take, true, unwrap_or};
-ghost use Rattle.noc_topo.specs.Shape.{local_port};
-ghost use Rattle.noc_view.specs.View.{View, idle_beat};
+ghost use Rattle.noc_net.specs.Prelude.{local_port, View, idle_beat, Setup};
 ghost use Rattle.noc_theory.specs.Core.{all_have, post_after_last_put, may_decide, may_put, may_take, none_has, putting, receiving, taking};
-ghost use Rattle.noc_theory.specs.Network.{Setup};
 ghost use Rattle.noc_net.specs.Room.{front_of, opened_post, post_of, rests_at, unput_for, wires_in};
 
 use crate::wire::Wire;

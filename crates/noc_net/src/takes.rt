@@ -1,8 +1,7 @@
 //! A router takes what came to it.
 
 ghost use Rattle.std.specs.Prelude.{◌≡◌};
-ghost use Rattle.noc_view.specs.View.{IsRelationOf, view_after_takes};
-ghost use Rattle.noc_theory.specs.Halves.{IsLinked, IsSilent, incoming};
+ghost use Rattle.noc_net.specs.Prelude.{IsRelationOf, view_after_takes, IsLinked, IsSilent, incoming};
 
 use noc_packet::Beat;
 use noc_route::Relation;

@@ -1,7 +1,6 @@
 //! One wire of a core.
 
-ghost use Rattle.std.specs.Prelude.{◌≡◌, ◌<◌, ◌++◌, ◌∷◌, [], drop, if◌then◌else◌, length};
-ghost use Rattle.std.specs.List.{slice_get};
+ghost use Rattle.std.specs.Prelude.{◌≡◌, ◌<◌, ◌++◌, ◌∷◌, [], drop, if◌then◌else◌, length, slice_get};
 ghost use Rattle.noc_net.specs.Room.{wire_beats};
 
 use noc_packet::Beat;

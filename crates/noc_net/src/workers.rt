@@ -3,6 +3,7 @@
 ghost use Rattle.std.specs.Prelude.{◌≡◌, ◌≤◌, Some, length, ⊤};
 ghost use Rattle.noc_net.specs.Titles.{run_title};
 
+use crate::net_fault::LONGEST_TITLE;
 use std::alloc::AllocError;
 use std::error::Error;
 use std::fmt;
@@ -22,11 +23,11 @@ pub enum RunFault {
 }
 
 impl RunFault {
-    /// The number and the name of the fault, as its fault line has them; at most 20 bytes
-    /// (docs/FORMATS.md, "Fault lines").
+    /// The number and the name of the fault, as its fault line has them; at most `LONGEST_TITLE`
+    /// bytes (docs/FORMATS.md, "Fault lines").
     pub fn title(&self) -> &'static str
         ensures title { result.now ≡ run_title self.now }
-        ensures short { length result.now ≤ 20 }
+        ensures short { length result.now ≤ LONGEST_TITLE }
     {
         match self {
             RunFault::Memory => "1 Memory",

@@ -8,8 +8,8 @@ use Rattle.noc_commands.specs.Workers.{workers_of}
 use Rattle.noc_faults.specs.declared.fault.Fault.{Fault}
 use Rattle.noc_faults.specs.declared.fault.Fault.TheVariants.{Config}
 use Rattle.noc_faults.specs.declared.status.Status.{Status}
-use Rattle.noc_files.specs.declared.fault.InputFault.TheVariants.{Memory}
-use Rattle.noc_files.specs.declared.writing.WriteFault.{WriteFault}
+use Rattle.noc_bytes.specs.declared.input_fault.InputFault.TheVariants.{Memory}
+use Rattle.noc_bytes.specs.declared.writing.WriteFault.{WriteFault}
 use Rattle.noc_program.specs.Ending.{IsOnDevice}
 use Rattle.noc_program.specs.Telling.{IsEndOf}
 

@@ -1,7 +1,7 @@
 -- How an answer ends that was written through a buffer, and the program with it.
 use Rattle.std.specs.Prelude.{◌≡◌, ◌⊎◌, ◌≤◌, ℕ, List, Option, Result, Ok, Err, take}
 use Rattle.std.specs.Io.KnownBytes.{Appends}
-use Rattle.noc_files.specs.declared.writing.WriteFault.{WriteFault}
+use Rattle.noc_bytes.specs.declared.writing.WriteFault.{WriteFault}
 use Rattle.noc_faults.specs.declared.fault.Fault.{Fault}
 use Rattle.noc_faults.specs.declared.fault.Fault.TheVariants.{Write}
 use Rattle.noc_faults.specs.declared.status.Status.{Status}

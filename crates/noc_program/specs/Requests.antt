@@ -9,12 +9,12 @@ use Rattle.noc_cli.specs.Args.{IsAskedBy, IsRefusal}
 use Rattle.noc_cli.specs.declared.args.Args.{Args}
 use Rattle.noc_commands.specs.Workers.{HasWorkers}
 use Rattle.noc_commands.specs.declared.command.Command.TheVariants.{Joined}
-use Rattle.noc_files.specs.declared.fault.InputFault.{InputFault}
-use Rattle.noc_files.specs.declared.fault.InputFault.TheVariants.{ReadFailed}
-use Rattle.noc_program.specs.declared.request.Asked.{Asked}
-use Rattle.noc_program.specs.declared.request.Asked.TheVariants.{Answer, Version}
-use Rattle.noc_program.specs.declared.request.Refusal.{Refusal}
-use Rattle.noc_program.specs.declared.request.Refusal.TheVariants as refusal
+use Rattle.noc_bytes.specs.declared.input_fault.InputFault.{InputFault}
+use Rattle.noc_bytes.specs.declared.input_fault.InputFault.TheVariants.{ReadFailed}
+use Rattle.noc_program.specs.declared.arguments.Asked.{Asked}
+use Rattle.noc_program.specs.declared.arguments.Asked.TheVariants.{Answer, Version}
+use Rattle.noc_program.specs.declared.arguments.Refusal.{Refusal}
+use Rattle.noc_program.specs.declared.arguments.Refusal.TheVariants as refusal
 
 -- these words, of which the first is the program's name, make this request: without another word
 -- that of a joined text; else they name its command, and which files it has

@@ -11,8 +11,8 @@ use Rattle.noc_faults.specs.declared.fault.Fault.TheVariants.{Config, Write}
 use Rattle.noc_faults.specs.declared.status.Status.{Status}
 use Rattle.noc_faults.specs.declared.status.Status.TheVariants.{Done}
 use Rattle.noc_files.specs.Writing.{Wrote}
-use Rattle.noc_files.specs.declared.fault.InputFault.TheVariants.{Memory}
-use Rattle.noc_files.specs.declared.writing.WriteFault.{WriteFault}
+use Rattle.noc_bytes.specs.declared.input_fault.InputFault.TheVariants.{Memory}
+use Rattle.noc_bytes.specs.declared.writing.WriteFault.{WriteFault}
 use Rattle.noc_program.specs.Requests.{Asks as AsksFor, AsksForVersion}
 
 -- the exit status is that of the answer, and the line of a fault is written

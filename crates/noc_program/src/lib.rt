@@ -2,15 +2,15 @@
 //! and the way of an answer out of the program.
 #![tactic(auto)]
 
+mod arguments;
 mod counted;
 mod device;
-mod faults;
 mod program;
-mod request;
+mod telling;
 mod version;
 
+pub use arguments::{Refusal, request_of};
 pub use device::{write_answer, write_answer_one};
-pub use faults::report;
 pub use program::{run, run_args};
-pub use request::{Refusal, request_of};
+pub use telling::report;
 pub use version::write_version;

@@ -7,9 +7,9 @@ ghost use Rattle.noc_program.specs.Ending.{IsExitStatus};
 ghost use Rattle.noc_program.specs.Requests.{IsRefusedAs};
 ghost use Rattle.noc_program.specs.Telling.{HasEnded, TellsVersion, WasAnswered};
 
+use crate::arguments::{Asked, Refusal, all_args, parse_args};
 use crate::device::answer_on;
-use crate::faults::{report, report_refusal};
-use crate::request::{Asked, Refusal, all_args, parse_args};
+use crate::telling::{report, report_refusal};
 use crate::version::write_version;
 use noc_answers::Request;
 use noc_faults::{Fault, Status};

@@ -1,7 +1,7 @@
 use Rattle.std.proofs.Common.{◌≡◌, Option, Some, None, Ok, Err, Result, refl, ap, sym, ◌∙◌, inl, inr}
 use Rattle.noc_net.specs.Faults.{fault_of}
 use Rattle.noc_theory.specs.Network.{Run}
-use Rattle.noc_net.specs.declared.fault.NetFault.{NetFault}
+use Rattle.noc_net.specs.declared.net_fault.NetFault.{NetFault}
 use Rattle.noc_answers.specs.Run.{IsUnmade, bad_network, bad_traffic}
 use Rattle.noc_answers.proofs.run.network_of.Goals as goal
 

@@ -1,5 +1,5 @@
 use Rattle.std.proofs.Common.{◌≡◌, ℕ, Result, length, map, vec_len}
-use Rattle.noc_files.specs.declared.fault.InputFault.{InputFault}
+use Rattle.noc_bytes.specs.declared.input_fault.InputFault.{InputFault}
 use Rattle.noc_files.specs.Rows.{Fields, IsBetweenRows, rows_left}
 use Rattle.noc_files.specs.Sheet.{ReadsRows, each_from, sheet}
 use Rattle.noc_files.proofs.SheetRowLemmas.{after}

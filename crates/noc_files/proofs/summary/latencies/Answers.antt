@@ -2,7 +2,8 @@ use Rattle.std.proofs.Common.{◌≡◌, [], ◌∷◌, ◌∙◌, None, arith, 
 use Rattle.std.specs.List.{filter_map}
 use Rattle.std.proofs.lemmas.List.Sums.{fold_push, sum_by_push}
 use Rattle.noc_topo.specs.Lists.{below}
-use Rattle.noc_files.specs.Summary.{greater_of, greatest_of, latency_at}
+use Rattle.noc_net.specs.Latency.{latency_at}
+use Rattle.noc_files.specs.Summary.{greater_of, greatest_of}
 use Rattle.noc_files.proofs.BelowLemmas.{found_no_more, found_nothing, found_one}
 use Rattle.noc_files.proofs.summary.latencies.Goals as goal
 use Rattle.noc_files.proofs.summary.latencies.Goals.{in-Some, in_default}

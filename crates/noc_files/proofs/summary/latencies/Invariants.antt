@@ -1,7 +1,8 @@
 use Rattle.std.proofs.Common.{◌≡◌, ◌≤◌, ◌*◌, ◌^◌, length, sum}
 use Rattle.std.specs.List.{filter_map}
 use Rattle.noc_topo.specs.Lists.{below}
-use Rattle.noc_files.specs.Summary.{greatest_of, latency_at}
+use Rattle.noc_net.specs.Latency.{latency_at}
+use Rattle.noc_files.specs.Summary.{greatest_of}
 use Rattle.noc_files.proofs.summary.latencies.Given as goal
 
 abbrev pub invariant-loop-packet : goal.invariant-loop-packet

@@ -10,7 +10,7 @@ use Rattle.noc_files.specs.Writing.{Wrote}
 use Rattle.noc_files.proofs.BelowLemmas.{fault_at_number, long_more, took_more}
 use Rattle.noc_files.proofs.CutOffLemmas.{cut_in_cycle, cut_in_header}
 use Rattle.noc_files.proofs.PageLemmas.{added_none}
-use Rattle.noc_files.proofs.SinkLemmas.{Appends-keeps, fault_front}
+use Rattle.noc_bytes.proofs.SinkLemmas.{Appends-keeps, fault_front}
 use Rattle.noc_files.proofs.TraceCycleLemmas.{IsKept, cycle_written, next_kept, opening_kept}
 use Rattle.noc_files.proofs.trace.write_trace.Goals as goal
 

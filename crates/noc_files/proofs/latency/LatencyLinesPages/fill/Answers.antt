@@ -2,8 +2,8 @@ use Rattle.std.proofs.Common.{◌≡◌, ◌∙◌, List, ℕ, [], ◌∷◌, �
 use Rattle.std.proofs.lemmas.Option.{get_or_from_slice_get}
 use Rattle.noc_packet.specs.declared.packet.Packet.{Packet}
 use Rattle.noc_theory.specs.Network.{packet_at}
-use Rattle.noc_files.specs.Latency.{latency_line, packet_latency, packet_line}
-use Rattle.noc_files.specs.Summary.{latency_at}
+use Rattle.noc_net.specs.Latency.{latency_at, packet_latency}
+use Rattle.noc_files.specs.Latency.{latency_line, packet_line}
 use Rattle.noc_files.specs.Writing.{comma, dash_or, line_end, text_of_pieces}
 use Rattle.noc_files.proofs.latency.LatencyLinesPages.fill.Goals as goal
 

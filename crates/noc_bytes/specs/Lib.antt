@@ -1,0 +1,5 @@
+pub mod Joined
+pub mod Keys
+pub mod Reading
+pub mod Titles
+pub mod Writing

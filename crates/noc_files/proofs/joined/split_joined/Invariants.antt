@@ -1,6 +1,0 @@
-use Rattle.std.proofs.Common.{◌≡◌, ℕ, ◌<◌}
-use Rattle.noc_files.specs.Joined.{line_at}
-use Rattle.noc_files.proofs.joined.split_joined.Given as goal
-
-abbrev pub invariant-loop-at : goal.invariant-loop-at
-invariant-loop-at l = (j : ℕ) → j < l.at → line_at l.text j ≡ 0
