@@ -8,8 +8,6 @@ pub mod EffectLemmas
 pub mod PickLemmas
 pub mod PortLemmas
 pub mod ChannelLemmas
-pub mod TallyLemmas
-pub mod RepeatLemmas
 pub mod SupplyLemmas
 pub mod RouterLemmas
 pub mod PastLemmas

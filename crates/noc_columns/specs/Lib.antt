@@ -4,7 +4,6 @@ pub mod Planes
 pub mod Channels
 pub mod Steps
 pub mod Picks
-pub mod Tallies
 pub mod Supply
 pub mod Switch
 pub mod Near

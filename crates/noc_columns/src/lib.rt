@@ -36,7 +36,6 @@ mod sources;
 mod starts;
 mod supply;
 mod switch;
-mod tally;
 mod words;
 
 pub use allocation::allocate;
@@ -81,5 +80,4 @@ pub use sources::Sources;
 pub use starts::Start;
 pub use supply::{Digits, NUMBERS, Sends, look_up};
 pub use switch::{Switch, traverse};
-pub use tally::{Cycles, LEVELS, Tally};
 pub use words::{GROUP, ROUTERS, WORDS, Words, put, put_router, take_router, with_router};

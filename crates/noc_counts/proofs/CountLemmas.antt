@@ -1,18 +1,16 @@
 -- The cycles that are not added yet, and those that are.
-use Rattle.std.proofs.Common.{◌≡◌, ◌≢◌, ℕ, zero, suc, ◌+◌, ◌*◌, ◌/◌, ◌%◌, ◌^◌, ◌<◌, ◌≤◌, Bool, true, false, List, [], length, set, refl, ap, ap₂, sym, ◌∙◌, arith, add-one, add-zero, add_assoc, inl, inr, get_or-set_same, get_or-set_other}
-use Rattle.std.specs.Prelude.{slice_index_or}
-use Rattle.std.proofs.lemmas.Bool.{cases_eq}
-use mir.Val.{bool_byte}
+use Rattle.std.proofs.Common.{◌≡◌, ◌≢◌, ℕ, zero, suc, ◌+◌, ◌*◌, ◌/◌, ◌%◌, ◌^◌, ◌<◌, ◌≤◌, Bool, true, false, List, [], length, set, refl, ap, ap₂, sym, ◌∙◌, arith, add-one, add-zero, add_assoc, get_or-set_same, get_or-set_other}
+use Rattle.std.specs.Prelude.{slice_index_or, if◌then◌else◌}
 use Rattle.noc_packet.specs.Set.{has_bit}
+use Rattle.noc_packet.proofs.SetLemmas.{has_bit-zero}
 use Rattle.noc_topo.specs.Lists.{one_if}
 use Rattle.noc_columns.specs.Words.{word}
-use Rattle.noc_columns.specs.Tallies.{counted_at}
-use Rattle.noc_columns.specs.declared.tally.Tally.{Tally}
-use Rattle.noc_columns.proofs.PassLemmas.{all-next}
-use Rattle.noc_counts.specs.Counted.{HasAdded, IsNoted, IsPut, added_in, count_in, last_of, set_in}
+use Rattle.noc_counts.specs.Counted.{Begins, HasAdded, HasBegun, HasCounted, HasNoted, added_in, noted_in, set_in}
 use Rattle.noc_counts.specs.Low.{low_at, set_sum}
+use Rattle.noc_counts.specs.Tallies.{counted_at}
 use Rattle.noc_counts.specs.declared.count.Count.{Count}
 use Rattle.noc_counts.specs.declared.low.Low.{Low}
+use Rattle.noc_counts.specs.declared.tally.Tally.{Tally}
 
 pub set-none : (sets : List (List ℕ)) (j r : ℕ) → set_sum sets 0 j r ≡ 0
 unfolding set_sum
@@ -36,14 +34,7 @@ set-with sets x n j r few =
     ∙ ap₂ (λ a b. a + b) (set-same (set sets n x) sets n j r (λ k l. get_or-set_other sets n k x [] (omega arith)))
     (ap (λ (s : List ℕ). one_if (has_bit (word j s) r)) (get_or-set_same sets n x [] few))
 
--- .. where one of them is written as it was
-pub set-alike : (sets : List (List ℕ)) (k n j r : ℕ) (x : List ℕ) → x ≡ slice_index_or sets k [] → k < length sets → set_sum (set sets k x) n j r ≡ set_sum sets n j r
-set-alike sets k n j r x is few = set-same (set sets k x) sets n j r (λ i l. elim (cases_eq i k) [
-  | inl same ↦ ap (λ m. slice_index_or (set sets k x) m []) same ∙ get_or-set_same sets k x [] few ∙ is ∙ ap (λ m. slice_index_or sets m []) (sym same)
-  | inr other ↦ get_or-set_other sets k i x [] other
-])
-
--- .. with four more
+-- with four more
 pub set-more : (sets : List (List ℕ)) (n j r : ℕ) → set_sum sets (n + 4) j r
     ≡ set_sum sets n j r + one_if (has_bit (word j (slice_index_or sets n [])) r) + one_if (has_bit (word j (slice_index_or sets (n + 1) [])) r)
     + one_if (has_bit (word j (slice_index_or sets (n + 2) [])) r) + one_if (has_bit (word j (slice_index_or sets (n + 3) [])) r)
@@ -65,93 +56,117 @@ pub one-few : (b : Bool) → one_if b ≤ 1
 one-few true = omega arith
 one-few false = omega arith
 
-pub byte-is : (b : Bool) → bool_byte b ≡ one_if b
-byte-is true = refl
-byte-is false = refl
+pub one-none : (w r : ℕ) → w ≡ 0 → one_if (has_bit w r) ≡ 0
+one-none w r is = ap (λ v. one_if (has_bit v r)) is ∙ ap one_if (has_bit-zero r)
 
--- ---- the set of a cycle is noted word by word
-pub is-put : (c : Count) (slot index routers : ℕ) (row : List ℕ) → slot < length c.recent → word index row ≡ routers
-    → ((k : ℕ) → k ≢ index → word k row ≡ word k (slice_index_or c.recent slot []))
-    → IsPut slot index routers c (record c { recent = set c.recent slot row })
-is-put c slot index routers row few here others =
-    let same = get_or-set_same c.recent slot row [] few in
-    record {
-      here = ap (word index) same ∙ here;
-      words = λ k other. ap (word k) same ∙ others k other;
-      slots = λ k other. get_or-set_other c.recent slot k row [] other;
-      rest = refl;
-    }
+-- rows that have no words
+pub set-zero : (sets : List (List ℕ)) (n j r : ℕ) → ((k : ℕ) → k < n → word j (slice_index_or sets k []) ≡ 0) → set_sum sets n j r ≡ 0
+set-zero sets zero j r none = set-none sets j r
+set-zero sets (suc n) j r none =
+    let rest = set-zero sets n j r (λ k l. none k (omega arith)) in
+    let next = set-next sets n j r in
+    let last = one-none _ r (none n (omega arith)) in
+    let e : n + 1 ≡ suc n = omega arith in
+    ap (λ m. set_sum sets m j r) (sym e) ∙ (let z : set_sum sets (n + 1) j r ≡ 0 = omega (arith, rest, next, last) in z)
 
-pub noted-none : (slot : ℕ) (told : ℕ → ℕ) (c : Count) → IsNoted slot 0 told c c
-noted-none slot told c = record { here = λ j l. absurd (omega arith); slots = λ k other. refl; rest = refl }
+if-none : (b : Bool) → ◌≡◌ {A = ℕ} (if b then 0 else 0) 0
+if-none true = refl
+if-none false = refl
 
-pub noted-next : (slot i x : ℕ) (told : ℕ → ℕ) (old now new : Count) → IsNoted slot i told old now → IsPut slot i x now new → x ≡ told i → IsNoted slot (i + 1) told old new
-noted-next slot i x told old now new noted put is = record {
-  here = all-next (λ j. word j (set_in new slot) ≡ told j) i (λ k l. let other : k ≢ i = omega arith in put.words k other ∙ noted.here k l) (put.here ∙ is);
-  slots = λ k other. put.slots k other ∙ noted.slots k other;
-  rest = put.rest ∙ ap (λ (c : Count). record c { recent = new.recent }) noted.rest;
-}
+pub noted-zero : (c : Count) (j r : ℕ) → noted_in c 0 j r ≡ 0
+noted-zero c j r = ap (λ n. set_sum c.recent n j r) (if-none c.busy) ∙ set-none c.recent j r
 
--- ---- .. and counted
-module _ (cycles size : ℕ) (told : ℕ → ℕ) (old now : Count) (noted : IsNoted (cycles % 16) size told old now) (j r : ℕ) (few : j < size) (fits : cycles + 1 < 2 ^ 32) where
-  -- with the last one of its slot
-  noted-sum : set_sum now.recent (cycles % 16 + 1) j r ≡ set_sum old.recent (cycles % 16) j r + one_if (has_bit (told j) r)
-  noted-sum =
-      set-next now.recent (cycles % 16) j r
-      ∙ ap₂ (λ a b. a + b) (set-same now.recent old.recent (cycles % 16) j r (λ k l. noted.slots k (let other : k ≢ cycles % 16 = omega arith in other)))
-      (ap (λ w. one_if (has_bit w r)) (noted.here j few))
+-- ---- it is looked whether there is something to note
+module _ (slot : ℕ) (row : List ℕ) (old : Count) where
+  pub begun-now : (new : Count) → (if old.busy then slot else 0) ≡ 0 → Begins slot row old new → HasBegun slot row old new
+  begun-now new first begins =
+      let before : (j r : ℕ) → noted_in old slot j r ≡ 0 = λ j r. ap (λ n. set_sum old.recent n j r) first ∙ set-none old.recent j r in
+      record { some = λ e j r. begins.some e j r ∙ sym (before j r); none = begins.none; no_more = λ e. before; rest = begins.rest }
 
-  same-added : (times : ℕ) → added_in now times j r ≡ added_in old times j r
-  same-added times = ap (λ (c : Count). added_in c times j r) noted.rest
+  pub begun-before : (if old.busy then slot else 0) ≢ 0 → HasBegun slot row old old
+  begun-before later = record {
+    some = λ e j r. ap (λ b. set_sum old.recent (if b then slot else 0) j r) (sym e);
+    none = λ e. absurd (later (ap (λ b. if b then slot else 0) e));
+    no_more = λ e. absurd (later (ap (λ b. if b then slot else 0) e));
+    rest = refl;
+  }
+
+-- ---- a row is noted
+module _ (slot : ℕ) (row : List ℕ) (old now : Count) (begun : HasBegun slot row old now) where
+  pub noted-some : (words : List ℕ) → now.busy ≡ true → slot < length now.recent → words ≡ row → HasNoted slot row old (record now { recent = set now.recent slot words })
+  noted-some words busy few is = record {
+    counts = λ j r l.
+        ap (λ b. set_sum (set now.recent slot words) (if b then slot + 1 else 0) j r) busy
+        ∙ set-with now.recent words slot j r few
+        ∙ ap₂ (λ a (w : List ℕ). a + one_if (has_bit (word j w) r)) (begun.some busy j r) is;
+    last = λ j l.
+        ap (λ b. word j (if b then slice_index_or (set now.recent slot words) slot [] else [])) busy
+        ∙ ap (word j) (get_or-set_same now.recent slot words [] few ∙ is);
+    rest = ap (λ (c : Count). record c { recent = set now.recent slot words }) begun.rest;
+  }
+
+  pub noted-none : now.busy ≡ false → HasNoted slot row old now
+  noted-none idle = record {
+    counts = λ j r l.
+        let after : noted_in now (slot + 1) j r ≡ 0 = ap (λ b. set_sum now.recent (if b then slot + 1 else 0) j r) idle ∙ set-none now.recent j r in
+        let before = begun.no_more idle j r in
+        let one = one-none _ r (begun.none idle j l) in
+        omega (arith, after, before, one);
+    last = λ j l. ap (λ b. word j (if b then set_in now slot else [])) idle ∙ sym (begun.none idle j l);
+    rest = begun.rest;
+  }
+
+-- ---- and so a cycle is counted
+module _ (cycles : ℕ) (row : List ℕ) (old now : Count) (noted : HasNoted (cycles % 16) row old now) where
+  same-added : (times j r : ℕ) → added_in now times j r ≡ added_in old times j r
+  same-added times j r = ap (λ (c : Count). added_in c times j r) noted.rest
+
+  last-slot : (cycles + 1 + 15) % 16 ≡ cycles % 16
+  last-slot = omega arith
 
   -- where the sixteen cycles are not full
-  pub counted-next : cycles % 16 + 1 ≢ 16 → count_in now (cycles + 1) j r ≡ count_in old cycles j r + one_if (has_bit (told j) r)
-  counted-next part =
-      let same : (cycles + 1) / 16 ≡ cycles / 16 = omega arith in
-      let next : (cycles + 1) % 16 ≡ cycles % 16 + 1 = omega arith in
-      ap₂ (λ a b. a + b) (ap (λ n. added_in now n j r) same ∙ same-added (cycles / 16)) (ap (λ n. set_sum now.recent n j r) next ∙ noted-sum)
-      ∙ sym (add_assoc (added_in old (cycles / 16) j r) (set_sum old.recent (cycles % 16) j r) (one_if (has_bit (told j) r)))
+  pub counted-next : cycles % 16 + 1 ≢ 16 → HasCounted cycles row old now
+  counted-next part = record {
+    counts = λ j r l fits.
+        let same : (cycles + 1) / 16 ≡ cycles / 16 = omega arith in
+        let next : (cycles + 1) % 16 ≡ cycles % 16 + 1 = omega arith in
+        ap₂ (λ a b. a + b) (ap (λ n. added_in now n j r) same ∙ same-added (cycles / 16) j r) (ap (λ n. noted_in now n j r) next ∙ noted.counts j r l)
+        ∙ sym (add_assoc (added_in old (cycles / 16) j r) (noted_in old (cycles % 16) j r) (one_if (has_bit (word j row) r)));
+    last = λ j l. ap (λ n. word j (if now.busy then set_in now n else [])) last-slot ∙ noted.last j l;
+  }
 
   -- and where they are, and are added
-  pub counted-full : (new : Count) → cycles % 16 + 1 ≡ 16 → HasAdded size (cycles / 16) now new → count_in new (cycles + 1) j r ≡ count_in old cycles j r + one_if (has_bit (told j) r)
-  counted-full new full added =
-      let more : (cycles + 1) / 16 ≡ cycles / 16 + 1 = omega arith in
-      let none : (cycles + 1) % 16 ≡ 0 = omega arith in
-      ap₂ (λ a b. a + b)
-      (ap (λ n. added_in new n j r) more ∙ added.counts j r few (omega arith)
-      ∙ ap₂ (λ a b. a + b) (same-added (cycles / 16)) (ap (λ n. set_sum now.recent n j r) (sym full) ∙ noted-sum))
-      (ap (λ n. set_sum new.recent n j r) none ∙ set-none new.recent j r)
-      ∙ add-zero _
-      ∙ sym (add_assoc (added_in old (cycles / 16) j r) (set_sum old.recent (cycles % 16) j r) (one_if (has_bit (told j) r)))
-
--- who had it in the cycle that was counted last
-pub last-noted : (cycles size : ℕ) (told : ℕ → ℕ) (old now : Count) → IsNoted (cycles % 16) size told old now → (j : ℕ) → j < size → word j (last_of now (cycles + 1)) ≡ told j
-last-noted cycles size told old now noted j few =
-    let e : (cycles + 1 + 15) % 16 ≡ cycles % 16 = omega arith in
-    ap (λ n. word j (set_in now n)) e ∙ noted.here j few
-
-pub last-added : (cycles size times : ℕ) (told : ℕ → ℕ) (old now new : Count) → IsNoted (cycles % 16) size told old now → HasAdded size times now new → (j : ℕ) → j < size
-    → word j (last_of new (cycles + 1)) ≡ told j
-last-added cycles size times told old now new noted added j few =
-    ap (λ (sets : List (List ℕ)). word j (slice_index_or sets ((cycles + 1 + 15) % 16) [])) added.recent ∙ last-noted cycles size told old now noted j few
+  pub counted-full : (new : Count) → cycles % 16 + 1 ≡ 16 → HasAdded (cycles / 16) now new → HasCounted cycles row old new
+  counted-full new full added = record {
+    counts = λ j r l fits.
+        let more : (cycles + 1) / 16 ≡ cycles / 16 + 1 = omega arith in
+        let none : (cycles + 1) % 16 ≡ 0 = omega arith in
+        ap₂ (λ a b. a + b)
+        (ap (λ n. added_in new n j r) more ∙ added.counts j r l (omega arith)
+        ∙ ap₂ (λ a b. a + b) (same-added (cycles / 16) j r) (ap (λ n. noted_in now n j r) (sym full) ∙ noted.counts j r l))
+        (ap (λ n. noted_in new n j r) none ∙ noted-zero new j r)
+        ∙ add-zero _
+        ∙ sym (add_assoc (added_in old (cycles / 16) j r) (noted_in old (cycles % 16) j r) (one_if (has_bit (word j row) r)));
+    last = λ j l.
+        (λ x. word j (if added.busy x then slice_index_or (added.recent x) (last-slot x) [] else []))
+        ∙ noted.last j l;
+  }
 
 -- ---- sixteen cycles are added
-module _ (size times : ℕ) (c : Count) (low : Low (List ℕ)) (carry : List ℕ) (length-is : length c.carried ≡ 4)
-    (carries : (j r : ℕ) → j < size → low_at low j r + 16 * one_if (has_bit (word j carry) r) ≡ low_at c.low j r + set_sum c.recent 16 j r) where
-  carried : List (List ℕ)
-  carried = set c.carried (times % 4) carry
-
+module _ (times : ℕ) (c : Count) (low : Low (List ℕ)) (carry : List ℕ) (length-is : length c.carried ≡ 4)
+    (carries : (j r : ℕ) → j < 36 → low_at low j r + 16 * one_if (has_bit (word j carry) r) ≡ low_at c.low j r + noted_in c 16 j r) where
   carried-sum : (j r : ℕ) → set_sum (set c.carried (times % 4) carry) (times % 4 + 1) j r ≡ set_sum c.carried (times % 4) j r + one_if (has_bit (word j carry) r)
   carried-sum j r = set-with c.carried carry (times % 4) j r (omega (arith, length-is))
 
   -- where what they carry is kept
-  pub added-part : times % 4 ≢ 3 → HasAdded size times c (record c { low = low; carried = set c.carried (times % 4) carry })
+  pub added-part : times % 4 ≢ 3 → HasAdded times c (record c { low = low; carried = set c.carried (times % 4) carry })
   added-part part = record {
     counts = λ j r few fits.
         let same : (times + 1) / 4 ≡ times / 4 = omega arith in
         let next : (times + 1) % 4 ≡ times % 4 + 1 = omega arith in
-        joined (low_at low j r) (one_if (has_bit (word j carry) r)) (low_at c.low j r) (set_sum c.recent 16 j r) (counted_at c.tally (times / 4) j r) (set_sum c.carried (times % 4) j r) _ _
+        joined (low_at low j r) (one_if (has_bit (word j carry) r)) (low_at c.low j r) (noted_in c 16 j r) (counted_at c.tally (times / 4) j r) (set_sum c.carried (times % 4) j r) _ _
         (carries j r few) (ap (λ n. counted_at c.tally n j r) same) (ap (λ n. set_sum (set c.carried (times % 4) carry) n j r) next ∙ carried-sum j r);
+    busy = refl;
     recent = refl;
   }
     where
@@ -160,18 +175,19 @@ module _ (size times : ℕ) (c : Count) (low : Low (List ℕ)) (carry : List ℕ
 
   -- and where it is added too
   pub added-whole : (tally : Tally) → times % 4 ≡ 3
-      → (times / 4 + 1 < 2 ^ 30 → (j r : ℕ) → j < size → counted_at tally (times / 4 + 1) j r
+      → (times / 4 + 1 < 2 ^ 30 → (j r : ℕ) → j < 36 → counted_at tally (times / 4 + 1) j r
       ≡ counted_at c.tally (times / 4) j r + set_sum (set c.carried (times % 4) carry) 4 j r)
-      → HasAdded size times c (record c { low = low; carried = set c.carried (times % 4) carry; tally = tally })
+      → HasAdded times c (record c { low = low; carried = set c.carried (times % 4) carry; tally = tally })
   added-whole tally full adds = record {
     counts = λ j r few fits.
         let more : (times + 1) / 4 ≡ times / 4 + 1 = omega arith in
         let none : (times + 1) % 4 ≡ 0 = omega arith in
         let four : times % 4 + 1 ≡ 4 = omega arith in
-        joined (low_at low j r) (one_if (has_bit (word j carry) r)) (low_at c.low j r) (set_sum c.recent 16 j r) (counted_at c.tally (times / 4) j r) (set_sum c.carried (times % 4) j r) _ _ _
+        joined (low_at low j r) (one_if (has_bit (word j carry) r)) (low_at c.low j r) (noted_in c 16 j r) (counted_at c.tally (times / 4) j r) (set_sum c.carried (times % 4) j r) _ _ _
         (carries j r few) (ap (λ n. counted_at tally n j r) more ∙ adds (omega arith) j r few)
         (ap (λ n. set_sum (set c.carried (times % 4) carry) n j r) (sym four) ∙ carried-sum j r)
         (ap (λ n. set_sum (set c.carried (times % 4) carry) n j r) none ∙ set-none (set c.carried (times % 4) carry) j r);
+    busy = refl;
     recent = refl;
   }
     where

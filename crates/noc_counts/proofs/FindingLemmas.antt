@@ -1,28 +1,28 @@
 -- The verdicts of a channel of a router stand in the words of that channel.
-use Rattle.std.proofs.Common.{◌≡◌, ℕ, ◌+◌, ◌<◌, ◌∙◌, Bool, List, ap, sym, refl}
+use Rattle.std.proofs.Common.{◌≡◌, ℕ, ◌+◌, ◌<◌, ◌∙◌, Bool, ap, sym, refl}
 use Rattle.std.specs.Prelude.{◌&&◌}
 use Rattle.std.proofs.lemmas.Bool.{lt-ltb}
 use Rattle.noc_packet.specs.Set.{has_bit}
 use Rattle.noc_view.specs.VerdictSets.{verdict_by}
 use Rattle.noc_topo.specs.Lists.{one_if}
 use Rattle.noc_sets.specs.Counts.{ByVerdict, verdict_sets, with_verdicts}
-use Rattle.noc_columns.specs.Words.{Numbering, set_of, word}
-use Rattle.noc_columns.proofs.SetLemmas.{Term, below-members, by-term, either, leaf, set_value, sets-are, without, word_value}
+use Rattle.noc_columns.specs.Words.{Numbering, set_by, word}
+use Rattle.noc_columns.proofs.SetLemmas.{Term, below-members, below-same, by-term, either, leaf, set_value, without, word_value}
 use Rattle.noc_columns.proofs.SupplyLemmas.{member-is}
 use Rattle.noc_cycles.specs.declared.block.Block.{Block}
 use Rattle.noc_cycles.specs.declared.block.Work.{Work}
-use Rattle.noc_counts.specs.Counts.{nine_by}
 use Rattle.noc_counts.specs.Told.{told_at, told_by}
-use Rattle.noc_counts.specs.declared.nine.Nine.{Nine}
-use Rattle.noc_counts.proofs.NineLemmas.{nine-same}
+use Rattle.noc_counts.proofs.RowLemmas.{nine-same}
+
+-- a member of the set of a router, where each channel has this word
+pub member-by : (n : Numbering) (r i : ℕ) (words : ℕ → ℕ) → i < n.size → has_bit (set_by n r words) i ≡ has_bit (words (n.index i)) r
+member-by n r i words few =
+    below-members n.size (λ k. has_bit (words (n.index k)) r) i ∙ ap (λ b. b && has_bit (words (n.index i)) r) (lt-ltb i n.size few)
 
 module _ (n : Numbering) (r i : ℕ) (few : i < n.size) where
   -- a member of what is made of sets, word by word
   member-term : (t : Term) → has_bit (set_value n r t) i ≡ has_bit (word_value (n.index i) t) r
-  member-term t =
-      ap (λ s. has_bit s i) (sym (by-term n r t))
-      ∙ below-members n.size (λ k. has_bit (word_value (n.index k) t) r) i
-      ∙ ap (λ b. b && has_bit (word_value (n.index i) t) r) (lt-ltb i n.size few)
+  member-term t = ap (λ s. has_bit s i) (sym (by-term n r t)) ∙ member-by n r i (λ j. word_value j t) few
 
   module _ (b : Block) (w : Work) where
     flit-word : has_bit (told_at n b w r).no_flit i ≡ has_bit (told_by (word (n.index i)) b w).no_flit r
@@ -48,16 +48,31 @@ module _ (n : Numbering) (r i : ℕ) (few : i < n.size) where
         (sym (ap (one c.lost_input) (member-is n r i v.lost_input few))) (sym (ap (one c.lost_switch) (member-is n r i v.lost_switch few)))
 
 -- the sets of a router, where the words of its channels are told
-pub told-sets : (n : Numbering) (r : ℕ) (b : Block) (w : Work) (words : Nine (List ℕ)) → ((c : ℕ) → c < n.size → nine_by (word (n.index c)) words ≡ told_by (word (n.index c)) b w)
-    → nine_by (set_of n r) words ≡ told_at n b w r
-told-sets n r b w words is =
-    let v = w.verdicts in
-    nine-same (sets-are n r (leaf w.standing.heads) words.routed (λ c l. ap (λ (x : ByVerdict). x.routed) (is c l)))
-    (sets-are n r (leaf b.grants.granted) words.granted (λ c l. ap (λ (x : ByVerdict). x.granted) (is c l)))
-    (sets-are n r (leaf v.moved) words.moved (λ c l. ap (λ (x : ByVerdict). x.moved) (is c l)))
-    (sets-are n r (without (leaf v.active) (either (either (leaf v.no_credit) (leaf v.lost_input)) (either (leaf v.lost_switch) (leaf v.moved)))) words.no_flit (λ c l. ap (λ (x : ByVerdict). x.no_flit) (is c l)))
-    (sets-are n r (without (leaf b.inputs.waiting) (either (leaf w.standing.heads) (leaf w.lost))) words.no_idle_channel (λ c l. ap (λ (x : ByVerdict). x.no_idle_channel) (is c l)))
-    (sets-are n r (leaf w.lost) words.lost_channel (λ c l. ap (λ (x : ByVerdict). x.lost_channel) (is c l)))
-    (sets-are n r (leaf v.no_credit) words.no_credit (λ c l. ap (λ (x : ByVerdict). x.no_credit) (is c l)))
-    (sets-are n r (leaf v.lost_input) words.lost_input (λ c l. ap (λ (x : ByVerdict). x.lost_input) (is c l)))
-    (sets-are n r (leaf v.lost_switch) words.lost_switch (λ c l. ap (λ (x : ByVerdict). x.lost_switch) (is c l)))
+module _ (n : Numbering) (r : ℕ) (b : Block) (w : Work) (words : ℕ → ByVerdict) (is : (c : ℕ) → c < n.size → words (n.index c) ≡ told_by (word (n.index c)) b w) where
+  set-term : (of : ByVerdict → ℕ) (t : Term) → ((i : ℕ) → of (told_by (word i) b w) ≡ word_value i t) → set_by n r (λ j. of (words j)) ≡ set_value n r t
+  set-term of t same = below-same n.size _ _ (λ c l. ap (λ v. has_bit v r) (ap of (is c l) ∙ same (n.index c))) ∙ by-term n r t
+
+  pub told-sets : ◌≡◌ {A = ByVerdict}
+      (record {
+        routed = set_by n r (λ j. (words j).routed);
+        granted = set_by n r (λ j. (words j).granted);
+        moved = set_by n r (λ j. (words j).moved);
+        no_flit = set_by n r (λ j. (words j).no_flit);
+        no_idle_channel = set_by n r (λ j. (words j).no_idle_channel);
+        lost_channel = set_by n r (λ j. (words j).lost_channel);
+        no_credit = set_by n r (λ j. (words j).no_credit);
+        lost_input = set_by n r (λ j. (words j).lost_input);
+        lost_switch = set_by n r (λ j. (words j).lost_switch);
+      })
+      (told_at n b w r)
+  told-sets =
+      let v = w.verdicts in
+      nine-same (set-term (λ x. x.routed) (leaf w.standing.heads) (λ i. refl))
+      (set-term (λ x. x.granted) (leaf b.grants.granted) (λ i. refl))
+      (set-term (λ x. x.moved) (leaf v.moved) (λ i. refl))
+      (set-term (λ x. x.no_flit) (without (leaf v.active) (either (either (leaf v.no_credit) (leaf v.lost_input)) (either (leaf v.lost_switch) (leaf v.moved)))) (λ i. refl))
+      (set-term (λ x. x.no_idle_channel) (without (leaf b.inputs.waiting) (either (leaf w.standing.heads) (leaf w.lost))) (λ i. refl))
+      (set-term (λ x. x.lost_channel) (leaf w.lost) (λ i. refl))
+      (set-term (λ x. x.no_credit) (leaf v.no_credit) (λ i. refl))
+      (set-term (λ x. x.lost_input) (leaf v.lost_input) (λ i. refl))
+      (set-term (λ x. x.lost_switch) (leaf v.lost_switch) (λ i. refl))

@@ -1,6 +1,9 @@
+pub mod RowLemmas
 pub mod LowLemmas
+pub mod TallyLemmas
+pub mod RepeatLemmas
 pub mod CountLemmas
-pub mod NineLemmas
+pub mod GroupLemmas
 pub mod VerdictLemmas
 pub mod FoundLemmas
 pub mod FindingLemmas

@@ -1,25 +1,30 @@
-//! How often each channel of a block had one verdict.
+//! How often four channels of a block had each verdict.
 
-ghost use Rattle.std.specs.Prelude.{◌≡◌, ◌+◌, ◌*◌, ◌^◌, ◌<◌, ◌≤◌, ℕ, length};
-ghost use Rattle.noc_packet.specs.Set.{has_bit};
-ghost use Rattle.noc_topo.specs.Lists.{one_if};
-ghost use Rattle.noc_columns.specs.Tallies.{counted_at};
-ghost use Rattle.noc_columns.specs.Words.{word};
-ghost use Rattle.noc_counts.specs.Counted.{HasAdded, IsPut, count_in, last_of};
+ghost use Rattle.std.specs.Prelude.{◌≡◌, ◌+◌, ◌*◌, ◌^◌, ◌<◌, ◌≤◌, ℕ, false, length, true, if◌then◌else◌};
+ghost use Rattle.noc_columns.specs.Prelude.{has_bit, one_if, word};
+ghost use Rattle.noc_counts.specs.Counted.{Begins, HasAdded, HasBegun, HasCounted, HasNoted, count_in, last_of};
 ghost use Rattle.noc_counts.specs.Low.{low_at, set_sum};
+ghost use Rattle.noc_counts.specs.Rows.{row_of, waiting_in};
+ghost use Rattle.noc_counts.specs.Tallies.{counted_at};
+ghost use Rattle.noc_counts.specs.Told.{told_by};
 
 use crate::low::{Low, SLOTS};
-use noc_columns::{Cycles, ROUTERS, Tally, WORDS, Words, put};
+use crate::row::{GROUPS, ROW, Row, bit, row_at, some_at, waiting_in};
+use crate::tally::{Cycles, Tally};
+use noc_columns::ROUTERS;
+use noc_cycles::{Block, Work};
 
-// How often each channel of a block had one verdict.
+// How often each of four channels had each verdict.
 #[derive(Drop)]
 pub(crate) struct Count {
-    // The channels that had it in each cycle after those that were added, and in the last one.
-    recent: [Words; SLOTS],
+    // Whether one of them had a verdict since the cycles that were added, or in the last of these.
+    busy: bool,
+    // Where one had, their words of each cycle since then, and of the last one.
+    recent: [Row; SLOTS],
     // The lowest bits of how often they had it in those that were added.
-    low: Low<Words>,
+    low: Low<Row>,
     // What these have carried since what they carried was added.
-    carried: [Words; 4],
+    carried: [Row; 4],
     // The bits above.
     tally: Tally,
 }
@@ -27,38 +32,88 @@ pub(crate) struct Count {
 impl Count {
     // Nothing, from which a count may be copied to where it stands on the heap.
     pub(crate) const NONE: Count = Count {
-        recent: [[0; WORDS]; SLOTS],
-        low: Low::<Words>::NONE,
-        carried: [[0; WORDS]; 4],
+        busy: false,
+        recent: [[0; ROW]; SLOTS],
+        low: Low::<Row>::NONE,
+        carried: [[0; ROW]; 4],
         tally: Tally::NONE,
     };
 
     // No counts.
     pub(crate) fn clear(&mut self)
-        ensures { (j r : ℕ) → j < WORDS → count_in self.new 0 j r ≡ 0 }
+        ensures { (j r : ℕ) → j < ROW → count_in self.new 0 j r ≡ 0 }
     {
         self.low.clear();
         self.tally.clear();
     }
 
-    // In one of the next cycles these routers had it in a channel.
+    // Counts a cycle more of a group, where so many were counted one by one.
     #[inline(always)]
-    pub(crate) fn put(&mut self, slot: usize, index: usize, routers: u64)
-        requires slot { slot < SLOTS }
-        requires index { index < WORDS }
-        ensures { IsPut slot index routers self.old self.new }
+    pub(crate) fn count(&mut self, block: &Block, work: &Work, group: usize, cycles: u32)
+        requires { group < GROUPS }
+        ensures { HasCounted cycles (row_of (λ j. told_by (word j) block.now work.now) group)
+            self.old self.new }
     {
-        put(&mut self.recent[slot], index, routers);
+        let slot = (cycles % SLOTS as u32) as usize;
+        self.note(block, work, group, slot);
+        if slot + 1 == SLOTS {
+            self.add(cycles / SLOTS as u32);
+        }
+    }
+
+    // Notes the verdicts of a cycle, which is this one of the next sixteen.
+    #[inline(always)]
+    fn note(&mut self, block: &Block, work: &Work, group: usize, slot: usize)
+        requires group { group < GROUPS }
+        requires slot { slot < SLOTS }
+        ensures { HasNoted slot (row_of (λ j. told_by (word j) block.now work.now) group)
+            self.old self.new }
+    {
+        self.begin_if(block, work, group, slot);
+        if self.busy {
+            self.recent[slot] = row_at(block, work, group);
+        }
+    }
+
+    // Looks whether one of the channels has a verdict, if none had in the cycles before.
+    #[inline(always)]
+    fn begin_if(&mut self, block: &Block, work: &Work, group: usize, slot: usize)
+        requires group { group < GROUPS }
+        requires slot { slot < SLOTS }
+        ensures { HasBegun slot (row_of (λ j. told_by (word j) block.now work.now) group)
+            self.old self.new }
+    {
+        if slots_if(self.busy, slot) == 0 {
+            self.begin(block, work, group, slot);
+        }
+    }
+
+    // Looks whether one of the channels has a verdict. If so, none had in the cycles before.
+    #[inline(always)]
+    fn begin(&mut self, block: &Block, work: &Work, group: usize, slot: usize)
+        requires group { group < GROUPS }
+        requires slot { slot < SLOTS }
+        ensures { Begins slot (row_of (λ j. told_by (word j) block.now work.now) group)
+            self.old self.new }
+    {
+        self.busy = some_at(block, work, group, &mut self.recent[slot]);
+        if self.busy {
+            clear_rows(&mut self.recent, slot);
+        }
     }
 
     // The last sixteen cycles are added, where such were added so many times.
     #[inline(never)]
-    pub(crate) fn add(&mut self, groups: usize, times: u32)
-        requires { 4 * groups ≤ WORDS }
-        ensures { HasAdded (4 * groups) times self.old self.new }
+    fn add(&mut self, times: u32)
+        ensures { HasAdded times self.old self.new }
     {
         let slot = (times % 4) as usize;
-        self.low.add(groups, &self.recent, &mut self.carried[slot]);
+        add_if(
+            self.busy,
+            &self.recent,
+            &mut self.low,
+            &mut self.carried[slot],
+        );
         if slot == 3 {
             let [first, second, third, fourth] = &self.carried;
             let sets = Cycles {
@@ -67,86 +122,102 @@ impl Count {
                 third,
                 fourth,
             };
-            self.tally.add(groups, &sets, times / 4);
+            self.tally.add(&sets, times / 4);
         }
     }
 
-    // Counts so many cycles more that are like the last one, where so many were counted one by one.
-    pub(crate) fn repeat(&mut self, groups: usize, cycles: u32, times: u32)
-        requires { 4 * groups ≤ WORDS }
-        ensures counts { (j r : ℕ) → j < 4 * groups
-            → count_in self.old cycles j r + times < 2 ^ 32
+    // Counts so many cycles more that are like the last one, where so many were counted one by one
+    // and nothing happened in the last one.
+    pub(crate) fn repeat(&mut self, cycles: u32, times: u32)
+        ensures counts { (j r : ℕ) → j < ROW → count_in self.old cycles j r + times < 2 ^ 32
             → count_in self.new cycles j r ≡ count_in self.old cycles j r
-            + times * one_if (has_bit (word j (last_of self.old cycles)) r) }
+            + times * one_if (has_bit (word j (waiting_in (last_of self.old cycles))) r) }
         ensures last { last_of self.new cycles ≡ last_of self.old cycles }
     {
-        let slot = (cycles.wrapping_add(15) % SLOTS as u32) as usize;
-        repeat(
-            groups,
-            &mut self.low,
-            &mut self.tally,
-            &self.recent[slot],
-            times,
-        );
+        if self.busy {
+            let slot = (cycles.wrapping_add(15) % SLOTS as u32) as usize;
+            let set = waiting_in(&self.recent[slot]);
+            repeat(&mut self.low, &mut self.tally, &set, times);
+        }
     }
 
-    // How often a channel of a router had it, where so many cycles were counted one by one.
-    pub(crate) fn total(&self, index: usize, router: usize, cycles: u32) -> u64
-        requires index { index < WORDS }
+    // How often a router has the word at a place, where so many cycles were counted one by one.
+    pub(crate) fn total(&self, place: usize, router: usize, cycles: u32) -> u64
+        requires place { place < ROW }
         requires router { router < ROUTERS }
-        ensures count { result ≡ count_in self.now cycles index router }
+        ensures count { result ≡ count_in self.now cycles place router }
         ensures small { result < 2 ^ 38 }
     {
         let times = cycles / SLOTS as u32;
-        let carried = total_of(&self.carried, (times % 4) as usize, index, router);
-        let upper = self.tally.total(index, router, times / 4) + carried;
-        let recent = total_of(
-            &self.recent,
-            (cycles % SLOTS as u32) as usize,
-            index,
-            router,
-        );
-        self.low.number(index, router) + recent + 16 * upper
+        let carried = total_of(&self.carried, (times % 4) as usize, place, router);
+        let upper = self.tally.total(place, router, times / 4) + carried;
+        let slots = slots_if(self.busy, (cycles % SLOTS as u32) as usize);
+        let recent = total_of(&self.recent, slots, place, router);
+        self.low.number(place, router) + recent + 16 * upper
+    }
+}
+
+// The sets of sixteen cycles are added to the lowest bits, if some are to be. It is written what is
+// carried.
+#[inline(always)]
+fn add_if(busy: bool, sets: &[Row; SLOTS], low: &mut Low<Row>, carry: &mut Row)
+    ensures { (j r : ℕ) → j < ROW
+        → low_at low.new j r + SLOTS * one_if (has_bit (word j carry.new) r)
+        ≡ low_at low.old j r + set_sum sets.now (if busy then SLOTS else 0) j r }
+{
+    if busy {
+        low.add(sets, carry);
+    } else {
+        *carry = [0; ROW];
+    }
+}
+
+// No words in the first so many cycles.
+fn clear_rows(sets: &mut [Row; SLOTS], count: usize)
+    requires { count ≤ SLOTS }
+    ensures { (j r : ℕ) → set_sum sets.new count j r ≡ 0 }
+{
+    for slot in 0..count {
+        sets[slot] = [0; ROW];
     }
 }
 
 // One set is added so many times to the lowest bits, and to those above.
-fn repeat(groups: usize, low: &mut Low<Words>, tally: &mut Tally, set: &Words, times: u32)
-    requires { 4 * groups ≤ WORDS }
-    ensures { (before j r : ℕ) → j < 4 * groups
+fn repeat(low: &mut Low<Row>, tally: &mut Tally, set: &Row, times: u32)
+    ensures { (before j r : ℕ) → j < ROW
         → low_at low.old j r + SLOTS * counted_at tally.old before j r + times < 2 ^ 32
         → low_at low.new j r + SLOTS * counted_at tally.new before j r
         ≡ low_at low.old j r + SLOTS * counted_at tally.old before j r
         + times * one_if (has_bit (word j set.now) r) }
 {
-    let mut carry = [0; WORDS];
-    low.repeat(groups, set, times % 16, &mut carry);
-    tally.repeat(groups, &carry, 1);
+    let mut carry = [0; ROW];
+    low.repeat(set, times % 16, &mut carry);
+    tally.repeat(&carry, 1);
     if times >= 16 {
-        tally.repeat(groups, set, times / 16);
+        tally.repeat(set, times / 16);
     }
 }
 
-// In how many of the first sets, so many, a router has a channel.
-fn total_of(sets: &[Words], count: usize, index: usize, router: usize) -> u64
+// So many cycles, or none.
+#[inline(always)]
+fn slots_if(busy: bool, slots: usize) -> usize
+    ensures is { result ≡ (if busy then slots else 0) }
+    ensures few { result ≤ slots }
+{
+    if busy { slots } else { 0 }
+}
+
+// In how many of the first sets, so many, a router has a word.
+fn total_of(sets: &[Row], count: usize, place: usize, router: usize) -> u64
     requires count { count ≤ length sets.now }
-    requires index { index < WORDS }
+    requires place { place < ROW }
     requires router { router < ROUTERS }
-    ensures sum { result ≡ set_sum sets.now count index router }
+    ensures sum { result ≡ set_sum sets.now count place router }
     ensures small { result ≤ count }
 {
     let mut sum = 0;
     for slot in 0..count {
-        sum += u64::from(has(sets[slot][index], router));
+        sum += bit(sets[slot][place], router);
     }
     sum
-}
-
-// Whether a router is in a word.
-#[inline(always)]
-pub(crate) fn has(word: u64, router: usize) -> bool
-    requires { router < ROUTERS }
-    ensures { result ≡ has_bit word router }
-{
-    word >> router as u32 & 1 == 1
 }

@@ -2,17 +2,19 @@
 
 ghost use Rattle.std.specs.Prelude.{◌≡◌, ◌+◌, ◌*◌, ◌%◌, ◌^◌, ◌<◌, ◌≤◌, ℕ, IfOk, sum};
 ghost use Rattle.noc_sets.specs.Counts.{ByVerdict, RunOn, nine_counts, ten_counts, with_verdicts};
-ghost use Rattle.noc_columns.specs.Picks.{channels_of};
-ghost use Rattle.noc_columns.specs.Words.{IsWithin, Numbering, word};
-ghost use Rattle.noc_counts.specs.Counted.{count_in, last_of};
-ghost use Rattle.noc_counts.specs.Counts.{AreAdded, AreClear, AreNoted, AreSmall, IsClear, counted_in, counts_at, last_at, nine_by, numbers_of, word_counts};
+ghost use Rattle.noc_columns.specs.Prelude.{IsWithin, Numbering, channels_of, word};
+ghost use Rattle.noc_counts.specs.Counted.{HasCounted, count_in};
+ghost use Rattle.noc_counts.specs.Counts.{AreClear, AreSmall, HasRepeated, IsClear, counted_in, counts_at, last_at, numbers_of, of_group, word_counts};
+ghost use Rattle.noc_counts.specs.Rows.{row_of};
 ghost use Rattle.noc_counts.specs.Told.{told_at, told_by};
 
 use crate::count::Count;
-use crate::low::SLOTS;
 use crate::nine::Nine;
-use crate::verdicts::words_at;
-use noc_columns::{ChannelTable, Frame, ROUTERS, WORDS};
+use crate::row::{
+    GRANTED, GROUPS, LOST_CHANNEL, LOST_INPUT, LOST_SWITCH, MOVED, NO_CREDIT, NO_FLIT,
+    NO_IDLE_CHANNEL, ROUTED, ROW,
+};
+use noc_columns::{ChannelTable, Frame, GROUP, ROUTERS, WORDS};
 use noc_cycles::{Block, Work};
 use noc_packet::Memory;
 use std::alloc::Global;
@@ -20,8 +22,8 @@ use std::alloc::Global;
 /// How often each input channel of the routers of a block had each verdict.
 #[derive(Drop)]
 pub struct Counts {
-    // By verdict.
-    by: Nine<Count>,
+    // By group of four channels.
+    of: [Count; GROUPS],
     // How many cycles were counted one by one.
     cycles: u32,
 }
@@ -40,17 +42,7 @@ pub fn no_counts(alloc: Global, blocks: usize) -> Result<Vec<Counts>, Memory>
 
 // Nothing, which is copied straight to where it stands on the heap.
 const NONE: Counts = Counts {
-    by: Nine {
-        routed: Count::NONE,
-        granted: Count::NONE,
-        moved: Count::NONE,
-        no_flit: Count::NONE,
-        no_idle_channel: Count::NONE,
-        lost_channel: Count::NONE,
-        no_credit: Count::NONE,
-        lost_input: Count::NONE,
-        lost_switch: Count::NONE,
-    },
+    of: [Count::NONE; GROUPS],
     cycles: 0,
 };
 
@@ -59,61 +51,38 @@ impl Counts {
     pub fn clear(&mut self)
         ensures { IsClear self.new }
     {
-        let Nine {
-            routed,
-            granted,
-            moved,
-            no_flit,
-            no_idle_channel,
-            lost_channel,
-            no_credit,
-            lost_input,
-            lost_switch,
-        } = &mut self.by;
-        routed.clear();
-        granted.clear();
-        moved.clear();
-        no_flit.clear();
-        no_idle_channel.clear();
-        lost_channel.clear();
-        no_credit.clear();
-        lost_input.clear();
-        lost_switch.clear();
+        clear_all(&mut self.of);
         self.cycles = 0;
     }
 
     /// Counts a cycle more, after it has taken effect.
     #[inline(never)]
     pub fn count(&mut self, frame: &Frame, block: &Block, work: &Work)
-        ensures counts { (n : Numbering) (r i : ℕ) → IsWithin (4 * frame.now.groups) n → i < n.size
+        ensures counts { (n : Numbering) (r i : ℕ) → IsWithin (GROUP * frame.now.groups) n → i < n.size
             → counted_in self.old + 1 < 2 ^ 32
             → counts_at n self.new r i
             ≡ with_verdicts (told_at n block.now work.now r) i
             (counts_at n self.old r i) }
-        ensures last { (n : Numbering) (r : ℕ) → IsWithin (4 * frame.now.groups) n
+        ensures last { (n : Numbering) (r : ℕ) → IsWithin (GROUP * frame.now.groups) n
             → counted_in self.old + 1 < 2 ^ 32
             → last_at n self.new r ≡ told_at n block.now work.now r }
         ensures cycles { counted_in self.new ≡ (counted_in self.old + 1) % 2 ^ 32 }
     {
-        count_all(frame, block, work, self.cycles, &mut self.by);
+        count_all(frame, block, work, self.cycles, &mut self.of);
         self.cycles = self.cycles.wrapping_add(1);
     }
 
     /// Counts so many cycles more that are like the last one, in which nothing happened.
     pub fn repeat(&mut self, frame: &Frame, times: u32)
         ensures counts { (n : Numbering) (r i : ℕ) (before : ByVerdict)
-            → IsWithin (4 * frame.now.groups) n → i < n.size
+            → IsWithin (GROUP * frame.now.groups) n → i < n.size
             → counts_at n self.old r i ≡ with_verdicts (last_at n self.old r) i before
             → sum (nine_counts (counts_at n self.old r i)) + times < 2 ^ 32
             → RunOn times before (counts_at n self.old r i) (counts_at n self.new r i) }
         ensures last { (n : Numbering) (r : ℕ) → last_at n self.new r ≡ last_at n self.old r }
         ensures cycles { counted_in self.new ≡ counted_in self.old }
     {
-        let groups = frame.groups;
-        let cycles = self.cycles;
-        self.by.no_flit.repeat(groups, cycles, times);
-        self.by.no_idle_channel.repeat(groups, cycles, times);
-        self.by.no_credit.repeat(groups, cycles, times);
+        repeat_all(frame.groups, self.cycles, times, &mut self.of);
     }
 
     /// How often a channel of a router had each verdict after so many cycles, in the order of the
@@ -137,83 +106,64 @@ impl Counts {
     }
 
     // How often one channel of a router had each of the nine.
-    fn totals(&self, index: usize, router: usize) -> Nine<u64>
+    fn totals(&self, index: usize, router: usize) -> Nine
         requires index { index < WORDS }
         requires router { router < ROUTERS }
         ensures counts { numbers_of result ≡ word_counts self.now index router }
         ensures small { AreSmall (numbers_of result) }
     {
-        let by = &self.by;
+        let count = &self.of[index / GROUP];
+        let lane = index % GROUP;
         let cycles = self.cycles;
         Nine {
-            routed: by.routed.total(index, router, cycles),
-            granted: by.granted.total(index, router, cycles),
-            moved: by.moved.total(index, router, cycles),
-            no_flit: by.no_flit.total(index, router, cycles),
-            no_idle_channel: by.no_idle_channel.total(index, router, cycles),
-            lost_channel: by.lost_channel.total(index, router, cycles),
-            no_credit: by.no_credit.total(index, router, cycles),
-            lost_input: by.lost_input.total(index, router, cycles),
-            lost_switch: by.lost_switch.total(index, router, cycles),
+            routed: count.total(ROUTED + lane, router, cycles),
+            granted: count.total(GRANTED + lane, router, cycles),
+            moved: count.total(MOVED + lane, router, cycles),
+            no_flit: count.total(NO_FLIT + lane, router, cycles),
+            no_idle_channel: count.total(NO_IDLE_CHANNEL + lane, router, cycles),
+            lost_channel: count.total(LOST_CHANNEL + lane, router, cycles),
+            no_credit: count.total(NO_CREDIT + lane, router, cycles),
+            lost_input: count.total(LOST_INPUT + lane, router, cycles),
+            lost_switch: count.total(LOST_SWITCH + lane, router, cycles),
         }
     }
 }
 
-// Counts a cycle more, where so many were counted one by one.
-fn count_all(frame: &Frame, block: &Block, work: &Work, cycles: u32, by: &mut Nine<Count>)
-    ensures counts { (j r : ℕ) → j < 4 * frame.now.groups → cycles + 1 < 2 ^ 32
-        → nine_by (λ c. count_in c (cycles + 1) j r) by.new
-        ≡ with_verdicts (told_by (word j) block.now work.now) r
-        (nine_by (λ c. count_in c cycles j r) by.old) }
-    ensures last { (j : ℕ) → j < 4 * frame.now.groups
-        → nine_by (λ c. word j (last_of c (cycles + 1))) by.new
-        ≡ told_by (word j) block.now work.now }
+// No counts in any group.
+fn clear_all(of: &mut [Count; GROUPS])
+    ensures { (g j r : ℕ) → g < GROUPS → j < ROW → count_in (of_group of.new g) 0 j r ≡ 0 }
 {
-    let slot = (cycles % SLOTS as u32) as usize;
-    note(frame, block, work, slot, by);
-    if slot + 1 == SLOTS {
-        add_all(frame.groups, cycles / SLOTS as u32, by);
+    for group in 0..GROUPS {
+        of[group].clear();
     }
 }
 
-// Notes the verdicts of a cycle, which is this one of the next.
-fn note(frame: &Frame, block: &Block, work: &Work, slot: usize, by: &mut Nine<Count>)
-    requires { slot < SLOTS }
-    ensures { AreNoted slot (4 * frame.now.groups) (λ j. told_by (word j) block.now work.now)
-        by.old by.new }
+// Counts a cycle more in each group, where so many were counted one by one.
+#[inline(always)]
+fn count_all(frame: &Frame, block: &Block, work: &Work, cycles: u32, of: &mut [Count; GROUPS])
+    ensures { (g : ℕ) → g < frame.now.groups
+        → HasCounted cycles (row_of (λ j. told_by (word j) block.now work.now) g)
+        (of_group of.old g) (of_group of.new g) }
 {
-    for i in 0..4 * frame.groups {
-        let words = words_at(block, work, i);
-        by.routed.put(slot, i, words.routed);
-        by.granted.put(slot, i, words.granted);
-        by.moved.put(slot, i, words.moved);
-        by.no_flit.put(slot, i, words.no_flit);
-        by.no_idle_channel.put(slot, i, words.no_idle_channel);
-        by.lost_channel.put(slot, i, words.lost_channel);
-        by.no_credit.put(slot, i, words.no_credit);
-        by.lost_input.put(slot, i, words.lost_input);
-        by.lost_switch.put(slot, i, words.lost_switch);
+    for group in 0..frame.groups {
+        of[group].count(block, work, group, cycles);
     }
 }
 
-// The last sixteen cycles are added, where such were added so many times.
-fn add_all(groups: usize, times: u32, by: &mut Nine<Count>)
-    requires { 4 * groups ≤ WORDS }
-    ensures { AreAdded (4 * groups) times by.old by.new }
+// Counts so many cycles more in each group, where so many were counted one by one.
+fn repeat_all(groups: usize, cycles: u32, times: u32, of: &mut [Count; GROUPS])
+    requires { groups ≤ GROUPS }
+    ensures each { (g : ℕ) → g < groups
+        → HasRepeated cycles times (of_group of.old g) (of_group of.new g) }
+    ensures others { (g : ℕ) → groups ≤ g → of_group of.new g ≡ of_group of.old g }
 {
-    by.routed.add(groups, times);
-    by.granted.add(groups, times);
-    by.moved.add(groups, times);
-    by.no_flit.add(groups, times);
-    by.no_idle_channel.add(groups, times);
-    by.lost_channel.add(groups, times);
-    by.no_credit.add(groups, times);
-    by.lost_input.add(groups, times);
-    by.lost_switch.add(groups, times);
+    for group in 0..groups {
+        of[group].repeat(cycles, times);
+    }
 }
 
 // All ten after so many cycles: Empty in those in which no other verdict was.
-fn ten(cycles: u32, nine: &Nine<u64>) -> [u64; 10]
+fn ten(cycles: u32, nine: &Nine) -> [u64; 10]
     requires { AreSmall (numbers_of nine.now) }
     ensures { result ≡ ten_counts cycles (numbers_of nine.now) }
 {

@@ -4,18 +4,16 @@ ghost use Rattle.std.specs.Prelude.{◌≡◌, ◌+◌, ◌*◌, ◌/◌, ◌%�
 ghost use Rattle.noc_view.specs.VerdictSets.{verdict_by};
 ghost use Rattle.noc_sets.specs.Counts.{verdict_sets};
 ghost use Rattle.noc_sets.specs.Grants.{asked_of};
-ghost use Rattle.noc_columns.specs.Picks.{channels_of};
 ghost use Rattle.noc_columns.specs.Supply.{digits_by, number_in};
-ghost use Rattle.noc_columns.specs.Words.{set_of, word};
+ghost use Rattle.noc_columns.specs.Prelude.{channels_of, has_bit, set_of, word};
 ghost use Rattle.noc_cycles.specs.Held.{held_at};
 ghost use Rattle.noc_counts.specs.Counts.{numbers_of};
 ghost use Rattle.noc_counts.specs.Findings.{finding_of, out_by, outs_of, packet_by};
 ghost use Rattle.noc_counts.specs.Told.{told_at};
 
-use crate::count::has;
 use crate::nine::Nine;
 use crate::verdicts::words_at;
-use noc_columns::{ROUTERS, RouterPorts, Sends, WORDS, Words, least};
+use noc_columns::{NUMBERS, ROUTERS, RouterPorts, Sends, WORDS, Words, least};
 use noc_cycles::{Block, Pattern, Work};
 use noc_view::{Finding, Verdict};
 
@@ -70,8 +68,8 @@ pub fn granted_outs(pattern: &Pattern, block: &Block, router: usize) -> u64
 
 // The output channel with a number alone, or none.
 fn out_if(test: bool, ports: &RouterPorts, number: (usize, usize)) -> u64
-    requires port { number.0 < 8 }
-    requires vc { number.1 < 8 }
+    requires port { number.0 < NUMBERS }
+    requires vc { number.1 < NUMBERS }
     ensures { result
         ≡ (if test then 2 ^ (number.0 * ports.now.links.vcs + number.1) else 0) }
 {
@@ -130,16 +128,25 @@ fn number_of(sends: &Sends<Words>, index: usize, router: usize) -> (usize, usize
     requires router { router < ROUTERS }
     ensures port { result.0 ≡ number_in (digits_by (word index) sends.now.port) router }
     ensures vc { result.1 ≡ number_in (digits_by (word index) sends.now.vc) router }
-    ensures few_ports { result.0 < 8 }
-    ensures few_vcs { result.1 < 8 }
+    ensures few_ports { result.0 < NUMBERS }
+    ensures few_vcs { result.1 < NUMBERS }
 {
     let port = sends.port.at(index);
     let vc = sends.vc.at(index);
     (port.number(router), vc.number(router))
 }
 
+// Whether a router is in a word.
+#[inline(always)]
+fn has(word: u64, router: usize) -> bool
+    requires { router < ROUTERS }
+    ensures { result ≡ has_bit word router }
+{
+    word >> router as u32 & 1 == 1
+}
+
 // The verdict of a channel in a router, by the words of that channel.
-fn verdict_at(words: &Nine<u64>, router: usize) -> Verdict
+fn verdict_at(words: &Nine, router: usize) -> Verdict
     requires { router < ROUTERS }
     ensures { result ≡ verdict_by (verdict_sets (numbers_of words.now)) router }
 {

@@ -11,6 +11,8 @@ mod findings;
 mod laws;
 mod low;
 mod nine;
+mod row;
+mod tally;
 mod verdicts;
 
 pub use counts::{Counts, no_counts};

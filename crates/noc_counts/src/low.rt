@@ -1,13 +1,11 @@
 //! The lowest four bits of counts, to which the sets of sixteen cycles are added at once.
 
 ghost use Rattle.std.specs.Prelude.{◌≡◌, ◌≢◌, ◌+◌, ◌*◌, ◌%◌, ◌<◌, ◌≤◌, ℕ};
-ghost use Rattle.noc_packet.specs.Set.{has_bit};
-ghost use Rattle.noc_topo.specs.Lists.{one_if};
-ghost use Rattle.noc_columns.specs.Words.{word};
+ghost use Rattle.noc_columns.specs.Prelude.{has_bit, one_if, word};
 ghost use Rattle.noc_counts.specs.Low.{low_at, low_by, low_in, set_sum};
 
-use crate::count::has;
-use noc_columns::{ROUTERS, WORDS, Words, put};
+use crate::row::{ROW, Row, bit, put};
+use noc_columns::ROUTERS;
 
 // How many cycles are added at once.
 pub(crate) const SLOTS: usize = 16;
@@ -21,34 +19,33 @@ pub(crate) struct Low<T> {
     pub(crate) eights: T,
 }
 
-impl Low<Words> {
+impl Low<Row> {
     // No counts.
-    pub(crate) const NONE: Low<Words> = Low {
-        ones: [0; WORDS],
-        twos: [0; WORDS],
-        fours: [0; WORDS],
-        eights: [0; WORDS],
+    pub(crate) const NONE: Low<Row> = Low {
+        ones: [0; ROW],
+        twos: [0; ROW],
+        fours: [0; ROW],
+        eights: [0; ROW],
     };
 
     // No counts.
     pub(crate) fn clear(&mut self)
-        ensures { (j r : ℕ) → j < WORDS → low_at self.new j r ≡ 0 }
+        ensures { (j r : ℕ) → j < ROW → low_at self.new j r ≡ 0 }
     {
-        self.ones = [0; WORDS];
-        self.twos = [0; WORDS];
-        self.fours = [0; WORDS];
-        self.eights = [0; WORDS];
+        self.ones = [0; ROW];
+        self.twos = [0; ROW];
+        self.fours = [0; ROW];
+        self.eights = [0; ROW];
     }
 
     // Adds the sets of sixteen cycles. It is written what is carried.
     #[inline(always)]
-    pub(crate) fn add(&mut self, groups: usize, sets: &[Words; SLOTS], carry: &mut Words)
-        requires { 4 * groups ≤ WORDS }
-        ensures { (j r : ℕ) → j < 4 * groups
+    pub(crate) fn add(&mut self, sets: &[Row; SLOTS], carry: &mut Row)
+        ensures { (j r : ℕ) → j < ROW
             → low_at self.new j r + SLOTS * one_if (has_bit (word j carry.new) r)
             ≡ low_at self.old j r + set_sum sets.now SLOTS j r }
     {
-        for i in 0..4 * groups {
+        for i in 0..ROW {
             let added = with_sets(&self.at(i), sets, i);
             self.put(i, &added.low);
             put(carry, i, added.carry);
@@ -56,14 +53,13 @@ impl Low<Words> {
     }
 
     // Adds one set so many times. It is written what is carried.
-    pub(crate) fn repeat(&mut self, groups: usize, set: &Words, times: u32, carry: &mut Words)
-        requires groups { 4 * groups ≤ WORDS }
-        requires times { times < SLOTS }
-        ensures { (j r : ℕ) → j < 4 * groups
+    pub(crate) fn repeat(&mut self, set: &Row, times: u32, carry: &mut Row)
+        requires { times < SLOTS }
+        ensures { (j r : ℕ) → j < ROW
             → low_at self.new j r + SLOTS * one_if (has_bit (word j carry.new) r)
             ≡ low_at self.old j r + times * one_if (has_bit (word j set.now) r) }
     {
-        for i in 0..4 * groups {
+        for i in 0..ROW {
             let added = with_times(&self.at(i), set[i], times);
             self.put(i, &added.low);
             put(carry, i, added.carry);
@@ -72,23 +68,23 @@ impl Low<Words> {
 
     // The number of one channel of a router.
     pub(crate) fn number(&self, index: usize, router: usize) -> u64
-        requires index { index < WORDS }
+        requires index { index < ROW }
         requires router { router < ROUTERS }
         ensures count { result ≡ low_at self.now index router }
         ensures small { result < SLOTS }
     {
         let low = self.at(index);
-        let ones = u64::from(has(low.ones, router));
-        let twos = u64::from(has(low.twos, router));
-        let fours = u64::from(has(low.fours, router));
-        let eights = u64::from(has(low.eights, router));
+        let ones = bit(low.ones, router);
+        let twos = bit(low.twos, router);
+        let fours = bit(low.fours, router);
+        let eights = bit(low.eights, router);
         ones + 2 * twos + 4 * fours + 8 * eights
     }
 
     // The words of one channel.
     #[inline(always)]
     fn at(&self, index: usize) -> Low<u64>
-        requires { index < WORDS }
+        requires { index < ROW }
         ensures { result ≡ low_by (word index) self.now }
     {
         Low {
@@ -102,7 +98,7 @@ impl Low<Words> {
     // Writes the words of one channel.
     #[inline(always)]
     fn put(&mut self, index: usize, words: &Low<u64>)
-        requires { index < WORDS }
+        requires { index < ROW }
         ensures here { low_by (word index) self.new ≡ words.now }
         ensures others { (k : ℕ) → k ≢ index
             → low_by (word k) self.new ≡ low_by (word k) self.old }
@@ -124,8 +120,8 @@ struct Added {
 // One channel with its sets of sixteen cycles. (Where they carry from the second bit, four cycles
 // at a time, is added to the third.)
 #[inline(always)]
-fn with_sets(low: &Low<u64>, sets: &[Words; SLOTS], index: usize) -> Added
-    requires { index < WORDS }
+fn with_sets(low: &Low<u64>, sets: &[Row; SLOTS], index: usize) -> Added
+    requires { index < ROW }
     ensures { (r : ℕ) → low_in result.low r + SLOTS * one_if (has_bit result.carry r)
         ≡ low_in low.now r + set_sum sets.now SLOTS index r }
 {
@@ -162,9 +158,9 @@ struct Two {
 
 // Two bits of one channel with its sets of four cycles, from this one on.
 #[inline(always)]
-fn with_slots(low: u64, high: u64, sets: &[Words; SLOTS], slot: usize, index: usize) -> Two
+fn with_slots(low: u64, high: u64, sets: &[Row; SLOTS], slot: usize, index: usize) -> Two
     requires slot { slot + 4 ≤ SLOTS }
-    requires index { index < WORDS }
+    requires index { index < ROW }
     ensures { (r : ℕ) → one_if (has_bit result.low r) + 2 * one_if (has_bit result.high r)
         + 4 * one_if (has_bit result.carry r) + set_sum sets.now slot index r
         ≡ one_if (has_bit low r) + 2 * one_if (has_bit high r)

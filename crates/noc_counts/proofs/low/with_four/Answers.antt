@@ -1,4 +1,4 @@
-use Rattle.noc_columns.proofs.TallyLemmas.{added-four}
+use Rattle.noc_counts.proofs.TallyLemmas.{added-four}
 use Rattle.noc_counts.proofs.low.with_four.Goals as goal
 
 pub returns : goal.returns

@@ -1,0 +1,74 @@
+-- The words of a group of four channels, verdict by verdict.
+use Rattle.std.proofs.Common.{◌≡◌, ◌≢◌, ◌⊎◌, ℕ, zero, suc, ◌+◌, ◌*◌, ◌/◌, ◌%◌, ◌<◌, ◌≤◌, false, List, [], refl, ap, sym, ◌∙◌, arith, bit_or, inl, inr}
+use Rattle.std.specs.Prelude.{◌&&◌, nat_eq, not}
+use Rattle.std.proofs.lemmas.Bool.{cases_eq, false≢true, ne_eqb}
+use Rattle.std.proofs.lemmas.Nat.{le_or_l, le_or_r}
+use Rattle.std.proofs.lemmas.List.{get_or-replicate}
+use Rattle.noc_packet.specs.Set.{has_bit}
+use Rattle.noc_packet.proofs.SetLemmas.{has_bit-zero}
+use Rattle.noc_sets.specs.Counts.{ByVerdict, nine_counts, no_counts}
+use Rattle.noc_sets.specs.Sets.{less}
+use Rattle.noc_sets.proofs.MemberLemmas.{less_members, same-word}
+use Rattle.noc_columns.specs.Words.{word}
+use Rattle.noc_counts.specs.Rows.{by_lane, row_of, row_with, waiting_in}
+
+pub nine-same : {a b c d e f g h i p q r s t u v w x : ℕ} → a ≡ p → b ≡ q → c ≡ r → d ≡ s → e ≡ t → f ≡ u → g ≡ v → h ≡ w → i ≡ x
+    → ◌≡◌ {A = ByVerdict}
+    (record { routed = a; granted = b; moved = c; no_flit = d; no_idle_channel = e; lost_channel = f; no_credit = g; lost_input = h; lost_switch = i })
+    (record { routed = p; granted = q; moved = r; no_flit = s; no_idle_channel = t; lost_channel = u; no_credit = v; lost_input = w; lost_switch = x })
+nine-same ea eb ec ed ee ef eg eh ei = rw (ea, eb, ec, ed, ee, ef, eg, eh, ei) refl
+
+pub left-none : (a b : ℕ) → bit_or a b ≡ 0 → a ≡ 0
+left-none a b e = let l : a ≤ bit_or a b = le_or_l a b in omega (arith, e, l)
+
+pub right-none : (a b : ℕ) → bit_or a b ≡ 0 → b ≡ 0
+right-none a b e = let l : b ≤ bit_or a b = le_or_r a b in omega (arith, e, l)
+
+less-zero : (a : ℕ) → less 0 a ≡ 0
+less-zero a = same-word _ 0 (λ k. less_members 0 a k ∙ ap (λ b. b && not (has_bit a k)) (has_bit-zero k) ∙ sym (has_bit-zero k))
+
+pub less-none : (a b : ℕ) → a ≡ 0 → less a b ≡ 0
+less-none a b e = ap (λ n. less n b) e ∙ less-zero b
+
+pub is-none : (x : ℕ) → not (nat_eq x 0) ≡ false → x ≡ 0
+is-none x e = at (cases_eq x 0)
+  where
+    at : (x ≡ 0) ⊎ (x ≢ 0) → x ≡ 0
+    at (inl zero-is) = zero-is
+    at (inr other) = absurd (false≢true (sym e ∙ ap not (ne_eqb x 0 other)))
+
+-- what is told of the places of a channel
+pub lane-same : (f g : ℕ → ℕ) (l : ℕ) → l < 4 → ((p : ℕ) → p < 36 → f p ≡ g p) → by_lane f l ≡ by_lane g l
+lane-same f g l few same =
+    nine-same (same (8 + l) (omega arith)) (same (12 + l) (omega arith)) (same (16 + l) (omega arith)) (same (0 + l) (omega arith)) (same (4 + l) (omega arith))
+    (same (20 + l) (omega arith)) (same (24 + l) (omega arith)) (same (28 + l) (omega arith)) (same (32 + l) (omega arith))
+
+-- the words of a channel of a group are those that are told of it
+pub lane-of : (told : ℕ → ByVerdict) (j : ℕ) → by_lane (λ p. word p (row_of told (j / 4))) (j % 4) ≡ told j
+lane-of told j = at (j % 4) (omega arith) (omega arith)
+  where
+    at : (l : ℕ) → l < 4 → j ≡ 4 * (j / 4) + l → by_lane (λ p. word p (row_of told (j / 4))) l ≡ told j
+    at zero few e = ap told (let i : 4 * (j / 4) ≡ j = omega (arith, e) in i)
+    at (suc zero) few e = ap told (let i : 4 * (j / 4) + 1 ≡ j = omega (arith, e) in i)
+    at (suc (suc zero)) few e = ap told (let i : 4 * (j / 4) + 2 ≡ j = omega (arith, e) in i)
+    at (suc (suc (suc zero))) few e = ap told (let i : 4 * (j / 4) + 3 ≡ j = omega (arith, e) in i)
+    at (suc (suc (suc (suc l)))) few e = absurd (omega arith)
+
+-- where nothing is told of any
+pub row-none : (a b c d : ByVerdict) → a ≡ no_counts → b ≡ no_counts → c ≡ no_counts → d ≡ no_counts
+    → (j : ℕ) → j < 36 → word j (row_with (nine_counts a) (nine_counts b) (nine_counts c) (nine_counts d)) ≡ 0
+row-none a b c d ea eb ec ed j few =
+    (λ x. word j (row_with (nine_counts (ea x)) (nine_counts (eb x)) (nine_counts (ec x)) (nine_counts (ed x)))) ∙ get_or-replicate 36 j 0 0 few
+
+-- the words of the three verdicts in which nothing happens
+pub lane-waiting : (row : List ℕ) (l : ℕ) → l < 4
+    → by_lane (λ p. word p (waiting_in row)) l
+    ≡ record { routed = 0; granted = 0; moved = 0; no_flit = word (0 + l) row; no_idle_channel = word (4 + l) row; lost_channel = 0; no_credit = word (24 + l) row; lost_input = 0; lost_switch = 0 }
+lane-waiting row zero few = refl
+lane-waiting row (suc zero) few = refl
+lane-waiting row (suc (suc zero)) few = refl
+lane-waiting row (suc (suc (suc zero))) few = refl
+lane-waiting row (suc (suc (suc (suc l)))) few = absurd (omega arith)
+
+pub none-waiting : (j : ℕ) → j < 36 → word j (waiting_in []) ≡ 0
+none-waiting j few = get_or-replicate 36 j 0 0 few

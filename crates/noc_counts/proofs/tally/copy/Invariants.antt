@@ -1,0 +1,6 @@
+use Rattle.noc_columns.specs.Words.{word}
+use Rattle.noc_columns.proofs.PassLemmas.{IsPassed}
+use Rattle.noc_counts.proofs.tally.copy.Given as goal
+
+abbrev pub invariant-loop-i : goal.invariant-loop-i
+invariant-loop-i l = IsPassed (λ k. word k l.from) (λ k. word k l.fn.to) (λ k. word k l.to) l.i
