@@ -25,7 +25,7 @@ use Rattle.noc_engine.specs.Shows.{arrival_by, has_block, has_router}
 use Rattle.noc_engine.specs.Tiles.{AreNotesOf, HasRunBlock, HasRunTile, IsTold, granted_in, left_at, left_of}
 use Rattle.noc_engine.specs.declared.plan.Plan.{Plan}
 use Rattle.noc_engine.specs.declared.tile.Tile.{Tile}
-use Rattle.noc_engine.specs.declared.told.Told.{Told}
+use Rattle.noc_engine.specs.declared.exchange.Told.{Told}
 use Rattle.noc_engine.proofs.ListLemmas.{block-of, place-of, read, there}
 use Rattle.noc_engine.proofs.WholeLemmas.{block-is}
 use Rattle.noc_engine.proofs.TileLemmas.{same-routers}

@@ -20,10 +20,9 @@ use Rattle.noc_theory_bits.specs.Network.{AreArrivals, IsLastAfter, IsOwn, numbe
 use Rattle.noc_theory_bits.specs.Owners.{granted_to}
 use Rattle.noc_theory_bits.specs.Sends.{Sends}
 use Rattle.noc_columns.proofs.PickLemmas.{some-each}
-use Rattle.noc_columns.proofs.SetLemmas.{below-members, below-same}
-use Rattle.noc_columns.specs.Channels.{links_by}
-use Rattle.noc_columns.specs.Picks.{channels_of, links_of}
-use Rattle.noc_columns.specs.Words.{set_of, word}
+use Rattle.noc_columns.proofs.SetLemmas.{below-members}
+use Rattle.noc_columns.specs.Picks.{channels_of}
+use Rattle.noc_columns.specs.Words.{word}
 use Rattle.noc_columns.specs.declared.channels.Links.{Links}
 use Rattle.noc_columns.specs.declared.due.TheConstants.{NEVER}
 use Rattle.noc_columns.specs.declared.ports.RouterPorts.{RouterPorts}

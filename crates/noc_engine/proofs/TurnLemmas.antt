@@ -26,7 +26,7 @@ use Rattle.noc_columns.specs.Picks.{channels_of}
 use Rattle.noc_columns.specs.Routing.{AreRoutable, IsOfPorts, header_of, sets_by}
 use Rattle.noc_columns.specs.Sources.{start_by, starts_by}
 use Rattle.noc_columns.specs.Supply.{digits_by, number_in}
-use Rattle.noc_columns.specs.Words.{set_of, word}
+use Rattle.noc_columns.specs.Words.{set_of}
 use Rattle.noc_columns.specs.declared.channels.Links.{Links}
 use Rattle.noc_columns.specs.declared.header.Header.{Header}
 use Rattle.noc_columns.specs.declared.starts.Start.{Start}

@@ -6,3 +6,4 @@ pub mod Opened
 pub mod Runs
 pub mod Finds
 pub mod Tiles
+pub mod Prelude

@@ -1,16 +1,11 @@
 //! Tiles that are cut, and joined again.
 
 ghost use Rattle.std.specs.Prelude.{◌≡◌, ℕ, ◌+◌, ◌/◌, ◌<◌, ◌≤◌, IfOk, OnOk, length, slice_index, if◌then◌else◌};
-ghost use Rattle.noc_theory.specs.Network.{Setup};
-ghost use Rattle.noc_columns.specs.Routing.{header_in};
-ghost use Rattle.noc_columns.specs.declared.words.TheConstants.{ROUTERS};
-ghost use Rattle.noc_engine.specs.Shows.{has_block};
-ghost use Rattle.noc_engine.specs.Tiles.{HasBehind, IsCut, IsJoined, Shows};
-ghost use Rattle.noc_engine.specs.declared.plan.Plan.{Plan};
+ghost use Rattle.noc_engine.specs.Prelude.{HasBehind, IsCut, IsJoined, Plan, Setup, Shows, has_block, header_in};
 
+use crate::exchange::nothing_left;
 use crate::plan::Plan;
 use crate::tile::Tile;
-use crate::told::nothing_left;
 use noc_columns::{Header, ROUTERS};
 use noc_packet::Memory;
 use std::alloc::Global;

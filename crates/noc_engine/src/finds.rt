@@ -1,12 +1,7 @@
 //! What the routers of all blocks find in a cycle.
 
 ghost use Rattle.std.specs.Prelude.{◌≡◌, ℕ, ◌+◌, ◌*◌, ◌/◌, ◌%◌, ◌<◌, ◌≤◌, Some, length, slice_get};
-ghost use Rattle.noc_view.specs.Found.{finding_at};
-ghost use Rattle.noc_columns.specs.declared.sets.TheConstants.{CHANNELS};
-ghost use Rattle.noc_columns.specs.declared.words.TheConstants.{ROUTERS};
-ghost use Rattle.noc_cycles.specs.declared.block.Block.{Block};
-ghost use Rattle.noc_cycles.specs.declared.block.Work.{Work};
-ghost use Rattle.noc_engine.specs.Finds.{HaveFindings, found_at};
+ghost use Rattle.noc_engine.specs.Prelude.{Block, HaveFindings, Work, finding_at, found_at};
 
 use crate::plan::Plan;
 use noc_columns::{CHANNELS, ROUTERS};

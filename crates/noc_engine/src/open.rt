@@ -1,26 +1,12 @@
 //! A network by blocks before its first cycle.
 
 ghost use Rattle.std.specs.Prelude.{◌≡◌, ◌*◌, ◌≤◌, ◌<◌, ◌^◌, ℕ, All, IfOk, length, map};
-ghost use Rattle.noc_topo.specs.Shape.{nodes};
-ghost use Rattle.noc_topo.specs.declared.limits.TheConstants.{MAX_NODES};
-ghost use Rattle.noc_packet.specs.ByNode.{starts_of};
-ghost use Rattle.noc_packet.specs.Packet.{IsWithinLimits};
-ghost use Rattle.noc_packet.specs.declared.limits.TheConstants.{MAX_BUFFER, MAX_PACKETS};
-ghost use Rattle.noc_sets.specs.Cycle.{Router};
-ghost use Rattle.noc_theory.specs.Good.{IsGoodSetup};
-ghost use Rattle.noc_theory.specs.Network.{Setup};
-ghost use Rattle.noc_theory_bits.specs.Starts.{starts_list};
-ghost use Rattle.noc_columns.specs.Routing.{header_of};
-ghost use Rattle.noc_columns.specs.Sources.{starts_by};
-ghost use Rattle.noc_columns.specs.declared.words.TheConstants.{ROUTERS};
-ghost use Rattle.noc_queues.specs.Queues.{AreByNode, IsKept};
-ghost use Rattle.noc_engine.specs.Opened.{IsMadeFrom, IsOpenedTile};
-ghost use Rattle.noc_engine.specs.Shows.{IsPlanOf, ShowsAt};
+ghost use Rattle.noc_engine.specs.Prelude.{AreByNode, IsGoodSetup, IsKept, IsMadeFrom, IsOpenedTile, IsPlanOf, IsWithinLimits, MAX_BUFFER, MAX_NODES, MAX_PACKETS, Router, Setup, ShowsAt, header_of, nodes, starts_by, starts_list, starts_of};
 
 use crate::engine::Engine;
+use crate::exchange::nothing_left;
 use crate::plan::Plan;
 use crate::tile::Tile;
-use crate::told::nothing_left;
 use noc_columns::{CHANNELS, Header, NEVER, ROUTERS, Start};
 use noc_counts::no_counts;
 use noc_cycles::{First, Pattern, all_around, empty_works, open_blocks, room_for_notes};

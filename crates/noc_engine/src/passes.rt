@@ -2,23 +2,7 @@
 //! them.
 
 ghost use Rattle.std.specs.Prelude.{◌≡◌, ℕ, ◌+◌, ◌*◌, ◌<◌, ◌≤◌, Option, Some, length, true, slice_get, slice_index};
-ghost use Rattle.noc_packet.specs.Set.{has_bit};
-ghost use Rattle.noc_sets.specs.Cycle.{Router, Turn};
-ghost use Rattle.noc_theory.specs.Good.{IsGoodSetup};
-ghost use Rattle.noc_theory.specs.Network.{Setup};
-ghost use Rattle.noc_columns.specs.Channels.{links_by};
-ghost use Rattle.noc_columns.specs.Heads.{packet_in};
-ghost use Rattle.noc_columns.specs.Picks.{channels_of};
-ghost use Rattle.noc_columns.specs.Words.{set_of, word};
-ghost use Rattle.noc_columns.specs.declared.words.TheConstants.{ROUTERS, WORDS};
-ghost use Rattle.noc_counts.specs.declared.counts.Counts.{Counts};
-ghost use Rattle.noc_cycles.specs.Concluding.{HaveArrived};
-ghost use Rattle.noc_cycles.specs.Told.{HaveRoom};
-ghost use Rattle.noc_cycles.specs.declared.block.Block.{Block};
-ghost use Rattle.noc_cycles.specs.declared.block.Work.{Work};
-ghost use Rattle.noc_cycles.specs.declared.pattern.Pattern.{Pattern};
-ghost use Rattle.noc_engine.specs.Passes.{AreAllNotes, HasCounted, HaveGathered, HaveTurned, MayTurnAll, TellAll, TellLeaving, arrived_of, packets_of};
-ghost use Rattle.noc_engine.specs.Shows.{IsPlanOf};
+ghost use Rattle.noc_engine.specs.Prelude.{AreAllNotes, Block, Counts, HasCounted, HaveArrived, HaveGathered, HaveRoom, HaveTurned, IsGoodSetup, IsPlanOf, MayTurnAll, Pattern, Router, Setup, TellAll, TellLeaving, Turn, Work, arrived_of, channels_of, has_bit, packet_in, packets_of, set_of};
 
 use crate::plan::Plan;
 use crate::turn::{Cycle, turn};

@@ -1,8 +1,7 @@
 //! A network runs.
 
 ghost use Rattle.std.specs.Prelude.{◌≡◌, ℕ, ◌+◌, ◌<◌, ◌≤◌};
-ghost use Rattle.noc_theory.specs.Network.{Setup};
-ghost use Rattle.noc_engine.specs.Runs.{AreFindings, MayRun, ShowsRun};
+ghost use Rattle.noc_engine.specs.Prelude.{AreFindings, MayRun, Setup, ShowsRun};
 
 use crate::engine::Engine;
 use noc_columns::CHANNELS;

@@ -1,12 +1,8 @@
 //! One cycle of a network.
 
 ghost use Rattle.std.specs.Prelude.{◌≡◌, ℕ, ◌*◌, ◌≤◌, length};
-ghost use Rattle.noc_topo.specs.Shape.{nodes};
-ghost use Rattle.noc_sets.specs.Cycle.{Router};
-ghost use Rattle.noc_theory.specs.Network.{Setup};
-ghost use Rattle.noc_columns.specs.declared.sets.TheConstants.{CHANNELS};
-ghost use Rattle.noc_engine.specs.Runs.{AreFindings};
-ghost use Rattle.noc_engine.specs.Steps.{HasStepped, MayStep};
+ghost use Rattle.noc_engine.specs.Steps.{HasStepped};
+ghost use Rattle.noc_engine.specs.Prelude.{AreFindings, CHANNELS, MayStep, Router, Setup, nodes};
 
 use crate::engine::Engine;
 use crate::finds::find_all;

@@ -1,14 +1,11 @@
 //! A tile of a network: some of its blocks, side by side.
 
 ghost use Rattle.std.specs.Prelude.{◌≡◌, ℕ, ◌+◌, ◌<◌, ◌≤◌, ◌||◌, Bool, false, true, length, nat_eq, vec_capacity, if◌then◌else◌};
-ghost use Rattle.noc_sets.specs.Cycle.{Router, Turn};
-ghost use Rattle.noc_theory.specs.Network.{Setup};
-ghost use Rattle.noc_engine.specs.Shows.{has_block};
-ghost use Rattle.noc_engine.specs.Tiles.{AreNear, HasRunTile, HasStepped, HasTurnedTile, IsTold, MayRunTile};
+ghost use Rattle.noc_engine.specs.Prelude.{AreNear, HasRunTile, HasStepped, HasTurnedTile, IsTold, MayRunTile, Router, Setup, Turn, has_block};
 
+use crate::exchange::Told;
 use crate::passes::{arrive_blocks, count_all, gather_all, keep, tell_all, turn_all};
 use crate::plan::Plan;
-use crate::told::Told;
 use crate::turn::Cycle;
 use noc_columns::{Links, Words};
 use noc_counts::Counts;

@@ -1,14 +1,7 @@
 //! The turn of a block in a cycle.
 
 ghost use Rattle.std.specs.Prelude.{◌≡◌, ℕ, ◌||◌, not, bit_or, nat_eq};
-ghost use Rattle.noc_packet.specs.Set.{has_bit};
-ghost use Rattle.noc_sets.specs.Cycle.{Router, Turn};
-ghost use Rattle.noc_sets.specs.Unions.{some_below};
-ghost use Rattle.noc_theory.specs.Network.{Setup};
-ghost use Rattle.noc_columns.specs.Picks.{channels_of};
-ghost use Rattle.noc_columns.specs.Words.{set_of};
-ghost use Rattle.noc_columns.specs.declared.words.TheConstants.{ROUTERS};
-ghost use Rattle.noc_engine.specs.Turns.{HasTurnedBlock, MayTurn};
+ghost use Rattle.noc_engine.specs.Prelude.{HasTurnedBlock, MayTurn, Router, Setup, Turn, channels_of, has_bit, set_of, some_below};
 
 use crate::plan::Plan;
 use noc_columns::{Links, ROUTERS, Words};
@@ -51,7 +44,14 @@ pub(crate) fn turn(
         relation: cycle.relation,
         headers: &plan.headers,
     };
-    decide(pattern, &routing, (ROUTERS * number) as u32, block, work, left);
+    decide(
+        pattern,
+        &routing,
+        (ROUTERS * number) as u32,
+        block,
+        work,
+        left,
+    );
     let leaving = conclude(pattern, block, work, left);
     work.leaving = leaving;
     does_something(pattern, comes, block, work)

@@ -1,10 +1,7 @@
 //! Time that jumps over cycles that are like the one before them.
 
-ghost use Rattle.std.specs.Prelude.{◌≡◌, ◌≢◌, ℕ, ◌+◌, ◌-◌, ◌≤◌, Some, min};
-ghost use Rattle.std.specs.List.{slice_get};
-ghost use Rattle.noc_theory.specs.Network.{Setup};
-ghost use Rattle.noc_counts.specs.declared.counts.Counts.{Counts};
-ghost use Rattle.noc_engine.specs.Runs.{HasJustRun, HasRepeated, IsNextDue, ShowsRun};
+ghost use Rattle.std.specs.Prelude.{◌≡◌, ◌≢◌, ℕ, ◌+◌, ◌-◌, ◌≤◌, Some, min, slice_get};
+ghost use Rattle.noc_engine.specs.Prelude.{Counts, HasJustRun, HasRepeated, IsNextDue, Setup, ShowsRun};
 
 use crate::engine::Engine;
 use crate::plan::Plan;

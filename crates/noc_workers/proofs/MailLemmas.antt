@@ -14,7 +14,7 @@ use Rattle.noc_engine.specs.Shows.{has_block}
 use Rattle.noc_engine.specs.Tiles.{HasRunTile}
 use Rattle.noc_engine.specs.declared.plan.Plan.{Plan}
 use Rattle.noc_engine.specs.declared.tile.Tile.{Tile}
-use Rattle.noc_engine.specs.declared.told.Told.{Told}
+use Rattle.noc_engine.specs.declared.exchange.Told.{Told}
 use Rattle.noc_engine.proofs.ListLemmas.{others, same-item, written}
 
 -- items below k are so, and the next one

@@ -7,7 +7,7 @@ use Rattle.noc_workers.specs.Rounds.{Follows, Start, start_in}
 use Rattle.noc_workers.specs.Workers.{HaveGone, IsPost, IsReadyPost, near_in, senders}
 use Rattle.noc_workers.specs.declared.mail.Mail.{Mail}
 use Rattle.noc_workers.specs.declared.post.Post.{Post}
-use Rattle.noc_engine.specs.declared.told.Told.{Told}
+use Rattle.noc_engine.specs.declared.exchange.Told.{Told}
 use Rattle.noc_engine.proofs.ListLemmas.{same-item}
 use Rattle.noc_workers.proofs.RoundLemmas.{follows, gone-more, next-from, next-of, senders-more, start-kept}
 

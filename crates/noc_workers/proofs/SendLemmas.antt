@@ -5,7 +5,7 @@ use Rattle.std.proofs.Crossing.{crosses}
 use Rattle.rtrb.proofs.producer.Producer.TheSendSync as producer_sends
 use Rattle.rtrb.proofs.consumer.Consumer.TheSendSync as consumer_sends
 use Rattle.noc_engine.proofs.tile.Tile.TheSendSync as tile_sends
-use Rattle.noc_engine.proofs.told.Told.TheSendSync as told_sends
+use Rattle.noc_engine.proofs.exchange.Told.TheSendSync as told_sends
 use Rattle.noc_workers.specs.contracts.mail.Mail as mail_type
 use Rattle.noc_workers.specs.contracts.post.Post as post_type
 use Rattle.noc_workers.specs.contracts.worker.Worker as worker_type

@@ -7,7 +7,7 @@ use Rattle.noc_engine.specs.Tiles.{HasRunTile, IsTold}
 use Rattle.noc_workers.specs.declared.mail.Mail.{Mail}
 use Rattle.noc_engine.specs.declared.plan.Plan.{Plan}
 use Rattle.noc_engine.specs.declared.tile.Tile.{Tile}
-use Rattle.noc_engine.specs.declared.told.Told.{Told}
+use Rattle.noc_engine.specs.declared.exchange.Told.{Told}
 
 -- a mail is what its blocks tell in cycle n
 abbrev pub IsMail : Setup → Plan → ℕ → Mail → Type 0

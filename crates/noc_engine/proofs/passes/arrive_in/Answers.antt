@@ -1,5 +1,4 @@
-use Rattle.std.proofs.Common.{◌≡◌, arith, slice_index, subst, sym}
-use Rattle.noc_packet.specs.Set.{has_bit}
+use Rattle.std.proofs.Common.{◌≡◌, arith, slice_index}
 use Rattle.noc_columns.specs.Heads.{packet_in}
 use Rattle.noc_columns.specs.Picks.{channels_of}
 use Rattle.noc_cycles.proofs.ArrivalLemmas.{none-arrive}

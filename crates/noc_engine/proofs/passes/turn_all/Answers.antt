@@ -35,7 +35,7 @@ loop-number-preserved c =
           let here = c.turn-happened.ensures net words (may.each n _ _ (sym (inv.blocks n (omega arith)) ∙ slice_get-get_or c.loop-number.blocks n _ l) (sym (inv.works n (omega arith)) ∙ slice_get-get_or c.loop-number.works n _ m)) in (
             with_turns (c.args.first + n) before.0 here.0,
             turned-next net c.args.cycle.now.plan.now c.args.cycle.now.number c.args.first n words before.0 here.0 c.loop-number.blocks c.loop-number.works c.loop-number.left c.loop-number.happened c.turn-happened.new.block c.turn-happened.new.work c.turn-happened.new.left c.turn-happened.result l m
-            (omega (arith, l, c.requires.left)) before.1 here.1,
+                (omega (arith, l, c.requires.left)) before.1 here.1,
           );
     }
 

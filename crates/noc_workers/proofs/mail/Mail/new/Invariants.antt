@@ -1,5 +1,5 @@
 use Rattle.std.proofs.Common.{◌≡◌, map, take}
-use Rattle.noc_engine.specs.declared.told.Told.{Told}
+use Rattle.noc_engine.specs.declared.exchange.Told.{Told}
 use Rattle.noc_workers.proofs.mail.Mail.new.Given as goal
 
 -- there are places for the blocks before this one

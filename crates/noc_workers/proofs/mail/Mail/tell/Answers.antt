@@ -1,6 +1,6 @@
 use Rattle.std.proofs.Common.{◌≡◌, ◌∙◌, List, Some, ap, arith, length, sym}
 use Rattle.std.specs.List.{slice_get}
-use Rattle.noc_engine.specs.declared.told.Told.{Told}
+use Rattle.noc_engine.specs.declared.exchange.Told.{Told}
 use Rattle.noc_engine.proofs.ListLemmas.{read}
 use Rattle.noc_workers.proofs.MailLemmas.{heard-all, heard-next}
 use Rattle.noc_workers.proofs.mail.Mail.tell.Goals as goal

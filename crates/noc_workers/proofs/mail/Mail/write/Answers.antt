@@ -3,7 +3,7 @@ use Rattle.std.specs.List.{slice_get}
 use Rattle.std.proofs.lemmas.List.{length-set}
 use Rattle.std.proofs.lemmas.Option.{slice_get-get_or, slice_get_within}
 use Rattle.noc_engine.specs.Tiles.{IsTold}
-use Rattle.noc_engine.specs.declared.told.Told.{Told}
+use Rattle.noc_engine.specs.declared.exchange.Told.{Told}
 use Rattle.noc_workers.proofs.MailLemmas.{all-done, each-next, same-blocks}
 use Rattle.noc_workers.proofs.mail.Mail.write.Goals as goal
 

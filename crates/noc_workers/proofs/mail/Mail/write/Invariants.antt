@@ -5,7 +5,7 @@ use Rattle.noc_workers.specs.Mails.{HasHeard}
 use Rattle.noc_engine.specs.Tiles.{IsTold}
 use Rattle.noc_engine.specs.declared.plan.Plan.{Plan}
 use Rattle.noc_engine.specs.declared.tile.Tile.{Tile}
-use Rattle.noc_engine.specs.declared.told.Told.{Told}
+use Rattle.noc_engine.specs.declared.exchange.Told.{Told}
 use Rattle.noc_workers.proofs.mail.Mail.write.Given as goal
 
 -- the places before this one are written

@@ -1,12 +1,7 @@
 //! What is read of a network.
 
 ghost use Rattle.std.specs.Prelude.{◌≡◌, ℕ, ◌+◌, ◌*◌, ◌<◌, length};
-ghost use Rattle.noc_topo.specs.Shape.{nodes, ports};
-ghost use Rattle.noc_theory.specs.Good.{IsGoodSetup};
-ghost use Rattle.noc_theory.specs.Lockstep.{counts_before, findings_before};
-ghost use Rattle.noc_theory.specs.Network.{Setup, arrival_in, state_at};
-ghost use Rattle.noc_theory.specs.Progress.{last_event_before};
-ghost use Rattle.noc_engine.specs.Runs.{AreFindings, ShowsRun};
+ghost use Rattle.noc_engine.specs.Prelude.{AreFindings, IsGoodSetup, Setup, ShowsRun, arrival_in, counts_before, findings_before, last_event_before, nodes, ports, state_at};
 
 use crate::engine::Engine;
 use noc_columns::{CHANNELS, NEVER, ROUTERS};

@@ -1,5 +1,5 @@
 use Rattle.std.proofs.Common.{arith}
-use Rattle.noc_engine.proofs.told.nothing_left.Goals as goal
+use Rattle.noc_engine.proofs.exchange.nothing_left.Goals as goal
 
 pub push_reserved-requires : goal.push_reserved-requires
 push_reserved-requires c = let is = c.loop.invariant in omega (arith, is.long, is.room, c.loop.left.ok.0)

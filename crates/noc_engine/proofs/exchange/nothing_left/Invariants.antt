@@ -1,5 +1,5 @@
 use Rattle.std.proofs.Common.{◌≡◌, ◌≤◌, length, vec_capacity}
-use Rattle.noc_engine.proofs.told.nothing_left.Given as goal
+use Rattle.noc_engine.proofs.exchange.nothing_left.Given as goal
 
 abbrev pub invariant-loop : goal.invariant-loop
 invariant-loop l = record {
