@@ -5,4 +5,5 @@ pub mod Rings
 pub mod Tiles
 pub mod Partition
 pub mod Phases
+pub mod Prelude
 pub mod Together

@@ -1,7 +1,7 @@
 //! The ends of the wires between tiles, and the table of the beats on a tile's wires.
 
 ghost use Rattle.std.specs.Prelude.{ℕ, ◌≡◌, ◌<◌, true, length, IsFalse, IsTrue, MatchOption};
-ghost use Rattle.noc_theory.specs.Halves.{beat_at};
+ghost use Rattle.noc_tiles.specs.Prelude.{beat_at};
 ghost use Rattle.noc_tiles.specs.Ends.{end_after_beat, inlet, outlet};
 ghost use Rattle.noc_tiles.specs.TileStep.{with_beat};
 

@@ -1,7 +1,7 @@
 //! What tiles that run apart make together.
 
 ghost use Rattle.std.specs.Prelude.{ℕ, ◌<◌};
-ghost use Rattle.noc_theory.specs.Network.{Setup};
+ghost use Rattle.noc_tiles.specs.Prelude.{Setup};
 ghost use Rattle.noc_tiles.specs.Together.{Agrees, PutsInFlight, TilesRan, Trace};
 
 /// Tiles that ran apart are where the network is in lockstep. Suppose that each tile of a network

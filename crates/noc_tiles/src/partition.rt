@@ -10,8 +10,7 @@
 //! same everywhere, and the network's own passes serve in tiles.
 
 ghost use Rattle.std.specs.Prelude.{ℕ, List, Option, ◌≡◌, ◌+◌, ◌*◌, ◌/◌, ◌%◌, ◌<◌, ◌≤◌, ◌↔◌, ◌++◌, [], ◌∷◌, Some, None, true, false, get_or, map, length, option_map, is_some, vec_len, IfOk, IfSome, IsOk, IsTrue, MatchOption, OnOk};
-ghost use Rattle.noc_topo.specs.Shape.{IsGrid, nodes as nodes_of, neighbour as neighbour_of};
-ghost use Rattle.noc_theory.specs.Halves.{beat_at};
+ghost use Rattle.noc_tiles.specs.Prelude.{IsGrid, nodes as nodes_of, neighbour as neighbour_of, beat_at};
 ghost use Rattle.noc_tiles.specs.Ends.{End, inlet, outlet};
 ghost use Rattle.noc_tiles.specs.Partition.{AreCut, IsKept, IsTileOf, IsToCut, IsUncut, own_beat};
 ghost use Rattle.noc_tiles.specs.Rings.{AreEnds, AreLeftOut, AreSlots, AreTakenIn, AreTakenOut, AreTogether, CanEmpty, Empties, GoesOutTo, IsSlot, item_at, in_slots, out_slots, tile_start, without};
@@ -92,7 +91,7 @@ impl Span<'_> {
             (neighbour_of self.now.shape.now router port) ≡ true)
             (λ p. (neighbour_of self.now.shape.now router port ≡ Some p)
             × (is_own self.now.first self.now.count p.0 ≡ false)
-            × (p.0 < nodes_of self.now.shape.now) × (p.1 < 6)) }
+            × (p.0 < nodes_of self.now.shape.now) × (p.1 < LINKS)) }
     {
         if port >= self.shape.ports() {
             return None;
@@ -107,12 +106,12 @@ impl Span<'_> {
 
     // The port with this number, where a wire comes to it at one of these routers from another one.
     fn coming(&self, k: usize) -> Option<usize>
-        requires { k < nodes_of self.now.shape.now * 6 }
+        requires { k < nodes_of self.now.shape.now * LINKS }
         ensures { MatchOption result
             (is_inside self.now.first self.now.count
-            (neighbour_of self.now.shape.now (k / 6) (k % 6)) ≡ true)
+            (neighbour_of self.now.shape.now (k / LINKS) (k % LINKS)) ≡ true)
             (λ at. (at ≡ k) × (is_inside self.now.first self.now.count
-            (neighbour_of self.now.shape.now (k / 6) (k % 6)) ≡ false)) }
+            (neighbour_of self.now.shape.now (k / LINKS) (k % LINKS)) ≡ false)) }
     {
         self.other_at(k / LINKS, k % LINKS)?;
         Some(k)
@@ -121,10 +120,10 @@ impl Span<'_> {
     // The port at which the wire arrives that goes by the port with this number, where
     // it leaves these routers.
     fn going(&self, k: usize) -> Option<usize>
-        requires { k < nodes_of self.now.shape.now * 6 }
+        requires { k < nodes_of self.now.shape.now * LINKS }
         ensures { MatchOption result
             (is_inside self.now.first self.now.count
-            (neighbour_of self.now.shape.now (k / 6) (k % 6)) ≡ true)
+            (neighbour_of self.now.shape.now (k / LINKS) (k % LINKS)) ≡ true)
             (GoesOutTo self.now.shape.now self.now.first self.now.count k) }
     {
         let (router, port) = self.other_at(k / LINKS, k % LINKS)?;
@@ -137,14 +136,15 @@ impl Span<'_> {
         alloc: Global,
         slots: &mut Vec<Option<Inlet>>,
     ) -> Result<Vec<Inlet>, AllocError>
-        requires { (m : ℕ) → self.now.first * 6 ≤ m → m < (self.now.first + self.now.count) * 6
+        requires { (m : ℕ) → self.now.first * LINKS ≤ m
+            → m < (self.now.first + self.now.count) * LINKS
             → is_inside self.now.first self.now.count
-            (neighbour_of self.now.shape.now (m / 6) (m % 6)) ≡ false
+            (neighbour_of self.now.shape.now (m / LINKS) (m % LINKS)) ≡ false
             → is_some (get_or (in_slots slots.old.items) m None) ≡ true }
         ensures taken { IfOk result (λ v. AreTakenIn self.now.shape.now self.now.first
-            self.now.count ((self.now.first + self.now.count) * 6) (in_slots slots.old.items)
+            self.now.count ((self.now.first + self.now.count) * LINKS) (in_slots slots.old.items)
             (map inlet v.items)) }
-        ensures rest { IsOk result → (m : ℕ) → (self.now.first + self.now.count) * 6 ≤ m
+        ensures rest { IsOk result → (m : ℕ) → (self.now.first + self.now.count) * LINKS ≤ m
             → get_or (in_slots slots.new.items) m None
             ≡ get_or (in_slots slots.old.items) m None }
     {
@@ -161,15 +161,15 @@ impl Span<'_> {
         alloc: Global,
         slots: &mut Vec<Option<Outlet>>,
     ) -> Result<Vec<Outlet>, AllocError>
-        requires { (k at : ℕ) → self.now.first * 6 ≤ k
-            → k < (self.now.first + self.now.count) * 6
+        requires { (k at : ℕ) → self.now.first * LINKS ≤ k
+            → k < (self.now.first + self.now.count) * LINKS
             → GoesOutTo self.now.shape.now self.now.first self.now.count k at
             → is_some (get_or (out_slots slots.old.items) at None) ≡ true }
         ensures taken { IfOk result (λ v. AreTakenOut self.now.shape.now self.now.first
-            self.now.count ((self.now.first + self.now.count) * 6) (out_slots slots.old.items)
+            self.now.count ((self.now.first + self.now.count) * LINKS) (out_slots slots.old.items)
             (map outlet v.items)) }
         ensures rest { IsOk result → AreLeftOut self.now.shape.now
-            ((self.now.first + self.now.count) * 6) (out_slots slots.old.items)
+            ((self.now.first + self.now.count) * LINKS) (out_slots slots.old.items)
             (out_slots slots.new.items) }
     {
         let mut outs = Vec::new(alloc);
@@ -209,7 +209,7 @@ fn make_rings(
 ) -> Result<(Vec<Option<Inlet>>, Vec<Option<Outlet>>), AllocError>
     requires { length beats.now ≡ nodes_of sharing.now.shape.now }
     ensures { IfOk result (λ r. AreSlots sharing.now.shape.now sharing.now.workers beats.now
-        (nodes_of sharing.now.shape.now * 6) (in_slots r.0.items) (out_slots r.1.items)) }
+        (nodes_of sharing.now.shape.now * LINKS) (in_slots r.0.items) (out_slots r.1.items)) }
 {
     let count = sharing.shape.nodes() * LINKS;
     let mut ins = Vec::with_capacity(alloc, count)?;

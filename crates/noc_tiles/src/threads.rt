@@ -6,7 +6,6 @@ ghost use Rattle.noc_net.specs.Parts.{run_in};
 ghost use Rattle.noc_tiles.specs.Faults.{fault_number};
 ghost use Rattle.noc_tiles.specs.Partition.{AddsTile, AllWhole, AreDone, IsGathered, IsKept, IsToCut};
 ghost use Rattle.noc_tiles.specs.Tiles.{AllCanRun, AllEnded};
-ghost use Rattle.noc_net.specs.declared.workers.RunFault.TheVariants.{LostWorker};
 ghost use Rattle.noc_tiles.specs.declared.tile.Tile.{Tile as tile_value};
 
 use crate::ends::{Inlet, Outlet};
@@ -39,7 +38,7 @@ pub(crate) fn run_threads<R: Threads + Wait + Sync, G: Gate>(
         → G.shuts gate.now worker (kept.now.parts.count + k) ≡ false) }
     ensures done { IfOk result (λ all. (done : List tile_value)
         × AreDone kept.now done × IsGathered all done) }
-    ensures lost { IfErr result (λ e. e ≡ LostWorker → G.opens gate.now ≡ false) }
+    ensures lost { IfErr result (λ e. e ≡ RunFault.LostWorker → G.opens gate.now ≡ false) }
 {
     let Ok(tiles) = partition(alloc, kept, routers) else {
         return Err(RunFault::Memory);
@@ -81,6 +80,23 @@ struct RunsOf<'a, G> {
     gate: &'a G,
 }
 
+impl<'a, G: Gate> RunsOf<'a, G> {
+    // What is promised of these tiles.
+    fn of(tiles: &Vec<Tile>, relation: &'a Relation, stop: &'a Stop, gate: &'a G) -> RunsOf<'a, G>
+        ensures before { result.before.value.items ≡ tiles.now.items }
+        ensures relation { result.relation.now ≡ relation.now }
+        ensures stop { result.stop.now ≡ stop.now }
+        ensures gate { result.gate.now ≡ gate.now }
+    {
+        RunsOf {
+            before: Snapshot::of(tiles),
+            relation,
+            stop,
+            gate,
+        }
+    }
+}
+
 impl<'a, G: Gate> Promise<Result<Vec<Tile>, RunFault>> for RunsOf<'a, G> {
     ghost kept_by = { λ p r. IfOk r (λ v. AllEnded p.relation.now p.stop.now
         (record { opens = G.opens p.gate.now; shuts = G.shuts p.gate.now })
@@ -99,7 +115,7 @@ pub(crate) fn run_all<R: Threads + Wait + Sync, G: Gate>(
     requires { AllCanRun relation.now tiles.items }
     ensures ended { IfOk result (λ v. AllEnded relation.now stop.now
         (record { opens = G.opens gate.now; shuts = G.shuts gate.now }) tiles.items v.items) }
-    ensures started { IfErr result (λ e. e ≢ LostWorker) }
+    ensures started { IfErr result (λ e. e ≢ RunFault.LostWorker) }
 {
     let count = tiles.len();
     if count <= 1 {
@@ -119,15 +135,9 @@ pub(crate) fn run_all<R: Threads + Wait + Sync, G: Gate>(
             ensures ended { IfOk result (λ v. AllEnded relation.entry.now stop.entry.now
                 (record { opens = G.opens gate.entry.now; shuts = G.shuts gate.entry.now })
                 (first.items ++ second.items) v.items) }
-            ensures started { IfErr result (λ e. e ≢ LostWorker) }
+            ensures started { IfErr result (λ e. e ≢ RunFault.LostWorker) }
         {
-            let before = Snapshot::of(&second);
-            let promise = RunsOf {
-                before,
-                relation,
-                stop,
-                gate,
-            };
+            let promise = RunsOf::of(&second, relation, stop, gate);
             let child = scope.spawn_with(
                 promise,
                 move || -> Result<Vec<Tile>, RunFault>
@@ -179,7 +189,7 @@ fn joined(
         v.items ≡ a.items ++ b.items))) }
     ensures least { IfErr result (λ e. IfErr first (λ f. fault_number e ≤ fault_number f)
         × IfErr second (λ f. fault_number e ≤ fault_number f)) }
-    ensures started { IfErr result (λ e. e ≢ LostWorker) }
+    ensures started { IfErr result (λ e. e ≢ RunFault.LostWorker) }
 {
     match (first, second) {
         (Ok(mut first), Ok(mut second)) => {

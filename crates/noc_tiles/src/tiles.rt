@@ -1,14 +1,11 @@
 //! A network run by workers.
 
 ghost use Rattle.std.specs.Prelude.{ℕ, ◌≡◌, ◌+◌, ◌<◌, ◌≤◌, true, false, IfErr, IfOk, IsOk};
-ghost use Rattle.noc_theory.specs.declared.limits.TheConstants.{CYCLE_LIMIT as cycle_limit};
-ghost use Rattle.noc_net.specs.declared.workers.RunFault.TheVariants.{LostWorker};
-ghost use Rattle.noc_net.specs.declared.workers.TheConstants.{MAX_WORKERS};
 
 use crate::gate::Gate;
 use crate::partition::Kept;
 use crate::threads::{network_of, run_threads};
-use noc_net::{Network, RunFault};
+use noc_net::{CYCLE_LIMIT, MAX_WORKERS, Network, RunFault};
 use std::alloc::Global;
 use std::mem;
 use std::sync::Wait;
@@ -27,13 +24,13 @@ pub fn run_tiles<R: Threads + Wait + Sync, G: Gate>(
     gate: &G,
 ) -> Result<Network, RunFault>
     requires workers { (0 < workers) × (workers ≤ MAX_WORKERS) }
-    requires end { network.count + cycles ≤ cycle_limit }
+    requires end { network.count + cycles ≤ CYCLE_LIMIT }
     ensures net { IfOk result (λ v. v ≡ record network { count = network.count + cycles }) }
     ensures asked { IfOk result (λ _. (worker k : ℕ) → worker < workers → k < cycles
         → G.shuts gate.now worker (network.count + k) ≡ false) }
-    ensures lost { IfErr result (λ e. e ≡ LostWorker → G.opens gate.now ≡ false) }
+    ensures lost { IfErr result (λ e. e ≡ RunFault.LostWorker → G.opens gate.now ≡ false) }
     ensures one { workers ≡ 1 → G.opens gate.now ≡ true → IsOk result }
-    ensures one_fault { workers ≡ 1 → IfErr result (λ e. e ≡ LostWorker) }
+    ensures one_fault { workers ≡ 1 → IfErr result (λ e. e ≡ RunFault.LostWorker) }
 {
     if workers == 1 {
         return run_single(network, cycles, gate);
@@ -43,11 +40,11 @@ pub fn run_tiles<R: Threads + Wait + Sync, G: Gate>(
 
 // Runs all routers of a network, in the caller.
 fn run_single<G: Gate>(network: Network, cycles: u64, gate: &G) -> Result<Network, RunFault>
-    requires { network.count + cycles ≤ cycle_limit }
+    requires { network.count + cycles ≤ CYCLE_LIMIT }
     ensures net { IfOk result (λ v. v ≡ record network { count = network.count + cycles }) }
     ensures asked { IfOk result (λ _. (k : ℕ) → k < cycles
         → G.shuts gate.now 0 (network.count + k) ≡ false) }
-    ensures fault { IfErr result (λ e. (e ≡ LostWorker) × (G.opens gate.now ≡ false)) }
+    ensures fault { IfErr result (λ e. (e ≡ RunFault.LostWorker) × (G.opens gate.now ≡ false)) }
 {
     let mut network = network;
     if gate.always() {
@@ -74,11 +71,11 @@ fn run_many<R: Threads + Wait + Sync, G: Gate>(
     workers: usize,
     gate: &G,
 ) -> Result<Network, RunFault>
-    requires { (0 < workers) × (workers ≤ MAX_WORKERS) × (network.count + cycles ≤ cycle_limit) }
+    requires { (0 < workers) × (workers ≤ MAX_WORKERS) × (network.count + cycles ≤ CYCLE_LIMIT) }
     ensures net { IfOk result (λ v. v ≡ record network { count = network.count + cycles }) }
     ensures asked { IfOk result (λ _. (worker k : ℕ) → worker < workers → k < cycles
         → G.shuts gate.now worker (network.count + k) ≡ false) }
-    ensures lost { IfErr result (λ e. e ≡ LostWorker → G.opens gate.now ≡ false) }
+    ensures lost { IfErr result (λ e. e ≡ RunFault.LostWorker → G.opens gate.now ≡ false) }
 {
     let mut parts = network.into_parts();
     let routers = mem::replace(&mut parts.routers, Vec::new(alloc));

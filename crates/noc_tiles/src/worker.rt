@@ -5,18 +5,12 @@
 //! it. A tile that is all edge gains nothing, as two rows of a mesh with a neighbour on each side.
 
 ghost use Rattle.std.specs.Prelude.{ℕ, List, ◌≡◌, ◌+◌, ◌<◌, ◌↔◌, true, false, map, length, vec_len, IsTrue, IsFalse};
-ghost use Rattle.noc_topo.specs.Lists.{map_indexed};
-ghost use Rattle.noc_topo.specs.Shape.{nodes as nodes_of, neighbour as neighbour_of};
+ghost use Rattle.noc_tiles.specs.Prelude.{map_indexed, nodes as nodes_of, neighbour as neighbour_of, view_after_finish, idle_beat, view_after_takes, beat_at, incoming, view_after_puts, wire_after_puts, beats_at};
 ghost use Rattle.noc_packet.specs.declared.packet.Beat.{Beat as beat_value};
-ghost use Rattle.noc_view.specs.Finish.{view_after_finish};
-ghost use Rattle.noc_view.specs.View.{idle_beat, view_after_takes};
-ghost use Rattle.noc_theory.specs.Halves.{beat_at, incoming, view_after_puts, wire_after_puts};
-ghost use Rattle.noc_theory.specs.Lockstep.{beats_at};
 ghost use Rattle.noc_tiles.specs.Ends.{inlet, outlet};
 ghost use Rattle.noc_tiles.specs.Phases.{AreInner, CanFinish, CanTake, HaveFinished, IsCleared, KeepsTile, RouterCanFinish, TileHasSent, TileHasTaken};
 ghost use Rattle.noc_tiles.specs.TileStep.{ends_after_beats, with_row, names, arrival_ports};
 ghost use Rattle.noc_tiles.specs.Tiles.{AreLinkPorts, CanRun, IsReady, IsSameTile, Cycles, Runs, outlets};
-ghost use Rattle.noc_tiles.specs.declared.tile.Outcome.TheVariants.{Whole, Closed, Stopped};
 
 use crate::ends::{Inlet, Outlet, set_beat};
 use crate::gate::{Gate, Stop};
@@ -40,12 +34,12 @@ pub fn run_tile<G: Gate>(
 ) -> Tile
     requires { CanRun relation.now tile }
     ensures same { IsSameTile tile result }
-    ensures whole { (result.outcome ≡ Whole) ↔ (result.done ≡ tile.cycles) }
-    ensures ran { result.outcome ≡ Whole → Runs relation.now tile.cycles tile result }
-    ensures asked { result.outcome ≡ Whole → (k : ℕ) → k < tile.cycles
+    ensures whole { (result.outcome ≡ Outcome.Whole) ↔ (result.done ≡ tile.cycles) }
+    ensures ran { result.outcome ≡ Outcome.Whole → Runs relation.now tile.cycles tile result }
+    ensures asked { result.outcome ≡ Outcome.Whole → (k : ℕ) → k < tile.cycles
         → G.shuts gate.now tile.worker (tile.start + k) ≡ false }
-    ensures closed { result.outcome ≡ Closed → G.opens gate.now ≡ false }
-    ensures stopped { result.outcome ≡ Stopped → stop.now ≡ true }
+    ensures closed { result.outcome ≡ Outcome.Closed → G.opens gate.now ≡ false }
+    ensures stopped { result.outcome ≡ Outcome.Stopped → stop.now ≡ true }
 {
     let inner = inner_of(relation, tile.first, tile.routers.len(), &tile.outs);
     let mut tile = tile;
@@ -120,7 +114,7 @@ fn receive_all(
     beats: &mut [[Beat; LINKS]],
     stop: &Stop,
 ) -> bool
-    requires { AreLinkPorts (length beats.old) 6 (arrival_ports (map inlet ins.old.items)) }
+    requires { AreLinkPorts (length beats.old) LINKS (arrival_ports (map inlet ins.old.items)) }
     ensures ends { names (map inlet ins.new.items) ≡ names (map inlet ins.old.items) }
     ensures taken { IsTrue result → (row : List beat_value) × (length row ≡ vec_len ins.old)
         × (map inlet ins.new.items ≡ ends_after_beats (map inlet ins.old.items) row)
@@ -190,7 +184,7 @@ fn finish(
 // Puts a beat on each wire that goes to another tile, and leaves idle ones. False where
 // the flag was seen raised.
 fn send(rt: &impl Wait, tile: &mut Tile, stop: &Stop) -> bool
-    requires { AreLinkPorts (length tile.old.beats.items) 6 (arrival_ports (outlets tile.old)) }
+    requires { AreLinkPorts (length tile.old.beats.items) LINKS (arrival_ports (outlets tile.old)) }
     ensures kept { KeepsTile tile.old tile.new }
     ensures sent { IsTrue result → TileHasSent tile.old tile.new }
     ensures stopped { IsFalse result → stop.now ≡ true }
@@ -204,7 +198,7 @@ fn send(rt: &impl Wait, tile: &mut Tile, stop: &Stop) -> bool
 
 // Puts a beat on each wire that goes to another tile. False where the flag was seen raised.
 fn put_all(rt: &impl Wait, ends: &mut Vec<Outlet>, beats: &[[Beat; LINKS]], stop: &Stop) -> bool
-    requires { AreLinkPorts (length beats.now) 6 (arrival_ports (map outlet ends.old.items)) }
+    requires { AreLinkPorts (length beats.now) LINKS (arrival_ports (map outlet ends.old.items)) }
     ensures ends { names (map outlet ends.new.items) ≡ names (map outlet ends.old.items) }
     ensures put { IsTrue result → map outlet ends.new.items
         ≡ ends_after_beats (map outlet ends.old.items)
@@ -222,7 +216,7 @@ fn put_all(rt: &impl Wait, ends: &mut Vec<Outlet>, beats: &[[Beat; LINKS]], stop
 
 // The beats that went to other tiles are idle again.
 fn clear_all(ends: &Vec<Outlet>, beats: &mut [[Beat; LINKS]])
-    requires { AreLinkPorts (length beats.old) 6 (arrival_ports (map outlet ends.now.items)) }
+    requires { AreLinkPorts (length beats.old) LINKS (arrival_ports (map outlet ends.now.items)) }
     ensures { (r q : ℕ) → IsCleared (arrival_ports (map outlet ends.now.items)) beats.old beats.new
         (length (arrival_ports (map outlet ends.now.items))) r q }
 {
