@@ -58,8 +58,8 @@ impl Counts {
     /// Counts a cycle more, after it has taken effect.
     #[inline(never)]
     pub fn count(&mut self, frame: &Frame, block: &Block, work: &Work)
-        ensures counts { (n : Numbering) (r i : ℕ) → IsWithin (GROUP * frame.now.groups) n → i < n.size
-            → counted_in self.old + 1 < 2 ^ 32
+        ensures counts { (n : Numbering) (r i : ℕ) → IsWithin (GROUP * frame.now.groups) n
+            → i < n.size → counted_in self.old + 1 < 2 ^ 32
             → counts_at n self.new r i
             ≡ with_verdicts (told_at n block.now work.now r) i
             (counts_at n self.old r i) }

@@ -18,10 +18,10 @@ ghost use Rattle.noc_cycles.specs.Turning.{verdict_sets_by};
 ghost use Rattle.noc_cycles.specs.declared.pattern.Pattern.{Pattern};
 ghost use Rattle.noc_counts.specs.Findings.{FindsAll, WantsAll};
 
-/// What follows from the verdicts of a router and the output channels that were granted in the cycle
-/// is what is found by its words before the cycle takes effect, where none of its active channels
-/// waits, and all that waiting channels may take is wanted: what a channel asks for is granted, to
-/// it or to another one.
+/// What follows from the verdicts of a router, and from the output channels that were granted in
+/// the cycle, is what is found by its words before the cycle takes effect. So it is where none of
+/// its active channels waits, and all that waiting channels may take is wanted: what a channel asks
+/// for is granted, to it or to another one.
 pub fn findings_follow_from_grants()
     ensures { (pattern : Pattern) (layout : Layout) (sets : ℕ → ℕ → ℕ) (s : Still) (a h n : Held)
         (standing : Standing ℕ) (decided : Decided ℕ) (granted lost arrived : ℕ)
