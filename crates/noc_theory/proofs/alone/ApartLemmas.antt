@@ -2,10 +2,7 @@
 -- in time.
 use Rattle.std.proofs.Common.{◌≡◌, ◌≢◌, ℕ, suc, ◌-◌, ◌<◌, ◌≤◌, length, Some, None, refl, ap, sym, ◌∙◌, arith, inl, inr}
 use Rattle.std.specs.Prelude.{◌⊎◌}
-use Rattle.std.proofs.lemmas.Bool.{cases_lt}
-use Rattle.std.proofs.lemmas.Option.{same_Some}
-use Rattle.noc_theory.specs.Network.{Setup, Place, Source, On, In, Out, packet_at, place_of_flit, tail_place, out_cycle, arrival_in, state_at}
-use Rattle.noc_theory.specs.Good.{IsWellFormedSetup}
+use Rattle.noc_theory.proofs.Common.{cases_lt, same_Some, Setup, Place, Source, On, In, Out, packet_at, place_of_flit, tail_place, out_cycle, arrival_in, state_at, IsWellFormedSetup}
 use Rattle.noc_theory.specs.Alone.{IsAlone, IsApart}
 use Rattle.noc_theory.proofs.worms.BuiltLemmas.{good-built}
 use Rattle.noc_theory.proofs.worms.InjectionPhaseLemmas.{source-behind}

@@ -2,14 +2,7 @@
 -- of what it has left to do.
 use Rattle.std.proofs.Common.{◌≡◌, ◌≢◌, ℕ, suc, ◌+◌, ◌<◌, ◌≤◌, true, cond, length, refl, ap, sym, ◌∙◌, arith, inl, inr, subst}
 use Rattle.std.specs.Prelude.{◌⊎◌}
-use Rattle.std.proofs.lemmas.Bool.{false≢true, cases_eq}
-use Rattle.noc_route.specs.Channel.{Channel, Link, Inject, Eject}
-use Rattle.noc_view.specs.Verdict.{is_event, is_routed, is_granted}
-use Rattle.noc_view.specs.declared.verdict.Verdict.{Verdict}
-use Rattle.noc_view.specs.declared.verdict.Verdict.TheVariants.{Routed, Granted, Moved}
-use Rattle.noc_theory.specs.Network.{Setup, State, Place, Source, On, In, Out, place_of_flit, landed_place, verdict_in, after_landing, after_credits, after_injection, after_verdicts, frozen_state, frozen_at, state_at}
-use Rattle.noc_theory.specs.Progress.{hops, head_place, allocations_left}
-use Rattle.noc_theory.specs.Good.{IsWellFormedSetup}
+use Rattle.noc_theory.proofs.Common.{false≢true, cases_eq, Channel, Link, Inject, Eject, is_event, is_routed, is_granted, Verdict, Routed, Granted, Moved, Setup, State, Place, Source, On, In, Out, place_of_flit, landed_place, verdict_in, after_landing, after_credits, after_injection, after_verdicts, frozen_state, frozen_at, state_at, hops, head_place, allocations_left, IsWellFormedSetup}
 use Rattle.noc_theory.proofs.worms.BuiltRecordLemmas.{IsBuilt}
 use Rattle.noc_theory.proofs.worms.BuiltLemmas.{good-built}
 use Rattle.noc_theory.proofs.worms.InjectionPhaseLemmas.{IsInjected}

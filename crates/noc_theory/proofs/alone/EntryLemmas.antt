@@ -1,14 +1,7 @@
 -- While a packet is alone its source sends: the head when it is due, and each later flit in time.
 use Rattle.std.proofs.Common.{◌≡◌, ◌≢◌, ℕ, suc, ◌+◌, ◌<◌, ◌≤◌, Bool, true, false, cond, length, Option, Some, None, refl, ap, sym, ◌∙◌, arith, inl, inr, subst}
 use Rattle.std.specs.Prelude.{filter, find, is_none, nat_eq, option_map, option_and_then, ◌&&◌, ◌⊎◌}
-use Rattle.std.specs.List.{list_any}
-use Rattle.std.proofs.lemmas.Bool.{and_from, eq-eqb, le-leb, lt-ltb, cases_eq, cases_lt}
-use Rattle.noc_topo.specs.Lists.{Has, below}
-use Rattle.noc_topo.specs.Shape.{distance, nodes}
-use Rattle.noc_route.specs.Channel.{Channel, Inject}
-use Rattle.noc_theory.specs.Network.{Setup, State, Located, Source, In, Out, Injection, packet_at, place_of_flit, tail_place, owner_of, owned_by, is_idle, is_at_source, flits_of, first_waiting, is_injection_of, injection_with, injection_at, injections, count_in, state_at}
-use Rattle.noc_theory.specs.Progress.{hops, head_place}
-use Rattle.noc_theory.specs.Good.{IsWellFormedSetup, IsValid}
+use Rattle.noc_theory.proofs.Common.{list_any, and_from, eq-eqb, le-leb, lt-ltb, cases_eq, cases_lt, Has, below, distance, nodes, Channel, Inject, Setup, State, Located, Source, In, Out, Injection, packet_at, place_of_flit, tail_place, owner_of, owned_by, is_idle, is_at_source, flits_of, first_waiting, is_injection_of, injection_with, injection_at, injections, count_in, state_at, hops, head_place, IsWellFormedSetup, IsValid}
 use Rattle.noc_theory.proofs.worms.BuiltRecordLemmas.{IsBuilt}
 use Rattle.noc_theory.proofs.worms.BuiltLemmas.{good-built}
 use Rattle.noc_theory.proofs.worms.BufferLemmas.{find-passes}

@@ -1,12 +1,6 @@
 -- While a packet is alone each flit behind its head goes on in time.
 use Rattle.std.proofs.Common.{◌≡◌, ℕ, suc, ◌+◌, ◌*◌, ◌<◌, ◌≤◌, true, Some, refl, ap, ◌∙◌, arith, subst}
-use Rattle.std.proofs.lemmas.Bool.{lt-ltb}
-use Rattle.noc_topo.specs.Lists.{Has}
-use Rattle.noc_route.specs.Channel.{Channel}
-use Rattle.noc_view.specs.declared.verdict.Verdict.TheVariants.{Moved}
-use Rattle.noc_theory.specs.Network.{Setup, State, Place, Source, On, In, Out, packet_at, place_of_flit, next_channel, is_past, verdict_in, frozen_at}
-use Rattle.noc_theory.specs.Progress.{hops, head_place}
-use Rattle.noc_theory.specs.Good.{IsWellFormedSetup, IsValid}
+use Rattle.noc_theory.proofs.Common.{lt-ltb, Has, Channel, Moved, Setup, State, Place, Source, On, In, Out, packet_at, place_of_flit, next_channel, is_past, verdict_in, frozen_at, hops, head_place, IsWellFormedSetup, IsValid}
 use Rattle.noc_theory.proofs.worms.BuiltLemmas.{good-built}
 use Rattle.noc_theory.proofs.worms.MoveLemmas.{IsFirst, placed-in}
 use Rattle.noc_theory.proofs.worms.NextLemmas.{next-from}

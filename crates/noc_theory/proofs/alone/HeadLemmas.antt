@@ -2,15 +2,7 @@
 -- granted a channel, or moved.
 use Rattle.std.proofs.Common.{◌≡◌, ℕ, ◌+◌, ◌*◌, ◌/◌, ◌%◌, ◌<◌, ◌≤◌, Bool, true, false, cond, length, Option, Some, None, refl, ap, sym, ◌∙◌, arith, subst}
 use Rattle.std.specs.Prelude.{find, is_none, option_map, option_and_then}
-use Rattle.std.proofs.lemmas.Bool.{lt-ltb, and_from}
-use Rattle.noc_topo.specs.Shape.{ports}
-use Rattle.noc_topo.specs.Lists.{Has, below}
-use Rattle.noc_route.specs.Channel.{Channel, channel_vc}
-use Rattle.noc_view.specs.Verdict.{Unrouted, Waits, is_event, verdict_of}
-use Rattle.noc_view.specs.declared.verdict.Verdict.TheVariants.{Routed, Granted, Moved}
-use Rattle.noc_theory.specs.Network.{Setup, State, In, size, packet_at, leaving, owner_of, next_channel, has_channel, is_idle, end_of, ask, claim_of, claim_with, count_in, round_at, verdict_in, frozen_at}
-use Rattle.noc_theory.specs.Progress.{head_place}
-use Rattle.noc_theory.specs.Good.{IsWellFormedSetup}
+use Rattle.noc_theory.proofs.Common.{lt-ltb, and_from, ports, Has, below, Channel, channel_vc, Unrouted, Waits, is_event, verdict_of, Routed, Granted, Moved, Setup, State, In, size, packet_at, leaving, owner_of, next_channel, has_channel, is_idle, end_of, ask, claim_of, claim_with, count_in, round_at, verdict_in, frozen_at, head_place, IsWellFormedSetup}
 use Rattle.noc_theory.proofs.worms.BuiltLemmas.{good-built, good-wired}
 use Rattle.noc_theory.proofs.worms.GrantLemmas.{Has-below}
 use Rattle.noc_theory.proofs.worms.MemberLemmas.{find-some}

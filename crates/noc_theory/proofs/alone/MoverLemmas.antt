@@ -2,13 +2,7 @@
 -- and a credit moves a flit.
 use Rattle.std.proofs.Common.{◌≡◌, ℕ, suc, ◌+◌, ◌-◌, ◌<◌, ◌≤◌, Bool, true, false, cond, List, [], ◌∷◌, length, Some, refl, ap, sym, ◌∙◌, arith, inl, inr, subst}
 use Rattle.std.specs.Prelude.{filter, option_map, ◌⊎◌}
-use Rattle.std.proofs.lemmas.Bool.{true≢false, false≢true, lt-ltb, cases_lt, cases_order}
-use Rattle.noc_topo.specs.Lists.{Has, Pairs}
-use Rattle.noc_route.specs.Channel.{Channel, Link, Inject, Eject}
-use Rattle.noc_view.specs.declared.verdict.Verdict.TheVariants.{Moved}
-use Rattle.noc_theory.specs.Network.{Setup, State, Located, Place, In, place_of_flit, owner_of, next_channel, has_channel, has_credit_in, credit_of, count_on, count_in, is_in, end_of, arriving, verdict_in, frozen_at}
-use Rattle.noc_theory.specs.Progress.{weight}
-use Rattle.noc_theory.specs.Good.{IsWellFormedSetup, IsValid}
+use Rattle.noc_theory.proofs.Common.{true≢false, false≢true, lt-ltb, cases_lt, cases_order, Has, Pairs, Channel, Link, Inject, Eject, Moved, Setup, State, Located, Place, In, place_of_flit, owner_of, next_channel, has_channel, has_credit_in, credit_of, count_on, count_in, is_in, end_of, arriving, verdict_in, frozen_at, weight, IsWellFormedSetup, IsValid}
 use Rattle.noc_theory.proofs.worms.BuiltLemmas.{good-built, good-wired}
 use Rattle.noc_theory.proofs.worms.BufferLemmas.{same_channel-refl}
 use Rattle.noc_theory.proofs.worms.MemberLemmas.{Has-kept, Has-filter, Pairs-filter, find-some}

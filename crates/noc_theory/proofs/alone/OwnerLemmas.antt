@@ -1,12 +1,7 @@
 -- While a packet is alone nobody else owns a channel.
 use Rattle.std.proofs.Common.{◌≡◌, ◌≢◌, ℕ, ◌<◌, ◌≤◌, length, None, refl, ap, sym, ◌∙◌, arith, inl, inr}
 use Rattle.std.specs.Prelude.{◌⊎◌}
-use Rattle.std.proofs.lemmas.Bool.{true≢false, cases_eq, cases_lt}
-use Rattle.noc_topo.specs.Lists.{Has}
-use Rattle.noc_route.specs.Channel.{Channel, Link, Inject, Eject}
-use Rattle.noc_theory.specs.Network.{Setup, State, Place, Source, On, In, Out, packet_at, tail_place, is_past, out_cycle, arrival_in, state_at, frozen_at}
-use Rattle.noc_theory.specs.Progress.{head_place}
-use Rattle.noc_theory.specs.Good.{IsWellFormedSetup}
+use Rattle.noc_theory.proofs.Common.{true≢false, cases_eq, cases_lt, Has, Channel, Link, Inject, Eject, Setup, State, Place, Source, On, In, Out, packet_at, tail_place, is_past, out_cycle, arrival_in, state_at, frozen_at, head_place, IsWellFormedSetup}
 use Rattle.noc_theory.proofs.worms.BuiltLemmas.{good-built}
 use Rattle.noc_theory.proofs.worms.StateWordLemmas.{goal, last_of}
 use Rattle.noc_theory.proofs.worms.WormRecordLemmas.{valid-last}

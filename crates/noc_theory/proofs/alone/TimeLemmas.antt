@@ -2,11 +2,7 @@
 -- it can still be out one cycle after the one before it. So its tail is out when it must.
 use Rattle.std.proofs.Common.{◌≡◌, ◌≢◌, ℕ, zero, suc, ◌+◌, ◌<◌, ◌≤◌, length, Some, None, refl, ap, sym, ◌∙◌, arith, inl, inr, subst}
 use Rattle.std.specs.Prelude.{◌⊎◌}
-use Rattle.std.proofs.lemmas.Bool.{false≢true, cases_lt, cases_order}
-use Rattle.noc_route.specs.Channel.{Channel, Link, Inject, Eject}
-use Rattle.noc_theory.specs.Network.{Setup, State, Place, Source, On, In, Out, packet_at, place_of_flit, tail_place, out_cycle, arrival_in, landed_place, after_injection, after_verdicts, frozen_state, frozen_at, network_cycle, state_at}
-use Rattle.noc_theory.specs.Progress.{hops, head_place, weight, allocations_left}
-use Rattle.noc_theory.specs.Good.{IsWellFormedSetup, IsValid}
+use Rattle.noc_theory.proofs.Common.{false≢true, cases_lt, cases_order, Channel, Link, Inject, Eject, Setup, State, Place, Source, On, In, Out, packet_at, place_of_flit, tail_place, out_cycle, arrival_in, landed_place, after_injection, after_verdicts, frozen_state, frozen_at, network_cycle, state_at, hops, head_place, weight, allocations_left, IsWellFormedSetup, IsValid}
 use Rattle.noc_theory.specs.Alone.{zero_load_latency}
 use Rattle.noc_theory.proofs.worms.BuiltRecordLemmas.{IsBuilt}
 use Rattle.noc_theory.proofs.worms.BuiltLemmas.{good-built}

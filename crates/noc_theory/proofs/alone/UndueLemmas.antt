@@ -1,14 +1,7 @@
 -- A packet that is not due has its head at its source, and what is out stays out.
 use Rattle.std.proofs.Common.{◌≡◌, ℕ, zero, suc, ◌<◌, ◌≤◌, true, false, length, Option, Some, None, refl, ap, sym, ◌∙◌, arith, inl, inr}
 use Rattle.std.specs.Prelude.{find, option_map, nat_le, nat_lt, ◌⊎◌}
-use Rattle.std.proofs.lemmas.Bool.{leb-true, cases_eq}
-use Rattle.std.proofs.lemmas.Option.{same_Some}
-use Rattle.noc_topo.specs.Lists.{below, Has}
-use Rattle.noc_topo.specs.Shape.{nodes}
-use Rattle.noc_route.specs.Channel.{Channel, Inject}
-use Rattle.noc_theory.specs.Network.{Setup, State, Located, Source, Out, Injection, packet_at, place_of_flit, landed_place, moved_place, is_idle, is_injection_of, owned_by, count_in, first_waiting, injection_at, injection_with, after_landing, after_credits, after_injection, after_verdicts, frozen_state, frozen_at, network_cycle, state_at}
-use Rattle.noc_theory.specs.Progress.{head_place}
-use Rattle.noc_theory.specs.Good.{IsWellFormedSetup, IsValid}
+use Rattle.noc_theory.proofs.Common.{leb-true, cases_eq, same_Some, below, Has, nodes, Channel, Inject, Setup, State, Located, Source, Out, Injection, packet_at, place_of_flit, landed_place, moved_place, is_idle, is_injection_of, owned_by, count_in, first_waiting, injection_at, injection_with, after_landing, after_credits, after_injection, after_verdicts, frozen_state, frozen_at, network_cycle, state_at, head_place, IsWellFormedSetup, IsValid}
 use Rattle.noc_theory.proofs.runs.PostLemmas.{some_of_map}
 use Rattle.noc_theory.proofs.worms.BuiltRecordLemmas.{IsBuilt}
 use Rattle.noc_theory.proofs.worms.BuiltLemmas.{good-built}

@@ -1,18 +1,10 @@
 -- Where one of a router asks or is ready, one is granted or moves.
 use Rattle.std.proofs.Common.{◌≡◌, ℕ, ◌+◌, ◌*◌, ◌/◌, ◌%◌, ◌<◌, Bool, true, false, List, get_or, Option, Some, None, ap, sym, ◌∙◌}
 use Rattle.std.specs.Prelude.{filter, is_some, option_and_then}
-use Rattle.std.proofs.lemmas.Nat.{div-mul-add, mod-mul-add}
 use Rattle.noc_alloc.specs.Arbiter.{first_in_turn, distance_in_turn}
 use Rattle.noc_alloc.specs.Allocation.{pick_of, picked_port, winner_of}
-use Rattle.noc_theory.specs.Network.{ask}
-use Rattle.noc_view.specs.Verdict.{Claim, Holds, Round, Unrouted, Waits, ready_port, verdict_of}
-use Rattle.noc_view.specs.declared.verdict.Verdict.TheVariants.{Moved}
-use Rattle.noc_topo.specs.Shape.{ports}
-use Rattle.noc_topo.specs.Lists.{below, is_some_of, tabulate}
-use Rattle.noc_route.proofs.OptionLemmas.{some-value}
 use Rattle.noc_alloc.proofs.ArbiterLemmas.{first_in_turn-picks}
-use Rattle.noc_alloc.proofs.WordLemmas.{is_some_of-true, is_some_of-some}
-use Rattle.noc_topo.proofs.ListLemmas.{get_or-tabulate}
+use Rattle.noc_theory.proofs.Common.{div-mul-add, mod-mul-add, ask, Claim, Holds, Round, Unrouted, Waits, ready_port, verdict_of, Moved, ports, below, is_some_of, tabulate, some-value, is_some_of-true, is_some_of-some, get_or-tabulate}
 use Rattle.noc_theory.proofs.worms.OptionLemmas.{and_then-some}
 use Rattle.noc_theory.proofs.worms.MemberLemmas.{Has-kept}
 use Rattle.noc_theory.proofs.worms.OpeningLemmas.{below-has}

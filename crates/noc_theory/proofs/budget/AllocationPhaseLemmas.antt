@@ -1,17 +1,8 @@
 -- What the heads have left to do falls by one for each route and each grant.
 use Rattle.std.proofs.Common.{◌≡◌, ◌≢◌, ℕ, zero, suc, ◌+◌, ◌*◌, ◌<◌, ◌≤◌, Bool, true, false, cond, List, [], ◌∷◌, length, Option, Some, None, refl, ap, sym, ◌∙◌, arith, inl, inr}
 use Rattle.std.specs.Prelude.{filter, find, get_or, ◌/◌, ◌%◌, nat_eq, nat_lt, not, ◌&&◌, ◌||◌, sum_by, count_by, is_some, option_map, unwrap_or, ◌⊎◌}
-use Rattle.std.specs.List.{range_with_len}
-use Rattle.std.proofs.lemmas.Bool.{false≢true, and_right, and_left, and_from, cases_eq, false_from_ne_true}
-use Rattle.std.proofs.lemmas.List.Sums.{sum_by-cons}
 use Rattle.std.proofs.lemmas.List.Folds.{list_any-append}
-use Rattle.noc_theory.specs.Network.{In, Located, On, Out, Place, Setup, Source, State, after_verdicts, all_inputs, ask, claim_of, claim_with, count_in, end_distance, front_in, gone_to, has_channel, has_credit_in, is_in, is_tail_of_packet, is_the_flit, moved_place, next_channel, packet_at, round_at, tail_leaves, verdict_at, verdict_in}
-use Rattle.noc_theory.specs.Progress.{head_place, remainder, allocations_left}
-use Rattle.noc_route.specs.Channel.{Channel, Eject, Inject, Link, arrival_of, channel_vc, output_index, same_channel}
-use Rattle.noc_view.specs.Verdict.{Claim, Holds, Round, Unrouted, Waits, is_event, is_granted, is_moved, is_routed, verdict_of}
-use Rattle.noc_view.specs.declared.verdict.Verdict.{Verdict}
-use Rattle.noc_view.specs.declared.verdict.Verdict.TheVariants.{Empty, Granted, LostChannel, LostInput, LostSwitch, Moved, Routed}
-use Rattle.noc_topo.specs.Lists.{Has, below, is_some_of}
+use Rattle.noc_theory.proofs.Common.{range_with_len, false≢true, and_right, and_left, and_from, cases_eq, false_from_ne_true, sum_by-cons, In, Located, On, Out, Place, Setup, Source, State, after_verdicts, all_inputs, ask, claim_of, claim_with, count_in, end_distance, front_in, gone_to, has_channel, has_credit_in, is_in, is_tail_of_packet, is_the_flit, moved_place, next_channel, packet_at, round_at, tail_leaves, verdict_at, verdict_in, head_place, remainder, allocations_left, Channel, Eject, Inject, Link, arrival_of, channel_vc, output_index, same_channel, Claim, Holds, Round, Unrouted, Waits, is_event, is_granted, is_moved, is_routed, verdict_of, Verdict, Empty, Granted, LostChannel, LostInput, LostSwitch, Moved, Routed, Has, below, is_some_of}
 use Rattle.noc_theory.proofs.worms.BufferLemmas.{same_flit, IsDistinct, same_channel-refl, same_channel-true, moved-holds}
 use Rattle.noc_theory.proofs.worms.MemberLemmas.{list_any-from}
 use Rattle.noc_theory.proofs.worms.GrantLemmas.{Has-below}

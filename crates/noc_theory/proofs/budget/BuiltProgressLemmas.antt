@@ -2,17 +2,10 @@
 -- what progress needs of it.
 use Rattle.std.proofs.Common.{◌≡◌, ℕ, ◌+◌, ◌*◌, ◌/◌, ◌%◌, true, Some, refl, ap, sym, ◌∙◌, arith}
 use Rattle.std.specs.Prelude.{IsTrue}
-use Rattle.std.proofs.lemmas.Bool.{lt-ltb}
-use Rattle.std.proofs.lemmas.Nat.{div-mul-add, mod-mul-add}
-use Rattle.noc_topo.specs.Shape.{local_port, neighbour}
-use Rattle.noc_topo.proofs.LinkLemmas.{link_back}
-use Rattle.noc_packet.specs.Set.{has_bit}
-use Rattle.noc_route.specs.Channel.{Channel, Link, Inject, Eject, arrival_of, channel_vc}
-use Rattle.noc_route.specs.Routes.{permits, is_sent, set_at, IsRelation}
+use Rattle.noc_route.specs.Routes.{is_sent}
 use Rattle.noc_route.proofs.BuiltLemmas.{set_at-member}
-use Rattle.noc_route.proofs.PermitsLemmas.{PermitsLink-from_test, PermitsEject-from_test, permits-inject, permits-nearer, member-permits}
-use Rattle.noc_theory.specs.Network.{Setup, packet_at}
-use Rattle.noc_theory.specs.Good.{IsWellFormedSetup}
+use Rattle.noc_route.proofs.PermitsLemmas.{permits-inject, permits-nearer, member-permits}
+use Rattle.noc_theory.proofs.Common.{lt-ltb, div-mul-add, mod-mul-add, local_port, neighbour, link_back, has_bit, Channel, Link, Inject, Eject, arrival_of, channel_vc, permits, set_at, IsRelation, PermitsLink-from_test, PermitsEject-from_test, Setup, packet_at, IsWellFormedSetup}
 use Rattle.noc_theory.proofs.worms.BuiltLemmas.{good-built, good-packet}
 use Rattle.noc_theory.proofs.budget.ProgressRecordLemmas.{IsReal, IsBuilt, LeadsOn}
 use Rattle.noc_theory.proofs.budget.WormChainLemmas.{IsNearing}

@@ -2,19 +2,12 @@
 -- are and what is routed gives it.
 use Rattle.std.proofs.Common.{false, ◌≡◌, [], ℕ, ◌+◌, ◌*◌, ◌<◌, ◌≤◌, Bool, true, List, ◌∷◌, length, Some, refl, ap, sym, ◌∙◌, arith, inl, inr, subst}
 use Rattle.std.specs.Prelude.{filter, find, nat_eq, ◌&&◌, IsTrue}
-use Rattle.std.specs.List.{list_any}
-use Rattle.std.proofs.lemmas.Bool.{false≢true, and_from, and_parts, eq-eqb, eqb-true, le-ltb}
-use Rattle.noc_topo.specs.Lists.{Has, below}
-use Rattle.noc_route.specs.Channel.{Channel, Link, Inject, Eject}
-use Rattle.noc_theory.specs.Network.{end_distance, Setup, State, Located, Place, Source, On, In, Out, packet_at, place_of_flit, tail_place, owner_of, owned_by, next_channel, leads_from, has_channel, first_waiting, flits_of, is_at_source, is_past, count_in, is_in, is_injection_of}
-use Rattle.noc_theory.specs.Progress.{weight, hops}
-use Rattle.noc_theory.specs.Worm.{IsPath}
+use Rattle.noc_theory.proofs.Common.{list_any, false≢true, and_from, and_parts, eq-eqb, eqb-true, le-ltb, Has, below, Channel, Link, Inject, Eject, end_distance, Setup, State, Located, Place, Source, On, In, Out, packet_at, place_of_flit, tail_place, owner_of, owned_by, next_channel, leads_from, has_channel, first_waiting, flits_of, is_at_source, is_past, count_in, is_in, is_injection_of, weight, hops, IsPath, IsValid, permits, distance}
 use Rattle.noc_theory.proofs.worms.BuiltRecordLemmas.{IsBuilt}
 use Rattle.noc_theory.proofs.worms.MemberLemmas.{Pairs-filter, Has-filter, Has-kept, list_any-from, list_any-has, find-some}
 use Rattle.noc_theory.proofs.worms.OwnedLemmas.{of, of-has, has-of, once-same, owner-is, owner-has}
 use Rattle.noc_theory.proofs.worms.StateWordLemmas.{far_of, IsEject, IsKeyed, IsPlaced, class_of, goal, last_of, Precedes, IsEntering}
 use Rattle.noc_theory.proofs.worms.PathLemmas.{IsBehind, path-behind, path-tail, no-inject}
-use Rattle.noc_theory.specs.Good.{IsValid}
 use Rattle.noc_theory.proofs.worms.PlaceLemmas.{place-of-flit, flit-there, at_source-is}
 use Rattle.noc_theory.proofs.worms.WormRecordLemmas.{IsWorm, valid-last}
 use Rattle.noc_theory.proofs.worms.MoveLemmas.{next-is, next-no-eject, placed-in, far-link, same-far}
@@ -32,8 +25,6 @@ use Rattle.noc_theory.proofs.worms.NextLemmas.{next-from}
 use Rattle.noc_theory.proofs.worms.SourceOfLemmas.{has-source}
 use Rattle.noc_theory.proofs.worms.BufferLemmas.{same_channel-refl}
 use Rattle.noc_theory.proofs.worms.InjectionStateLemmas.{least_by-has}
-use Rattle.noc_route.specs.Routes.{permits}
-use Rattle.noc_topo.specs.Shape.{distance}
 
 pub input-of : (c : Channel) → (IsEject c → ⊥) → is_input c ≡ true
 input-of (Link r q v) n = refl

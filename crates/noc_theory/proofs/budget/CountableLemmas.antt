@@ -2,13 +2,7 @@
 -- the count of events needs.
 use Rattle.std.proofs.Common.{◌≡◌, ℕ, ◌+◌, ◌*◌, ◌<◌, ◌≤◌, Bool, true, false, cond, List, [], ◌∷◌, length, Option, Some, None, refl, ap, sym, ◌∙◌, arith, inl, inr, subst}
 use Rattle.std.specs.Prelude.{find, nat_eq, nat_le, nat_lt, option_map}
-use Rattle.std.specs.List.{AllByRecursion}
-use Rattle.std.proofs.lemmas.Bool.{ltb-true, and_parts, eqb-true, false_from_ne_true}
-use Rattle.noc_topo.specs.Lists.{Has, Pairs, Each, below}
-use Rattle.noc_route.specs.Channel.{Channel, Link, Inject, Eject, is_link}
-use Rattle.noc_route.proofs.OptionLemmas.{is_none-none}
-use Rattle.noc_theory.specs.Network.{Setup, State, Located, Place, Source, On, In, Injection, packet_at, place_of_flit, tail_place, owner_of, owned_by, leads_from, is_past, is_freed, is_idle, count_in, injection_at, injection_with, is_injection_of, first_waiting, after_landing, after_credits}
-use Rattle.noc_theory.specs.Progress.{weight, head_place}
+use Rattle.noc_theory.proofs.Common.{AllByRecursion, ltb-true, and_parts, eqb-true, false_from_ne_true, Has, Pairs, Each, below, Channel, Link, Inject, Eject, is_link, is_none-none, Setup, State, Located, Place, Source, On, In, Injection, packet_at, place_of_flit, tail_place, owner_of, owned_by, leads_from, is_past, is_freed, is_idle, count_in, injection_at, injection_with, is_injection_of, first_waiting, after_landing, after_credits, weight, head_place}
 use Rattle.noc_theory.proofs.worms.BuiltRecordLemmas.{IsBuilt}
 use Rattle.noc_theory.proofs.worms.OwnedLemmas.{of-has, once-same, owner-is, owner-has, idle-none}
 use Rattle.noc_theory.proofs.worms.StateWordLemmas.{IsEject, IsSortedPair, IsKeyed, IsPlaced, goal, last_of, far_of, Come, IsHeld}

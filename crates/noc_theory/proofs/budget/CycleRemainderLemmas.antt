@@ -1,15 +1,8 @@
 -- Each cycle lowers the remainder by the number of its events.
 use Rattle.std.proofs.Common.{◌≡◌, ℕ, ◌+◌, ◌<◌, true, false, List, [], ◌∷◌, map, length, Option, Some, None, refl, ap, sym, ◌∙◌, arith, ⊎_elim}
 use Rattle.std.specs.Prelude.{find, nat_eq, count_by, ◌&&◌}
-use Rattle.std.proofs.lemmas.Bool.{true≢false}
-use Rattle.std.specs.List.{AllByRecursion}
-use Rattle.noc_theory.specs.Network.{after_injection, In, Injection, Located, Setup, State, after_credits, after_landing, all_inputs, end_distance, front_in, frozen_state, has_channel, injected_place, injections, is_the_flit, landed_place, network_cycle, next_channel, packet_at, verdict_in}
-use Rattle.noc_theory.specs.Progress.{events, head_place, is_flying, remainder}
-use Rattle.noc_route.specs.Channel.{Channel, Eject, Link, same_channel}
-use Rattle.noc_view.specs.Verdict.{is_event, is_moved}
-use Rattle.noc_view.specs.declared.verdict.Verdict.TheVariants.{Granted, Routed}
 use Rattle.noc_view.proofs.MoverLemmas.{quiet-moved}
-use Rattle.noc_topo.specs.Lists.{Has}
+use Rattle.noc_theory.proofs.Common.{true≢false, AllByRecursion, after_injection, In, Injection, Located, Setup, State, after_credits, after_landing, all_inputs, end_distance, front_in, frozen_state, has_channel, injected_place, injections, is_the_flit, landed_place, network_cycle, next_channel, packet_at, verdict_in, events, head_place, is_flying, remainder, Channel, Eject, Link, same_channel, is_event, is_moved, Granted, Routed, Has}
 use Rattle.noc_theory.proofs.worms.BufferLemmas.{same_flit, IsDistinct}
 use Rattle.noc_theory.proofs.budget.NextPhaseLemmas.{HeadsHold, next-stays, next-given}
 use Rattle.noc_theory.proofs.budget.RemainderPhaseLemmas.{FliesRight, FreesBehind, landing-falls, credits-fall}

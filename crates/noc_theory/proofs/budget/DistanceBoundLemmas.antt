@@ -1,10 +1,8 @@
 -- Distances have a bound.
 use Rattle.std.proofs.Common.{◌≡◌, ℕ, ◌≤◌, Option, Some, None, refl, ap, arith}
 use Rattle.std.specs.Prelude.{option_map, unwrap_or}
-use Rattle.noc_topo.specs.Shape.{IsGrid, distance}
 use Rattle.noc_topo.proofs.DistanceLemmas.{distance-bound}
-use Rattle.noc_route.specs.Channel.{Channel}
-use Rattle.noc_theory.specs.Network.{Setup, end_of, end_distance}
+use Rattle.noc_theory.proofs.Common.{IsGrid, distance, Channel, Setup, end_of, end_distance}
 
 -- a channel ends at most 30 hops from any node
 pub distance-within : (net : Setup) → IsGrid net.relation.grid → (c : Channel) (t : ℕ) → end_distance net.relation c t ≤ 30

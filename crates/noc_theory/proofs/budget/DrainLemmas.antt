@@ -2,14 +2,7 @@
 -- out by the last due time and the budget.
 use Rattle.std.proofs.Common.{◌≡◌, ℕ, zero, suc, ◌+◌, ◌-◌, ◌<◌, ◌≤◌, Bool, true, false, cond, List, map, length, Option, Some, None, refl, ap, sym, ◌∙◌, arith, subst}
 use Rattle.std.specs.Prelude.{find, nat_eq, nat_le, ◌&&◌, option_map, unwrap_or, is_none}
-use Rattle.std.specs.List.{enumerate_from}
-use Rattle.std.proofs.lemmas.Bool.{true≢false, and_from, and_parts, le-leb, false_from_ne_true}
-use Rattle.noc_theory.specs.Network.{opening_state, after_verdicts, after_injection, In, Injection, Located, On, Out, Place, Setup, Source, State, after_credits, after_landing, arrival_in, first_at_source, front_in, frozen_state, gone_to, injected_place, injections, is_at_source, is_the_flit, landed_place, moved_place, network_cycle, next_channel, out_cycle, packet_at, state_at, tail_place, verdict_in}
-use Rattle.noc_theory.specs.Progress.{budget, events, is_pending, remainder}
-use Rattle.noc_packet.specs.declared.packet.Packet.{Packet}
-use Rattle.noc_route.specs.Channel.{Channel, Eject, Inject, Link}
-use Rattle.noc_view.specs.Verdict.{is_moved}
-use Rattle.noc_topo.specs.Lists.{Has, below}
+use Rattle.noc_theory.proofs.Common.{enumerate_from, true≢false, and_from, and_parts, le-leb, false_from_ne_true, opening_state, after_verdicts, after_injection, In, Injection, Located, On, Out, Place, Setup, Source, State, after_credits, after_landing, arrival_in, first_at_source, front_in, frozen_state, gone_to, injected_place, injections, is_at_source, is_the_flit, landed_place, moved_place, network_cycle, next_channel, out_cycle, packet_at, state_at, tail_place, verdict_in, budget, events, is_pending, remainder, Packet, Channel, Eject, Inject, Link, is_moved, Has, below}
 use Rattle.noc_theory.proofs.worms.MemberLemmas.{list_any-from, list_any-has, Has-flat_map}
 use Rattle.noc_theory.proofs.worms.OpeningLemmas.{below-has}
 use Rattle.noc_theory.proofs.worms.GrantLemmas.{Has-below}

@@ -1,9 +1,7 @@
 -- Members of lists by recursion, and what filters, finds and counts say of them.
 use Rattle.std.proofs.Common.{◌≡◌, ℕ, ◌+◌, ◌<◌, ◌≤◌, Bool, true, false, cond, List, [], ◌∷◌, map, Option, Some, None, refl, ap, sym, ◌∙◌, arith, inl, inr}
 use Rattle.std.specs.Prelude.{find, nat_le, ◌⊎◌, count_by}
-use Rattle.std.proofs.lemmas.Bool.{leb-true, leb-false}
-use Rattle.std.proofs.lemmas.List.Sums.{sum_by-cons}
-use Rattle.noc_topo.specs.Lists.{Has, least_by, lesser_by}
+use Rattle.noc_theory.proofs.Common.{leb-true, leb-false, sum_by-cons, Has, least_by, lesser_by}
 
 pub map-has : {X Y : Type 0} (f : X → Y) (y : Y) (xs : List X) → Has y (map f xs) → (x : X) × Has x xs × (y ≡ f x)
 map-has f y [] h = absurd h

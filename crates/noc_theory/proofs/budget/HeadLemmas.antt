@@ -2,19 +2,10 @@
 -- what moves comes nearer.
 use Rattle.std.proofs.Common.{◌≡◌, ◌≢◌, ℕ, ◌+◌, ◌*◌, ◌<◌, ◌≤◌, Bool, true, false, List, [], ◌∷◌, length, Option, Some, None, refl, ap, sym, ◌∙◌, arith, inl, subst, ⊎_elim}
 use Rattle.std.specs.Prelude.{filter, find, nat_eq, nat_lt, ◌&&◌, option_and_then, option_map, unwrap_or}
-use Rattle.std.specs.List.{AllByRecursion}
-use Rattle.std.proofs.lemmas.Bool.{false≢true, true≢false, ltb-true, ltb-false, and_from, and_parts, eq-eqb, eqb-true, false_from_ne_true}
-use Rattle.noc_topo.specs.Lists.{Has, Pairs, Each}
-use Rattle.noc_topo.specs.Shape.{distance}
-use Rattle.noc_route.specs.Channel.{Channel, Link, Inject, Eject, same_channel}
-use Rattle.noc_view.specs.Verdict.{Claim, Round, Unrouted, Waits, Holds, is_moved, verdict_of}
-use Rattle.noc_view.specs.declared.verdict.Verdict.TheVariants.{Routed, Granted}
-use Rattle.noc_theory.specs.Network.{Setup, State, Located, Place, Source, On, In, Out, packet_at, place_of_flit, tail_place, owner_of, owned_by, next_channel, leads_from, has_channel, is_past, is_in, is_tail_of_packet, tail_leaves, tail_leaves_to, is_released, is_the_flit, front_in, count_in, gone_to, all_inputs, verdict_in, round_at, claim_of}
-use Rattle.noc_theory.specs.Progress.{weight, hops, head_place}
+use Rattle.noc_theory.proofs.Common.{AllByRecursion, false≢true, true≢false, ltb-true, ltb-false, and_from, and_parts, eq-eqb, eqb-true, false_from_ne_true, Has, Pairs, Each, distance, Channel, Link, Inject, Eject, same_channel, Claim, Round, Unrouted, Waits, Holds, is_moved, verdict_of, Routed, Granted, Setup, State, Located, Place, Source, On, In, Out, packet_at, place_of_flit, tail_place, owner_of, owned_by, next_channel, leads_from, has_channel, is_past, is_in, is_tail_of_packet, tail_leaves, tail_leaves_to, is_released, is_the_flit, front_in, count_in, gone_to, all_inputs, verdict_in, round_at, claim_of, weight, hops, head_place, IsValid}
 use Rattle.noc_theory.proofs.worms.BuiltRecordLemmas.{IsBuilt}
 use Rattle.noc_theory.proofs.worms.OwnedLemmas.{of-has, has-of, owner-is, owner-has}
 use Rattle.noc_theory.proofs.worms.StateWordLemmas.{IsEject, IsKeyed, IsPlaced, goal, last_of, far_of, IsHeld}
-use Rattle.noc_theory.specs.Good.{IsValid}
 use Rattle.noc_theory.proofs.worms.PlaceLemmas.{place-of-flit, is_in-is}
 use Rattle.noc_theory.proofs.worms.WormRecordLemmas.{IsWorm, valid-first}
 use Rattle.noc_theory.proofs.worms.GrantLemmas.{IsWired}

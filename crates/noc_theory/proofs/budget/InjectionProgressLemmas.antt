@@ -1,15 +1,8 @@
 -- The remainder falls by one for each flit that leaves its source.
 use Rattle.std.proofs.Common.{◌≡◌, ◌≢◌, ℕ, zero, suc, ◌+◌, ◌*◌, ◌<◌, ◌≤◌, Bool, true, false, cond, List, [], ◌∷◌, ◌++◌, map, length, Option, Some, None, refl, ap, sym, ◌∙◌, arith, inl, inr, subst}
 use Rattle.std.specs.Prelude.{filter, find, nat_eq, nat_lt, nat_le, ◌&&◌, sum_by, count_by, is_some, option_map, option_and_then, unwrap_or, filter_map}
-use Rattle.std.specs.List.{AllByRecursion, list_any, range_with_len}
-use Rattle.std.proofs.lemmas.Bool.{false≢true, eqb-true, eq-eqb, and_parts, and_right, and_from}
-use Rattle.std.proofs.lemmas.List.Sums.{sum_by-cons}
-use Rattle.noc_theory.specs.Network.{In, Injection, Located, On, Out, Place, Setup, Source, State, after_injection, count_in, end_distance, first_at_source, first_waiting, flits_of, has_channel, injected_place, injection_at, injection_with, injections, is_at_source, is_idle, is_injection_of, is_the_flit, leads_from, next_channel, owned_by, owner_of, packet_at}
-use Rattle.noc_theory.specs.Progress.{head_place, hops, remainder, allocations_left}
+use Rattle.noc_theory.proofs.Common.{AllByRecursion, list_any, range_with_len, false≢true, eqb-true, eq-eqb, and_parts, and_right, and_from, sum_by-cons, In, Injection, Located, On, Out, Place, Setup, Source, State, after_injection, count_in, end_distance, first_at_source, first_waiting, flits_of, has_channel, injected_place, injection_at, injection_with, injections, is_at_source, is_idle, is_injection_of, is_the_flit, leads_from, next_channel, owned_by, owner_of, packet_at, head_place, hops, remainder, allocations_left, Channel, Eject, Inject, Link, same_channel, distance, nodes, Has, below, one_if}
 use Rattle.noc_theory.proofs.runs.PostLemmas.{some_of_map}
-use Rattle.noc_route.specs.Channel.{Channel, Eject, Inject, Link, same_channel}
-use Rattle.noc_topo.specs.Shape.{distance, nodes}
-use Rattle.noc_topo.specs.Lists.{Has, below, one_if}
 use Rattle.noc_theory.proofs.worms.BufferLemmas.{same_flit, IsDistinct}
 use Rattle.noc_theory.proofs.worms.OptionLemmas.{and_then-some}
 use Rattle.noc_theory.proofs.worms.MemberLemmas.{Has-filter, Has-filter_map, find-some, list_any-has}

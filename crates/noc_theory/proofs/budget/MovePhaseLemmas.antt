@@ -2,16 +2,9 @@
 -- credit that is sent back.
 use Rattle.std.proofs.Common.{◌≡◌, ◌≢◌, ℕ, zero, suc, ◌+◌, ◌*◌, ◌<◌, Bool, true, false, cond, List, [], ◌∷◌, map, length, Option, Some, None, refl, ap, sym, ◌∙◌, arith, inl, inr, subst, ⊎_elim}
 use Rattle.std.specs.Prelude.{filter, find, nat_eq, nat_lt, ◌&&◌, sum_by, count_by}
-use Rattle.std.proofs.lemmas.Bool.{false≢true, true≢false, eqb-true, eq-eqb, and_parts, and_right, and_from, ltb-true}
-use Rattle.std.proofs.lemmas.List.Sums.{sum_by-cons, length-filter}
-use Rattle.noc_theory.specs.Network.{In, Located, On, Out, Place, Setup, Source, State, after_verdicts, all_inputs, claim_of, count_in, front_in, gone_to, next_channel, is_in, is_the_flit, moved_place, round_at, verdict_at, verdict_in}
-use Rattle.noc_theory.specs.Progress.{weight}
-use Rattle.noc_route.specs.Channel.{Channel, arrival_of, channel_vc, is_link, same_channel}
-use Rattle.noc_view.specs.Verdict.{is_moved, verdict_of}
-use Rattle.noc_view.specs.declared.verdict.Verdict.TheVariants.{Empty, Moved}
-use Rattle.noc_topo.specs.Lists.{Has}
+use Rattle.std.proofs.lemmas.List.Sums.{length-filter}
+use Rattle.noc_theory.proofs.Common.{false≢true, true≢false, eqb-true, eq-eqb, and_parts, and_right, and_from, ltb-true, sum_by-cons, In, Located, On, Out, Place, Setup, Source, State, after_verdicts, all_inputs, claim_of, count_in, front_in, gone_to, next_channel, is_in, is_the_flit, moved_place, round_at, verdict_at, verdict_in, weight, Channel, arrival_of, channel_vc, is_link, same_channel, is_moved, verdict_of, Empty, Moved, Has, is_moved-true}
 use Rattle.noc_theory.proofs.worms.BufferLemmas.{same_flit, IsDistinct, same_channel-refl, same_channel-true, moved-holds}
-use Rattle.noc_view.proofs.MoverLemmas.{is_moved-true}
 use Rattle.noc_theory.proofs.worms.MemberLemmas.{Has-filter, find-some}
 use Rattle.noc_theory.proofs.budget.SumLemmas.{sum_by-sum_by, sum_by-+}
 use Rattle.noc_theory.proofs.budget.RemainderPhaseLemmas.{sum_by-each}

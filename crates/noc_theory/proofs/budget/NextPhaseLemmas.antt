@@ -2,17 +2,8 @@
 -- granted one, else as before.
 use Rattle.std.proofs.Common.{◌≡◌, ◌≢◌, ℕ, ◌+◌, ◌<◌, Bool, true, false, cond, List, [], ◌∷◌, ◌++◌, map, length, Option, Some, None, refl, ap, sym, ◌∙◌, inl, inr, subst}
 use Rattle.std.specs.Prelude.{filter, find, nat_eq, nat_lt, ◌*◌, ◌/◌, ◌%◌, not, option_map, option_and_then, unwrap_or, filter_map}
-use Rattle.std.proofs.lemmas.Bool.{false≢true, eqb-true, eq-eqb, and_left}
-use Rattle.noc_theory.specs.Network.{end_of, In, Setup, State, after_verdicts, all_inputs, ask, claim_of, claim_with, count_in, front_in, grant_to_owner, granted_pair, has_channel, is_released, is_tail_of_packet, leads_from, leaving, next_channel, owned_by, owner_of, round_at, tail_leaves, verdict_at, verdict_in}
-use Rattle.noc_theory.specs.Progress.{head_place}
+use Rattle.noc_theory.proofs.Common.{false≢true, eqb-true, eq-eqb, and_left, end_of, In, Setup, State, after_verdicts, all_inputs, ask, claim_of, claim_with, count_in, front_in, grant_to_owner, granted_pair, has_channel, is_released, is_tail_of_packet, leads_from, leaving, next_channel, owned_by, owner_of, round_at, tail_leaves, verdict_at, verdict_in, head_place, Channel, Eject, Inject, Link, arrival_of, sending_router, channel_vc, same_channel, Unrouted, Waits, is_granted, is_moved, verdict_of, Verdict, Empty, Granted, NoIdleChannel, local_port, Has, is_some_of, is_some_of-some}
 use Rattle.noc_theory.proofs.runs.PostLemmas.{some_of_map}
-use Rattle.noc_route.specs.Channel.{Channel, Eject, Inject, Link, arrival_of, sending_router, channel_vc, same_channel}
-use Rattle.noc_view.specs.Verdict.{Unrouted, Waits, is_granted, is_moved, verdict_of}
-use Rattle.noc_view.specs.declared.verdict.Verdict.{Verdict}
-use Rattle.noc_view.specs.declared.verdict.Verdict.TheVariants.{Empty, Granted, NoIdleChannel}
-use Rattle.noc_topo.specs.Shape.{local_port}
-use Rattle.noc_topo.specs.Lists.{Has, is_some_of}
-use Rattle.noc_alloc.proofs.WordLemmas.{is_some_of-some}
 use Rattle.noc_theory.proofs.worms.BufferLemmas.{same_channel-true}
 use Rattle.noc_theory.proofs.worms.OptionLemmas.{and_then-some}
 use Rattle.noc_theory.proofs.worms.MemberLemmas.{Has-filter_map, Has-kept, Has-mapped, Has-right, find-some, Has-filter_mapped}

@@ -1,12 +1,7 @@
 -- In the opening state the remainder is the budget.
 use Rattle.std.proofs.Common.{◌≡◌, ℕ, zero, suc, ◌+◌, ◌*◌, ◌<◌, List, [], ◌∷◌, ◌++◌, map, length, get_or, Option, Some, None, refl, ap, sym, ◌∙◌, arith, zero-add, zero-mul, suc-mul}
 use Rattle.std.specs.Prelude.{find, nat_eq, ◌&&◌, option_map, unwrap_or, flat_map, sum_by}
-use Rattle.std.specs.List.{enumerate_from, range_with_len}
-use Rattle.std.proofs.lemmas.List.Sums.{sum_by-cons}
-use Rattle.noc_theory.specs.Network.{Located, Setup, Source, opening_state, packet_at}
-use Rattle.noc_theory.specs.Progress.{budget, head_place, hops, remainder, allocations_left, weight}
-use Rattle.noc_packet.specs.declared.packet.Packet.{Packet}
-use Rattle.noc_topo.specs.Lists.{below}
+use Rattle.noc_theory.proofs.Common.{enumerate_from, range_with_len, sum_by-cons, Located, Setup, Source, opening_state, packet_at, budget, head_place, hops, remainder, allocations_left, weight, Packet, below}
 use Rattle.noc_theory.proofs.worms.MemberLemmas.{Has-flat_map}
 use Rattle.noc_theory.proofs.budget.HasLemmas.{find-has, map-has}
 use Rattle.noc_theory.proofs.budget.SumLemmas.{sum_by-+}

@@ -2,16 +2,10 @@
 -- frozen state are in order.
 use Rattle.std.proofs.Common.{◌≡◌, ℕ, zero, suc, ◌<◌, ◌≤◌, Bool, true, false, Option, List, [], ◌∷◌, ◌++◌, map, refl, ap, ap₂, ◌∙◌, arith, inl, inr, subst, append-nil}
 use Rattle.std.specs.Prelude.{count_by, find, nat_eq, ◌&&◌, filter, IsTrue}
-use Rattle.std.proofs.lemmas.Bool.{true≢false, and_left, and_right, ne_eqb}
 use Rattle.std.proofs.lemmas.List.{nil_from_length}
-use Rattle.noc_theory.specs.Network.{end_distance, after_injection, In, Injection, Located, On, Out, Place, Setup, Source, State, after_credits, after_landing, all_inputs, frozen_state, injected_place, injections, landed_place, state_at, verdict_in}
-use Rattle.noc_theory.specs.Progress.{events, is_flying, is_pending, is_stuck}
 use Rattle.noc_theory.proofs.budget.ProgressRecordLemmas.{IsBuilt}
-use Rattle.noc_route.specs.Channel.{Channel}
 use Rattle.noc_route.specs.Ranks.{IsRanked}
-use Rattle.noc_route.specs.Routes.{permits}
-use Rattle.noc_view.specs.Verdict.{is_event}
-use Rattle.noc_topo.specs.Lists.{Has}
+use Rattle.noc_theory.proofs.Common.{true≢false, and_left, and_right, ne_eqb, end_distance, after_injection, In, Injection, Located, On, Out, Place, Setup, Source, State, after_credits, after_landing, all_inputs, frozen_state, injected_place, injections, landed_place, state_at, verdict_in, events, is_flying, is_pending, is_stuck, Channel, permits, is_event, Has}
 use Rattle.noc_theory.proofs.budget.HasLemmas.{none-counted}
 use Rattle.noc_theory.proofs.budget.WormChainLemmas.{IsNearing, IsChain, IsQuiet}
 use Rattle.noc_theory.proofs.budget.QuietLemmas.{quiet-absurd}

@@ -1,10 +1,7 @@
 -- What progress needs of a network: its parts fit each other, and no packet reaches a place from
 -- which nothing is permitted.
 use Rattle.std.specs.Prelude.{◌≡◌, ℕ, ◌<◌, IsTrue, length, Some}
-use Rattle.noc_topo.specs.Shape.{nodes, neighbour}
-use Rattle.noc_route.specs.Channel.{Channel, Link, Inject, Eject}
-use Rattle.noc_route.specs.Routes.{permits}
-use Rattle.noc_theory.specs.Network.{Setup, size, packet_at, leaving}
+use Rattle.noc_theory.proofs.Common.{nodes, neighbour, Channel, Link, Inject, Eject, permits, Setup, size, packet_at, leaving}
 
 module _ (net : Setup) where
   -- a channel of this network

@@ -3,9 +3,7 @@
 -- the budget all packets are out.
 use Rattle.std.proofs.Common.{◌≡◌, ℕ, suc, ◌+◌, ◌<◌, ◌≤◌, true, false, length, Some}
 use Rattle.noc_route.specs.Ranks.{IsRankedBy, Ranking, rank_at}
-use Rattle.noc_theory.specs.Network.{Setup, packet_at, state_at, frozen_at, network_cycle, arrival_in}
-use Rattle.noc_theory.specs.Progress.{remainder, budget, events, is_pending, is_stuck}
-use Rattle.noc_theory.specs.Good.{IsWellFormedSetup}
+use Rattle.noc_theory.proofs.Common.{Setup, packet_at, state_at, frozen_at, network_cycle, arrival_in, remainder, budget, events, is_pending, is_stuck, IsWellFormedSetup}
 use Rattle.noc_theory.proofs.worms.BuiltLemmas.{good-built, good-wired}
 use Rattle.noc_theory.proofs.worms.WormOrderLemmas.{whole-at, whole-frozen_at}
 use Rattle.noc_theory.proofs.worms.NetworkLemmas.{queued-frozen_at, led-frozen_at}

@@ -2,18 +2,8 @@
 -- with a rank, and ranks rise.
 use Rattle.std.proofs.Common.{◌≡◌, ◌≢◌, ℕ, zero, suc, ◌+◌, ◌*◌, ◌/◌, ◌%◌, ◌<◌, ◌≤◌, Bool, true, false, cond, List, [], ◌∷◌, length, Option, Some, None, refl, ap, sym, ◌∙◌, arith, inl, inr, subst, ⊎_elim}
 use Rattle.std.specs.Prelude.{option_map, unwrap_or, is_none, nat_eq, nat_lt, nat_le, option_and_then, find, filter, ◌&&◌, ◌⊎◌, IsTrue}
-use Rattle.std.specs.List.{list_any}
-use Rattle.std.proofs.lemmas.Bool.{false≢true, true≢false, cases_lt, cases_eq, eq-eqb, ne_eqb, lt-ltb, le-leb, leb-true, and_from, and_parts}
-use Rattle.std.proofs.lemmas.Nat.{div-mul-add, mod-mul-add}
-use Rattle.noc_topo.specs.Lists.{Has, below}
-use Rattle.noc_topo.specs.Shape.{distance, local_port, nodes, ports}
-use Rattle.noc_route.specs.Channel.{Channel, Link, Inject, Eject, channel_vc}
 use Rattle.noc_route.specs.Ranks.{LeadsTo, direct, through, IsRanked}
-use Rattle.noc_route.specs.Routes.{permits}
-use Rattle.noc_route.proofs.BuiltLemmas.{linked-port}
-use Rattle.noc_view.specs.Verdict.{Unrouted, Waits, verdict_of}
-use Rattle.noc_theory.specs.Network.{Setup, State, Located, Place, Source, On, In, Out, size, packet_at, leaving, owner_of, owned_by, next_channel, end_of, end_distance, claim_of, claim_with, ask, is_idle, has_credit_in, count_in, has_channel, first_waiting, flits_of, is_at_source, is_injection_of, injection_at, injection_with, beginning, round_at, tail_place, out_cycle}
-use Rattle.noc_theory.specs.Progress.{is_flying, is_pending}
+use Rattle.noc_theory.proofs.Common.{list_any, false≢true, true≢false, cases_lt, cases_eq, eq-eqb, ne_eqb, lt-ltb, le-leb, leb-true, and_from, and_parts, div-mul-add, mod-mul-add, Has, below, distance, local_port, nodes, ports, Channel, Link, Inject, Eject, channel_vc, permits, linked-port, Unrouted, Waits, verdict_of, Setup, State, Located, Place, Source, On, In, Out, size, packet_at, leaving, owner_of, owned_by, next_channel, end_of, end_distance, claim_of, claim_with, ask, is_idle, has_credit_in, count_in, has_channel, first_waiting, flits_of, is_at_source, is_injection_of, injection_at, injection_with, beginning, round_at, tail_place, out_cycle, is_flying, is_pending}
 use Rattle.noc_theory.proofs.worms.BuiltLemmas.{distance-none}
 use Rattle.noc_theory.proofs.worms.MemberLemmas.{Has-filter, Has-kept, find-some, list_any-from, list_any-has, Has-filter_mapped}
 use Rattle.noc_theory.proofs.worms.OpeningLemmas.{below-has}

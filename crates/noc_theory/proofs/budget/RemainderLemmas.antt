@@ -1,9 +1,7 @@
 -- What an injection takes from the weights of the flits.
 use Rattle.std.proofs.Common.{◌≡◌, ℕ, ◌+◌, Bool, true, false, cond, Option, Some, None, refl, ap, ◌∙◌, arith, add-zero}
 use Rattle.std.specs.Prelude.{find, nat_eq, ◌&&◌, sum_by, count_by, is_some}
-use Rattle.noc_theory.specs.Network.{In, Injection, Located, On, Out, Place, Setup, Source, State, after_injection, first_at_source, injected_place, injections, is_at_source, is_the_flit}
-use Rattle.noc_theory.specs.Progress.{weight}
-use Rattle.noc_route.specs.Channel.{Inject}
+use Rattle.noc_theory.proofs.Common.{In, Injection, Located, On, Out, Place, Setup, Source, State, after_injection, first_at_source, injected_place, injections, is_at_source, is_the_flit, weight, Inject}
 use Rattle.noc_theory.proofs.budget.SumLemmas.{sum_by-falls}
 
 module _ (net : Setup) (n : ℕ) (S : State) where

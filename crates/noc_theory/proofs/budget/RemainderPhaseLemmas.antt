@@ -2,12 +2,7 @@
 -- flit that leaves its source.
 use Rattle.std.proofs.Common.{◌≡◌, ℕ, ◌+◌, ◌*◌, ◌<◌, Bool, true, false, cond, List, [], ◌∷◌, map, length, Option, Some, None, refl, ap, sym, ◌∙◌, arith, inl, inr, subst}
 use Rattle.std.specs.Prelude.{filter, find, nat_eq, not, ◌&&◌, sum_by, count_by, is_some, option_map, option_and_then, unwrap_or}
-use Rattle.std.proofs.lemmas.Bool.{false≢true, eqb-true}
-use Rattle.std.proofs.lemmas.List.Sums.{sum_by-cons}
-use Rattle.noc_theory.specs.Network.{In, Located, On, Out, Place, Setup, Source, State, after_credits, after_landing, end_distance, has_channel, is_freed, landed_place, leads_from, next_channel, owned_by, owner_of, packet_at, place_of_flit}
-use Rattle.noc_theory.specs.Progress.{head_place, is_flying, remainder, allocations_left, weight}
-use Rattle.noc_route.specs.Channel.{Channel, Eject, Inject, Link, is_link, same_channel}
-use Rattle.noc_topo.specs.Lists.{Has, below}
+use Rattle.noc_theory.proofs.Common.{false≢true, eqb-true, sum_by-cons, In, Located, On, Out, Place, Setup, Source, State, after_credits, after_landing, end_distance, has_channel, is_freed, landed_place, leads_from, next_channel, owned_by, owner_of, packet_at, place_of_flit, head_place, is_flying, remainder, allocations_left, weight, Channel, Eject, Inject, Link, is_link, same_channel, Has, below}
 use Rattle.noc_theory.proofs.worms.BufferLemmas.{same_channel-true}
 use Rattle.noc_theory.proofs.worms.GrantLemmas.{Has-below}
 

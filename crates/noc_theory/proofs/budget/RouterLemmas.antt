@@ -1,23 +1,14 @@
 -- One router makes progress: where a channel is ready one moves, where one asks one is granted.
 use Rattle.std.proofs.Common.{◌≡◌, ℕ, suc, ◌+◌, ◌*◌, ◌/◌, ◌%◌, ◌<◌, ◌≤◌, Bool, true, false, List, map, length, get_or, Option, Some, None, refl, ap, sym, ◌∙◌, arith, inl, inr, div-add-mod', mul-le-mul_right, suc-mul, div-lt_iff_lt-mul}
 use Rattle.std.specs.Prelude.{option_map, unwrap_or, nat_eq, nat_lt, filter_map, slice_index, ◌⊎◌}
-use Rattle.std.proofs.lemmas.Bool.{cases_lt, eqb-true, eq-eqb, ne_eqb}
-use Rattle.std.proofs.lemmas.List.{get_or-map, get_or_past, length-map}
 use Rattle.std.proofs.lemmas.List.FromFn.{length-map-range_with_len}
-use Rattle.std.proofs.lemmas.Nat.{div-mul-add, mod-mul-add}
 use Rattle.noc_alloc.specs.Arbiter.{pointers_of}
 use Rattle.noc_alloc.specs.Allocation.{grant_of}
-use Rattle.noc_theory.specs.Network.{arbiters_at, Setup, State, all_inputs, arriving, claim_of, count_in, round_at, size, stand_of, stands_at, verdict_at, verdict_in}
+use Rattle.noc_theory.specs.Network.{stands_at}
 use Rattle.noc_theory.proofs.budget.ProgressRecordLemmas.{IsBuilt, IsReal}
-use Rattle.noc_route.specs.Channel.{Channel, Eject, Inject, Link, arrival_of, channel_vc, inputs}
-use Rattle.noc_route.proofs.BuiltLemmas.{linked-port}
-use Rattle.noc_view.specs.Verdict.{Claim, Holds, ArbiterStates, Stand, Unrouted, Waits, ask_of, ready_port, verdict_of}
-use Rattle.noc_view.specs.declared.verdict.Verdict.TheVariants.{Granted, Moved}
-use Rattle.noc_topo.specs.Shape.{local_port, neighbour, nodes, ports}
-use Rattle.noc_topo.specs.Lists.{tabulate, Has, below, is_some_of}
+use Rattle.noc_view.specs.Verdict.{Stand}
 use Rattle.noc_alloc.proofs.ArbiterLemmas.{first_in_turn-picks}
-use Rattle.noc_alloc.proofs.WordLemmas.{is_some_of-true, is_some_of-some}
-use Rattle.noc_topo.proofs.ListLemmas.{get_or-tabulate}
+use Rattle.noc_theory.proofs.Common.{cases_lt, eqb-true, eq-eqb, ne_eqb, get_or-map, get_or_past, length-map, div-mul-add, mod-mul-add, arbiters_at, Setup, State, all_inputs, arriving, claim_of, count_in, round_at, size, stand_of, verdict_at, verdict_in, Channel, Eject, Inject, Link, arrival_of, channel_vc, inputs, linked-port, Claim, Holds, ArbiterStates, Unrouted, Waits, ask_of, ready_port, verdict_of, Granted, Moved, local_port, neighbour, nodes, ports, tabulate, Has, below, is_some_of, is_some_of-true, is_some_of-some, get_or-tabulate}
 use Rattle.noc_theory.proofs.worms.OpeningLemmas.{below-has}
 use Rattle.noc_theory.proofs.worms.MemberLemmas.{Has-filter_mapped, Has-flat_mapped}
 use Rattle.noc_theory.proofs.budget.AllocationLemmas.{first_in_turn-some, switch-moves, moves-at}

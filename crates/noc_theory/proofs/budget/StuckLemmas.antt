@@ -2,15 +2,8 @@
 -- from the state after it.
 use Rattle.std.proofs.Common.{◌≡◌, ℕ, zero, suc, ◌≤◌, Bool, true, false, cond, List, length, Option, Some, None, refl, ap, sym, ◌∙◌, arith}
 use Rattle.std.specs.Prelude.{nat_eq, nat_le, nat_lt, not, is_none, ◌&&◌}
-use Rattle.std.proofs.lemmas.Bool.{true≢false, false_from_ne_true, and_left, and_right, lt-ltb, le-ltb, ne_eqb, eq-eqb}
-use Rattle.noc_topo.specs.Lists.{below, is_some_of}
-use Rattle.noc_route.specs.Channel.{Channel}
-use Rattle.noc_view.specs.Verdict.{is_event, is_moved}
-use Rattle.noc_theory.specs.Network.{Setup, Located, Place, Source, On, In, Out, packet_at, state_at, frozen_at, network_cycle, after_verdicts, moved_place, is_the_flit, front_in, gone_to, next_channel, verdict_in, arrival_in}
-use Rattle.noc_theory.specs.Progress.{events, is_pending, is_stuck, last_event_before}
-use Rattle.noc_view.proofs.MoverLemmas.{is_moved-true}
+use Rattle.noc_theory.proofs.Common.{true≢false, false_from_ne_true, and_left, and_right, lt-ltb, le-ltb, ne_eqb, eq-eqb, below, is_some_of, Channel, is_event, is_moved, Setup, Located, Place, Source, On, In, Out, packet_at, state_at, frozen_at, network_cycle, after_verdicts, moved_place, is_the_flit, front_in, gone_to, next_channel, verdict_in, arrival_in, events, is_pending, is_stuck, last_event_before, is_moved-true, IsWellFormedSetup}
 use Rattle.noc_theory.proofs.worms.MemberLemmas.{any-same}
-use Rattle.noc_theory.specs.Good.{IsWellFormedSetup}
 use Rattle.noc_theory.proofs.budget.ProgressLemmas.{map-same, at-same, quiet-frozen}
 use Rattle.noc_theory.proofs.budget.ProgressTheoremLemmas.{countable}
 

@@ -2,18 +2,11 @@
 -- its arbiters stay as they are.
 use Rattle.std.proofs.Common.{◌≡◌, ℕ, ◌+◌, ◌*◌, ◌<◌, ◌≤◌, Bool, true, false, cond, List, length, get_or, Option, Some, None, refl, ap, ◌∙◌, arith, inl, inr}
 use Rattle.std.specs.Prelude.{◌⊎◌, find, is_some, nat_lt, option_and_then, slice_index, if◌then◌else◌}
-use Rattle.std.proofs.lemmas.Bool.{cases_lt, ltb-true}
-use Rattle.std.proofs.lemmas.List.{get_or_past}
-use Rattle.noc_topo.specs.Lists.{below, is_some_of}
-use Rattle.noc_topo.specs.Shape.{nodes, ports}
-use Rattle.noc_topo.proofs.ListLemmas.{get_or-tabulate, length-tabulate}
-use Rattle.noc_route.specs.Channel.{Channel}
 use Rattle.noc_alloc.specs.Arbiter.{RoundRobin, arbiter_after, pointers_of}
 use Rattle.noc_alloc.specs.Allocation.{arbiters_after_winners, grant_of, has_won, pick_of, picked_port, winner_of, winning_pick}
 use Rattle.noc_alloc.proofs.ArbiterLemmas.{first_in_turn-none}
-use Rattle.noc_view.specs.Verdict.{ArbiterStates, Round, Unrouted, Waits, arbiters_after, ask_of, ready_port}
 use Rattle.noc_view.proofs.StillLemmas.{map_indexed-same}
-use Rattle.noc_theory.specs.Network.{Setup, State, arbiters_at, arriving, ask, claim_of, claim_with, count_in, has_channel, has_credit_in, next_channel, owner_of, round_at, size, stand_of}
+use Rattle.noc_theory.proofs.Common.{cases_lt, ltb-true, get_or_past, below, is_some_of, nodes, ports, get_or-tabulate, length-tabulate, Channel, ArbiterStates, Round, Unrouted, Waits, arbiters_after, ask_of, ready_port, Setup, State, arbiters_at, arriving, ask, claim_of, claim_with, count_in, has_channel, has_credit_in, next_channel, owner_of, round_at, size, stand_of}
 use Rattle.noc_theory.proofs.worms.GrantLemmas.{Has-below}
 use Rattle.noc_theory.proofs.worms.OptionLemmas.{and_then-some}
 use Rattle.noc_theory.proofs.budget.HasLemmas.{find-has}

@@ -2,20 +2,10 @@
 -- before a packet becomes due.
 use Rattle.std.proofs.Common.{◌≡◌, ℕ, zero, suc, ◌+◌, ◌-◌, ◌<◌, ◌≤◌, Bool, true, false, cond, List, [], ◌∷◌, ◌++◌, length, map, get_or, Option, Some, None, refl, ap, ap₂, sym, subst, ◌∙◌, arith, inl, inr, append-nil}
 use Rattle.std.specs.Prelude.{◌⊎◌, ◌&&◌, count_by, filter, find, is_none, nat_eq, nat_le, not, option_and_then, option_map}
-use Rattle.std.specs.List.{cons_option, filter_map, list_any}
-use Rattle.std.proofs.lemmas.Bool.{and_left, and_parts, and_right, cases_lt, eq-eqb, eqb-true, false_from_ne_true, le-leb, lt-leb, false≢true, true≢false, and_from}
-use Rattle.std.proofs.lemmas.List.{get_or_past, nil_from_length}
-use Rattle.noc_topo.specs.Lists.{Has, below}
-use Rattle.noc_topo.specs.Shape.{nodes}
-use Rattle.noc_topo.proofs.ListLemmas.{map_indexed-from_each}
-use Rattle.noc_packet.specs.declared.packet.Packet.{Packet}
-use Rattle.noc_route.specs.Channel.{Channel, Link, Inject, Eject, is_link}
-use Rattle.noc_view.specs.Verdict.{ArbiterStates, arbiters_after, is_event, is_granted, is_moved, is_routed}
-use Rattle.noc_view.specs.declared.verdict.Verdict.{Verdict}
-use Rattle.noc_view.specs.declared.verdict.Verdict.TheVariants.{Routed, Granted}
-use Rattle.noc_theory.specs.Good.{IsWellFormedSetup}
-use Rattle.noc_theory.specs.Network.{Injection, Located, Setup, State, after_credits, after_injection, after_landing, after_verdicts, all_inputs, arrival_in, end_of, first_waiting, frozen_at, frozen_state, grant_to_owner, granted_pair, has_channel, injected_place, injection_at, injection_with, injections, is_freed, is_idle, is_injection_of, is_past, is_released, is_tail_of_packet, front_in, network_cycle, owned_by, owner_of, packet_at, round_at, state_at, tail_leaves, tail_place, verdict_in}
-use Rattle.noc_theory.specs.Progress.{NoneDue, events, is_flying, is_pending, is_stuck}
+use Rattle.std.proofs.lemmas.Bool.{lt-leb}
+use Rattle.std.proofs.lemmas.List.{nil_from_length}
+use Rattle.noc_theory.proofs.Common.{cons_option, filter_map, list_any, and_left, and_parts, and_right, cases_lt, eq-eqb, eqb-true, false_from_ne_true, le-leb, false≢true, true≢false, and_from, get_or_past, Has, below, nodes, map_indexed-from_each, Packet, Channel, Link, Inject, Eject, is_link, ArbiterStates, arbiters_after, is_event, is_granted, is_moved, is_routed, Verdict, Routed, Granted, IsWellFormedSetup, Injection, Located, Setup, State, after_credits, after_injection, after_landing, after_verdicts, all_inputs, arrival_in, end_of, first_waiting, frozen_at, frozen_state, grant_to_owner, granted_pair, has_channel, injected_place, injection_at, injection_with, injections, is_freed, is_idle, is_injection_of, is_past, is_released, is_tail_of_packet, front_in, network_cycle, owned_by, owner_of, packet_at, round_at, state_at, tail_leaves, tail_place, verdict_in, events, is_flying, is_pending, is_stuck}
+use Rattle.noc_theory.specs.Progress.{NoneDue}
 use Rattle.noc_theory.proofs.worms.MemberLemmas.{any-same, filter-all}
 use Rattle.noc_theory.proofs.worms.OneBackLemmas.{arbiters-frozen, arbiters-state}
 use Rattle.noc_theory.proofs.worms.WormOrderLemmas.{whole-at}

@@ -2,12 +2,7 @@
 -- which its flits can follow.
 use Rattle.std.proofs.Common.{◌≡◌, ℕ, ◌-◌, ◌<◌, true, false, [], length, Some}
 use Rattle.std.specs.Prelude.{IsTrue, find}
-use Rattle.noc_theory.specs.Network.{end_distance, In, Located, Setup, State, all_inputs, count_in, first_waiting, has_channel, injections, is_injection_of, next_channel, owned_by, owner_of, packet_at, verdict_in}
-use Rattle.noc_theory.specs.Progress.{is_flying}
-use Rattle.noc_route.specs.Channel.{Channel, Eject, Inject, Link}
-use Rattle.noc_route.specs.Routes.{permits}
-use Rattle.noc_view.specs.Verdict.{is_event}
-use Rattle.noc_topo.specs.Lists.{Has}
+use Rattle.noc_theory.proofs.Common.{end_distance, In, Located, Setup, State, all_inputs, count_in, first_waiting, has_channel, injections, is_injection_of, next_channel, owned_by, owner_of, packet_at, verdict_in, is_flying, Channel, Eject, Inject, Link, permits, is_event, Has}
 
 module _ (net : Setup) where
   -- each permitted hop brings the packet nearer

@@ -2,18 +2,9 @@
 -- source that could go on.
 use Rattle.std.proofs.Common.{◌≡◌, ℕ, ◌+◌, ◌-◌, ◌*◌, ◌/◌, ◌%◌, ◌<◌, Bool, true, false, cond, List, [], ◌∷◌, length, Option, Some, None, refl, ap, sym, ◌∙◌, arith, inl, inr, subst}
 use Rattle.std.specs.Prelude.{option_map, unwrap_or, nat_eq, nat_lt, option_and_then, find, filter, ◌&&◌}
-use Rattle.std.proofs.lemmas.Bool.{false≢true, true≢false, eqb-true, eq-eqb, lt-ltb, and_from, and_parts}
-use Rattle.noc_theory.specs.Network.{arriving, In, Located, On, Out, Place, Setup, Source, State, all_inputs, ask, claim_of, claim_with, count_in, count_on, credit_of, has_channel, has_credit_in, injection_at, injection_with, injections, is_idle, is_injection_of, is_on, leads_from, leaving, next_channel, owned_by, owner_of, packet_at, round_at, size, tail_place, verdict_in}
-use Rattle.noc_theory.specs.Progress.{is_flying}
+use Rattle.noc_theory.proofs.Common.{false≢true, true≢false, eqb-true, eq-eqb, lt-ltb, and_from, and_parts, arriving, In, Located, On, Out, Place, Setup, Source, State, all_inputs, ask, claim_of, claim_with, count_in, count_on, credit_of, has_channel, has_credit_in, injection_at, injection_with, injections, is_idle, is_injection_of, is_on, leads_from, leaving, next_channel, owned_by, owner_of, packet_at, round_at, size, tail_place, verdict_in, is_flying, Channel, Eject, Inject, Link, sending_router, channel_vc, output_at, output_index, same_channel, permits, linked-port, Claim, Holds, Unrouted, Waits, is_event, verdict_of, Granted, Moved, Routed, Grid, local_port, nodes, ports, Has, below, is_some_of}
 use Rattle.noc_theory.proofs.runs.PostLemmas.{some_of_map}
 use Rattle.noc_theory.proofs.budget.ProgressRecordLemmas.{IsBuilt, IsReal, LeadsOn}
-use Rattle.noc_route.specs.Channel.{Channel, Eject, Inject, Link, sending_router, channel_vc, output_at, output_index, same_channel}
-use Rattle.noc_route.specs.Routes.{permits}
-use Rattle.noc_route.proofs.BuiltLemmas.{linked-port}
-use Rattle.noc_view.specs.Verdict.{Claim, Holds, Unrouted, Waits, is_event, verdict_of}
-use Rattle.noc_view.specs.declared.verdict.Verdict.TheVariants.{Granted, Moved, Routed}
-use Rattle.noc_topo.specs.Shape.{Grid, local_port, nodes, ports}
-use Rattle.noc_topo.specs.Lists.{Has, below, is_some_of}
 use Rattle.noc_theory.proofs.worms.BufferLemmas.{same_channel-refl, same_channel-true}
 use Rattle.noc_theory.proofs.worms.OptionLemmas.{and_then-some}
 use Rattle.noc_theory.proofs.worms.MemberLemmas.{Has-filter, find-some, Has-filter_mapped}

@@ -1,23 +1,12 @@
 -- After the injections: the channel on which a source injects.
 use Rattle.std.proofs.Common.{◌≡◌, ◌≢◌, ℕ, ◌+◌, ◌-◌, ◌<◌, ◌≤◌, Bool, true, false, [], ◌∷◌, ◌++◌, map, Option, Some, None, refl, ap, sym, ◌∙◌, inl, inr, subst, arith}
 use Rattle.std.specs.Prelude.{find, option_and_then, ◌⊎◌, ◌&&◌, not, nat_eq, nat_lt, if◌then◌else◌}
-use Rattle.std.proofs.lemmas.Bool.{false≢true, true≢false, cases_eq, ne_eqb, lt-ltb, le-leb, cases_order, or_left}
-use Rattle.std.proofs.lemmas.List.{map-append}
-use Rattle.noc_topo.specs.Lists.{below, Has}
-use Rattle.noc_topo.specs.Shape.{nodes}
-use Rattle.noc_packet.specs.Packet.{flit_at}
-use Rattle.noc_packet.specs.declared.packet.Flit.{Flit}
-use Rattle.noc_route.specs.Channel.{Channel, Inject}
-use Rattle.noc_vc.specs.Input.{input_after_land, next_of}
-use Rattle.noc_vc.specs.declared.input.InputState.{InputState}
-use Rattle.noc_theory.specs.Lockstep.{has_come, come_count, seen_flits, seen_input, seen_phase, is_present, last_come}
-use Rattle.noc_theory.specs.Network.{Setup, State, Located, Place, Source, In, Injection, packet_at, place_of_flit, tail_place, buffer_of, owner_of, has_channel, is_in, is_past, injections, injection_at, after_injection}
+use Rattle.noc_theory.proofs.Common.{false≢true, true≢false, cases_eq, ne_eqb, lt-ltb, le-leb, cases_order, or_left, map-append, below, Has, nodes, flit_at, Flit, Channel, Inject, input_after_land, next_of, InputState, has_come, come_count, seen_flits, seen_input, seen_phase, is_present, last_come, Setup, State, Located, Place, Source, In, Injection, packet_at, place_of_flit, tail_place, buffer_of, owner_of, has_channel, is_in, is_past, injections, injection_at, after_injection, IsValid}
 use Rattle.noc_theory.proofs.worms.BufferLemmas.{same_channel-refl, same_channel-true}
 use Rattle.noc_theory.proofs.worms.InjectionPhaseLemmas.{IsEntry, light, source-behind, apart-same}
 use Rattle.noc_theory.proofs.worms.InjectionStateLemmas.{entry-of, entries-apart}
 use Rattle.noc_theory.proofs.worms.OwnedLemmas.{owner-has}
 use Rattle.noc_theory.proofs.worms.StateWordLemmas.{IsEject, IsHeld, IsPlaced, goal}
-use Rattle.noc_theory.specs.Good.{IsValid}
 use Rattle.noc_theory.proofs.worms.PlaceLemmas.{place-of-flit, flit-there}
 use Rattle.noc_theory.proofs.worms.UnmixedLemmas.{in-buffer}
 use Rattle.noc_theory.proofs.worms.MemberLemmas.{Has-kept, Has-filter_mapped}

@@ -2,13 +2,7 @@
 -- which its source injects.
 use Rattle.std.proofs.Common.{◌≡◌, ◌≢◌, ℕ, ◌<◌, ◌≤◌, Bool, true, false, length, Option, Some, None, refl, ap, sym, ◌∙◌, inl, inr, subst, arith}
 use Rattle.std.specs.Prelude.{find, option_and_then, ◌⊎◌, ◌||◌, nat_eq, nat_lt}
-use Rattle.std.proofs.lemmas.Bool.{false≢true, eqb-true, cases_eq, le-ltb}
-use Rattle.noc_topo.specs.Lists.{Has}
-use Rattle.noc_topo.specs.Shape.{distance}
-use Rattle.noc_route.specs.Channel.{Channel, Link, Inject, Eject, same_channel}
-use Rattle.noc_theory.specs.Lockstep.{has_come, come_count}
-use Rattle.noc_theory.specs.Network.{Setup, State, Located, Place, Source, In, Injection, place_of_flit, owner_of, owned_by, next_channel, leads_from, injections, injected_place, after_injection}
-use Rattle.noc_theory.specs.Progress.{hops}
+use Rattle.noc_theory.proofs.Common.{false≢true, eqb-true, cases_eq, le-ltb, Has, distance, Channel, Link, Inject, Eject, same_channel, has_come, come_count, Setup, State, Located, Place, Source, In, Injection, place_of_flit, owner_of, owned_by, next_channel, leads_from, injections, injected_place, after_injection, hops, IsValid}
 use Rattle.noc_theory.proofs.worms.BufferLemmas.{same_channel-true}
 use Rattle.noc_theory.proofs.worms.InjectionPhaseLemmas.{IsEntry, IsEnteredBy, IsInjected}
 use Rattle.noc_theory.proofs.worms.InjectionStateLemmas.{all_entries, entries-are, entries-apart, entries-move, worm-after_injection, keyed-after_injection}
@@ -16,7 +10,6 @@ use Rattle.noc_theory.proofs.worms.MemberLemmas.{Has-left}
 use Rattle.noc_theory.proofs.worms.MoveLemmas.{IsNext, next-is}
 use Rattle.noc_theory.proofs.worms.OwnedLemmas.{owner-has, idle-none}
 use Rattle.noc_theory.proofs.worms.StateWordLemmas.{IsEject, IsKeyed, IsHeld, IsNear, goal, last_of, far_of}
-use Rattle.noc_theory.specs.Good.{IsValid}
 use Rattle.noc_theory.proofs.worms.PlaceLemmas.{place-of-flit, place-stepped}
 use Rattle.noc_theory.proofs.worms.RoutedInjectionLemmas.{split, is-new, added, routed-injection}
 use Rattle.noc_theory.proofs.worms.RoutedRecordLemmas.{IsRoutedFrozen}

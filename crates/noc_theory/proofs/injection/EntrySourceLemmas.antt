@@ -1,20 +1,11 @@
 -- After the injections: what waits at the source of a router.
 use Rattle.std.proofs.Common.{◌≡◌, ◌≢◌, ℕ, ◌+◌, ◌<◌, ◌≤◌, Bool, true, false, List, [], ◌∷◌, length, Option, Some, None, refl, ap, sym, ◌∙◌, inl, inr, subst, arith}
 use Rattle.std.specs.Prelude.{filter, find, count_by, option_map, ◌⊎◌, ◌&&◌, not, nat_eq}
-use Rattle.std.specs.List.{list_any}
-use Rattle.std.proofs.lemmas.Bool.{eq-eqb, eqb-true, ne_eqb, cases_eq}
-use Rattle.std.proofs.lemmas.Option.{none-some, same_Some}
-use Rattle.noc_topo.specs.Lists.{below, Has}
-use Rattle.noc_topo.specs.Shape.{nodes}
-use Rattle.noc_packet.specs.declared.packet.Packet.{Packet}
-use Rattle.noc_route.specs.Channel.{Channel, Inject, channel_vc}
-use Rattle.noc_theory.specs.Lockstep.{starts_at, has_flit_at_source, seen_sending}
-use Rattle.noc_theory.specs.Network.{Setup, State, Located, Place, Source, In, Injection, packet_at, place_of_flit, tail_place, flits_of, owned_by, is_at_source, is_injection_of, first_waiting, injections, injection_at, after_injection}
+use Rattle.noc_theory.proofs.Common.{list_any, eq-eqb, eqb-true, ne_eqb, cases_eq, none-some, same_Some, below, Has, nodes, Packet, Channel, Inject, channel_vc, starts_at, has_flit_at_source, seen_sending, Setup, State, Located, Place, Source, In, Injection, packet_at, place_of_flit, tail_place, flits_of, owned_by, is_at_source, is_injection_of, first_waiting, injections, injection_at, after_injection, IsValid}
 use Rattle.noc_theory.proofs.worms.StateWordLemmas.{Precedes, last_of}
 use Rattle.noc_theory.proofs.worms.InjectionPhaseLemmas.{source-behind}
 use Rattle.noc_theory.proofs.worms.InjectionStateLemmas.{waiting-is}
 use Rattle.noc_theory.proofs.worms.MemberLemmas.{Has-filter, Has-kept, Has-filter_map, list_any-from}
-use Rattle.noc_theory.specs.Good.{IsValid}
 use Rattle.noc_theory.proofs.worms.PlaceLemmas.{place-of-flit, flit-there}
 use Rattle.noc_theory.proofs.worms.WormRecordLemmas.{valid-last, valid-below}
 use Rattle.noc_theory.proofs.injection.EntryChannelLemmas.{entered, is_entry, own}

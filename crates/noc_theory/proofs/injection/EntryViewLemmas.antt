@@ -1,17 +1,8 @@
 -- After the injections: each channel of a router as the state shows it.
 use Rattle.std.proofs.Common.{◌≡◌, ◌≢◌, ℕ, suc, ◌-◌, ◌<◌, Bool, true, false, cond, List, [], ◌∷◌, map, length, Option, Some, None, refl, ap, sym, ◌∙◌, inl, inr, subst}
 use Rattle.std.specs.Prelude.{filter, find, option_map, option_and_then, unwrap_or, ◌⊎◌, ◌&&◌, ◌||◌, not, nat_eq, nat_lt, if◌then◌else◌}
-use Rattle.std.proofs.lemmas.Bool.{false≢true}
-use Rattle.noc_topo.specs.Lists.{below, Has}
-use Rattle.noc_packet.specs.Packet.{flit_at}
-use Rattle.noc_packet.specs.declared.packet.Flit.{Flit}
-use Rattle.noc_route.specs.Channel.{Channel, Link, Inject, Eject, same_channel, is_link}
-use Rattle.noc_vc.specs.Input.{next_of}
-use Rattle.noc_vc.specs.declared.input.InputState.{InputState}
-use Rattle.noc_vc.specs.declared.input.InputState.TheVariants.{Idle, Waiting}
-use Rattle.noc_vc.specs.declared.output.OutputState.TheVariants.{Owned, Draining}
-use Rattle.noc_theory.specs.Lockstep.{has_come, come_count, seen_flits, seen_input, seen_output, seen_phase, seen_phase_with, seen_set, seen_holder, seen_sender, goes_on_by, is_present, last_come}
-use Rattle.noc_theory.specs.Network.{Setup, State, Located, Place, Source, On, In, Out, Injection, size, arriving, packet_at, tail_place, buffer_of, count_in, count_on, credit_of, owner_of, next_channel, has_channel, is_in, is_on, is_past, is_at_source, injections, injected_place, is_the_flit, first_at_source, after_injection}
+use Rattle.noc_theory.proofs.Common.{false≢true, below, Has, flit_at, Flit, Channel, Link, Inject, Eject, same_channel, is_link, next_of, InputState, Idle, Waiting, Owned, Draining, has_come, come_count, seen_flits, seen_input, seen_output, seen_phase, seen_phase_with, seen_set, seen_holder, seen_sender, is_present, last_come, Setup, State, Located, Place, Source, On, In, Out, Injection, size, arriving, packet_at, tail_place, buffer_of, count_in, count_on, credit_of, owner_of, next_channel, has_channel, is_in, is_on, is_past, is_at_source, injections, injected_place, is_the_flit, first_at_source, after_injection}
+use Rattle.noc_theory.specs.Lockstep.{goes_on_by}
 use Rattle.noc_theory.proofs.worms.BufferLemmas.{same_channel-true, filter-kept}
 use Rattle.noc_theory.proofs.worms.MemberLemmas.{find-has}
 use Rattle.noc_theory.proofs.worms.OwnedLemmas.{owner-has}

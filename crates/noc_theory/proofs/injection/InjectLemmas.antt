@@ -2,22 +2,9 @@
 -- credits shows the frozen state.
 use Rattle.std.proofs.Common.{◌≡◌, ◌≢◌, ℕ, zero, suc, ◌+◌, ◌*◌, ◌/◌, ◌%◌, ◌<◌, Bool, true, false, cond, List, [], ◌∷◌, ◌++◌, map, length, get_or, set, Option, Some, None, refl, ap, sym, ◌∙◌, inl, inr, subst, arith}
 use Rattle.std.specs.Prelude.{filter, find, count_by, option_map, option_and_then, is_some, is_none, ◌⊎◌, ◌&&◌, ◌||◌, not, nat_eq, nat_lt, nat_le, if◌then◌else◌}
-use Rattle.std.proofs.lemmas.Bool.{false≢true, true≢false, eq-eqb, cases_eq, or_cases, lt-ltb}
-use Rattle.std.proofs.lemmas.Option.{none-some, same_Some}
-use Rattle.std.proofs.lemmas.List.{length-set, get_or-set_same, get_or-set_other, length-map}
-use Rattle.std.proofs.lemmas.Nat.{div-mul-add, mod-mul-add}
-use Rattle.noc_topo.specs.Lists.{below, Has}
-use Rattle.noc_topo.specs.Shape.{nodes, local_port}
-use Rattle.noc_packet.specs.Packet.{flit_at}
-use Rattle.noc_packet.specs.declared.packet.Packet.{Packet}
-use Rattle.noc_packet.specs.declared.packet.Flit.{Flit}
-use Rattle.noc_route.specs.Channel.{Channel, Link, Inject, Eject, channel_vc}
-use Rattle.noc_vc.specs.Input.{Input, idle_input, input_after_land, is_idle_phase, is_empty}
-use Rattle.noc_view.specs.View.{Site, View, view_buffer, view_input, local_channel, is_vacant, with_landed, with_injected, begun_on, view_after_inject_from, view_after_inject}
-use Rattle.noc_view.proofs.FindLemmas.{find-same, find-some}
-use Rattle.noc_theory.specs.Lockstep.{starts_at, ends_at, seen_flits, seen_input, seen_output, seen_phase_with, seen_sending, has_flit_at_source}
-use Rattle.noc_theory.specs.Network.{Setup, State, Located, Place, Source, On, In, Out, Injection, size, arriving, leaving, packet_at, place_of_flit, tail_place, flits_of, owner_of, owned_by, next_channel, has_channel, is_idle, is_in, is_past, is_at_source, is_injection_of, first_waiting, beginning, injection_with, injection_at, injections, count_in, buffer_of, out_cycle, after_injection}
-use Rattle.noc_theory.specs.Progress.{head_place}
+use Rattle.noc_vc.specs.Input.{is_idle_phase}
+use Rattle.noc_view.proofs.FindLemmas.{find-some}
+use Rattle.noc_theory.proofs.Common.{false≢true, true≢false, eq-eqb, cases_eq, or_cases, lt-ltb, none-some, same_Some, length-set, get_or-set_same, get_or-set_other, length-map, div-mul-add, mod-mul-add, below, Has, nodes, local_port, flit_at, Packet, Flit, Channel, Link, Inject, Eject, channel_vc, Input, idle_input, input_after_land, is_empty, Site, View, view_buffer, view_input, local_channel, is_vacant, with_landed, with_injected, begun_on, view_after_inject_from, view_after_inject, find-same, starts_at, ends_at, seen_flits, seen_input, seen_output, seen_phase_with, seen_sending, has_flit_at_source, Setup, State, Located, Place, Source, On, In, Out, Injection, size, arriving, leaving, packet_at, place_of_flit, tail_place, flits_of, owner_of, owned_by, next_channel, has_channel, is_idle, is_in, is_past, is_at_source, is_injection_of, first_waiting, beginning, injection_with, injection_at, injections, count_in, buffer_of, out_cycle, after_injection, head_place, IsSeen}
 use Rattle.noc_theory.proofs.worms.InjectionPhaseLemmas.{IsEntry}
 use Rattle.noc_theory.proofs.worms.InjectionStateLemmas.{waiting-is}
 use Rattle.noc_theory.proofs.worms.OwnedLemmas.{owner-has, idle-none}
@@ -35,7 +22,6 @@ use Rattle.noc_theory.proofs.join.PhaseLemmas.{IsInjected}
 use Rattle.noc_theory.proofs.join.PlaceViewLemmas.{IsAt, arriving-at, input-at, same-place, not-eject, in-size, begins-at, mod-below}
 use Rattle.noc_theory.proofs.injection.QueueLemmas.{IsAhead, Queue, empty, front, queue-case}
 use Rattle.noc_theory.proofs.injection.SourceStateLemmas.{injection-own}
-use Rattle.noc_theory.specs.Seen.{IsSeen}
 
 module _ (net : Setup) (good : IsGood net) (M : State) (x : IsOrderedFrozen net M) (n r : ℕ) (l : r < nodes net.relation.grid) (v : View) (seen : IsSeen net M r v) where
   abbrev T : State

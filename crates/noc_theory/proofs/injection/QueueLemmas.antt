@@ -2,14 +2,8 @@
 -- names, and no number stands twice.
 use Rattle.std.proofs.Common.{◌≡◌, ◌≢◌, ℕ, ◌+◌, ◌<◌, ◌≤◌, Bool, true, false, cond, List, [], ◌∷◌, length, Option, Some, None, refl, ap, sym, ◌∙◌, inl, inr, subst, arith}
 use Rattle.std.specs.Prelude.{filter, ◌⊎◌, ◌&&◌, not, nat_eq, nat_le}
-use Rattle.std.specs.List.{list_any, enumerate_from}
-use Rattle.std.proofs.lemmas.Bool.{eq-eqb, eqb-true, ne_eqb, and_from, and_parts, leb-true, leb-false, cases_order}
-use Rattle.std.proofs.lemmas.Option.{none-some}
-use Rattle.noc_topo.specs.Lists.{below, Has, Pairs, least_by}
-use Rattle.noc_packet.specs.declared.packet.Packet.{Packet}
 use Rattle.noc_packet.specs.ByNode.{inserted_by_due, by_due}
-use Rattle.noc_theory.specs.Lockstep.{starts_at, has_flit_at_source}
-use Rattle.noc_theory.specs.Network.{Setup, State, Located, packet_at, flits_of, is_at_source, first_waiting}
+use Rattle.noc_theory.proofs.Common.{list_any, enumerate_from, eq-eqb, eqb-true, ne_eqb, and_from, and_parts, leb-true, leb-false, cases_order, none-some, below, Has, Pairs, least_by, Packet, starts_at, has_flit_at_source, Setup, State, Located, packet_at, flits_of, is_at_source, first_waiting}
 use Rattle.noc_theory.proofs.worms.StateWordLemmas.{Precedes}
 use Rattle.noc_theory.proofs.worms.FirstOfNodeLemmas.{least_by-first}
 use Rattle.noc_theory.proofs.worms.GrantLemmas.{Has-below}

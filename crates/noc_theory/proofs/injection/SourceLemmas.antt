@@ -1,13 +1,9 @@
 -- The input channel from which an output channel is owned.
 use Rattle.std.proofs.Common.{◌≡◌, ℕ, ◌<◌, true, false, Option, Some, None, refl, ap, sym, ◌∙◌, subst}
 use Rattle.std.specs.Prelude.{find, option_map, option_and_then, unwrap_or}
-use Rattle.std.proofs.lemmas.Bool.{false≢true}
-use Rattle.std.proofs.lemmas.Option.{none-some, same_Some}
-use Rattle.noc_topo.specs.Lists.{Has}
-use Rattle.noc_route.specs.Channel.{Channel, same_channel}
 use Rattle.noc_view.proofs.FindLemmas.{find-at}
-use Rattle.noc_theory.specs.Lockstep.{seen_sender, goes_on_by}
-use Rattle.noc_theory.specs.Network.{Setup, State, size, arriving, leaving, place_of_flit, owner_of, owned_by, next_channel, leads_from, all_inputs}
+use Rattle.noc_theory.proofs.Common.{false≢true, none-some, same_Some, Has, Channel, same_channel, seen_sender, Setup, State, size, arriving, leaving, place_of_flit, owner_of, owned_by, next_channel, leads_from, all_inputs}
+use Rattle.noc_theory.specs.Lockstep.{goes_on_by}
 use Rattle.noc_theory.proofs.worms.BufferLemmas.{same_channel-refl, same_channel-true}
 use Rattle.noc_theory.proofs.worms.MoveLemmas.{IsNext, next-is, next-once, leads-end, no-end-eject}
 use Rattle.noc_theory.proofs.worms.OwnedLemmas.{owner-has, once-same}

@@ -1,13 +1,7 @@
 -- What waits at a source in a state, and the injection channel of a packet.
 use Rattle.std.proofs.Common.{◌≡◌, ℕ, Bool, true, cond, List, [], ◌∷◌, map, length, Option, Some, None, refl, ap, ◌∙◌, inl, inr, subst}
 use Rattle.std.specs.Prelude.{filter, find, ◌&&◌, ◌||◌, nat_eq}
-use Rattle.std.specs.List.{list_any}
-use Rattle.std.proofs.lemmas.Bool.{false≢true, eq-eqb, eqb-true}
-use Rattle.noc_topo.specs.Lists.{below, Has, least_by}
-use Rattle.noc_packet.specs.declared.packet.Packet.{Packet}
-use Rattle.noc_route.specs.Channel.{Channel, Link, Inject, Eject}
-use Rattle.noc_theory.specs.Lockstep.{has_flit_at_source}
-use Rattle.noc_theory.specs.Network.{Setup, State, Located, packet_at, place_of_flit, flits_of, owned_by, is_at_source, is_injection_of, first_waiting}
+use Rattle.noc_theory.proofs.Common.{list_any, false≢true, eq-eqb, eqb-true, below, Has, least_by, Packet, Channel, Link, Inject, Eject, has_flit_at_source, Setup, State, Located, packet_at, place_of_flit, flits_of, owned_by, is_at_source, is_injection_of, first_waiting}
 use Rattle.noc_theory.proofs.worms.BuiltRecordLemmas.{IsBuilt}
 use Rattle.noc_theory.proofs.worms.BufferLemmas.{find-passes}
 use Rattle.noc_theory.proofs.worms.InjectionPhaseLemmas.{two-injects}

@@ -1,11 +1,8 @@
 -- What holds of all packets that start at a node.
 use Rattle.std.proofs.Common.{ℕ, ◌<◌, false, List, [], ◌∷◌, length, refl, sym, subst, inl, inr}
-use Rattle.std.specs.List.{All}
 use Rattle.std.proofs.lemmas.List.Elements.{All-cons, All-nil}
-use Rattle.noc_topo.specs.Lists.{Has}
-use Rattle.noc_packet.specs.declared.packet.Packet.{Packet}
 use Rattle.noc_packet.specs.ByNode.{starts_of}
-use Rattle.noc_theory.specs.Network.{Setup, opening_state}
+use Rattle.noc_theory.proofs.Common.{All, Has, Packet, Setup, opening_state}
 use Rattle.noc_theory.proofs.injection.QueueLemmas.{in-starts}
 
 -- ---- what holds of all of them

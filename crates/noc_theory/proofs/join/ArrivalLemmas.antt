@@ -1,14 +1,9 @@
 -- The arrival that the view of a destination notes is that of the network's state.
 use Rattle.std.proofs.Common.{◌≡◌, ℕ, zero, suc, ◌+◌, ◌<◌, Bool, true, false, cond, List, [], ◌∷◌, map, length, get_or, Option, Some, refl, ap, sym, ◌∙◌, inl, inr, subst, arith}
 use Rattle.std.specs.Prelude.{find, filter, option_and_then, nat_eq, ◌⊎◌}
-use Rattle.std.specs.List.{enumerate_from}
-use Rattle.std.proofs.lemmas.Bool.{eq-eqb, cases_eq, ne_eqb}
 use Rattle.std.proofs.lemmas.List.FromFn.{get_or-enumerate_from, length-enumerate_from}
-use Rattle.noc_topo.specs.Lists.{Has}
-use Rattle.noc_packet.specs.declared.packet.Packet.{Packet}
-use Rattle.noc_theory.specs.Lockstep.{ends_at, view_at, view_in}
 use Rattle.noc_packet.specs.ByNode.{ends_of}
-use Rattle.noc_theory.specs.Network.{Setup, arrival_in, out_cycle, packet_at, state_at, tail_place}
+use Rattle.noc_theory.proofs.Common.{enumerate_from, eq-eqb, cases_eq, ne_eqb, Has, Packet, ends_at, view_at, view_in, Setup, arrival_in, out_cycle, packet_at, state_at, tail_place}
 use Rattle.noc_theory.proofs.worms.MemberLemmas.{Has-kept, Has-mapped}
 
 -- what is looked up under a number that is listed

@@ -2,21 +2,9 @@
 -- counts of a channel add up.
 use Rattle.std.proofs.Common.{◌≡◌, ℕ, suc, ◌+◌, ◌-◌, ◌^◌, ◌<◌, ◌≤◌, List, [], ◌∷◌, length, sum, ap, sym, ◌∙◌, arith}
 use Rattle.std.specs.Prelude.{if◌then◌else◌}
-use Rattle.std.specs.List.{All}
-use Rattle.std.proofs.lemmas.List.{same_lists}
 use Rattle.std.proofs.lemmas.List.Sums.{get_or-le-sum_by}
-use Rattle.noc_topo.specs.Lists.{map_indexed, tabulate}
-use Rattle.noc_topo.specs.Shape.{nodes}
-use Rattle.noc_topo.proofs.ListLemmas.{length-tabulate, get_or-tabulate, length-map_indexed, get_or-map_indexed}
-use Rattle.noc_packet.specs.declared.packet.Beat.{Beat}
-use Rattle.noc_view.specs.View.{View}
-use Rattle.noc_theory.specs.declared.limits.TheConstants.{CYCLE_LIMIT}
-use Rattle.noc_theory.specs.Core.{Post, is_linked, link_ports, opening_core, resting_post, wires_in_flight}
-use Rattle.noc_theory.specs.Good.{IsGoodSetup}
-use Rattle.noc_theory.specs.Halves.{beat_at}
-use Rattle.noc_theory.specs.InStep.{lockstep_core, lockstep_wires}
-use Rattle.noc_theory.specs.Lockstep.{counts_before, lockstep_at, lockstep_cycle, view_at}
-use Rattle.noc_theory.specs.Network.{Run, Setup, verdict_in_cycle}
+use Rattle.noc_theory.proofs.Common.{All, same_lists, map_indexed, tabulate, nodes, length-tabulate, get_or-tabulate, length-map_indexed, get_or-map_indexed, Beat, View, CYCLE_LIMIT, Post, is_linked, link_ports, resting_post, IsGoodSetup, beat_at, lockstep_core, lockstep_wires, counts_before, lockstep_at, lockstep_cycle, view_at, Run, Setup, verdict_in_cycle}
+use Rattle.noc_theory.specs.Core.{opening_core, wires_in_flight}
 use Rattle.noc_theory.specs.Seen.{shown_at}
 use Rattle.noc_theory.proofs.verdicts.CountLemmas.{sum-counts}
 use Rattle.noc_theory.proofs.join.LockstepTheoremLemmas.{lockstep-is_state}

@@ -1,23 +1,12 @@
 -- The lockstep run shows the run of the network, by induction on its cycles.
 use Rattle.std.proofs.Common.{◌≡◌, ℕ, zero, suc, ◌-◌, ◌^◌, ◌<◌, ◌≤◌, cond, List, [], length, map, get_or, Option, Some, None, refl, ap, sym, ◌∙◌, subst, replicate, arith}
 use Rattle.std.specs.Prelude.{◌||◌, is_some}
-use Rattle.std.specs.List.{list_any}
-use Rattle.std.proofs.lemmas.List.{length-map, get_or-map, get_or-replicate, length-replicate}
-use Rattle.noc_topo.specs.Lists.{below, tabulate, map_indexed}
-use Rattle.noc_topo.specs.Shape.{IsGrid, nodes, neighbour, local_port}
-use Rattle.noc_topo.proofs.ListLemmas.{get_or-tabulate, length-tabulate, tabulate-from_each, length-map_indexed, get_or-map_indexed}
 use Rattle.noc_topo.proofs.LinkLemmas.{neighbour-range}
-use Rattle.noc_packet.specs.declared.packet.Beat.{Beat}
-use Rattle.noc_view.specs.Verdict.{is_event}
-use Rattle.noc_view.specs.View.{Site, View, view_after_takes, view_after_inject, decisions_of, view_after_commit, counts_after, local_step, idle_beat, idle_beats, opening_view}
-use Rattle.noc_view.specs.declared.verdict.Verdict.{Verdict}
-use Rattle.noc_theory.specs.declared.limits.TheConstants.{CYCLE_LIMIT}
-use Rattle.noc_theory.specs.Network.{Setup, State, size, opening_state, state_at, frozen_at, frozen_state, after_injection, after_verdicts, network_cycle, injection_at, verdict_in_cycle}
-use Rattle.noc_theory.specs.Lockstep.{lockstep_at, lockstep_cycle, opening_lockstep, wires_after_puts, beats_at, beat_from, beat_by, beats_in, view_in, view_at, site_at, starts_at, ends_at, has_event_at, counts_before}
+use Rattle.noc_theory.proofs.Common.{list_any, length-map, get_or-map, get_or-replicate, length-replicate, below, tabulate, map_indexed, IsGrid, nodes, neighbour, local_port, get_or-tabulate, length-tabulate, tabulate-from_each, length-map_indexed, get_or-map_indexed, Beat, is_event, Site, View, view_after_takes, view_after_inject, decisions_of, view_after_commit, counts_after, local_step, idle_beat, idle_beats, opening_view, Verdict, CYCLE_LIMIT, Setup, State, size, opening_state, state_at, frozen_at, frozen_state, after_injection, after_verdicts, network_cycle, injection_at, verdict_in_cycle, lockstep_at, lockstep_cycle, opening_lockstep, wires_after_puts, beats_at, beat_from, beat_by, beats_in, view_in, view_at, site_at, starts_at, ends_at, counts_before, AreSeen, IsSeen}
+use Rattle.noc_theory.specs.Lockstep.{has_event_at}
 use Rattle.noc_theory.proofs.runs.RunLemmas.{count_views}
 use Rattle.noc_theory.proofs.join.OrderedLemmas.{IsGood, IsOrdered, IsOrderedFrozen}
 use Rattle.noc_theory.proofs.join.PhaseLemmas.{mid, IsTaken, IsInjected, IsCommitted, ArePhases, verdict_by}
-use Rattle.noc_theory.specs.Seen.{AreSeen, IsSeen}
 use Rattle.noc_theory.proofs.verdicts.CountLemmas.{counted-next}
 use Rattle.noc_theory.proofs.join.OpeningStateLemmas.{no-beat}
 use Rattle.noc_theory.proofs.join.ViewLemmas.{view_at-seen, is_view_at}

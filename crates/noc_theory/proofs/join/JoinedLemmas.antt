@@ -1,7 +1,6 @@
 -- The lockstep run shows the run of the network: all phases together.
 use Rattle.std.proofs.Common.{ℕ, ◌≤◌}
-use Rattle.noc_theory.specs.declared.limits.TheConstants.{CYCLE_LIMIT}
-use Rattle.noc_theory.specs.Network.{Setup, state_at, frozen_at}
+use Rattle.noc_theory.proofs.Common.{CYCLE_LIMIT, Setup, state_at, frozen_at, AreSeen}
 use Rattle.noc_theory.proofs.verdicts.CommitLemmas.{commits}
 use Rattle.noc_theory.proofs.injection.InjectLemmas.{injects}
 use Rattle.noc_theory.proofs.join.JoinLemmas.{all-seen}
@@ -9,7 +8,6 @@ use Rattle.noc_theory.proofs.join.OpeningViewLemmas.{opens}
 use Rattle.noc_theory.proofs.join.OrderedLemmas.{IsGood, AreShort, IsOrdered, IsOrderedFrozen}
 use Rattle.noc_theory.proofs.join.PhaseLemmas.{ArePhases, mid}
 use Rattle.noc_theory.proofs.landing.TakeAllLemmas.{takes}
-use Rattle.noc_theory.specs.Seen.{AreSeen}
 
 pub phases : (net : Setup) → IsGood net → AreShort net → ArePhases net
 phases net good short = record {

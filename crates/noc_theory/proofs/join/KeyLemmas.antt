@@ -1,10 +1,7 @@
 -- The flits of a packet, in order, and how many of them pass a test that only the first ones pass.
 use Rattle.std.proofs.Common.{◌≡◌, ℕ, zero, suc, ◌+◌, ◌<◌, ◌≤◌, Bool, true, false, cond, List, [], ◌∷◌, map, length, refl, ap, sym, ◌∙◌, inl, inr, subst, arith, zero-add}
 use Rattle.std.specs.Prelude.{count_by, nat_eq}
-use Rattle.std.specs.List.{range_with_len}
-use Rattle.std.proofs.lemmas.Bool.{eqb-true, eq-eqb}
-use Rattle.noc_topo.specs.Lists.{below, Has, Pairs}
-use Rattle.noc_theory.specs.Network.{Setup, State, Located, Place, flits_of, place_of_flit, packet_at}
+use Rattle.noc_theory.proofs.Common.{range_with_len, eqb-true, eq-eqb, below, Has, Pairs, Setup, State, Located, Place, flits_of, place_of_flit, packet_at}
 use Rattle.noc_theory.proofs.worms.MemberLemmas.{each-at, Has-filter, Has-kept, Pairs-filter}
 use Rattle.noc_theory.proofs.worms.StateWordLemmas.{IsSortedPair, IsKeyed}
 use Rattle.noc_theory.proofs.worms.PlaceLemmas.{place-of-flit}

@@ -2,20 +2,8 @@
 -- the latest of its routers'.
 use Rattle.std.proofs.Common.{◌≡◌, ℕ, zero, suc, ◌+◌, ◌<◌, ◌≤◌, Bool, true, false, cond, List, [], ◌∷◌, length, Option, Some, None, is_some, refl, ap, sym, ◌∙◌, subst, inl, inr, arith}
 use Rattle.std.specs.Prelude.{◌⊎◌, ◌||◌, count_by, nat_lt, unwrap_or, option_map}
-use Rattle.std.specs.List.{list_any}
-use Rattle.std.proofs.lemmas.Bool.{false≢true, cases_lt, eq-eqb, lt-ltb, ltb-true, or_cases, or_left, or_right}
-use Rattle.std.proofs.lemmas.Option.{same_Some}
-use Rattle.std.proofs.lemmas.List.Sums.{sum_by-cons}
-use Rattle.noc_topo.specs.Lists.{Has, below, is_some_of}
-use Rattle.noc_topo.specs.Shape.{nodes}
-use Rattle.noc_route.specs.Channel.{Channel, Link, Inject, Eject, sending_router, is_link, same_channel}
-use Rattle.noc_route.proofs.OptionLemmas.{some-value}
-use Rattle.noc_view.specs.Verdict.{is_event}
-use Rattle.noc_view.specs.declared.verdict.Verdict.TheVariants.{Empty}
-use Rattle.noc_theory.specs.Good.{IsGoodSetup}
-use Rattle.noc_theory.specs.Lockstep.{flies_to, has_event_at, last_event_at}
-use Rattle.noc_theory.specs.Network.{Setup, State, Located, Place, Source, On, In, Out, Injection, after_landing, after_credits, all_inputs, arriving, end_of, frozen_at, injection_at, injections, size, state_at, verdict_in, verdict_in_cycle}
-use Rattle.noc_theory.specs.Progress.{events, is_flying, last_event_before}
+use Rattle.noc_theory.proofs.Common.{list_any, false≢true, cases_lt, eq-eqb, lt-ltb, ltb-true, or_cases, or_left, or_right, same_Some, sum_by-cons, Has, below, is_some_of, nodes, Channel, Link, Inject, Eject, sending_router, is_link, same_channel, some-value, is_event, Empty, IsGoodSetup, flies_to, Setup, State, Located, Place, Source, On, In, Out, Injection, after_landing, after_credits, all_inputs, arriving, end_of, frozen_at, injection_at, injections, size, state_at, verdict_in, verdict_in_cycle, events, is_flying, last_event_before}
+use Rattle.noc_theory.specs.Lockstep.{has_event_at, last_event_at}
 use Rattle.noc_theory.proofs.worms.BufferLemmas.{same_channel-refl}
 use Rattle.noc_theory.proofs.worms.BuiltLemmas.{well-formed}
 use Rattle.noc_theory.proofs.worms.WormOrderLemmas.{whole-at}

@@ -1,13 +1,10 @@
 -- A step that moves flits: what it leaves of the flits of a packet.
 use Rattle.std.proofs.Common.{◌≡◌, ◌+◌, ◌<◌, Bool, true, false, cond, List, [], ◌∷◌, ◌++◌, map, refl, ap, sym, ◌∙◌, inl, inr, arith, zero-add}
 use Rattle.std.specs.Prelude.{filter, ◌⊎◌, count_by, ◌||◌}
-use Rattle.std.specs.List.{list_any}
 use Rattle.std.proofs.lemmas.List.Sums.{sum_by-append}
-use Rattle.std.proofs.lemmas.Bool.{true≢false}
-use Rattle.noc_topo.specs.Lists.{Has, Pairs}
+use Rattle.noc_theory.proofs.Common.{list_any, true≢false, Has, Pairs, Located}
 use Rattle.noc_theory.proofs.worms.MemberLemmas.{each-at}
 use Rattle.noc_theory.proofs.worms.StateWordLemmas.{IsSortedPair}
-use Rattle.noc_theory.specs.Network.{Located}
 
 pub count-cons : {X : Type 0} (t : X → Bool) (x : X) (xs : List X) → count_by t (x ∷ xs) ≡ cond (t x) 1 0 + count_by t xs
 count-cons t x xs = sum_by-append (λ y. cond (t y) 1 0) (x ∷ []) xs ∙ ap (λ k. k + count_by t xs) (zero-add (cond (t x) 1 0))

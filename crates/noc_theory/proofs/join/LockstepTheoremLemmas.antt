@@ -1,12 +1,9 @@
 -- The lockstep run of every good network is the run of the whole network.
 use Rattle.std.proofs.Common.{ℕ, ◌≤◌}
-use Rattle.noc_theory.specs.declared.limits.TheConstants.{CYCLE_LIMIT}
-use Rattle.noc_theory.specs.Network.{Setup}
-use Rattle.noc_theory.specs.Good.{IsGoodSetup, IsWellFormedSetup}
+use Rattle.noc_theory.proofs.Common.{CYCLE_LIMIT, Setup, IsGoodSetup, IsWellFormedSetup, AreSeen}
 use Rattle.noc_theory.proofs.worms.BuiltLemmas.{good-built, good-wired, good-covering, well-formed}
 use Rattle.noc_theory.proofs.join.OrderedStateLemmas.{lockstep-is_network}
 use Rattle.noc_theory.proofs.join.OrderedLemmas.{IsGood, AreShort}
-use Rattle.noc_theory.specs.Seen.{AreSeen}
 
 pub good-network : (net : Setup) → IsWellFormedSetup net → IsGood net
 good-network net good = record {

@@ -1,15 +1,8 @@
 -- The opening state: every flit at its source.
 use Rattle.std.proofs.Common.{◌≡◌, ℕ, Bool, false, List, [], ◌∷◌, ◌++◌, map, Option, Some, None, refl, ap, ◌∙◌}
 use Rattle.std.specs.Prelude.{find, option_map, option_and_then, is_some}
-use Rattle.std.specs.List.{flat_map, enumerate_from}
-use Rattle.noc_topo.specs.Lists.{below}
-use Rattle.noc_packet.specs.declared.packet.Packet.{Packet}
-use Rattle.noc_packet.specs.declared.packet.Flit.{Flit}
-use Rattle.noc_route.specs.Channel.{Channel, Link}
-use Rattle.noc_view.specs.View.{idle_beat}
 use Rattle.noc_view.proofs.FindLemmas.{find-none}
-use Rattle.noc_theory.specs.Lockstep.{beat_by, flit_on}
-use Rattle.noc_theory.specs.Network.{Setup, Located, Source, is_on, opening_state}
+use Rattle.noc_theory.proofs.Common.{flat_map, enumerate_from, below, Packet, Flit, Channel, Link, idle_beat, beat_by, flit_on, Setup, Located, Source, is_on, opening_state}
 
 -- the flits of one packet at its source
 abbrev pub sent : ℕ × Packet → List Located

@@ -1,22 +1,9 @@
 -- A new router shows the opening state.
 use Rattle.std.proofs.Common.{◌≡◌, ℕ, zero, suc, ◌+◌, ◌-◌, ◌*◌, ◌/◌, ◌%◌, ◌<◌, true, List, [], ◌∷◌, ◌++◌, map, length, get_or, replicate, Option, Some, None, refl, ap, sym, ◌∙◌, arith, length-append}
 use Rattle.std.specs.Prelude.{filter, nat_eq}
-use Rattle.std.specs.List.{enumerate_from}
-use Rattle.std.proofs.lemmas.Bool.{eq-eqb}
-use Rattle.std.proofs.lemmas.Nat.{div-add-mod'}
-use Rattle.std.proofs.lemmas.List.{length-replicate, get_or-replicate}
-use Rattle.noc_topo.specs.Lists.{below, tabulate, Has}
-use Rattle.noc_topo.specs.Shape.{nodes, ports, local_port}
-use Rattle.noc_topo.proofs.ListLemmas.{tabulate-from_each}
-use Rattle.noc_packet.specs.declared.packet.Packet.{Packet}
-use Rattle.noc_packet.specs.Packet.{flit_at}
-use Rattle.noc_route.specs.Channel.{Channel, Link, Eject}
-use Rattle.noc_vc.specs.Input.{idle_input}
-use Rattle.noc_vc.specs.Output.{ejection_output, link_output}
+use Rattle.noc_vc.specs.Output.{link_output}
 use Rattle.noc_view.specs.Verdict.{opening_arbiters}
-use Rattle.noc_view.specs.View.{View, opening_view, view_output}
-use Rattle.noc_theory.specs.Lockstep.{view_at, site_at, starts_at, ends_at, seen_flits, seen_input, seen_output, seen_sending, has_flit_at_source, counts_before}
-use Rattle.noc_theory.specs.Network.{Setup, State, Located, Place, Source, size, arriving, leaving, packet_at, tail_place, flits_of, is_at_source, is_in, is_on, count_in, count_on, credit_of, first_waiting, out_cycle, opening_state, state_at}
+use Rattle.noc_theory.proofs.Common.{enumerate_from, eq-eqb, div-add-mod', length-replicate, get_or-replicate, below, tabulate, Has, nodes, ports, local_port, tabulate-from_each, Packet, flit_at, Channel, Link, Eject, idle_input, ejection_output, View, opening_view, view_output, view_at, site_at, starts_at, ends_at, seen_flits, seen_input, seen_output, seen_sending, has_flit_at_source, counts_before, Setup, State, Located, Place, Source, size, arriving, leaving, packet_at, tail_place, flits_of, is_at_source, is_in, is_on, count_in, count_on, credit_of, first_waiting, out_cycle, opening_state, state_at, IsSeen}
 use Rattle.noc_theory.proofs.worms.MemberLemmas.{Has-kept, filter-all, list_any-from}
 use Rattle.noc_theory.proofs.worms.OpeningLemmas.{at-source, sound-opening}
 use Rattle.noc_theory.proofs.worms.PlaceLemmas.{flit-there}
@@ -29,7 +16,6 @@ use Rattle.noc_theory.proofs.join.OrderedLemmas.{IsGood}
 use Rattle.noc_theory.proofs.join.PlaceViewLemmas.{OutputCase, ejects, links, output-case}
 use Rattle.noc_theory.proofs.injection.QueueLemmas.{in-starts}
 use Rattle.noc_theory.proofs.join.ViewLemmas.{is_view_at}
-use Rattle.noc_theory.specs.Seen.{IsSeen}
 
 get_or-front : {X : Type 0} (xs ys : List X) (i : ℕ) (d : X) → i < length xs → get_or (xs ++ ys) i d ≡ get_or xs i d
 get_or-front [] ys i d l = absurd (omega arith)

@@ -1,12 +1,8 @@
 -- What is asked of a network and of its states: the ownership laws, and four facts more.
 use Rattle.std.specs.Prelude.{◌≡◌, ◌≢◌, ℕ, ◌<◌, ◌≤◌, true, false, length, Some}
-use Rattle.noc_topo.specs.Lists.{Has}
-use Rattle.noc_topo.specs.Shape.{nodes, neighbour}
 use Rattle.noc_packet.specs.declared.limits.TheConstants.{MAX_LENGTH}
-use Rattle.noc_route.specs.Channel.{Channel, Link, Eject, is_link}
-use Rattle.noc_route.specs.Routes.{set_at, IsRelation}
-use Rattle.noc_theory.specs.Good.{IsWellFormedPacket, IsValid}
-use Rattle.noc_theory.specs.Network.{Setup, State, On, packet_at, place_of_flit, has_channel, all_inputs}
+use Rattle.noc_theory.proofs.Common.{Has, nodes, neighbour, Channel, Link, Eject, is_link, set_at, IsRelation, IsValid, Setup, State, On, packet_at, place_of_flit, has_channel, all_inputs}
+use Rattle.noc_theory.specs.Good.{IsWellFormedPacket}
 use Rattle.noc_theory.proofs.worms.BuiltRecordLemmas.{IsBuilt}
 use Rattle.noc_theory.proofs.worms.FirstOfNodeLemmas.{IsQueued}
 use Rattle.noc_theory.proofs.worms.GrantLemmas.{IsWired}

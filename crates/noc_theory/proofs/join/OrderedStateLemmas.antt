@@ -1,26 +1,18 @@
 -- Every state of a network, and every frozen one, has what the join asks.
 use Rattle.std.proofs.Common.{◌≡◌, ℕ, zero, suc, ◌≤◌, true, false, length, refl, ap, sym, ◌∙◌}
 use Rattle.std.specs.Prelude.{◌&&◌}
-use Rattle.std.proofs.lemmas.Bool.{false≢true, and_parts}
-use Rattle.noc_topo.specs.Lists.{Has}
-use Rattle.noc_topo.specs.Shape.{nodes}
-use Rattle.noc_route.specs.Channel.{Channel, Link, is_link}
-use Rattle.noc_view.specs.Verdict.{is_moved}
-use Rattle.noc_theory.specs.declared.limits.TheConstants.{CYCLE_LIMIT}
-use Rattle.noc_theory.specs.Network.{Setup, State, Source, On, place_of_flit, opening_state, after_credits, after_injection, after_verdicts, frozen_state, frozen_at, state_at, network_cycle, has_channel, verdict_in, all_inputs}
+use Rattle.noc_theory.proofs.Common.{false≢true, and_parts, Has, nodes, Channel, Link, is_link, is_moved, CYCLE_LIMIT, Setup, State, Source, On, place_of_flit, opening_state, after_credits, after_injection, after_verdicts, frozen_state, frozen_at, state_at, network_cycle, has_channel, verdict_in, all_inputs, IsValid, AreSeen}
 use Rattle.noc_theory.proofs.worms.CameLemmas.{IsLed as IsCame, led-mid, led-frozen, led-state, leads-further, ejects-home, eject-low}
 use Rattle.noc_theory.proofs.worms.FirstOfNodeLemmas.{queued-mid, queued-state, queued-frozen}
 use Rattle.noc_theory.proofs.worms.MemberLemmas.{Has-filter}
 use Rattle.noc_theory.proofs.worms.OneBackLemmas.{arbiters-frozen, arbiters-mid, arbiters-state, one-back-state}
 use Rattle.noc_theory.proofs.worms.OneOnLinkLemmas.{one-on-link}
 use Rattle.noc_theory.proofs.worms.OpeningLemmas.{at-source}
-use Rattle.noc_theory.specs.Good.{IsValid}
 use Rattle.noc_theory.proofs.worms.RoutedStateLemmas.{IsWhole, IsWholeFrozen, whole-mid, whole-state, whole-frozen_state}
 use Rattle.noc_theory.proofs.worms.RoutedVerdictLemmas.{channel-has}
 use Rattle.noc_theory.proofs.join.JoinedLemmas.{joined}
 use Rattle.noc_theory.proofs.join.OrderedLemmas.{IsGood, AreShort, IsLed, IsOrdered, IsOrderedFrozen}
 use Rattle.noc_theory.proofs.join.PhaseLemmas.{mid}
-use Rattle.noc_theory.specs.Seen.{AreSeen}
 
 module _ (net : Setup) (good : IsGood net) where
   whole-at : (n : ℕ) → IsWhole net (state_at net n)

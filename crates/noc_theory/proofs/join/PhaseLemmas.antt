@@ -1,18 +1,9 @@
 -- What each phase of a cycle does to a view that shows a state: it shows the state after the same
 -- phase of the whole network.
 use Rattle.std.specs.Prelude.{◌≡◌, ℕ, ◌<◌, Bool, false, ◌||◌, length, Some, option_map, unwrap_or, is_some, if◌then◌else◌, slice_index_or}
-use Rattle.std.specs.List.{list_any}
-use Rattle.noc_topo.specs.Lists.{below, tabulate, map_indexed, is_some_of}
-use Rattle.noc_topo.specs.Shape.{nodes, neighbour}
-use Rattle.noc_route.specs.Channel.{sending_router}
-use Rattle.noc_view.specs.Verdict.{is_event}
-use Rattle.noc_view.specs.View.{View, view_after_takes, view_after_inject, decisions_of, view_after_commit, counts_after, idle_beat, opening_view}
-use Rattle.noc_view.specs.declared.verdict.Verdict.{Verdict}
-use Rattle.noc_view.specs.declared.verdict.Verdict.TheVariants.{Empty}
-use Rattle.noc_theory.specs.Network.{Setup, State, Located, size, arriving, after_landing, after_credits, after_injection, after_verdicts, injection_at, verdict_in}
-use Rattle.noc_theory.specs.Lockstep.{beats_at, beat_by, beats_in, flies_to, finding_in, view_at, site_at, starts_at, ends_at}
+use Rattle.noc_theory.proofs.Common.{list_any, below, tabulate, map_indexed, is_some_of, nodes, neighbour, sending_router, is_event, View, view_after_takes, view_after_inject, decisions_of, view_after_commit, counts_after, idle_beat, opening_view, Verdict, Empty, Setup, State, Located, size, arriving, after_landing, after_credits, after_injection, after_verdicts, injection_at, verdict_in, beats_at, beat_by, beats_in, flies_to, finding_in, view_at, site_at, starts_at, ends_at, IsSeen}
 use Rattle.noc_theory.proofs.join.OrderedLemmas.{IsOrdered, IsOrderedFrozen}
-use Rattle.noc_theory.specs.Seen.{IsSeen, IsAsNoted}
+use Rattle.noc_theory.specs.Seen.{IsAsNoted}
 
 module _ (net : Setup) where
   -- the state after the landings and the credits

@@ -1,18 +1,10 @@
 -- Where channels are: the input channel with an index, and the index of an output channel.
 use Rattle.std.proofs.Common.{◌≡◌, ℕ, ◌+◌, ◌*◌, ◌/◌, ◌%◌, ◌<◌, ◌≤◌, Bool, true, false, cond, Option, Some, None, refl, ap, sym, ◌∙◌, subst, arith}
 use Rattle.std.specs.Prelude.{nat_eq, nat_lt, option_map, ◌&&◌}
-use Rattle.std.specs.List.{filter_map}
-use Rattle.std.proofs.lemmas.Bool.{eqb-true, eq-eqb, ne_eqb, lt-ltb, eqb-false}
-use Rattle.std.proofs.lemmas.Option.{none-some, same_Some}
-use Rattle.std.proofs.lemmas.Nat.{div-add-mod', div-mul-add, mod-mul-add}
+use Rattle.std.proofs.lemmas.Bool.{eqb-false}
 use Rattle.std.proofs.Math.Nat.{div-lt_iff_lt-mul, mod-lt}
-use Rattle.noc_topo.specs.Lists.{below, Has}
-use Rattle.noc_topo.specs.Shape.{IsGrid, nodes, ports, local_port, neighbour, IsLinkBack}
-use Rattle.noc_topo.proofs.LinkLemmas.{link_back}
-use Rattle.noc_packet.specs.Set.{has_bit}
-use Rattle.noc_route.specs.Channel.{Channel, Link, Inject, Eject, arrival_of, sending_router, channel_vc, input_at, inputs, output_index}
-use Rattle.noc_route.specs.Routes.{is_sent, permits, permits_at, set_at}
-use Rattle.noc_theory.specs.Network.{Setup, size, arriving, leaving, all_inputs}
+use Rattle.noc_route.specs.Routes.{is_sent, permits_at}
+use Rattle.noc_theory.proofs.Common.{filter_map, eqb-true, eq-eqb, ne_eqb, lt-ltb, none-some, same_Some, div-add-mod', div-mul-add, mod-mul-add, below, Has, IsGrid, nodes, ports, local_port, neighbour, IsLinkBack, link_back, has_bit, Channel, Link, Inject, Eject, arrival_of, sending_router, channel_vc, input_at, inputs, output_index, permits, set_at, Setup, size, arriving, leaving, all_inputs}
 use Rattle.noc_theory.proofs.worms.GrantLemmas.{Has-below}
 use Rattle.noc_theory.proofs.worms.MemberLemmas.{Has-filter_map, Has-flat_map, Has-flat_mapped, Has-filter_mapped}
 use Rattle.noc_theory.proofs.worms.StateWordLemmas.{IsEject}

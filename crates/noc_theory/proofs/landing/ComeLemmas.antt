@@ -2,20 +2,14 @@
 -- the weights of their places tell.
 use Rattle.std.proofs.Common.{◌≡◌, ℕ, ◌+◌, ◌*◌, ◌<◌, ◌≤◌, Bool, true, false, refl, ap, sym, ◌∙◌, inl, inr, arith}
 use Rattle.std.specs.Prelude.{◌⊎◌, nat_eq, nat_lt, nat_le, ◌||◌}
-use Rattle.std.proofs.lemmas.Bool.{false≢true, ltb-true, lt-ltb, le-ltb, leb-true, le-leb, lt-leb, cases_eq, or_right, or_left, or_cases, eq-eqb}
-use Rattle.noc_topo.specs.Lists.{Has}
-use Rattle.noc_topo.specs.Shape.{distance}
-use Rattle.noc_route.specs.Channel.{Channel, Link, Inject, Eject, same_channel}
+use Rattle.std.proofs.lemmas.Bool.{lt-leb}
 use Rattle.noc_route.proofs.BoolLemmas.{same_test}
-use Rattle.noc_theory.specs.Network.{Setup, State, Located, Place, Source, On, In, Out, packet_at, place_of_flit, flits_of, tail_place}
-use Rattle.noc_theory.specs.Lockstep.{has_come, come_count}
-use Rattle.noc_theory.specs.Progress.{weight, hops, head_place}
+use Rattle.noc_theory.proofs.Common.{false≢true, ltb-true, lt-ltb, le-ltb, leb-true, le-leb, cases_eq, or_right, or_left, or_cases, eq-eqb, Has, distance, Channel, Link, Inject, Eject, same_channel, Setup, State, Located, Place, Source, On, In, Out, packet_at, place_of_flit, flits_of, tail_place, has_come, come_count, weight, hops, head_place, IsValid}
 use Rattle.noc_theory.proofs.worms.BuiltRecordLemmas.{IsBuilt}
 use Rattle.noc_theory.proofs.worms.BufferLemmas.{same_channel-refl, same_channel-true}
 use Rattle.noc_theory.proofs.worms.InjectionPhaseLemmas.{two-injects}
 use Rattle.noc_theory.proofs.worms.MoveLemmas.{same-far}
 use Rattle.noc_theory.proofs.worms.StateWordLemmas.{IsEject, IsKeyed, IsPlaced, goal, last_of, far_of}
-use Rattle.noc_theory.specs.Good.{IsValid}
 use Rattle.noc_theory.proofs.worms.PlaceLemmas.{flit-there}
 use Rattle.noc_theory.proofs.worms.MemberLemmas.{Has-kept}
 use Rattle.noc_theory.proofs.join.LockstepStepLemmas.{count-zero}

@@ -1,24 +1,11 @@
 -- A flit that is on a wire fits the input channel where it lands, and is the next of its packet.
 use Rattle.std.proofs.Common.{◌≡◌, ◌≢◌, ℕ, zero, suc, ◌+◌, ◌-◌, ◌*◌, ◌/◌, ◌<◌, ◌≤◌, Bool, true, false, cond, List, [], ◌∷◌, ◌++◌, map, length, Option, Some, None, refl, ap, sym, ◌∙◌, inl, inr, subst, arith}
 use Rattle.std.specs.Prelude.{find, option_map, option_and_then, ◌⊎◌, ◌&&◌, ◌||◌, not, nat_eq, nat_lt, if◌then◌else◌}
-use Rattle.std.proofs.lemmas.Bool.{false≢true, true≢false, cases_eq, cases_lt, lt-ltb, le-ltb, le-leb, ne_eqb, eq-eqb, eqb-true, or_right, or_left, and_from}
-use Rattle.std.proofs.lemmas.Option.{none-some, same_Some}
-use Rattle.std.proofs.lemmas.List.{map-append, length-map}
-use Rattle.noc_topo.specs.Lists.{Has}
-use Rattle.noc_packet.specs.Packet.{flit_at}
-use Rattle.noc_packet.specs.declared.packet.Flit.{Flit}
 use Rattle.noc_packet.specs.declared.limits.TheConstants.{MAX_LENGTH}
-use Rattle.noc_route.specs.Channel.{Channel, Link, same_channel}
-use Rattle.noc_route.specs.Routes.{set_at}
-use Rattle.noc_vc.specs.Input.{Input, input_after_land as landed_on, next_of, fits, is_expected, is_awaited, is_empty, may_begin}
-use Rattle.noc_vc.specs.declared.input.InputState.{InputState}
-use Rattle.noc_vc.specs.declared.input.InputState.TheVariants.{Idle, Waiting}
-use Rattle.noc_theory.specs.Lockstep.{flit_on, has_come, come_count, seen_flits, seen_input, seen_phase, seen_phase_with, seen_set, is_present, last_come}
-use Rattle.noc_theory.specs.Network.{Setup, State, Located, Place, Source, On, In, Out, packet_at, place_of_flit, tail_place, buffer_of, count_in, count_on, is_on, is_in, is_past, landed_place, owner_of, next_channel, has_channel, after_landing, after_credits}
-use Rattle.noc_theory.specs.Progress.{weight, head_place}
+use Rattle.noc_vc.specs.Input.{input_after_land as landed_on, is_expected, is_awaited, may_begin}
+use Rattle.noc_theory.proofs.Common.{false≢true, true≢false, cases_eq, cases_lt, lt-ltb, le-ltb, le-leb, ne_eqb, eq-eqb, eqb-true, or_right, or_left, and_from, none-some, same_Some, map-append, length-map, Has, flit_at, Flit, Channel, Link, same_channel, set_at, Input, next_of, fits, is_empty, InputState, Idle, Waiting, flit_on, has_come, come_count, seen_flits, seen_input, seen_phase, seen_phase_with, seen_set, is_present, last_come, Setup, State, Located, Place, Source, On, In, Out, packet_at, place_of_flit, tail_place, buffer_of, count_in, count_on, is_on, is_in, is_past, landed_place, owner_of, next_channel, has_channel, after_landing, after_credits, weight, head_place, IsValid}
 use Rattle.noc_theory.proofs.worms.BufferLemmas.{same_channel-refl, same_channel-true, find-passes}
 use Rattle.noc_theory.proofs.worms.MemberLemmas.{Has-kept, find-has, Has-filter}
-use Rattle.noc_theory.specs.Good.{IsValid}
 use Rattle.noc_theory.proofs.worms.PlaceLemmas.{place-of-flit, flit-there, is_in-is, is_on-is}
 use Rattle.noc_theory.proofs.worms.StateWordLemmas.{IsHeld, IsPlaced, goal, last_of, far_of}
 use Rattle.noc_theory.proofs.worms.UnmixedLemmas.{in-buffer}

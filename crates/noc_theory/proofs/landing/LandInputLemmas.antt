@@ -2,17 +2,7 @@
 -- each flit that lands fits.
 use Rattle.std.proofs.Common.{◌≡◌, ℕ, ◌+◌, ◌-◌, ◌<◌, Bool, true, false, cond, List, [], ◌∷◌, map, length, Option, Some, None, refl, ap, sym, ◌∙◌, inl, inr, subst, arith}
 use Rattle.std.specs.Prelude.{filter, find, option_map, option_and_then, ◌&&◌, not, nat_eq, nat_lt, if◌then◌else◌}
-use Rattle.std.proofs.lemmas.Bool.{false≢true, ne_eqb, eq-eqb, or_right, and_from}
-use Rattle.std.proofs.lemmas.Option.{none-some}
-use Rattle.noc_topo.specs.Lists.{Has}
-use Rattle.noc_packet.specs.Packet.{flit_at}
-use Rattle.noc_packet.specs.declared.packet.Flit.{Flit}
-use Rattle.noc_route.specs.Channel.{Channel, Link, Inject, Eject, same_channel, is_link}
-use Rattle.noc_vc.specs.Input.{next_of}
-use Rattle.noc_vc.specs.declared.input.InputState.{InputState}
-use Rattle.noc_vc.specs.declared.input.InputState.TheVariants.{Idle, Waiting}
-use Rattle.noc_theory.specs.Lockstep.{flit_on, has_come, come_count, seen_flits, seen_input, seen_phase, seen_phase_with, seen_set, is_present, last_come}
-use Rattle.noc_theory.specs.Network.{Setup, State, Located, Place, Source, On, In, Out, packet_at, tail_place, is_on, is_in, is_past, landed_place, owner_of, next_channel, has_channel, after_landing, after_credits}
+use Rattle.noc_theory.proofs.Common.{false≢true, ne_eqb, eq-eqb, or_right, and_from, none-some, Has, flit_at, Flit, Channel, Link, Inject, Eject, same_channel, is_link, next_of, InputState, Idle, Waiting, flit_on, has_come, come_count, seen_flits, seen_input, seen_phase, seen_phase_with, seen_set, is_present, last_come, Setup, State, Located, Place, Source, On, In, Out, packet_at, tail_place, is_on, is_in, is_past, landed_place, owner_of, next_channel, has_channel, after_landing, after_credits}
 use Rattle.noc_theory.proofs.worms.BufferLemmas.{same_channel-refl, same_channel-true}
 use Rattle.noc_theory.proofs.worms.MemberLemmas.{find-fails}
 use Rattle.noc_theory.proofs.worms.OwnedLemmas.{owner-has, idle-none}

@@ -1,18 +1,12 @@
 -- After the landings and the credits: owners, next channels, and where flits are.
 use Rattle.std.proofs.Common.{◌≡◌, ℕ, ◌+◌, ◌*◌, ◌<◌, ◌≤◌, Bool, true, false, length, Option, Some, None, refl, ap, sym, ◌∙◌, inl, inr, arith}
 use Rattle.std.specs.Prelude.{◌⊎◌, ◌&&◌, ◌||◌, not}
-use Rattle.std.proofs.lemmas.Bool.{true≢false, cases_eq, not-true}
-use Rattle.noc_topo.specs.Lists.{Has}
-use Rattle.noc_route.specs.Channel.{Channel, Link, Inject, Eject, same_channel, is_link}
-use Rattle.noc_theory.specs.Lockstep.{has_come}
-use Rattle.noc_theory.specs.Network.{Setup, State, Located, Place, Source, On, In, Out, place_of_flit, tail_place, is_on, is_past, is_freed, landed_place, owner_of, next_channel, after_landing, after_credits}
-use Rattle.noc_theory.specs.Progress.{weight}
+use Rattle.noc_theory.proofs.Common.{true≢false, cases_eq, not-true, Has, Channel, Link, Inject, Eject, same_channel, is_link, has_come, Setup, State, Located, Place, Source, On, In, Out, place_of_flit, tail_place, is_on, is_past, is_freed, landed_place, owner_of, next_channel, after_landing, after_credits, weight, IsValid}
 use Rattle.noc_theory.proofs.worms.BufferLemmas.{same_channel-true}
 use Rattle.noc_theory.proofs.worms.MemberLemmas.{Has-filter, Has-kept}
 use Rattle.noc_theory.proofs.worms.MoveLemmas.{IsNext, next-is, same-far, far-link}
 use Rattle.noc_theory.proofs.worms.OwnedLemmas.{owner-has, idle-none}
 use Rattle.noc_theory.proofs.worms.StateWordLemmas.{IsKeyed, IsPlaced, goal, last_of, far_of}
-use Rattle.noc_theory.specs.Good.{IsValid}
 use Rattle.noc_theory.proofs.worms.PlaceLemmas.{place-stepped}
 use Rattle.noc_theory.proofs.worms.RoutedRecordLemmas.{past-earlier}
 use Rattle.noc_theory.proofs.worms.SoundLemmas.{IsSoundFrozen, sound-landed, sound-credits}

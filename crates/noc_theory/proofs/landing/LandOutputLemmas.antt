@@ -2,20 +2,14 @@
 -- each credit that comes fits.
 use Rattle.std.proofs.Common.{◌≡◌, ◌≢◌, ℕ, zero, suc, ◌+◌, ◌-◌, ◌*◌, ◌<◌, ◌≤◌, Bool, true, false, cond, length, Option, Some, None, refl, ap, sym, ◌∙◌, inl, inr, subst, arith}
 use Rattle.std.specs.Prelude.{◌⊎◌, ◌&&◌, ◌||◌}
-use Rattle.std.proofs.lemmas.Bool.{false≢true, true≢false, lt-ltb, ltb-true, le-ltb, le-leb, ne_eqb, eq-eqb, or_left, or_right}
-use Rattle.noc_topo.specs.Lists.{Has, one_if}
-use Rattle.noc_route.specs.Channel.{Channel, Link, Inject, Eject, same_channel, is_link}
-use Rattle.noc_vc.specs.Output.{Output, output_after_credit, credit_fits, holder_at}
+use Rattle.noc_vc.specs.Output.{holder_at}
 use Rattle.noc_vc.specs.declared.output.OutputState.{OutputState}
-use Rattle.noc_vc.specs.declared.output.OutputState.TheVariants.{Idle as Free, Owned, Draining}
-use Rattle.noc_theory.specs.Lockstep.{has_come, seen_output, seen_holder, seen_sender}
-use Rattle.noc_theory.specs.Network.{Setup, State, Located, Place, Source, On, In, Out, leaving, place_of_flit, tail_place, is_on, is_in, is_past, owner_of, leads_from, has_channel, credit_of, count_in, count_on, landed_place, after_credits}
-use Rattle.noc_theory.specs.Progress.{weight, hops}
+use Rattle.noc_vc.specs.declared.output.OutputState.TheVariants.{Idle as Free}
+use Rattle.noc_theory.proofs.Common.{false≢true, true≢false, lt-ltb, ltb-true, le-ltb, le-leb, ne_eqb, eq-eqb, or_left, or_right, Has, one_if, Channel, Link, Inject, Eject, same_channel, is_link, Output, output_after_credit, credit_fits, Owned, Draining, has_come, seen_output, seen_holder, seen_sender, Setup, State, Located, Place, Source, On, In, Out, leaving, place_of_flit, tail_place, is_on, is_in, is_past, owner_of, leads_from, has_channel, credit_of, count_in, count_on, landed_place, after_credits, weight, hops, IsValid}
 use Rattle.noc_theory.proofs.worms.BufferLemmas.{same_channel-refl, same_channel-true}
 use Rattle.noc_theory.proofs.worms.MoveLemmas.{IsNext, far-link, far-eject}
 use Rattle.noc_theory.proofs.worms.OwnedLemmas.{owner-has}
 use Rattle.noc_theory.proofs.worms.StateWordLemmas.{IsEject, IsHeld, IsPlaced, goal, last_of, far_of}
-use Rattle.noc_theory.specs.Good.{IsValid}
 use Rattle.noc_theory.proofs.worms.PlaceLemmas.{place-of-flit, flit-there, is_in-is, is_on-is}
 use Rattle.noc_theory.proofs.worms.RoomLemmas.{landed-count, filter-some}
 use Rattle.noc_theory.proofs.worms.SourceOfLemmas.{has-source}

@@ -1,22 +1,8 @@
 -- A router takes all its beats.
 use Rattle.std.proofs.Common.{◌≡◌, ℕ, zero, suc, ◌+◌, ◌/◌, ◌%◌, ◌<◌, Bool, true, false, List, [], map, Option, Some, None, refl, ap, sym, ◌∙◌, inl, inr, subst, arith}
 use Rattle.std.specs.Prelude.{find, count_by, option_map, option_and_then, is_some, ◌⊎◌, ◌||◌, not, nat_eq, if◌then◌else◌}
-use Rattle.std.specs.List.{list_any, range_with_len}
-use Rattle.std.proofs.lemmas.Bool.{false≢true, true≢false, lt-ltb, le-ltb, ltb-true, eq-eqb, or_left, or_right, or_cases}
-use Rattle.std.proofs.lemmas.Option.{none-some, same_Some}
-use Rattle.noc_topo.specs.Lists.{below, tabulate, is_some_of, Has}
-use Rattle.noc_topo.specs.Shape.{nodes, local_port, neighbour, IsLinkBack}
-use Rattle.noc_topo.proofs.LinkLemmas.{link_back}
-use Rattle.noc_topo.proofs.ListLemmas.{get_or-tabulate}
-use Rattle.noc_packet.specs.declared.packet.Flit.{Flit}
-use Rattle.noc_packet.specs.declared.packet.Beat.{Beat}
-use Rattle.noc_route.specs.Channel.{Channel, Link, Inject, Eject, sending_router, channel_vc, same_channel}
 use Rattle.noc_route.proofs.BoolLemmas.{same_test}
-use Rattle.noc_view.specs.View.{View, view_after_take, view_after_takes_from, view_after_takes}
-use Rattle.noc_theory.specs.Lockstep.{beat_by, beats_at, beats_in, flit_on, flies_to, seen_flits, seen_input, seen_output, seen_sending, starts_at, ends_at}
-use Rattle.noc_theory.specs.Network.{Setup, State, Located, Place, Source, On, In, Out, size, arriving, leaving, packet_at, tail_place, flits_of, owned_by, arbiters_at, first_waiting, is_at_source, is_on, is_injection_of, landed_place, out_cycle, end_of, has_channel, after_landing, after_credits}
-use Rattle.noc_alloc.proofs.WordLemmas.{is_some_of-true}
-use Rattle.noc_packet.specs.Packet.{flit_at}
+use Rattle.noc_theory.proofs.Common.{list_any, range_with_len, false≢true, true≢false, lt-ltb, le-ltb, ltb-true, eq-eqb, or_left, or_right, or_cases, none-some, same_Some, below, tabulate, is_some_of, Has, nodes, local_port, neighbour, IsLinkBack, link_back, get_or-tabulate, Flit, Beat, Channel, Link, Inject, Eject, sending_router, channel_vc, same_channel, View, view_after_take, view_after_takes_from, view_after_takes, beat_by, beats_at, beats_in, flit_on, flies_to, seen_flits, seen_input, seen_output, seen_sending, starts_at, ends_at, Setup, State, Located, Place, Source, On, In, Out, size, arriving, leaving, packet_at, tail_place, flits_of, owned_by, arbiters_at, first_waiting, is_at_source, is_on, is_injection_of, landed_place, out_cycle, end_of, has_channel, after_landing, after_credits, is_some_of-true, flit_at, IsSeen}
 use Rattle.noc_theory.proofs.worms.BufferLemmas.{same_channel-refl, same_channel-true, find-passes}
 use Rattle.noc_theory.proofs.worms.MemberLemmas.{find-has, find-some, list_any-has, list_any-from}
 use Rattle.noc_theory.proofs.worms.PlaceLemmas.{place-of-flit}
@@ -33,7 +19,6 @@ use Rattle.noc_theory.proofs.injection.SourceStateLemmas.{injection-at, injectio
 use Rattle.noc_theory.proofs.join.LockstepStepLemmas.{count-step, any-step}
 use Rattle.noc_theory.proofs.landing.TakeLemmas.{at_port, came, IsUpTo}
 use Rattle.noc_theory.proofs.landing.TakePortLemmas.{port-taken}
-use Rattle.noc_theory.specs.Seen.{IsSeen}
 
 module _ (net : Setup) (good : IsGood net) (S : State) (x : IsOrdered net S) where
   -- ---- what landings and credits leave of the sources

@@ -2,26 +2,14 @@
 -- credits, and there is no misfit.
 use Rattle.std.proofs.Common.{◌≡◌, ℕ, ◌+◌, ◌*◌, ◌/◌, ◌%◌, ◌<◌, ◌≤◌, Bool, true, false, cond, List, [], ◌∷◌, ◌++◌, length, Option, Some, None, refl, ap, sym, ◌∙◌, inl, inr, subst, arith}
 use Rattle.std.specs.Prelude.{option_map, is_some, ◌⊎◌, ◌&&◌, ◌||◌, nat_eq, nat_lt, if◌then◌else◌}
-use Rattle.std.specs.List.{list_any}
-use Rattle.std.proofs.lemmas.Bool.{false≢true, true≢false, cases_eq, cases_lt, lt-ltb, le-ltb, and_from}
-use Rattle.std.proofs.lemmas.Option.{same_Some}
-use Rattle.std.proofs.lemmas.List.{length-set, get_or-set_same, get_or-set_other}
-use Rattle.std.proofs.lemmas.Nat.{div-add-mod', div-mul-add, mod-mul-add}
-use Rattle.noc_topo.specs.Lists.{below}
-use Rattle.noc_topo.specs.Shape.{nodes, local_port, neighbour}
-use Rattle.noc_packet.specs.declared.packet.Flit.{Flit}
-use Rattle.noc_packet.specs.declared.packet.Beat.{Beat}
-use Rattle.noc_route.specs.Channel.{Channel, Link, Inject}
-use Rattle.noc_vc.specs.Input.{Input, idle_input, fits, input_after_land as landed_on}
-use Rattle.noc_view.specs.View.{Site, View, has_link, view_buffer, view_input, view_output, with_landed, with_flit, with_misfit}
-use Rattle.noc_theory.specs.Lockstep.{beat_by, flit_on, seen_flits, seen_input, seen_output, starts_at, ends_at, has_flit_at_source, seen_sending}
-use Rattle.noc_theory.specs.Network.{Setup, State, size, arriving, leaving}
+use Rattle.noc_vc.specs.Input.{input_after_land as landed_on}
+use Rattle.noc_theory.proofs.Common.{list_any, false≢true, true≢false, cases_eq, cases_lt, lt-ltb, le-ltb, and_from, same_Some, length-set, get_or-set_same, get_or-set_other, div-add-mod', div-mul-add, mod-mul-add, below, nodes, local_port, neighbour, Flit, Beat, Channel, Link, Inject, Input, idle_input, fits, Site, View, has_link, view_buffer, view_input, view_output, with_landed, with_flit, with_misfit, beat_by, flit_on, seen_flits, seen_input, seen_output, starts_at, ends_at, has_flit_at_source, seen_sending, Setup, State, size, arriving, leaving, IsSeen}
 use Rattle.noc_theory.proofs.landing.LandFlitLemmas.{flits-some, input-some, fits-some}
 use Rattle.noc_theory.proofs.landing.LandInputLemmas.{flits-none, input-none}
 use Rattle.noc_theory.proofs.join.OrderedLemmas.{IsGood, AreShort, IsOrdered}
 use Rattle.noc_theory.proofs.join.PhaseLemmas.{mid}
 use Rattle.noc_theory.proofs.join.PlaceViewLemmas.{IsAt, arriving-at, not-eject, in-size, mod-below}
-use Rattle.noc_theory.specs.Seen.{IsSeen, IsAsNoted}
+use Rattle.noc_theory.specs.Seen.{IsAsNoted}
 
 module _ (net : Setup) (good : IsGood net) (S : State) (x : IsOrdered net S) (r : ℕ) (l : r < nodes net.relation.grid) (v0 : View) where
   -- the state of which channel i is shown once the ports below k have been taken

@@ -1,24 +1,8 @@
 -- A router takes the beat of one port.
 use Rattle.std.proofs.Common.{◌≡◌, ℕ, ◌+◌, ◌*◌, ◌/◌, ◌%◌, ◌<◌, Bool, true, false, cond, List, [], ◌∷◌, ◌++◌, length, get_or, set, Option, Some, None, refl, ap, sym, ◌∙◌, inl, inr, subst, arith}
 use Rattle.std.specs.Prelude.{find, option_map, option_and_then, is_some, ◌⊎◌, ◌&&◌, ◌||◌, nat_lt, if◌then◌else◌}
-use Rattle.std.specs.List.{list_any}
-use Rattle.std.proofs.lemmas.Bool.{false≢true, true≢false, cases_eq, lt-ltb, and_from}
-use Rattle.std.proofs.lemmas.Option.{none-some, same_Some}
-use Rattle.std.proofs.lemmas.List.{length-set, get_or-set_same, get_or-set_other}
-use Rattle.std.proofs.lemmas.Nat.{div-add-mod', div-mul-add}
-use Rattle.noc_topo.specs.Lists.{below, Has}
-use Rattle.noc_topo.specs.Shape.{nodes, local_port, neighbour}
-use Rattle.noc_topo.proofs.ListLemmas.{below-next}
-use Rattle.noc_packet.specs.declared.packet.Flit.{Flit}
-use Rattle.noc_packet.specs.declared.packet.Beat.{Beat}
-use Rattle.noc_route.specs.Channel.{Channel, Link, Inject}
-use Rattle.noc_route.proofs.OptionLemmas.{no-value}
-use Rattle.noc_vc.specs.Output.{Output, ejection_output, output_after_credit, credit_fits}
-use Rattle.noc_view.specs.View.{Site, View, has_link, view_output, with_flit, with_credit, with_misfit, view_after_take}
 use Rattle.noc_view.proofs.FindLemmas.{find-some}
-use Rattle.noc_theory.specs.Lockstep.{beat_by, flit_on, seen_output}
-use Rattle.noc_theory.specs.Network.{Setup, State, Located, On, size, arriving, leaving, has_channel, is_on, packet_at}
-use Rattle.noc_packet.specs.Packet.{flit_at}
+use Rattle.noc_theory.proofs.Common.{list_any, false≢true, true≢false, cases_eq, lt-ltb, and_from, none-some, same_Some, length-set, get_or-set_same, get_or-set_other, div-add-mod', div-mul-add, below, Has, nodes, local_port, neighbour, below-next, Flit, Beat, Channel, Link, Inject, no-value, Output, ejection_output, output_after_credit, credit_fits, Site, View, has_link, view_output, with_flit, with_credit, with_misfit, view_after_take, beat_by, flit_on, seen_output, Setup, State, Located, On, size, arriving, leaving, has_channel, is_on, packet_at, flit_at, IsSeen}
 use Rattle.noc_theory.proofs.worms.BufferLemmas.{find-passes}
 use Rattle.noc_theory.proofs.worms.MemberLemmas.{find-has, find-fails}
 use Rattle.noc_theory.proofs.worms.PlaceLemmas.{place-of-flit, sorted-same, is_on-is}
@@ -28,7 +12,6 @@ use Rattle.noc_theory.proofs.join.OrderedLemmas.{IsGood, AreShort, IsOrdered}
 use Rattle.noc_theory.proofs.join.PhaseLemmas.{mid}
 use Rattle.noc_theory.proofs.join.PlaceViewLemmas.{input-at, in-size, mod-below, OutputCase, ejects, links, output-case, link-from}
 use Rattle.noc_theory.proofs.landing.TakeLemmas.{at_port, came, IsUpTo, IsLanded, no-flit, with-flit, elsewhere, here-before, here-after, vcs-is, site-is}
-use Rattle.noc_theory.specs.Seen.{IsSeen}
 
 module _ (net : Setup) (good : IsGood net) (short : AreShort net) (S : State) (x : IsOrdered net S) (r : ℕ) (l : r < nodes net.relation.grid) (v0 : View) (seen : IsSeen net S r v0) (k : ℕ) (low : k < local_port net.relation.grid) (v : View)
     (so_far : IsUpTo net good S x r l v0 k v) where

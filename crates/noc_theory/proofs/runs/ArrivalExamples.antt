@@ -2,15 +2,9 @@
 -- cycles, and the work left.
 use Rattle.std.proofs.Common.{◌≡◌, ℕ, suc, ◌+◌, Bool, true, false, List, [], ◌∷◌, Option, Some, None, refl, map, length}
 use Rattle.std.specs.Prelude.{nat_eq}
-use Rattle.std.specs.List.{list_all}
-use Rattle.noc_topo.specs.Lists.{below, tabulate, map_indexed, least_by}
-use Rattle.noc_route.specs.Channel.{inputs}
 use Rattle.noc_view.specs.Verdict.{first_in_turn}
-use Rattle.noc_view.specs.declared.verdict.Verdict.{Verdict}
-use Rattle.noc_view.specs.declared.verdict.Verdict.TheVariants.{Empty, Routed, Granted, Moved, NoIdleChannel, LostChannel, NoCredit}
-use Rattle.noc_theory.specs.Network.{Setup, State, opening_state, after_landing, after_credits, after_injection, frozen_state, after_verdicts, network_cycle, state_at, arrival_in, verdict_in_cycle}
-use Rattle.noc_theory.specs.Lockstep.{counts_before}
-use Rattle.noc_theory.specs.Progress.{events, last_event_before, is_stuck, remainder, budget}
+use Rattle.noc_view.specs.declared.verdict.Verdict.TheVariants.{NoCredit}
+use Rattle.noc_theory.proofs.Common.{list_all, below, tabulate, map_indexed, least_by, inputs, Verdict, Empty, Routed, Granted, Moved, NoIdleChannel, LostChannel, Setup, State, opening_state, after_landing, after_credits, after_injection, frozen_state, after_verdicts, network_cycle, state_at, arrival_in, verdict_in_cycle, counts_before, events, last_event_before, is_stuck, remainder, budget}
 use Rattle.noc_theory.specs.Alone.{zero_load_latency}
 use Rattle.noc_theory.proofs.runs.NetworkExamples.{one_flit, three_flits, one_slot, one_by_one, draining, one_source, due_first, contended, deadlocked, woken, dateline, joined_twice}
 

@@ -1,16 +1,8 @@
 -- The event core on small networks: which events are permitted, and how far routers get.
 use Rattle.std.proofs.Common.{◌≡◌, ℕ, zero, suc, Bool, true, false, List, [], ◌∷◌, ◌++◌, refl, map, length}
-use Rattle.std.specs.List.{flat_map}
-use Rattle.noc_topo.specs.Lists.{below, tabulate, map_indexed, least_by}
-use Rattle.noc_topo.specs.Shape.{local_port}
-use Rattle.noc_theory.specs.Network.{Setup, opening_state, state_at}
-use Rattle.noc_theory.specs.Lockstep.{view_in, view_at, beats_in}
-use Rattle.noc_route.specs.Channel.{inputs}
 use Rattle.noc_view.specs.Verdict.{first_in_turn}
-use Rattle.noc_view.specs.View.{view_after_take, view_after_takes, view_after_inject, view_round, decisions_of, view_after_commit, local_step}
-use Rattle.noc_theory.specs.declared.event.Event.{Event}
-use Rattle.noc_theory.specs.declared.event.Event.TheVariants.{Take, Decide, Put}
-use Rattle.noc_theory.specs.Core.{CoreState, Post, opening_core, is_ready, happens, after_events, wire_at}
+use Rattle.noc_theory.proofs.Common.{flat_map, below, tabulate, map_indexed, least_by, local_port, Setup, opening_state, state_at, view_in, view_at, beats_in, inputs, view_after_take, view_after_takes, view_after_inject, view_round, decisions_of, view_after_commit, local_step, Event, Take, Decide, Put, CoreState, Post, is_ready, happens}
+use Rattle.noc_theory.specs.Core.{opening_core, after_events, wire_at}
 use Rattle.noc_theory.proofs.runs.NetworkExamples.{one_flit, draining}
 
 -- a core from the opening on; to open it is to open all that a core is computed by

@@ -1,23 +1,8 @@
 -- A core in step stays in step, whatever event comes.
 use Rattle.std.proofs.Common.{◌≡◌, ◌≢◌, ℕ, zero, suc, ◌+◌, ◌<◌, Bool, true, false, not, ◌&&◌, List, [], ◌∷◌, ◌++◌, length, get_or, set, drop, Option, Some, option_map, slice_get, refl, ap, sym, subst, ◌∙◌, ◌⊎◌, inl, inr, ⊎_elim, arith}
 use Rattle.std.specs.Prelude.{unwrap_or}
-use Rattle.std.proofs.lemmas.Bool.{cases_eq, and_parts}
-use Rattle.std.proofs.lemmas.List.{get_or-set_same, get_or-set_other}
-use Rattle.std.proofs.lemmas.Option.{same_Some, slice_get_within}
-use Rattle.noc_topo.specs.Shape.{IsLinkBack, neighbour, nodes}
-use Rattle.noc_topo.proofs.LinkLemmas.{link_back}
-use Rattle.noc_packet.specs.declared.packet.Beat.{Beat}
-use Rattle.noc_route.proofs.OptionLemmas.{some-value}
-use Rattle.noc_view.specs.View.{idle_beat}
-use Rattle.noc_topo.specs.Lists.{one_if}
-use Rattle.noc_theory.specs.declared.event.Event.{Event}
-use Rattle.noc_theory.specs.declared.event.Event.TheVariants.{Take, Decide, Put}
-use Rattle.noc_theory.specs.Core.{CoreState, Post, beat_to_send, deciding, happens, has_beat, holds_at, is_linked, is_ready, may_decide, may_put, may_take, onto_wire, post_at, putting, receiving, taking, wire_of, with_post}
-use Rattle.noc_theory.specs.Halves.{beat_at}
-use Rattle.noc_theory.specs.InStep.{IsInStep, IsPostInStep, cycle_put, cycle_taken}
-use Rattle.noc_theory.specs.Lockstep.{lockstep_at}
-use Rattle.noc_theory.specs.Network.{Setup}
-use Rattle.noc_theory.specs.Order.{is_put, is_take}
+use Rattle.noc_theory.proofs.Common.{cases_eq, and_parts, get_or-set_same, get_or-set_other, same_Some, slice_get_within, IsLinkBack, neighbour, nodes, link_back, Beat, some-value, idle_beat, one_if, Event, Take, Decide, Put, CoreState, Post, happens, has_beat, holds_at, is_linked, is_ready, may_decide, post_at, taking, wire_of, beat_at, IsInStep, IsPostInStep, cycle_put, cycle_taken, lockstep_at, Setup, is_put, is_take}
+use Rattle.noc_theory.specs.Core.{beat_to_send, deciding, may_put, may_take, onto_wire, putting, receiving, with_post}
 use Rattle.noc_theory.proofs.runs.EventLemmas.{Moves, both, decided_post, finished-wires, linked_port, linked_when, may_decide-parts, may_take-parts, moves-deciding, moves-decide_other, moves-put_other, moves-putting, moves-take_other, moves-taking, not_first, not_second, put_post}
 use Rattle.noc_theory.proofs.runs.InStepLemmas.{decided_in_step, finished_in_step, holds_first, holds_put, holds_same, holds_taken, put_in_step, receiving_in_step, taking_in_step, view_now}
 use Rattle.noc_theory.proofs.runs.PostLemmas.{beat_when, get_changed_other, get_changed_same, length-changed_at, post_before, router_when}

@@ -1,19 +1,8 @@
 -- What one event that is ready does to the cycles of a router.
 use Rattle.std.proofs.Common.{◌≡◌, ◌≢◌, ℕ, ◌+◌, ◌<◌, ◌≤◌, Bool, true, false, not, ◌&&◌, ◌||◌, List, [], ◌∷◌, length, get_or, set, map, Option, Some, None, is_some, is_none, slice_get, refl, ap, sym, ◌∙◌, ⊎_elim, arith, eq-eqb, ne_eqb}
 use Rattle.std.specs.Prelude.{slice_index_or, nat_eq, nat_lt, unwrap_or, if◌then◌else◌}
-use Rattle.std.proofs.lemmas.List.Folds.{list_all_at}
-use Rattle.std.proofs.lemmas.Bool.{true_from_ne_false, false≢true, cases_eq, cases_lt, not-true, and_parts, ltb-true}
-use Rattle.noc_topo.specs.Lists.{map_indexed, one_if}
-use Rattle.noc_topo.specs.Shape.{neighbour}
-use Rattle.noc_topo.proofs.ListLemmas.{get_or-map_indexed}
-use Rattle.noc_packet.specs.declared.packet.Beat.{Beat}
-use Rattle.noc_view.specs.View.{local_step, idle_beat}
-use Rattle.noc_theory.specs.declared.event.Event.{Event}
-use Rattle.noc_theory.specs.declared.event.Event.TheVariants.{Take, Decide, Put}
-use Rattle.noc_theory.specs.Core.{Post, all_have, deciding, post_after_last_put, has_beat, is_linked, link_ports, may_decide, may_put, may_take, none_has, putting, resting_post, taking, wire_of}
-use Rattle.noc_theory.specs.InStep.{IsPostInStep, cycle_of, cycle_put, cycle_taken}
-use Rattle.noc_theory.specs.Network.{Setup}
-use Rattle.noc_theory.specs.Order.{is_decide, is_put, is_take}
+use Rattle.noc_theory.proofs.Common.{list_all_at, true_from_ne_false, false≢true, cases_eq, cases_lt, not-true, and_parts, ltb-true, map_indexed, one_if, neighbour, get_or-map_indexed, Beat, local_step, idle_beat, Event, Take, Decide, Put, Post, all_have, has_beat, is_linked, link_ports, may_decide, none_has, resting_post, taking, wire_of, IsPostInStep, cycle_of, cycle_put, cycle_taken, Setup, is_decide, is_put, is_take}
+use Rattle.noc_theory.specs.Core.{deciding, post_after_last_put, may_put, may_take, putting}
 use Rattle.noc_theory.proofs.runs.PostLemmas.{all_below, has_none, has_past, has_set_other, has_set_same}
 use Rattle.noc_theory.proofs.runs.RunLemmas.{no_link}
 

@@ -1,16 +1,7 @@
 -- What a router does in a cycle does not depend on what it found before.
 use Rattle.std.proofs.Common.{◌≡◌, ℕ, ◌+◌, Bool, true, false, List, [], ◌∷◌, length, set, Option, Some, None, refl, ap, ◌∙◌}
 use Rattle.std.specs.Prelude.{◌*◌, ◌&&◌, if◌then◌else◌, find, nat_le, nat_lt}
-use Rattle.noc_topo.specs.Lists.{below}
-use Rattle.noc_packet.specs.declared.packet.Packet.{Packet}
-use Rattle.noc_packet.specs.declared.packet.Flit.{Flit}
-use Rattle.noc_packet.specs.declared.packet.Beat.{Beat}
-use Rattle.noc_route.specs.Routes.{Routes}
-use Rattle.noc_vc.specs.Input.{fits}
-use Rattle.noc_vc.specs.Output.{credit_fits, output_after_credit}
-use Rattle.noc_view.specs.View.{View, has_link, view_buffer, view_input, view_output, local_channel, with_landed, with_misfit, with_injected, view_after_take, view_after_takes_from, view_after_takes, view_after_inject, view_after_inject_from, begun_on, is_vacant, view_round, decisions_of, view_after_commit, local_step, with_flit, with_credit}
-use Rattle.noc_view.specs.declared.finding.Finding.{Finding}
-use Rattle.noc_theory.specs.Halves.{view_after_decide, view_after_puts}
+use Rattle.noc_theory.proofs.Common.{below, Packet, Flit, Beat, Routes, fits, credit_fits, output_after_credit, View, has_link, view_buffer, view_input, view_output, local_channel, with_landed, with_misfit, with_injected, view_after_take, view_after_takes_from, view_after_takes, view_after_inject, view_after_inject_from, begun_on, is_vacant, view_round, decisions_of, view_after_commit, local_step, with_flit, with_credit, Finding, view_after_decide, view_after_puts}
 
 -- a view with other findings
 abbrev pub with_findings : List Finding → View → View

@@ -1,23 +1,10 @@
 -- Each event that is ready keeps a core in step.
 use Rattle.std.proofs.Common.{◌≡◌, ◌≢◌, ℕ, suc, ◌+◌, ◌-◌, ◌<◌, Bool, true, false, List, [], ◌∷◌, ◌++◌, length, get_or, set, drop, map, Option, Some, None, is_some, slice_get, refl, ap, sym, subst, ◌∙◌, ⊎_elim, arith}
 use Rattle.std.specs.Prelude.{slice_index_or, unwrap_or, if◌then◌else◌}
-use Rattle.std.specs.List.{range_with_len}
-use Rattle.std.proofs.lemmas.Bool.{cases_eq, false≢true}
-use Rattle.std.proofs.lemmas.List.{ext_get_or, get_or-map, get_or-set_same, get_or-set_other, length-map, length-replicate, length-set}
 use Rattle.std.proofs.lemmas.List.FromFn.{length-map-range_with_len, map-range_with_len_more}
-use Rattle.std.proofs.lemmas.Option.{none-some, same_Some}
-use Rattle.noc_topo.specs.Shape.{IsGrid, neighbour, nodes}
-use Rattle.noc_topo.proofs.LinkLemmas.{link_back}
-use Rattle.noc_topo.proofs.ListLemmas.{length-map_indexed}
-use Rattle.noc_packet.specs.declared.packet.Beat.{Beat}
-use Rattle.noc_route.proofs.OptionLemmas.{no-value}
-use Rattle.noc_view.specs.View.{local_step, idle_beat}
-use Rattle.noc_topo.specs.Lists.{one_if}
-use Rattle.noc_theory.specs.Core.{Post, all_have, post_after_last_put, has_beat, is_linked, link_ports, may_decide, no_beats, none_has, receiving, resting_post, taking, wire_of}
-use Rattle.noc_theory.specs.Halves.{beat_at}
-use Rattle.noc_theory.specs.InStep.{HoldsCycles, IsPostInStep, beats_of_cycles, cycle_of}
-use Rattle.noc_theory.specs.Lockstep.{beats_at, lockstep_at}
-use Rattle.noc_theory.specs.Network.{Setup}
+use Rattle.noc_theory.proofs.Common.{range_with_len, cases_eq, false≢true, ext_get_or, get_or-map, get_or-set_same, get_or-set_other, length-map, length-replicate, length-set, none-some, same_Some, IsGrid, neighbour, nodes, link_back, length-map_indexed, Beat, no-value, local_step, idle_beat, one_if, Post, all_have, has_beat, is_linked, link_ports, may_decide, none_has, resting_post, taking, wire_of, beat_at, IsPostInStep, cycle_of, beats_at, lockstep_at, Setup}
+use Rattle.noc_theory.specs.Core.{post_after_last_put, no_beats, receiving}
+use Rattle.noc_theory.specs.InStep.{HoldsCycles, beats_of_cycles}
 use Rattle.noc_theory.proofs.runs.EventLemmas.{all_at, decided_post, front_some, has_decided, linked_port, linked_when, may_decide-parts, put_post}
 use Rattle.noc_theory.proofs.runs.PostLemmas.{has_none, has_set_other, has_set_same}
 use Rattle.noc_theory.proofs.runs.RunLemmas.{count_row}

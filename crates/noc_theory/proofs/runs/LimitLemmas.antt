@@ -1,18 +1,8 @@
 -- No router goes past the limit.
 use Rattle.std.proofs.Common.{◌≡◌, ℕ, ◌+◌, ◌<◌, ◌≤◌, Bool, true, false, length, get_or, Some, refl, ap, sym, ◌∙◌, arith}
 use Rattle.std.specs.Prelude.{not, nat_lt, nat_eq, ◌&&◌}
-use Rattle.std.proofs.lemmas.Option.{get_or_from_slice_get, slice_get_within}
-use Rattle.std.proofs.lemmas.Bool.{and_parts, ltb-true, eqb-true}
-use Rattle.noc_topo.specs.Lists.{map_indexed, one_if}
-use Rattle.noc_topo.proofs.ListLemmas.{length-map_indexed, get_or-map_indexed}
-use Rattle.noc_view.specs.View.{View}
-use Rattle.noc_theory.specs.declared.event.Event.{Event}
-use Rattle.noc_theory.specs.declared.event.Event.TheVariants.{Take, Decide, Put}
-use Rattle.noc_theory.specs.Core.{CoreState, Post, happens, is_ready, may_decide, all_have, holds_at, post_at, resting_post}
-use Rattle.noc_theory.specs.InStep.{AreWithin, IsInStep, cycle_of, lockstep_core, lockstep_wires}
-use Rattle.noc_theory.specs.Lockstep.{lockstep_at}
-use Rattle.noc_theory.specs.Network.{Run}
-use Rattle.noc_theory.specs.Order.{is_decide}
+use Rattle.noc_theory.proofs.Common.{get_or_from_slice_get, slice_get_within, and_parts, ltb-true, eqb-true, map_indexed, one_if, length-map_indexed, get_or-map_indexed, View, Event, Take, Decide, Put, CoreState, Post, happens, is_ready, may_decide, all_have, holds_at, post_at, resting_post, IsInStep, cycle_of, lockstep_core, lockstep_wires, lockstep_at, Run, is_decide}
+use Rattle.noc_theory.specs.InStep.{AreWithin}
 use Rattle.noc_theory.proofs.runs.CoreLemmas.{moves}
 
 module _ (limit : ℕ) where

@@ -1,8 +1,6 @@
 -- A list whose elements are changed one after another.
 use Rattle.std.proofs.Common.{◌≡◌, ℕ, ◌<◌, ◌≤◌, List, length, get_or, map, sym, ◌∙◌, arith}
-use Rattle.std.proofs.lemmas.List.{length-map, get_or-map, same_lists}
-use Rattle.noc_topo.specs.Lists.{map_indexed}
-use Rattle.noc_topo.proofs.ListLemmas.{length-map_indexed, get_or-map_indexed}
+use Rattle.noc_theory.proofs.Common.{length-map, get_or-map, same_lists, map_indexed, length-map_indexed, get_or-map_indexed}
 
 -- the first i elements of xs are changed by f, which is given the index, and the others are not
 pub record IsDoneTo {X : Type 0} (f : ℕ → X → X) (xs ys : List X) (i : ℕ) : Type 0 where

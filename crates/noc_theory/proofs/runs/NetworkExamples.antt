@@ -1,16 +1,10 @@
 -- The small networks on which the definitions are evaluated.
 use Rattle.std.proofs.Common.{ℕ, ◌*◌, ◌^◌, List, [], ◌∷◌, Option, Some, None, true, false, map, cond}
 use Rattle.std.specs.Prelude.{sum_by}
-use Rattle.std.specs.List.{flat_map}
-use Rattle.noc_topo.specs.Lists.{below}
-use Rattle.noc_topo.specs.Shape.{nodes, ports}
-use Rattle.noc_packet.specs.declared.packet.Packet.{Packet}
-use Rattle.noc_route.specs.Channel.{Channel, input_at, output_at}
 use Rattle.noc_route.specs.Relation.{RelationParts, rule_has}
 use Rattle.noc_route.specs.declared.rule.Rule.{Rule}
 use Rattle.noc_route.specs.declared.rule.Rule.TheVariants.{Dor, Dateline, WestFirst}
-use Rattle.noc_route.specs.Routes.{Routes}
-use Rattle.noc_theory.specs.Network.{Setup}
+use Rattle.noc_theory.proofs.Common.{flat_map, below, nodes, ports, Packet, Channel, input_at, output_at, Routes, Setup}
 
 -- the set of a rule at an entry; entries that are never reached have theirs
 -- too, which no packet sees

@@ -1,27 +1,10 @@
 -- What every list of events has in common.
 use Rattle.std.proofs.Common.{◌≡◌, ℕ, ◌+◌, ◌-◌, ◌<◌, ◌≤◌, Bool, true, false, cond, not, ◌&&◌, List, [], ◌∷◌, length, map, get_or, Option, Some, None, is_some, slice_get, count_by, refl, ap, sym, subst, ◌∙◌, ⊎_elim, arith, eqb-true}
 use Rattle.std.specs.Prelude.{slice_index_or, nat_eq, if◌then◌else◌}
-use Rattle.std.specs.List.{list_all, range_with_len}
-use Rattle.std.proofs.lemmas.Bool.{cases_lt, and_parts, false≢true, not-true, true_from_ne_false, false_from_ne_true}
-use Rattle.std.proofs.lemmas.List.{ext_get_or, same_lists, get_or_past, get_or-replicate, length-replicate}
-use Rattle.std.proofs.lemmas.List.Folds.{list_all_at}
-use Rattle.std.proofs.lemmas.List.Sums.{sum_by-cons}
-use Rattle.std.proofs.lemmas.Option.{same_Some, slice_get_within, get_or_from_slice_get}
-use Rattle.noc_topo.specs.Lists.{map_indexed, one_if}
-use Rattle.noc_topo.specs.Shape.{IsGrid, neighbour}
-use Rattle.noc_topo.proofs.LinkLemmas.{link_back}
-use Rattle.noc_topo.proofs.ListLemmas.{length-tabulate, get_or-tabulate, tabulate-from_each, length-map_indexed, get_or-map_indexed}
-use Rattle.noc_packet.specs.declared.packet.Beat.{Beat}
-use Rattle.noc_route.proofs.OptionLemmas.{no-value}
-use Rattle.noc_view.specs.View.{View}
-use Rattle.noc_theory.specs.declared.event.Event.{Event}
-use Rattle.noc_theory.specs.declared.event.Event.TheVariants.{Take, Decide, Put}
-use Rattle.noc_theory.specs.Core.{CoreState, Post, after_event, after_events, are_between, happens, has_beat, is_between, is_linked, is_ready, link_ports, no_beats, none_has, onto_wire, post_at, resting_post, wire_of}
-use Rattle.noc_theory.specs.Halves.{beat_at}
-use Rattle.noc_theory.specs.InStep.{HoldsCycles, IsInStep, KeepsStep, lockstep_core, lockstep_wires, IsPostInStep, beats_of_cycles, cycle_of, cycle_put, cycle_taken}
-use Rattle.noc_theory.specs.Lockstep.{lockstep_at}
-use Rattle.noc_theory.specs.Network.{Setup, Run}
-use Rattle.noc_theory.specs.Order.{decides, happening, is_decide, is_put, is_take, puts, takes}
+use Rattle.noc_theory.proofs.Common.{list_all, range_with_len, cases_lt, and_parts, false≢true, not-true, true_from_ne_false, false_from_ne_true, ext_get_or, same_lists, get_or_past, get_or-replicate, length-replicate, list_all_at, sum_by-cons, same_Some, slice_get_within, get_or_from_slice_get, map_indexed, one_if, IsGrid, neighbour, link_back, length-tabulate, get_or-tabulate, tabulate-from_each, length-map_indexed, get_or-map_indexed, Beat, no-value, View, Event, Take, Decide, Put, CoreState, Post, happens, has_beat, is_linked, is_ready, link_ports, none_has, post_at, resting_post, wire_of, beat_at, IsInStep, lockstep_core, lockstep_wires, IsPostInStep, cycle_of, cycle_put, cycle_taken, lockstep_at, Setup, Run, is_decide, is_put, is_take}
+use Rattle.noc_theory.specs.Core.{after_event, after_events, are_between, is_between, no_beats, onto_wire}
+use Rattle.noc_theory.specs.InStep.{HoldsCycles, KeepsStep, beats_of_cycles}
+use Rattle.noc_theory.specs.Order.{decides, happening, puts, takes}
 use Rattle.noc_theory.proofs.runs.CoreLemmas.{get_some, happens_in_step, moves, router_there, router_within}
 use Rattle.noc_theory.proofs.runs.EventLemmas.{Moves, linked_port, linked_when, none_at}
 use Rattle.noc_theory.proofs.runs.InStepLemmas.{holds_some}

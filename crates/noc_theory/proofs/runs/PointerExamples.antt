@@ -2,7 +2,7 @@
 use Rattle.std.proofs.Common.{◌≡◌, ℕ, [], ◌∷◌, refl}
 use Rattle.std.specs.Prelude.{slice_index_or}
 use Rattle.noc_view.specs.Verdict.{opening_arbiters}
-use Rattle.noc_theory.specs.Network.{Setup}
+use Rattle.noc_theory.proofs.Common.{Setup}
 use Rattle.noc_theory.proofs.runs.ArrivalExamples.{state_after}
 use Rattle.noc_theory.proofs.runs.NetworkExamples.{contended}
 

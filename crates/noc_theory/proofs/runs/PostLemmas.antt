@@ -1,17 +1,9 @@
 -- The routers of a core by number, and what is there at a port.
 use Rattle.std.proofs.Common.{◌≡◌, ◌≢◌, ℕ, zero, suc, ◌<◌, ◌≤◌, Bool, true, false, List, [], ◌∷◌, length, get_or, set, replicate, Option, Some, None, option_map, is_some, slice_get, refl, ap, sym, subst, ◌∙◌, ◌⊎◌, inl, inr, ⊎_elim, arith}
 use Rattle.std.specs.Prelude.{slice_index_or}
-use Rattle.std.specs.List.{list_all}
-use Rattle.std.proofs.lemmas.Bool.{cases_eq, cases_lt, true_from_ne_false, false≢true}
-use Rattle.std.proofs.lemmas.List.{get_or-set_same, get_or-set_other, get_or-replicate, get_or_past, length-replicate}
-use Rattle.std.proofs.lemmas.List.Folds.{list_all_at}
-use Rattle.std.proofs.lemmas.Option.{none-some, same_Some}
-use Rattle.noc_topo.specs.Lists.{below}
 use Rattle.noc_topo.proofs.ListLemmas.{length-below, get_or-below}
-use Rattle.noc_packet.specs.declared.packet.Beat.{Beat}
-use Rattle.noc_route.proofs.OptionLemmas.{some-value}
-use Rattle.noc_view.specs.View.{View}
-use Rattle.noc_theory.specs.Core.{CoreState, Post, changed_at, has_beat, holds_at, post_at, with_post}
+use Rattle.noc_theory.proofs.Common.{list_all, cases_eq, cases_lt, true_from_ne_false, false≢true, get_or-set_same, get_or-set_other, get_or-replicate, get_or_past, length-replicate, list_all_at, none-some, same_Some, below, Beat, some-value, View, CoreState, Post, has_beat, holds_at, post_at}
+use Rattle.noc_theory.specs.Core.{changed_at, with_post}
 
 -- ---- an element that is changed
 

@@ -1,16 +1,9 @@
 -- The lockstep run, and one cycle more of it in two halves.
 use Rattle.std.proofs.Common.{◌≡◌, ℕ, zero, suc, ◌+◌, ◌<◌, ◌≤◌, List, [], ◌∷◌, ◌++◌, length, map, get_or, None, refl, ap, sym, ◌∙◌, ⊎_elim, arith, add-one, replicate}
-use Rattle.std.specs.List.{All}
-use Rattle.std.proofs.lemmas.List.{map_push, same_lists, length-map, get_or-map, get_or-replicate, get_or_past, length-replicate}
-use Rattle.std.proofs.lemmas.Bool.{cases_lt, le-ltb}
-use Rattle.noc_topo.specs.Lists.{below, tabulate, map_indexed}
-use Rattle.noc_topo.specs.Shape.{nodes, local_port, neighbour}
-use Rattle.noc_topo.proofs.ListLemmas.{length-tabulate, get_or-tabulate, tabulate-from_each, length-map_indexed, get_or-map_indexed, below-next}
-use Rattle.noc_packet.specs.declared.packet.Beat.{Beat}
-use Rattle.noc_view.specs.View.{Site, View, IsRelationOf, local_step, opening_view, idle_beat}
-use Rattle.noc_theory.specs.Halves.{beat_at, view_after_decide, view_after_puts, incoming, HaveTheirBeats, IsSilent}
-use Rattle.noc_theory.specs.Lockstep.{lockstep_at, lockstep_cycle, opening_lockstep, wires_after_puts, beats_at, beat_from, site_at, starts_at, ends_at}
-use Rattle.noc_theory.specs.Network.{Setup}
+use Rattle.std.proofs.lemmas.List.{map_push}
+use Rattle.noc_view.specs.View.{IsRelationOf}
+use Rattle.noc_theory.proofs.Common.{All, same_lists, length-map, get_or-map, get_or-replicate, get_or_past, length-replicate, cases_lt, le-ltb, below, tabulate, map_indexed, nodes, local_port, neighbour, length-tabulate, get_or-tabulate, tabulate-from_each, length-map_indexed, get_or-map_indexed, below-next, Beat, Site, View, local_step, opening_view, idle_beat, beat_at, view_after_decide, view_after_puts, incoming, IsSilent, lockstep_at, lockstep_cycle, opening_lockstep, wires_after_puts, beats_at, beat_from, site_at, starts_at, ends_at, Setup}
+use Rattle.noc_theory.specs.Halves.{HaveTheirBeats}
 use Rattle.noc_theory.proofs.runs.StepLemmas.{local_step-view, local_step-beats, site-decided, count-decided}
 
 pub map_map_indexed : {X Y Z W : Type 0} (f : Y → W) (g : ℕ → X → Y) (k : Z → W) (h : ℕ → X → Z) (xs : List X) (d : X) (y : Y) (z : Z)

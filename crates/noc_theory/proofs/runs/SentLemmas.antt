@@ -1,16 +1,7 @@
 -- What a router of the lockstep run sees and sends in one cycle.
 use Rattle.std.proofs.Common.{◌≡◌, ℕ, zero, suc, ◌+◌, ◌<◌, ◌≤◌, List, [], length, map, get_or, slice_get, Some, None, ap, sym, ◌∙◌, ⊎_elim, arith, add-one, replicate}
-use Rattle.std.proofs.lemmas.List.{get_or-map, length-map, get_or-replicate}
-use Rattle.std.proofs.lemmas.Option.{slice_get_within, slice_get-get_or, get_or_from_slice_get}
-use Rattle.std.proofs.lemmas.Bool.{cases_lt}
-use Rattle.noc_topo.specs.Lists.{map_indexed, tabulate}
-use Rattle.noc_topo.specs.Shape.{nodes, local_port, neighbour}
-use Rattle.noc_topo.proofs.ListLemmas.{get_or-tabulate, length-map_indexed, get_or-map_indexed}
-use Rattle.noc_packet.specs.declared.packet.Beat.{Beat}
-use Rattle.noc_view.specs.View.{Site, View, local_step, idle_beat}
-use Rattle.noc_theory.specs.Halves.{beat_at}
-use Rattle.noc_theory.specs.Lockstep.{beat_from, beats_at, wires_after_puts, lockstep_at, lockstep_cycle, opening_lockstep, site_at}
-use Rattle.noc_theory.specs.Network.{Setup}
+use Rattle.std.proofs.lemmas.Option.{slice_get-get_or}
+use Rattle.noc_theory.proofs.Common.{get_or-map, length-map, get_or-replicate, slice_get_within, get_or_from_slice_get, cases_lt, map_indexed, tabulate, nodes, local_port, neighbour, get_or-tabulate, length-map_indexed, get_or-map_indexed, Beat, Site, View, local_step, idle_beat, beat_at, beat_from, beats_at, wires_after_puts, lockstep_at, lockstep_cycle, opening_lockstep, site_at, Setup}
 use Rattle.noc_theory.proofs.runs.RunLemmas.{count_views, linked_wires, past_wires, site_views}
 use Rattle.noc_theory.proofs.runs.StepLemmas.{count-decided, local_step-beats}
 

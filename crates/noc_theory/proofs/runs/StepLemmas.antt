@@ -1,15 +1,9 @@
 -- What taking, injecting and committing leave of a router, and the two halves of its step.
 use Rattle.std.proofs.Common.{◌≡◌, ℕ, suc, ◌+◌, ◌<◌, ◌≤◌, Bool, true, false, List, [], ◌∷◌, length, get_or, Option, Some, None, refl, ap, sym, ◌∙◌, ⊎_elim, arith}
 use Rattle.std.specs.Prelude.{if◌then◌else◌}
-use Rattle.std.proofs.lemmas.Bool.{cases_lt}
-use Rattle.std.proofs.lemmas.List.{get_or_past}
-use Rattle.noc_topo.specs.Shape.{Grid, local_port}
-use Rattle.noc_topo.proofs.ListLemmas.{length-tabulate, get_or-tabulate}
-use Rattle.noc_packet.specs.declared.packet.Beat.{Beat}
-use Rattle.noc_route.specs.Routes.{Routes}
-use Rattle.noc_view.specs.View.{Site, View, Decisions, IsRelationOf, view_after_take, view_after_takes_from, view_after_takes, view_after_inject, decisions_of, view_after_commit, local_step, with_flit, with_credit, with_arrival, tail_packet, flit_out, idle_beat}
+use Rattle.noc_view.specs.View.{IsRelationOf}
 use Rattle.noc_view.proofs.SiteLemmas.{all_taken-site, committed-site, injected-site}
-use Rattle.noc_theory.specs.Halves.{IsSilent, view_after_decide, view_after_puts, incoming}
+use Rattle.noc_theory.proofs.Common.{cases_lt, get_or_past, Grid, local_port, length-tabulate, get_or-tabulate, Beat, Routes, Site, View, Decisions, view_after_take, view_after_takes_from, view_after_takes, view_after_inject, decisions_of, view_after_commit, local_step, with_flit, with_credit, with_arrival, tail_packet, flit_out, idle_beat, IsSilent, view_after_decide, view_after_puts, incoming}
 
 either_count : (b : Bool) (x y : View) (n : ℕ) → length x.to_put ≡ n → length y.to_put ≡ n → length (if b then x else y).to_put ≡ n
 either_count true x y n p q = p

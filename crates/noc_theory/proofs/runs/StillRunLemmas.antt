@@ -2,24 +2,12 @@
 -- takes effect. Each cycle is then the same.
 use Rattle.std.proofs.Common.{◌≡◌, ℕ, zero, suc, ◌+◌, ◌-◌, ◌<◌, ◌≤◌, Bool, true, false, List, [], ◌∷◌, length, map, get_or, Option, Some, None, refl, ap, sym, subst, ◌∙◌, arith, inl, inr}
 use Rattle.std.specs.Prelude.{◌⊎◌, if◌then◌else◌, find, nat_le, nat_lt}
-use Rattle.std.specs.List.{All}
-use Rattle.std.proofs.lemmas.Bool.{cases_lt}
-use Rattle.std.proofs.lemmas.List.{same_lists, length-map, map-id, get_or-map, get_or_default, get_or_past}
+use Rattle.std.proofs.lemmas.List.{map-id, get_or_default}
 use Rattle.std.proofs.lemmas.Simd.{map-map}
-use Rattle.noc_topo.specs.Lists.{below, map_indexed}
-use Rattle.noc_topo.specs.Shape.{nodes, neighbour, local_port}
-use Rattle.noc_topo.proofs.ListLemmas.{get_or-map_indexed, get_or-tabulate, length-map_indexed, map_indexed-from_each}
-use Rattle.noc_packet.specs.declared.packet.Packet.{Packet}
-use Rattle.noc_packet.specs.declared.packet.Beat.{Beat}
-use Rattle.noc_route.specs.Routes.{Routes}
 use Rattle.noc_view.specs.Still.{IsHeldBefore, counted_times, takes_effect, view_after_waiting}
-use Rattle.noc_view.specs.View.{View, Decisions, view_after_takes, begun_on, view_after_commit, counts_after, decided_verdict, flit_out, idle_beat, idle_beats, view_after_inject, view_after_inject_from, is_vacant, local_channel, local_step, opening_view, decisions_of, tail_packet, view_buffer, view_round, with_arrival, with_injected}
-use Rattle.noc_view.specs.declared.finding.Finding.{Finding}
 use Rattle.noc_alloc.proofs.RequestLemmas.{at_replicate}
 use Rattle.noc_view.proofs.StillLemmas.{map_indexed-same, still-committed}
-use Rattle.noc_theory.specs.Halves.{IsSilent, beat_at, view_after_decide, view_after_puts, incoming}
-use Rattle.noc_theory.specs.Lockstep.{lockstep_at, lockstep_cycle, opening_lockstep, beats_at, beat_from, site_at, starts_at, ends_at}
-use Rattle.noc_theory.specs.Network.{Setup}
+use Rattle.noc_theory.proofs.Common.{All, cases_lt, same_lists, length-map, get_or-map, get_or_past, below, map_indexed, nodes, neighbour, local_port, get_or-map_indexed, get_or-tabulate, length-map_indexed, map_indexed-from_each, Packet, Beat, Routes, View, Decisions, view_after_takes, begun_on, view_after_commit, counts_after, decided_verdict, flit_out, idle_beat, idle_beats, view_after_inject, view_after_inject_from, is_vacant, local_channel, local_step, opening_view, decisions_of, tail_packet, view_buffer, view_round, with_arrival, with_injected, Finding, IsSilent, beat_at, view_after_decide, view_after_puts, incoming, lockstep_at, lockstep_cycle, opening_lockstep, beats_at, beat_from, site_at, starts_at, ends_at, Setup}
 use Rattle.noc_theory.proofs.runs.RunLemmas.{count_rows, count_views, halfway, next_views, next_wires}
 use Rattle.noc_theory.proofs.runs.StepLemmas.{local_step-view, taken_end}
 

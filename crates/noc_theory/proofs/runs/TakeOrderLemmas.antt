@@ -1,16 +1,9 @@
 -- What comes to a router at different ports is taken in any order.
 use Rattle.std.proofs.Common.{◌≡◌, ◌≢◌, ◌⊎◌, ℕ, ◌+◌, ◌*◌, ◌/◌, ◌<◌, ◌≤◌, Bool, true, false, [], ◌∷◌, ◌++◌, Option, Some, None, refl, ap, sym, ◌∙◌, inl, inr}
 use Rattle.std.specs.Prelude.{if◌then◌else◌, ◌&&◌, nat_lt, slice_set}
-use Rattle.std.proofs.lemmas.Bool.{cases_lt, le-ltb, ltb-true}
-use Rattle.std.proofs.lemmas.List.{get_or-set_other, set_comm}
-use Rattle.std.proofs.lemmas.Nat.{div-mul-add}
-use Rattle.noc_packet.specs.declared.packet.Flit.{Flit}
-use Rattle.noc_packet.specs.declared.packet.Beat.{Beat}
-use Rattle.noc_route.specs.Routes.{Routes}
-use Rattle.noc_vc.specs.Input.{Input, idle_input, fits, input_after_land}
-use Rattle.noc_vc.specs.Output.{Output, ejection_output, credit_fits, output_after_credit}
-use Rattle.noc_view.specs.View.{View, has_link, view_buffer, view_input, view_output, with_flit, with_landed, with_misfit, with_credit, view_after_take}
+use Rattle.std.proofs.lemmas.List.{set_comm}
 use Rattle.noc_view.proofs.LandLemmas.{lands, not_second}
+use Rattle.noc_theory.proofs.Common.{cases_lt, le-ltb, ltb-true, get_or-set_other, div-mul-add, Flit, Beat, Routes, Input, idle_input, fits, input_after_land, Output, ejection_output, credit_fits, output_after_credit, View, has_link, view_buffer, view_input, view_output, with_flit, with_landed, with_misfit, with_credit, view_after_take}
 
 -- ---- what fits changes a view, and what does not is a misfit
 

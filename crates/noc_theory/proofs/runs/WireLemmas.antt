@@ -1,14 +1,9 @@
 -- The beats on the wires, while the routers put theirs one after another.
 use Rattle.std.proofs.Common.{◌≡◌, ◌≢◌, ℕ, zero, suc, ◌+◌, ◌<◌, ◌≤◌, Bool, true, false, List, [], length, get_or, set, Option, Some, None, refl, ap, sym, ◌∙◌, ⊎_elim, arith, replicate}
 use Rattle.std.specs.Prelude.{IfSome, if◌then◌else◌, ◌&&◌, nat_eq, nat_lt, unwrap_or}
-use Rattle.std.proofs.lemmas.List.{ext_get_or, length-replicate, get_or-set_same, get_or-set_other, length-set}
-use Rattle.std.proofs.lemmas.Bool.{cases_eq, cases_lt, eq-eqb, ne_eqb, le-ltb, lt-ltb}
-use Rattle.noc_topo.specs.Shape.{Grid, IsGrid, nodes, local_port, neighbour}
-use Rattle.noc_topo.proofs.LinkLemmas.{link_back}
-use Rattle.noc_packet.specs.declared.packet.Beat.{Beat}
-use Rattle.noc_view.specs.View.{View, idle_beat, beat_to_put}
-use Rattle.noc_theory.specs.Halves.{beat_at, wire_after_puts, sent_on}
-use Rattle.noc_theory.specs.Lockstep.{beat_from}
+use Rattle.noc_view.specs.View.{beat_to_put}
+use Rattle.noc_theory.proofs.Common.{ext_get_or, length-replicate, get_or-set_same, get_or-set_other, length-set, cases_eq, cases_lt, eq-eqb, ne_eqb, le-ltb, lt-ltb, Grid, IsGrid, nodes, local_port, neighbour, link_back, Beat, View, idle_beat, beat_at, beat_from}
+use Rattle.noc_theory.specs.Halves.{wire_after_puts, sent_on}
 
 -- the wires that come from the routers before k have what those put
 abbrev pub put_by : ℕ → List (List Beat) → Option (ℕ × ℕ) → Beat

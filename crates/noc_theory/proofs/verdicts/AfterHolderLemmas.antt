@@ -1,21 +1,14 @@
 -- After the verdicts: the holder of an output channel.
 use Rattle.std.proofs.Common.{◌≡◌, ℕ, ◌+◌, ◌*◌, ◌/◌, ◌<◌, Bool, true, false, cond, length, Some, None, refl, ap, sym, ◌∙◌, inl, inr, subst, arith}
 use Rattle.std.specs.Prelude.{◌&&◌, ◌||◌, not, nat_lt}
-use Rattle.std.proofs.lemmas.Bool.{false≢true, true≢false, le-ltb}
-use Rattle.noc_topo.specs.Lists.{Has}
-use Rattle.noc_route.specs.Channel.{Channel, Link, Inject, Eject, is_link, same_channel, channel_vc}
-use Rattle.noc_theory.specs.Lockstep.{has_come, come_count, seen_sender}
-use Rattle.noc_theory.specs.Network.{Setup, State, Located, Place, Source, On, In, Out, size, leaving, place_of_flit, tail_place, is_on, is_in, is_past, owner_of, leads_from, verdict_in, tail_leaves, is_released, after_verdicts, all_inputs, has_channel, count_in, count_on, next_channel, verdict_at, round_at, claim_with}
+use Rattle.noc_theory.proofs.Common.{false≢true, true≢false, le-ltb, Has, Channel, Link, Inject, Eject, is_link, same_channel, channel_vc, has_come, come_count, seen_sender, Setup, State, Located, Place, Source, On, In, Out, size, leaving, place_of_flit, tail_place, is_on, is_in, is_past, owner_of, leads_from, verdict_in, tail_leaves, is_released, after_verdicts, all_inputs, has_channel, count_in, count_on, next_channel, verdict_at, round_at, claim_with, IsValid, Unrouted, is_routed, is_moved, verdict_of, Empty, Moved}
 use Rattle.noc_theory.proofs.worms.BufferLemmas.{same_channel-refl, same_channel-true}
 use Rattle.noc_theory.proofs.worms.MoveLemmas.{IsFirst, IsMoved, moved-or-not}
 use Rattle.noc_theory.proofs.worms.StateWordLemmas.{IsEject, IsHeld, IsPlaced, goal, last_of, far_of}
-use Rattle.noc_theory.specs.Good.{IsValid}
 use Rattle.noc_theory.proofs.worms.PlaceLemmas.{flit-there, is_on-is}
 use Rattle.noc_theory.proofs.worms.SourceOfLemmas.{has-source}
 use Rattle.noc_theory.proofs.worms.WormRecordLemmas.{valid-last}
 use Rattle.noc_theory.proofs.verdicts.AfterLemmas.{whole, wormT, Moves, Next, held-kept, come-gone}
-use Rattle.noc_view.specs.Verdict.{Unrouted, is_routed, is_moved, verdict_of}
-use Rattle.noc_view.specs.declared.verdict.Verdict.TheVariants.{Empty, Moved}
 use Rattle.noc_theory.proofs.worms.InjectionRoomLemmas.{filter-none}
 use Rattle.noc_theory.proofs.worms.OwnedLemmas.{idle-none}
 use Rattle.noc_theory.proofs.worms.RoomLemmas.{unowned-empty}

@@ -1,19 +1,7 @@
 -- After the verdicts: each input channel of a router as the state shows it.
 use Rattle.std.proofs.Common.{◌≡◌, ℕ, ◌+◌, ◌-◌, Bool, true, false, cond, Option, Some, None, refl, ap, sym, ◌∙◌, inl, inr, subst, arith}
 use Rattle.std.specs.Prelude.{filter, find, option_map, option_and_then, unwrap_or, ◌⊎◌, not, ◌&&◌, ◌||◌, nat_lt, nat_eq, slice_get, if◌then◌else◌}
-use Rattle.std.proofs.lemmas.Bool.{false≢true, true≢false, and_parts, eq-eqb, lt-ltb, ne_eqb}
-use Rattle.noc_topo.specs.Lists.{Has}
-use Rattle.noc_packet.specs.Packet.{flit_at}
-use Rattle.noc_packet.specs.declared.packet.Flit.{Flit}
-use Rattle.noc_route.specs.Channel.{Channel, Link, Inject, Eject, is_link}
-use Rattle.noc_vc.specs.Input.{Input, idle_input, next_of}
-use Rattle.noc_vc.specs.declared.input.InputState.{InputState}
-use Rattle.noc_vc.specs.declared.input.InputState.TheVariants.{Idle, Waiting}
-use Rattle.noc_view.specs.Verdict.{is_routed, is_granted, is_moved}
-use Rattle.noc_view.specs.declared.verdict.Verdict.TheVariants.{Empty, Routed, Moved}
-use Rattle.noc_theory.specs.Lockstep.{seen_input, seen_phase, seen_phase_with, seen_set, is_present, come_count, last_come, has_come}
-use Rattle.noc_theory.specs.Network.{Setup, State, Located, Place, place_of_flit, packet_at, owner_of, next_channel, leads_from, has_channel, verdict_in, tail_leaves, is_released, after_verdicts, all_inputs, tail_place, is_past, count_in}
-use Rattle.noc_theory.specs.Progress.{head_place}
+use Rattle.noc_theory.proofs.Common.{false≢true, true≢false, and_parts, eq-eqb, lt-ltb, ne_eqb, Has, flit_at, Flit, Channel, Link, Inject, Eject, is_link, Input, idle_input, next_of, InputState, Idle, Waiting, is_routed, is_granted, is_moved, Empty, Routed, Moved, seen_input, seen_phase, seen_phase_with, seen_set, is_present, come_count, last_come, has_come, Setup, State, Located, Place, place_of_flit, packet_at, owner_of, next_channel, leads_from, has_channel, verdict_in, tail_leaves, is_released, after_verdicts, all_inputs, tail_place, is_past, count_in, head_place}
 use Rattle.noc_theory.proofs.worms.OwnedLemmas.{owner-has, idle-none}
 use Rattle.noc_theory.proofs.worms.StateWordLemmas.{IsEject, IsHeld, Come, class_of, goal}
 use Rattle.noc_theory.proofs.worms.PathLemmas.{no-inject}

@@ -1,19 +1,12 @@
 -- After the verdicts: who owns what, how many flits have come to a buffer, and where tails are.
 use Rattle.std.proofs.Common.{◌≡◌, ℕ, ◌+◌, ◌<◌, ◌≤◌, Bool, true, false, length, Option, Some, None, refl, ap, sym, ◌∙◌, inl, inr, subst, arith}
 use Rattle.std.specs.Prelude.{filter, ◌⊎◌, nat_eq, nat_lt, not, ◌||◌}
-use Rattle.std.specs.List.{filter_map}
-use Rattle.std.proofs.lemmas.Bool.{false≢true, true≢false, lt-ltb, le-ltb, cases_eq, cases_lt, eqb-true, not-true, or_right}
-use Rattle.noc_topo.specs.Lists.{Has}
-use Rattle.noc_route.specs.Channel.{Channel, Link, Inject, Eject, same_channel}
-use Rattle.noc_theory.specs.Network.{Setup, State, Located, Place, In, place_of_flit, tail_place, is_in, is_past, gone_to, moved_place, verdict_in, is_released, tail_leaves, after_verdicts, all_inputs, granted_pair}
-use Rattle.noc_theory.specs.Lockstep.{has_come, come_count}
-use Rattle.noc_view.specs.declared.verdict.Verdict.TheVariants.{Moved}
+use Rattle.noc_theory.proofs.Common.{filter_map, false≢true, true≢false, lt-ltb, le-ltb, cases_eq, cases_lt, eqb-true, not-true, or_right, Has, Channel, Link, Inject, Eject, same_channel, Setup, State, Located, Place, In, place_of_flit, tail_place, is_in, is_past, gone_to, moved_place, verdict_in, is_released, tail_leaves, after_verdicts, all_inputs, granted_pair, has_come, come_count, Moved, IsValid}
 use Rattle.noc_theory.proofs.worms.BufferLemmas.{same_channel-refl, same_channel-true}
 use Rattle.noc_theory.proofs.worms.GrantLemmas.{IsGrant, granted-is}
 use Rattle.noc_theory.proofs.worms.MemberLemmas.{Has-append, Has-right, Has-filter, Has-filter_map, Has-filter_mapped}
 use Rattle.noc_theory.proofs.worms.MoveLemmas.{IsNext, IsFirst, IsMoving, IsMoved, moved-or-not, same-far, far-link, far-eject, next-no-eject}
 use Rattle.noc_theory.proofs.worms.StateWordLemmas.{IsEject, IsKeyed, IsHeld, goal, last_of, far_of}
-use Rattle.noc_theory.specs.Good.{IsValid}
 use Rattle.noc_theory.proofs.worms.PlaceLemmas.{place-of-flit, place-stepped}
 use Rattle.noc_theory.proofs.worms.RoutedStateLemmas.{IsWhole, whole-verdicts}
 use Rattle.noc_theory.proofs.worms.VerdictPhaseLemmas.{kept-left, tail-of, leaves-tail}

@@ -1,13 +1,7 @@
 -- After the verdicts: what is routed, and the next channel of each channel.
 use Rattle.std.proofs.Common.{◌≡◌, ℕ, Bool, true, false, Option, Some, None, refl, ap, sym, ◌∙◌}
 use Rattle.std.specs.Prelude.{filter, option_map, unwrap_or, not, ◌&&◌, ◌||◌}
-use Rattle.std.proofs.lemmas.Bool.{false≢true, and_parts}
-use Rattle.noc_topo.specs.Lists.{Has}
-use Rattle.noc_route.specs.Channel.{Channel, Link, Inject, Eject, same_channel}
-use Rattle.noc_view.specs.Verdict.{is_routed, is_granted, is_moved}
-use Rattle.noc_view.specs.declared.verdict.Verdict.{Verdict}
-use Rattle.noc_view.specs.declared.verdict.Verdict.TheVariants.{Granted}
-use Rattle.noc_theory.specs.Network.{Setup, State, place_of_flit, owner_of, owned_by, next_channel, leads_from, has_channel, verdict_in, tail_leaves, tail_leaves_to, is_released, after_verdicts, all_inputs, granted_pair}
+use Rattle.noc_theory.proofs.Common.{false≢true, and_parts, Has, Channel, Link, Inject, Eject, same_channel, is_routed, is_granted, is_moved, Verdict, Granted, Setup, State, place_of_flit, owner_of, owned_by, next_channel, leads_from, has_channel, verdict_in, tail_leaves, tail_leaves_to, is_released, after_verdicts, all_inputs, granted_pair}
 use Rattle.noc_theory.proofs.worms.BufferLemmas.{same_channel-true}
 use Rattle.noc_theory.proofs.worms.GrantLemmas.{IsGrant}
 use Rattle.noc_theory.proofs.worms.MemberLemmas.{list_any-has}

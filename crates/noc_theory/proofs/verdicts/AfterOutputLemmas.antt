@@ -1,14 +1,9 @@
 -- After the verdicts: how many flits are on a wire and in a buffer, and how many credits there are.
 use Rattle.std.proofs.Common.{◌≡◌, ℕ, zero, suc, ◌+◌, ◌-◌, ◌≤◌, Bool, true, false, length, refl, ap, sym, ◌∙◌, inl, inr, subst, arith}
 use Rattle.std.specs.Prelude.{◌⊎◌, ◌&&◌}
-use Rattle.std.proofs.lemmas.Bool.{false≢true}
 use Rattle.std.proofs.lemmas.List.{length-drop}
-use Rattle.noc_topo.specs.Lists.{Has, one_if}
-use Rattle.noc_route.specs.Channel.{Channel, is_link}
-use Rattle.noc_view.specs.Verdict.{is_moved}
-use Rattle.noc_theory.specs.Network.{Setup, State, Located, is_on, count_on, count_in, credit_of, has_channel, verdict_in, after_verdicts, all_inputs}
+use Rattle.noc_theory.proofs.Common.{false≢true, Has, one_if, Channel, is_link, is_moved, Setup, State, Located, is_on, count_on, count_in, credit_of, has_channel, verdict_in, after_verdicts, all_inputs, is_moved-true}
 use Rattle.noc_theory.proofs.worms.BufferLemmas.{buffer-moved, buffer-stays, next-some}
-use Rattle.noc_view.proofs.MoverLemmas.{is_moved-true}
 use Rattle.noc_theory.proofs.worms.InjectionRoomLemmas.{filter-none}
 use Rattle.noc_theory.proofs.worms.MemberLemmas.{Has-mapped, Has-map}
 use Rattle.noc_theory.proofs.worms.MoveLemmas.{next-once}

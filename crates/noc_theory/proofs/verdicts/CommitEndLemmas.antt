@@ -1,15 +1,7 @@
 -- A tail that is out is noted as the arrival of its packet, and never as a misfit.
 use Rattle.std.proofs.Common.{◌≡◌, ◌≢◌, ℕ, zero, suc, ◌+◌, ◌-◌, ◌*◌, ◌/◌, ◌%◌, ◌<◌, ◌≤◌, Bool, true, false, cond, List, [], ◌∷◌, map, length, get_or, Option, Some, None, refl, ap, sym, ◌∙◌, inl, inr, subst, arith}
 use Rattle.std.specs.Prelude.{filter, is_none, ◌⊎◌, ◌&&◌, nat_eq, if◌then◌else◌}
-use Rattle.std.specs.List.{list_any, enumerate_from}
-use Rattle.std.proofs.lemmas.Bool.{false≢true, eqb-true, eq-eqb, ne_eqb, and_from, cases_eq}
-use Rattle.noc_topo.specs.Lists.{Has}
-use Rattle.noc_topo.specs.Shape.{nodes, ports, local_port}
-use Rattle.noc_packet.specs.declared.packet.Packet.{Packet}
-use Rattle.noc_route.specs.Channel.{Channel, Link, Inject, Eject}
-use Rattle.noc_view.specs.View.{Site, View, Decisions, decisions_of, flit_out, tail_packet, with_arrival, mover}
-use Rattle.noc_theory.specs.Lockstep.{ends_at}
-use Rattle.noc_theory.specs.Network.{Setup, State, On, In, Out, size, leaving, packet_at, place_of_flit, tail_place, out_cycle, gone_to, after_verdicts}
+use Rattle.noc_theory.proofs.Common.{list_any, enumerate_from, false≢true, eqb-true, eq-eqb, ne_eqb, and_from, cases_eq, Has, nodes, ports, local_port, Packet, Channel, Link, Inject, Eject, Site, View, Decisions, decisions_of, flit_out, tail_packet, with_arrival, mover, ends_at, Setup, State, On, In, Out, size, leaving, packet_at, place_of_flit, tail_place, out_cycle, gone_to, after_verdicts, IsSeen}
 use Rattle.noc_theory.proofs.worms.MemberLemmas.{Has-map, Has-mapped, Has-filter, Has-kept, list_any-from}
 use Rattle.noc_theory.proofs.worms.MoveLemmas.{IsMoved, moved-or-not, next-once}
 use Rattle.noc_theory.proofs.worms.StateWordLemmas.{last_of}
@@ -20,7 +12,6 @@ use Rattle.noc_theory.proofs.join.OrderedLemmas.{IsGood, IsOrderedFrozen}
 use Rattle.noc_theory.proofs.join.PlaceViewLemmas.{OutputCase, ejects, links, output-case, eject-from}
 use Rattle.noc_theory.proofs.verdicts.PortLemmas.{ByPort, nothing, something, by-port, port-idle, port-one, flit_of}
 use Rattle.noc_theory.proofs.injection.SourceLemmas.{same-owner}
-use Rattle.noc_theory.specs.Seen.{IsSeen}
 
 -- ---- the packets that end at a node
 

@@ -2,17 +2,8 @@
 -- channels are those of the state.
 use Rattle.std.proofs.Common.{◌≡◌, ℕ, ◌<◌, true, false, cond, Option, Some, None, get_or, refl, ap, sym, ◌∙◌, inl, inr, subst, arith}
 use Rattle.std.specs.Prelude.{◌&&◌, not, nat_lt, unwrap_or, if◌then◌else◌}
-use Rattle.std.proofs.lemmas.Bool.{lt-ltb, or_left, or_right}
-use Rattle.noc_topo.specs.Lists.{Has}
-use Rattle.noc_topo.specs.Shape.{nodes}
-use Rattle.noc_route.specs.Channel.{Channel, Link, Inject, Eject, is_link, sending_router}
-use Rattle.noc_vc.specs.Input.{Input}
 use Rattle.noc_vc.specs.Output.{output_after_hold}
-use Rattle.noc_vc.specs.declared.output.OutputState.TheVariants.{Owned, Draining}
-use Rattle.noc_view.specs.View.{View, Decisions, view_input, view_output, decisions_of, mover_to, output_after}
-use Rattle.noc_theory.specs.Lockstep.{seen_input, seen_output, seen_holder, seen_sender, is_present, come_count, has_come}
-use Rattle.noc_theory.specs.Network.{Setup, State, Place, size, leaving, owner_of, is_in, is_past, credit_of, tail_place, after_verdicts}
-use Rattle.noc_theory.specs.Progress.{head_place}
+use Rattle.noc_theory.proofs.Common.{lt-ltb, or_left, or_right, Has, nodes, Channel, Link, Inject, Eject, is_link, sending_router, Input, Owned, Draining, View, Decisions, view_input, view_output, decisions_of, mover_to, output_after, seen_input, seen_output, seen_holder, seen_sender, is_present, come_count, has_come, Setup, State, Place, size, leaving, owner_of, is_in, is_past, credit_of, tail_place, after_verdicts, head_place, IsSeen}
 use Rattle.noc_theory.proofs.worms.BufferLemmas.{same_channel-refl}
 use Rattle.noc_theory.proofs.worms.StateWordLemmas.{IsHeld, Come, goal}
 use Rattle.noc_theory.proofs.verdicts.AfterHolderLemmas.{is_sent_on, given-unsent}
@@ -26,7 +17,6 @@ use Rattle.noc_theory.proofs.verdicts.NextViewLemmas.{owner-at}
 use Rattle.noc_theory.proofs.join.OrderedLemmas.{IsGood, IsOrderedFrozen}
 use Rattle.noc_theory.proofs.join.PlaceViewLemmas.{arrives-in, not-eject, begins-at}
 use Rattle.noc_theory.proofs.injection.SourceLemmas.{sender-is}
-use Rattle.noc_theory.specs.Seen.{IsSeen}
 
 -- what has come to the buffer of c, by its place
 pub come-true : (net : Setup) (S : State) (p : ℕ) (c : Channel) (y : Place) → Come net p c y → has_come net c (goal net p) y ≡ true

@@ -1,28 +1,13 @@
 -- The verdicts take effect on the buffers and the input channels of a view.
 use Rattle.std.proofs.Common.{◌≡◌, ℕ, ◌/◌, ◌%◌, ◌<◌, ◌≤◌, Bool, true, false, cond, List, [], ◌∷◌, map, length, drop, get_or, Option, Some, None, refl, ap, sym, ◌∙◌, inl, inr, arith}
 use Rattle.std.specs.Prelude.{filter, find, option_map, option_and_then, ◌⊎◌, ◌&&◌, nat_lt, slice_get, slice_index, if◌then◌else◌}
-use Rattle.std.proofs.lemmas.Bool.{false≢true, cases_lt}
-use Rattle.std.proofs.lemmas.Option.{none-some, same_Some}
-use Rattle.std.proofs.lemmas.List.{get_or-map, get_or_past}
-use Rattle.noc_topo.specs.Lists.{tabulate, Has}
-use Rattle.noc_topo.specs.Shape.{nodes}
-use Rattle.noc_topo.proofs.ListLemmas.{get_or-tabulate, length-tabulate}
-use Rattle.noc_packet.specs.Packet.{flit_at}
-use Rattle.noc_packet.specs.declared.packet.Flit.{Flit}
-use Rattle.noc_route.specs.Channel.{Channel, output_index}
-use Rattle.noc_route.specs.Routes.{set_at}
-use Rattle.noc_vc.specs.Input.{Input, idle_input, is_idle_phase}
-use Rattle.noc_vc.specs.declared.input.InputState.TheVariants.{Idle, Waiting, Active}
-use Rattle.noc_view.specs.Verdict.{Claim, Unrouted, Waits, Holds, verdict_of, is_routed, is_granted, is_moved, ask_of}
-use Rattle.noc_view.specs.View.{Site, View, Decisions, size_of, view_buffer, view_input, view_claim, decisions_of, decided_verdict, buffer_after, input_after, granted_to, sent_from, first_flit, route_of, route_for}
-use Rattle.noc_view.specs.declared.verdict.Verdict.{Verdict}
-use Rattle.noc_view.specs.declared.verdict.Verdict.TheVariants.{Empty, Routed, Granted, Moved, NoFlit, NoIdleChannel, LostChannel, NoCredit, LostInput, LostSwitch}
-use Rattle.noc_view.specs.declared.finding.Finding.{Finding}
+use Rattle.noc_vc.specs.Input.{is_idle_phase}
+use Rattle.noc_vc.specs.declared.input.InputState.TheVariants.{Active}
+use Rattle.noc_view.specs.View.{buffer_after, input_after, granted_to, sent_from, route_of, route_for}
+use Rattle.noc_view.specs.declared.verdict.Verdict.TheVariants.{NoFlit, NoCredit}
 use Rattle.noc_view.proofs.PlanLemmas.{verdict-moved, verdict-granted, verdict-routed}
-use Rattle.noc_theory.specs.Lockstep.{finding_in, seen_flits, seen_input, seen_phase, seen_phase_with, seen_set}
-use Rattle.noc_theory.specs.Network.{Setup, State, Located, size, arriving, leaving, packet_at, place_of_flit, owner_of, next_channel, has_channel, has_credit_in, ask, claim_of, claim_with, verdict_in, round_at, count_in, buffer_of, front_in, is_in, is_tail_of_packet, tail_leaves, after_verdicts, granted_pair, grant_to_owner, end_of}
+use Rattle.noc_theory.proofs.Common.{false≢true, cases_lt, none-some, same_Some, get_or-map, get_or_past, tabulate, Has, nodes, get_or-tabulate, length-tabulate, flit_at, Flit, Channel, output_index, set_at, Input, idle_input, Idle, Waiting, Claim, Unrouted, Waits, Holds, verdict_of, is_routed, is_granted, is_moved, ask_of, Site, View, Decisions, size_of, view_buffer, view_input, view_claim, decisions_of, decided_verdict, first_flit, Verdict, Empty, Routed, Granted, Moved, NoIdleChannel, LostChannel, LostInput, LostSwitch, Finding, finding_in, seen_flits, seen_input, seen_phase, seen_phase_with, seen_set, Setup, State, Located, size, arriving, leaving, packet_at, place_of_flit, owner_of, next_channel, has_channel, has_credit_in, ask, claim_of, claim_with, verdict_in, round_at, count_in, buffer_of, front_in, is_in, is_tail_of_packet, tail_leaves, after_verdicts, granted_pair, grant_to_owner, end_of, is_moved-true, IsSeen}
 use Rattle.noc_theory.proofs.worms.BufferLemmas.{find-passes, buffer-moved, buffer-stays}
-use Rattle.noc_view.proofs.MoverLemmas.{is_moved-true}
 use Rattle.noc_theory.proofs.worms.GrantLemmas.{IsGrant, granted-is}
 use Rattle.noc_theory.proofs.worms.MemberLemmas.{Has-kept, find-has}
 use Rattle.noc_theory.proofs.worms.OwnedLemmas.{owner-has, owner-is}
@@ -36,7 +21,6 @@ use Rattle.noc_theory.proofs.verdicts.NextViewLemmas.{next-none}
 use Rattle.noc_theory.proofs.join.OrderedLemmas.{IsGood, IsOrderedFrozen}
 use Rattle.noc_theory.proofs.join.PlaceViewLemmas.{IsAt, arrives-in, not-eject, leaving-from}
 use Rattle.noc_theory.proofs.verdicts.StandLemmas.{InputCase, none, some, input-case, claim-some, verdict-at, findings-are}
-use Rattle.noc_theory.specs.Seen.{IsSeen}
 
 -- the first of a filter is what is found
 pub first-filter : {X Y : Type 0} (f : X → Y) (t : X → Bool) (xs : List X) → slice_get (map f (filter t xs)) 0 ≡ option_map f (find t xs)

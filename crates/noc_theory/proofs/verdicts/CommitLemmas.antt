@@ -1,17 +1,8 @@
 -- The verdicts take effect: a view that showed the frozen state shows the state after the verdicts.
 use Rattle.std.proofs.Common.{◌≡◌, ℕ, ◌<◌, false, cond, [], map, length, get_or, Some, refl, ap, sym, ◌∙◌, subst, arith}
 use Rattle.std.specs.Prelude.{◌||◌, if◌then◌else◌}
-use Rattle.std.specs.List.{list_any}
-use Rattle.noc_topo.specs.Lists.{below, tabulate, map_indexed}
-use Rattle.noc_topo.specs.Shape.{nodes, local_port, neighbour, IsLinkBack}
-use Rattle.noc_topo.proofs.LinkLemmas.{link_back}
-use Rattle.noc_topo.proofs.ListLemmas.{get_or-map_indexed, length-map_indexed, get_or-tabulate}
-use Rattle.noc_vc.specs.Input.{idle_input}
-use Rattle.noc_vc.specs.Output.{ejection_output}
-use Rattle.noc_view.specs.Verdict.{Round, is_event, arbiters_after}
-use Rattle.noc_view.specs.View.{Site, View, Decisions, decisions_of, view_after_commit, buffer_after, input_after, output_after, decided_verdict, counts_after, has_event, beat_out, idle_beat}
-use Rattle.noc_theory.specs.Lockstep.{starts_at, ends_at, beat_by}
-use Rattle.noc_theory.specs.Network.{Setup, State, size, round_at, out_cycle, tail_place, after_verdicts}
+use Rattle.noc_view.specs.View.{buffer_after, input_after, has_event, beat_out}
+use Rattle.noc_theory.proofs.Common.{list_any, below, tabulate, map_indexed, nodes, local_port, neighbour, IsLinkBack, link_back, get_or-map_indexed, length-map_indexed, get_or-tabulate, idle_input, ejection_output, Round, is_event, arbiters_after, Site, View, Decisions, decisions_of, view_after_commit, output_after, decided_verdict, counts_after, idle_beat, starts_at, ends_at, beat_by, Setup, State, size, round_at, out_cycle, tail_place, after_verdicts, IsSeen}
 use Rattle.noc_theory.proofs.verdicts.CommitEndLemmas.{arrival-noted}
 use Rattle.noc_theory.proofs.verdicts.CommitGrantLemmas.{output-commit}
 use Rattle.noc_theory.proofs.verdicts.CommitInputLemmas.{buffer-commit, input-commit}
@@ -22,7 +13,6 @@ use Rattle.noc_theory.proofs.join.PhaseLemmas.{IsCommitted, verdict_by}
 use Rattle.noc_theory.proofs.verdicts.PortLemmas.{beat-is}
 use Rattle.noc_theory.proofs.injection.SourceStateLemmas.{queue-same}
 use Rattle.noc_theory.proofs.verdicts.StandLemmas.{findings-are}
-use Rattle.noc_theory.specs.Seen.{IsSeen}
 
 module _ (net : Setup) (good : IsGood net) (F : State) (x : IsOrderedFrozen net F) (n r : ℕ) (l : r < nodes net.relation.grid) (v : View) (seen : IsSeen net F r v) (given : v.given ≡ n) (counts : length v.counts ≡ size net) where
   abbrev T : State

@@ -1,19 +1,11 @@
 -- The verdicts take effect on the output channels of a view.
 use Rattle.std.proofs.Common.{◌≡◌, ℕ, ◌<◌, Bool, true, false, cond, get_or, Option, Some, None, refl, ap, sym, ◌∙◌, subst}
 use Rattle.std.specs.Prelude.{option_map, unwrap_or, ◌&&◌, ◌||◌}
-use Rattle.std.proofs.lemmas.Bool.{true≢false, and_from}
-use Rattle.std.proofs.lemmas.Option.{none-some}
-use Rattle.noc_topo.specs.Lists.{Has}
-use Rattle.noc_topo.specs.Shape.{nodes}
-use Rattle.noc_route.specs.Channel.{Channel, Link, Inject, Eject, is_link, same_channel, sending_router}
-use Rattle.noc_vc.specs.Output.{Output, output_after_spend}
+use Rattle.noc_vc.specs.Output.{output_after_spend}
 use Rattle.noc_vc.specs.declared.output.OutputState.{OutputState}
-use Rattle.noc_vc.specs.declared.output.OutputState.TheVariants.{Idle as Free, Owned, Draining}
-use Rattle.noc_view.specs.Verdict.{is_moved}
-use Rattle.noc_view.specs.View.{View, Decisions, view_output, decisions_of, first_flit, mover_to, held_by, spent_by, output_after, is_tail as is_tail_flit}
-use Rattle.noc_view.specs.declared.verdict.Verdict.{Verdict}
-use Rattle.noc_theory.specs.Lockstep.{seen_output, seen_holder, seen_sender, has_come}
-use Rattle.noc_theory.specs.Network.{Setup, State, Located, Place, On, size, leaving, place_of_flit, owner_of, owned_by, has_channel, verdict_in, tail_leaves, tail_leaves_to, is_tail_of_packet, is_released, is_on, is_past, front_in, credit_of, count_on, tail_place, after_verdicts, all_inputs, next_channel}
+use Rattle.noc_vc.specs.declared.output.OutputState.TheVariants.{Idle as Free}
+use Rattle.noc_view.specs.View.{held_by, spent_by, is_tail as is_tail_flit}
+use Rattle.noc_theory.proofs.Common.{true≢false, and_from, none-some, Has, nodes, Channel, Link, Inject, Eject, is_link, same_channel, sending_router, Output, Owned, Draining, is_moved, View, Decisions, view_output, decisions_of, first_flit, mover_to, output_after, Verdict, seen_output, seen_holder, seen_sender, has_come, Setup, State, Located, Place, On, size, leaving, place_of_flit, owner_of, owned_by, has_channel, verdict_in, tail_leaves, tail_leaves_to, is_tail_of_packet, is_released, is_on, is_past, front_in, credit_of, count_on, tail_place, after_verdicts, all_inputs, next_channel, IsSeen}
 use Rattle.noc_theory.proofs.worms.BufferLemmas.{same_channel-refl}
 use Rattle.noc_theory.proofs.worms.MemberLemmas.{list_any-from}
 use Rattle.noc_theory.proofs.worms.MoveLemmas.{next-once}
@@ -29,7 +21,6 @@ use Rattle.noc_theory.proofs.verdicts.NextViewLemmas.{owner-at, owner-none}
 use Rattle.noc_theory.proofs.join.OrderedLemmas.{IsGood, IsOrderedFrozen}
 use Rattle.noc_theory.proofs.join.PlaceViewLemmas.{begins-at}
 use Rattle.noc_theory.proofs.injection.SourceLemmas.{same-owner}
-use Rattle.noc_theory.specs.Seen.{IsSeen}
 
 module _ (net : Setup) (good : IsGood net) (F : State) (x : IsOrderedFrozen net F) (n r : ℕ) (l : r < nodes net.relation.grid) (v : View) (seen : IsSeen net F r v) where
   abbrev T : State

@@ -1,19 +1,8 @@
 -- The verdicts take effect on what waits at the source, on the arbiters and on what is counted.
 use Rattle.std.proofs.Common.{◌≡◌, ℕ, ◌<◌, false, List, [], length, get_or, Option, Some, None, refl, ap, sym, ◌∙◌, arith}
 use Rattle.std.specs.Prelude.{find, count_by, option_map, unwrap_or, ◌||◌, not, nat_eq}
-use Rattle.std.specs.List.{list_any}
-use Rattle.std.proofs.lemmas.Option.{none-some}
-use Rattle.noc_topo.specs.Lists.{below, tabulate, map_indexed, Has}
-use Rattle.noc_topo.specs.Shape.{nodes}
-use Rattle.noc_topo.proofs.ListLemmas.{get_or-map_indexed, length-map_indexed, map_indexed-from_each}
-use Rattle.noc_route.specs.Channel.{Channel, Link, Inject, Eject, channel_vc}
-use Rattle.noc_view.specs.Verdict.{is_event, arbiters_after}
-use Rattle.noc_view.specs.View.{View, Decisions, decisions_of, counts_after, has_event, decided_verdict}
-use Rattle.noc_view.specs.declared.verdict.Verdict.{Verdict}
-use Rattle.noc_view.specs.declared.verdict.Verdict.TheVariants.{Empty}
-use Rattle.noc_view.specs.declared.finding.Finding.{Finding}
-use Rattle.noc_theory.specs.Lockstep.{finding_in, seen_sending}
-use Rattle.noc_theory.specs.Network.{Setup, State, Located, Source, In, size, arriving, tail_place, flits_of, owned_by, is_at_source, is_injection_of, first_waiting, arbiters_at, round_at, verdict_in, gone_to, after_verdicts}
+use Rattle.noc_view.specs.View.{has_event}
+use Rattle.noc_theory.proofs.Common.{list_any, none-some, below, tabulate, map_indexed, Has, nodes, get_or-map_indexed, length-map_indexed, map_indexed-from_each, Channel, Link, Inject, Eject, channel_vc, is_event, arbiters_after, View, Decisions, decisions_of, counts_after, decided_verdict, Verdict, Empty, Finding, finding_in, seen_sending, Setup, State, Located, Source, In, size, arriving, tail_place, flits_of, owned_by, is_at_source, is_injection_of, first_waiting, arbiters_at, round_at, verdict_in, gone_to, after_verdicts, IsSeen}
 use Rattle.noc_theory.proofs.worms.InjectionStateLemmas.{waiting-is}
 use Rattle.noc_theory.proofs.worms.PathLemmas.{no-inject}
 use Rattle.noc_theory.proofs.worms.VerdictPhaseLemmas.{inject-kept, tail-of}
@@ -26,7 +15,6 @@ use Rattle.noc_theory.proofs.join.PhaseLemmas.{verdict_by}
 use Rattle.noc_theory.proofs.injection.SourceStateLemmas.{any-map, injection-at, injection-own, injection-none, waiting-same}
 use Rattle.noc_theory.proofs.verdicts.StandLemmas.{InputCase, none, some, input-case, findings-are}
 use Rattle.noc_theory.proofs.join.LockstepStepLemmas.{count-step, any-step}
-use Rattle.noc_theory.specs.Seen.{IsSeen}
 
 module _ (net : Setup) (good : IsGood net) (F : State) (x : IsOrderedFrozen net F) (n : ℕ) where
   abbrev T : State

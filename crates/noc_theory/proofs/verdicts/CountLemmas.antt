@@ -1,15 +1,10 @@
 -- The counts of a channel, one cycle more.
 use Rattle.std.proofs.Common.{◌≡◌, ℕ, zero, suc, ◌+◌, ◌-◌, ◌^◌, ◌<◌, Bool, true, cond, List, [], ◌∷◌, ◌++◌, length, get_or, set, sum, refl, ap, sym, ◌∙◌, arith, inl, inr, add-one, add-zero, zero-add}
 use Rattle.std.specs.Prelude.{count_by, nat_eq, ◌⊎◌, nat_lt}
-use Rattle.std.proofs.lemmas.Bool.{cases_eq, lt-ltb, eq-eqb, ne_eqb}
 use Rattle.std.proofs.lemmas.List.Sums.{sum_by-append}
-use Rattle.std.proofs.lemmas.List.{length-set, get_or-set_same, get_or-set_other}
-use Rattle.noc_topo.specs.Lists.{below, tabulate}
-use Rattle.noc_topo.proofs.ListLemmas.{get_or-tabulate, length-tabulate, tabulate-from_each, below-next}
 use Rattle.noc_view.specs.Verdict.{column}
-use Rattle.noc_view.specs.View.{counts_after}
-use Rattle.noc_view.specs.declared.verdict.Verdict.{Verdict}
 use Rattle.noc_view.proofs.ColumnLemmas.{column-small, sum-raised}
+use Rattle.noc_theory.proofs.Common.{cases_eq, lt-ltb, eq-eqb, ne_eqb, length-set, get_or-set_same, get_or-set_other, below, tabulate, get_or-tabulate, length-tabulate, tabulate-from_each, below-next, counts_after, Verdict}
 
 abbrev pub counts_of : (ℕ → Verdict) → ℕ → List ℕ
 counts_of verdict n = tabulate 10 (λ k. count_by (λ m. nat_eq (column (verdict m)) k) (below n))

@@ -1,17 +1,9 @@
 -- Who moves through an output channel, and to whom it is granted, by the view and by the state.
 use Rattle.std.proofs.Common.{◌≡◌, ℕ, ◌+◌, ◌*◌, ◌/◌, ◌<◌, true, get_or, Some, None, refl, ap, sym, ◌∙◌, subst, arith}
 use Rattle.std.specs.Prelude.{option_and_then, if◌then◌else◌}
-use Rattle.std.proofs.lemmas.Option.{none-some, same_Some}
-use Rattle.noc_topo.specs.Lists.{is_some_of, Has}
-use Rattle.noc_topo.specs.Shape.{nodes, ports}
-use Rattle.noc_alloc.proofs.WordLemmas.{is_some_of-some}
-use Rattle.noc_route.specs.Channel.{Channel, sending_router, output_index, same_channel}
-use Rattle.noc_view.specs.Verdict.{Claim, Unrouted, Waits, Holds, out_of}
-use Rattle.noc_view.specs.View.{Site, View, Decisions, size_of, view_claim, view_round, decisions_of, mover, mover_to}
-use Rattle.noc_view.specs.declared.verdict.Verdict.TheVariants.{Granted, Moved}
 use Rattle.noc_view.proofs.PlanLemmas.{Lists, Mover, mover-is, moves-is, granted-asks, is-granted, verdict_in as verdict_at_view}
 use Rattle.noc_view.proofs.MoverLemmas.{mover_to-is}
-use Rattle.noc_theory.specs.Network.{Setup, State, Located, Place, In, size, arriving, leaving, place_of_flit, owner_of, next_channel, leads_from, verdict_in, claim_of, count_in, front_in, is_in, round_at}
+use Rattle.noc_theory.proofs.Common.{none-some, same_Some, is_some_of, Has, nodes, ports, is_some_of-some, Channel, sending_router, output_index, same_channel, Claim, Unrouted, Waits, Holds, out_of, Site, View, Decisions, size_of, view_claim, view_round, decisions_of, mover, mover_to, Granted, Moved, Setup, State, Located, Place, In, size, arriving, leaving, place_of_flit, owner_of, next_channel, leads_from, verdict_in, claim_of, count_in, front_in, is_in, round_at, IsSeen}
 use Rattle.noc_theory.proofs.worms.BufferLemmas.{find-passes}
 use Rattle.noc_theory.proofs.worms.GrantLemmas.{IsGrant}
 use Rattle.noc_theory.proofs.worms.MemberLemmas.{find-has}
@@ -25,7 +17,6 @@ use Rattle.noc_theory.proofs.join.OrderedLemmas.{IsGood, IsOrderedFrozen}
 use Rattle.noc_theory.proofs.join.PlaceViewLemmas.{IsAt, IsFrom, leaving-from, arriving-at, input-at, begins-at}
 use Rattle.noc_theory.proofs.injection.SourceLemmas.{next-owner, not-end, at-router}
 use Rattle.noc_theory.proofs.verdicts.StandLemmas.{InputCase, none, some, input-case, claim-none, claim-some, flit-some, verdict-some, next-from}
-use Rattle.noc_theory.specs.Seen.{IsSeen}
 
 module _ (net : Setup) (good : IsGood net) (F : State) (x : IsOrderedFrozen net F) (n r : ℕ) (l : r < nodes net.relation.grid) (v : View) (seen : IsSeen net F r v) where
   abbrev D : Decisions

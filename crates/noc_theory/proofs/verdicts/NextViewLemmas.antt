@@ -1,10 +1,7 @@
 -- Owners and next channels of a state, from who holds what.
 use Rattle.std.proofs.Common.{◌≡◌, ℕ, Bool, true, false, List, [], ◌∷◌, ◌++◌, Option, Some, None, refl, ap, sym, ◌∙◌}
 use Rattle.std.specs.Prelude.{filter, ◌&&◌, ◌||◌}
-use Rattle.std.proofs.lemmas.Option.{none-some}
-use Rattle.noc_topo.specs.Lists.{Has}
-use Rattle.noc_route.specs.Channel.{Channel, same_channel}
-use Rattle.noc_theory.specs.Network.{Setup, State, place_of_flit, owner_of, next_channel, has_channel}
+use Rattle.noc_theory.proofs.Common.{none-some, Has, Channel, same_channel, Setup, State, place_of_flit, owner_of, next_channel, has_channel}
 use Rattle.noc_theory.proofs.worms.BuiltRecordLemmas.{IsBuilt}
 use Rattle.noc_theory.proofs.worms.BufferLemmas.{same_channel-true}
 use Rattle.noc_theory.proofs.worms.MoveLemmas.{IsNext, next-is}

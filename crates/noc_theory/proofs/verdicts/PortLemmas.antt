@@ -1,22 +1,11 @@
 -- What leaves by a port: by the view, and by the state.
 use Rattle.std.proofs.Common.{◌≡◌, ℕ, ◌+◌, ◌*◌, ◌/◌, ◌%◌, ◌<◌, true, false, Option, Some, None, refl, ap, sym, ◌∙◌, inl, inr, subst, arith}
 use Rattle.std.specs.Prelude.{find, option_map, option_and_then, is_some, ◌⊎◌, ◌&&◌, nat_eq, if◌then◌else◌}
-use Rattle.std.proofs.lemmas.Bool.{false≢true, true≢false}
-use Rattle.std.proofs.lemmas.Option.{none-some, same_Some}
-use Rattle.std.proofs.lemmas.Nat.{div-add-mod', div-mul-add, mod-mul-add}
-use Rattle.noc_topo.specs.Lists.{below}
-use Rattle.noc_topo.specs.Shape.{nodes, ports, local_port, neighbour, IsLinkBack}
-use Rattle.noc_topo.proofs.LinkLemmas.{link_back}
-use Rattle.noc_packet.specs.Packet.{flit_at}
-use Rattle.noc_packet.specs.declared.packet.Flit.{Flit}
-use Rattle.noc_route.specs.Channel.{Channel, Link, Inject, is_link}
-use Rattle.noc_view.specs.Verdict.{Claim, Holds, out_of, is_moved}
-use Rattle.noc_view.specs.View.{Site, View, Decisions, view_claim, decisions_of, mover, mover_to, flit_out, first_flit, beat_out, decided_verdict}
-use Rattle.noc_view.proofs.FindLemmas.{find-same, find-at, find-none}
+use Rattle.noc_view.specs.View.{beat_out}
+use Rattle.noc_view.proofs.FindLemmas.{find-at, find-none}
 use Rattle.noc_view.proofs.PlanLemmas.{mover-is}
 use Rattle.noc_view.proofs.MoverLemmas.{mover_to-is}
-use Rattle.noc_theory.specs.Lockstep.{flit_on, beat_by}
-use Rattle.noc_theory.specs.Network.{Setup, State, Located, size, arriving, leaving, packet_at, has_channel, is_on, verdict_in, gone_to, after_verdicts, all_inputs}
+use Rattle.noc_theory.proofs.Common.{false≢true, true≢false, none-some, same_Some, div-add-mod', div-mul-add, mod-mul-add, below, nodes, ports, local_port, neighbour, IsLinkBack, link_back, flit_at, Flit, Channel, Link, Inject, is_link, Claim, Holds, out_of, is_moved, Site, View, Decisions, view_claim, decisions_of, mover, mover_to, flit_out, first_flit, decided_verdict, find-same, flit_on, beat_by, Setup, State, Located, size, arriving, leaving, packet_at, has_channel, is_on, verdict_in, gone_to, after_verdicts, all_inputs, IsSeen}
 use Rattle.noc_theory.proofs.worms.BufferLemmas.{same_channel-refl, find-passes}
 use Rattle.noc_theory.proofs.worms.MemberLemmas.{find-has, find-some, Has-map, Has-mapped}
 use Rattle.noc_theory.proofs.worms.MoveLemmas.{next-once}
@@ -29,7 +18,6 @@ use Rattle.noc_theory.proofs.verdicts.NextViewLemmas.{channel-filter}
 use Rattle.noc_theory.proofs.join.OrderedLemmas.{IsGood, IsOrderedFrozen}
 use Rattle.noc_theory.proofs.join.PlaceViewLemmas.{IsAt, arriving-at, arrives-in, link-from, in-size, port-below}
 use Rattle.noc_theory.proofs.injection.SourceLemmas.{same-owner}
-use Rattle.noc_theory.specs.Seen.{IsSeen}
 
 module _ (net : Setup) (good : IsGood net) (F : State) (x : IsOrderedFrozen net F) (n r : ℕ) (l : r < nodes net.relation.grid) (v : View) (seen : IsSeen net F r v) where
   abbrev T : State

@@ -2,33 +2,15 @@
 -- and so all verdicts are those of the state.
 use Rattle.std.proofs.Common.{◌≡◌, ℕ, suc, ◌+◌, ◌*◌, ◌/◌, ◌%◌, ◌<◌, Bool, true, false, cond, List, [], ◌∷◌, map, length, Option, Some, None, refl, ap, sym, ◌∙◌, subst, arith}
 use Rattle.std.specs.Prelude.{find, option_and_then, option_map, not, nat_lt, ◌&&◌, ◌||◌, is_none}
-use Rattle.std.proofs.lemmas.Bool.{lt-ltb, false≢true}
-use Rattle.std.proofs.lemmas.Nat.{div-add-mod'}
-use Rattle.noc_topo.specs.Lists.{below, tabulate, Has}
-use Rattle.noc_topo.specs.Shape.{nodes, ports, local_port}
-use Rattle.noc_topo.proofs.ListLemmas.{get_or-tabulate, length-tabulate, tabulate-from_each}
-use Rattle.noc_packet.specs.Set.{has_bit}
-use Rattle.noc_packet.specs.declared.packet.Flit.{Flit}
-use Rattle.noc_packet.specs.Packet.{flit_at}
-use Rattle.noc_route.specs.Channel.{Channel, Link, Inject, Eject, is_link, output_index, arrival_of, channel_vc}
-use Rattle.noc_route.specs.Routes.{permits, set_at}
-use Rattle.noc_vc.specs.Input.{Input, is_empty}
-use Rattle.noc_vc.specs.Output.{Output, is_free, has_credit}
-use Rattle.noc_vc.specs.declared.input.InputState.TheVariants.{Idle}
-use Rattle.noc_vc.specs.declared.output.OutputState.TheVariants.{Owned, Draining}
-use Rattle.noc_view.specs.Verdict.{Claim, Unrouted, Waits, Holds, Stand, Round, ArbiterStates, round_of, verdict_of, out_of}
-use Rattle.noc_view.specs.View.{Site, View, size_of, view_buffer, view_input, view_output, asked_for, claim_in, view_claim, view_stand, view_stands, view_round, decisions_of, finding_of, port_and_vc}
-use Rattle.noc_view.specs.declared.verdict.Verdict.{Verdict}
-use Rattle.noc_view.specs.declared.verdict.Verdict.TheVariants.{Empty}
-use Rattle.noc_view.specs.declared.finding.Finding.{Finding}
-use Rattle.noc_view.proofs.FindLemmas.{find-same}
-use Rattle.noc_theory.specs.Lockstep.{site_at, seen_flits, seen_input, seen_phase, seen_phase_with, seen_set, seen_output, seen_holder, seen_sender, has_come, finding_in}
-use Rattle.noc_theory.specs.Network.{Setup, State, Located, size, arriving, leaving, packet_at, owner_of, next_channel, has_channel, has_credit_in, is_idle, ask, claim_of, claim_with, stand_of, stands_at, round_at, verdict_in, verdict_at, count_in, buffer_of, is_on, tail_place, leads_from}
+use Rattle.noc_vc.specs.Output.{is_free, has_credit}
+use Rattle.noc_view.specs.Verdict.{Stand, round_of}
+use Rattle.noc_view.specs.View.{asked_for, claim_in, view_stand, view_stands, finding_of, port_and_vc}
+use Rattle.noc_theory.proofs.Common.{lt-ltb, false≢true, div-add-mod', below, tabulate, Has, nodes, ports, local_port, get_or-tabulate, length-tabulate, tabulate-from_each, has_bit, Flit, flit_at, Channel, Link, Inject, Eject, is_link, output_index, arrival_of, channel_vc, permits, set_at, Input, is_empty, Output, Idle, Owned, Draining, Claim, Unrouted, Waits, Holds, Round, ArbiterStates, verdict_of, out_of, Site, View, size_of, view_buffer, view_input, view_output, view_claim, view_round, decisions_of, Verdict, Empty, Finding, find-same, site_at, seen_flits, seen_input, seen_phase, seen_phase_with, seen_set, seen_output, seen_holder, seen_sender, has_come, finding_in, Setup, State, Located, size, arriving, leaving, packet_at, owner_of, next_channel, has_channel, has_credit_in, is_idle, ask, claim_of, claim_with, stand_of, round_at, verdict_in, verdict_at, count_in, buffer_of, is_on, tail_place, leads_from, IsSeen}
+use Rattle.noc_theory.specs.Network.{stands_at}
 use Rattle.noc_theory.proofs.worms.MoveLemmas.{IsNext, next-is, leads-end}
 use Rattle.noc_theory.proofs.worms.OwnedLemmas.{owner-is}
 use Rattle.noc_theory.proofs.join.OrderedLemmas.{IsGood, IsOrderedFrozen}
 use Rattle.noc_theory.proofs.join.PlaceViewLemmas.{IsAt, IsFrom, arriving-at, input-at, permits-at, leaving-from, eject-from, link-from, same-place}
-use Rattle.noc_theory.specs.Seen.{IsSeen}
 
 module _ (net : Setup) (good : IsGood net) (F : State) (x : IsOrderedFrozen net F) (r : ℕ) (l : r < nodes net.relation.grid) (v : View) (seen : IsSeen net F r v) where
   same_size : size_of v.site ≡ size net

@@ -1,13 +1,7 @@
 -- Buffers: the first flit of one leaves where its verdict is Moved, and all else stays.
 use Rattle.std.proofs.Common.{◌≡◌, ℕ, ◌+◌, ◌*◌, Bool, true, false, cond, List, [], ◌∷◌, map, Option, Some, None, drop, refl, ap, sym, ◌∙◌, get_or, subst}
 use Rattle.std.specs.Prelude.{option_and_then, filter, find, nat_eq, nat_lt, ◌&&◌}
-use Rattle.std.specs.List.{AllByRecursion}
-use Rattle.std.proofs.lemmas.Bool.{false≢true, and_from, and_parts, and_right, and_left, eq-eqb, eqb-true}
-use Rattle.noc_topo.specs.Lists.{is_some_of}
-use Rattle.noc_route.specs.Channel.{Channel, Link, Inject, Eject, same_channel, arrival_of, channel_vc}
-use Rattle.noc_view.specs.Verdict.{Claim, Unrouted, Waits, Holds, Round, verdict_of, is_moved}
-use Rattle.noc_theory.specs.Network.{Setup, State, Located, Place, Source, On, In, Out, buffer_of, front_in, is_in, is_the_flit, moved_place, after_verdicts, verdict_in, gone_to, next_channel, claim_of, owned_by, owner_of, has_channel, ask, round_at, count_in, verdict_at, leads_from}
-use Rattle.noc_view.specs.declared.verdict.Verdict.TheVariants.{Empty, Granted, Moved, LostChannel}
+use Rattle.noc_theory.proofs.Common.{AllByRecursion, false≢true, and_from, and_parts, and_right, and_left, eq-eqb, eqb-true, is_some_of, Channel, Link, Inject, Eject, same_channel, arrival_of, channel_vc, Claim, Unrouted, Waits, Holds, Round, verdict_of, is_moved, Setup, State, Located, Place, Source, On, In, Out, buffer_of, front_in, is_in, is_the_flit, moved_place, after_verdicts, verdict_in, gone_to, next_channel, claim_of, owned_by, owner_of, has_channel, ask, round_at, count_in, verdict_at, leads_from, Empty, Granted, Moved, LostChannel}
 
 -- whether two are the same flit
 abbrev pub same_flit : Located → Located → Bool

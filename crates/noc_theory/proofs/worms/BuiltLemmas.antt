@@ -2,14 +2,11 @@
 -- owned channel is an input.
 use Rattle.std.proofs.Common.{◌≡◌, ℕ, ◌+◌, ◌*◌, ◌/◌, ◌<◌, Bool, true, false, List, [], ◌∷◌, length, Some, refl, ap, sym, ◌∙◌, arith}
 use Rattle.std.specs.Prelude.{IsTrue, option_map}
-use Rattle.std.proofs.lemmas.Bool.{eq-eqb}
-use Rattle.noc_topo.specs.Shape.{Grid, coordinates, distance, distance_in, distance_of}
-use Rattle.noc_route.specs.Channel.{Channel, Link, Inject, Eject, arrival_of}
-use Rattle.noc_route.specs.Routes.{permits}
+use Rattle.noc_topo.specs.Shape.{coordinates, distance_in, distance_of}
 use Rattle.noc_route.proofs.BuiltLemmas.{set_at-member}
-use Rattle.noc_route.proofs.PermitsLemmas.{PermitsLink-from_test, PermitsEject-from_test, permits-inject, permits-nearer, permits-home}
-use Rattle.noc_theory.specs.Network.{Setup, packet_at, leads_from, end_of}
-use Rattle.noc_theory.specs.Good.{IsGoodSetup, IsWellFormedPacket, IsWellFormedSetup}
+use Rattle.noc_route.proofs.PermitsLemmas.{permits-inject, permits-nearer, permits-home}
+use Rattle.noc_theory.proofs.Common.{eq-eqb, Grid, distance, Channel, Link, Inject, Eject, arrival_of, permits, PermitsLink-from_test, PermitsEject-from_test, Setup, packet_at, leads_from, end_of, IsGoodSetup, IsWellFormedSetup}
+use Rattle.noc_theory.specs.Good.{IsWellFormedPacket}
 use Rattle.noc_theory.proofs.worms.BuiltRecordLemmas.{IsBuilt}
 use Rattle.noc_theory.proofs.worms.GrantLemmas.{IsWired}
 use Rattle.noc_theory.proofs.worms.InputLemmas.{input-is, input-low, same-input, inputs-apart, inject-input, link-input}

@@ -1,9 +1,7 @@
 -- What a built relation says of channels: a hop begins where the packet is and comes nearer by one,
 -- and packets leave at their destination.
 use Rattle.std.specs.Prelude.{◌≡◌, ℕ, ◌+◌, ◌<◌, ◌≤◌, true, IsTrue, length}
-use Rattle.noc_route.specs.Channel.{Channel, Link, Eject}
-use Rattle.noc_route.specs.Routes.{permits}
-use Rattle.noc_theory.specs.Network.{Setup, packet_at, end_distance, leads_from}
+use Rattle.noc_theory.proofs.Common.{Channel, Link, Eject, permits, Setup, packet_at, end_distance, leads_from}
 
 module _ (net : Setup) where
   pub record IsBuilt : Type 0 where

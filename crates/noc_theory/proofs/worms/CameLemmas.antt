@@ -2,16 +2,9 @@
 -- link and ejection channel.
 use Rattle.std.proofs.Common.{◌≡◌, ◌≢◌, ℕ, zero, suc, ◌+◌, ◌*◌, ◌/◌, ◌%◌, ◌<◌, true, List, Some, ap, sym, ◌∙◌, inl, inr, subst}
 use Rattle.std.specs.Prelude.{◌⊎◌, not, IsTrue, filter, map}
-use Rattle.std.proofs.lemmas.Bool.{false≢true}
-use Rattle.std.proofs.lemmas.Nat.{div-mul-add, mod-mul-add}
-use Rattle.noc_topo.specs.Lists.{Has}
-use Rattle.noc_topo.specs.Shape.{neighbour}
-use Rattle.noc_packet.specs.Set.{has_bit}
 use Rattle.noc_packet.proofs.SetLemmas.{has_bit-zero}
-use Rattle.noc_route.specs.Channel.{Channel, Link, Inject, Eject, channel_vc}
-use Rattle.noc_route.specs.Routes.{permits, set_at, IsRelation}
-use Rattle.noc_route.proofs.PermitsLemmas.{PermitsLink-from_test, PermitsEject-from_test, permits-home}
-use Rattle.noc_theory.specs.Network.{Setup, State, Injection, injections, is_freed, is_released, opening_state, after_landing, after_credits, after_injection, after_verdicts, frozen_state, network_cycle, state_at}
+use Rattle.noc_route.proofs.PermitsLemmas.{permits-home}
+use Rattle.noc_theory.proofs.Common.{false≢true, div-mul-add, mod-mul-add, Has, neighbour, has_bit, Channel, Link, Inject, Eject, channel_vc, permits, set_at, IsRelation, PermitsLink-from_test, PermitsEject-from_test, Setup, State, Injection, injections, is_freed, is_released, opening_state, after_landing, after_credits, after_injection, after_verdicts, frozen_state, network_cycle, state_at}
 use Rattle.noc_theory.proofs.worms.BuiltRecordLemmas.{IsBuilt}
 use Rattle.noc_theory.proofs.worms.GrantLemmas.{IsWired, IsGrant}
 use Rattle.noc_theory.proofs.worms.MemberLemmas.{Has-append, Has-filter, Has-map}

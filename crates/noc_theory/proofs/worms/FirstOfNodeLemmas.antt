@@ -1,18 +1,11 @@
 -- A packet that has begun and has flits at its source is the first of its node that waits.
 use Rattle.std.proofs.Common.{◌≡◌, ◌≢◌, ℕ, zero, suc, ◌<◌, ◌≤◌, Bool, true, false, cond, List, [], ◌∷◌, length, Option, Some, None, refl, ap, sym, ◌∙◌, inl, inr, subst, arith}
 use Rattle.std.specs.Prelude.{filter, find, ◌⊎◌, nat_eq, nat_le, nat_lt, ◌&&◌, option_map}
-use Rattle.std.specs.List.{list_any}
-use Rattle.std.proofs.lemmas.Bool.{cases_eq, cases_order, leb-true, leb-false, and_from, eq-eqb}
-use Rattle.std.proofs.lemmas.Option.{none-some, same_Some}
-use Rattle.noc_topo.specs.Lists.{below, least_by, lesser_by, Has, Pairs}
-use Rattle.noc_topo.specs.Shape.{nodes}
-use Rattle.noc_route.specs.Channel.{Channel, Inject}
-use Rattle.noc_theory.specs.Network.{Setup, network_cycle, Injection, State, Located, Source, packet_at, place_of_flit, landed_place, flits_of, is_at_source, is_idle, first_waiting, injection_at, injection_with, is_injection_of, owned_by, count_in, after_landing, after_credits, after_injection, after_verdicts, frozen_state, state_at}
+use Rattle.noc_theory.proofs.Common.{list_any, cases_eq, cases_order, leb-true, leb-false, and_from, eq-eqb, none-some, same_Some, below, least_by, lesser_by, Has, Pairs, nodes, Channel, Inject, Setup, network_cycle, Injection, State, Located, Source, packet_at, place_of_flit, landed_place, flits_of, is_at_source, is_idle, first_waiting, injection_at, injection_with, is_injection_of, owned_by, count_in, after_landing, after_credits, after_injection, after_verdicts, frozen_state, state_at, IsValid}
 use Rattle.noc_theory.proofs.worms.BuiltRecordLemmas.{IsBuilt}
 use Rattle.noc_theory.proofs.worms.OptionLemmas.{and_then-some, cond-some}
 use Rattle.noc_theory.proofs.worms.MemberLemmas.{Has-kept, Has-filter_map, Pairs-filter, list_any-from, each-at}
 use Rattle.noc_theory.proofs.worms.GrantLemmas.{IsWired}
-use Rattle.noc_theory.specs.Good.{IsValid}
 use Rattle.noc_theory.proofs.worms.StateWordLemmas.{IsKeyed, last_of, Precedes, IsFirstOf}
 use Rattle.noc_theory.proofs.worms.PlaceLemmas.{place-stepped, flit-there}
 use Rattle.noc_theory.proofs.worms.WormRecordLemmas.{valid-last, valid-first, source-landed}

@@ -2,23 +2,10 @@
 -- packet's channels a path.
 use Rattle.std.proofs.Common.{◌≡◌, ◌≢◌, ℕ, zero, suc, ◌+◌, ◌*◌, ◌/◌, ◌%◌, ◌<◌, ◌≤◌, Bool, true, false, cond, List, [], ◌∷◌, ◌++◌, get_or, Option, Some, None, refl, ap, sym, ◌∙◌, inl, inr, subst, arith, append-nil}
 use Rattle.std.specs.Prelude.{filter, find, option_map, option_and_then, ◌⊎◌, not, nat_eq, nat_lt, IsTrue, ◌&&◌}
-use Rattle.std.specs.List.{filter_map, range_with_len, cons_option}
-use Rattle.std.proofs.lemmas.Bool.{false≢true, true≢false, and_parts, and_left, eqb-true}
-use Rattle.std.proofs.lemmas.Option.{none-some, same_Some}
-use Rattle.std.proofs.lemmas.Nat.{div-add-mod', div-mul-add, mod-mul-add}
-use Rattle.noc_topo.specs.Lists.{below, Has, Pairs}
-use Rattle.noc_topo.specs.Shape.{local_port}
-use Rattle.noc_route.specs.Channel.{Channel, Link, Inject, Eject, sending_router, arrival_of, channel_vc, output_at, output_index, inputs}
-use Rattle.noc_view.specs.Verdict.{Unrouted, Waits, Holds, verdict_of, is_granted, is_moved}
-use Rattle.noc_route.specs.Routes.{Routes, permits}
-use Rattle.noc_theory.specs.Network.{Setup, State, size, packet_at, owner_of, owned_by, is_idle, ask, next_channel, leads_from, has_credit_in, end_of, has_channel, claim_of, round_at, count_in, verdict_in, verdict_at, granted_pair, grant_to_owner, is_released, after_verdicts}
-use Rattle.noc_view.specs.declared.verdict.Verdict.{Verdict}
-use Rattle.noc_view.specs.declared.verdict.Verdict.TheVariants.{Granted}
 use Rattle.noc_view.proofs.PlanLemmas.{verdict-granted}
-use Rattle.noc_theory.specs.Worm.{IsPath}
+use Rattle.noc_theory.proofs.Common.{filter_map, range_with_len, cons_option, false≢true, true≢false, and_parts, and_left, eqb-true, none-some, same_Some, div-add-mod', div-mul-add, mod-mul-add, below, Has, Pairs, local_port, Channel, Link, Inject, Eject, sending_router, arrival_of, channel_vc, output_at, output_index, inputs, Unrouted, Waits, Holds, verdict_of, is_granted, is_moved, Routes, permits, Setup, State, size, packet_at, owner_of, owned_by, is_idle, ask, next_channel, leads_from, has_credit_in, end_of, has_channel, claim_of, round_at, count_in, verdict_in, verdict_at, granted_pair, grant_to_owner, is_released, after_verdicts, Verdict, Granted, IsPath, is_none-none}
 use Rattle.noc_theory.proofs.worms.BuiltRecordLemmas.{IsBuilt}
 use Rattle.noc_theory.proofs.worms.OptionLemmas.{and_then-some, cond-some}
-use Rattle.noc_route.proofs.OptionLemmas.{is_none-none}
 use Rattle.noc_theory.proofs.worms.BufferLemmas.{find-passes}
 use Rattle.noc_theory.proofs.worms.MemberLemmas.{Has-filter_map, Has-filter, find-fails, Pairs-filter, Pairs-append, each-at, each-from}
 use Rattle.noc_theory.proofs.worms.OwnedLemmas.{IsOnce, of, of-append, of-filter, has-of, owner-has, idle-none}

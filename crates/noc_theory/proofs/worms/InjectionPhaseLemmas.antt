@@ -1,18 +1,12 @@
 -- Phase three, on owners and places.
 use Rattle.std.proofs.Common.{◌≡◌, ◌≢◌, ℕ, ◌+◌, ◌*◌, ◌<◌, ◌≤◌, Bool, true, false, List, [], ◌∷◌, ◌++◌, map, length, refl, ap, sym, ◌∙◌, inl, inr, subst, arith, append-nil}
 use Rattle.std.specs.Prelude.{filter, ◌⊎◌, nat_eq}
-use Rattle.std.proofs.lemmas.Bool.{false≢true, cases_eq, eqb-true}
-use Rattle.noc_route.specs.Channel.{Channel, Link, Inject, Eject}
-use Rattle.noc_theory.specs.Network.{Setup, Injection, Place, Source, On, In, Out, packet_at}
-use Rattle.noc_theory.specs.Progress.{weight, hops}
-use Rattle.noc_theory.specs.Worm.{IsPath}
+use Rattle.noc_theory.proofs.Common.{false≢true, cases_eq, eqb-true, Channel, Link, Inject, Eject, Setup, Injection, Place, Source, On, In, Out, packet_at, weight, hops, IsPath, Has, Pairs, IsValid}
 use Rattle.noc_theory.proofs.worms.BuiltRecordLemmas.{IsBuilt}
-use Rattle.noc_topo.specs.Lists.{Has, Pairs}
 use Rattle.noc_theory.proofs.worms.MemberLemmas.{Has-append, Has-left, Has-right, Has-filter, Has-kept, Has-map, Has-mapped, Pairs-filter, Pairs-append, Pairs-map, each-at, each-from}
 use Rattle.noc_theory.proofs.worms.OwnedLemmas.{IsOnce, of, of-append, of-has, has-of}
 use Rattle.noc_theory.proofs.worms.StateWordLemmas.{IsOtherChannel, IsPlaced, IsNear, IsEntering, class_of, goal, last_of}
 use Rattle.noc_theory.proofs.worms.PathLemmas.{IsBehind, path-behind, path-tail}
-use Rattle.noc_theory.specs.Good.{IsValid}
 use Rattle.noc_theory.proofs.worms.WormRecordLemmas.{IsWorm, valid-last, valid-first, valid-below}
 
 -- of different packets, to different channels

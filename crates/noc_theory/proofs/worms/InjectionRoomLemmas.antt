@@ -1,11 +1,7 @@
 -- Phase three keeps buffers within their slots.
 use Rattle.std.proofs.Common.{◌≡◌, ℕ, ◌+◌, ◌<◌, ◌≤◌, Bool, true, false, cond, List, [], ◌∷◌, length, Option, Some, None, refl, ap, sym, ◌∙◌, inl, inr, subst, arith}
 use Rattle.std.specs.Prelude.{filter, find, option_map, ◌⊎◌, nat_eq, nat_lt, nat_le, ◌&&◌, not}
-use Rattle.std.proofs.lemmas.Bool.{false≢true, true≢false, eqb-true, and_parts, and_from, ltb-true, not-true}
-use Rattle.std.proofs.lemmas.Option.{none-some, same_Some}
-use Rattle.noc_topo.specs.Lists.{below, Has, Pairs}
-use Rattle.noc_route.specs.Channel.{Channel, Inject}
-use Rattle.noc_theory.specs.Network.{Setup, Injection, State, Located, In, packet_at, place_of_flit, is_in, count_in, after_injection, injection_at, injections, injected_place, injection_with, beginning, first_waiting, is_injection_of, owned_by, first_at_source, is_the_flit, is_at_source, is_idle}
+use Rattle.noc_theory.proofs.Common.{false≢true, true≢false, eqb-true, and_parts, and_from, ltb-true, not-true, none-some, same_Some, below, Has, Pairs, Channel, Inject, Setup, Injection, State, Located, In, packet_at, place_of_flit, is_in, count_in, after_injection, injection_at, injections, injected_place, injection_with, beginning, first_waiting, is_injection_of, owned_by, first_at_source, is_the_flit, is_at_source, is_idle, nodes}
 use Rattle.noc_theory.proofs.worms.BuiltRecordLemmas.{IsBuilt}
 use Rattle.noc_theory.proofs.worms.OptionLemmas.{and_then-some, cond-some}
 use Rattle.noc_theory.proofs.worms.BufferLemmas.{find-passes, same_channel-true}
@@ -15,7 +11,6 @@ use Rattle.noc_theory.proofs.worms.WormRecordLemmas.{IsWorm}
 use Rattle.noc_theory.proofs.worms.InjectionPhaseLemmas.{IsApart}
 use Rattle.noc_theory.proofs.worms.InjectionStateLemmas.{entry-of, entries-apart}
 use Rattle.noc_theory.proofs.worms.RoomLemmas.{Gains, count-no_more, count-one_more, filter-some, unowned-empty}
-use Rattle.noc_topo.specs.Shape.{nodes}
 
 pub filter-none : (t : Located → Bool) (xs : List Located) (x : Located) → length (filter t xs) ≡ 0 → Has x xs → t x ≡ false
 filter-none t xs x e h = at (t x) refl

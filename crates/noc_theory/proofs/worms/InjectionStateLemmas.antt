@@ -1,21 +1,13 @@
 -- Phase three of a state.
 use Rattle.std.proofs.Common.{◌≡◌, ◌≢◌, ℕ, zero, suc, ◌+◌, ◌<◌, Bool, true, false, cond, List, [], ◌∷◌, length, Option, Some, None, refl, ap, sym, ◌∙◌, inl, inr, subst, arith}
 use Rattle.std.specs.Prelude.{filter, find, option_map, nat_eq, nat_lt, nat_le, ◌&&◌}
-use Rattle.std.specs.List.{range_with_len, list_any}
-use Rattle.std.proofs.lemmas.Bool.{false≢true, eqb-true, eq-eqb, ne_eqb, and_parts, and_from, and_right}
-use Rattle.std.proofs.lemmas.Option.{none-some, same_Some}
-use Rattle.noc_topo.specs.Lists.{below, least_by, lesser_by, Has, Pairs}
-use Rattle.noc_topo.specs.Shape.{nodes}
-use Rattle.noc_route.specs.Channel.{Channel, Link, Inject, Eject}
-use Rattle.noc_theory.specs.Network.{Setup, Injection, State, Located, Place, Source, In, packet_at, place_of_flit, owner_of, owned_by, is_idle, flits_of, is_at_source, first_waiting, is_injection_of, beginning, injection_with, injection_at, injections, first_at_source, is_the_flit, injected_place, after_injection, count_in}
+use Rattle.noc_theory.proofs.Common.{range_with_len, list_any, false≢true, eqb-true, eq-eqb, ne_eqb, and_parts, and_from, and_right, none-some, same_Some, below, least_by, lesser_by, Has, Pairs, nodes, Channel, Link, Inject, Eject, Setup, Injection, State, Located, Place, Source, In, packet_at, place_of_flit, owner_of, owned_by, is_idle, flits_of, is_at_source, first_waiting, is_injection_of, beginning, injection_with, injection_at, injections, first_at_source, is_the_flit, injected_place, after_injection, count_in, is_none-none, IsValid}
 use Rattle.noc_theory.proofs.worms.BuiltRecordLemmas.{IsBuilt}
 use Rattle.noc_theory.proofs.worms.OptionLemmas.{and_then-some, cond-some}
-use Rattle.noc_route.proofs.OptionLemmas.{is_none-none}
 use Rattle.noc_theory.proofs.worms.BufferLemmas.{find-passes}
 use Rattle.noc_theory.proofs.worms.MemberLemmas.{Has-filter, Has-filter_map, find-has, find-fails, find-some, list_any-has, Pairs-filter_map, each-from}
 use Rattle.noc_theory.proofs.worms.OwnedLemmas.{of, of-has, has-of, idle-none}
 use Rattle.noc_theory.proofs.worms.GrantLemmas.{Has-range, Has-below}
-use Rattle.noc_theory.specs.Good.{IsValid}
 use Rattle.noc_theory.proofs.worms.StateWordLemmas.{IsKeyed, last_of}
 use Rattle.noc_theory.proofs.worms.PlaceLemmas.{place-of-flit, flit-there, place-stepped, find-first, keyed-stepped, at_source-is}
 use Rattle.noc_theory.proofs.worms.WormRecordLemmas.{IsWorm, valid-last}

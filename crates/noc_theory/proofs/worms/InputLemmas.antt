@@ -2,15 +2,8 @@
 -- virtual channel tell it.
 use Rattle.std.proofs.Common.{◌≡◌, ◌≢◌, ℕ, zero, suc, ◌+◌, ◌*◌, ◌/◌, ◌%◌, ◌<◌, ◌≤◌, Bool, true, false, cond, List, [], ◌∷◌, Option, Some, None, refl, ap, sym, ◌∙◌, inl, inr, arith}
 use Rattle.std.specs.Prelude.{nat_eq, option_map, filter_map}
-use Rattle.std.specs.List.{flat_map}
 use Rattle.std.proofs.Math.Nat.{mod-lt, mul-le-mul_right}
-use Rattle.std.proofs.lemmas.Bool.{eqb-true, eq-eqb, ne_eqb}
-use Rattle.std.proofs.lemmas.Nat.{div-add-mod', div-mul-add, mod-mul-add}
-use Rattle.std.proofs.lemmas.Option.{none-some, same_Some}
-use Rattle.noc_topo.specs.Lists.{Has, Pairs, below}
-use Rattle.noc_topo.specs.Shape.{Grid, IsGrid, nodes, ports, local_port, neighbour}
-use Rattle.noc_topo.proofs.LinkLemmas.{link_back}
-use Rattle.noc_route.specs.Channel.{Channel, Link, Inject, arrival_of, channel_vc, input_at, inputs}
+use Rattle.noc_theory.proofs.Common.{flat_map, eqb-true, eq-eqb, ne_eqb, div-add-mod', div-mul-add, mod-mul-add, none-some, same_Some, Has, Pairs, below, Grid, IsGrid, nodes, ports, local_port, neighbour, link_back, Channel, Link, Inject, arrival_of, channel_vc, input_at, inputs}
 use Rattle.noc_theory.proofs.worms.GrantLemmas.{Has-below}
 use Rattle.noc_theory.proofs.worms.InjectionStateLemmas.{below-apart}
 use Rattle.noc_theory.proofs.worms.MemberLemmas.{Has-filter_map, Has-filter_mapped, Pairs-append, Pairs-filter_map, each-at, Has-flat_map, Has-flat_mapped}

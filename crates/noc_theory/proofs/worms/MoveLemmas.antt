@@ -1,25 +1,13 @@
 -- The next channel of a channel, and which flit moves.
 use Rattle.std.proofs.Common.{◌≡◌, ◌≢◌, ℕ, ◌+◌, ◌*◌, ◌≤◌, Bool, true, false, cond, List, [], ◌∷◌, Option, Some, None, refl, ap, sym, ◌∙◌, inl, inr, subst, arith}
 use Rattle.std.specs.Prelude.{find, option_map, option_and_then, unwrap_or, ◌⊎◌, nat_eq, ◌&&◌}
-use Rattle.std.proofs.lemmas.Bool.{false≢true, true≢false, eqb-true, eq-eqb, and_parts, and_from}
-use Rattle.std.proofs.lemmas.Option.{none-some, same_Some}
-use Rattle.noc_topo.specs.Shape.{distance}
-use Rattle.noc_route.specs.Channel.{Channel, Link, Inject, Eject, sending_router}
-use Rattle.noc_theory.specs.Network.{Setup, State, Located, Place, Source, On, In, Out, place_of_flit, owner_of, owned_by, end_distance, end_of, leads_from, next_channel, front_in, is_in, is_the_flit, verdict_in, moved_place, gone_to, after_verdicts}
-use Rattle.noc_view.specs.Verdict.{is_moved}
-use Rattle.noc_theory.specs.Progress.{weight, hops}
-use Rattle.noc_theory.specs.Worm.{IsPath}
+use Rattle.noc_theory.proofs.Common.{false≢true, true≢false, eqb-true, eq-eqb, and_parts, and_from, none-some, same_Some, distance, Channel, Link, Inject, Eject, sending_router, Setup, State, Located, Place, Source, On, In, Out, place_of_flit, owner_of, owned_by, end_distance, end_of, leads_from, next_channel, front_in, is_in, is_the_flit, verdict_in, moved_place, gone_to, after_verdicts, is_moved, weight, hops, IsPath, Moved, is_some_of-true, is_moved-true, Has, IsValid}
 use Rattle.noc_theory.proofs.worms.BuiltRecordLemmas.{IsBuilt}
-use Rattle.noc_view.specs.declared.verdict.Verdict.TheVariants.{Moved}
-use Rattle.noc_alloc.proofs.WordLemmas.{is_some_of-true}
 use Rattle.noc_theory.proofs.worms.BufferLemmas.{find-passes, same_channel-refl, next-some}
-use Rattle.noc_view.proofs.MoverLemmas.{is_moved-true}
-use Rattle.noc_topo.specs.Lists.{Has}
 use Rattle.noc_theory.proofs.worms.MemberLemmas.{find-has}
 use Rattle.noc_theory.proofs.worms.OwnedLemmas.{of, of-has, has-of, owner-is}
 use Rattle.noc_theory.proofs.worms.StateWordLemmas.{IsEject, IsKeyed, IsPlaced, class_of, goal, far_of}
 use Rattle.noc_theory.proofs.worms.PathLemmas.{IsBehind, path-behind, path-tail}
-use Rattle.noc_theory.specs.Good.{IsValid}
 use Rattle.noc_theory.proofs.worms.PlaceLemmas.{place-of-flit, flit-there, place-stepped, find-first, is_in-is}
 use Rattle.noc_theory.proofs.worms.WormRecordLemmas.{IsWorm}
 

@@ -2,10 +2,7 @@
 -- landings and credits (_mid_at), and in its frozen state (_frozen_at).
 use Rattle.std.proofs.Common.{◌≡◌, ℕ, zero, suc, ◌+◌, ◌-◌, ◌≤◌, ◌<◌, Bool, true, false, List, ap, sym, ◌∙◌, arith}
 use Rattle.std.specs.Prelude.{if◌then◌else◌}
-use Rattle.noc_topo.specs.Lists.{Has}
-use Rattle.noc_route.specs.Channel.{Channel, Link, Eject}
-use Rattle.noc_theory.specs.Network.{Setup, count_in, count_on, credit_of, State, Source, On, place_of_flit, has_channel, after_landing, after_credits, network_cycle, frozen_at, state_at}
-use Rattle.noc_theory.specs.Good.{IsWellFormedSetup, slots_taken, IsValid}
+use Rattle.noc_theory.proofs.Common.{Has, Channel, Link, Eject, Setup, count_in, count_on, credit_of, State, Source, On, place_of_flit, has_channel, after_landing, after_credits, network_cycle, frozen_at, state_at, IsWellFormedSetup, slots_taken, IsValid}
 use Rattle.noc_theory.proofs.worms.StateWordLemmas.{goal}
 use Rattle.noc_theory.proofs.worms.BuiltRecordLemmas.{IsBuilt}
 use Rattle.noc_theory.proofs.worms.BuiltLemmas.{good-built, good-wired, good-covering}

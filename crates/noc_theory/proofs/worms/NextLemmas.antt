@@ -1,14 +1,8 @@
 -- The next channel of a channel is one, and a packet owns one ejection channel at most.
 use Rattle.std.proofs.Common.{◌≡◌, ℕ, true, List, [], ◌∷◌, Some, ap, sym, ◌∙◌, inl, inr, subst, arith}
 use Rattle.std.specs.Prelude.{find, option_and_then}
-use Rattle.std.proofs.lemmas.Bool.{false≢true}
-use Rattle.std.proofs.lemmas.Option.{same_Some}
-use Rattle.noc_topo.specs.Shape.{distance}
-use Rattle.noc_route.specs.Channel.{Channel, Link, Inject, Eject}
-use Rattle.noc_theory.specs.Network.{Setup, State, place_of_flit, leads_from, next_channel, owned_by}
+use Rattle.noc_theory.proofs.Common.{false≢true, same_Some, distance, Channel, Link, Inject, Eject, Setup, State, place_of_flit, leads_from, next_channel, owned_by, IsPath, Has}
 use Rattle.noc_theory.proofs.worms.BuiltRecordLemmas.{IsBuilt}
-use Rattle.noc_theory.specs.Worm.{IsPath}
-use Rattle.noc_topo.specs.Lists.{Has}
 use Rattle.noc_theory.proofs.worms.OwnedLemmas.{of, of-has, has-of, owner-is}
 use Rattle.noc_theory.proofs.worms.MemberLemmas.{find-some, find-has}
 use Rattle.noc_theory.proofs.worms.BufferLemmas.{find-passes}

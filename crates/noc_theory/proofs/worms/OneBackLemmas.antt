@@ -2,18 +2,7 @@
 -- are of one virtual channel.
 use Rattle.std.proofs.Common.{◌≡◌, ℕ, zero, suc, ◌+◌, ◌*◌, ◌/◌, ◌%◌, ◌<◌, true, [], length, get_or, Option, Some, None, refl, ap, sym, ◌∙◌}
 use Rattle.std.specs.Prelude.{nat_lt, ◌&&◌}
-use Rattle.std.proofs.lemmas.Bool.{false≢true, and_parts}
-use Rattle.std.proofs.lemmas.List.{length-replicate}
-use Rattle.std.proofs.lemmas.Nat.{div-mul-add, mod-mul-add}
-use Rattle.std.proofs.lemmas.Option.{same_Some}
-use Rattle.noc_topo.specs.Lists.{Has}
-use Rattle.noc_topo.specs.Shape.{nodes, neighbour}
-use Rattle.noc_topo.proofs.ListLemmas.{length-map_indexed}
-use Rattle.noc_route.specs.Channel.{Channel, Link, Inject, Eject, is_link}
-use Rattle.noc_view.specs.Verdict.{is_moved}
-use Rattle.noc_view.specs.declared.verdict.Verdict.TheVariants.{Empty, Moved}
-use Rattle.noc_theory.specs.Network.{Setup, State, has_channel, all_inputs, verdict_in, verdict_at, claim_of, round_at, count_in, opening_state, after_landing, after_credits, after_injection, after_verdicts, frozen_state, network_cycle, state_at}
-use Rattle.noc_view.proofs.MoverLemmas.{is_moved-true}
+use Rattle.noc_theory.proofs.Common.{false≢true, and_parts, length-replicate, div-mul-add, mod-mul-add, same_Some, Has, nodes, neighbour, length-map_indexed, Channel, Link, Inject, Eject, is_link, is_moved, Empty, Moved, Setup, State, has_channel, all_inputs, verdict_in, verdict_at, claim_of, round_at, count_in, opening_state, after_landing, after_credits, after_injection, after_verdicts, frozen_state, network_cycle, state_at, is_moved-true}
 use Rattle.noc_theory.proofs.worms.GrantLemmas.{IsWired}
 use Rattle.noc_theory.proofs.worms.MemberLemmas.{Has-filter}
 use Rattle.noc_theory.proofs.worms.OneOnLinkLemmas.{moved-wins}

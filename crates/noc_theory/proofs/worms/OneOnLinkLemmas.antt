@@ -1,19 +1,10 @@
 -- Two flits that leave by one output port in one cycle are one. So there is one flit on each link.
 use Rattle.std.proofs.Common.{◌≡◌, ℕ, ◌+◌, ◌*◌, ◌/◌, ◌%◌, ◌<◌, Bool, true, false, cond, get_or, Option, Some, None, refl, ap, sym, ◌∙◌, inl, inr, subst, arith}
 use Rattle.std.specs.Prelude.{nat_lt, option_map}
-use Rattle.std.proofs.lemmas.Option.{same_Some}
-use Rattle.std.proofs.lemmas.Nat.{div-mul-add, mod-mul-add}
-use Rattle.noc_topo.specs.Lists.{is_some_of, Has}
-use Rattle.noc_topo.specs.Shape.{local_port}
-use Rattle.noc_route.specs.Channel.{Channel, Link, Inject, Eject, inputs, arrival_of, channel_vc, output_index, sending_router}
-use Rattle.noc_view.specs.Verdict.{Claim, Unrouted, Waits, Holds, Round, verdict_of}
-use Rattle.noc_theory.specs.Network.{Setup, State, On, place_of_flit, end_of, next_channel, has_channel, verdict_in, verdict_at, claim_of, has_credit_in, round_at, count_in, gone_to, after_verdicts}
+use Rattle.noc_theory.proofs.Common.{same_Some, div-mul-add, mod-mul-add, is_some_of, Has, local_port, Channel, Link, Inject, Eject, inputs, arrival_of, channel_vc, output_index, sending_router, Claim, Unrouted, Waits, Holds, Round, verdict_of, Setup, State, On, place_of_flit, end_of, next_channel, has_channel, verdict_in, verdict_at, claim_of, has_credit_in, round_at, count_in, gone_to, after_verdicts, Empty, Granted, Moved, LostChannel, LostInput, LostSwitch, is_some_of-true, IsValid}
 use Rattle.noc_theory.proofs.worms.BuiltRecordLemmas.{IsBuilt}
-use Rattle.noc_view.specs.declared.verdict.Verdict.TheVariants.{Empty, Granted, Moved, LostChannel, LostInput, LostSwitch}
-use Rattle.noc_alloc.proofs.WordLemmas.{is_some_of-true}
 use Rattle.noc_theory.proofs.worms.OwnedLemmas.{once-same}
 use Rattle.noc_theory.proofs.worms.GrantLemmas.{IsWired}
-use Rattle.noc_theory.specs.Good.{IsValid}
 use Rattle.noc_theory.proofs.worms.MoveLemmas.{IsMoving, IsMoved, moved-or-not, leads-end, no-end-eject, IsFirst}
 use Rattle.noc_theory.proofs.worms.RoutedStateLemmas.{IsWholeFrozen}
 

@@ -1,13 +1,7 @@
 -- A node takes one flit in a cycle, and a packet that is partly out holds one of its channels.
 use Rattle.std.proofs.Common.{◌≡◌, ℕ, zero, suc, ◌+◌, ◌<◌, ◌≤◌, true, false, length, refl, ap, sym, ◌∙◌, inl, inr, subst, arith}
 use Rattle.std.specs.Prelude.{◌⊎◌}
-use Rattle.std.proofs.lemmas.Bool.{false≢true, true≢false, le-ltb, ltb-false}
-use Rattle.noc_topo.specs.Lists.{Has}
-use Rattle.noc_topo.specs.Shape.{local_port}
-use Rattle.noc_route.specs.Channel.{Channel, Link, Inject, Eject}
-use Rattle.noc_theory.specs.Network.{Setup, State, Place, Source, On, In, Out, place_of_flit, tail_place, packet_at, is_past, leads_from, network_cycle, frozen_at, state_at}
-use Rattle.noc_theory.specs.Progress.{weight, head_place}
-use Rattle.noc_theory.specs.Good.{IsWellFormedSetup, IsValid}
+use Rattle.noc_theory.proofs.Common.{false≢true, true≢false, le-ltb, ltb-false, Has, local_port, Channel, Link, Inject, Eject, Setup, State, Place, Source, On, In, Out, place_of_flit, tail_place, packet_at, is_past, leads_from, network_cycle, frozen_at, state_at, weight, head_place, IsWellFormedSetup, IsValid}
 use Rattle.noc_theory.proofs.worms.BuiltLemmas.{good-built, good-wired}
 use Rattle.noc_theory.proofs.worms.MoveLemmas.{far-link}
 use Rattle.noc_theory.proofs.worms.NetworkLemmas.{ejects-at_goal, ejects-low, led-at, led-frozen_at, out-at}

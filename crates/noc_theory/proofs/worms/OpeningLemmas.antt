@@ -1,17 +1,10 @@
 -- The invariant at the start, and so at the start of each cycle and in each frozen state.
 use Rattle.std.proofs.Common.{◌≡◌, ℕ, zero, suc, ◌+◌, ◌-◌, ◌<◌, ◌≤◌, true, List, [], ◌∷◌, map, length, get_or, refl, ap, sym, ◌∙◌, inl, inr, subst, arith}
 use Rattle.std.specs.Prelude.{◌⊎◌}
-use Rattle.std.specs.List.{flat_map, enumerate_from, range_with_len}
-use Rattle.std.proofs.lemmas.Bool.{false≢true}
-use Rattle.noc_topo.specs.Lists.{below, Has, Pairs}
-use Rattle.noc_route.specs.Channel.{Channel}
-use Rattle.noc_theory.specs.Network.{Setup, Located, Place, Source, place_of_flit, is_in, is_on, count_on, count_in, opening_state, frozen_state, state_at}
-use Rattle.noc_theory.specs.Progress.{weight}
+use Rattle.noc_theory.proofs.Common.{flat_map, enumerate_from, range_with_len, false≢true, below, Has, Pairs, Channel, Setup, Located, Place, Source, place_of_flit, is_in, is_on, count_on, count_in, opening_state, frozen_state, state_at, weight, Packet, IsValid}
 use Rattle.noc_theory.proofs.worms.BuiltRecordLemmas.{IsBuilt}
-use Rattle.noc_packet.specs.declared.packet.Packet.{Packet}
 use Rattle.noc_theory.proofs.worms.MemberLemmas.{Has-append, Has-left, Has-right, Has-map, Has-mapped, Pairs-append, Pairs-map, each-from}
 use Rattle.noc_theory.proofs.worms.GrantLemmas.{IsWired, Has-range}
-use Rattle.noc_theory.specs.Good.{IsValid}
 use Rattle.noc_theory.proofs.worms.StateWordLemmas.{IsKeyed, IsSortedPair, IsPlaced}
 use Rattle.noc_theory.proofs.worms.PlaceLemmas.{flit-there}
 use Rattle.noc_theory.proofs.worms.WormRecordLemmas.{IsWorm, valid-below, valid-first}

@@ -1,13 +1,9 @@
 -- The flits of a packet go out in order of index, each in a cycle of its own.
 use Rattle.std.proofs.Common.{◌≡◌, ℕ, zero, suc, ◌<◌, Some, refl, ap, sym, ◌∙◌, inl, inr, subst, arith}
 use Rattle.std.specs.Prelude.{◌⊎◌}
-use Rattle.std.proofs.lemmas.Bool.{cases_eq}
-use Rattle.noc_route.specs.Channel.{Channel, Link, Inject, Eject}
-use Rattle.noc_theory.specs.Network.{Setup, network_cycle, State, Located, Place, Source, In, Out, place_of_flit, landed_place, gone_to, after_landing, after_credits, after_injection, after_verdicts, frozen_state, state_at}
-use Rattle.noc_theory.specs.Progress.{weight}
+use Rattle.noc_theory.proofs.Common.{cases_eq, Channel, Link, Inject, Eject, Setup, network_cycle, State, Located, Place, Source, In, Out, place_of_flit, landed_place, gone_to, after_landing, after_credits, after_injection, after_verdicts, frozen_state, state_at, weight, IsValid}
 use Rattle.noc_theory.proofs.worms.BuiltRecordLemmas.{IsBuilt}
 use Rattle.noc_theory.proofs.worms.GrantLemmas.{IsWired}
-use Rattle.noc_theory.specs.Good.{IsValid}
 use Rattle.noc_theory.proofs.worms.PlaceLemmas.{place-stepped, out-landed}
 use Rattle.noc_theory.proofs.worms.StateWordLemmas.{IsPlaced, far_of}
 use Rattle.noc_theory.proofs.worms.WormRecordLemmas.{valid-below}

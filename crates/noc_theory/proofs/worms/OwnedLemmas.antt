@@ -2,14 +2,9 @@
 -- and of a channel's owner.
 use Rattle.std.proofs.Common.{◌≡◌, ℕ, Bool, true, false, cond, List, [], ◌∷◌, ◌++◌, map, Option, Some, None, refl, ap, sym, ◌∙◌, inl, inr, subst}
 use Rattle.std.specs.Prelude.{filter, find, option_map, nat_eq}
-use Rattle.std.proofs.lemmas.Bool.{eqb-true, eq-eqb}
-use Rattle.std.proofs.lemmas.Option.{none-some, same_Some}
 use Rattle.std.proofs.lemmas.List.Elements.{filter-append}
-use Rattle.std.proofs.lemmas.List.{map-append}
-use Rattle.noc_route.specs.Channel.{Channel, same_channel}
-use Rattle.noc_theory.specs.Network.{Setup, State, owner_of}
+use Rattle.noc_theory.proofs.Common.{eqb-true, eq-eqb, none-some, same_Some, map-append, Channel, same_channel, Setup, State, owner_of, Has, Pairs}
 use Rattle.noc_theory.proofs.worms.BufferLemmas.{same_channel-refl, same_channel-true, find-passes}
-use Rattle.noc_topo.specs.Lists.{Has, Pairs}
 use Rattle.noc_theory.proofs.worms.MemberLemmas.{Has-filter, Has-kept, Has-map, Has-mapped, find-has, find-some, each-at}
 use Rattle.noc_theory.proofs.worms.StateWordLemmas.{IsOtherChannel}
 

@@ -2,13 +2,8 @@
 -- more channel at its end.
 use Rattle.std.proofs.Common.{◌≡◌, ℕ, ◌<◌, Bool, true, false, cond, List, [], ◌∷◌, ◌++◌, refl, ap, sym, ◌∙◌, inl, inr, subst, arith}
 use Rattle.std.specs.Prelude.{filter, IsTrue}
-use Rattle.std.proofs.lemmas.Bool.{false≢true}
-use Rattle.noc_route.specs.Channel.{Channel, Link, Inject, Eject}
-use Rattle.noc_route.specs.Routes.{permits}
-use Rattle.noc_theory.specs.Network.{Setup, end_distance, leads_from}
-use Rattle.noc_theory.specs.Worm.{IsPath}
+use Rattle.noc_theory.proofs.Common.{false≢true, Channel, Link, Inject, Eject, permits, Setup, end_distance, leads_from, IsPath, Has}
 use Rattle.noc_theory.proofs.worms.BuiltRecordLemmas.{IsBuilt}
-use Rattle.noc_topo.specs.Lists.{Has}
 use Rattle.noc_theory.proofs.worms.StateWordLemmas.{IsEject}
 
 module _ (net : Setup) (built : IsBuilt net) (m t : ℕ) where

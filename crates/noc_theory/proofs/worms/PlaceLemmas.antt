@@ -1,15 +1,10 @@
 -- Where a flit is, by its packet and index, and how a step on the list of flits changes it.
 use Rattle.std.proofs.Common.{◌≡◌, ℕ, ◌<◌, ◌≤◌, Bool, true, false, cond, List, [], ◌∷◌, map, Option, Some, refl, ap, sym, ◌∙◌, inl, inr, subst, arith}
 use Rattle.std.specs.Prelude.{find, option_map, unwrap_or, nat_eq, ◌&&◌}
-use Rattle.std.proofs.lemmas.Bool.{false≢true, and_parts, and_from, eqb-true, eq-eqb}
-use Rattle.std.proofs.lemmas.Option.{same_Some}
-use Rattle.noc_theory.specs.Network.{Setup, State, Located, Place, Source, place_of_flit, On, In, Out, is_in, is_on, is_at_source, landed_place}
+use Rattle.noc_theory.proofs.Common.{false≢true, and_parts, and_from, eqb-true, eq-eqb, same_Some, Setup, State, Located, Place, Source, place_of_flit, On, In, Out, is_in, is_on, is_at_source, landed_place, Has, Pairs, Channel, IsValid}
 use Rattle.noc_theory.proofs.worms.BufferLemmas.{find-passes, same_channel-true}
-use Rattle.noc_topo.specs.Lists.{Has, Pairs}
-use Rattle.noc_route.specs.Channel.{Channel}
 use Rattle.noc_theory.proofs.worms.MemberLemmas.{Has-map, Has-mapped, find-has, find-some, Pairs-map, each-at}
 use Rattle.noc_theory.proofs.worms.StateWordLemmas.{IsSortedPair, IsKeyed}
-use Rattle.noc_theory.specs.Good.{IsValid}
 
 -- ---- a place by its test
 pub is_in-is : (c : Channel) (x : Place) → is_in c x ≡ true → x ≡ In c

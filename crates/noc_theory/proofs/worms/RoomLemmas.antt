@@ -2,12 +2,9 @@
 -- most the places of a buffer.
 use Rattle.std.proofs.Common.{◌≡◌, ℕ, ◌+◌, ◌<◌, ◌≤◌, Bool, true, false, cond, List, [], ◌∷◌, map, length, refl, ap, sym, ◌∙◌, inl, inr, subst, arith, add-zero}
 use Rattle.std.specs.Prelude.{filter, ◌⊎◌}
-use Rattle.std.proofs.lemmas.Bool.{false≢true}
-use Rattle.noc_route.specs.Channel.{Channel, Link, Inject, Eject}
-use Rattle.noc_theory.specs.Network.{Setup, State, Located, Place, Source, On, In, Out, place_of_flit, is_in, is_on, count_on, count_in, landed_place, after_landing}
+use Rattle.noc_theory.proofs.Common.{false≢true, Channel, Link, Inject, Eject, Setup, State, Located, Place, Source, On, In, Out, place_of_flit, is_in, is_on, count_on, count_in, landed_place, after_landing, Has, Pairs}
 use Rattle.noc_theory.proofs.worms.BuiltRecordLemmas.{IsBuilt}
 use Rattle.noc_theory.proofs.worms.BufferLemmas.{same_channel-true}
-use Rattle.noc_topo.specs.Lists.{Has, Pairs}
 use Rattle.noc_theory.proofs.worms.MemberLemmas.{Has-filter, each-at}
 use Rattle.noc_theory.proofs.worms.StateWordLemmas.{IsKeyed, IsSortedPair, IsPlaced}
 use Rattle.noc_theory.proofs.worms.PlaceLemmas.{place-of-flit}

@@ -1,13 +1,8 @@
 -- What is routed through phase three.
 use Rattle.std.proofs.Common.{◌≡◌, ℕ, ◌<◌, true, false, List, length, ap, sym, ◌∙◌, inl, inr, subst, arith}
 use Rattle.std.specs.Prelude.{◌⊎◌}
-use Rattle.std.proofs.lemmas.Bool.{false≢true, cases_eq, le-ltb}
-use Rattle.noc_topo.specs.Shape.{distance}
-use Rattle.noc_route.specs.Channel.{Channel, Link, Inject, Eject}
-use Rattle.noc_theory.specs.Network.{Setup, tail_place, Injection, State, Place, Source, In, Out, packet_at, place_of_flit, is_past, leads_from, after_injection, has_channel}
-use Rattle.noc_theory.specs.Progress.{head_place, hops}
+use Rattle.noc_theory.proofs.Common.{false≢true, cases_eq, le-ltb, distance, Channel, Link, Inject, Eject, Setup, tail_place, Injection, State, Place, Source, In, Out, packet_at, place_of_flit, is_past, leads_from, after_injection, has_channel, head_place, hops, Has}
 use Rattle.noc_theory.proofs.worms.BuiltRecordLemmas.{IsBuilt}
-use Rattle.noc_topo.specs.Lists.{Has}
 use Rattle.noc_theory.proofs.worms.MemberLemmas.{Has-append, Has-left, Has-right}
 use Rattle.noc_theory.proofs.worms.StateWordLemmas.{IsEject, IsKeyed, IsNear, goal, last_of, far_of, Come, IsHeld, HasNext}
 use Rattle.noc_theory.proofs.worms.WormRecordLemmas.{IsWorm, valid-last, valid-first}

@@ -1,21 +1,13 @@
 -- Heads, tails and owners through phase five.
 use Rattle.std.proofs.Common.{◌≡◌, ◌≢◌, ℕ, ◌+◌, ◌<◌, ◌≤◌, Bool, true, false, length, Some, None, refl, ap, sym, ◌∙◌, inl, inr, subst, arith}
 use Rattle.std.specs.Prelude.{find, option_and_then, ◌⊎◌}
-use Rattle.std.proofs.lemmas.Bool.{false≢true, cases_lt, and_left, true≢false, cases_eq, ltb-true, lt-ltb, le-ltb, ltb-false}
-use Rattle.std.proofs.lemmas.Option.{same_Some}
-use Rattle.noc_route.specs.Channel.{Channel, Link, Inject, Eject}
-use Rattle.noc_theory.specs.Network.{Setup, tail_place, State, Place, On, In, place_of_flit, is_past, leads_from, owned_by, has_channel, verdict_in, tail_leaves, gone_to, after_verdicts}
-use Rattle.noc_view.specs.Verdict.{is_moved}
-use Rattle.noc_theory.specs.Progress.{head_place}
+use Rattle.noc_theory.proofs.Common.{false≢true, cases_lt, and_left, true≢false, cases_eq, ltb-true, lt-ltb, le-ltb, ltb-false, same_Some, Channel, Link, Inject, Eject, Setup, tail_place, State, Place, On, In, place_of_flit, is_past, leads_from, owned_by, has_channel, verdict_in, tail_leaves, gone_to, after_verdicts, is_moved, head_place, Granted, Moved, Has, IsValid}
 use Rattle.noc_theory.proofs.worms.BuiltRecordLemmas.{IsBuilt}
-use Rattle.noc_view.specs.declared.verdict.Verdict.TheVariants.{Granted, Moved}
-use Rattle.noc_topo.specs.Lists.{Has}
 use Rattle.noc_theory.proofs.worms.MemberLemmas.{find-fails}
 use Rattle.noc_theory.proofs.worms.OwnedLemmas.{has-of, owner-has, owner-is}
 use Rattle.noc_theory.proofs.worms.StateWordLemmas.{IsEject, IsKeyed, class_of, goal, last_of, far_of, Come, IsHeld, HasNext}
 use Rattle.noc_theory.proofs.worms.PathLemmas.{no-inject}
 use Rattle.noc_theory.proofs.worms.GrantLemmas.{IsWired, IsGrant}
-use Rattle.noc_theory.specs.Good.{IsValid}
 use Rattle.noc_theory.proofs.worms.WormRecordLemmas.{IsWorm, valid-last, valid-first}
 use Rattle.noc_theory.proofs.worms.MoveLemmas.{IsNext, IsFirst, IsMoving, IsMoved, leads-end, no-end-eject, same-far, far-link, far-eject}
 use Rattle.noc_theory.proofs.worms.VerdictPhaseLemmas.{goes, tail-of, leaves-tail, kept-left, inject-kept, worm-after_verdicts}

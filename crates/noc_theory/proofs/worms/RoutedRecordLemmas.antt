@@ -1,15 +1,10 @@
 -- What is routed, where heads and tails are, and the phases one and two.
 use Rattle.std.proofs.Common.{◌≡◌, ℕ, ◌+◌, ◌<◌, Bool, true, false, length, refl, ap, sym, ◌∙◌, inl, inr, subst, arith}
 use Rattle.std.specs.Prelude.{not}
-use Rattle.std.proofs.lemmas.Bool.{false≢true, and_right, ltb-true, le-ltb, lt-ltb, not-true}
-use Rattle.noc_route.specs.Channel.{Channel, Link, Inject, Eject}
-use Rattle.noc_theory.specs.Network.{Setup, tail_place, State, Located, Place, Source, On, In, Out, place_of_flit, landed_place, is_past, leads_from, after_landing, after_credits, has_channel}
-use Rattle.noc_theory.specs.Progress.{head_place}
+use Rattle.noc_theory.proofs.Common.{false≢true, and_right, ltb-true, le-ltb, lt-ltb, not-true, Channel, Link, Inject, Eject, Setup, tail_place, State, Located, Place, Source, On, In, Out, place_of_flit, landed_place, is_past, leads_from, after_landing, after_credits, has_channel, head_place, Has, IsValid}
 use Rattle.noc_theory.proofs.worms.BuiltRecordLemmas.{IsBuilt}
-use Rattle.noc_topo.specs.Lists.{Has}
 use Rattle.noc_theory.proofs.worms.MemberLemmas.{Has-filter, Has-kept}
 use Rattle.noc_theory.proofs.worms.StateWordLemmas.{IsEject, IsKeyed, IsEntering, goal, last_of, far_of, Come, IsHeld, IsRoutedMid}
-use Rattle.noc_theory.specs.Good.{IsValid}
 use Rattle.noc_theory.proofs.worms.PlaceLemmas.{place-stepped, out-landed}
 use Rattle.noc_theory.proofs.worms.WormRecordLemmas.{IsWorm, valid-last, valid-first, freed}
 use Rattle.noc_theory.proofs.worms.MoveLemmas.{far-link}

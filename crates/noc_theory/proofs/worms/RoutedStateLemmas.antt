@@ -1,13 +1,7 @@
 -- The whole invariant at each cycle: the worm, the room, and what is routed.
 use Rattle.std.proofs.Common.{◌≡◌, ℕ, zero, suc, ◌<◌, true, false, Option, Some, None, refl, ap, sym, ◌∙◌, inl, inr, subst, arith}
 use Rattle.std.specs.Prelude.{find, ◌⊎◌, not, nat_lt, nat_le, IsTrue, option_map}
-use Rattle.std.proofs.lemmas.Bool.{false≢true}
-use Rattle.std.proofs.lemmas.Option.{none-some, same_Some}
-use Rattle.noc_topo.specs.Lists.{below, Has}
-use Rattle.noc_topo.specs.Shape.{nodes}
-use Rattle.noc_route.specs.Channel.{Channel, Link, Inject, Eject, inputs, arrival_of, is_link}
-use Rattle.noc_route.specs.Routes.{permits}
-use Rattle.noc_theory.specs.Network.{Setup, network_cycle, tail_place, Injection, State, packet_at, place_of_flit, injection_at, injection_with, first_waiting, is_injection_of, owned_by, is_idle, count_in, is_released, is_past, has_channel, opening_state, after_landing, after_credits, after_injection, after_verdicts, frozen_state, state_at}
+use Rattle.noc_theory.proofs.Common.{false≢true, none-some, same_Some, below, Has, nodes, Channel, Link, Inject, Eject, inputs, arrival_of, is_link, permits, Setup, network_cycle, tail_place, Injection, State, packet_at, place_of_flit, injection_at, injection_with, first_waiting, is_injection_of, owned_by, is_idle, count_in, is_released, is_past, has_channel, opening_state, after_landing, after_credits, after_injection, after_verdicts, frozen_state, state_at}
 use Rattle.noc_theory.proofs.worms.BuiltRecordLemmas.{IsBuilt}
 use Rattle.noc_theory.proofs.worms.OptionLemmas.{and_then-some, cond-some}
 use Rattle.noc_theory.proofs.worms.MemberLemmas.{Has-filter, Has-filter_map, find-has}

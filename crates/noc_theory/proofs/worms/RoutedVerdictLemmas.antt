@@ -1,23 +1,14 @@
 -- What is routed through phase five.
 use Rattle.std.proofs.Common.{◌≡◌, ◌≢◌, ℕ, ◌+◌, ◌*◌, ◌<◌, ◌≤◌, Bool, true, false, cond, List, [], ◌∷◌, length, Option, Some, None, refl, ap, sym, ◌∙◌, inl, inr, subst, arith}
 use Rattle.std.specs.Prelude.{filter, ◌⊎◌, not, nat_lt, ◌&&◌, option_map, unwrap_or, get_or}
-use Rattle.std.proofs.lemmas.Bool.{false≢true, and_left, cases_eq, ltb-true, lt-ltb, not-true, and_from, and_parts}
-use Rattle.noc_route.specs.Channel.{Channel, Link, Inject, Eject, inputs, same_channel, is_link, arrival_of, channel_vc}
-use Rattle.noc_view.specs.Verdict.{Claim, Unrouted, verdict_of, Holds, Waits, Round, is_moved, is_routed}
-use Rattle.noc_theory.specs.Network.{Setup, front_in, is_tail_of_packet, tail_place, State, Located, Place, Source, On, In, Out, place_of_flit, is_past, is_in, leads_from, owned_by, next_channel, has_channel, verdict_in, verdict_at, tail_leaves, tail_leaves_to, is_released, gone_to, count_in, claim_of, round_at, after_verdicts}
-use Rattle.noc_theory.specs.Progress.{head_place, weight, hops}
+use Rattle.noc_theory.proofs.Common.{false≢true, and_left, cases_eq, ltb-true, lt-ltb, not-true, and_from, and_parts, Channel, Link, Inject, Eject, inputs, same_channel, is_link, arrival_of, channel_vc, Claim, Unrouted, verdict_of, Holds, Waits, Round, is_moved, is_routed, Setup, front_in, is_tail_of_packet, tail_place, State, Located, Place, Source, On, In, Out, place_of_flit, is_past, is_in, leads_from, owned_by, next_channel, has_channel, verdict_in, verdict_at, tail_leaves, tail_leaves_to, is_released, gone_to, count_in, claim_of, round_at, after_verdicts, head_place, weight, hops, IsPath, Verdict, Empty, Routed, Granted, LostChannel, Has, is_some_of, IsValid}
 use Rattle.noc_theory.proofs.worms.BuiltRecordLemmas.{IsBuilt}
-use Rattle.noc_theory.specs.Worm.{IsPath}
-use Rattle.noc_view.specs.declared.verdict.Verdict.{Verdict}
-use Rattle.noc_view.specs.declared.verdict.Verdict.TheVariants.{Empty, Routed, Granted, LostChannel}
 use Rattle.noc_theory.proofs.worms.BufferLemmas.{same_channel-refl, same_channel-true}
-use Rattle.noc_topo.specs.Lists.{Has, is_some_of}
 use Rattle.noc_theory.proofs.worms.MemberLemmas.{Has-append, Has-left, Has-right, Has-filter, Has-kept, list_any-has, list_any-from}
 use Rattle.noc_theory.proofs.worms.OwnedLemmas.{of, of-has, has-of}
 use Rattle.noc_theory.proofs.worms.StateWordLemmas.{IsEject, IsKeyed, IsPlaced, IsNear, class_of, goal, last_of, far_of, Come, IsHeld, HasNext}
 use Rattle.noc_theory.proofs.worms.PathLemmas.{IsLast, IsBehind, path-behind, no-inject}
 use Rattle.noc_theory.proofs.worms.GrantLemmas.{IsWired, IsGrant, grant-last, last-same}
-use Rattle.noc_theory.specs.Good.{IsValid}
 use Rattle.noc_theory.proofs.worms.PlaceLemmas.{flit-there, place-of-flit, is_in-is}
 use Rattle.noc_theory.proofs.worms.WormRecordLemmas.{IsWorm, valid-last, valid-first, heavy-not-past}
 use Rattle.noc_theory.proofs.worms.MoveLemmas.{IsMoving, IsMoved, far-link, next-once, next-is, placed-in, weight-in}

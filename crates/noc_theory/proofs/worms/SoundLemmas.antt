@@ -2,12 +2,9 @@
 -- phase, from the opening on.
 use Rattle.std.proofs.Common.{◌≡◌, ◌≢◌, ℕ, ◌≤◌, refl, ap, sym, ◌∙◌, inl, inr, arith}
 use Rattle.std.specs.Prelude.{◌⊎◌}
-use Rattle.std.proofs.lemmas.Bool.{cases_eq}
-use Rattle.noc_route.specs.Channel.{Channel}
-use Rattle.noc_theory.specs.Network.{Setup, State, Located, Place, Source, On, In, Out, place_of_flit, count_in, landed_place, after_landing, after_credits, after_injection, after_verdicts, frozen_state, network_cycle}
+use Rattle.noc_theory.proofs.Common.{cases_eq, Channel, Setup, State, Located, Place, Source, On, In, Out, place_of_flit, count_in, landed_place, after_landing, after_credits, after_injection, after_verdicts, frozen_state, network_cycle, IsValid, slots_taken}
 use Rattle.noc_theory.proofs.worms.BuiltRecordLemmas.{IsBuilt}
 use Rattle.noc_theory.proofs.worms.GrantLemmas.{IsWired}
-use Rattle.noc_theory.specs.Good.{IsValid, slots_taken}
 use Rattle.noc_theory.proofs.worms.StateWordLemmas.{IsKeyed}
 use Rattle.noc_theory.proofs.worms.PlaceLemmas.{place-stepped, keyed-stepped}
 use Rattle.noc_theory.proofs.worms.WormRecordLemmas.{IsWorm, worm-landed, worm-freed}

@@ -1,13 +1,8 @@
 -- An owned channel that no tail has reached has a channel of its packet before it.
 use Rattle.std.proofs.Common.{◌≡◌, ℕ, ◌<◌, ◌≤◌, true, false, List, [], ◌∷◌, refl, ap, sym, ◌∙◌, inl, inr, subst, arith}
 use Rattle.std.specs.Prelude.{IsTrue}
-use Rattle.std.proofs.lemmas.Bool.{true≢false, ltb-false}
-use Rattle.noc_route.specs.Channel.{Channel, Link, Inject, Eject}
-use Rattle.noc_route.specs.Routes.{permits}
-use Rattle.noc_theory.specs.Network.{Setup, Place, Source, On, In, Out, packet_at, is_past, leads_from}
+use Rattle.noc_theory.proofs.Common.{true≢false, ltb-false, Channel, Link, Inject, Eject, permits, Setup, Place, Source, On, In, Out, packet_at, is_past, leads_from, IsPath, Has}
 use Rattle.noc_theory.proofs.worms.BuiltRecordLemmas.{IsBuilt}
-use Rattle.noc_theory.specs.Worm.{IsPath}
-use Rattle.noc_topo.specs.Lists.{Has}
 use Rattle.noc_theory.proofs.worms.OwnedLemmas.{of, has-of, of-has}
 use Rattle.noc_theory.proofs.worms.PathLemmas.{IsBehind, path-behind}
 use Rattle.noc_theory.proofs.worms.WormRecordLemmas.{IsWorm, valid-last}

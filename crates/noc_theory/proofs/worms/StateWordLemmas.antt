@@ -1,11 +1,6 @@
 -- The words of the invariant: where flits are, who owns what, and what is routed.
 use Rattle.std.specs.Prelude.{◌≡◌, ◌≢◌, ◌⊎◌, ℕ, ◌+◌, ◌-◌, ◌<◌, ◌≤◌, true, false, List, length}
-use Rattle.noc_topo.specs.Lists.{Has, Pairs}
-use Rattle.noc_topo.specs.Shape.{distance}
-use Rattle.noc_route.specs.Channel.{Channel, Link, Inject, Eject}
-use Rattle.noc_theory.specs.Network.{Setup, State, Located, Place, Source, On, In, Out, packet_at, has_channel, is_past, leads_from, end_distance, tail_place}
-use Rattle.noc_theory.specs.Progress.{hops, head_place}
-use Rattle.noc_theory.specs.Good.{IsValid}
+use Rattle.noc_theory.proofs.Common.{Has, Pairs, distance, Channel, Link, Inject, Eject, Setup, State, Located, Place, Source, On, In, Out, packet_at, has_channel, is_past, leads_from, end_distance, tail_place, hops, head_place, IsValid}
 
 -- the first index of a packet is below the second, if they are of one packet
 abbrev pub IsSortedPair : Located → Located → Type 0

@@ -1,18 +1,10 @@
 -- The flits of packets to one node go out one by one, each in a cycle of its own.
 use Rattle.std.proofs.Common.{◌≡◌, ◌≢◌, ℕ, zero, suc, ◌+◌, ◌-◌, ◌*◌, ◌<◌, ◌≤◌, eqb, true, false, List, [], ◌∷◌, length, map, refl, ap, sym, ◌∙◌, inl, inr, subst, arith}
 use Rattle.std.specs.Prelude.{◌⊎◌, is_some, sum_by, unwrap_or}
-use Rattle.std.specs.List.{AllByRecursion, IsDistinct}
+use Rattle.std.specs.List.{IsDistinct}
 use Rattle.std.proofs.Math.Nat.{mul-le-mul_right, suc-mul}
-use Rattle.std.proofs.lemmas.List.{length-map}
-use Rattle.std.proofs.lemmas.List.Sums.{sum_by-cons}
-use Rattle.std.proofs.lemmas.Bool.{eqb-true, false≢true, ne_eqb}
 use Rattle.std.proofs.lemmas.Map.Steps.{length-le_from_distinct_below}
-use Rattle.std.proofs.lemmas.Option.{none-some}
-use Rattle.noc_topo.specs.Lists.{Each, Has, Pairs}
-use Rattle.noc_route.specs.Channel.{Channel, Eject}
-use Rattle.noc_theory.specs.Network.{Setup, Place, Source, On, In, Out, arrival_in, out_cycle, packet_at, place_of_flit, tail_place, state_at}
-use Rattle.noc_theory.specs.Progress.{head_place}
-use Rattle.noc_theory.specs.Good.{IsWellFormedSetup, IsValid}
+use Rattle.noc_theory.proofs.Common.{AllByRecursion, length-map, sum_by-cons, eqb-true, false≢true, ne_eqb, none-some, Each, Has, Pairs, Channel, Eject, Setup, Place, Source, On, In, Out, arrival_in, out_cycle, packet_at, place_of_flit, tail_place, state_at, head_place, IsWellFormedSetup, IsValid}
 use Rattle.noc_theory.specs.Waiting.{AreWaiting, IsWaiting}
 use Rattle.noc_theory.proofs.worms.BuiltLemmas.{good-built}
 use Rattle.noc_theory.proofs.worms.MemberLemmas.{Has-map, each-at, each-from, list_any-has}

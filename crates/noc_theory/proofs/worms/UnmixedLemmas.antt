@@ -1,18 +1,12 @@
 -- The flits of a buffer: of the packet that owns the channel, in order, with none left out.
 use Rattle.std.proofs.Common.{◌≡◌, ℕ, ◌+◌, ◌<◌, List, [], ◌∷◌, Some, refl, ap, sym, ◌∙◌, inl, inr, subst, arith}
 use Rattle.std.specs.Prelude.{◌⊎◌}
-use Rattle.std.proofs.lemmas.Bool.{cases_order}
-use Rattle.std.proofs.lemmas.Option.{same_Some}
-use Rattle.noc_route.specs.Channel.{Channel, Link, Inject, Eject}
-use Rattle.noc_theory.specs.Network.{Setup, State, Located, Place, Source, On, In, Out, place_of_flit, is_in, buffer_of, owner_of}
-use Rattle.noc_theory.specs.Progress.{weight}
+use Rattle.noc_theory.proofs.Common.{cases_order, same_Some, Channel, Link, Inject, Eject, Setup, State, Located, Place, Source, On, In, Out, place_of_flit, is_in, buffer_of, owner_of, weight, Has, Pairs, IsValid}
 use Rattle.noc_theory.proofs.worms.BuiltRecordLemmas.{IsBuilt}
 use Rattle.noc_theory.specs.Worm.{IsRun}
 use Rattle.noc_theory.proofs.worms.BufferLemmas.{same_channel-refl}
-use Rattle.noc_topo.specs.Lists.{Has, Pairs}
 use Rattle.noc_theory.proofs.worms.MemberLemmas.{Has-filter, Has-kept, Pairs-filter, each-at}
 use Rattle.noc_theory.proofs.worms.OwnedLemmas.{owner-is}
-use Rattle.noc_theory.specs.Good.{IsValid}
 use Rattle.noc_theory.proofs.worms.StateWordLemmas.{IsKeyed, IsSortedPair, IsPlaced}
 use Rattle.noc_theory.proofs.worms.PlaceLemmas.{place-of-flit, flit-there, is_in-is}
 use Rattle.noc_theory.proofs.worms.WormRecordLemmas.{IsWorm, valid-below}

@@ -1,24 +1,12 @@
 -- Phase five: the record holds after the verdicts.
 use Rattle.std.proofs.Common.{◌≡◌, ◌≢◌, ℕ, ◌+◌, ◌*◌, ◌<◌, ◌≤◌, Bool, true, false, List, length, Option, Some, None, refl, ap, sym, ◌∙◌, inl, inr, subst, arith}
 use Rattle.std.specs.Prelude.{filter, ◌⊎◌, not, IsTrue}
-use Rattle.std.specs.List.{filter_map}
-use Rattle.std.proofs.lemmas.Bool.{false≢true, cases_eq, eqb-true, eq-eqb, and_parts, and_from, not-true}
-use Rattle.std.proofs.lemmas.Option.{none-some, same_Some}
-use Rattle.noc_topo.specs.Shape.{distance}
-use Rattle.noc_route.specs.Channel.{Channel, Link, Inject, Eject, sending_router, inputs}
-use Rattle.noc_route.specs.Routes.{permits}
-use Rattle.noc_theory.specs.Network.{Setup, State, Located, Place, Source, On, In, Out, packet_at, place_of_flit, front_in, verdict_in, gone_to, is_tail_of_packet, tail_leaves, is_released, granted_pair, end_of, moved_place, after_verdicts}
-use Rattle.noc_view.specs.Verdict.{is_moved}
-use Rattle.noc_theory.specs.Progress.{weight, hops}
+use Rattle.noc_theory.proofs.Common.{filter_map, false≢true, cases_eq, eqb-true, eq-eqb, and_parts, and_from, not-true, none-some, same_Some, distance, Channel, Link, Inject, Eject, sending_router, inputs, permits, Setup, State, Located, Place, Source, On, In, Out, packet_at, place_of_flit, front_in, verdict_in, gone_to, is_tail_of_packet, tail_leaves, is_released, granted_pair, end_of, moved_place, after_verdicts, is_moved, weight, hops, Moved, is_moved-true, Has, IsValid}
 use Rattle.noc_theory.proofs.worms.BuiltRecordLemmas.{IsBuilt}
-use Rattle.noc_view.specs.declared.verdict.Verdict.TheVariants.{Moved}
-use Rattle.noc_view.proofs.MoverLemmas.{is_moved-true}
-use Rattle.noc_topo.specs.Lists.{Has}
 use Rattle.noc_theory.proofs.worms.MemberLemmas.{Has-append, Has-left, Has-filter, Has-kept, Has-filter_map}
 use Rattle.noc_theory.proofs.worms.OwnedLemmas.{owner-has, once-same}
 use Rattle.noc_theory.proofs.worms.StateWordLemmas.{IsEject, IsKeyed, IsPlaced, IsNear, IsEntering, class_of, goal, last_of, far_of}
 use Rattle.noc_theory.proofs.worms.PathLemmas.{no-inject}
-use Rattle.noc_theory.specs.Good.{IsValid}
 use Rattle.noc_theory.proofs.worms.PlaceLemmas.{keyed-stepped}
 use Rattle.noc_theory.proofs.worms.GrantLemmas.{IsWired, IsGrant, granted-is, once-after_verdicts, path-after_verdicts}
 use Rattle.noc_theory.proofs.worms.WormRecordLemmas.{IsWorm, valid-last, valid-first, valid-below}

@@ -2,19 +2,11 @@
 -- within the slots of a buffer.
 use Rattle.std.proofs.Common.{◌≡◌, ◌≢◌, ℕ, ◌+◌, ◌-◌, ◌*◌, ◌<◌, ◌≤◌, Bool, true, false, cond, List, [], ◌∷◌, length, Option, Some, None, refl, ap, sym, ◌∙◌, inl, inr, subst, arith, length-drop}
 use Rattle.std.specs.Prelude.{◌⊎◌, nat_eq, nat_lt, ◌&&◌, not, if◌then◌else◌}
-use Rattle.std.specs.List.{AllByRecursion}
-use Rattle.std.proofs.lemmas.Bool.{false≢true, eqb-true, ne_eqb, and_parts, and_left, and_right, ltb-true, or_cases}
-use Rattle.noc_route.specs.Channel.{Channel, Link, Inject, Eject, same_channel, is_link, inputs, arrival_of, channel_vc, output_index}
-use Rattle.noc_view.specs.Verdict.{Unrouted, Holds, is_moved}
-use Rattle.noc_theory.specs.Network.{Setup, State, Located, Place, On, In, Out, place_of_flit, is_on, has_channel, buffer_of, count_on, count_in, credit_of, has_credit_in, after_verdicts, verdict_in, verdict_at, next_channel, gone_to, moved_place, claim_of, round_at}
+use Rattle.noc_theory.proofs.Common.{AllByRecursion, false≢true, eqb-true, ne_eqb, and_parts, and_left, and_right, ltb-true, or_cases, Channel, Link, Inject, Eject, same_channel, is_link, inputs, arrival_of, channel_vc, output_index, Unrouted, Holds, is_moved, Setup, State, Located, Place, On, In, Out, place_of_flit, is_on, has_channel, buffer_of, count_on, count_in, credit_of, has_credit_in, after_verdicts, verdict_in, verdict_at, next_channel, gone_to, moved_place, claim_of, round_at, Empty, Moved, is_moved-true, Has, Pairs, IsValid, slots_taken}
 use Rattle.noc_theory.proofs.worms.BufferLemmas.{same_flit, same_channel-true, moved-holds, buffer-moved, buffer-stays, next-some, IsDistinct}
 use Rattle.noc_theory.proofs.worms.BuiltRecordLemmas.{IsBuilt}
-use Rattle.noc_view.specs.declared.verdict.Verdict.TheVariants.{Empty, Moved}
-use Rattle.noc_view.proofs.MoverLemmas.{is_moved-true}
-use Rattle.noc_topo.specs.Lists.{Has, Pairs}
 use Rattle.noc_theory.proofs.worms.MemberLemmas.{Has-filter, Has-map, list_any-has, each-at}
 use Rattle.noc_theory.proofs.worms.OwnedLemmas.{once-same}
-use Rattle.noc_theory.specs.Good.{IsValid, slots_taken}
 use Rattle.noc_theory.proofs.worms.StateWordLemmas.{IsKeyed, IsSortedPair}
 use Rattle.noc_theory.proofs.worms.PlaceLemmas.{place-of-flit, place-stepped, is_on-is}
 use Rattle.noc_theory.proofs.worms.WormRecordLemmas.{IsWorm}

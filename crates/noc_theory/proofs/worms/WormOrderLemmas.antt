@@ -2,12 +2,8 @@
 -- every network that was built.
 use Rattle.std.proofs.Common.{◌≡◌, ℕ, ◌+◌, ◌-◌, ◌<◌, ◌≤◌, true, List, [], ◌∷◌, length, Some, refl, ap, sym, ◌∙◌, inl, inr, subst, arith}
 use Rattle.std.specs.Prelude.{◌⊎◌, IsTrue, if◌then◌else◌}
-use Rattle.std.proofs.lemmas.Bool.{false≢true, lt-ltb}
-use Rattle.noc_topo.specs.Lists.{Has}
-use Rattle.noc_route.specs.Channel.{Channel, Link, Inject, Eject, is_link}
-use Rattle.noc_theory.specs.Network.{Setup, State, Located, Place, Source, On, In, Out, place_of_flit, tail_place, count_in, count_on, credit_of, has_channel, owner_of, owned_by, is_past, packet_at, all_inputs, buffer_of, is_in, state_at, frozen_at}
-use Rattle.noc_theory.specs.Worm.{IsWormOrder, IsPath, IsRear}
-use Rattle.noc_theory.specs.Good.{IsWellFormedSetup, slots_taken}
+use Rattle.noc_theory.proofs.Common.{false≢true, lt-ltb, Has, Channel, Link, Inject, Eject, is_link, Setup, State, Located, Place, Source, On, In, Out, place_of_flit, tail_place, count_in, count_on, credit_of, has_channel, owner_of, owned_by, is_past, packet_at, all_inputs, buffer_of, is_in, state_at, frozen_at, IsPath, IsWellFormedSetup, slots_taken}
+use Rattle.noc_theory.specs.Worm.{IsWormOrder, IsRear}
 use Rattle.noc_theory.proofs.worms.BuiltRecordLemmas.{IsBuilt}
 use Rattle.noc_theory.proofs.worms.BuiltLemmas.{good-built, good-wired, good-covering}
 use Rattle.noc_theory.proofs.worms.OwnedLemmas.{of-has, has-of, owner-is}

@@ -1,20 +1,12 @@
 -- The inductive record: owners and places of one state. And phases one and two.
 use Rattle.std.proofs.Common.{◌≡◌, ◌≢◌, ℕ, ◌+◌, ◌-◌, ◌*◌, ◌%◌, ◌<◌, ◌≤◌, Bool, true, false, List, length, refl, ap, sym, ◌∙◌, subst, arith}
 use Rattle.std.specs.Prelude.{filter, not, IsTrue, ◌&&◌}
-use Rattle.std.proofs.lemmas.Bool.{false≢true, true≢false, ltb-true, le-ltb, lt-ltb}
-use Rattle.noc_topo.specs.Shape.{distance}
-use Rattle.noc_route.specs.Channel.{Channel, Link, Inject, Eject, is_link}
-use Rattle.noc_route.specs.Routes.{permits}
-use Rattle.noc_theory.specs.Network.{Setup, Place, Source, On, In, Out, packet_at, landed_place, is_past}
-use Rattle.noc_theory.specs.Progress.{weight, hops}
-use Rattle.noc_theory.specs.Worm.{IsPath}
+use Rattle.noc_theory.proofs.Common.{false≢true, true≢false, ltb-true, le-ltb, lt-ltb, distance, Channel, Link, Inject, Eject, is_link, permits, Setup, Place, Source, On, In, Out, packet_at, landed_place, is_past, weight, hops, IsPath, Has, IsValid}
 use Rattle.noc_theory.proofs.worms.BuiltRecordLemmas.{IsBuilt}
-use Rattle.noc_topo.specs.Lists.{Has}
 use Rattle.noc_theory.proofs.worms.MemberLemmas.{Has-filter, Has-kept, Pairs-filter}
 use Rattle.noc_theory.proofs.worms.OwnedLemmas.{IsOnce, of, of-filter, of-has}
 use Rattle.noc_theory.proofs.worms.StateWordLemmas.{IsOtherChannel, IsEject, class_of, goal, last_of, far_of, IsNear, IsPlaced, IsEntering}
 use Rattle.noc_theory.proofs.worms.PathLemmas.{path-filter, no-inject}
-use Rattle.noc_theory.specs.Good.{IsValid}
 
 module _ (net : Setup) where
   -- who owns what, and where the flit of each packet and index is

@@ -1,5 +1,4 @@
-use Rattle.noc_route.specs.Channel.{Link}
-use Rattle.noc_theory.specs.Network.{state_at}
+use Rattle.noc_theory.proofs.Common.{Link, state_at}
 use Rattle.noc_theory.proofs.worms.NetworkLemmas.{one_back-at}
 use Rattle.noc_theory.proofs.worms.RoutedVerdictLemmas.{has-channel}
 use Rattle.noc_theory.proofs.ownership.a_link_carries_one_credit.Goals as goal

@@ -1,5 +1,5 @@
 use Rattle.std.proofs.Common.{add-one, ap, sym, ◌∙◌}
-use Rattle.noc_theory.specs.Progress.{is_stuck}
+use Rattle.noc_theory.proofs.Common.{is_stuck}
 use Rattle.noc_theory.proofs.budget.UnchangedLemmas.{stuck-until}
 use Rattle.noc_theory.proofs.progress.a_stuck_network_stays_stuck.Goals as goal
 

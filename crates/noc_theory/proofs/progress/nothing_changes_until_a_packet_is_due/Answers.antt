@@ -1,5 +1,5 @@
 use Rattle.std.proofs.Common.{add-one, ap, ◌∙◌}
-use Rattle.noc_theory.specs.Network.{state_at}
+use Rattle.noc_theory.proofs.Common.{state_at}
 use Rattle.noc_theory.proofs.budget.UnchangedLemmas.{quiet-until, state-until}
 use Rattle.noc_theory.proofs.progress.nothing_changes_until_a_packet_is_due.Goals as goal
 
