@@ -1,7 +1,6 @@
 -- One cycle of one router: from its words at a count to those at the next, and what leaves it.
-use Rattle.std.specs.Prelude.{◌≡◌, ℕ, ◌-◌, ◌*◌, ◌/◌, ◌^◌, ◌<◌, Bool, false, not, List, Option, Some, None, bit_and, bit_or, nat_eq, if◌then◌else◌}
+use Rattle.std.specs.Prelude.{◌≡◌, ℕ, ◌-◌, ◌*◌, ◌/◌, ◌^◌, ◌<◌, Bool, not, List, Option, Some, None, bit_and, bit_or, nat_eq, if◌then◌else◌}
 use Rattle.noc_packet.specs.Set.{has_bit}
-use Rattle.noc_view.specs.Found.{empty_finding}
 use Rattle.noc_view.specs.declared.finding.Finding.{Finding}
 use Rattle.noc_sets.specs.Column.{Column, RouterMarks}
 use Rattle.noc_sets.specs.Counts.{ByVerdict, lane_verdicts, with_verdicts}
@@ -155,25 +154,3 @@ pub record HasWorked (ports vcs : ℕ) (layout : Layout) (starts : List Start) (
   pub happened_is : t.happened
       ≡ not (nat_eq (bit_or (bit_or (bit_or (came_in layout cycle b) effects.heads)
       effects.granted) effects.moved) 0)
-
--- or it sleeps: it holds nothing, nothing comes to it and no packet of its is due, so its words
--- stay and nothing leaves it
-pub record HasSlept (cycle : ℕ) (b : Router) (t : Turn) : Type 0 where
-  pub waiting : b.column.waiting ≡ 0
-  pub active : b.column.active ≡ 0
-  pub injecting : b.column.injecting ≡ 0
-  pub due : cycle < b.source.due
-  pub flits : b.links.flits ≡ 0
-  pub credits : b.links.credits ≡ 0
-  pub is : t ≡ record {
-    column = b.column;
-    marks = b.marks;
-    ended = b.ended;
-    source = b.source;
-    counts = b.counts;
-    left = record { flits = 0; tails = 0; credits = 0 };
-    grants = λ o. None;
-    arrived = 0;
-    found = λ i. empty_finding;
-    happened = false;
-  }

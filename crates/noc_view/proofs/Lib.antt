@@ -8,7 +8,6 @@ pub mod SiteLemmas
 pub mod StandLemmas
 pub mod StepExamples
 pub mod StillLemmas
-pub mod VacantLemmas
 pub mod VerdictExamples
 pub mod VerdictOfSetLemmas
 pub mod VerdictOrderLemmas

@@ -1,7 +1,5 @@
 -- What a router's input and output channels hold, whom they belong to, and where they send.
-use Rattle.std.specs.Prelude.{ℕ, Bool, false, ◌&&◌, not, List, nat_eq, slice_index_or, ◌/◌, Option, Some, None}
-use Rattle.noc_packet.specs.declared.packet.Flit.{Flit}
-use Rattle.noc_vc.specs.Input.{Input, is_idle_phase, is_empty}
+use Rattle.std.specs.Prelude.{ℕ, Bool, false, List, nat_eq, slice_index_or, ◌/◌, Option, Some, None}
 use Rattle.noc_vc.specs.Output.{Output, ejection_output, has_credit}
 use Rattle.noc_vc.specs.declared.input.InputState.{InputState}
 use Rattle.noc_vc.specs.declared.input.InputState.TheVariants.{Idle, Waiting, Active}
@@ -10,10 +8,6 @@ use Rattle.noc_vc.specs.declared.output.OutputState.TheVariants.{Idle as Free, O
 use Rattle.noc_alloc.specs.Allocation.{is_won_by}
 use Rattle.noc_view.specs.Verdict.{Round}
 use Rattle.noc_view.specs.View.{View}
-
--- whether an input channel with these flits holds a packet or a flit
-abbrev pub is_occupied : Input → List Flit → Bool
-is_occupied input flits = not (is_idle_phase input.phase && is_empty flits)
 
 -- whether the packet of an input channel in this state owns output channel o
 abbrev pub owns : InputState → ℕ → Bool
