@@ -14,7 +14,8 @@ use crate::words::{ROUTERS, Words};
 
 /// In the routers in which an idle output channel is wanted the waiting channels ask, and each
 /// output channel that is asked for is granted. It is told who is granted one, and who asks for one
-/// and is not.
+/// and is not. (What calls this is not to grow by it.)
+#[inline(never)]
 pub fn allocate(
     table: &ChannelTable,
     marks: &mut Marks,
