@@ -71,8 +71,6 @@ module _ (ports : RouterPorts) where
 
 -- ---- where the words stand
 module _ (pattern : Pattern) where
-  abbrev ps : RouterPorts
-  ps = pattern.table.ports
 
   abbrev wide : ℕ
   wide = pattern.table.ports.links.width
