@@ -2,12 +2,10 @@
 use Rattle.std.proofs.Common.{◌≡◌, ◌≢◌, ℕ, zero, suc, ◌+◌, ◌<◌, List, [], ◌∷◌, ◌++◌, Some, Vec, Global, ◌∙◌, arith, ap, refl, sym, subst, inl, inr, length, length-append}
 use Rattle.std.specs.Prelude.{◌⊎◌, slice_get, slice_index_or, slice_set}
 use Rattle.std.proofs.Math.Seq.{get_or-append_seam}
-use Rattle.std.proofs.lemmas.Bool.{cases_eq}
-use Rattle.std.proofs.lemmas.List.{get_or-set_other, get_or-set_same, get_or_append_left, length-set}
-use Rattle.noc_topo.specs.Shape.{Grid}
+use Rattle.std.proofs.lemmas.List.{get_or-set_other, get_or-set_same, get_or_append_left}
 use Rattle.noc_columns.specs.Places.{AreFar, IsNear}
-use Rattle.noc_columns.specs.declared.neighbours.Far.{Far}
-use Rattle.noc_cycles.specs.Around.{AreAround, AreEnds, AreFarBy, IsAround, far_by, far_or_none}
+use Rattle.noc_cycles.proofs.Common.{cases_eq, length-set, Grid, Far, far_by}
+use Rattle.noc_cycles.specs.Around.{AreAround, AreEnds, AreFarBy, IsAround, far_or_none}
 use Rattle.noc_cycles.specs.declared.around.Around.{Around}
 
 -- ---- those that stand in other blocks, of one port more

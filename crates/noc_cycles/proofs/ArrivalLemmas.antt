@@ -1,18 +1,10 @@
 -- Packets arrive channel by channel, and in each channel router by router.
 use Rattle.std.proofs.Common.{◌≡◌, ◌≢◌, ℕ, ◌+◌, ◌*◌, ◌/◌, ◌%◌, ◌<◌, ◌≤◌, Bool, true, false, List, Some, length, arith, ap, ap₂, refl, sym, ◌∙◌, inl, inr, set, slice_index}
 use Rattle.std.specs.Prelude.{◌⊎◌, ◌&&◌, nat_eq, if◌then◌else◌}
-use Rattle.std.proofs.lemmas.Bool.{and_parts, cases_eq, eq-eqb, eqb-true, ne_eqb, true≢false}
-use Rattle.noc_packet.specs.Set.{has_bit, IsLeast}
-use Rattle.noc_packet.proofs.SetLemmas.{has_bit-zero}
-use Rattle.noc_sets.specs.Sets.{less, lowest}
-use Rattle.noc_sets.specs.Unions.{some_below}
-use Rattle.noc_columns.specs.Words.{Numbering, set_of, word}
+use Rattle.noc_packet.specs.Set.{IsLeast}
 use Rattle.noc_columns.proofs.LoopLemmas.{left-part, was-left}
 use Rattle.noc_columns.proofs.MarkLemmas.{entry-put}
-use Rattle.noc_columns.proofs.PickLemmas.{find-first, none-each}
-use Rattle.noc_columns.proofs.ChannelLemmas.{part}
-use Rattle.noc_columns.proofs.PortLemmas.{member-below}
-use Rattle.noc_columns.proofs.SupplyLemmas.{member-is}
+use Rattle.noc_cycles.proofs.Common.{and_parts, cases_eq, eq-eqb, eqb-true, ne_eqb, true≢false, has_bit, has_bit-zero, less, lowest, some_below, Numbering, set_of, word, find-first, none-each, part, member-below, member-is}
 use Rattle.noc_cycles.specs.Concluding.{HaveArrived}
 
 -- ---- in one channel: the packets of the routers of a set that are not left have arrived

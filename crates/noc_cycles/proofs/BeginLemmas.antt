@@ -1,13 +1,8 @@
 -- The numbers of packets that begin are written.
 use Rattle.std.proofs.Common.{◌≡◌, ◌≢◌, ℕ, suc, ◌+◌, ◌-◌, ◌*◌, ◌^◌, ◌<◌, ◌≤◌, Bool, true, false, List, [], length, arith, refl, ap, ap₂, sym, ◌∙◌, inl, inr, set, get_or-set_same, get_or-set_other}
 use Rattle.std.specs.Prelude.{◌⊎◌, ◌&&◌, ◌||◌, nat_eq, if◌then◌else◌}
-use Rattle.std.proofs.lemmas.Bool.{cases_eq, cases_lt, eq-eqb, ne_eqb}
-use Rattle.noc_packet.specs.Set.{has_bit}
-use Rattle.noc_packet.proofs.SetLemmas.{either_members, has_bit-zero}
-use Rattle.noc_sets.specs.Sets.{up_by}
-use Rattle.noc_sets.proofs.MemberLemmas.{power-members, up_members, up_none}
-use Rattle.noc_columns.specs.Heads.{packet_in}
-use Rattle.noc_columns.specs.Words.{set_below, word}
+use Rattle.noc_sets.proofs.MemberLemmas.{power-members}
+use Rattle.noc_cycles.proofs.Common.{cases_eq, cases_lt, eq-eqb, ne_eqb, has_bit, either_members, has_bit-zero, up_by, up_members, up_none, packet_in, set_below, word}
 
 -- the row of one router
 pub row-here : (packets : List (List ℕ)) (row : List ℕ) (t k : ℕ) → t < length packets → packet_in (set packets t row) t k ≡ word k row

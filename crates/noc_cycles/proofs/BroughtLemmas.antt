@@ -1,29 +1,19 @@
 -- What comes over the links of all ports is what the links bring.
 use Rattle.std.proofs.Common.{◌≡◌, ◌≢◌, ◌⊎◌, ℕ, zero, suc, ◌+◌, ◌-◌, ◌*◌, ◌/◌, ◌%◌, ◌<◌, ◌≤◌, Bool, true, false, List, [], ◌∷◌, Vec, Global, Option, Some, None, length, get_or, ap, ap₂, sym, subst, ◌∙◌, refl, arith, inl, inr}
 use Rattle.std.specs.Prelude.{◌&&◌, ◌||◌, if◌then◌else◌}
-use Rattle.std.proofs.lemmas.Bool.{cases_eq, cases_lt, eq-eqb, le-ltb, lt-ltb, ne_eqb}
-use Rattle.std.proofs.lemmas.Nat.{div-add-mod', div-mul-add, div_below, le-div, mod-mul-add, mod_below}
-use Rattle.noc_packet.specs.Set.{has_bit}
-use Rattle.noc_packet.proofs.SetLemmas.{has_bit-zero}
-use Rattle.noc_topo.specs.Shape.{Grid, IsGrid, local_port, neighbour, nodes, opposite}
+use Rattle.std.proofs.lemmas.Nat.{div-add-mod', div_below, le-div, mod_below}
+use Rattle.noc_topo.specs.Shape.{IsGrid}
 use Rattle.noc_topo.proofs.LinkLemmas.{link_back}
 use Rattle.noc_sets.specs.Gather.{gathered, is_over}
 use Rattle.noc_sets.proofs.GatherLemmas.{gathered-is, gathered-links}
-use Rattle.noc_sets.proofs.MemberLemmas.{same-word}
 use Rattle.noc_sets.proofs.UnionLemmas.{some-none}
 use Rattle.noc_columns.specs.Near.{comes_by, comes_from, comes_near}
-use Rattle.noc_columns.specs.Picks.{links_of, port_at}
 use Rattle.noc_columns.specs.Places.{AreFar, IsNear, far_places, places_by, stands_in}
-use Rattle.noc_columns.specs.Words.{set_of, word}
-use Rattle.noc_columns.specs.declared.neighbours.Far.{Far}
 use Rattle.noc_columns.specs.declared.neighbours.Near.{Near}
 use Rattle.noc_columns.specs.declared.ports.Ports.{Ports}
 use Rattle.noc_columns.proofs.NearLemmas.{are-places, brought-is}
-use Rattle.noc_columns.proofs.PickLemmas.{apart}
 use Rattle.noc_columns.proofs.PlaceLemmas.{near-and-far, near-or-far, stands-beyond}
-use Rattle.noc_columns.proofs.SetLemmas.{below-members}
-use Rattle.noc_cycles.specs.Around.{far_by}
-use Rattle.noc_cycles.specs.Gathered.{LeadBy}
+use Rattle.noc_cycles.proofs.Common.{cases_eq, cases_lt, eq-eqb, le-ltb, lt-ltb, ne_eqb, div-mul-add, mod-mul-add, has_bit, has_bit-zero, Grid, local_port, neighbour, nodes, opposite, same-word, links_of, port_at, set_of, word, Far, apart, below-members, far_by, LeadBy}
 
 -- ---- opposite ports
 pub opposite-below : (q w : ℕ) → w % 2 ≡ 0 → q < w → opposite q < w

@@ -1,25 +1,16 @@
 -- Output channels are granted and heads are routed in one router of a block.
 use Rattle.std.proofs.Common.{◌≡◌, ◌≢◌, ◌⊎◌, ℕ, ◌+◌, ◌*◌, ◌/◌, ◌^◌, ◌<◌, Bool, true, false, ap, sym, ◌∙◌, subst, refl, inl, inr, bit_or}
 use Rattle.std.specs.Prelude.{◌&&◌, not}
-use Rattle.std.proofs.lemmas.Bool.{cases_eq}
-use Rattle.noc_packet.specs.Set.{has_bit}
-use Rattle.noc_packet.proofs.SetLemmas.{has_bit-zero}
-use Rattle.noc_sets.specs.Column.{RouterMarks}
-use Rattle.noc_sets.specs.Cycle.{Still}
 use Rattle.noc_sets.specs.Grants.{Allocation}
 use Rattle.noc_sets.specs.Passes.{lane_heads}
 use Rattle.noc_sets.specs.Routed.{HasChosen, HasRouted}
-use Rattle.noc_sets.specs.Sets.{less}
-use Rattle.noc_sets.proofs.MemberLemmas.{less_members, or-zero, same-word}
-use Rattle.noc_columns.specs.Allotted.{Allotment, HasAllotted, ShowsOwned, allotted_after, allotted_before, allotted_marks, routed_after}
+use Rattle.noc_columns.specs.Allotted.{Allotment, HasAllotted, allotted_after, allotted_before, allotted_marks, routed_after}
 use Rattle.noc_columns.specs.Wants.{asks_of}
-use Rattle.noc_columns.specs.declared.channels.Standing.{Standing}
 use Rattle.noc_columns.proofs.AllocatedLemmas.{granted-is, shows-owned}
 use Rattle.noc_columns.proofs.ChosenLemmas.{is-chosen, not-allotted}
+use Rattle.noc_cycles.proofs.Common.{cases_eq, has_bit, has_bit-zero, RouterMarks, Still, less, less_members, or-zero, same-word, ShowsOwned, Standing, Held, ShowsStill, Pattern}
 use Rattle.noc_cycles.specs.Deciding.{undecided}
-use Rattle.noc_cycles.specs.Held.{Held, ShowsStill}
 use Rattle.noc_cycles.specs.May.{MayDecide}
-use Rattle.noc_cycles.specs.declared.pattern.Pattern.{Pattern}
 
 less-zero : (a : ℕ) → less a 0 ≡ a
 less-zero a = same-word _ a (λ k. less_members a 0 k ∙ ap (λ b. has_bit a k && not b) (has_bit-zero k) ∙ and-true (has_bit a k))

@@ -1,26 +1,12 @@
 -- What takes effect in a block takes effect in each of its routers.
 use Rattle.std.proofs.Common.{Bool, true, false, zero, suc, ◌^◌, ap₂, bit_or, refl, ◌≡◌, ℕ, ◌+◌, ◌*◌, ◌/◌, ◌%◌, ◌<◌, ◌≤◌, List, [], arith, ap, sym, ◌∙◌, inl, inr}
 use Rattle.std.specs.Prelude.{◌⊎◌, slice_index_or, if◌then◌else◌}
-use Rattle.std.proofs.lemmas.Bool.{cases_lt, true≢false}
-use Rattle.noc_packet.specs.Set.{has_bit}
-use Rattle.noc_packet.proofs.SetLemmas.{has_bit-zero, zero_from_none}
-use Rattle.noc_sets.specs.Unions.{some_below}
-use Rattle.noc_sets.proofs.MemberLemmas.{or-zero}
 use Rattle.noc_columns.specs.Arrivals.{given_back}
 use Rattle.noc_columns.specs.Marks.{ChangesIdle}
-use Rattle.noc_columns.specs.Picks.{channels_of, links_of}
-use Rattle.noc_columns.specs.Words.{IsWithin, Numbering, set_of, word}
-use Rattle.noc_columns.specs.declared.channels.Inputs.{Inputs}
-use Rattle.noc_columns.specs.declared.channels.Outputs.{Outputs}
+use Rattle.noc_columns.specs.Words.{IsWithin}
 use Rattle.noc_columns.specs.declared.marks.Marks.{Marks}
-use Rattle.noc_columns.specs.declared.ports.RouterPorts.{RouterPorts}
-use Rattle.noc_columns.proofs.ChannelLemmas.{part, port-below}
-use Rattle.noc_columns.proofs.PickLemmas.{apart, none-each}
-use Rattle.noc_columns.proofs.PortLemmas.{link-index, local-place, member-below}
-use Rattle.noc_columns.proofs.SupplyLemmas.{member-is}
-use Rattle.noc_cycles.specs.Held.{held_at}
-use Rattle.noc_cycles.specs.declared.block.Block.{Block}
-use Rattle.noc_cycles.specs.declared.pattern.Pattern.{Pattern}
+use Rattle.noc_columns.proofs.PortLemmas.{local-place}
+use Rattle.noc_cycles.proofs.Common.{cases_lt, true≢false, has_bit, has_bit-zero, zero_from_none, some_below, or-zero, channels_of, links_of, Numbering, set_of, word, Inputs, Outputs, RouterPorts, part, port-below, apart, none-each, link-index, member-below, member-is, held_at, Block, Pattern}
 
 -- ---- where the words of the channels stand
 module _ (pattern : Pattern) where

@@ -1,29 +1,13 @@
 -- Credits come to a router of a block.
 use Rattle.std.proofs.Common.{◌≡◌, ◌⊎◌, ℕ, ◌+◌, ◌*◌, ◌<◌, ◌≤◌, Bool, true, false, List, arith, ap, ap₂, sym, ◌∙◌, refl, inl, inr, bit_or, bit_xor}
 use Rattle.std.specs.Prelude.{◌&&◌, not, nat_lt, if◌then◌else◌}
-use Rattle.std.proofs.lemmas.Bool.{cases_lt, le-ltb, lt-ltb}
-use Rattle.std.proofs.lemmas.Nat.{div-mul-add, mod-mul-add}
-use Rattle.noc_packet.specs.Set.{has_bit}
-use Rattle.noc_packet.proofs.SetLemmas.{has_bit-zero, zero_from_none}
 use Rattle.noc_sets.specs.Column.{Column}
-use Rattle.noc_sets.specs.Layout.{Layout}
-use Rattle.noc_sets.specs.Planes.{raised_by, wrong_from}
-use Rattle.noc_sets.specs.Sets.{less}
-use Rattle.noc_sets.specs.Unions.{some_below}
-use Rattle.noc_sets.proofs.MemberLemmas.{less_members, same-word}
-use Rattle.noc_columns.specs.Picks.{channels_of, links_of, port_at}
-use Rattle.noc_columns.specs.Planes.{list_of, planes_by}
+use Rattle.noc_sets.specs.Planes.{raised_by}
 use Rattle.noc_columns.specs.Steps.{TakesCredits}
 use Rattle.noc_columns.specs.Supply.{is_fed}
-use Rattle.noc_columns.specs.Words.{Numbering, set_alike, set_below, set_of, word}
 use Rattle.noc_columns.specs.declared.channels.Returned.{Returned}
-use Rattle.noc_columns.proofs.FlitLemmas.{blank}
-use Rattle.noc_columns.proofs.PickLemmas.{apart, none-each}
-use Rattle.noc_columns.proofs.SetLemmas.{below-members}
-use Rattle.noc_columns.proofs.SupplyLemmas.{member-is}
-use Rattle.noc_cycles.specs.Held.{Held}
-use Rattle.noc_cycles.specs.Taking.{FitsLayout, HasCredits}
-use Rattle.noc_cycles.specs.declared.pattern.Pattern.{Pattern}
+use Rattle.noc_cycles.proofs.Common.{cases_lt, le-ltb, lt-ltb, div-mul-add, mod-mul-add, has_bit, has_bit-zero, zero_from_none, Layout, wrong_from, less, some_below, less_members, same-word, channels_of, links_of, port_at, list_of, planes_by, Numbering, set_alike, set_below, set_of, word, blank, apart, none-each, below-members, member-is, Held, FitsLayout, Pattern}
+use Rattle.noc_cycles.specs.Taking.{HasCredits}
 use Rattle.noc_cycles.proofs.ConcludingLemmas.{links-within}
 use Rattle.noc_cycles.proofs.PartLemmas.{none-above, size-is}
 use Rattle.noc_cycles.proofs.PlaneLemmas.{planes-at, same-at, wrong-at}

@@ -1,40 +1,27 @@
 -- What is decided in one router of a block.
 use Rattle.std.proofs.Common.{◌≡◌, ◌≢◌, ℕ, ◌+◌, ◌*◌, ◌/◌, ◌%◌, ◌^◌, ◌<◌, Bool, true, false, List, [], ap, sym, ◌∙◌, subst, refl, bit_and, bit_or}
 use Rattle.std.specs.Prelude.{not, nat_eq, slice_index, slice_index_or}
-use Rattle.std.proofs.lemmas.Bool.{and_parts, eq-eqb, ne_eqb}
-use Rattle.noc_packet.specs.Set.{has_bit}
-use Rattle.noc_packet.proofs.SetLemmas.{both_members, either_members}
-use Rattle.noc_sets.specs.Column.{RouterMarks}
-use Rattle.noc_sets.specs.Cycle.{Still}
 use Rattle.noc_sets.specs.Ended.{leads_tail}
 use Rattle.noc_sets.specs.Grants.{Allocation}
-use Rattle.noc_sets.specs.Layout.{Layout}
 use Rattle.noc_sets.specs.Moves.{single_in}
 use Rattle.noc_sets.specs.Passes.{Effects, lane_heads, lane_ready}
 use Rattle.noc_sets.specs.Routed.{HasRouted}
-use Rattle.noc_sets.specs.Sets.{less}
 use Rattle.noc_sets.specs.Turns.{ArePast, ArePicked}
 use Rattle.noc_sets.proofs.MemberLemmas.{or-left}
-use Rattle.noc_columns.specs.Allotted.{Allotment, HasAllotted, ShowsOwned, allotment_at}
+use Rattle.noc_columns.specs.Allotted.{Allotment, HasAllotted, allotment_at}
 use Rattle.noc_columns.specs.Channels.{decided_by, standing_by}
-use Rattle.noc_columns.specs.Heads.{headed_marks, heading_at, packet_in}
-use Rattle.noc_columns.specs.Picks.{HasPick, IsPicked, channels_of, output_of, port_of}
+use Rattle.noc_columns.specs.Heads.{headed_marks, heading_at}
+use Rattle.noc_columns.specs.Picks.{HasPick, IsPicked, output_of, port_of}
 use Rattle.noc_columns.specs.Switch.{HasTraversed, ShowsSends, leaves_by, picks_in}
 use Rattle.noc_columns.specs.Wants.{asks_of}
-use Rattle.noc_columns.specs.Words.{set_of, word}
 use Rattle.noc_columns.specs.declared.channels.Decided.{Decided}
-use Rattle.noc_columns.specs.declared.channels.Links.{Links}
-use Rattle.noc_columns.specs.declared.channels.Standing.{Standing}
 use Rattle.noc_columns.specs.declared.grants.Grants.{Grants}
 use Rattle.noc_columns.specs.declared.marks.Marks.{Marks}
 use Rattle.noc_columns.specs.declared.picks.Picks.{Picks}
 use Rattle.noc_columns.specs.declared.switch.Switch.{Switch}
-use Rattle.noc_columns.proofs.SetLemmas.{below-members}
+use Rattle.noc_cycles.proofs.Common.{and_parts, eq-eqb, ne_eqb, has_bit, both_members, either_members, RouterMarks, Still, Layout, less, ShowsOwned, packet_in, channels_of, set_of, word, Links, Standing, below-members, Held, ShowsStill, held_at, links_at, Block, Pattern}
 use Rattle.noc_cycles.specs.Deciding.{HasDecidedHeld}
-use Rattle.noc_cycles.specs.Held.{Held, ShowsStill, held_at, links_at}
 use Rattle.noc_cycles.specs.May.{MayDecide}
-use Rattle.noc_cycles.specs.declared.block.Block.{Block}
-use Rattle.noc_cycles.specs.declared.pattern.Pattern.{Pattern}
 use Rattle.noc_cycles.proofs.ChoiceLemmas.{choice, chosen, owned, waits-then}
 use Rattle.noc_cycles.proofs.SwitchedLemmas.{effects, link-leaves, marks, moved-then, past-then, picked-then, released-then, supplied, switched}
 

@@ -1,29 +1,17 @@
 -- A router that holds nothing shows an empty one.
 use Rattle.std.proofs.Common.{◌≡◌, ℕ, ◌+◌, ◌*◌, ◌/◌, ◌^◌, ◌<◌, Bool, true, false, refl, ap, ap₂, sym, ◌∙◌, subst, arith, length}
 use Rattle.std.specs.Prelude.{◌&&◌}
-use Rattle.std.proofs.lemmas.Bool.{false≢true, lt-ltb, ltb-true}
+use Rattle.std.proofs.lemmas.Bool.{false≢true, ltb-true}
 use Rattle.noc_topo.specs.Lists.{one_if}
-use Rattle.noc_packet.specs.Set.{has_bit}
-use Rattle.noc_packet.proofs.SetLemmas.{has_bit-zero}
 use Rattle.noc_sets.specs.Column.{AreWords, Column}
-use Rattle.noc_sets.specs.Layout.{Layout}
 use Rattle.noc_sets.specs.Opening.{AreEmptyMarks, IsEmptyColumn}
 use Rattle.noc_sets.specs.Planes.{ArePlanes, plane_number}
-use Rattle.noc_sets.specs.Sets.{up_by}
 use Rattle.noc_sets.proofs.MemberLemmas.{ones-members}
-use Rattle.noc_columns.specs.Picks.{channels_of, links_of}
-use Rattle.noc_columns.specs.Planes.{list_of, planes_by}
-use Rattle.noc_columns.specs.Words.{all_of, set_alike, set_below}
-use Rattle.noc_columns.specs.declared.channels.Inputs.{Inputs}
-use Rattle.noc_columns.specs.declared.channels.Outputs.{Outputs}
-use Rattle.noc_columns.specs.declared.planes.Planes.{Planes}
-use Rattle.noc_columns.proofs.ChannelLemmas.{port-below}
-use Rattle.noc_columns.proofs.SetLemmas.{below-members}
-use Rattle.noc_cycles.specs.Held.{Held, ShowsHeld}
+use Rattle.noc_cycles.proofs.Common.{lt-ltb, has_bit, has_bit-zero, Layout, up_by, channels_of, links_of, list_of, planes_by, all_of, set_alike, set_below, Inputs, Outputs, Planes, port-below, below-members, Held, FitsLayout, Pattern}
+use Rattle.noc_cycles.specs.Held.{ShowsHeld}
 use Rattle.noc_cycles.specs.Opened.{HoldsNothing, free_outputs, no_inputs, no_links, router_of}
-use Rattle.noc_cycles.specs.Taking.{FitsLayout, links_count}
+use Rattle.noc_cycles.specs.Taking.{links_count}
 use Rattle.noc_cycles.specs.declared.first.First.{First}
-use Rattle.noc_cycles.specs.declared.pattern.Pattern.{Pattern}
 use Rattle.noc_cycles.proofs.LayoutLemmas.{alike-fit, alike-number, all-members, below-whole, channels-parts, few-channels, few-links, list-many, size_in}
 
 nobody : (set k : ℕ) → set ≡ 0 → has_bit set k ≡ true → {A : Type 0} → A

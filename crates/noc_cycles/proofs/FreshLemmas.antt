@@ -1,14 +1,11 @@
 -- A router injects a flit of the packet that has begun, or begins the next one that is due.
 use Rattle.std.proofs.Common.{◌≡◌, ◌≢◌, ℕ, ◌+◌, ◌-◌, ◌^◌, ◌<◌, ◌≤◌, Bool, true, false, List, arith, ap, sym, ◌∙◌, subst, refl, inl, inr, bit_and}
 use Rattle.std.specs.Prelude.{◌⊎◌, ◌&&◌, ◌||◌, not, nat_eq, nat_le, if◌then◌else◌}
-use Rattle.std.proofs.lemmas.Bool.{and_parts, cases_eq, eq-eqb, eqb-true, false≢true, leb-true, ne_eqb, true≢false}
+use Rattle.std.proofs.lemmas.Bool.{false≢true, leb-true}
 use Rattle.std.proofs.lemmas.Nat.{pow_pos}
-use Rattle.noc_packet.specs.Set.{has_bit}
-use Rattle.noc_packet.proofs.SetLemmas.{both_members, has_bit-zero, zero_from_none}
-use Rattle.noc_sets.specs.Sets.{least, lowest}
-use Rattle.noc_sets.specs.Source.{Source, Start, start_in}
+use Rattle.noc_sets.specs.Sets.{least}
 use Rattle.noc_sets.proofs.MemberLemmas.{and_fits, least_is, lowest-is, zero_members}
-use Rattle.noc_columns.specs.Sources.{begun_if, sent_if}
+use Rattle.noc_cycles.proofs.Common.{and_parts, cases_eq, eq-eqb, eqb-true, ne_eqb, true≢false, has_bit, both_members, has_bit-zero, zero_from_none, lowest, Source, Start, start_in, begun_if, sent_if}
 
 -- a set has a least member exactly where it has one
 pub lowest-none : (a : ℕ) → a < 2 ^ 64 → nat_eq (lowest a) 0 ≡ nat_eq a 0

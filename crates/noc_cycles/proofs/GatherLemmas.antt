@@ -1,20 +1,13 @@
 -- What comes from one block after the other.
 use Rattle.std.proofs.Common.{◌≡◌, ◌≢◌, ℕ, zero, suc, ◌+◌, ◌<◌, Bool, List, [], ◌∷◌, length, map, get_or, ap, ap₂, sym, subst, ◌∙◌, refl, arith}
 use Rattle.std.specs.Prelude.{◌||◌, slice_index}
-use Rattle.noc_packet.specs.Set.{has_bit}
-use Rattle.noc_topo.specs.Shape.{opposite}
-use Rattle.noc_sets.specs.Unions.{some_below}
 use Rattle.noc_sets.proofs.UnionLemmas.{or-assoc}
 use Rattle.noc_columns.specs.Channels.{links_by}
 use Rattle.noc_columns.specs.Near.{comes_by, comes_from}
-use Rattle.noc_columns.specs.Picks.{port_at}
 use Rattle.noc_columns.specs.Places.{far_places}
-use Rattle.noc_columns.specs.Words.{word}
-use Rattle.noc_columns.specs.declared.channels.Links.{Links}
-use Rattle.noc_columns.specs.declared.neighbours.Far.{Far}
 use Rattle.noc_columns.specs.declared.ports.Ports.{Ports}
 use Rattle.noc_columns.proofs.PassLemmas.{some-next}
-use Rattle.noc_cycles.specs.Gathered.{LeadBy, left_by}
+use Rattle.noc_cycles.proofs.Common.{has_bit, opposite, some_below, port_at, word, Links, Far, LeadBy, left_by}
 
 -- the words of a block that is there
 pub from-left : (left : List (Links (List ℕ))) (b : ℕ) (d : Links (List ℕ)) → b < length left → get_or left b d ≡ left_by left b

@@ -1,12 +1,10 @@
 -- The packets that channels hear of, note by note.
 use Rattle.std.proofs.Common.{◌≡◌, ◌≢◌, ℕ, ◌+◌, ◌*◌, ◌/◌, ◌%◌, ◌<◌, ◌≤◌, Bool, true, false, List, [], ◌∷◌, ◌++◌, Option, Some, None, get_or, get_or-set_other, get_or-set_same, length, set, take, take_all, ap, sym, ◌∙◌, refl, arith, inl, inr, subst}
 use Rattle.std.specs.Prelude.{◌⊎◌, ◌&&◌, if◌then◌else◌, nat_eq, slice_get, unwrap_or}
-use Rattle.std.proofs.lemmas.Bool.{cases_eq}
-use Rattle.std.proofs.lemmas.List.{length-set, take_more}
+use Rattle.std.proofs.lemmas.List.{take_more}
 use Rattle.std.proofs.lemmas.Option.{slice_get-get_or, slice_get_within}
-use Rattle.noc_columns.specs.Heads.{packet_in}
+use Rattle.noc_cycles.proofs.Common.{cases_eq, length-set, packet_in, Block}
 use Rattle.noc_cycles.specs.Told.{HasHeard, noted, with_note}
-use Rattle.noc_cycles.specs.declared.block.Block.{Block}
 use Rattle.noc_cycles.specs.declared.notes.Note.{Note}
 use Rattle.noc_cycles.proofs.NoteLemmas.{note-other, noted-push}
 

@@ -1,38 +1,21 @@
 -- What the source of a router of a block injects.
 use Rattle.std.proofs.Common.{◌≡◌, ◌≢◌, ℕ, ◌+◌, ◌*◌, ◌^◌, ◌<◌, ◌≤◌, Bool, true, false, List, length, arith, ap, ap₂, sym, ◌∙◌, subst, refl, inl, inr, bit_and, bit_or}
 use Rattle.std.specs.Prelude.{◌⊎◌, ◌&&◌, ◌||◌, not, nat_eq, nat_le, slice_index, if◌then◌else◌}
-use Rattle.std.proofs.lemmas.Bool.{eq-eqb, eqb-true}
-use Rattle.std.proofs.Math.Pow.{pow_mono}
-use Rattle.noc_packet.specs.Set.{has_bit}
-use Rattle.noc_packet.proofs.SetLemmas.{either_members, has_bit-zero}
-use Rattle.noc_sets.specs.Layout.{Layout}
 use Rattle.noc_sets.specs.Passes.{injecting_after, lane_begins, lane_free, lane_injected}
-use Rattle.noc_sets.specs.Planes.{wrong_from}
-use Rattle.noc_sets.specs.Sets.{less, lowest, up_by}
-use Rattle.noc_sets.specs.Source.{Source, Start, first_source, sent_source, start_in}
-use Rattle.noc_sets.specs.Unions.{some_below}
+use Rattle.noc_sets.specs.Source.{first_source, sent_source}
 use Rattle.noc_sets.proofs.MemberLemmas.{or-cases}
 use Rattle.noc_columns.specs.Channels.{inputs_by}
-use Rattle.noc_columns.specs.Picks.{port_at}
-use Rattle.noc_columns.specs.Planes.{list_of, planes_by}
-use Rattle.noc_columns.specs.Sources.{AreDue, begun_if, sent_if, source_in}
+use Rattle.noc_columns.specs.Sources.{AreDue}
 use Rattle.noc_columns.specs.Steps.{with_source}
-use Rattle.noc_columns.specs.Words.{all_of, set_alike, set_of, word}
-use Rattle.noc_columns.specs.declared.channels.Links.{Links}
 use Rattle.noc_columns.specs.declared.due.Due.{Due}
 use Rattle.noc_columns.specs.declared.ports.Ports.{Ports}
-use Rattle.noc_columns.proofs.FlitLemmas.{blank}
 use Rattle.noc_columns.proofs.InjectionLemmas.{side-index}
 use Rattle.noc_columns.proofs.PassLemmas.{some-same}
 use Rattle.noc_columns.proofs.PickLemmas.{some-asks}
-use Rattle.noc_columns.proofs.RouterLemmas.{below-fits}
 use Rattle.noc_columns.proofs.SourceLemmas.{sends-and-begins}
-use Rattle.noc_columns.specs.declared.ports.RouterPorts.{RouterPorts}
-use Rattle.noc_cycles.specs.Held.{Held, held_at}
+use Rattle.noc_cycles.proofs.Common.{eq-eqb, eqb-true, pow_mono, has_bit, either_members, has_bit-zero, Layout, wrong_from, less, lowest, up_by, Source, Start, start_in, some_below, port_at, list_of, planes_by, begun_if, sent_if, source_in, all_of, set_alike, set_of, word, Links, blank, below-fits, RouterPorts, Held, held_at, FitsLayout, Block, Pattern}
 use Rattle.noc_cycles.specs.May.{MayInject}
-use Rattle.noc_cycles.specs.Taking.{FitsLayout, HasInjected, MaySend, begins_held, column_in, ready_held, went_held}
-use Rattle.noc_cycles.specs.declared.block.Block.{Block}
-use Rattle.noc_cycles.specs.declared.pattern.Pattern.{Pattern}
+use Rattle.noc_cycles.specs.Taking.{HasInjected, MaySend, begins_held, column_in, ready_held, went_held}
 use Rattle.noc_cycles.proofs.FreshLemmas.{begun-due, begun-free, due-kept, is-apart, lowest-none, test-some, went-all, went-some}
 use Rattle.noc_cycles.proofs.LocalLemmas.{all-fit, begins-fit, begins-up, injected-up}
 use Rattle.noc_cycles.proofs.SendLemmas.{injecting-sent, still-injecting, tails-sent}

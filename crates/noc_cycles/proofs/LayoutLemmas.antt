@@ -2,24 +2,13 @@
 use Rattle.std.proofs.Common.{◌≡◌, ℕ, ◌+◌, ◌-◌, ◌*◌, ◌/◌, ◌%◌, ◌^◌, ◌<◌, ◌≤◌, Bool, true, false, refl, ap, ap₂, sym, ◌∙◌, subst, arith, inl, inr, length, mul-le-mul_right}
 use Rattle.std.specs.Prelude.{◌⊎◌, ◌&&◌, ◌||◌, nat_eq, nat_le, nat_lt, bit_or, if◌then◌else◌}
 use Rattle.std.proofs.Math.Nat.{mul-le-mul}
-use Rattle.std.proofs.Math.Pow.{pow_mono}
-use Rattle.std.proofs.lemmas.Bool.{cases_eq, cases_lt, eq-eqb, le-leb, le-ltb, lt-leb, lt-ltb, ne_eqb}
+use Rattle.std.proofs.lemmas.Bool.{le-leb, lt-leb}
 use Rattle.noc_topo.specs.Lists.{one_if}
-use Rattle.noc_packet.specs.Set.{has_bit}
-use Rattle.noc_packet.proofs.SetLemmas.{either_members, has_bit-zero}
-use Rattle.noc_sets.specs.Layout.{Layout}
 use Rattle.noc_sets.specs.Planes.{ArePlanes, plane_number}
-use Rattle.noc_sets.specs.Sets.{up_by}
-use Rattle.noc_sets.proofs.MemberLemmas.{ones-members, same-word, up_members, up_none}
-use Rattle.noc_columns.specs.Picks.{channels_of}
-use Rattle.noc_columns.specs.Planes.{list_of, planes_by}
-use Rattle.noc_columns.specs.Words.{Numbering, all_of, set_alike, set_below}
-use Rattle.noc_columns.specs.declared.planes.Planes.{Planes}
-use Rattle.noc_columns.proofs.RouterLemmas.{below-fits}
-use Rattle.noc_columns.proofs.SetLemmas.{below-members}
+use Rattle.noc_sets.proofs.MemberLemmas.{ones-members}
+use Rattle.noc_cycles.proofs.Common.{pow_mono, cases_eq, cases_lt, eq-eqb, le-ltb, lt-ltb, ne_eqb, has_bit, either_members, has_bit-zero, Layout, up_by, same-word, up_members, up_none, channels_of, list_of, planes_by, Numbering, all_of, set_alike, set_below, Planes, below-fits, below-members, FitsLayout, Pattern}
 use Rattle.noc_cycles.specs.Alike.{all_if, same_count}
-use Rattle.noc_cycles.specs.Taking.{FitsLayout, links_count}
-use Rattle.noc_cycles.specs.declared.pattern.Pattern.{Pattern}
+use Rattle.noc_cycles.specs.Taking.{links_count}
 
 -- how many bits a count has
 abbrev bits_if : Bool → ℕ

@@ -1,3 +1,4 @@
+pub mod Common
 pub mod BeginLemmas
 pub mod GatherLemmas
 pub mod BroughtLemmas

@@ -1,27 +1,12 @@
 -- What the local channels of a router of a block are among all of its channels.
 use Rattle.std.proofs.Common.{◌≡◌, ◌⊎◌, ℕ, ◌+◌, ◌-◌, ◌*◌, ◌^◌, ◌<◌, ◌≤◌, Bool, true, false, List, arith, ap, ap₂, sym, ◌∙◌, subst, inl, inr, bit_or}
 use Rattle.std.specs.Prelude.{◌&&◌, ◌||◌, not, nat_eq, nat_le, if◌then◌else◌}
-use Rattle.std.proofs.lemmas.Bool.{cases_lt, le-ltb, true≢false}
-use Rattle.std.proofs.Math.Pow.{pow_mono}
-use Rattle.noc_packet.specs.Set.{has_bit}
-use Rattle.noc_packet.proofs.SetLemmas.{both_members, either_members, has_bit-zero}
-use Rattle.noc_sets.specs.Layout.{Layout}
 use Rattle.noc_sets.specs.Passes.{lane_begins, lane_injected}
-use Rattle.noc_sets.specs.Planes.{any_from, wrong_from}
-use Rattle.noc_sets.specs.Sets.{less, up_by}
-use Rattle.noc_sets.proofs.MemberLemmas.{below_fits, less_fits, less_members, up_members, up_none}
+use Rattle.noc_sets.proofs.MemberLemmas.{below_fits, less_fits}
 use Rattle.noc_columns.specs.Channels.{inputs_by}
-use Rattle.noc_columns.specs.Picks.{channels_of, port_at}
-use Rattle.noc_columns.specs.Planes.{list_of, planes_by}
 use Rattle.noc_columns.specs.Steps.{with_source}
-use Rattle.noc_columns.specs.Words.{Numbering, all_of, set_alike, set_of}
-use Rattle.noc_columns.proofs.FlitLemmas.{blank}
-use Rattle.noc_columns.proofs.RouterLemmas.{below-fits}
-use Rattle.noc_columns.proofs.SetLemmas.{below-members}
-use Rattle.noc_cycles.specs.Held.{held_at}
-use Rattle.noc_cycles.specs.Taking.{FitsLayout, column_in}
-use Rattle.noc_cycles.specs.declared.block.Block.{Block}
-use Rattle.noc_cycles.specs.declared.pattern.Pattern.{Pattern}
+use Rattle.noc_cycles.proofs.Common.{cases_lt, le-ltb, true≢false, pow_mono, has_bit, both_members, either_members, has_bit-zero, Layout, any_from, wrong_from, less, up_by, less_members, up_members, up_none, channels_of, port_at, list_of, planes_by, Numbering, all_of, set_alike, set_of, blank, below-fits, below-members, held_at, FitsLayout, Block, Pattern}
+use Rattle.noc_cycles.specs.Taking.{column_in}
 use Rattle.noc_cycles.proofs.CreditLemmas.{alike-is}
 use Rattle.noc_cycles.proofs.PartLemmas.{at-local, none-above, size-is}
 use Rattle.noc_cycles.proofs.PlaneLemmas.{any-at, planes-at, wrong-at}

@@ -1,7 +1,7 @@
 -- Notes of packets, one after the other.
 use Rattle.std.proofs.Common.{◌≡◌, ◌≢◌, ◌⊎◌, ℕ, Bool, true, false, List, [], ◌∷◌, ◌++◌, Option, Some, None, ap, ap₂, sym, ◌∙◌, refl, inl, inr}
 use Rattle.std.specs.Prelude.{◌&&◌, if◌then◌else◌, nat_eq}
-use Rattle.std.proofs.lemmas.Bool.{eq-eqb, ne_eqb}
+use Rattle.noc_cycles.proofs.Common.{eq-eqb, ne_eqb}
 use Rattle.noc_cycles.specs.Told.{noted, noted_after, with_note}
 use Rattle.noc_cycles.specs.declared.notes.Note.{Note}
 

@@ -1,35 +1,22 @@
 -- Blocks in which nothing is.
 use Rattle.std.proofs.Common.{◌≡◌, ℕ, ◌+◌, ◌-◌, ◌*◌, ◌/◌, ◌%◌, ◌^◌, ◌<◌, ◌≤◌, ◌≢◌, Bool, true, false, List, [], ◌∷◌, ◌++◌, ◌∙◌, arith, ap, ap₂, sym, refl, subst, inl, inr, length, length-append, replicate, slice_index, slice_index_or}
 use Rattle.std.specs.Prelude.{◌⊎◌, ◌&&◌, not, nat_eq, nat_lt, slice_set}
-use Rattle.std.proofs.lemmas.Bool.{cases_eq, cases_lt, le-ltb, lt-ltb}
-use Rattle.std.proofs.lemmas.List.{get_or-replicate, get_or-set_other, get_or-set_same, get_or_append_left, length-set}
+use Rattle.std.proofs.lemmas.List.{get_or-replicate, get_or-set_other, get_or-set_same, get_or_append_left}
 use Rattle.std.proofs.lemmas.Nat.{shl_whole}
 use Rattle.std.proofs.Math.Nat.{mul-le-mul}
 use Rattle.std.proofs.Math.Seq.{get_or-append_seam}
-use Rattle.noc_packet.specs.Set.{has_bit}
-use Rattle.noc_packet.proofs.SetLemmas.{has_bit-zero}
-use Rattle.noc_sets.proofs.MemberLemmas.{ones-members, same-word}
+use Rattle.noc_sets.proofs.MemberLemmas.{ones-members}
 use Rattle.noc_columns.specs.Channels.{inputs_by, outputs_by}
-use Rattle.noc_columns.specs.Picks.{channels_of, links_of, output_of, port_at}
-use Rattle.noc_columns.specs.Planes.{planes_by}
-use Rattle.noc_columns.specs.Sources.{source_in}
+use Rattle.noc_columns.specs.Picks.{output_of}
 use Rattle.noc_columns.specs.Wants.{asks_of}
-use Rattle.noc_columns.specs.Words.{IsWithin, Numbering, all_of, set_alike, set_below, set_of, word}
-use Rattle.noc_columns.specs.declared.channels.Inputs.{Inputs}
-use Rattle.noc_columns.specs.declared.channels.Links.{Links}
-use Rattle.noc_columns.specs.declared.channels.Outputs.{Outputs}
-use Rattle.noc_columns.specs.declared.planes.Planes.{Planes}
-use Rattle.noc_columns.specs.declared.ports.RouterPorts.{RouterPorts}
-use Rattle.noc_columns.proofs.ChannelLemmas.{part, port-below, positive}
-use Rattle.noc_columns.proofs.PickLemmas.{apart}
-use Rattle.noc_columns.proofs.PortLemmas.{link-index, local-place}
-use Rattle.noc_columns.proofs.SetLemmas.{below-members, below-same, by-term, none}
-use Rattle.noc_cycles.specs.Held.{held_at, links_at}
+use Rattle.noc_columns.specs.Words.{IsWithin}
+use Rattle.noc_columns.proofs.ChannelLemmas.{positive}
+use Rattle.noc_columns.proofs.PortLemmas.{local-place}
+use Rattle.noc_columns.proofs.SetLemmas.{below-same, by-term, none}
+use Rattle.noc_cycles.proofs.Common.{cases_eq, cases_lt, le-ltb, lt-ltb, length-set, has_bit, has_bit-zero, same-word, channels_of, links_of, port_at, planes_by, source_in, Numbering, all_of, set_alike, set_below, set_of, word, Inputs, Links, Outputs, Planes, RouterPorts, part, port-below, apart, link-index, below-members, held_at, links_at, Block, Pattern}
 use Rattle.noc_cycles.specs.Opened.{AreEmptyWorks, AreOpened, HoldsNothing, IsOpened, free_outputs, no_inputs, no_links}
-use Rattle.noc_cycles.specs.declared.block.Block.{Block}
 use Rattle.noc_cycles.specs.declared.block.Work.{Work}
 use Rattle.noc_cycles.specs.declared.first.First.{First}
-use Rattle.noc_cycles.specs.declared.pattern.Pattern.{Pattern}
 
 -- where nothing waits, no output channel is wanted
 pub nobody-asks : (r wanted idle : ℕ) → r < 64 → has_bit 0 r ≡ not (nat_eq (asks_of (slice_index (replicate 64 0) r) wanted idle) 0)

@@ -1,21 +1,11 @@
 -- The channels of a router are those of its links, and behind them those of its local port.
 use Rattle.std.proofs.Common.{◌≡◌, ◌⊎◌, ℕ, ◌+◌, ◌-◌, ◌*◌, ◌/◌, ◌%◌, ◌<◌, ◌≤◌, Bool, true, false, List, arith, ap, sym, ◌∙◌, subst, refl, inl, inr, bit_or}
 use Rattle.std.specs.Prelude.{◌||◌}
-use Rattle.std.proofs.lemmas.Bool.{cases_lt}
-use Rattle.noc_packet.specs.Set.{has_bit}
-use Rattle.noc_packet.proofs.SetLemmas.{either_members}
-use Rattle.noc_sets.specs.Sets.{up_by}
-use Rattle.noc_sets.proofs.MemberLemmas.{or-false, same-word, up_members, up_none}
-use Rattle.noc_columns.specs.Picks.{channels_of, links_of, port_at}
-use Rattle.noc_columns.specs.Words.{Numbering, set_of, word}
-use Rattle.noc_columns.specs.declared.ports.RouterPorts.{RouterPorts}
+use Rattle.noc_sets.proofs.MemberLemmas.{or-false}
 use Rattle.noc_columns.proofs.ByRouterLemmas.{local-word}
-use Rattle.noc_columns.proofs.ChannelLemmas.{part, port-below, positive}
-use Rattle.noc_columns.proofs.PickLemmas.{apart}
-use Rattle.noc_columns.proofs.PortLemmas.{link-index, member-below}
+use Rattle.noc_columns.proofs.ChannelLemmas.{positive}
 use Rattle.noc_columns.proofs.SetLemmas.{below-same}
-use Rattle.noc_columns.proofs.SupplyLemmas.{member-is}
-use Rattle.noc_cycles.specs.declared.pattern.Pattern.{Pattern}
+use Rattle.noc_cycles.proofs.Common.{cases_lt, has_bit, either_members, up_by, same-word, up_members, up_none, channels_of, links_of, port_at, Numbering, set_of, word, RouterPorts, part, port-below, apart, link-index, member-below, member-is, Pattern}
 
 pub none-above : (n : Numbering) (r : ℕ) (words : List ℕ) (k : ℕ) → n.size ≤ k → has_bit (set_of n r words) k ≡ false
 none-above n r words k m = at (has_bit (set_of n r words) k) refl

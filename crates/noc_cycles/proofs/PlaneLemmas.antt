@@ -1,13 +1,9 @@
 -- What counts say of one channel, bit by bit, they say of another with the same bits.
 use Rattle.std.proofs.Common.{◌≡◌, ℕ, Bool, true, false, List, [], ◌∷◌, refl, ap₂, sym, ◌∙◌, bit_or, bit_xor}
 use Rattle.std.specs.Prelude.{◌||◌}
-use Rattle.noc_packet.specs.Set.{has_bit}
-use Rattle.noc_packet.proofs.SetLemmas.{either_members}
-use Rattle.noc_sets.specs.Planes.{any_from, wrong_from}
 use Rattle.noc_sets.specs.Sets.{differ}
 use Rattle.noc_sets.proofs.MemberLemmas.{xor_members}
-use Rattle.noc_columns.specs.Planes.{list_of, planes_by}
-use Rattle.noc_columns.specs.declared.planes.Planes.{Planes}
+use Rattle.noc_cycles.proofs.Common.{has_bit, either_members, any_from, wrong_from, list_of, planes_by, Planes}
 
 -- bit x of these planes is bit y of those
 abbrev pub AreAt : ℕ → ℕ → List ℕ → List ℕ → Type 0

@@ -1,14 +1,10 @@
 -- A source injects: a flit of the packet that has begun, or the head of the next.
 use Rattle.std.proofs.Common.{◌≡◌, ◌≢◌, ℕ, Bool, true, false, List, ap, ap₂, sym, ◌∙◌, refl, inl, inr, bit_or}
 use Rattle.std.specs.Prelude.{◌⊎◌, ◌&&◌, ◌||◌, not, nat_eq, if◌then◌else◌}
-use Rattle.std.proofs.lemmas.Bool.{cases_Bool, cases_eq, eq-eqb, ne_eqb, true≢false}
-use Rattle.noc_packet.specs.Set.{has_bit}
-use Rattle.noc_packet.proofs.SetLemmas.{either_members, has_bit-zero, same_set, zero_from_none}
+use Rattle.std.proofs.lemmas.Bool.{cases_Bool}
+use Rattle.noc_packet.proofs.SetLemmas.{same_set}
 use Rattle.noc_sets.specs.Passes.{injecting_after}
-use Rattle.noc_sets.specs.Sets.{less, up_by}
-use Rattle.noc_sets.specs.Source.{Source, Start, start_in}
-use Rattle.noc_sets.proofs.MemberLemmas.{less_members, or-zero}
-use Rattle.noc_columns.specs.Sources.{sent_if}
+use Rattle.noc_cycles.proofs.Common.{cases_eq, eq-eqb, ne_eqb, true≢false, has_bit, either_members, has_bit-zero, zero_from_none, less, up_by, Source, Start, start_in, less_members, or-zero, sent_if}
 use Rattle.noc_cycles.proofs.ShiftLemmas.{up-or, up-some, up-zero}
 
 -- where no flit of a packet that has begun is injected, the next packet is as it was

@@ -1,11 +1,10 @@
 -- Sets of channels that stand further on.
 use Rattle.std.proofs.Common.{◌≡◌, ◌≢◌, ℕ, ◌+◌, ◌-◌, ◌^◌, ◌<◌, ◌≤◌, false, Some, arith, ap, ap₂, sym, ◌∙◌, inl, inr, bit_or}
 use Rattle.std.specs.Prelude.{◌⊎◌, ◌||◌, nat_eq}
-use Rattle.std.proofs.lemmas.Bool.{cases_eq, cases_lt, eq-eqb, ne_eqb}
-use Rattle.noc_packet.specs.Set.{has_bit, IsLeast}
-use Rattle.noc_packet.proofs.SetLemmas.{either_members, has_bit-zero, zero_from_none}
-use Rattle.noc_sets.specs.Sets.{least, lowest, up_by}
-use Rattle.noc_sets.proofs.MemberLemmas.{least_is, lowest_members, same-word, up_members, up_none, zero_members}
+use Rattle.noc_packet.specs.Set.{IsLeast}
+use Rattle.noc_sets.specs.Sets.{least}
+use Rattle.noc_sets.proofs.MemberLemmas.{least_is, lowest_members, zero_members}
+use Rattle.noc_cycles.proofs.Common.{cases_eq, cases_lt, eq-eqb, ne_eqb, has_bit, either_members, has_bit-zero, zero_from_none, lowest, up_by, same-word, up_members, up_none}
 
 pub up-at : (b n v : ℕ) → has_bit (up_by b n) (n + v) ≡ has_bit b v
 up-at b n v = up_members b n (n + v) (omega arith) ∙ (let e : n + v - n ≡ v = omega arith in ap (has_bit b) e)

@@ -1,19 +1,12 @@
 -- In which routers something comes to a channel.
 use Rattle.std.proofs.Common.{◌≡◌, ◌⊎◌, ℕ, ◌+◌, ◌*◌, ◌/◌, ◌%◌, ◌<◌, Bool, true, false, List, arith, ap, ap₂, sym, ◌∙◌, refl, inl, inr, bit_or}
 use Rattle.std.specs.Prelude.{◌&&◌, ◌||◌, not, nat_eq}
-use Rattle.std.proofs.lemmas.Nat.{div-mul-add, mod-mul-add, mod_below}
-use Rattle.noc_packet.specs.Set.{has_bit}
-use Rattle.noc_packet.proofs.SetLemmas.{either_members}
-use Rattle.noc_sets.specs.Sets.{up_by}
-use Rattle.noc_sets.specs.Unions.{some_below}
+use Rattle.std.proofs.lemmas.Nat.{mod_below}
 use Rattle.noc_sets.proofs.MemberLemmas.{either-zero}
 use Rattle.noc_sets.proofs.UnionLemmas.{some-none}
-use Rattle.noc_columns.specs.Picks.{channels_of, links_of, port_at}
-use Rattle.noc_columns.specs.Words.{Numbering, set_of, word}
-use Rattle.noc_columns.proofs.ChannelLemmas.{port-below}
 use Rattle.noc_columns.proofs.PassLemmas.{some-next, some-same}
-use Rattle.noc_columns.proofs.PickLemmas.{apart, find-first, none-each, some-asks, some-each}
-use Rattle.noc_cycles.specs.declared.pattern.Pattern.{Pattern}
+use Rattle.noc_columns.proofs.PickLemmas.{some-asks, some-each}
+use Rattle.noc_cycles.proofs.Common.{div-mul-add, mod-mul-add, has_bit, either_members, up_by, some_below, channels_of, links_of, port_at, Numbering, set_of, word, port-below, apart, find-first, none-each, Pattern}
 use Rattle.noc_cycles.proofs.PartLemmas.{in-parts, link-index-below}
 use Rattle.noc_cycles.proofs.ShiftLemmas.{up-some}
 

@@ -1,36 +1,22 @@
 -- A router of a block that has taken what comes is still.
 use Rattle.std.proofs.Common.{◌≡◌, ◌⊎◌, ℕ, ◌+◌, ◌*◌, ◌<◌, ◌≤◌, Bool, true, false, List, [], ◌∷◌, ap, ap₂, sym, ◌∙◌, subst, refl, inl, inr, bit_and, bit_or, bit_xor}
 use Rattle.std.specs.Prelude.{◌&&◌, ◌||◌, not, nat_eq, nat_le, nat_lt, if◌then◌else◌}
-use Rattle.std.proofs.lemmas.Bool.{and_parts, cases_Bool, cases_lt, eqb-true, true≢false}
-use Rattle.noc_packet.specs.Set.{has_bit}
-use Rattle.noc_packet.proofs.SetLemmas.{both_members, either_members, has_bit-zero}
-use Rattle.noc_sets.specs.Column.{RouterMarks}
+use Rattle.std.proofs.lemmas.Bool.{cases_Bool}
 use Rattle.noc_sets.specs.Counts.{ByVerdict}
-use Rattle.noc_sets.specs.Cycle.{Links as Bits, Router, Still, begins_in, ready_source, still_of, went_in}
-use Rattle.noc_sets.specs.Layout.{Layout}
+use Rattle.noc_sets.specs.Cycle.{Links as Bits, Router, begins_in, ready_source, still_of, went_in}
 use Rattle.noc_sets.specs.Passes.{injecting_after, lane_injected, with_first}
-use Rattle.noc_sets.specs.Planes.{any_from, more_than_one, plane_number, raised_by, wrong_from}
-use Rattle.noc_sets.specs.Sets.{differ, less, lowest, up_by}
-use Rattle.noc_sets.specs.Source.{Start, packet_begun, sent_source}
-use Rattle.noc_sets.proofs.MemberLemmas.{less_members, or-none, same-word, up_none, xor_members, zero_members}
+use Rattle.noc_sets.specs.Planes.{more_than_one, plane_number, raised_by}
+use Rattle.noc_sets.specs.Sets.{differ}
+use Rattle.noc_sets.specs.Source.{packet_begun, sent_source}
+use Rattle.noc_sets.proofs.MemberLemmas.{or-none, xor_members, zero_members}
 use Rattle.noc_sets.proofs.PlaneLemmas.{any-members}
-use Rattle.noc_columns.specs.Allotted.{ShowsOwned}
-use Rattle.noc_columns.specs.Picks.{port_at}
-use Rattle.noc_columns.specs.Planes.{list_of}
 use Rattle.noc_columns.specs.Steps.{Lands}
 use Rattle.noc_columns.specs.Supply.{is_fed}
 use Rattle.noc_columns.specs.Switch.{channels_at}
-use Rattle.noc_columns.specs.Words.{all_of}
-use Rattle.noc_columns.specs.declared.channels.Outputs.{Outputs}
-use Rattle.noc_columns.specs.declared.planes.Planes.{Planes}
-use Rattle.noc_columns.specs.declared.channels.Links.{Links}
-use Rattle.noc_columns.specs.declared.channels.Inputs.{Inputs}
-use Rattle.noc_columns.specs.declared.channels.Standing.{Standing}
-use Rattle.noc_columns.proofs.FlitLemmas.{blank}
-use Rattle.noc_cycles.specs.Held.{Held, ShowsHeld, ShowsMarks, ShowsStill, column_by}
+use Rattle.noc_cycles.proofs.Common.{and_parts, cases_lt, eqb-true, true≢false, has_bit, both_members, either_members, has_bit-zero, RouterMarks, Still, Layout, any_from, wrong_from, less, lowest, up_by, Start, less_members, same-word, up_none, ShowsOwned, port_at, list_of, all_of, Outputs, Planes, Links, Inputs, Standing, blank, Held, ShowsStill, FitsLayout, Pattern}
+use Rattle.noc_cycles.specs.Held.{ShowsHeld, ShowsMarks, column_by}
 use Rattle.noc_cycles.specs.May.{MayTake, owned_by, with_credit}
-use Rattle.noc_cycles.specs.Taking.{FitsLayout, HasCredits, HasInjected, HasTaken, begins_held, ready_held, went_held}
-use Rattle.noc_cycles.specs.declared.pattern.Pattern.{Pattern}
+use Rattle.noc_cycles.specs.Taking.{HasCredits, HasInjected, HasTaken, begins_held, ready_held, went_held}
 use Rattle.noc_cycles.proofs.UpLemmas.{supplied-now, up-fits, up-owners, up_of}
 
 pub or-group : (a b c : ℕ) → bit_or (bit_or a b) c ≡ bit_or a (bit_or b c)

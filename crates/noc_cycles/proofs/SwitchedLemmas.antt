@@ -1,34 +1,24 @@
 -- Flits go through the switch of one router of a block.
 use Rattle.std.proofs.Common.{◌≡◌, ◌⊎◌, ℕ, ◌+◌, ◌*◌, ◌/◌, ◌%◌, ◌<◌, ◌≤◌, Bool, true, false, List, arith, ap, ap₂, sym, ◌∙◌, subst, refl, inl, inr, bit_and, bit_or}
 use Rattle.std.specs.Prelude.{◌&&◌, not, nat_eq, nat_lt, if◌then◌else◌, slice_index}
-use Rattle.std.proofs.lemmas.Bool.{and_parts, cases_lt, le-ltb, lt-ltb, true≢false}
-use Rattle.noc_packet.specs.Set.{has_bit}
-use Rattle.noc_packet.proofs.SetLemmas.{both_members}
-use Rattle.noc_sets.specs.Column.{RouterMarks}
 use Rattle.noc_sets.specs.Ended.{lane_released, leads_tail}
 use Rattle.noc_sets.specs.Moves.{HasSwitched, chosen_by, dry_by}
 use Rattle.noc_sets.specs.Passes.{Effects}
 use Rattle.noc_sets.specs.Planes.{more_than_one}
-use Rattle.noc_sets.specs.Sets.{less}
 use Rattle.noc_sets.specs.Turns.{ArePast, ArePicked}
-use Rattle.noc_sets.specs.Unions.{rest_from, some_below}
-use Rattle.noc_sets.proofs.MemberLemmas.{less_members, same-word}
-use Rattle.noc_columns.specs.Picks.{HasPick, IsPicked, channels_of, links_of, output_of, port_of}
+use Rattle.noc_sets.specs.Unions.{rest_from}
+use Rattle.noc_columns.specs.Picks.{HasPick, IsPicked, output_of, port_of}
 use Rattle.noc_columns.specs.Supply.{digits_by, number_in}
 use Rattle.noc_columns.specs.Switch.{HasTraversed, ShowsOutputs, ShowsPicks, ShowsSends, asks_for, leaves_by, picks_in, switched_effects, switched_marks, taken_by}
-use Rattle.noc_columns.specs.Words.{set_of, word}
 use Rattle.noc_columns.specs.declared.picks.Picks.{Picks}
-use Rattle.noc_columns.specs.declared.ports.RouterPorts.{RouterPorts}
 use Rattle.noc_columns.specs.declared.supply.Sends.{Sends}
-use Rattle.noc_columns.proofs.ChannelLemmas.{part, port-below, whole}
+use Rattle.noc_columns.proofs.ChannelLemmas.{whole}
 use Rattle.noc_columns.proofs.PastLemmas.{are-past}
-use Rattle.noc_columns.proofs.PickLemmas.{Found, find-first}
-use Rattle.noc_columns.proofs.PortLemmas.{link-index, member-below}
+use Rattle.noc_columns.proofs.PickLemmas.{Found}
 use Rattle.noc_columns.proofs.RouterLemmas.{are-picked, first-among, part-is}
-use Rattle.noc_columns.proofs.SetLemmas.{below-members}
 use Rattle.noc_columns.proofs.ShownLemmas.{shown-picks}
-use Rattle.noc_columns.proofs.SupplyLemmas.{member-is}
 use Rattle.noc_columns.proofs.SwitchLemmas.{has-switched}
+use Rattle.noc_cycles.proofs.Common.{and_parts, cases_lt, le-ltb, lt-ltb, true≢false, has_bit, both_members, RouterMarks, less, some_below, less_members, same-word, channels_of, links_of, set_of, word, RouterPorts, part, port-below, find-first, link-index, member-below, below-members, member-is}
 
 -- the words of the ports, of which `ahead` is before the switch and `after` behind it
 module _ (ports : RouterPorts) (r : ℕ) (some : 0 < ports.links.vcs) (few : (ports.links.width + 1) * ports.links.vcs ≤ 64) (ready inputs picked past last : List ℕ) (sends : Sends (List ℕ)) (picks : Picks)

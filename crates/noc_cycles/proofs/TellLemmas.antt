@@ -1,23 +1,14 @@
 -- What is noted over one link, and of all grants of a block.
 use Rattle.std.proofs.Common.{◌≡◌, ◌≢◌, ◌⊎◌, ℕ, ◌+◌, ◌*◌, ◌/◌, ◌%◌, ◌<◌, ◌≤◌, Bool, true, false, List, [], Option, Some, None, ap, ap₂, sym, subst, ◌∙◌, refl, arith, inl, inr}
 use Rattle.std.specs.Prelude.{if◌then◌else◌, is_some, nat_eq, nat_lt}
-use Rattle.std.proofs.lemmas.Bool.{and_parts, cases_eq, eq-eqb, eqb-true, ltb-true, true≢false}
-use Rattle.std.proofs.lemmas.Nat.{div-add-mod', div-mul-add, mod-mul-add, mod_below}
-use Rattle.noc_packet.specs.Set.{has_bit}
-use Rattle.noc_topo.specs.Shape.{Grid, IsGrid, local_port, neighbour, nodes, opposite, ports}
+use Rattle.std.proofs.lemmas.Bool.{ltb-true}
+use Rattle.std.proofs.lemmas.Nat.{div-add-mod', mod_below}
+use Rattle.noc_topo.specs.Shape.{IsGrid, ports}
 use Rattle.noc_topo.proofs.LinkLemmas.{hop_of, link_back}
-use Rattle.noc_columns.specs.Heads.{packet_in}
-use Rattle.noc_columns.specs.Picks.{channels_of}
-use Rattle.noc_columns.specs.Words.{set_of, word}
-use Rattle.noc_columns.proofs.PickLemmas.{apart}
-use Rattle.noc_columns.proofs.SetLemmas.{below-members}
-use Rattle.noc_columns.proofs.SupplyLemmas.{member-is}
-use Rattle.noc_cycles.specs.Around.{number_or_nowhere}
-use Rattle.noc_cycles.specs.Told.{AreNotes, AreTold, IsNotedOver, NotesSome, heard, heard_over, noted, port_in, told_by, vc_in}
+use Rattle.noc_cycles.proofs.Common.{and_parts, cases_eq, eq-eqb, eqb-true, true≢false, div-mul-add, mod-mul-add, has_bit, Grid, local_port, neighbour, nodes, opposite, packet_in, channels_of, set_of, word, apart, below-members, member-is, number_or_nowhere, NotesSome, Block, Pattern}
+use Rattle.noc_cycles.specs.Told.{AreNotes, AreTold, IsNotedOver, heard, heard_over, noted, port_in, told_by, vc_in}
 use Rattle.noc_cycles.specs.declared.around.Around.{Around}
-use Rattle.noc_cycles.specs.declared.block.Block.{Block}
 use Rattle.noc_cycles.specs.declared.notes.Note.{Note}
-use Rattle.noc_cycles.specs.declared.pattern.Pattern.{Pattern}
 
 module _ (g : Grid) (sound : IsGrid g) (s port vc packet vcs : ℕ) where
   -- for the router at the other end of it

@@ -1,47 +1,33 @@
 -- What has taken effect in a router of a block is what the router makes of the cycle.
 use Rattle.std.proofs.Common.{◌≡◌, ℕ, ◌+◌, ◌-◌, ◌*◌, ◌<◌, ◌≤◌, Bool, true, false, List, arith, ap, ap₂, refl, subst, sym, ◌∙◌, inl, inr, bit_and, bit_or}
 use Rattle.std.specs.Prelude.{◌⊎◌, ◌&&◌, ◌||◌, not, nat_eq, nat_le, nat_lt}
-use Rattle.std.proofs.lemmas.Bool.{and_from, and_parts, cases_lt, eqb-true, false≢true, le-leb, le-ltb, lt-leb, lt-ltb, true≢false}
-use Rattle.noc_packet.specs.Set.{has_bit}
-use Rattle.noc_packet.proofs.SetLemmas.{both_members, either_members, has_bit-zero}
+use Rattle.std.proofs.lemmas.Bool.{and_from, false≢true, le-leb, lt-leb}
 use Rattle.noc_alloc.specs.Members.{MembersAreBelow}
-use Rattle.noc_sets.specs.Column.{Column, RouterMarks}
+use Rattle.noc_sets.specs.Column.{Column}
 use Rattle.noc_sets.specs.Counts.{ByVerdict, lane_verdicts, with_verdicts}
-use Rattle.noc_sets.specs.Cycle.{HasDecided, Router, Still, Turn, came_in, granted_in, still_of}
+use Rattle.noc_sets.specs.Cycle.{HasDecided, Router, Turn, came_in, granted_in, still_of}
 use Rattle.noc_sets.specs.Ended.{ended_next, lane_released, leads_tail}
 use Rattle.noc_sets.specs.Found.{found_in}
-use Rattle.noc_sets.specs.Layout.{Layout}
 use Rattle.noc_sets.specs.Moves.{HasSwitched, chosen_by, single_in}
 use Rattle.noc_sets.specs.Passes.{Effects, lane_no_credit, lane_no_flit, lane_ready, settled_lane}
 use Rattle.noc_sets.specs.Planes.{lowered_by, more_than_one}
-use Rattle.noc_sets.specs.Sets.{less, up_by}
-use Rattle.noc_sets.specs.Source.{Start}
 use Rattle.noc_sets.specs.Turns.{ArePast}
-use Rattle.noc_sets.specs.Unions.{some_below}
-use Rattle.noc_sets.proofs.MemberLemmas.{either-zero, less_members, same-word, up_members, up_none}
+use Rattle.noc_sets.proofs.MemberLemmas.{either-zero}
 use Rattle.noc_sets.proofs.UnionLemmas.{union-members}
-use Rattle.noc_columns.specs.Allotted.{ShowsOwned}
 use Rattle.noc_columns.specs.Arrivals.{given_back}
-use Rattle.noc_columns.specs.Picks.{port_at}
-use Rattle.noc_columns.specs.Planes.{list_of}
 use Rattle.noc_columns.specs.Switch.{ShowsOutputs, ShowsSends}
-use Rattle.noc_columns.specs.Words.{all_of}
 use Rattle.noc_columns.specs.declared.channels.Decided.{Decided}
-use Rattle.noc_columns.specs.declared.channels.Links.{Links}
-use Rattle.noc_columns.specs.declared.channels.Standing.{Standing}
 use Rattle.noc_columns.specs.declared.channels.Verdicts.{Verdicts}
 use Rattle.noc_columns.proofs.BackLemmas.{given-back}
-use Rattle.noc_columns.proofs.FlitLemmas.{blank}
-use Rattle.noc_columns.proofs.PickLemmas.{find-first, some-each}
+use Rattle.noc_columns.proofs.PickLemmas.{some-each}
 use Rattle.noc_columns.proofs.RouterLemmas.{first-among}
-use Rattle.noc_columns.proofs.SetLemmas.{below-members}
+use Rattle.noc_cycles.proofs.Common.{and_parts, cases_lt, eqb-true, le-ltb, lt-ltb, true≢false, has_bit, both_members, either_members, has_bit-zero, RouterMarks, Still, Layout, less, up_by, Start, some_below, less_members, same-word, up_members, up_none, ShowsOwned, port_at, list_of, all_of, Links, Standing, blank, find-first, below-members, Held, ShowsStill, FitsLayout, Pattern}
 use Rattle.noc_cycles.specs.Concluding.{HasConcludedHeld}
 use Rattle.noc_cycles.specs.Deciding.{HasDecidedHeld, undecided}
-use Rattle.noc_cycles.specs.Held.{Held, ShowsMarks, ShowsStill, column_by}
-use Rattle.noc_cycles.specs.Taking.{FitsLayout, HasTaken, links_count}
+use Rattle.noc_cycles.specs.Held.{ShowsMarks, column_by}
+use Rattle.noc_cycles.specs.Taking.{HasTaken, links_count}
 use Rattle.noc_cycles.specs.Through.{HasGoneThrough, Worked}
 use Rattle.noc_cycles.specs.Turning.{HasWorkedHeld, verdict_sets_by}
-use Rattle.noc_cycles.specs.declared.pattern.Pattern.{Pattern}
 
 and-true : (b : Bool) → (b && true) ≡ b
 and-true true = refl

@@ -1,25 +1,11 @@
 -- Who comes to be supplied in a cycle: those that own an output channel to which a credit comes.
 use Rattle.std.proofs.Common.{◌≡◌, ◌⊎◌, ℕ, ◌+◌, ◌*◌, ◌^◌, ◌<◌, ◌≤◌, Bool, true, false, List, arith, ap, ap₂, sym, ◌∙◌, refl, inl, inr, bit_or}
 use Rattle.std.specs.Prelude.{◌&&◌, ◌||◌, not, nat_lt, if◌then◌else◌}
-use Rattle.std.proofs.lemmas.Bool.{and_parts, cases_lt, le-ltb, lt-ltb, true≢false}
-use Rattle.std.proofs.Math.Pow.{pow_mono}
-use Rattle.noc_packet.specs.Set.{has_bit}
-use Rattle.noc_packet.proofs.SetLemmas.{either_members}
-use Rattle.noc_sets.specs.Column.{RouterMarks}
 use Rattle.noc_sets.specs.Passes.{AreOwners}
-use Rattle.noc_sets.specs.Planes.{any_from}
-use Rattle.noc_sets.specs.Sets.{less}
-use Rattle.noc_sets.proofs.MemberLemmas.{less_members}
 use Rattle.noc_sets.proofs.PlaneLemmas.{any-members, filled-members}
-use Rattle.noc_columns.specs.Allotted.{ShowsOwned}
-use Rattle.noc_columns.specs.Planes.{list_of}
 use Rattle.noc_columns.specs.Supply.{is_fed}
-use Rattle.noc_columns.specs.Words.{set_below}
-use Rattle.noc_columns.proofs.RouterLemmas.{below-fits}
-use Rattle.noc_columns.proofs.SetLemmas.{below-members}
-use Rattle.noc_cycles.specs.Held.{Held}
+use Rattle.noc_cycles.proofs.Common.{and_parts, cases_lt, le-ltb, lt-ltb, true≢false, pow_mono, has_bit, either_members, RouterMarks, any_from, less, less_members, ShowsOwned, list_of, set_below, below-fits, below-members, Held, Pattern}
 use Rattle.noc_cycles.specs.May.{owned_by, with_credit}
-use Rattle.noc_cycles.specs.declared.pattern.Pattern.{Pattern}
 
 -- the channels with a credit, or to which one comes
 pub any-or : (set : ℕ) (planes : List ℕ) (k : ℕ) → has_bit (any_from set planes) k ≡ (has_bit set k || has_bit (any_from 0 planes) k)

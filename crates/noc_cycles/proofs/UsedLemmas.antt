@@ -1,17 +1,10 @@
 -- Which words have a router, and of which channel each is.
 use Rattle.std.proofs.Common.{◌≡◌, ◌≢◌, ◌⊎◌, ℕ, ◌+◌, ◌-◌, ◌*◌, ◌/◌, ◌%◌, ◌<◌, ◌≤◌, Bool, true, false, List, arith, ap, ap₂, sym, ◌∙◌, refl, inl, inr, bit_or, mul_comm, mul-le-mul}
 use Rattle.std.specs.Prelude.{◌&&◌, ◌||◌, nat_eq, nat_lt, not}
-use Rattle.std.proofs.lemmas.Bool.{cases_eq, cases_lt, eq-eqb, eqb-true, le-ltb, lt-ltb, ne_eqb}
-use Rattle.noc_packet.specs.Set.{has_bit}
-use Rattle.noc_packet.proofs.SetLemmas.{either_members, has_bit-zero}
-use Rattle.noc_columns.specs.Picks.{channels_of}
-use Rattle.noc_sets.specs.Unions.{some_below}
-use Rattle.noc_columns.specs.Words.{set_of, word}
 use Rattle.noc_columns.proofs.ByRouterLemmas.{local-word}
-use Rattle.noc_columns.proofs.ChannelLemmas.{channels-apart, port-below}
+use Rattle.noc_columns.proofs.ChannelLemmas.{channels-apart}
 use Rattle.noc_columns.proofs.PassLemmas.{some-same}
-use Rattle.noc_columns.proofs.PortLemmas.{link-index}
-use Rattle.noc_cycles.specs.declared.pattern.Pattern.{Pattern}
+use Rattle.noc_cycles.proofs.Common.{cases_eq, cases_lt, eq-eqb, eqb-true, le-ltb, lt-ltb, ne_eqb, has_bit, either_members, has_bit-zero, channels_of, some_below, set_of, word, port-below, link-index, Pattern}
 use Rattle.noc_cycles.proofs.PartLemmas.{link-index-below}
 use Rattle.noc_cycles.proofs.SomeLemmas.{link-place, some-words}
 

@@ -1,7 +1,6 @@
 use Rattle.std.proofs.Common.{◌≡◌, ◌<◌, ℕ, length}
 use Rattle.std.specs.Prelude.{slice_index}
-use Rattle.noc_topo.specs.Shape.{neighbour}
-use Rattle.noc_cycles.specs.Around.{number_or_nowhere}
+use Rattle.noc_cycles.proofs.Common.{neighbour, number_or_nowhere}
 use Rattle.noc_cycles.proofs.around.ends_from.Given as goal
 
 abbrev pub invariant-loop-port : goal.invariant-loop-port

@@ -1,5 +1,5 @@
 use Rattle.std.proofs.Common.{◌≡◌, ◌∙◌, ap, arith, length}
-use Rattle.noc_topo.specs.Shape.{local_port}
+use Rattle.noc_cycles.proofs.Common.{local_port}
 use Rattle.noc_cycles.proofs.AroundLemmas.{far-next, one-more}
 use Rattle.noc_cycles.proofs.around.far_by_port.Goals as goal
 

@@ -1,6 +1,6 @@
 use Rattle.std.proofs.Common.{◌≡◌, ◌<◌, ℕ, length}
 use Rattle.noc_columns.specs.Places.{AreFar}
-use Rattle.noc_cycles.specs.Around.{far_by}
+use Rattle.noc_cycles.proofs.Common.{far_by}
 use Rattle.noc_cycles.proofs.around.far_by_port.Given as goal
 
 abbrev pub invariant-loop-port : goal.invariant-loop-port

@@ -1,6 +1,6 @@
 use Rattle.std.proofs.Common.{◌≡◌, ◌<◌, ◌+◌, ◌*◌, ℕ, length}
-use Rattle.noc_topo.specs.Shape.{local_port, neighbour, nodes}
-use Rattle.noc_cycles.specs.Around.{end_by, number_or_nowhere}
+use Rattle.noc_cycles.proofs.Common.{local_port, neighbour, nodes, number_or_nowhere}
+use Rattle.noc_cycles.specs.Around.{end_by}
 use Rattle.noc_cycles.proofs.around.write_ends.Given as goal
 
 abbrev pub invariant-loop-r : goal.invariant-loop-r

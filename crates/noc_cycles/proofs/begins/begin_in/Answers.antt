@@ -1,12 +1,8 @@
 use Rattle.std.proofs.Common.{◌≡◌, ℕ, ◌<◌, ◌∙◌, sym, arith, slice_index, length}
 use Rattle.std.specs.Prelude.{nat_eq, if◌then◌else◌}
-use Rattle.std.proofs.lemmas.List.{length-set}
-use Rattle.noc_packet.specs.Set.{has_bit}
-use Rattle.noc_sets.specs.Source.{start_in}
-use Rattle.noc_columns.specs.Heads.{packet_in}
-use Rattle.noc_columns.specs.Sources.{starts_by}
 use Rattle.noc_columns.proofs.SourceLemmas.{start-read}
 use Rattle.noc_columns.proofs.WalkLemmas.{part-next, walk-all, walk-fresh, walk-start, walk-step}
+use Rattle.noc_cycles.proofs.Common.{length-set, has_bit, start_in, packet_in, starts_by}
 use Rattle.noc_cycles.proofs.BeginLemmas.{both-tests, row-here, row-other}
 use Rattle.noc_cycles.proofs.begins.begin_in.Goals as goal
 

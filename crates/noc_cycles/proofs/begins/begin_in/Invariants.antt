@@ -1,9 +1,6 @@
 use Rattle.std.proofs.Common.{◌≡◌, ℕ, ◌<◌, true, length, slice_index}
 use Rattle.std.specs.Prelude.{◌&&◌, not, nat_eq, if◌then◌else◌}
-use Rattle.noc_packet.specs.Set.{has_bit}
-use Rattle.noc_sets.specs.Source.{start_in}
-use Rattle.noc_columns.specs.Heads.{packet_in}
-use Rattle.noc_columns.specs.Sources.{starts_by}
+use Rattle.noc_cycles.proofs.Common.{has_bit, start_in, packet_in, starts_by}
 use Rattle.noc_cycles.proofs.begins.begin_in.Given as goal
 
 abbrev pub invariant-loop-rest : goal.invariant-loop-rest

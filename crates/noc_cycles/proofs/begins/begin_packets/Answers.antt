@@ -1,14 +1,7 @@
 use Rattle.std.proofs.Common.{◌≡◌, ℕ, ◌+◌, ◌∙◌, Bool, ap, sym, arith, slice_index}
 use Rattle.std.specs.Prelude.{◌&&◌, nat_eq, if◌then◌else◌}
-use Rattle.noc_packet.specs.Set.{has_bit}
-use Rattle.noc_sets.specs.Sets.{up_by}
-use Rattle.noc_sets.specs.Source.{start_in}
-use Rattle.noc_columns.specs.Heads.{packet_in}
-use Rattle.noc_columns.specs.Picks.{port_at}
-use Rattle.noc_columns.specs.Sources.{starts_by}
-use Rattle.noc_columns.specs.Words.{set_below, word}
 use Rattle.noc_columns.proofs.InjectionLemmas.{side-index}
-use Rattle.noc_columns.proofs.SupplyLemmas.{member-is}
+use Rattle.noc_cycles.proofs.Common.{has_bit, up_by, start_in, packet_in, port_at, starts_by, set_below, word, member-is}
 use Rattle.noc_cycles.proofs.BeginLemmas.{begun-next, none-up, up-next}
 use Rattle.noc_cycles.proofs.begins.begin_packets.Goals as goal
 

@@ -1,12 +1,6 @@
 use Rattle.std.proofs.Common.{◌≡◌, ℕ, ◌<◌, slice_index}
 use Rattle.std.specs.Prelude.{if◌then◌else◌}
-use Rattle.noc_packet.specs.Set.{has_bit}
-use Rattle.noc_sets.specs.Sets.{up_by}
-use Rattle.noc_sets.specs.Source.{start_in}
-use Rattle.noc_columns.specs.Heads.{packet_in}
-use Rattle.noc_columns.specs.Picks.{port_at}
-use Rattle.noc_columns.specs.Sources.{starts_by}
-use Rattle.noc_columns.specs.Words.{set_below, word}
+use Rattle.noc_cycles.proofs.Common.{has_bit, up_by, start_in, packet_in, port_at, starts_by, set_below, word}
 use Rattle.noc_cycles.proofs.begins.begin_packets.Given as goal
 
 abbrev pub invariant-loop-v : goal.invariant-loop-v

@@ -1,9 +1,6 @@
 use Rattle.std.proofs.Common.{◌≡◌, ℕ, ◌+◌, ◌∙◌, ap, arith, refl}
-use Rattle.noc_packet.specs.Set.{has_bit}
-use Rattle.noc_packet.proofs.SetLemmas.{has_bit-zero}
-use Rattle.noc_sets.specs.Unions.{some_below}
-use Rattle.noc_columns.specs.Words.{word}
 use Rattle.noc_columns.proofs.PassLemmas.{union-next}
+use Rattle.noc_cycles.proofs.Common.{has_bit, has_bit-zero, some_below, word}
 use Rattle.noc_cycles.proofs.begins.some_in.Goals as goal
 
 pub loop-i-init : goal.loop-i-init

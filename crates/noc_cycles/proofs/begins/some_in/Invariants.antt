@@ -1,7 +1,5 @@
 use Rattle.std.proofs.Common.{◌≡◌, ◌+◌, ℕ}
-use Rattle.noc_packet.specs.Set.{has_bit}
-use Rattle.noc_sets.specs.Unions.{some_below}
-use Rattle.noc_columns.specs.Words.{word}
+use Rattle.noc_cycles.proofs.Common.{has_bit, some_below, word}
 use Rattle.noc_cycles.proofs.begins.some_in.Given as goal
 
 abbrev pub invariant-loop-i : goal.invariant-loop-i

@@ -1,6 +1,5 @@
 use Rattle.std.proofs.Common.{◌*◌}
-use Rattle.noc_columns.specs.Picks.{channels_of, links_of}
-use Rattle.noc_columns.proofs.PortLemmas.{member-below}
+use Rattle.noc_cycles.proofs.Common.{channels_of, links_of, member-below}
 use Rattle.noc_cycles.proofs.ConcludingLemmas.{all-within, held-changed, links-copied, links-within, none-there}
 use Rattle.noc_cycles.proofs.concluding.conclude.Goals as goal
 

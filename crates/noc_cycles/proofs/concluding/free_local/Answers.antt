@@ -1,7 +1,6 @@
 use Rattle.std.proofs.Common.{◌≡◌, ◌+◌, ◌*◌, arith, slice_index}
-use Rattle.noc_columns.specs.Picks.{channels_of}
 use Rattle.noc_columns.specs.Supply.{digits_by, number_in}
-use Rattle.noc_columns.specs.Words.{set_of}
+use Rattle.noc_cycles.proofs.Common.{channels_of, set_of}
 use Rattle.noc_cycles.proofs.ConcludingLemmas.{none-back}
 use Rattle.noc_cycles.proofs.concluding.free_local.Goals as goal
 

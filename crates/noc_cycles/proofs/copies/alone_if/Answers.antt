@@ -1,8 +1,8 @@
 use Rattle.std.proofs.Common.{◌≡◌, ◌∙◌, Bool, true, false, ap, refl, sym}
 use Rattle.std.specs.Prelude.{◌&&◌, nat_eq}
-use Rattle.noc_packet.specs.Set.{has_bit}
 use Rattle.noc_sets.proofs.MemberLemmas.{power-members}
 use Rattle.noc_columns.proofs.PlaceLemmas.{one-router}
+use Rattle.noc_cycles.proofs.Common.{has_bit}
 use Rattle.noc_cycles.proofs.copies.alone_if.Goals as goal
 
 and-true : (b : Bool) → b ≡ (b && true)

@@ -1,5 +1,5 @@
-use Rattle.noc_columns.specs.Words.{word}
 use Rattle.noc_columns.proofs.PassLemmas.{IsPassed}
+use Rattle.noc_cycles.proofs.Common.{word}
 use Rattle.noc_cycles.proofs.copies.clear.Given as goal
 
 abbrev pub invariant-loop-i : goal.invariant-loop-i

@@ -1,8 +1,6 @@
 use Rattle.std.proofs.Common.{◌<◌, ◌∙◌, ap, arith, sym}
 use Rattle.std.specs.Prelude.{◌&&◌, nat_eq, not}
-use Rattle.std.proofs.lemmas.Bool.{le-ltb, lt-ltb}
-use Rattle.noc_packet.proofs.SetLemmas.{has_bit-zero}
-use Rattle.noc_columns.specs.Words.{word}
+use Rattle.noc_cycles.proofs.Common.{le-ltb, lt-ltb, has_bit-zero, word}
 use Rattle.noc_cycles.proofs.UsedLemmas.{used-next}
 use Rattle.noc_cycles.proofs.copies.used_words.Goals as goal
 

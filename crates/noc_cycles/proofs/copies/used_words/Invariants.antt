@@ -1,7 +1,6 @@
 use Rattle.std.proofs.Common.{◌≡◌, ℕ}
 use Rattle.std.specs.Prelude.{◌&&◌, nat_eq, nat_lt, not}
-use Rattle.noc_packet.specs.Set.{has_bit}
-use Rattle.noc_columns.specs.Words.{word}
+use Rattle.noc_cycles.proofs.Common.{has_bit, word}
 use Rattle.noc_cycles.proofs.copies.used_words.Given as goal
 
 abbrev pub invariant-loop-i : goal.invariant-loop-i

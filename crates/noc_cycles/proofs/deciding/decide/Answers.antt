@@ -1,15 +1,9 @@
 use Rattle.std.proofs.Common.{ℕ, ◌+◌, ◌^◌, ◌<◌, ◌∙◌, ap, arith, sym, subst, List, length}
-use Rattle.std.proofs.lemmas.Bool.{true≢false}
-use Rattle.noc_topo.specs.Shape.{nodes}
-use Rattle.noc_packet.specs.Set.{has_bit}
-use Rattle.noc_packet.proofs.SetLemmas.{has_bit-zero}
 use Rattle.noc_columns.specs.Channels.{decided_by, standing_by}
-use Rattle.noc_columns.specs.Picks.{channels_of}
 use Rattle.noc_columns.specs.Routing.{sets_by}
-use Rattle.noc_columns.specs.Words.{set_of, word}
 use Rattle.noc_columns.specs.declared.channels.Decided.{Decided}
+use Rattle.noc_cycles.proofs.Common.{true≢false, nodes, has_bit, has_bit-zero, channels_of, set_of, word, held_at, links_at}
 use Rattle.noc_cycles.specs.Deciding.{HasDecidedHeld}
-use Rattle.noc_cycles.specs.Held.{held_at, links_at}
 use Rattle.noc_cycles.proofs.ConcludingLemmas.{all-within, none-within}
 use Rattle.noc_cycles.proofs.DecidingLemmas.{decided-then}
 use Rattle.noc_cycles.proofs.deciding.decide.Goals as goal

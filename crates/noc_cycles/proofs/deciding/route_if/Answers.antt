@@ -1,9 +1,5 @@
 use Rattle.std.proofs.Common.{◌≡◌, ℕ, ◌∙◌, ap, arith, bit_or, refl, slice_index, sym, true, true≢false}
-use Rattle.noc_packet.specs.Set.{has_bit}
-use Rattle.noc_packet.proofs.SetLemmas.{has_bit-zero}
-use Rattle.noc_sets.proofs.MemberLemmas.{or-zero}
-use Rattle.noc_columns.specs.Picks.{channels_of}
-use Rattle.noc_columns.specs.Words.{set_of}
+use Rattle.noc_cycles.proofs.Common.{has_bit, has_bit-zero, or-zero, channels_of, set_of}
 use Rattle.noc_cycles.proofs.deciding.route_if.Goals as goal
 
 pub returns-else-routers-ne0-clause-routed : goal.returns-else-routers-ne0-clause-routed

@@ -1,9 +1,5 @@
 use Rattle.std.proofs.Common.{◌≡◌, ◌+◌, ◌*◌, ◌∙◌, ap, arith, sym, slice_index}
-use Rattle.noc_packet.specs.Set.{has_bit}
-use Rattle.noc_columns.specs.Heads.{packet_in}
-use Rattle.noc_columns.specs.Picks.{channels_of}
-use Rattle.noc_columns.specs.Words.{word}
-use Rattle.noc_columns.proofs.SupplyLemmas.{member-is}
+use Rattle.noc_cycles.proofs.Common.{has_bit, packet_in, channels_of, word, member-is}
 use Rattle.noc_cycles.proofs.ArrivalLemmas.{arrived-all, below-next}
 use Rattle.noc_cycles.proofs.deliveries.arrive_all.Goals as goal
 

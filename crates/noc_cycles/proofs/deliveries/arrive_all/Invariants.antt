@@ -1,7 +1,5 @@
 use Rattle.std.proofs.Common.{slice_index}
-use Rattle.noc_columns.specs.Heads.{packet_in}
-use Rattle.noc_columns.specs.Picks.{channels_of}
-use Rattle.noc_columns.specs.Words.{word}
+use Rattle.noc_cycles.proofs.Common.{packet_in, channels_of, word}
 use Rattle.noc_cycles.proofs.ArrivalLemmas.{HaveArrivedBelow}
 use Rattle.noc_cycles.proofs.deliveries.arrive_all.Given as goal
 

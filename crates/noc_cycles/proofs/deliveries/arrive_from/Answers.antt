@@ -1,5 +1,5 @@
 use Rattle.std.proofs.Common.{arith, slice_index}
-use Rattle.noc_columns.specs.Heads.{packet_in}
+use Rattle.noc_cycles.proofs.Common.{packet_in}
 use Rattle.noc_cycles.proofs.ArrivalLemmas.{arrivals-next}
 use Rattle.noc_cycles.proofs.deliveries.arrive_from.Goals as goal
 

@@ -1,7 +1,7 @@
 use Rattle.std.proofs.Common.{◌≡◌, ◌+◌, ℕ, Some, take}
 use Rattle.std.specs.Prelude.{slice_get}
+use Rattle.noc_cycles.proofs.Common.{Block}
 use Rattle.noc_cycles.specs.Told.{HasHeard}
-use Rattle.noc_cycles.specs.declared.block.Block.{Block}
 use Rattle.noc_cycles.proofs.hears.hear.Given as goal
 
 abbrev pub invariant-loop-one : goal.invariant-loop-one

@@ -1,10 +1,5 @@
 use Rattle.std.proofs.Common.{ℕ, ◌≡◌, ◌≢◌, ◌<◌, List, Vec, Global, ap, length, arith, subst, sym, ◌∙◌}
-use Rattle.noc_topo.specs.Shape.{local_port}
-use Rattle.noc_columns.specs.Picks.{port_at}
-use Rattle.noc_columns.specs.declared.channels.Links.{Links}
-use Rattle.noc_columns.specs.declared.neighbours.Far.{Far}
-use Rattle.noc_cycles.specs.Around.{far_by}
-use Rattle.noc_cycles.specs.Gathered.{LeadBy, left_by}
+use Rattle.noc_cycles.proofs.Common.{local_port, port_at, Links, Far, far_by, LeadBy, left_by}
 use Rattle.noc_cycles.proofs.GatherLemmas.{from-left}
 use Rattle.noc_cycles.proofs.BroughtLemmas.{ArePorts, brought-set, far-at, items_of, lead-by, nothing-set, ports-first, ports-next}
 use Rattle.noc_cycles.proofs.incoming.gather_links.Goals as goal

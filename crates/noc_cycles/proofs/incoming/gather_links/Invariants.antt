@@ -1,5 +1,4 @@
-use Rattle.noc_cycles.specs.Around.{far_by}
-use Rattle.noc_cycles.specs.Gathered.{left_by}
+use Rattle.noc_cycles.proofs.Common.{far_by, left_by}
 use Rattle.noc_cycles.proofs.BroughtLemmas.{ArePorts}
 use Rattle.noc_cycles.proofs.incoming.gather_links.Given as goal
 

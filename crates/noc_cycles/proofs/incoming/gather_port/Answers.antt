@@ -1,8 +1,5 @@
 use Rattle.std.proofs.Common.{ℕ, ◌≡◌, ◌<◌, List, ap, length, arith, subst, sym, ◌∙◌}
-use Rattle.noc_topo.specs.Shape.{opposite}
-use Rattle.noc_columns.specs.Picks.{port_at}
-use Rattle.noc_columns.specs.declared.channels.Links.{Links}
-use Rattle.noc_cycles.specs.Gathered.{left_by}
+use Rattle.noc_cycles.proofs.Common.{opposite, port_at, Links, left_by}
 use Rattle.noc_cycles.proofs.GatherLemmas.{all-joined, at-item, from-left, kind-next, port-is}
 use Rattle.noc_cycles.proofs.incoming.gather_port.Goals as goal
 

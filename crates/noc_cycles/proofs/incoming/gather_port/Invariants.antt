@@ -1,6 +1,6 @@
 use Rattle.std.proofs.Common.{ℕ, length}
+use Rattle.noc_cycles.proofs.Common.{LeadBy}
 use Rattle.noc_cycles.proofs.GatherLemmas.{HasJoined}
-use Rattle.noc_cycles.specs.Gathered.{LeadBy}
 use Rattle.noc_cycles.proofs.incoming.gather_port.Given as goal
 
 abbrev pub invariant-loop-one : goal.invariant-loop-one

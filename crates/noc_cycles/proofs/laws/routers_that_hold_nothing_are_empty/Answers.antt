@@ -1,5 +1,5 @@
 use Rattle.std.proofs.Common.{ℕ, ap}
-use Rattle.noc_columns.specs.declared.channels.Inputs.{Inputs}
+use Rattle.noc_cycles.proofs.Common.{Inputs}
 use Rattle.noc_cycles.proofs.EmptyLemmas.{holds-column, holds-marks, holds-shown}
 use Rattle.noc_cycles.proofs.laws.routers_that_hold_nothing_are_empty.Goals as goal
 

@@ -1,6 +1,6 @@
 use Rattle.std.proofs.Common.{◌≡◌, ◌≢◌, ◌+◌, ◌∙◌, ap, arith, set, slice_index, get_or-set_same, get_or-set_other}
-use Rattle.std.proofs.lemmas.List.{length-set}
 use Rattle.noc_columns.proofs.PassLemmas.{all-next}
+use Rattle.noc_cycles.proofs.Common.{length-set}
 use Rattle.noc_cycles.specs.Opened.{first_in}
 use Rattle.noc_cycles.specs.declared.first.First.{First}
 use Rattle.noc_cycles.proofs.opening.open_queues.Goals as goal

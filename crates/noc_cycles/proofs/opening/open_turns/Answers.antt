@@ -1,6 +1,7 @@
 use Rattle.std.proofs.Common.{◌≡◌, ◌≢◌, ℕ, ◌-◌, ◌^◌, ◌<◌, ◌∙◌, ap, arith, List, set, replicate, [], slice_index, slice_index_or, get_or-set_same, get_or-set_other}
-use Rattle.std.proofs.lemmas.List.{get_or-replicate, length-set}
+use Rattle.std.proofs.lemmas.List.{get_or-replicate}
 use Rattle.noc_columns.proofs.PassLemmas.{all-next}
+use Rattle.noc_cycles.proofs.Common.{length-set}
 use Rattle.noc_cycles.proofs.opening.open_turns.Goals as goal
 
 pub loop-r-preserved : goal.loop-r-preserved

@@ -1,11 +1,6 @@
 use Rattle.std.proofs.Common.{◌≡◌, ◌*◌, ◌∙◌, ap, arith, slice_index, sym}
 use Rattle.std.specs.Prelude.{if◌then◌else◌}
-use Rattle.noc_packet.specs.Set.{has_bit}
-use Rattle.noc_packet.proofs.SetLemmas.{has_bit-zero}
-use Rattle.noc_sets.specs.Sets.{up_by}
-use Rattle.noc_sets.specs.Source.{start_in}
-use Rattle.noc_columns.specs.Heads.{packet_in}
-use Rattle.noc_columns.specs.Sources.{starts_by}
+use Rattle.noc_cycles.proofs.Common.{has_bit, has_bit-zero, up_by, start_in, packet_in, starts_by}
 use Rattle.noc_cycles.proofs.ShiftLemmas.{up-zero}
 use Rattle.noc_cycles.proofs.taking.begin_if.Goals as goal
 

@@ -1,8 +1,6 @@
 use Rattle.std.proofs.Common.{[], refl, slice_index_or}
 use Rattle.noc_columns.specs.Channels.{outputs_by, returned_by}
-use Rattle.noc_columns.specs.Picks.{channels_of, links_of}
-use Rattle.noc_columns.specs.Words.{set_of, word}
-use Rattle.noc_cycles.specs.Held.{held_at}
+use Rattle.noc_cycles.proofs.Common.{channels_of, links_of, set_of, word, held_at}
 use Rattle.noc_cycles.proofs.CreditLemmas.{has-credits, none-home}
 use Rattle.noc_cycles.proofs.ConcludingLemmas.{all-within, links-within}
 use Rattle.noc_cycles.proofs.PartLemmas.{none-above}

@@ -1,5 +1,5 @@
 use Rattle.std.proofs.Common.{◌≡◌, ◌∙◌, ap, arith, bit_or, slice_index, sym}
-use Rattle.noc_sets.proofs.MemberLemmas.{or-zero}
+use Rattle.noc_cycles.proofs.Common.{or-zero}
 use Rattle.noc_cycles.proofs.taking.free_links.Goals as goal
 
 pub returns-else-routers-ne0-clause-idle : goal.returns-else-routers-ne0-clause-idle

@@ -1,19 +1,13 @@
 use Rattle.std.proofs.Common.{◌≢◌, ℕ, ◌+◌, ◌*◌, ◌<◌, ◌≤◌, ◌∙◌, ap, ap₂, arith, bit_or, inl, refl, slice_index, subst, sym}
 use Rattle.std.specs.Prelude.{if◌then◌else◌, not, nat_eq}
 use Rattle.std.proofs.lemmas.List.{length-map}
-use Rattle.noc_packet.specs.Set.{has_bit}
 use Rattle.noc_packet.proofs.SetLemmas.{has_bit-below}
-use Rattle.noc_sets.specs.Sets.{less, up_by}
 use Rattle.noc_columns.specs.Channels.{links_by}
-use Rattle.noc_columns.specs.Heads.{packet_in}
-use Rattle.noc_columns.specs.Picks.{channels_of, links_of, port_at}
-use Rattle.noc_columns.specs.Sources.{begun_if, sent_if, source_in, starts_by, start_by}
-use Rattle.noc_columns.specs.Words.{set_of}
-use Rattle.noc_columns.proofs.FlitLemmas.{blank}
+use Rattle.noc_columns.specs.Sources.{start_by}
+use Rattle.noc_cycles.proofs.Common.{has_bit, less, up_by, packet_in, channels_of, links_of, port_at, begun_if, sent_if, source_in, starts_by, set_of, blank, held_at}
 use Rattle.noc_cycles.proofs.FreshLemmas.{is-some}
 use Rattle.noc_cycles.proofs.InjectLemmas.{Injects, begun-now, comes-apart, comes-due, comes-queue, goes-left, has-injected, injects-so, none-begun, some-injected, still-due}
 use Rattle.noc_cycles.proofs.PartLemmas.{in-parts, links-kept}
-use Rattle.noc_cycles.specs.Held.{held_at}
 use Rattle.noc_cycles.proofs.taking.inject_flits.Goals as goal
 
 -- ---- once all has come

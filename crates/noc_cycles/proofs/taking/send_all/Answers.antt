@@ -1,9 +1,6 @@
 use Rattle.std.proofs.Common.{◌+◌, ◌<◌, ◌≤◌, length, ap, ap₂, subst, sym, ◌∙◌}
 use Rattle.std.specs.Prelude.{◌||◌}
-use Rattle.noc_packet.specs.Set.{has_bit}
-use Rattle.noc_packet.proofs.SetLemmas.{either_members}
-use Rattle.noc_sets.specs.Source.{Source}
-use Rattle.noc_columns.specs.Sources.{begun_if, sent_if, source_in, starts_by}
+use Rattle.noc_cycles.proofs.Common.{has_bit, either_members, Source, begun_if, sent_if, source_in, starts_by}
 use Rattle.noc_cycles.proofs.SendLemmas.{begun-last}
 use Rattle.noc_cycles.proofs.taking.send_all.Goals as goal
 

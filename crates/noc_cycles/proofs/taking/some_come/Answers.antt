@@ -1,10 +1,6 @@
 use Rattle.std.proofs.Common.{◌≡◌, ◌*◌, ℕ, ◌∙◌, ap, ap₂, arith}
 use Rattle.std.specs.Prelude.{◌||◌}
-use Rattle.noc_packet.specs.Set.{has_bit}
-use Rattle.noc_packet.proofs.SetLemmas.{has_bit-zero}
-use Rattle.noc_sets.specs.Unions.{some_below}
-use Rattle.noc_columns.specs.Picks.{links_of}
-use Rattle.noc_columns.specs.Words.{set_of, word}
+use Rattle.noc_cycles.proofs.Common.{has_bit, has_bit-zero, some_below, links_of, set_of, word}
 use Rattle.noc_cycles.proofs.SomeLemmas.{both-next, in-neither, some-links}
 use Rattle.noc_cycles.proofs.taking.some_come.Goals as goal
 

@@ -1,8 +1,6 @@
 use Rattle.std.proofs.Common.{◌≡◌, ℕ}
 use Rattle.std.specs.Prelude.{◌||◌}
-use Rattle.noc_packet.specs.Set.{has_bit}
-use Rattle.noc_sets.specs.Unions.{some_below}
-use Rattle.noc_columns.specs.Words.{word}
+use Rattle.noc_cycles.proofs.Common.{has_bit, some_below, word}
 use Rattle.noc_cycles.proofs.taking.some_come.Given as goal
 
 abbrev pub invariant-loop-i : goal.invariant-loop-i

@@ -1,13 +1,8 @@
 use Rattle.std.proofs.Common.{◌*◌, ap, bit_or, refl, subst, sym, ◌∙◌}
 use Rattle.std.specs.Prelude.{not, nat_eq}
 use Rattle.noc_columns.specs.Channels.{standing_by}
-use Rattle.noc_columns.specs.Picks.{channels_of, links_of}
-use Rattle.noc_columns.specs.Sources.{starts_by}
-use Rattle.noc_columns.specs.Words.{set_of}
-use Rattle.noc_columns.proofs.PortLemmas.{member-below}
-use Rattle.noc_cycles.specs.Held.{held_at, links_at}
+use Rattle.noc_cycles.proofs.Common.{channels_of, links_of, starts_by, set_of, member-below, held_at, links_at, Block}
 use Rattle.noc_cycles.specs.Taking.{HasInjected, MaySend}
-use Rattle.noc_cycles.specs.declared.block.Block.{Block}
 use Rattle.noc_cycles.specs.declared.block.Work.{Work}
 use Rattle.noc_cycles.proofs.ConcludingLemmas.{all-within, none-there}
 use Rattle.noc_cycles.proofs.PartLemmas.{none-above}

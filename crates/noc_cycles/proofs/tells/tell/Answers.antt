@@ -1,12 +1,7 @@
 use Rattle.std.proofs.Common.{◌≡◌, ◌≢◌, ◌+◌, ◌*◌, ◌<◌, ◌∙◌, ℕ, true, false, ap, refl, subst, sym, arith, inl, inr}
 use Rattle.std.specs.Prelude.{◌||◌, not, nat_eq}
-use Rattle.std.proofs.lemmas.Bool.{and_parts, cases_lt, eq-eqb, true≢false}
-use Rattle.noc_packet.specs.Set.{has_bit}
-use Rattle.noc_packet.proofs.SetLemmas.{has_bit-zero}
-use Rattle.noc_columns.specs.Picks.{channels_of}
-use Rattle.noc_columns.specs.Words.{word}
 use Rattle.noc_columns.proofs.LoopLemmas.{left-members}
-use Rattle.noc_cycles.specs.Told.{NotesSome}
+use Rattle.noc_cycles.proofs.Common.{and_parts, cases_lt, eq-eqb, true≢false, has_bit, has_bit-zero, channels_of, word, NotesSome}
 use Rattle.noc_cycles.proofs.ConcludingLemmas.{all-within}
 use Rattle.noc_cycles.proofs.TellLemmas.{granted-below, granted-word, notes-all, notes-none, notes-same}
 use Rattle.noc_cycles.proofs.UsedLemmas.{few-channels, index-below, never, not-false, unless}

@@ -1,8 +1,6 @@
 use Rattle.std.proofs.Common.{◌≡◌, ◌≤◌, ◌*◌, ℕ, Option, true, false, vec_len, vec_capacity}
-use Rattle.noc_packet.specs.Set.{has_bit}
-use Rattle.noc_topo.specs.Shape.{Grid}
-use Rattle.noc_columns.specs.Picks.{channels_of}
-use Rattle.noc_cycles.specs.Told.{AreTold, NotesSome}
+use Rattle.noc_cycles.proofs.Common.{has_bit, Grid, channels_of, NotesSome}
+use Rattle.noc_cycles.specs.Told.{AreTold}
 use Rattle.noc_cycles.proofs.tells.tell.Given as goal
 
 abbrev pub invariant-loop-rest : goal.invariant-loop-rest

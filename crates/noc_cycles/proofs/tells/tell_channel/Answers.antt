@@ -1,11 +1,7 @@
 use Rattle.std.proofs.Common.{◌≡◌, ◌≢◌, ◌⊎◌, true, false, ap, sym, subst, ◌∙◌, arith, inl, inr}
 use Rattle.std.specs.Prelude.{◌||◌, not, nat_eq}
-use Rattle.std.proofs.lemmas.Bool.{and_parts, cases_eq, cases_lt, eq-eqb, eqb-true, true≢false}
-use Rattle.noc_packet.specs.Set.{has_bit}
-use Rattle.noc_packet.proofs.SetLemmas.{has_bit-zero}
-use Rattle.noc_columns.specs.Picks.{channels_of}
-use Rattle.noc_columns.specs.Words.{set_of, word}
 use Rattle.noc_columns.proofs.LoopLemmas.{left-members, left-part, was-left}
+use Rattle.noc_cycles.proofs.Common.{and_parts, cases_eq, cases_lt, eq-eqb, eqb-true, true≢false, has_bit, has_bit-zero, channels_of, set_of, word}
 use Rattle.noc_cycles.proofs.TellLemmas.{granted-word, notes-next, notes-same}
 use Rattle.noc_cycles.proofs.UsedLemmas.{or-cases}
 use Rattle.noc_cycles.proofs.tells.tell_channel.Goals as goal

@@ -1,12 +1,7 @@
 use Rattle.std.proofs.Common.{◌≡◌, ℕ, ◌<◌, ◌≤◌, ◌*◌, ◌+◌, ◌%◌, ap, sym, subst, ◌∙◌, arith}
-use Rattle.noc_topo.specs.Shape.{local_port, neighbour, opposite}
-use Rattle.noc_columns.specs.Heads.{packet_in}
-use Rattle.noc_columns.specs.Picks.{channels_of}
 use Rattle.noc_columns.specs.Supply.{digits_by, number_in}
-use Rattle.noc_columns.specs.Words.{word}
-use Rattle.noc_columns.proofs.PickLemmas.{apart}
 use Rattle.noc_columns.proofs.SupplyLemmas.{number-is}
-use Rattle.noc_cycles.specs.Around.{number_or_nowhere}
+use Rattle.noc_cycles.proofs.Common.{local_port, neighbour, opposite, packet_in, channels_of, word, apart, number_or_nowhere}
 use Rattle.noc_cycles.specs.Told.{port_in, vc_in}
 use Rattle.noc_cycles.proofs.BroughtLemmas.{opposite-below}
 use Rattle.noc_cycles.proofs.TellLemmas.{none-local, none-over, noted-over}

@@ -1,7 +1,6 @@
 use Rattle.std.proofs.Common.{◌≡◌, ◌∙◌, true, sym, arith, inl, inr}
 use Rattle.std.specs.Prelude.{◌||◌, nat_eq}
-use Rattle.std.proofs.lemmas.Bool.{eq-eqb, eqb-true}
-use Rattle.noc_columns.specs.Picks.{channels_of}
+use Rattle.noc_cycles.proofs.Common.{eq-eqb, eqb-true, channels_of}
 use Rattle.noc_cycles.proofs.TellLemmas.{granted-below, notes-same}
 use Rattle.noc_cycles.proofs.UsedLemmas.{index-below, or-cases, or-left, or-right, same-channel}
 use Rattle.noc_cycles.proofs.tells.tell_word.Goals as goal

@@ -1,6 +1,6 @@
 use Rattle.std.proofs.Common.{◌+◌, ◌*◌, ◌-◌, ◌^◌, refl, replicate}
+use Rattle.noc_cycles.proofs.Common.{Block}
 use Rattle.noc_cycles.specs.Opened.{first_in}
-use Rattle.noc_cycles.specs.declared.block.Block.{Block}
 use Rattle.noc_cycles.proofs.OpeningLemmas.{holds-nothing}
 use Rattle.noc_cycles.proofs.block.Block.open.Goals as goal
 

@@ -1,6 +1,5 @@
 use Rattle.std.proofs.Common.{◌≡◌, ℕ, ◌+◌, ◌*◌, ◌/◌, ◌%◌, ◌<◌, ap₂, arith, subst, sym}
-use Rattle.noc_columns.specs.Picks.{channels_of}
-use Rattle.noc_cycles.specs.declared.pattern.Pattern.{Pattern}
+use Rattle.noc_cycles.proofs.Common.{channels_of, Pattern}
 use Rattle.noc_cycles.proofs.UsedLemmas.{link-at, local-at}
 use Rattle.noc_cycles.proofs.pattern.Pattern.channel_at.Goals as goal
 

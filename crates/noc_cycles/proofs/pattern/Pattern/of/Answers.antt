@@ -1,6 +1,6 @@
 use Rattle.std.proofs.Common.{◌+◌, ◌-◌, ◌∙◌, ap, arith}
 use Rattle.std.proofs.lemmas.Nat.{mul-le}
-use Rattle.noc_columns.specs.declared.ports.RouterPorts.{RouterPorts}
+use Rattle.noc_cycles.proofs.Common.{RouterPorts}
 use Rattle.noc_cycles.proofs.LayoutLemmas.{places-are}
 use Rattle.noc_cycles.proofs.pattern.Pattern.of.Goals as goal
 
