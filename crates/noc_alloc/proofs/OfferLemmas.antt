@@ -1,5 +1,5 @@
 -- Requesters that are offered to their arbiters one after another, the least first.
-use Rattle.std.proofs.Common.{◌≡◌, ℕ, ◌+◌, ◌-◌, ◌*◌, ◌<◌, Bool, true, false, refl, ap, ◌∙◌, List, length, get_or, set, Option, Some, None, sym, arith, inl, inr, subst, get_or-set_same, get_or-set_other}
+use Rattle.std.proofs.Common.{◌≡◌, ℕ, ◌+◌, ◌*◌, ◌<◌, Bool, true, false, refl, ap, ◌∙◌, List, length, get_or, set, Option, Some, None, sym, arith, inl, inr, subst, get_or-set_same, get_or-set_other}
 use Rattle.std.specs.Prelude.{◌⊎◌, ◌||◌, nat_le, nat_lt, is_some, option_and_then, if◌then◌else◌}
 use Rattle.std.proofs.lemmas.Bool.{cases_eq, leb-true, leb-false, ltb-true, ltb-false}
 use Rattle.std.proofs.lemmas.List.{get_or_read, length-set}

@@ -1,5 +1,6 @@
 pub mod Arbiter
 pub mod Allocation
 pub mod Steps
+pub mod Switch
 pub mod Members
 pub mod Requests

@@ -5,6 +5,7 @@ ghost use Rattle.noc_topo.specs.Lists.{tabulate};
 ghost use Rattle.noc_alloc.specs.Arbiter.{RoundRobin, first_in_turn, pointers_of, arbiter_at};
 ghost use Rattle.noc_alloc.specs.Allocation.{pick_of, winner_of, winning_pick, moving_pick, arbiters_after_winners, AreWins};
 ghost use Rattle.noc_alloc.specs.Steps.{arbiters_after_winner};
+ghost use Rattle.noc_alloc.specs.Switch.{AreChoices, AreOfSwitch};
 
 use crate::arbiter::Arbiter;
 use crate::channels::offer;
@@ -26,8 +27,7 @@ pub fn allocate_switch(
     requires ready { length ready.now ≡ length inputs.now * vcs }
     requires picks { length picks.old ≡ length inputs.now }
     requires wins { length wins.old ≡ length outputs.now }
-    requires input_sizes { All (λ (t : RoundRobin). t.size ≡ vcs) inputs.now }
-    requires output_sizes { All (λ (t : RoundRobin). t.size ≡ length inputs.now) outputs.now }
+    requires arbiters { AreOfSwitch vcs inputs.now outputs.now }
     ensures picks { picks.new
         ≡ tabulate (length inputs.now) (pick_of ready.now vcs (pointers_of inputs.now)) }
     ensures wins { wins.new ≡ tabulate (length outputs.now)
@@ -73,11 +73,7 @@ pub fn advance_switch(
 )
     requires picks { length picks.now ≡ length inputs.old }
     requires wins { length wins.now ≡ length outputs.old }
-    requires vcs { (k : ℕ) → k < length inputs.old
-        → IfSome (slice_index_or picks.now k None) (λ v. v < (arbiter_at inputs.old k).size) }
-    requires ports { (k : ℕ) → k < length outputs.old
-        → IfSome (slice_index_or wins.now k None) (λ q. q < (arbiter_at outputs.old k).size) }
-    requires winners { All (λ win. IfSome win (λ q. q < length inputs.old)) wins.now }
+    requires choices { AreChoices picks.now wins.now inputs.old outputs.old }
     ensures inputs { inputs.new
         ≡ arbiters_after_winners (winning_pick picks.now wins.now) inputs.old }
     ensures by_requests { (ready : List (Option ℕ)) (vcs ports : ℕ) (pointers : List ℕ)

@@ -3,6 +3,7 @@ use Rattle.std.specs.Prelude.{◌≡◌, ℕ, ◌^◌, ◌<◌, List, [], sum, l
 use Rattle.noc_view.specs.Found.{finding_at}
 use Rattle.noc_view.specs.View.{PlanContents}
 use Rattle.noc_view.specs.declared.finding.Finding.{Finding}
+use Rattle.noc_view.specs.declared.verdict.TheConstants.{VERDICTS}
 use Rattle.noc_view.specs.declared.verdict.Verdict.{Verdict}
 use Rattle.noc_router.specs.declared.channels.Channels.{Channels}
 
@@ -14,12 +15,12 @@ pub record TallyContents : Type 0 where
 
 -- nothing is counted yet
 abbrev pub empty_tally : ℕ → TallyContents
-empty_tally size = record { counts = replicate size (replicate 10 0); findings = [] }
+empty_tally size = record { counts = replicate size (replicate VERDICTS 0); findings = [] }
 
 -- so many cycles are counted of each channel, and there is a finding for each
 pub record IsTally (cycles : ℕ) (counts : List (List ℕ)) (findings : List Finding) : Type 0 where
   pub fits : cycles < 2 ^ 64
-  pub ten : (i : ℕ) → i < length counts → length (slice_index_or counts i []) ≡ 10
+  pub ten : (i : ℕ) → i < length counts → length (slice_index_or counts i []) ≡ VERDICTS
   pub sums : (i : ℕ) → i < length counts → sum (slice_index_or counts i []) ≡ cycles
   pub found : length findings ≡ length counts
 

@@ -15,8 +15,7 @@ ghost use Rattle.noc_router.specs.Settled.{finding_by};
 use crate::plan::Plan;
 use noc_packet::{ChannelSet, Flit, Memory};
 use noc_ring::Bank;
-use noc_route::Relation;
-use noc_vc::{InputChannel, InputState, OutputChannel, OutputState};
+use noc_vc::{InputChannel, InputState, Landing, OutputChannel, OutputState};
 use noc_view::Finding;
 use std::alloc::Global;
 
@@ -88,28 +87,21 @@ impl Channels {
         self.outputs[index].credit() != Some(0)
     }
 
-    // A flit comes to an input channel, which is virtual channel `vc` of an input port of this
-    // router. False where it does not fit, and then nothing has changed.
-    pub(crate) fn land(
-        &mut self,
-        index: usize,
-        relation: &Relation,
-        router: usize,
-        port: usize,
-        vc: usize,
-        flit: &Flit,
-    ) -> bool
+    // A flit comes to the input channel with this index, which `landing` names. False where it does
+    // not fit, and then nothing has changed.
+    pub(crate) fn land(&mut self, index: usize, landing: &Landing<'_>, flit: &Flit) -> bool
         requires exists { index < self.old.size }
-        requires router { router < nodes_of relation.now.grid }
-        requires port { port < ports_of relation.now.grid }
-        requires vc { vc < relation.now.vcs }
-        ensures fits { result ≡ fits relation.now router port vc self.old.bank.capacity
-            (buffer_at self.old.bank index) (nth_input self.old.inputs.items index) flit.now }
+        requires router { landing.now.router < nodes_of landing.now.relation.now.grid }
+        requires port { landing.now.port < ports_of landing.now.relation.now.grid }
+        requires vc { landing.now.vc < landing.now.relation.now.vcs }
+        ensures fits { result ≡ fits landing.now.relation.now landing.now.router landing.now.port
+            landing.now.vc self.old.bank.capacity (buffer_at self.old.bank index)
+            (nth_input self.old.inputs.items index) flit.now }
         ensures states { states_in self.new ≡ (if result
             then states_after_land index flit.now (states_in self.old) else states_in self.old) }
     {
         self.inputs[index]
-            .land(&mut self.bank, index, relation, router, port, vc, *flit)
+            .land(&mut self.bank, index, landing, *flit)
             .is_ok()
     }
 

@@ -7,6 +7,7 @@ ghost use Rattle.noc_view.specs.View.{IsRelationOf, with_flit, with_credit, view
 use crate::router::Router;
 use noc_packet::{Beat, Flit};
 use noc_route::Relation;
+use noc_vc::Landing;
 
 impl Router {
     /// Takes the beats that came, one for each link port, from port 0 on.
@@ -43,11 +44,15 @@ impl Router {
         requires port { port < local_port self.old.site.grid }
         ensures { self.new ≡ with_flit relation.now port (Some (vc, flit.now)) self.old }
     {
+        let landing = Landing {
+            relation,
+            router: self.node,
+            port,
+            vc,
+        };
         if vc < self.vcs
             && self.neighbour(port).is_some()
-            && self
-                .channels
-                .land(port * self.vcs + vc, relation, self.node, port, vc, flit)
+            && self.channels.land(port * self.vcs + vc, &landing, flit)
         {
             self.had_event = true;
         } else {

@@ -1,6 +1,6 @@
 //! What a router has counted and found.
 
-ghost use Rattle.std.specs.Prelude.{◌≡◌, ℕ, ◌-◌, ◌^◌, ◌<◌, All, IfOk, [], length, slice_index_or, sum};
+ghost use Rattle.std.specs.Prelude.{◌≡◌, ℕ, ◌<◌, All, IfOk, [], length, slice_index_or, sum};
 ghost use Rattle.noc_topo.specs.Lists.{map_indexed, tabulate};
 ghost use Rattle.noc_router.specs.Settled.{finding_by, planned_verdict};
 ghost use Rattle.noc_router.specs.Tally.{HaveVerdicts, IsPlanOf, empty_tally};
@@ -104,7 +104,7 @@ fn find_all(findings: &mut [Finding], channels: &Channels, vcs: usize, plan: &Pl
 // One more cycle of each channel, with the verdict that was found.
 fn count_all(counts: &mut [[u64; VERDICTS]], findings: &[Finding])
     requires findings { length findings.now ≡ length counts.old }
-    requires room { All (λ one. sum one < 2 ^ 64 - 1) counts.old }
+    requires room { All (λ one. sum one < u64.MAX) counts.old }
     ensures { (verdict : ℕ → Verdict) → HaveVerdicts verdict findings.now
         → counts.new ≡ map_indexed (λ i one. counts_after (verdict i) one) counts.old }
 {
@@ -115,7 +115,7 @@ fn count_all(counts: &mut [[u64; VERDICTS]], findings: &[Finding])
 
 // A channel has one more cycle with this verdict.
 fn raise(counts: &mut [u64; VERDICTS], verdict: Verdict)
-    requires { sum counts.old < 2 ^ 64 - 1 }
+    requires { sum counts.old < u64.MAX }
     ensures { counts.new ≡ counts_after verdict counts.old }
 {
     counts[verdict as usize] += 1;

@@ -7,7 +7,7 @@ use noc_packet::{ChannelSet, Flit};
 use noc_ring::Bank;
 use noc_route::{Relation, Rule};
 use noc_topo::{Kind, Shape};
-use noc_vc::{InputChannel, InputState, OutputChannel, OutputState};
+use noc_vc::{InputChannel, InputState, Landing, OutputChannel, OutputState};
 use std::alloc::Global;
 use std::test::Fail;
 
@@ -73,9 +73,13 @@ fn land(channel: &mut InputChannel, bank: &mut Bank, relation: &Relation, index:
     requires vcs { relation.now.vcs ≡ 1 }
     ensures { length bank.new.rings ≡ length bank.old.rings }
 {
-    channel
-        .land(bank, 0, relation, 1, 1, 0, flit(index))
-        .is_ok()
+    let landing = Landing {
+        relation,
+        router: 1,
+        port: 1,
+        vc: 0,
+    };
+    channel.land(bank, 0, &landing, flit(index)).is_ok()
 }
 
 // Routes the packet of a channel to output channel 2 alone, if it is idle and has one.

@@ -53,19 +53,36 @@ impl Model for InputChannel {
         { state = input.phase; packet = input.packet; awaited = input.awaited } };
 }
 
-// Whether a flit is a head that may begin on this channel of the router.
-fn may_begin(relation: &Relation, router: usize, port: usize, vc: usize, flit: &Flit) -> bool
-    requires router { router < nodes relation.now.grid }
-    requires port { port < ports relation.now.grid }
-    requires vc { vc < relation.now.vcs }
-    ensures { result ≡ may_begin relation.now router port vc flit.now }
+/// Where a flit lands: an input channel of a router, and the relation that permits it to go on.
+#[derive(Clone, Copy)]
+pub struct Landing<'a> {
+    /// The relation of the network.
+    pub relation: &'a Relation,
+    /// The router.
+    pub router: usize,
+    /// The input port.
+    pub port: usize,
+    /// The virtual channel of that port.
+    pub vc: usize,
+}
+
+// Whether a flit is a head that may begin where it lands.
+fn may_begin(landing: &Landing<'_>, flit: &Flit) -> bool
+    requires router { landing.now.router < nodes landing.now.relation.now.grid }
+    requires port { landing.now.port < ports landing.now.relation.now.grid }
+    requires vc { landing.now.vc < landing.now.relation.now.vcs }
+    ensures { result ≡ may_begin landing.now.relation.now landing.now.router landing.now.port
+        landing.now.vc flit.now }
 {
+    let relation = landing.relation;
     let class = flit.class as usize;
     let dst = flit.dst as usize;
     flit.index == 0
         && dst < relation.shape().nodes()
         && class < relation.classes()
-        && !relation.permitted(class, router, port, vc, dst).is_empty()
+        && !relation
+            .permitted(class, landing.router, landing.port, landing.vc, dst)
+            .is_empty()
 }
 
 // The flit behind a flit in its packet; None behind the tail.
@@ -112,25 +129,16 @@ impl InputChannel {
     }
 
     // Whether the flit is the one that this channel expects next.
-    fn expects(
-        &self,
-        bank: &Bank,
-        ring: usize,
-        relation: &Relation,
-        router: usize,
-        port: usize,
-        vc: usize,
-        flit: &Flit,
-    ) -> bool
+    fn expects(&self, bank: &Bank, ring: usize, landing: &Landing<'_>, flit: &Flit) -> bool
         requires ring { ring < length bank.now.rings }
-        requires router { router < nodes relation.now.grid }
-        requires port { port < ports relation.now.grid }
-        requires vc { vc < relation.now.vcs }
-        ensures { result ≡ is_expected relation.now router port vc (buffer_at bank.now ring)
-            self.now flit.now self.now.phase }
+        requires router { landing.now.router < nodes landing.now.relation.now.grid }
+        requires port { landing.now.port < ports landing.now.relation.now.grid }
+        requires vc { landing.now.vc < landing.now.relation.now.vcs }
+        ensures { result ≡ is_expected landing.now.relation.now landing.now.router landing.now.port
+            landing.now.vc (buffer_at bank.now ring) self.now flit.now self.now.phase }
     {
         if let InputState::Idle = self.state {
-            return bank.len(ring) == 0 && may_begin(relation, router, port, vc, flit);
+            return bank.len(ring) == 0 && may_begin(landing, flit);
         }
         match &self.awaited {
             Some(awaited) => {
@@ -164,9 +172,9 @@ impl InputChannel {
         self.awaited = next_of(flit);
     }
 
-    /// A flit comes to this virtual channel of this input port of the router, whose flits are in
-    /// this ring of the bank. Where the ring is not full and the flit is the one that is expected,
-    /// it lands. Any other flit is a misfit and changes nothing.
+    /// A flit comes to this channel, which `landing` names and whose flits are in this ring of the
+    /// bank. Where the ring is not full and the flit is the one that is expected, it lands. Any
+    /// other flit is a misfit and changes nothing.
     ///
     /// An idle channel with an empty ring expects a head of any packet whose destination and class
     /// exist and for which the relation permits an output channel here. Every other channel expects
@@ -176,24 +184,21 @@ impl InputChannel {
         &mut self,
         bank: &mut Bank,
         ring: usize,
-        relation: &Relation,
-        router: usize,
-        port: usize,
-        vc: usize,
+        landing: &Landing<'_>,
         flit: Flit,
     ) -> Result<(), Misfit>
         requires ring { ring < length bank.old.rings }
-        requires router { router < nodes relation.now.grid }
-        requires port { port < ports relation.now.grid }
-        requires vc { vc < relation.now.vcs }
-        ensures fits { is_ok result ≡ fits relation.now router port vc bank.old.capacity
-            (buffer_at bank.old ring) self.old flit }
+        requires router { landing.now.router < nodes landing.now.relation.now.grid }
+        requires port { landing.now.port < ports landing.now.relation.now.grid }
+        requires vc { landing.now.vc < landing.now.relation.now.vcs }
+        ensures fits { is_ok result ≡ fits landing.now.relation.now landing.now.router landing.now.port
+            landing.now.vc bank.old.capacity (buffer_at bank.old ring) self.old flit }
         ensures channel { self.new
             ≡ (if is_ok result then input_after_land self.old flit else self.old) }
         ensures bank { bank.new
             ≡ (if is_ok result then buffers_after_push bank.old ring flit else bank.old) }
     {
-        if bank.is_full(ring) || !self.expects(bank, ring, relation, router, port, vc, &flit) {
+        if bank.is_full(ring) || !self.expects(bank, ring, landing, &flit) {
             return Err(Misfit);
         }
         bank.push(ring, flit);

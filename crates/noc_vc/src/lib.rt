@@ -5,6 +5,6 @@ mod input;
 mod misfit;
 mod output;
 
-pub use input::{InputChannel, InputState};
+pub use input::{InputChannel, InputState, Landing};
 pub use misfit::Misfit;
 pub use output::{OutputChannel, OutputState};

@@ -14,7 +14,7 @@ loop-output-preserved c =
     let l : k < length c.args.wins.now = omega arith in
     record {
       inputs = subst (AllAdvanced c.args.inputs.now c.args.picks.now c.args.wins.now (k + 1)) (sym c.advance_winner.ensures)
-          (advanced-more c.args.inputs.now c.loop-output.inputs c.args.picks.now c.args.wins.now k (get_or c.args.wins.now k None) refl l c.loop-output.auto.inputs (c.requires.winners k None l) c.loop-output.invariant.inputs);
+          (advanced-more c.args.inputs.now c.loop-output.inputs c.args.picks.now c.args.wins.now k (get_or c.args.wins.now k None) refl l c.loop-output.auto.inputs (c.requires.choices.winners k None l) c.loop-output.invariant.inputs);
       outputs = advanced_below-more c.args.outputs.now c.loop-output.outputs c.args.wins.now k c.advance.new.self (omega (arith, l, c.requires.wins, c.loop-output.auto.outputs))
           (c.advance.ensures
           ∙ ap (λ (t : RoundRobin). arbiter_after t (get_or c.args.wins.now k None))

@@ -19,25 +19,25 @@ bounds-inputs-port c = c.loop-port-test.true
 pub first_of_those_ready-pick-requires : goal.first_of_those_ready-pick-requires
 first_of_those_ready-pick-requires c =
     let t = c.index-inputs-port.result in
-    let size : (get_or c.args.inputs.now c.loop-port.port t).size ≡ c.args.vcs = c.requires.input_sizes c.loop-port.port t c.loop-port-test.true in
+    let size : (get_or c.args.inputs.now c.loop-port.port t).size ≡ c.args.vcs = c.requires.arbiters.over_vcs c.loop-port.port t c.loop-port-test.true in
     record { within = port_in_ready (length c.args.inputs.now) c.args.vcs c.loop-port.port t.size (length c.args.ready.now) c.loop-port-test.true (rw (← c.index-inputs-port.is) at size) c.requires.ready }
 
 pub overflow_add-first : goal.overflow_add-first
 overflow_add-first c =
     let t = c.index-inputs-port.result in
-    let size : (get_or c.args.inputs.now c.loop-port.port t).size ≡ c.args.vcs = c.requires.input_sizes c.loop-port.port t c.loop-port-test.true in
+    let size : (get_or c.args.inputs.now c.loop-port.port t).size ≡ c.args.vcs = c.requires.arbiters.over_vcs c.loop-port.port t c.loop-port-test.true in
     omega (arith, c.in-Some.ensures.within, port_in_ready (length c.args.inputs.now) c.args.vcs c.loop-port.port t.size (length c.args.ready.now) c.loop-port-test.true (rw (← c.index-inputs-port.is) at size) c.requires.ready)
 
 pub offset_bounds-ready-first : goal.offset_bounds-ready-first
 offset_bounds-ready-first c =
     let t = c.index-inputs-port.result in
-    let size : (get_or c.args.inputs.now c.loop-port.port t).size ≡ c.args.vcs = c.requires.input_sizes c.loop-port.port t c.loop-port-test.true in
+    let size : (get_or c.args.inputs.now c.loop-port.port t).size ≡ c.args.vcs = c.requires.arbiters.over_vcs c.loop-port.port t c.loop-port-test.true in
     omega (arith, c.in-Some.ensures.within, port_in_ready (length c.args.inputs.now) c.args.vcs c.loop-port.port t.size (length c.args.ready.now) c.loop-port-test.true (rw (← c.index-inputs-port.is) at size) c.requires.ready)
 
 pub bounds-ready-first : goal.bounds-ready-first
 bounds-ready-first c =
     let t = c.index-inputs-port.result in
-    let size : (get_or c.args.inputs.now c.loop-port.port t).size ≡ c.args.vcs = c.requires.input_sizes c.loop-port.port t c.loop-port-test.true in
+    let size : (get_or c.args.inputs.now c.loop-port.port t).size ≡ c.args.vcs = c.requires.arbiters.over_vcs c.loop-port.port t c.loop-port-test.true in
     omega (arith, c.in-Some.ensures.within, port_in_ready (length c.args.inputs.now) c.args.vcs c.loop-port.port t.size (length c.args.ready.now) c.loop-port-test.true (rw (← c.index-inputs-port.is) at size) c.requires.ready)
 
 pub offer-requires : goal.offer-requires
@@ -50,7 +50,7 @@ loop-port-preserved c =
     let t = c.index-inputs-port.result in
     let pick = c.first_of_those_ready-pick.result in
     let inside : l.port < length c.args.inputs.now = omega arith in
-    let size : (get_or c.args.inputs.now l.port t).size ≡ c.args.vcs = c.requires.input_sizes l.port t inside in
+    let size : (get_or c.args.inputs.now l.port t).size ≡ c.args.vcs = c.requires.arbiters.over_vcs l.port t inside in
     let is : pick ≡ pick_of ready c.args.vcs (pointers_of c.args.inputs.now) l.port =
     c.first_of_those_ready-pick.ensures.first ∙ pick-at ready c.args.vcs c.args.inputs.now l.port t inside c.index-inputs-port.is (rw (← c.index-inputs-port.is) at size) in
     let way : ℕ → Option ℕ = port_of_pick ready c.args.vcs (pointers_of c.args.inputs.now) in

@@ -26,9 +26,11 @@ advance_switch-requires c =
     record {
       picks = omega (arith, ap length c.picks.ensures, c.requires.picks, inputs);
       wins = omega (arith, ap length c.wins.ensures, c.requires.wins, ap length c.deref_mut-3.ensures.value, a.one_each_output, a.outputs.ok.0);
-      vcs = λ k l. below-size c.picks.result.now c.deref_mut-2.result.now a.vcs k (rw c.picks.ensures c.requires.picked) (rw c.deref_mut-2.ensures.value a.over_vcs) l;
-      ports = λ k l. below-size c.wins.result.now c.deref_mut-3.result.now a.ports k (rw c.wins.ensures c.requires.won) (rw c.deref_mut-3.ensures.value a.over_ports) l;
-      winners = rw (c.wins.ensures, inputs) (all-below c.args.plan.now.round.wins a.ports c.requires.won);
+      choices = record {
+        vcs = λ k l. below-size c.picks.result.now c.deref_mut-2.result.now a.vcs k (rw c.picks.ensures c.requires.picked) (rw c.deref_mut-2.ensures.value a.over_vcs) l;
+        ports = λ k l. below-size c.wins.result.now c.deref_mut-3.result.now a.ports k (rw c.wins.ensures c.requires.won) (rw c.deref_mut-3.ensures.value a.over_ports) l;
+        winners = rw (c.wins.ensures, inputs) (all-below c.args.plan.now.round.wins a.ports c.requires.won);
+      };
     }
 
 pub invariant_of-self-clause-over_channels : goal.invariant_of-self-clause-over_channels

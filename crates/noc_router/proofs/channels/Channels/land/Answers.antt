@@ -12,7 +12,7 @@ invariant_of-self-clause-sound c =
     AreSound-taken s.size s.bank c.land.new.bank s.inputs.items s.outputs.items c.args.index c.index_mut.result.now _ c.args.flit.now (is_ok c.land.result)
     s.sound (omega arith) (omega arith) c.requires.exists
     (read-at s.inputs.items c.args.index _ _ (omega arith) c.index_mut.ensures.value) c.land.ensures.channel c.land.ensures.bank
-    (λ e. fits-next c.args.relation.now c.args.router c.args.port c.args.vc s.bank.capacity (buffer_at s.bank c.args.index) c.index_mut.result.now c.args.flit.now (sym e ∙ c.land.ensures.fits))
+    (λ e. fits-next c.args.landing.now.relation.now c.args.landing.now.router c.args.landing.now.port c.args.landing.now.vc s.bank.capacity (buffer_at s.bank c.args.index) c.index_mut.result.now c.args.flit.now (sym e ∙ c.land.ensures.fits))
 
 pub invariant_of-self-clause-a_ring_each : goal.invariant_of-self-clause-a_ring_each
 invariant_of-self-clause-a_ring_each c =
@@ -28,7 +28,7 @@ pub returns-clause-fits : goal.returns-clause-fits
 returns-clause-fits c =
     let s = c.args.self.now in
     c.is_ok.ensures.value ∙ c.land.ensures.fits
-    ∙ ap (λ (x : Input). fits c.args.relation.now c.args.router c.args.port c.args.vc s.bank.capacity (buffer_at s.bank c.args.index) x c.args.flit.now)
+    ∙ ap (λ (x : Input). fits c.args.landing.now.relation.now c.args.landing.now.router c.args.landing.now.port c.args.landing.now.vc s.bank.capacity (buffer_at s.bank c.args.index) x c.args.flit.now)
     (read-at s.inputs.items c.args.index _ _ (omega arith) c.index_mut.ensures.value)
 
 pub returns-clause-states : goal.returns-clause-states

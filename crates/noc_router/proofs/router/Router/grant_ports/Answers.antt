@@ -24,8 +24,10 @@ allocate_switch-requires c =
       ready = ap (λ (xs : List (Option ℕ)). length xs) (c.requires.ready ∙ ready_of-stands v) ∙ length-tabulate _ _ ∙ sym (ap (λ n. n * c.self.inside.vcs) many ∙ ap (λ n. ports v.site.grid * n) vcs);
       picks = c.requires.picks ∙ sym many;
       wins = c.requires.wins ∙ sym all;
-      input_sizes = subst (λ (ts : List RoundRobin). All (λ (t : RoundRobin). t.size ≡ c.self.inside.vcs) ts) (sym inputs) (λ k d l. a.over_vcs k d l ∙ sym vcs);
-      output_sizes = subst (λ (ts : List RoundRobin). All (λ (t : RoundRobin). t.size ≡ length c.deref.result.now) ts) (sym outputs) (λ k d l. a.over_ports k d l ∙ sym many);
+      arbiters = record {
+        over_vcs = subst (λ (ts : List RoundRobin). All (λ (t : RoundRobin). t.size ≡ c.self.inside.vcs) ts) (sym inputs) (λ k d l. a.over_vcs k d l ∙ sym vcs);
+        over_inputs = subst (λ (ts : List RoundRobin). All (λ (t : RoundRobin). t.size ≡ length c.deref.result.now) ts) (sym outputs) (λ k d l. a.over_ports k d l ∙ sym many);
+      };
     }
 
 pub returns-clause-picks : goal.returns-clause-picks
