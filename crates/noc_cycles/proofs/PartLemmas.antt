@@ -61,7 +61,6 @@ module _ (ports : RouterPorts) where
 
 -- ---- where the words stand
 module _ (pattern : Pattern) where
-
   abbrev wide : ℕ
   wide = pattern.table.ports.links.width
 
