@@ -4,7 +4,7 @@ ghost use Rattle.std.specs.Prelude.{◌≡◌, ◌≢◌, ◌<◌, ◌≤◌, �
 ghost use Rattle.noc_columns.specs.Sources.{AreDue};
 
 use crate::planes::less;
-use crate::words::{ROUTERS, router_if};
+use crate::words::{ROUTERS, alone_if};
 
 /// Later than each cycle.
 pub const NEVER: u32 = 0xffff_ffff;
@@ -30,7 +30,7 @@ impl Due {
         let mut next = NEVER;
         for r in 0..ROUTERS {
             let when = self.at[r];
-            ready = ready | router_if(when <= cycle, r);
+            ready = ready | alone_if(when <= cycle, r);
             next = next.min(if_later(cycle, when));
         }
         self.ready = ready;
@@ -59,7 +59,7 @@ impl Due {
             → AreDue cycle self.new }
     {
         self.at[router] = when;
-        self.ready = less(self.ready, router_if(cycle < when, router));
+        self.ready = less(self.ready, alone_if(cycle < when, router));
         self.next = self.next.min(if_later(cycle, when));
     }
 }

@@ -8,7 +8,7 @@ ghost use Rattle.noc_columns.specs.Places.{AreFar, AreFarIn, AreNeighbours, IsNe
 ghost use Rattle.noc_columns.specs.Prelude.{has_bit};
 
 use crate::neighbours::{Far, Near, Neighbours};
-use crate::words::{ROUTERS, WORDS, router_if};
+use crate::words::{ROUTERS, WORDS, alone_if};
 use noc_packet::{MAX_CHANNELS, Memory};
 use noc_topo::{Kind, MAX_NODES, MAX_RADIX, Shape};
 use std::alloc::Global;
@@ -103,7 +103,7 @@ fn mask_of(shape: &Shape, block: usize, port: usize, round: bool, to: usize) -> 
     let mut mask = 0;
     for r in 0..ROUTERS {
         let inside = stands_in(shape, ROUTERS * block + r, port, round, to);
-        mask = mask | router_if(inside, r);
+        mask = mask | alone_if(inside, r);
     }
     mask
 }

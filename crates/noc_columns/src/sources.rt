@@ -9,7 +9,7 @@ use crate::due::Due;
 use crate::left::Left;
 use crate::sets::{but_lowest, least};
 use crate::starts::Start;
-use crate::words::{ROUTERS, router_if};
+use crate::words::{ROUTERS, alone_if};
 
 /// The sources of the routers of a block.
 #[derive(Drop)]
@@ -80,7 +80,7 @@ impl Sources {
             let router = least(rest);
             let start = starts[self.queue[router] as usize];
             self.left.put(router, start.length - 1);
-            last = last | router_if(start.length == 1, router);
+            last = last | alone_if(start.length == 1, router);
             rest = but_lowest(rest);
         }
         last

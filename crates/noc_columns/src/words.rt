@@ -66,9 +66,9 @@ pub fn with_router(routers: u64, router: usize, inside: bool) -> u64
     }
 }
 
-// 1 where a router is in a word, and else 0.
+/// 1 where a router is in a word, and else 0.
 #[inline(always)]
-pub(crate) fn bit(word: u64, router: usize) -> u64
+pub fn bit(word: u64, router: usize) -> u64
     requires { router < ROUTERS }
     ensures count { result ≡ one_if (has_bit word router) }
     ensures small { result < 2 }
@@ -76,11 +76,11 @@ pub(crate) fn bit(word: u64, router: usize) -> u64
     word >> router as u32 & 1
 }
 
-// A word of one router, or of none.
+/// A word that has one member alone, or none.
 #[inline(always)]
-pub(crate) fn router_if(inside: bool, router: usize) -> u64
-    requires { router < ROUTERS }
-    ensures { result ≡ (if inside then 2 ^ router else 0) }
+pub fn alone_if(inside: bool, member: usize) -> u64
+    requires { member < ROUTERS }
+    ensures { result ≡ (if inside then 2 ^ member else 0) }
 {
-    if inside { 1 << router as u32 } else { 0 }
+    if inside { 1 << member as u32 } else { 0 }
 }

@@ -9,9 +9,9 @@ ghost use Rattle.noc_counts.specs.Tallies.{counted_at};
 ghost use Rattle.noc_counts.specs.Told.{told_by};
 
 use crate::low::{Low, SLOTS};
-use crate::row::{GROUPS, ROW, Row, bit, row_at, some_at, waiting_in};
+use crate::row::{GROUPS, ROW, Row, row_at, some_at, waiting_in};
 use crate::tally::{Cycles, Tally};
-use noc_columns::ROUTERS;
+use noc_columns::{ROUTERS, bit};
 use noc_cycles::{Block, Work};
 
 // How often each of four channels had each verdict.

@@ -13,7 +13,7 @@ ghost use Rattle.noc_counts.specs.Told.{told_at};
 
 use crate::nine::Nine;
 use crate::verdicts::words_at;
-use noc_columns::{NUMBERS, ROUTERS, RouterPorts, Sends, WORDS, Words, least};
+use noc_columns::{NUMBERS, ROUTERS, RouterPorts, Sends, WORDS, Words, alone_if, least};
 use noc_cycles::{Block, Pattern, Work};
 use noc_view::{Finding, Verdict};
 
@@ -73,8 +73,7 @@ fn out_if(test: bool, ports: &RouterPorts, number: (usize, usize)) -> u64
     ensures { result
         ≡ (if test then 2 ^ (number.0 * ports.now.links.vcs + number.1) else 0) }
 {
-    let out = number.0 * ports.links.vcs + number.1;
-    if test { 1 << out as u32 } else { 0 }
+    alone_if(test, number.0 * ports.links.vcs + number.1)
 }
 
 // The packet of a channel with this verdict.

@@ -4,8 +4,8 @@ ghost use Rattle.std.specs.Prelude.{◌≡◌, ◌≢◌, ◌+◌, ◌*◌, ◌%
 ghost use Rattle.noc_columns.specs.Prelude.{has_bit, one_if, word};
 ghost use Rattle.noc_counts.specs.Low.{low_at, low_by, low_in, set_sum};
 
-use crate::row::{ROW, Row, bit, put};
-use noc_columns::ROUTERS;
+use crate::row::{ROW, Row, put};
+use noc_columns::{ROUTERS, bit};
 
 // How many cycles are added at once.
 pub(crate) const SLOTS: usize = 16;

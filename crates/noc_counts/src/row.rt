@@ -1,12 +1,12 @@
 //! The words of a group of four channels, verdict by verdict.
 
 ghost use Rattle.std.specs.Prelude.{◌≡◌, ◌≢◌, ◌<◌, ℕ, false, slice_index};
-ghost use Rattle.noc_columns.specs.Prelude.{has_bit, one_if, word};
+ghost use Rattle.noc_columns.specs.Prelude.{word};
 ghost use Rattle.noc_counts.specs.Rows.{row_of, waiting_in};
 ghost use Rattle.noc_counts.specs.Told.{told_by};
 
 use crate::verdicts::{some_word, words_at};
-use noc_columns::{GROUP, ROUTERS};
+use noc_columns::GROUP;
 use noc_cycles::{Block, Work};
 
 // How many groups of channels there are room for.
@@ -92,14 +92,4 @@ pub(crate) fn put(row: &mut Row, place: usize, word: u64)
     ensures others { (k : ℕ) → k ≢ place → slice_index row.new k ≡ slice_index row.old k }
 {
     row[place] = word;
-}
-
-// 1 where a router is in a word, and else 0.
-#[inline(always)]
-pub(crate) fn bit(word: u64, router: usize) -> u64
-    requires { router < ROUTERS }
-    ensures count { result ≡ one_if (has_bit word router) }
-    ensures small { result < 2 }
-{
-    word >> router as u32 & 1
 }

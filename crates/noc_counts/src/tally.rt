@@ -4,8 +4,8 @@ ghost use Rattle.std.specs.Prelude.{◌≡◌, ◌+◌, ◌*◌, ◌^◌, ◌<�
 ghost use Rattle.noc_counts.specs.Tallies.{at_level, bit_level, carry_over, counted_at, number_by, sum_of, with_four};
 ghost use Rattle.noc_columns.specs.Prelude.{has_bit, one_if, word};
 
-use crate::row::{ROW, Row, bit};
-use noc_columns::ROUTERS;
+use crate::row::{ROW, Row};
+use noc_columns::{ROUTERS, bit};
 
 // How many bits a count has above the lowest two: with them it has 32.
 pub(crate) const LEVELS: usize = 30;

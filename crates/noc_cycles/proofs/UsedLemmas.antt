@@ -1,12 +1,26 @@
 -- Which words have a router, and of which channel each is.
-use Rattle.std.proofs.Common.{◌≡◌, ◌≢◌, ◌⊎◌, ℕ, ◌+◌, ◌-◌, ◌*◌, ◌/◌, ◌%◌, ◌<◌, ◌≤◌, Bool, true, false, List, arith, ap, ap₂, sym, ◌∙◌, refl, inl, inr, bit_or, mul_comm, mul-le-mul}
-use Rattle.std.specs.Prelude.{◌&&◌, ◌||◌, nat_eq, nat_lt, not}
+use Rattle.std.proofs.Common.{◌≡◌, ◌≢◌, ◌⊎◌, ℕ, ◌+◌, ◌-◌, ◌*◌, ◌^◌, ◌/◌, ◌%◌, ◌<◌, ◌≤◌, Bool, true, false, List, arith, ap, ap₂, sym, ◌∙◌, refl, inl, inr, bit_or, mul_comm, mul-le-mul}
+use Rattle.std.specs.Prelude.{◌&&◌, ◌||◌, nat_eq, nat_lt, not, if◌then◌else◌}
+use Rattle.noc_sets.proofs.MemberLemmas.{power-members}
 use Rattle.noc_columns.proofs.ByRouterLemmas.{local-word}
 use Rattle.noc_columns.proofs.ChannelLemmas.{channels-apart}
 use Rattle.noc_columns.proofs.PassLemmas.{some-same}
 use Rattle.noc_cycles.proofs.Common.{cases_eq, cases_lt, eq-eqb, eqb-true, le-ltb, lt-ltb, ne_eqb, has_bit, either_members, has_bit-zero, channels_of, some_below, set_of, word, port-below, link-index, Pattern}
 use Rattle.noc_cycles.proofs.PartLemmas.{link-index-below}
 use Rattle.noc_cycles.proofs.SomeLemmas.{link-place, some-words}
+
+-- a member alone, or none
+pub alone-is : (k i : ℕ) (inside : Bool) → has_bit (if inside then 2 ^ i else 0) k ≡ (nat_eq k i && inside)
+alone-is k i true = power-members i k ∙ at (nat_eq k i)
+  where
+    at : (b : Bool) → b ≡ (b && true)
+    at true = refl
+    at false = refl
+alone-is k i false = has_bit-zero k ∙ at (nat_eq k i)
+  where
+    at : (b : Bool) → false ≡ (b && false)
+    at true = refl
+    at false = refl
 
 pub used-next : (used alone i : ℕ) (words : List ℕ) (k : ℕ) → has_bit used k ≡ (nat_lt k i && not (nat_eq (word k words) 0))
     → has_bit alone k ≡ (nat_eq k i && not (nat_eq (word i words) 0))

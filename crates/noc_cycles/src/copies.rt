@@ -1,10 +1,10 @@
 //! Words of channels: they become those of another set, or of none, or it is told which have a
 //! router.
 
-ghost use Rattle.std.specs.Prelude.{◌≡◌, ◌*◌, ◌<◌, ◌≤◌, ◌&&◌, ℕ, nat_eq, not};
+ghost use Rattle.std.specs.Prelude.{◌≡◌, ◌*◌, ◌<◌, ◌≤◌, ℕ, nat_eq, not};
 ghost use Rattle.noc_columns.specs.Prelude.{has_bit, word};
 
-use noc_columns::{CHANNELS, GROUP, WORDS, Words};
+use noc_columns::{CHANNELS, GROUP, WORDS, Words, alone_if};
 
 // So many groups of four words become those of another set.
 #[inline(always)]
@@ -43,13 +43,4 @@ pub(crate) fn used_words(groups: usize, words: &Words) -> u64
         used = used | alone_if(words[i] != 0, i);
     }
     used
-}
-
-// A member alone, or none.
-#[inline(always)]
-fn alone_if(inside: bool, member: usize) -> u64
-    requires { member < CHANNELS }
-    ensures { (k : ℕ) → has_bit result k ≡ (nat_eq k member && inside) }
-{
-    if inside { 1 << member as u32 } else { 0 }
 }

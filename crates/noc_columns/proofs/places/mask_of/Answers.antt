@@ -5,8 +5,8 @@ use Rattle.noc_columns.proofs.places.mask_of.Goals as goal
 
 pub loop-r-preserved : goal.loop-r-preserved
 loop-r-preserved c =
-    mask-next c.loop-r.mask c.router_if-mask.result c.loop-r.r c.stands_in-inside.result (λ k. stands_in c.args.shape.now (64 * c.args.block + k) c.args.port c.args.round c.args.to)
-    c.loop-r.invariant c.router_if-mask.ensures c.stands_in-inside.ensures
+    mask-next c.loop-r.mask c.alone_if-mask.result c.loop-r.r c.stands_in-inside.result (λ k. stands_in c.args.shape.now (64 * c.args.block + k) c.args.port c.args.round c.args.to)
+    c.loop-r.invariant c.alone_if-mask.ensures c.stands_in-inside.ensures
 
 pub returns : goal.returns
 returns c = λ r few.

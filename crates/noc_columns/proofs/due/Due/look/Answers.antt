@@ -7,8 +7,8 @@ loop-r-init c = looked-none c.args.cycle c.args.self.now.at
 
 pub loop-r-preserved : goal.loop-r-preserved
 loop-r-preserved c =
-    looked-next c.args.cycle c.loop-r.r c.args.self.now.at c.loop-r.ready c.loop-r.next c.router_if-ready.result c.if_later.result c.min-next.result c.loop-r.invariant
-    c.router_if-ready.ensures c.if_later.ensures c.min-next.ensures
+    looked-next c.args.cycle c.loop-r.r c.args.self.now.at c.loop-r.ready c.loop-r.next c.alone_if-ready.result c.if_later.result c.min-next.result c.loop-r.invariant
+    c.alone_if-ready.ensures c.if_later.ensures c.min-next.ensures
 
 pub returns-clause-due : goal.returns-clause-due
 returns-clause-due c = looked-all c.args.cycle c.loop-r.r _ (let all : c.loop-r.r ≡ 64 = omega arith in all) c.loop-r.invariant

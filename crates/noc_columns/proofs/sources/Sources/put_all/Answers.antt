@@ -40,8 +40,8 @@ loop-rest-preserved c =
       left = walk-step begins rest after t inv.part least after_is (λ k. (start_in starts (slice_index self.queue k)).length - 1) (left_in self.left) (left_in c.loop-rest.self.left) (left_in c.put.new.self) inv.left
           (c.put.ensures t ∙ ap (λ b. if b then kept.length - 1 else left_in c.loop-rest.self.left t) (eq-eqb t t refl) ∙ ap (λ (s : Start). s.length - 1) (sym here))
           (λ r other. c.put.ensures r ∙ ap (λ b. if b then kept.length - 1 else left_in c.loop-rest.self.left r) (ne_eqb r t other));
-      last = last-step begins rest after t inv.part least after_is (λ k. nat_eq (start_in starts (slice_index self.queue k)).length 1) c.loop-rest.last c.router_if-last.result inv.last
-          (c.router_if-last.ensures ∙ ap (λ (s : Start). if nat_eq s.length 1 then 2 ^ t else 0) (sym here));
+      last = last-step begins rest after t inv.part least after_is (λ k. nat_eq (start_in starts (slice_index self.queue k)).length 1) c.loop-rest.last c.alone_if-last.result inv.last
+          (c.alone_if-last.ensures ∙ ap (λ (s : Start). if nat_eq s.length 1 then 2 ^ t else 0) (sym here));
       rest = ap (λ (s : Sources). record s { left = c.put.new.self }) inv.rest;
     }
 
