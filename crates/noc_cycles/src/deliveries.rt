@@ -30,7 +30,7 @@ pub fn arrive_all(
     }
 }
 
-// .. from one channel of these routers.
+// The packets that leave these routers from one channel arrive in this cycle.
 fn arrive_from(
     channel: usize,
     routers: u64,

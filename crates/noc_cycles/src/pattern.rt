@@ -1,6 +1,6 @@
 //! What is the same for all routers of a network.
 
-ghost use Rattle.std.specs.Prelude.{◌≡◌, ◌<◌, ◌≤◌, ◌+◌, ◌*◌, ◌^◌, ◌/◌, ◌%◌, nat_lt};
+ghost use Rattle.std.specs.Prelude.{◌≡◌, ◌⊎◌, ◌<◌, ◌≤◌, ◌+◌, ◌*◌, ◌^◌, ◌/◌, ◌%◌, nat_lt};
 ghost use Rattle.noc_cycles.specs.Alike.{all_if, same_count};
 ghost use Rattle.noc_columns.specs.Prelude.{channels_of};
 ghost use Rattle.noc_columns.specs.declared.words.TheConstants.{GROUP};
@@ -66,11 +66,11 @@ impl Pattern {
     }
 }
 
-// A number divided by how many link ports there are, and what is left. (That is 2, 4 or 6. Where the
-// compiler knows it, it need not divide.)
+// A number divided by how many link ports there are, 2, 4 or 6, and what is left. (Where the
+// compiler knows the number, it need not divide.)
 #[inline(always)]
 fn divided(number: usize, width: usize) -> (usize, usize)
-    requires { 0 < width }
+    requires { (width ≡ 2) ⊎ ((width ≡ 4) ⊎ (width ≡ 6)) }
     ensures whole { result.0 ≡ number / width }
     ensures rest { result.1 ≡ number % width }
 {
@@ -78,10 +78,8 @@ fn divided(number: usize, width: usize) -> (usize, usize)
         (number / 2, number % 2)
     } else if width == 4 {
         (number / 4, number % 4)
-    } else if width == 6 {
-        (number / 6, number % 6)
     } else {
-        (number / width, number % width)
+        (number / 6, number % 6)
     }
 }
 
