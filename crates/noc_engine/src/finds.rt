@@ -41,7 +41,7 @@ pub(crate) fn find_all(
     }
 }
 
-// .. of a block one router finds.
+// What one router of a block finds is noted, from this place on.
 fn find_in(
     pattern: &Pattern,
     block: &Block,

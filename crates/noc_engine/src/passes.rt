@@ -68,7 +68,7 @@ pub(crate) fn arrive_blocks(
     }
 }
 
-// .. those of one block, if there are some.
+// The packets that leave the network from one block arrive, if there are some.
 #[inline(always)]
 fn arrive_in(
     pattern: &Pattern,
