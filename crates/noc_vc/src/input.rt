@@ -191,8 +191,9 @@ impl InputChannel {
         requires router { landing.now.router < nodes landing.now.relation.now.grid }
         requires port { landing.now.port < ports landing.now.relation.now.grid }
         requires vc { landing.now.vc < landing.now.relation.now.vcs }
-        ensures fits { is_ok result ≡ fits landing.now.relation.now landing.now.router landing.now.port
-            landing.now.vc bank.old.capacity (buffer_at bank.old ring) self.old flit }
+        ensures fits { is_ok result ≡ fits landing.now.relation.now landing.now.router
+            landing.now.port landing.now.vc bank.old.capacity (buffer_at bank.old ring)
+            self.old flit }
         ensures channel { self.new
             ≡ (if is_ok result then input_after_land self.old flit else self.old) }
         ensures bank { bank.new
