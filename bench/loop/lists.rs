@@ -1,4 +1,5 @@
-//! What stands for the allocator, the lists and the proved indices of the kit in the copy that plain.py makes.
+//! What stands for the allocator, the lists and the proved indices of the kit in the copy that
+//! plain.py makes.
 
 use std::ops::{Deref, DerefMut, Index, IndexMut};
 use std::slice::{Iter, IterMut};
