@@ -31,6 +31,8 @@ from typing import Any
 from cut_texts import cut_texts
 from fault_lines import HEADERS, status_of
 from refused_growth import refused_growths
+from worked_inputs import worked_inputs
+from worked_routes import worked_routes
 from worked_texts import worked_texts
 
 LIMIT = 67_108_864
@@ -581,7 +583,8 @@ def drains_that_are_stuck(calls: Calls) -> None:
 GROUPS = [inputs_that_cannot_be_read, inputs_at_the_limit, names, wrong_words, outputs_that_fail,
           pipe_that_closes_early, trace_cycle_by_cycle, reports_cut_off, fault_lines_in_one_write, order_of_faults,
           bytes_that_are_no_text, bounded_memory, threads_refused, threads_that_run, cases_by_workers,
-          reports_by_workers, drains_that_are_stuck, refused_growths, cut_texts, worked_texts]
+          reports_by_workers, drains_that_are_stuck, refused_growths, cut_texts, worked_texts, worked_inputs,
+          worked_routes]
 
 
 def main() -> int:

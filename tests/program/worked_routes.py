@@ -1,0 +1,92 @@
+"""What routing rules permit and which ranks they have, as traces and rank files tell it, worked out by hand from the
+rules of docs/MODEL.md."""
+from fault_lines import HEADERS
+
+from noc_tools.network import Network
+
+TRAFFIC_HEADER, TABLE_HEADER, RANKS_HEADER = (HEADERS[kind] for kind in ("traffic", "table", "ranks"))
+TRACE_HEADER = "cycle,router,port,vc,verdict,packet,out,permitted\n"
+RING, SQUARE = ("torus", (4,)), ("mesh", (3, 3))
+# A lone packet, the last cycle that is looked at, and where it is granted which of its permitted channels: the one with
+# the least index. It is granted one in the second of each three cycles.
+GRANTS = [
+    (Network("mesh", (2,), 1, 2, 1, "dor", 8), "0,1,0,1,0", 7,
+     "1,0,local,0,Granted,0,+0.0,+0.0\n4,1,-0,0,Granted,0,local.0,local.0\n"),
+    (Network(*RING, 2, 2, 1, "dateline", 8), "3,1,0,1,0", 6,
+     "1,3,local,0,Granted,0,+0.0,+0.0\n4,0,-0,0,Granted,0,+0.1,+0.1\n"),
+    (Network(*SQUARE, 1, 2, 1, "west-first", 8), "4,8,0,1,0", 2, "1,4,local,0,Granted,0,+0.0,+0.0 +1.0\n"),
+    (Network(*SQUARE, 1, 2, 1, "west-first", 8), "4,6,0,1,0", 2, "1,4,local,0,Granted,0,-0.0,-0.0\n"),
+    (Network(*SQUARE, 2, 2, 1, "adaptive", 20), "0,8,0,1,0", 19,
+     "1,0,local,0,Granted,0,+0.0,+0.0 +0.1 +1.1\n4,1,-0,0,Granted,0,+0.0,+0.0 +0.1 +1.1\n"
+     "7,2,-0,0,Granted,0,+1.0,+1.0 +1.1\n10,5,-1,0,Granted,0,+1.0,+1.0 +1.1\n"
+     "13,8,-1,0,Granted,0,local.0,local.0 local.1\n"),
+    (Network(*RING, 3, 2, 1, "adaptive", 8), "3,1,0,1,0", 6,
+     "1,3,local,0,Granted,0,+0.0,+0.0 +0.2\n4,0,-0,0,Granted,0,+0.1,+0.1 +0.2\n"),
+    (Network(*RING, 3, 2, 1, "adaptive", 8), "0,2,0,1,0", 2, "1,0,local,0,Granted,0,+0.1,+0.1 +0.2\n"),
+    (Network(*RING, 3, 2, 1, "adaptive", 8), "0,3,0,1,0", 2, "1,0,local,0,Granted,0,-0.0,-0.0 -0.2\n"),
+    (Network("mesh", (16, 16), 4, 2, 4, "dor", 8), "0,255,3,1,0", 2, "1,0,local,0,Granted,0,+0.3,+0.3\n"),
+]
+# Two routers with two channels on each link. The first row comes again at the end, and no packet comes by channel 1 of
+# a link, so that needs no rows.
+TWO_NODES = Network("mesh", (2,), 2, 2, 1, "table", 8)
+ROWS = ["0,0,local,0,1,+0,0", "0,0,local,1,1,+0,0", "0,1,local,0,0,-0,0", "0,1,local,1,0,-0,0", "0,1,-0,0,1,local,0",
+        "0,0,+0,0,0,local,0", "0,0,local,0,1,+0,0"]
+TABLES = [
+    (ROWS, "rank 1 NoGenerated"),
+    # Packets come by channel 1, from where no row leads on.
+    ([ROWS[0], "0,0,local,1,1,+0,1", *ROWS[2:]], "relation 6 NoWay class 0 router 1 port -0 vc 1 dst 1"),
+]
+# Numbers, shapes and rules that do not go together.
+NO_RELATIONS = [
+    ("mesh", (3,), 4, 2, 3, "dor"), ("mesh", (3,), 1, 2, 1, "west-first"), ("mesh", (3,), 2, 2, 1, "dateline"),
+    ("torus", (3,), 3, 2, 1, "dateline"), ("mesh", (3,), 1, 2, 1, "adaptive"), ("mesh", (3,), 2, 2, 2, "adaptive"),
+    (*RING, 2, 2, 1, "adaptive"),
+]
+# Ranks by formula of west first on nine routers: of a link to the west, of one to the north and of one to the east.
+WEST_FIRST_RANKS = ["2,-0,0,1", "3,+1,0,5", "0,+0,0,7"]
+# Ranks of a line of three routers, of which channel 1 of each link is adaptive, that rise behind each other.
+RISING = ["0,+0,0,2", "0,+0,1,adaptive", "1,+0,0,3", "1,+0,1,adaptive", "1,-0,0,2", "1,-0,1,adaptive", "2,-0,0,1",
+          "2,-0,1,adaptive"]
+
+
+def ask(calls, network, **texts):
+    """Puts a configuration, and other files below their headers."""
+    headers = {"traffic": TRAFFIC_HEADER, "table": TABLE_HEADER, "ranks": RANKS_HEADER}
+    bodies = {f"given_{kind}": (headers[kind] + "".join(f"{row}\n" for row in rows)).encode()
+              for kind, rows in texts.items()}
+    calls.put(given=network.text().encode(), **bodies)
+
+
+def permitted_channels(calls):
+    for network, packet, last, lines in GRANTS:
+        ask(calls, network, traffic=[packet])
+        calls.answers(f"grants to {packet} in {network}",
+                      ["trace", "given", "given_traffic", "--to", str(last), "--verdict", "Granted"],
+                      (TRACE_HEADER + lines).encode())
+
+
+def relations(calls):
+    """Tables, and what makes no relation."""
+    for rows, fault in TABLES:
+        ask(calls, TWO_NODES, table=rows)
+        calls.answers(f"table {rows}", ["ranks", "given", "--table", "given_table"], f"fault {fault}\n".encode())
+    for network in NO_RELATIONS:
+        ask(calls, Network(*network, 8))
+        calls.answers(f"no relation {network}", ["ranks", "given"], b"fault relation 1 WrongShape\n")
+
+
+def ranks(calls):
+    """Ranks by formula, those of the largest mesh, and ranks beside adaptive channels."""
+    ask(calls, Network(*SQUARE, 1, 2, 1, "west-first", 8))
+    ran = calls.run(["ranks", "given"])
+    calls.count("ranks of west first", set(WEST_FIRST_RANKS) < set(ran.stdout.decode().splitlines()), ran)
+    ask(calls, Network("mesh", (16, 16), 4, 2, 4, "dor", 8))
+    calls.put(made=calls.run(["ranks", "given"]).stdout)
+    calls.answers("ranks of the largest mesh", ["check", "given", "--ranks", "made"], b"accepted\n")
+    ask(calls, Network("mesh", (3,), 2, 2, 1, "dor", 8), ranks=RISING)
+    calls.answers("ranks beside adaptive channels", ["check", "given", "--ranks", "given_ranks"], b"accepted\n")
+
+
+def worked_routes(calls):
+    for group in (permitted_channels, relations, ranks):
+        group(calls)
