@@ -15,7 +15,7 @@ use Rattle.noc_theory.proofs.worms.GrantLemmas.{Has-below}
 use Rattle.noc_theory.proofs.worms.MemberLemmas.{Has-filter, Pairs-filter, each-from}
 use Rattle.noc_theory.proofs.worms.OpeningLemmas.{below-rises}
 use Rattle.noc_theory.proofs.worms.TurnLemmas.{take-turns}
-use Rattle.noc_net.proofs.LimitLemmas.{one_not}
+use Rattle.noc_wires.proofs.BelowLemmas.{one_not}
 use Rattle.noc_answers.specs.Arriving.{is_left, left_for}
 use Rattle.noc_answers.specs.Drain.{is_out_at}
 

@@ -10,7 +10,8 @@ use Rattle.noc_theory.proofs.worms.StateWordLemmas.{last_of}
 use Rattle.noc_theory.proofs.worms.WormOrderLemmas.{whole-at}
 use Rattle.noc_theory.proofs.worms.WormRecordLemmas.{valid-last}
 use Rattle.noc_theory.proofs.alone.UndueLemmas.{undue-at}
-use Rattle.noc_net.proofs.LimitLemmas.{one_not, packet-here}
+use Rattle.noc_wires.proofs.BelowLemmas.{one_not}
+use Rattle.noc_net.proofs.LimitLemmas.{packet-here}
 use Rattle.noc_answers.specs.Drain.{is_out_at}
 
 module _ (net : Setup) (good : IsGoodSetup net) where

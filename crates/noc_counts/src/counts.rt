@@ -17,6 +17,7 @@ use crate::row::{
 use noc_columns::{ChannelTable, Frame, GROUP, ROUTERS, WORDS};
 use noc_cycles::{Block, Work};
 use noc_packet::Memory;
+use noc_times::empty_cycles;
 use std::alloc::Global;
 
 /// How often each input channel of the routers of a block had each verdict.
@@ -171,7 +172,7 @@ fn ten(cycles: u32, nine: &Nine) -> [u64; 10]
     let lost = nine.lost_channel + nine.lost_input + nine.lost_switch;
     let others = nine.routed + nine.granted + nine.moved + waited + lost;
     [
-        u64::from(cycles).saturating_sub(others),
+        empty_cycles(cycles, others),
         nine.routed,
         nine.granted,
         nine.moved,

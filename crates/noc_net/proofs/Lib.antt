@@ -4,5 +4,4 @@ pub mod NetworkLemmas
 pub mod PacketLemmas
 pub mod PartsLemmas
 pub mod ReaderLemmas
-pub mod RoomLemmas
 pub mod StoredLemmas

@@ -1,11 +1,10 @@
 -- The limit of a network, packet by packet.
-use Rattle.std.proofs.Common.{◌≡◌, ℕ, zero, suc, ◌+◌, ◌<◌, ◌≤◌, Bool, true, false, List, length, get_or, take, max, refl, ap, sym, ◌∙◌, arith, subst, Some, slice_get, inl, inr}
-use Rattle.std.specs.Prelude.{is_some, ◌&&◌, ◌⊎◌}
+use Rattle.std.proofs.Common.{◌≡◌, ℕ, zero, suc, ◌+◌, ◌<◌, ◌≤◌, true, false, List, length, get_or, take, max, refl, ap, sym, ◌∙◌, arith, subst, Some, slice_get, inl, inr}
+use Rattle.std.specs.Prelude.{is_some, ◌⊎◌}
 use Rattle.std.proofs.lemmas.Bool.{cases_lt}
 use Rattle.std.specs.List.{list_all, sum_by}
 use Rattle.std.proofs.lemmas.List.{take_all}
 use Rattle.std.proofs.lemmas.Option.{get_or_from_slice_get, slice_get_within, slice_get-get_or, same_Some}
-use Rattle.std.proofs.lemmas.List.Folds.{list_all_more, list_all_at}
 use Rattle.std.proofs.lemmas.List.Sums.{sum_by_more}
 use Rattle.noc_topo.specs.Lists.{below}
 use Rattle.noc_topo.proofs.ListLemmas.{length-below, get_or-below}
@@ -16,6 +15,7 @@ use Rattle.noc_theory.specs.Network.{Setup, arrival_in, packet_at, state_at}
 use Rattle.noc_theory.specs.Progress.{budget, is_pending}
 use Rattle.noc_theory.proofs.worms.BuiltLemmas.{well-formed}
 use Rattle.noc_theory.proofs.budget.ProgressTheoremLemmas.{each-arrives, each-idle}
+use Rattle.noc_wires.proofs.BelowLemmas.{all_all, all_more}
 use Rattle.noc_net.specs.Limit.{are_all_out, IsLastDue, IsLimit}
 
 -- ---- the last due time
@@ -84,19 +84,6 @@ pub packet-good : (net : Setup) → IsGoodSetup net → (i : ℕ) (p : Packet) �
 packet-good net good i p l here = subst (IsGoodPacket net.relation) (get_or_from_slice_get net.packets i p p here) (good.packets i p l)
 
 -- ---- numbers below
-
--- one number more passes
-pub all_more : (test : ℕ → Bool) (n k : ℕ) → k < n → list_all test (take k (below n)) ≡ true → test k ≡ true → list_all test (take (k + 1) (below n)) ≡ true
-all_more test n k l all here =
-    list_all_more test (below n) k 0 (let c = length-below n in omega arith)
-    ∙ ap (λ b. b && test (get_or (below n) k 0)) all
-    ∙ ap test (get_or-below n k 0 l) ∙ here
-
-pub one_not : (test : ℕ → Bool) (n k : ℕ) → k < n → test k ≡ false → list_all test (below n) ≡ false
-one_not test n k l here = list_all_at test (below n) k 0 (let c = length-below n in omega arith) (ap test (get_or-below n k 0 l) ∙ here)
-
-pub all_all : (test : ℕ → Bool) (n k : ℕ) → n ≤ k → list_all test (take k (below n)) ≡ true → list_all test (below n) ≡ true
-all_all test n k l all = ap (list_all test) (sym (take_all k (below n) (let c = length-below n in omega arith))) ∙ all
 
 -- a sum over one number more
 pub sum_more : (f : ℕ → ℕ) (n k : ℕ) → k < n → sum_by f (take (k + 1) (below n)) ≡ sum_by f (take k (below n)) + f k

@@ -17,7 +17,7 @@ use Rattle.noc_theory.specs.declared.event.Event.{Event}
 use Rattle.noc_theory.specs.declared.event.Event.TheVariants.{Take, Decide, Put}
 use Rattle.noc_theory.specs.declared.limits.TheConstants.{CYCLE_LIMIT}
 use Rattle.noc_net.specs.declared.parts.Parts.{Parts}
-use Rattle.noc_net.specs.declared.room.Room.{Room}
+use Rattle.noc_wires.specs.declared.room.Room.{Room}
 use Rattle.noc_theory.specs.Core.{CoreState, Post, are_between, resting_post, beat_to_send, changed_at, happens, has_beat, holds_at, onto_wire, putting, receiving, is_linked, is_ready, may_decide, may_put, may_take, post_at, steps_at, with_post}
 use Rattle.noc_theory.specs.InStep.{AreWithin, IsInStep, cycle_of, lockstep_core, lockstep_wires}
 use Rattle.noc_theory.specs.Halves.{beat_at}
@@ -25,7 +25,7 @@ use Rattle.noc_theory.specs.Lockstep.{lockstep_at, site_at}
 use Rattle.noc_theory.specs.Network.{Run, Setup}
 use Rattle.noc_theory.proofs.runs.RunLemmas.{count_views, linked_wires, past_wires}
 use Rattle.noc_net.specs.Parts.{AreParts, run_in, setup_in}
-use Rattle.noc_net.specs.Room.{front_of, opened_post, opening_wires, post_of, posts_of, rests_at, wires_in}
+use Rattle.noc_wires.specs.Room.{front_of, opened_post, opening_wires, post_of, posts_of, rests_at, wires_in}
 use Rattle.noc_net.specs.Stored.{core_in}
 use Rattle.noc_theory.proofs.runs.CoreLemmas.{get_some, happens_in_step, kept_wire, router_there, router_within}
 use Rattle.noc_theory.proofs.runs.EventLemmas.{finished-wires, linked_port, put_post}

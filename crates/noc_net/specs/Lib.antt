@@ -5,6 +5,5 @@ pub mod Latest
 pub mod Limit
 pub mod Parts
 pub mod Prelude
-pub mod Room
 pub mod Stored
 pub mod Titles

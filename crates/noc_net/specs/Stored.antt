@@ -8,7 +8,7 @@ use Rattle.noc_theory.specs.Core.{CoreState}
 use Rattle.noc_theory.specs.Good.{IsGoodSetup}
 use Rattle.noc_theory.specs.InStep.{AreWithin, IsInStep}
 use Rattle.noc_net.specs.Parts.{setup_in}
-use Rattle.noc_net.specs.Room.{posts_of}
+use Rattle.noc_wires.specs.Room.{posts_of}
 
 -- the core with these parts
 abbrev pub core_in : Parts → CoreState

@@ -3,17 +3,17 @@
 ghost use Rattle.std.specs.Prelude.{◌≡◌, ℕ, [], take, slice_index_or, ◌<◌, ◌≤◌, ◌&&◌, IfErr, IfOk, Some, true, is_ok, is_some, length, slice_get};
 ghost use Rattle.noc_net.specs.Prelude.{list_all, local_port, nodes as nodes_of, ports as ports_of, IsRelationOf, View, IsGoodSetup, beat_at, Setup};
 ghost use Rattle.noc_theory.specs.Core.{after_event, are_between, deciding, happens, is_linked, is_ready, opening_core, post_at, steps_at, view_of_post, wire_at};
-ghost use Rattle.noc_net.specs.declared.room.Room.{Room};
-ghost use Rattle.noc_net.specs.Room.{front_of, opened_post, post_of, rests_at, wires_in};
+ghost use Rattle.noc_wires.specs.declared.room.Room.{Room};
+ghost use Rattle.noc_wires.specs.Room.{front_of, opened_post, post_of, rests_at, wires_in};
 
 use crate::network::Network;
 use crate::parts::Parts;
-use crate::room::Room;
 use noc_packet::Beat;
 use noc_route::Relation;
 use noc_router::{Finding, Plan, Router};
 use noc_theory::{CYCLE_LIMIT, Event, NotReady};
 use noc_topo::LINKS;
+use noc_wires::Room;
 use std::marker::Model;
 
 /// The routers of a network that go on by single events, each at a cycle of its own. In whatever

@@ -19,14 +19,15 @@ use crate::limit::{MAX_LIMIT, budget, last_due};
 use crate::net_fault::NetFault;
 use crate::packets::first_fault;
 use crate::parts::Parts;
-use crate::room::Room;
 use noc_engine::Engine;
 use noc_packet::{Beat, MAX_BUFFER, MAX_PACKETS, Memory, Packet};
 use noc_queues::{ends_by_node, starts_by_node};
 use noc_route::Relation;
 use noc_router::{Finding, Plan, Router, VERDICTS};
 use noc_theory::CYCLE_LIMIT;
+use noc_times::{Interval, latency, was_quiet};
 use noc_topo::LINKS;
+use noc_wires::Room;
 use noc_workers::{NotRun, Setup, run_by};
 use std::alloc::Global;
 use std::marker::Model;
@@ -171,11 +172,12 @@ impl Network {
         ensures unstuck { (ranks : Ranking) → IsRankedBy self.new.net.relation ranks
             → is_stuck self.new.net self.new.count ≡ false }
     {
+        let next = Interval::starting_at(self.count, cycles);
         match &mut self.engine {
-            Some(engine) => engine.run(&self.parts.relation, cycles as u32),
+            Some(engine) => engine.run(&self.parts.relation, next.cycles),
             None => self.parts.run(cycles),
         }
-        self.count += cycles;
+        self.count = next.end;
     }
 
     /// Runs so many cycles by up to so many threads, of which the caller's is one, each with whole
@@ -197,6 +199,7 @@ impl Network {
             engine,
             count,
         } = self;
+        let next = Interval::starting_at(count, cycles);
         let engine = match engine {
             Some(engine) => {
                 let setup = Setup {
@@ -204,7 +207,7 @@ impl Network {
                     depth: parts.buffer,
                     packets: &parts.packets,
                 };
-                Some(run_by(rt, alloc, &setup, engine, cycles as u32, workers)?)
+                Some(run_by(rt, alloc, &setup, engine, next.cycles, workers)?)
             }
             None => {
                 parts.run(cycles);
@@ -214,7 +217,7 @@ impl Network {
         Ok(Network {
             parts,
             engine,
-            count: count + cycles,
+            count: next.end,
         })
     }
 
@@ -275,7 +278,7 @@ impl Network {
             → result ≡ false }
     {
         match self.count.checked_sub(1) {
-            Some(last) => self.last_event() != Some(last) && self.is_waiting_by(last),
+            Some(last) => was_quiet(last, self.last_event()) && self.is_waiting_by(last),
             None => false,
         }
     }
@@ -304,7 +307,7 @@ impl Network {
         ensures { result ≡ latency_at self.now packet }
     {
         match self.arrival(packet) {
-            Some(cycle) => Some(cycle.saturating_sub(u64::from(self.packet(packet).due))),
+            Some(cycle) => Some(latency(self.packet(packet).due, cycle)),
             None => None,
         }
     }

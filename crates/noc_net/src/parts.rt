@@ -6,12 +6,12 @@ ghost use Rattle.noc_net.specs.Parts.{AreParts, run_in, setup_in};
 ghost use Rattle.noc_net.specs.Latest.{later_of};
 
 use crate::cycles::{decide_all, deliver_all};
-use crate::room::Room;
 use noc_packet::{Beat, Packet};
 use noc_route::Relation;
 use noc_router::{Finding, Plan, Router, VERDICTS};
 use noc_theory::CYCLE_LIMIT;
 use noc_topo::LINKS;
+use noc_wires::Room;
 
 /// What a network is made of, so that others can run its routers
 /// (`Network::into_parts`, `Network::from_parts`).

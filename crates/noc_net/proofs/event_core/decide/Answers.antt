@@ -4,9 +4,9 @@ use Rattle.noc_packet.specs.declared.packet.Beat.{Beat}
 use Rattle.noc_route.specs.Routes.{Routes}
 use Rattle.noc_view.specs.View.{Site, View, idle_beat, local_step}
 use Rattle.noc_theory.specs.Core.{post_after_last_put}
-use Rattle.noc_net.specs.Room.{post_of, unput_for, wires_in}
+use Rattle.noc_wires.specs.Room.{post_of, unput_for, wires_in}
 use Rattle.noc_theory.proofs.runs.PostLemmas.{same_post}
-use Rattle.noc_net.proofs.RoomLemmas.{take_front, take_of_map}
+use Rattle.noc_wires.proofs.RoomLemmas.{take_front, take_of_map}
 use Rattle.noc_theory.proofs.runs.StepLemmas.{site-local_step}
 use Rattle.noc_net.proofs.event_core.decide.Goals as goal
 

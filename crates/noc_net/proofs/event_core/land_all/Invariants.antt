@@ -1,7 +1,7 @@
 use Rattle.std.proofs.Common.{◌≡◌, ℕ, ◌<◌, [], Some, get_or, slice_get, take}
-use Rattle.noc_net.specs.declared.room.Room.{Room}
+use Rattle.noc_wires.specs.declared.room.Room.{Room}
 use Rattle.noc_theory.specs.Halves.{beat_at}
-use Rattle.noc_net.specs.Room.{front_of, wires_in}
+use Rattle.noc_wires.specs.Room.{front_of, wires_in}
 use Rattle.noc_net.proofs.event_core.land_all.Given as goal
 
 -- the beats before this node have landed

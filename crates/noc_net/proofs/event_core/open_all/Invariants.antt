@@ -1,7 +1,7 @@
 use Rattle.std.proofs.Common.{◌≡◌, ℕ, ◌<◌, [], Some, get_or, slice_get}
 use Rattle.noc_view.specs.View.{View}
-use Rattle.noc_net.specs.declared.room.Room.{Room}
-use Rattle.noc_net.specs.Room.{opened_post, post_of}
+use Rattle.noc_wires.specs.declared.room.Room.{Room}
+use Rattle.noc_wires.specs.Room.{opened_post, post_of}
 use Rattle.noc_net.proofs.event_core.open_all.Given as goal
 
 -- the routers before this node are opened

@@ -3,7 +3,7 @@ use Rattle.std.proofs.lemmas.List.{get_or-take, get_or_past}
 use Rattle.noc_topo.specs.Shape.{local_port, nodes}
 use Rattle.noc_theory.specs.declared.limits.TheConstants.{CYCLE_LIMIT}
 use Rattle.noc_theory.specs.Core.{CoreState, Post, wire_at, wire_of}
-use Rattle.noc_net.specs.Room.{wires_in}
+use Rattle.noc_wires.specs.Room.{wires_in}
 use Rattle.noc_net.specs.Stored.{core_in}
 use Rattle.noc_theory.proofs.runs.CoreLemmas.{router_there}
 use Rattle.noc_net.proofs.StoredLemmas.{post_of_room}

@@ -4,7 +4,7 @@ use Rattle.noc_view.specs.View.{Site}
 use Rattle.noc_theory.specs.declared.event.Event.TheVariants.{Decide}
 use Rattle.noc_theory.specs.declared.limits.TheConstants.{CYCLE_LIMIT}
 use Rattle.noc_theory.specs.Core.{CoreState, Post, deciding, happens}
-use Rattle.noc_net.specs.Room.{post_of}
+use Rattle.noc_wires.specs.Room.{post_of}
 use Rattle.noc_net.specs.Stored.{core_in}
 use Rattle.noc_theory.proofs.runs.CoreLemmas.{router_within}
 use Rattle.noc_theory.proofs.runs.EventLemmas.{may_decide-parts}

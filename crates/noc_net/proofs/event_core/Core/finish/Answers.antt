@@ -3,10 +3,10 @@ use Rattle.std.proofs.lemmas.List.{with_items_is}
 use Rattle.noc_topo.specs.Shape.{local_port, nodes}
 use Rattle.noc_packet.specs.declared.packet.Beat.{Beat}
 use Rattle.noc_theory.specs.declared.limits.TheConstants.{CYCLE_LIMIT}
-use Rattle.noc_net.specs.declared.room.Room.{Room}
+use Rattle.noc_wires.specs.declared.room.Room.{Room}
 use Rattle.noc_theory.specs.Core.{CoreState, are_between, opening_core, steps_at}
 use Rattle.noc_theory.specs.Halves.{beat_at}
-use Rattle.noc_net.specs.Room.{front_of, wires_in}
+use Rattle.noc_wires.specs.Room.{front_of, wires_in}
 use Rattle.noc_net.specs.Stored.{core_in}
 use Rattle.noc_theory.proofs.runs.OrderLemmas.{whole_core}
 use Rattle.noc_theory.proofs.join.CoreOpeningLemmas.{opening-is}

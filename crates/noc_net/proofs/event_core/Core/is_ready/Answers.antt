@@ -5,7 +5,7 @@ use Rattle.noc_view.specs.View.{Site}
 use Rattle.noc_theory.specs.declared.event.Event.TheVariants.{Take, Decide, Put}
 use Rattle.noc_theory.specs.declared.limits.TheConstants.{CYCLE_LIMIT}
 use Rattle.noc_theory.specs.Core.{CoreState, holds_at, is_linked, is_ready, may_decide, may_put, may_take, post_at}
-use Rattle.noc_net.specs.Room.{post_of}
+use Rattle.noc_wires.specs.Room.{post_of}
 use Rattle.noc_net.specs.Stored.{core_in}
 use Rattle.noc_net.proofs.StoredLemmas.{link_there, no_router, post_of_room, read_there, ready_there, router_site, unready}
 use Rattle.noc_net.proofs.event_core.Core.is_ready.Goals as goal

@@ -4,13 +4,13 @@ use Rattle.noc_topo.specs.Shape.{IsGrid, local_port, nodes}
 use Rattle.noc_packet.specs.declared.packet.Beat.{Beat}
 use Rattle.noc_view.specs.View.{Site, View}
 use Rattle.noc_theory.specs.declared.limits.TheConstants.{CYCLE_LIMIT}
-use Rattle.noc_net.specs.declared.room.Room.{Room}
+use Rattle.noc_wires.specs.declared.room.Room.{Room}
 use Rattle.noc_theory.specs.Core.{opening_core}
 use Rattle.noc_theory.specs.InStep.{AreWithin, IsInStep}
 use Rattle.noc_theory.specs.Lockstep.{lockstep_at}
 use Rattle.noc_theory.specs.Network.{Run}
 use Rattle.noc_net.specs.Parts.{run_in, setup_in}
-use Rattle.noc_net.specs.Room.{opened_post, post_of, posts_of}
+use Rattle.noc_wires.specs.Room.{opened_post, post_of, posts_of}
 use Rattle.noc_theory.proofs.runs.LimitLemmas.{opening-within}
 use Rattle.noc_theory.proofs.runs.OrderLemmas.{opening_in_step}
 use Rattle.noc_theory.proofs.runs.RunLemmas.{count_views}

@@ -9,7 +9,7 @@ use Rattle.noc_theory.specs.declared.event.Event.TheVariants.{Put}
 use Rattle.noc_theory.specs.declared.limits.TheConstants.{CYCLE_LIMIT}
 use Rattle.noc_theory.specs.Core.{CoreState, Post, beat_to_send, happens, post_at, putting}
 use Rattle.noc_net.specs.Parts.{setup_in}
-use Rattle.noc_net.specs.Room.{post_of}
+use Rattle.noc_wires.specs.Room.{post_of}
 use Rattle.noc_net.specs.Stored.{core_in}
 use Rattle.noc_theory.proofs.runs.CoreLemmas.{get_some, router_within}
 use Rattle.noc_theory.proofs.runs.EventLemmas.{linked_port}

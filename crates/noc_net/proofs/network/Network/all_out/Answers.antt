@@ -1,7 +1,7 @@
 use Rattle.std.proofs.Common.{◌≡◌, ℕ, Bool, false, length, not, Option, Some, None, is_some, ap, refl, sym, ◌∙◌, arith}
 use Rattle.std.proofs.lemmas.Bool.{true≢false}
 use Rattle.noc_theory.specs.Network.{Run, arrival_in, state_at}
-use Rattle.noc_net.proofs.LimitLemmas.{all_more, one_not, all_all}
+use Rattle.noc_wires.proofs.BelowLemmas.{all_more, one_not, all_all}
 use Rattle.noc_net.proofs.network.Network.all_out.Goals as goal
 
 -- whether packet p is out

@@ -22,20 +22,20 @@ since net good last count e event is test tested =
     ap (λ b. b && is_pending net last (state_at net count)) (tested ∙ ap not (test-is event last) ∙ ap (λ (o : Option ℕ). not (is_some_of o last)) is)
     ∙ ap (λ n. not (is_some_of (last_event_before net n) last) && is_pending net last (state_at net n)) (sym s) ∙ stuck-after net (well-formed net good) last ∙ ap (is_stuck net) s
 
-pub returns-then-ne-clause-value : goal.returns-then-ne-clause-value
-returns-then-ne-clause-value c =
+pub returns-then-was_quiet-clause-value : goal.returns-then-was_quiet-clause-value
+returns-then-was_quiet-clause-value c =
     let u = c.args.self.now in
     let good : IsGoodSetup u.net = subst (λ (u : Run). IsGoodSetup u.net) c.self.view_is c.self.invariant.parts.good in
-    c.is_waiting_by.ensures ∙ ap (λ b. b && is_pending u.net c.in-Some.last (state_at u.net u.count)) (sym c.if-ne.true)
-    ∙ since u.net good c.in-Some.last u.count (omega (arith, ap (λ (u : Run). u.count) c.self.view_is)) c.last_event.result c.last_event.ensures c.ne.result c.ne.ensures
+    c.is_waiting_by.ensures ∙ ap (λ b. b && is_pending u.net c.in-Some.last (state_at u.net u.count)) (sym c.if-was_quiet.true)
+    ∙ since u.net good c.in-Some.last u.count (omega (arith, ap (λ (u : Run). u.count) c.self.view_is)) c.last_event.result c.last_event.ensures c.was_quiet.result c.was_quiet.ensures
 
-pub returns-else-ne-clause-value : goal.returns-else-ne-clause-value
-returns-else-ne-clause-value c =
+pub returns-else-was_quiet-clause-value : goal.returns-else-was_quiet-clause-value
+returns-else-was_quiet-clause-value c =
     let u = c.args.self.now in
     let good : IsGoodSetup u.net = subst (λ (u : Run). IsGoodSetup u.net) c.self.view_is c.self.invariant.parts.good in
-    c.if-ne.false ∙ ap (λ b. b && is_pending u.net c.in-Some.last (state_at u.net u.count)) (sym c.if-ne.false)
-    ∙ since u.net good c.in-Some.last u.count (omega (arith, ap (λ (u : Run). u.count) c.self.view_is)) c.last_event.result c.last_event.ensures c.ne.result c.ne.ensures
+    c.if-was_quiet.false ∙ ap (λ b. b && is_pending u.net c.in-Some.last (state_at u.net u.count)) (sym c.if-was_quiet.false)
+    ∙ since u.net good c.in-Some.last u.count (omega (arith, ap (λ (u : Run). u.count) c.self.view_is)) c.last_event.result c.last_event.ensures c.was_quiet.result c.was_quiet.ensures
 
-pub returns-then-ne-clause-ranked : goal.returns-then-ne-clause-ranked
-returns-then-ne-clause-ranked c = λ ranks ranked.
-    returns-then-ne-clause-value c ∙ not-stuck c.args.self.now.net (well-formed _ (subst (λ (u : Run). IsGoodSetup u.net) c.self.view_is c.self.invariant.parts.good)) ranks ranked c.args.self.now.count
+pub returns-then-was_quiet-clause-ranked : goal.returns-then-was_quiet-clause-ranked
+returns-then-was_quiet-clause-ranked c = λ ranks ranked.
+    returns-then-was_quiet-clause-value c ∙ not-stuck c.args.self.now.net (well-formed _ (subst (λ (u : Run). IsGoodSetup u.net) c.self.view_is c.self.invariant.parts.good)) ranks ranked c.args.self.now.count
