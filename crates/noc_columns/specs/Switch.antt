@@ -9,10 +9,11 @@ use Rattle.noc_sets.specs.Sets.{less}
 use Rattle.noc_sets.specs.Turns.{first_bit, in_turn}
 use Rattle.noc_sets.specs.Unions.{some_below}
 use Rattle.noc_columns.specs.Supply.{digits_by, number_in}
-use Rattle.noc_columns.specs.Picks.{output_of}
+use Rattle.noc_columns.specs.Picks.{output_of, port_of}
 use Rattle.noc_columns.specs.Words.{set_below, set_of, word}
 use Rattle.noc_columns.specs.declared.ports.RouterPorts.{RouterPorts}
 use Rattle.noc_columns.specs.declared.picks.Picks.{Picks}
+use Rattle.noc_columns.specs.declared.channels.Links.{Links}
 
 -- what the input ports pick: whether they do, and of the picked channel whether it has a tail in
 -- front, and the port and the virtual channel of its output channel
@@ -60,6 +61,16 @@ pub record HasTraversed (ports vcs : ℕ) (picks : PortPicks) (ahead after : ℕ
       → (flits q v ≡ nat_eq (picks.vc p) v) × (tails q v ≡ (nat_eq (picks.vc p) v && picks.tail p))
   pub none : (q v : ℕ) → q + 1 < ports → v < vcs → nat_eq (asks_for ports picks q) 0 ≡ true
       → (flits q v ≡ false) × (tails q v ≡ false)
+
+-- through the switch of router r of a block goes what these ports pick, where these are the
+-- pointers of the output ports before and after
+abbrev pub Traverses : RouterPorts → Picks → List ℕ → List ℕ → List ℕ → Links (List ℕ) → ℕ → Type 0
+Traverses ports picks ahead after sends left r =
+    HasTraversed (ports.links.width + 1) ports.links.vcs (picks_in picks r)
+    (λ q. set_of (output_of ports q) r ahead) (λ q. set_of (output_of ports q) r after)
+    (λ p. has_bit (set_of (port_of ports p) r sends))
+    (λ q. has_bit (set_of (port_of ports q) r left.flits))
+    (λ q. has_bit (set_of (port_of ports q) r left.tails))
 
 -- what leaves by virtual channel v of output port q: by a link what is told, and by the local port,
 -- which is the last, what is taken and passes a test

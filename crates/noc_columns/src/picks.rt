@@ -1,7 +1,7 @@
 //! Each input port picks one of its channels.
 
 ghost use Rattle.std.specs.Prelude.{◌≡◌, ◌⊎◌, ◌<◌, ◌≤◌, ◌+◌, ◌*◌, ◌&&◌, ℕ, true, not, nat_eq, bit_and, bit_or, slice_index};
-ghost use Rattle.noc_columns.specs.Picks.{HasPick, IsPicked, turn_word};
+ghost use Rattle.noc_columns.specs.Picks.{HavePicked, IsPicked, turn_word};
 ghost use Rattle.noc_columns.specs.Prelude.{has_bit, less, port_at, port_of, set_of, some_below, word};
 
 use crate::by_port::write_side;
@@ -53,15 +53,8 @@ pub fn pick(
     decided: &mut Decided<Words>,
     picks: &mut Picks,
 )
-    ensures picked { (p r : ℕ) → p < ports.now.links.width + 1
-        → IsPicked (port_of ports.now p) r standing.now.ready inputs.now.ahead decided.new.picked
-        decided.new.past }
-    ensures picks { (p r c : ℕ) → p < ports.now.links.width + 1 → c < ports.now.links.vcs
-        → has_bit (set_of (port_of ports.now p) r decided.new.picked) c ≡ true
-        → HasPick (port_of ports.now p) r p c standing.now.last sends.now picks.new }
-    ensures any { (p r : ℕ) → p < ports.now.links.width + 1
-        → has_bit (slice_index picks.new.any p) r
-        ≡ not (nat_eq (set_of (port_of ports.now p) r standing.now.ready) 0) }
+    ensures picked { (r : ℕ) → HavePicked ports.now r standing.now.ready inputs.now.ahead
+        decided.new.picked decided.new.past standing.now.last sends.now picks.new }
     ensures rest { decided.new
         ≡ record decided.old { picked = decided.new.picked; past = decided.new.past } }
 {
@@ -70,10 +63,8 @@ pub fn pick(
         pick_by::<2>(ports, inputs, standing, sends, decided, picks);
     } else if width == 4 {
         pick_by::<4>(ports, inputs, standing, sends, decided, picks);
-    } else if width == 6 {
-        pick_by::<6>(ports, inputs, standing, sends, decided, picks);
     } else {
-        pick_all(ports, inputs, standing, sends, decided, picks);
+        pick_by::<6>(ports, inputs, standing, sends, decided, picks);
     }
 }
 
@@ -89,15 +80,8 @@ fn pick_by<const WIDTH: usize>(
     picks: &mut Picks,
 )
     requires { WIDTH ≡ ports.now.links.width }
-    ensures picked { (p r : ℕ) → p < ports.now.links.width + 1
-        → IsPicked (port_of ports.now p) r standing.now.ready inputs.now.ahead decided.new.picked
-        decided.new.past }
-    ensures picks { (p r c : ℕ) → p < ports.now.links.width + 1 → c < ports.now.links.vcs
-        → has_bit (set_of (port_of ports.now p) r decided.new.picked) c ≡ true
-        → HasPick (port_of ports.now p) r p c standing.now.last sends.now picks.new }
-    ensures any { (p r : ℕ) → p < ports.now.links.width + 1
-        → has_bit (slice_index picks.new.any p) r
-        ≡ not (nat_eq (set_of (port_of ports.now p) r standing.now.ready) 0) }
+    ensures picked { (r : ℕ) → HavePicked ports.now r standing.now.ready inputs.now.ahead
+        decided.new.picked decided.new.past standing.now.last sends.now picks.new }
     ensures rest { decided.new
         ≡ record decided.old { picked = decided.new.picked; past = decided.new.past } }
 {
@@ -127,15 +111,8 @@ fn pick_all(
     decided: &mut Decided<Words>,
     picks: &mut Picks,
 )
-    ensures picked { (p r : ℕ) → p < ports.now.links.width + 1
-        → IsPicked (port_of ports.now p) r standing.now.ready inputs.now.ahead decided.new.picked
-        decided.new.past }
-    ensures picks { (p r c : ℕ) → p < ports.now.links.width + 1 → c < ports.now.links.vcs
-        → has_bit (set_of (port_of ports.now p) r decided.new.picked) c ≡ true
-        → HasPick (port_of ports.now p) r p c standing.now.last sends.now picks.new }
-    ensures any { (p r : ℕ) → p < ports.now.links.width + 1
-        → has_bit (slice_index picks.new.any p) r
-        ≡ not (nat_eq (set_of (port_of ports.now p) r standing.now.ready) 0) }
+    ensures picked { (r : ℕ) → HavePicked ports.now r standing.now.ready inputs.now.ahead
+        decided.new.picked decided.new.past standing.now.last sends.now picks.new }
     ensures rest { decided.new
         ≡ record decided.old { picked = decided.new.picked; past = decided.new.past } }
 {

@@ -1,6 +1,6 @@
 //! The ports of a router, and where the words of their channels stand.
 
-ghost use Rattle.std.specs.Prelude.{◌≡◌, ◌<◌, ◌≤◌, ◌+◌, ◌*◌};
+ghost use Rattle.std.specs.Prelude.{◌≡◌, ◌<◌, ◌≤◌, ◌+◌, ◌*◌, ◌%◌};
 ghost use Rattle.noc_packet.specs.declared.limits.TheConstants.{MAX_CHANNELS};
 ghost use Rattle.noc_columns.specs.declared.words.TheConstants.{WORDS};
 ghost use Rattle.noc_columns.specs.declared.ports.TheConstants.{PORTS};
@@ -13,7 +13,7 @@ pub const PORTS: usize = 8;
 pub struct Ports {
     /// Where the words of virtual channel 0 begin.
     pub first: usize,
-    /// How many ports these are: the link ports, 2, 4 or 6, or the local port alone.
+    /// How many ports these are.
     pub width: usize,
     /// How many virtual channels each port has.
     pub vcs: usize,
@@ -27,10 +27,12 @@ pub struct Ports {
 /// channels are to an input port, so there `vcs` is how many input ports there are.
 #[derive(Drop)]
 pub struct RouterPorts {
-    /// The link ports.
+    /// The link ports: 2, 4 or 6.
     pub links: Ports,
     /// The local port, whose words stand behind those of the link ports.
     pub local: Ports,
+    ghost some: { 0 < links.width },
+    ghost pairs: { links.width % 2 ≡ 0 },
     ghost room: { links.width < PORTS },
     ghost one: { local.width ≡ 1 },
     ghost alike: { local.vcs ≡ links.vcs },

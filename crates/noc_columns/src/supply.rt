@@ -7,7 +7,7 @@ ghost use Rattle.noc_columns.specs.Prelude.{IsWithin, Numbering, has_bit, port_a
 
 use crate::frame::Frame;
 use crate::planes::less;
-use crate::ports::{PORTS, Ports};
+use crate::ports::{PORTS, RouterPorts};
 use crate::words::{GROUP, ROUTERS, WORDS, Words, bit, put_router, take_router};
 use noc_packet::MAX_CHANNELS;
 use noc_topo::LINKS;
@@ -142,21 +142,21 @@ pub struct Sends<T> {
 #[inline(always)]
 pub fn look_up(
     frame: &Frame,
-    links: &Ports,
+    ports: &RouterPorts,
     sends: &Sends<Words>,
     some: &Words,
     supplied: &mut Words,
 )
-    requires first { links.now.first ≡ 0 }
-    requires pairs { (links.now.width ≡ 2) ⊎ ((links.now.width ≡ 4) ⊎ (links.now.width ≡ 6)) }
+    requires { ports.now.links.first ≡ 0 }
     ensures { (n : Numbering) (r c : ℕ) → IsWithin (GROUP * frame.now.groups) n → c < n.size
-        → number_in (digits_by (set_of n r) sends.now.port) c ≤ links.now.width
-        → number_in (digits_by (set_of n r) sends.now.vc) c < links.now.vcs
+        → number_in (digits_by (set_of n r) sends.now.port) c ≤ ports.now.links.width
+        → number_in (digits_by (set_of n r) sends.now.vc) c < ports.now.links.vcs
         → has_bit (set_of n r supplied.new) c
-        ≡ is_fed links.now.width (λ q. set_of (port_at links.now q) r some.now)
+        ≡ is_fed ports.now.links.width (λ q. set_of (port_at ports.now.links q) r some.now)
         (number_in (digits_by (set_of n r) sends.now.port) c)
         (number_in (digits_by (set_of n r) sends.now.vc) c) }
 {
+    let links = &ports.links;
     if links.vcs <= 4 {
         look_up_by::<4>(frame, links.width, sends, some, supplied);
     } else {

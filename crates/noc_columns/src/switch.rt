@@ -4,7 +4,7 @@
 ghost use Rattle.std.specs.Prelude.{◌≡◌, ◌⊎◌, ◌<◌, ◌≤◌, ◌+◌, ◌*◌, ◌&&◌, ℕ, true, not, nat_eq, bit_and, bit_or, slice_index, if◌then◌else◌};
 ghost use Rattle.noc_sets.specs.Turns.{in_turn};
 ghost use Rattle.noc_columns.specs.Supply.{digits_by, number_in};
-ghost use Rattle.noc_columns.specs.Switch.{HasTraversed, asks_for, picks_in, taken_in};
+ghost use Rattle.noc_columns.specs.Switch.{Traverses, asks_for, picks_in, taken_in};
 ghost use Rattle.noc_columns.specs.Prelude.{has_bit, less, output_of, port_at, port_of, set_of, some_below, word};
 
 use crate::channels::{Decided, Links};
@@ -46,13 +46,8 @@ pub fn traverse(
     decided: &mut Decided<Words>,
     left: &mut Links<Words>,
 )
-    ensures traversed { (r : ℕ) → HasTraversed (ports.now.links.width + 1) ports.now.links.vcs
-        (picks_in picks.now r)
-        (λ q. set_of (output_of ports.now q) r switch.old.ahead)
-        (λ q. set_of (output_of ports.now q) r switch.new.ahead)
-        (λ p. has_bit (set_of (port_of ports.now p) r decided.new.sends))
-        (λ q. has_bit (set_of (port_of ports.now q) r left.new.flits))
-        (λ q. has_bit (set_of (port_of ports.now q) r left.new.tails)) }
+    ensures traversed { (r : ℕ) → Traverses ports.now picks.now switch.old.ahead switch.new.ahead
+        decided.new.sends left.new r }
     ensures decided { decided.new ≡ record decided.old { sends = decided.new.sends } }
     ensures left { left.new.credits ≡ left.old.credits }
 {
@@ -61,10 +56,8 @@ pub fn traverse(
         traverse_by::<2>(ports, picks, switch, decided, left);
     } else if width == 4 {
         traverse_by::<4>(ports, picks, switch, decided, left);
-    } else if width == 6 {
-        traverse_by::<6>(ports, picks, switch, decided, left);
     } else {
-        traverse_all(ports, picks, switch, decided, left);
+        traverse_by::<6>(ports, picks, switch, decided, left);
     }
 }
 
@@ -79,13 +72,8 @@ fn traverse_by<const WIDTH: usize>(
     left: &mut Links<Words>,
 )
     requires { WIDTH ≡ ports.now.links.width }
-    ensures traversed { (r : ℕ) → HasTraversed (ports.now.links.width + 1) ports.now.links.vcs
-        (picks_in picks.now r)
-        (λ q. set_of (output_of ports.now q) r switch.old.ahead)
-        (λ q. set_of (output_of ports.now q) r switch.new.ahead)
-        (λ p. has_bit (set_of (port_of ports.now p) r decided.new.sends))
-        (λ q. has_bit (set_of (port_of ports.now q) r left.new.flits))
-        (λ q. has_bit (set_of (port_of ports.now q) r left.new.tails)) }
+    ensures traversed { (r : ℕ) → Traverses ports.now picks.now switch.old.ahead switch.new.ahead
+        decided.new.sends left.new r }
     ensures decided { decided.new ≡ record decided.old { sends = decided.new.sends } }
     ensures left { left.new.credits ≡ left.old.credits }
 {
@@ -110,13 +98,8 @@ fn traverse_all(
     decided: &mut Decided<Words>,
     left: &mut Links<Words>,
 )
-    ensures traversed { (r : ℕ) → HasTraversed (ports.now.links.width + 1) ports.now.links.vcs
-        (picks_in picks.now r)
-        (λ q. set_of (output_of ports.now q) r switch.old.ahead)
-        (λ q. set_of (output_of ports.now q) r switch.new.ahead)
-        (λ p. has_bit (set_of (port_of ports.now p) r decided.new.sends))
-        (λ q. has_bit (set_of (port_of ports.now q) r left.new.flits))
-        (λ q. has_bit (set_of (port_of ports.now q) r left.new.tails)) }
+    ensures traversed { (r : ℕ) → Traverses ports.now picks.now switch.old.ahead switch.new.ahead
+        decided.new.sends left.new r }
     ensures decided { decided.new ≡ record decided.old { sends = decided.new.sends } }
     ensures left { left.new.credits ≡ left.old.credits }
 {

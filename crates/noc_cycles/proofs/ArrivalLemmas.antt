@@ -1,10 +1,10 @@
 -- Packets arrive channel by channel, and in each channel router by router.
-use Rattle.std.proofs.Common.{◌≡◌, ◌≢◌, ℕ, ◌+◌, ◌*◌, ◌/◌, ◌%◌, ◌<◌, ◌≤◌, Bool, true, false, List, Some, length, arith, ap, ap₂, refl, sym, ◌∙◌, inl, inr, set, slice_index}
+use Rattle.std.proofs.Common.{◌≡◌, ◌≢◌, ℕ, ◌+◌, ◌<◌, Bool, true, false, List, Some, length, arith, ap, ap₂, refl, sym, ◌∙◌, inl, inr, set, slice_index}
 use Rattle.std.specs.Prelude.{◌⊎◌, ◌&&◌, nat_eq, if◌then◌else◌}
 use Rattle.noc_packet.specs.Set.{IsLeast}
 use Rattle.noc_columns.proofs.LoopLemmas.{left-part, was-left}
 use Rattle.noc_columns.proofs.MarkLemmas.{entry-put}
-use Rattle.noc_cycles.proofs.Common.{and_parts, cases_eq, eq-eqb, eqb-true, ne_eqb, true≢false, has_bit, has_bit-zero, less, lowest, some_below, Numbering, set_of, word, find-first, none-each, part, member-below, member-is}
+use Rattle.noc_cycles.proofs.Common.{and_parts, cases_eq, eq-eqb, eqb-true, ne_eqb, true≢false, has_bit, has_bit-zero, less, lowest, some_below, Numbering, set_of, word, find-first, none-each, member-below, member-is}
 use Rattle.noc_cycles.specs.Concluding.{HaveArrived}
 
 -- ---- in one channel: the packets of the routers of a set that are not left have arrived

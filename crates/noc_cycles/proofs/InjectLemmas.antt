@@ -8,12 +8,8 @@ use Rattle.noc_columns.specs.Channels.{inputs_by}
 use Rattle.noc_columns.specs.Sources.{AreDue}
 use Rattle.noc_columns.specs.Steps.{with_source}
 use Rattle.noc_columns.specs.declared.due.Due.{Due}
-use Rattle.noc_columns.specs.declared.ports.Ports.{Ports}
-use Rattle.noc_columns.proofs.InjectionLemmas.{side-index}
-use Rattle.noc_columns.proofs.PassLemmas.{some-same}
-use Rattle.noc_columns.proofs.PickLemmas.{some-asks}
 use Rattle.noc_columns.proofs.SourceLemmas.{sends-and-begins}
-use Rattle.noc_cycles.proofs.Common.{eq-eqb, eqb-true, pow_mono, has_bit, either_members, has_bit-zero, Layout, wrong_from, less, lowest, up_by, Source, Start, start_in, some_below, port_at, list_of, planes_by, begun_if, sent_if, source_in, all_of, set_alike, set_of, word, Links, blank, below-fits, RouterPorts, Held, held_at, FitsLayout, Block, Pattern}
+use Rattle.noc_cycles.proofs.Common.{eq-eqb, eqb-true, pow_mono, has_bit, either_members, has_bit-zero, Layout, wrong_from, less, lowest, up_by, Source, Start, start_in, port_at, list_of, planes_by, begun_if, sent_if, source_in, all_of, set_alike, set_of, word, Links, blank, below-fits, RouterPorts, Held, held_at, FitsLayout, Block, Pattern}
 use Rattle.noc_cycles.specs.May.{MayInject}
 use Rattle.noc_cycles.specs.Taking.{HasInjected, MaySend, begins_held, column_in, ready_held, went_held}
 use Rattle.noc_cycles.proofs.FreshLemmas.{begun-due, begun-free, due-kept, is-apart, lowest-none, test-some, went-all, went-some}

@@ -120,7 +120,7 @@ module _ (pattern : Pattern) where
   pub few-channels : size_in ≤ 56
   few-channels =
       let room = pattern.table.ports.room in
-      let pairs = pattern.pairs in
+      let pairs = pattern.table.ports.pairs in
       let width : pattern.table.ports.links.width + 1 ≤ 7 = omega (arith, room, pairs) in
       let vcs : pattern.table.ports.links.vcs ≤ 8 = pattern.table.ports.few in
       mul-le-mul width vcs

@@ -4,7 +4,7 @@ use Rattle.std.specs.Prelude.{◌&&◌, ◌||◌, not, nat_eq}
 use Rattle.std.proofs.lemmas.Nat.{mod_below}
 use Rattle.noc_sets.proofs.MemberLemmas.{either-zero}
 use Rattle.noc_sets.proofs.UnionLemmas.{some-none}
-use Rattle.noc_columns.proofs.PassLemmas.{some-next, some-same}
+use Rattle.noc_columns.proofs.PassLemmas.{some-next}
 use Rattle.noc_columns.proofs.PickLemmas.{some-asks, some-each}
 use Rattle.noc_cycles.proofs.Common.{div-mul-add, mod-mul-add, has_bit, either_members, up_by, some_below, channels_of, links_of, port_at, Numbering, set_of, word, port-below, apart, find-first, none-each, Pattern}
 use Rattle.noc_cycles.proofs.PartLemmas.{in-parts, link-index-below}
@@ -58,8 +58,8 @@ module _ (pattern : Pattern) where
   link-place i l =
       let p = i % wide in
       let v = i / wide in
-      let in_port : p < wide = mod_below i wide pattern.links_are in
-      let in_side : v < vcs = port-below vcs wide pattern.links_are i l in
+      let in_port : p < wide = mod_below i wide pattern.table.ports.some in
+      let in_side : v < vcs = port-below vcs wide pattern.table.ports.some i l in
       let first = pattern.first in
       let whole : v * wide + p ≡ i = omega arith in (
         apart p wide vcs v in_port in_side,

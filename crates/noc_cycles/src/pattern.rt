@@ -20,8 +20,6 @@ pub struct Pattern {
     /// Where the channels of a router stand: those of the links first, and then the local ones.
     pub table: ChannelTable,
     ghost some: { 0 < table.ports.links.vcs },
-    ghost pairs: { table.ports.links.width % 2 ≡ 0 },
-    ghost links_are: { 0 < table.ports.links.width },
     ghost first: { table.ports.links.first ≡ 0 },
     ghost behind: { table.ports.local.first
         ≡ table.ports.links.vcs * table.ports.links.width },
@@ -85,6 +83,8 @@ fn divided(number: usize, width: usize) -> (usize, usize)
 
 // The ports of a router with so many link ports.
 fn ports_of(width: usize, vcs: usize) -> RouterPorts
+    requires some { 0 < width }
+    requires pairs { width % 2 ≡ 0 }
     requires width { width ≤ LINKS }
     requires vcs { vcs ≤ MAX_CHANNELS }
     ensures width { result.links.width ≡ width }

@@ -111,7 +111,7 @@ fn count_credits(pattern: &Pattern, block: &mut Block, work: &mut Work)
     free_links(pattern, home, &work.returned.home, &mut block.marks);
     look_up(
         &pattern.frame,
-        &pattern.table.ports.links,
+        &pattern.table.ports,
         &block.grants.sends,
         &work.returned.some,
         &mut work.standing.supplied,

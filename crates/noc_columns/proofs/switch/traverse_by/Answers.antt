@@ -1,8 +1,5 @@
-use Rattle.std.proofs.Common.{ℕ, ◌+◌, List, subst}
-use Rattle.noc_packet.specs.Set.{has_bit}
-use Rattle.noc_columns.specs.Picks.{output_of, port_of}
-use Rattle.noc_columns.specs.Switch.{HasTraversed, picks_in}
-use Rattle.noc_columns.specs.Words.{set_of}
+use Rattle.std.proofs.Common.{ℕ, List, subst}
+use Rattle.noc_columns.specs.Switch.{Traverses}
 use Rattle.noc_columns.specs.declared.channels.Links.{Links}
 use Rattle.noc_columns.specs.declared.picks.Picks.{Picks}
 use Rattle.noc_columns.specs.declared.ports.RouterPorts.{RouterPorts}
@@ -10,13 +7,7 @@ use Rattle.noc_columns.proofs.switch.traverse_by.Goals as goal
 
 -- what the clause says, of these ports
 abbrev Traversed : Picks → List ℕ → List ℕ → List ℕ → Links (List ℕ) → RouterPorts → Type 0
-Traversed picks ahead after sends left ports =
-    (r : ℕ) → HasTraversed (ports.links.width + 1) ports.links.vcs (picks_in picks r)
-    (λ q. set_of (output_of ports q) r ahead)
-    (λ q. set_of (output_of ports q) r after)
-    (λ p. has_bit (set_of (port_of ports p) r sends))
-    (λ q. has_bit (set_of (port_of ports q) r left.flits))
-    (λ q. has_bit (set_of (port_of ports q) r left.tails))
+Traversed picks ahead after sends left ports = (r : ℕ) → Traverses ports picks ahead after sends left r
 
 pub returns-then-vcs-eq2-clause-traversed : goal.returns-then-vcs-eq2-clause-traversed
 returns-then-vcs-eq2-clause-traversed g c =

@@ -43,6 +43,6 @@ returns-clause-decided c = λ layout r no_credit s l shows.
     (decided-then pattern r l block standing c.clear.new.first c.clear.new.second (none-within n r _ c.clear.new.first within c.clear.ensures.first) (none-within n r _ c.clear.new.second within c.clear.ensures.second)
     got.marks got.grants got.lost (c.allocate.ensures.asked r l) (c.allocate.ensures.others r)
     sets marks (λ m. routed.routed r m l) (routed.waiting r l) (routed.idle r) routed.turns fits
-    decided pick.new.picks went.new.switch went.new.left (λ p b. pick.ensures.picked p r b) (λ p v b d. pick.ensures.picks p r v b d) (λ p b. pick.ensures.any p r b) (went.ensures.traversed r)
+    decided pick.new.picks went.new.switch went.new.left (pick.ensures.picked r).first (pick.ensures.picked r).has (pick.ensures.picked r).any (went.ensures.traversed r)
     (length guide.headers.now) (nodes guide.relation.now.grid) (c.args.first + r) (c.requires.may r l)
     layout s no_credit shows)

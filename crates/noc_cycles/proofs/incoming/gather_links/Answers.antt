@@ -33,7 +33,7 @@ gather_port-requires-clause-port c =
     let row : c.deref.result.now ≡ far_by far p = c.deref.ensures.value ∙ ap (λ (v : Vec Far Global). items_of v) c.index.ensures ∙ far-at far p c.index.result.now here in (
       p,
       subst (LeadBy pattern.table.ports.links p (length c.args.left.now)) (sym row)
-          (lead-by g pattern.table.ports.links c.args.around.now.block p (length c.args.left.now) (far_by far p) wired.ports pattern.pairs l c.requires.2 (wired.tables.far.each p m)),
+          (lead-by g pattern.table.ports.links c.args.around.now.block p (length c.args.left.now) (far_by far p) wired.ports pattern.table.ports.pairs l c.requires.2 (wired.tables.far.each p m)),
     )
 
 pub loop-port-preserved : goal.loop-port-preserved
@@ -51,7 +51,7 @@ loop-port-preserved c =
     let m : p < local_port g = subst (λ n. p < n) wired.ports l in
     let here : p < length far = subst (λ n. p < n) (sym wired.tables.far.ports) m in
     let row : c.deref.result.now ≡ far_by far p = c.deref.ensures.value ∙ ap (λ (v : Vec Far Global). items_of v) c.index.ensures ∙ far-at far p c.index.result.now here in
-    let lead : LeadBy links p (length left) c.deref.result.now = subst (LeadBy links p (length left)) (sym row) (lead-by g links b p (length left) (far_by far p) wired.ports pattern.pairs l c.requires.2 (wired.tables.far.each p m)) in
+    let lead : LeadBy links p (length left) c.deref.result.now = subst (LeadBy links p (length left)) (sym row) (lead-by g links b p (length left) (far_by far p) wired.ports pattern.table.ports.pairs l c.requires.2 (wired.tables.far.each p m)) in
     let others : (k : ℕ) → ((v : ℕ) → v < links.vcs → k ≢ (port_at links p).index v) → _ ≡ _ = λ k away. c.gather_port.ensures.others p k lead away in
     record {
       flits = ports-next links near (far_by far) (λ b. (left_by left b).flits) b p c.loop-port.came.flits c.gather_port.new.came.flits c.deref.result.now row l c.loop-port.invariant.flits (λ v r few low. c.gather_port.ensures.flits p v r lead few low) (λ k away. ap (λ (w : Links ℕ). w.flits) (others k away));
@@ -69,11 +69,11 @@ returns-clause-brought c = λ g leaves r wired shows home known x.
     let b = c.args.around.now.block in
     let all : c.loop-port.port ≡ links.width = omega arith in
     record {
-      flits = brought-set g wired.sound links near (far_by far) (λ b. (left_by left b).flits) b r c.loop-port.came.flits (λ s. (leaves s).flits) pattern.some pattern.pairs pattern.first wired.ports home known wired.tables.near wired.tables.far.each
+      flits = brought-set g wired.sound links near (far_by far) (λ b. (left_by left b).flits) b r c.loop-port.came.flits (λ s. (leaves s).flits) pattern.some pattern.table.ports.pairs pattern.first wired.ports home known wired.tables.near wired.tables.far.each
           (subst (λ n. ArePorts links near (far_by far) (λ b. (left_by left b).flits) b n c.loop-port.came.flits) all c.loop-port.invariant.flits) (λ t l o m. (shows t l).flits o m) x;
-      tails = brought-set g wired.sound links near (far_by far) (λ b. (left_by left b).tails) b r c.loop-port.came.tails (λ s. (leaves s).tails) pattern.some pattern.pairs pattern.first wired.ports home known wired.tables.near wired.tables.far.each
+      tails = brought-set g wired.sound links near (far_by far) (λ b. (left_by left b).tails) b r c.loop-port.came.tails (λ s. (leaves s).tails) pattern.some pattern.table.ports.pairs pattern.first wired.ports home known wired.tables.near wired.tables.far.each
           (subst (λ n. ArePorts links near (far_by far) (λ b. (left_by left b).tails) b n c.loop-port.came.tails) all c.loop-port.invariant.tails) (λ t l o m. (shows t l).tails o m) x;
-      credits = brought-set g wired.sound links near (far_by far) (λ b. (left_by left b).credits) b r c.loop-port.came.credits (λ s. (leaves s).credits) pattern.some pattern.pairs pattern.first wired.ports home known wired.tables.near wired.tables.far.each
+      credits = brought-set g wired.sound links near (far_by far) (λ b. (left_by left b).credits) b r c.loop-port.came.credits (λ s. (leaves s).credits) pattern.some pattern.table.ports.pairs pattern.first wired.ports home known wired.tables.near wired.tables.far.each
           (subst (λ n. ArePorts links near (far_by far) (λ b. (left_by left b).credits) b n c.loop-port.came.credits) all c.loop-port.invariant.credits) (λ t l o m. (shows t l).credits o m) x;
     }
 

@@ -24,7 +24,7 @@ overflow_mul-there c =
     let k = c.args.channel in
     let vc : c.number-vc.result ≡ vc_in ports block r k
     = c.number-vc.ensures.is ∙ ap (λ d. number_in d r) c.at-then-node.ensures ∙ ap (λ i. number_in (digits_by (word i) block.grants.sends.vc) r) c.index-index.ensures.is ∙ sym (number-is (channels_of ports) r k block.grants.sends.vc c.requires.channel) in
-    let few = there-few c.number-port.result ports.links.width ports.links.vcs c.number-vc.result c.opposite.result pattern.pairs c.if-port-links.true (subst (λ v. v < ports.links.vcs) (sym vc) c.requires.vc) pattern.table.few c.opposite.ensures in
+    let few = there-few c.number-port.result ports.links.width ports.links.vcs c.number-vc.result c.opposite.result pattern.table.ports.pairs c.if-port-links.true (subst (λ v. v < ports.links.vcs) (sym vc) c.requires.vc) pattern.table.few c.opposite.ensures in
     omega (arith, few)
 
 pub overflow_add-there : goal.overflow_add-there
@@ -36,7 +36,7 @@ overflow_add-there c =
     let k = c.args.channel in
     let vc : c.number-vc.result ≡ vc_in ports block r k
     = c.number-vc.ensures.is ∙ ap (λ d. number_in d r) c.at-then-node.ensures ∙ ap (λ i. number_in (digits_by (word i) block.grants.sends.vc) r) c.index-index.ensures.is ∙ sym (number-is (channels_of ports) r k block.grants.sends.vc c.requires.channel) in
-    let few = there-few c.number-port.result ports.links.width ports.links.vcs c.number-vc.result c.opposite.result pattern.pairs c.if-port-links.true (subst (λ v. v < ports.links.vcs) (sym vc) c.requires.vc) pattern.table.few c.opposite.ensures in
+    let few = there-few c.number-port.result ports.links.width ports.links.vcs c.number-vc.result c.opposite.result pattern.table.ports.pairs c.if-port-links.true (subst (λ v. v < ports.links.vcs) (sym vc) c.requires.vc) pattern.table.few c.opposite.ensures in
     omega (arith, few)
 
 pub note-requires-clause-channel : goal.note-requires-clause-channel
@@ -48,7 +48,7 @@ note-requires-clause-channel c =
     let k = c.args.channel in
     let vc : c.number-vc.result ≡ vc_in ports block r k
     = c.number-vc.ensures.is ∙ ap (λ d. number_in d r) c.at-then-node.ensures ∙ ap (λ i. number_in (digits_by (word i) block.grants.sends.vc) r) c.index-index.ensures.is ∙ sym (number-is (channels_of ports) r k block.grants.sends.vc c.requires.channel) in
-    there-few c.number-port.result ports.links.width ports.links.vcs c.number-vc.result c.opposite.result pattern.pairs c.if-port-links.true (subst (λ v. v < ports.links.vcs) (sym vc) c.requires.vc) pattern.table.few c.opposite.ensures
+    there-few c.number-port.result ports.links.width ports.links.vcs c.number-vc.result c.opposite.result pattern.table.ports.pairs c.if-port-links.true (subst (λ v. v < ports.links.vcs) (sym vc) c.requires.vc) pattern.table.few c.opposite.ensures
 
 pub returns-then-node-clause-noted : goal.returns-then-node-clause-noted
 returns-then-node-clause-noted c = λ g wired known.
