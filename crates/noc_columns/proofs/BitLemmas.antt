@@ -65,26 +65,21 @@ module _ (words : List ℕ) (index router : ℕ) (long : length words ≡ 72) (f
           ap (λ w. has_bit w r) (word-other words index (bit_or (word index words) (1 * 2 ^ router % 2 ^ 64)) k other)
           ∙ sym (ap (λ a. (a && nat_eq r router) || has_bit (word k words) r) (ne_eqb k index other))
 
-  pub taken-is : (x k r : ℕ) → x ≡ less (word index words) (1 * 2 ^ router % 2 ^ 64) → has_bit (word k (set words index x)) r ≡ (not (nat_eq k index && nat_eq r router) && has_bit (word k words) r)
-  taken-is x k r is = at (cases_eq k index)
+  -- of one router it is taken from another word
+  pub copied-is : (x from k r : ℕ) → ((s : ℕ) → has_bit x s ≡ (if has_bit (1 * 2 ^ router % 2 ^ 64) s then has_bit from s else has_bit (word index words) s))
+      → has_bit (word k (set words index x)) r ≡ (if nat_eq k index && nat_eq r router then has_bit from r else has_bit (word k words) r)
+  copied-is x from k r is = at (cases_eq k index)
     where
-      turn : (a b : Bool) → (a && b) ≡ (b && a)
-      turn true true = refl
-      turn true false = refl
-      turn false true = refl
-      turn false false = refl
-
-      at : (k ≡ index) ⊎ (k ≢ index) → has_bit (word k (set words index x)) r ≡ (not (nat_eq k index && nat_eq r router) && has_bit (word k words) r)
+      at : (k ≡ index) ⊎ (k ≢ index) → has_bit (word k (set words index x)) r ≡ (if nat_eq k index && nat_eq r router then has_bit from r else has_bit (word k words) r)
       at (inl same) =
           ap (λ j. has_bit (word j (set words index x)) r) same
-          ∙ ap (λ w. has_bit w r) (word-here words index x long few ∙ is)
-          ∙ less_members (word index words) (1 * 2 ^ router % 2 ^ 64) r
-          ∙ ap (λ b. has_bit (word index words) r && not b) (one-router router r within)
-          ∙ turn (has_bit (word index words) r) (not (nat_eq r router))
-          ∙ sym (ap₂ (λ a j. not (a && nat_eq r router) && has_bit (word j words) r) (eq-eqb k index same) same)
+          ∙ ap (λ w. has_bit w r) (word-here words index x long few)
+          ∙ is r
+          ∙ ap (λ b. if b then has_bit from r else has_bit (word index words) r) (one-router router r within)
+          ∙ sym (ap₂ (λ a j. if a && nat_eq r router then has_bit from r else has_bit (word j words) r) (eq-eqb k index same) same)
       at (inr other) =
           ap (λ w. has_bit w r) (word-other words index x k other)
-          ∙ sym (ap (λ a. not (a && nat_eq r router) && has_bit (word k words) r) (ne_eqb k index other))
+          ∙ sym (ap (λ a. if a && nat_eq r router then has_bit from r else has_bit (word k words) r) (ne_eqb k index other))
 
 -- ---- the sets of the routers
 module _ (n : Numbering) (words new : List ℕ) (c router : ℕ) (apart : AreApart n) (few : c < n.size) where

@@ -1,17 +1,18 @@
 -- A tree of choices by the bits of a number gives what is at this number.
-use Rattle.std.proofs.Common.{◌≡◌, ◌≢◌, ◌/◌, ◌%◌, inl, inr, ◌∷◌, [], ℕ, ◌+◌, ◌*◌, ◌<◌, ◌≤◌, Bool, true, false, List, arith, ap, ap₂, sym, ◌∙◌, refl, bit_and, bit_xor}
+use Rattle.std.proofs.Common.{◌≡◌, ◌≢◌, ◌/◌, ◌%◌, ◌^◌, ◌-◌, inl, inr, ◌∷◌, [], ℕ, zero, suc, ◌+◌, ◌*◌, ◌<◌, ◌≤◌, Bool, true, false, List, arith, ap, ap₂, sym, ◌∙◌, refl, bit_and, bit_xor}
 use Rattle.std.specs.Prelude.{slice_index, ◌⊎◌, nat_eq, not, ◌&&◌, ◌||◌, nat_lt, if◌then◌else◌}
 use Rattle.noc_topo.specs.Lists.{one_if}
 use Rattle.noc_packet.specs.Set.{has_bit}
-use Rattle.noc_packet.proofs.SetLemmas.{both_members}
+use Rattle.noc_packet.proofs.SetLemmas.{both_members, has_bit-zero}
 use Rattle.noc_sets.specs.Sets.{differ}
-use Rattle.noc_sets.proofs.MemberLemmas.{xor_members}
+use Rattle.noc_sets.proofs.MemberLemmas.{ones-members, xor_members}
 use Rattle.std.proofs.lemmas.Bool.{cases_eq, eq-eqb, lt-ltb, ne_eqb}
 use Rattle.noc_columns.specs.Picks.{port_at}
 use Rattle.noc_columns.specs.Supply.{by_four, digits_by, is_fed, is_fed_word, number_in}
 use Rattle.noc_columns.specs.Words.{Numbering, set_of, word}
 use Rattle.noc_columns.specs.declared.ports.Ports.{Ports}
 use Rattle.noc_columns.specs.declared.supply.Digits.{Digits}
+use Rattle.noc_columns.specs.declared.supply.TheConstants.{FOURS, ONES, TWOS}
 use Rattle.noc_columns.proofs.SetLemmas.{below-members}
 
 -- the number with these bits
@@ -125,7 +126,7 @@ number-is n r c d l = λ i. number (member-is n r c d.ones l i) (member-is n r c
 
 -- a link channel in the words and in the set of its port
 pub fed-is : (links : Ports) (some : List ℕ) (r q v : ℕ) → links.first ≡ 0 → v < links.vcs → is_fed_word links.width some r q v ≡ is_fed links.width (λ p. set_of (port_at links p) r some) q v
-fed-is links some r q v zero l = ap (λ b. if nat_lt q links.width then b else true) (sym (member-is (port_at links q) r v some l ∙ ap (λ k. has_bit (word k some) r) (let e : links.first + v * links.width + q ≡ v * links.width + q = omega (arith, zero) in e)))
+fed-is links some r q v first l = ap (λ b. if nat_lt q links.width then b else true) (sym (member-is (port_at links q) r v some l ∙ ap (λ k. has_bit (word k some) r) (let e : links.first + v * links.width + q ≡ v * links.width + q = omega (arith, first) in e)))
 
 -- ---- a number is told digit by digit
 pub digit-is : (a : Bool) (m n : ℕ) → nat_eq (one_if a + 2 * m) n ≡ ((if nat_eq (n % 2) 1 then a else not a) && nat_eq m (n / 2))
@@ -166,6 +167,50 @@ number-of n few = omega (arith, few, odd n, odd (n / 2), odd (n / 2 / 2))
   where
     odd : (m : ℕ) → one_if (nat_eq (m % 2) 1) ≡ m % 2
     odd m = elim (cases_eq (m % 2) 1) [ inl e ↦ ap one_if (eq-eqb (m % 2) 1 e) ∙ sym e | inr o ↦ ap one_if (ne_eqb (m % 2) 1 o) ∙ (let z : 0 ≡ m % 2 = omega (arith, o) in z) ]
+
+-- ---- the digits of the numbers below 8
+-- the same in all routers
+in-all : (b : Bool) (r : ℕ) → r < 64 → has_bit (if b then 2 ^ 64 - 1 else 0) r ≡ b
+in-all true r few = ones-members 64 r ∙ lt-ltb r 64 few
+in-all false r few = has_bit-zero r
+
+pub ones-are : (n r : ℕ) → n < 8 → r < 64 → has_bit (slice_index ONES n) r ≡ nat_eq (n % 2) 1
+ones-are zero r l few = in-all false r few
+ones-are (suc zero) r l few = in-all true r few
+ones-are (suc (suc zero)) r l few = in-all false r few
+ones-are (suc (suc (suc zero))) r l few = in-all true r few
+ones-are (suc (suc (suc (suc zero)))) r l few = in-all false r few
+ones-are (suc (suc (suc (suc (suc zero))))) r l few = in-all true r few
+ones-are (suc (suc (suc (suc (suc (suc zero)))))) r l few = in-all false r few
+ones-are (suc (suc (suc (suc (suc (suc (suc zero))))))) r l few = in-all true r few
+ones-are (suc (suc (suc (suc (suc (suc (suc (suc n)))))))) r l few = absurd (omega (arith, l))
+
+pub twos-are : (n r : ℕ) → n < 8 → r < 64 → has_bit (slice_index TWOS n) r ≡ nat_eq (n / 2 % 2) 1
+twos-are zero r l few = in-all false r few
+twos-are (suc zero) r l few = in-all false r few
+twos-are (suc (suc zero)) r l few = in-all true r few
+twos-are (suc (suc (suc zero))) r l few = in-all true r few
+twos-are (suc (suc (suc (suc zero)))) r l few = in-all false r few
+twos-are (suc (suc (suc (suc (suc zero))))) r l few = in-all false r few
+twos-are (suc (suc (suc (suc (suc (suc zero)))))) r l few = in-all true r few
+twos-are (suc (suc (suc (suc (suc (suc (suc zero))))))) r l few = in-all true r few
+twos-are (suc (suc (suc (suc (suc (suc (suc (suc n)))))))) r l few = absurd (omega (arith, l))
+
+pub fours-are : (n r : ℕ) → n < 8 → r < 64 → has_bit (slice_index FOURS n) r ≡ nat_eq (n / 2 / 2 % 2) 1
+fours-are zero r l few = in-all false r few
+fours-are (suc zero) r l few = in-all false r few
+fours-are (suc (suc zero)) r l few = in-all false r few
+fours-are (suc (suc (suc zero))) r l few = in-all false r few
+fours-are (suc (suc (suc (suc zero)))) r l few = in-all true r few
+fours-are (suc (suc (suc (suc (suc zero))))) r l few = in-all true r few
+fours-are (suc (suc (suc (suc (suc (suc zero)))))) r l few = in-all true r few
+fours-are (suc (suc (suc (suc (suc (suc (suc zero))))))) r l few = in-all true r few
+fours-are (suc (suc (suc (suc (suc (suc (suc (suc n)))))))) r l few = absurd (omega (arith, l))
+
+-- a digit that is put, where it is told in one place alone
+pub digit-put : (x a b d : Bool) → (x ≡ true → a ≡ b) → (if x then a else d) ≡ (if x then b else d)
+digit-put true a b d same = same refl
+digit-put false a b d same = refl
 
 -- of three digits, where they are put in one place
 pub number-put : (x a b c d e f : Bool) (n : ℕ) → n < 8 → a ≡ (if x then nat_eq (n % 2) 1 else d) → b ≡ (if x then nat_eq (n / 2 % 2) 1 else e) → c ≡ (if x then nat_eq (n / 2 / 2 % 2) 1 else f) → number a b c ≡ (if x then n else number d e f)

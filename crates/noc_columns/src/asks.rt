@@ -1,6 +1,6 @@
 //! The waiting channels of one router ask for output channels.
 
-ghost use Rattle.std.specs.Prelude.{◌≡◌, ◌<◌, ℕ, slice_index};
+ghost use Rattle.std.specs.Prelude.{◌≡◌, ◌≢◌, ◌<◌, ℕ, bit_or, slice_index};
 ghost use Rattle.noc_sets.specs.Grants.{AreAsks};
 ghost use Rattle.noc_columns.specs.Prelude.{has_bit};
 
@@ -38,9 +38,8 @@ pub fn ask_all(
         let set = sets[input];
         let free = set & idle;
         let asks = where_some(free, 1 << input as u32);
-        // (Where none is free, nothing is added to what stands there.)
         let out = least_or_any(free);
-        requests[out] = requests[out] | asks;
+        ask_if(asks, out, requests);
         outs = outs | lowest(free);
         inputs = inputs | asks;
         wanted = wanted | set;
@@ -50,5 +49,18 @@ pub fn ask_all(
         outs,
         inputs,
         wanted,
+    }
+}
+
+// These channels ask for an output channel, if there are some. (Mostly there are none, and then no
+// request is read or written.)
+#[inline(always)]
+fn ask_if(asks: u64, out: usize, requests: &mut [u64; CHANNELS])
+    requires { out < CHANNELS }
+    ensures here { slice_index requests.new out ≡ bit_or (slice_index requests.old out) asks }
+    ensures others { (o : ℕ) → o ≢ out → slice_index requests.new o ≡ slice_index requests.old o }
+{
+    if asks != 0 {
+        requests[out] = requests[out] | asks;
     }
 }

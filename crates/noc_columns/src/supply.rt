@@ -8,7 +8,7 @@ ghost use Rattle.noc_columns.specs.Prelude.{IsWithin, Numbering, has_bit, port_a
 use crate::frame::Frame;
 use crate::planes::less;
 use crate::ports::{PORTS, RouterPorts};
-use crate::words::{GROUP, ROUTERS, WORDS, Words, bit, put_router, take_router};
+use crate::words::{GROUP, ROUTERS, WORDS, Words, bit};
 use noc_packet::MAX_CHANNELS;
 use noc_topo::LINKS;
 
@@ -51,25 +51,33 @@ impl Digits<Words> {
             then number
             else number_in (digits_by (word k) self.old) r) }
     {
-        put_digit(&mut self.ones, index, router, number % 2 == 1);
-        put_digit(&mut self.twos, index, router, number / 2 % 2 == 1);
-        put_digit(&mut self.fours, index, router, number / 2 / 2 % 2 == 1);
+        put_digit(&mut self.ones, index, router, ONES[number]);
+        put_digit(&mut self.twos, index, router, TWOS[number]);
+        put_digit(&mut self.fours, index, router, FOURS[number]);
     }
 }
 
-// Puts a router into a word, or takes it out.
+// By number, all routers where the number has bit 0, and else none; and so for bits 1 and 2.
+const ONES: [u64; NUMBERS] = [0, ALL, 0, ALL, 0, ALL, 0, ALL];
+
+const TWOS: [u64; NUMBERS] = [0, 0, ALL, ALL, 0, 0, ALL, ALL];
+
+const FOURS: [u64; NUMBERS] = [0, 0, 0, 0, ALL, ALL, ALL, ALL];
+
+// All routers of a word.
+const ALL: u64 = u64::MAX;
+
+// Has a router in the word with an index where it is in this digit.
 #[inline(always)]
-fn put_digit(words: &mut Words, index: usize, router: usize, inside: bool)
+fn put_digit(words: &mut Words, index: usize, router: usize, digit: u64)
     requires index { index < WORDS }
     requires router { router < ROUTERS }
     ensures { (k r : ℕ) → has_bit (word k words.new) r
-        ≡ (if nat_eq k index && nat_eq r router then inside else has_bit (word k words.old) r) }
+        ≡ (if nat_eq k index && nat_eq r router
+        then has_bit digit r
+        else has_bit (word k words.old) r) }
 {
-    if inside {
-        put_router(words, index, router);
-    } else {
-        take_router(words, index, router);
-    }
+    words[index] = either(1 << router as u32, words[index], digit);
 }
 
 impl Digits<[u64; PORTS]> {

@@ -40,17 +40,6 @@ pub fn put_router(words: &mut Words, index: usize, router: usize)
     words[index] = words[index] | 1 << router as u32;
 }
 
-/// Takes a router out of the word with an index.
-#[inline(always)]
-pub fn take_router(words: &mut Words, index: usize, router: usize)
-    requires index { index < WORDS }
-    requires router { router < ROUTERS }
-    ensures { (k r : ℕ) → has_bit (word k words.new) r
-        ≡ (not (nat_eq k index && nat_eq r router) && has_bit (word k words.old) r) }
-{
-    words[index] = less(words[index], 1 << router as u32);
-}
-
 /// These routers with one of them in or out.
 #[inline(always)]
 pub fn with_router(routers: u64, router: usize, inside: bool) -> u64

@@ -1,13 +1,10 @@
-use Rattle.std.proofs.Common.{◌≡◌, ◌*◌, ◌%◌, ◌^◌, ◌<◌, ◌∙◌, arith, refl, set, bit_and, bit_or, slice_index, get_or-set_same}
-use Rattle.std.proofs.lemmas.List.{length-set}
+use Rattle.std.proofs.Common.{◌≡◌, ◌*◌, ◌%◌, ◌^◌, ◌<◌, ◌∙◌, arith, refl, bit_and, slice_index}
 use Rattle.std.proofs.lemmas.Nat.{and_le_r, shl_whole}
 use Rattle.noc_columns.proofs.AskLemmas.{asking-all, asking-opened, asking-stepped}
-use Rattle.noc_columns.proofs.PassLemmas.{word-other}
 use Rattle.noc_columns.proofs.asks.ask_all.Goals as goal
 
 pub loop-rest-init : goal.loop-rest-init
 loop-rest-init c = record {
-  size = omega arith;
   asking = asking-opened c.args.waiting c.args.idle _ _ 0 0 0 refl refl refl c.requires;
 }
 
@@ -21,16 +18,13 @@ loop-rest-preserved c =
     let free = bit_and chosen c.args.idle in
     let asks = c.where_some-asks.result in
     let out = c.least_or_any-out.result in
-    let next = bit_or (slice_index requests out) asks in
     let within : input < 64 = c.least-input.ensures.within in
-    let few : out < 64 = c.least_or_any-out.ensures.within in
     let one : 1 * 2 ^ input % 2 ^ 64 ≡ 2 ^ input = shl_whole 1 1 input 64 (omega arith) (omega (arith, within)) ∙ omega arith in
     record {
-      size = length-set requests out next ∙ inv.size;
-      asking = asking-stepped c.args.waiting c.args.idle c.loop-rest.rest _ input (λ k. slice_index sets k) (λ o. slice_index requests o) (λ o. slice_index (set requests out next) o) c.loop-rest.outs c.loop-rest.inputs c.loop-rest.wanted
+      asking = asking-stepped c.args.waiting c.args.idle c.loop-rest.rest _ input (λ k. slice_index sets k) (λ o. slice_index requests o) (λ o. slice_index c.ask_if.new.requests o) c.loop-rest.outs c.loop-rest.inputs c.loop-rest.wanted
           _ _ _ chosen free (1 * 2 ^ input % 2 ^ 64) asks out c.lowest-outs.result
           c.least-input.ensures.least refl refl (omega (arith, and_le_r chosen c.args.idle, c.ranges.idle.fits)) one c.where_some-asks.ensures c.least_or_any-out.ensures.least
-          (get_or-set_same requests out next 0 (omega (arith, inv.size, few))) (λ o other. word-other requests out next o other)
+          c.ask_if.ensures.here (λ o other. c.ask_if.ensures.others o other)
           c.lowest-outs.ensures refl refl refl c.but_lowest-rest.ensures.members inv.asking;
     }
 
