@@ -16,7 +16,7 @@ SPEC.loader.exec_module(gate_costs)
 RT, GUARD = "/usr/bin/python3 /kit/bin/rt ci --anew ", "python -ISc import os "
 
 
-def rattle(command, crate, more="src/lib.rt -o x"):
+def rattle(command: str, crate: str, more: str = "src/lib.rt -o x") -> str:
     return f"/kit/bin/rattle {command} --crate-name {crate} {more} "
 
 
@@ -49,15 +49,15 @@ CRATES = ["noc_topo", "noc_view", "noc_tests_parts", "noc"]
 
 
 class GateTest(unittest.TestCase):
-    def setUp(self):
+    def setUp(self) -> None:
         self.samples = Path(self.enterContext(tempfile.TemporaryDirectory())) / "samples"
 
-    def test_a_table(self):
+    def test_a_table(self) -> None:
         """Of four checks of noc_topo the first and the last are its seed; the one of noc_view is an edit."""
         self.samples.write_text("".join(f"{json.dumps(line)}\n" for line in SAMPLED))
         self.assertEqual(gate_costs.table(gate_costs.read(self.samples), CRATES), TABLE)
 
-    def test_a_command_is_sampled(self):
+    def test_a_command_is_sampled(self) -> None:
         """It begins a check, which begins another process and works for a second by itself."""
         kit = self.samples.with_name("bin") / "rattle"
         kit.parent.mkdir()
@@ -71,6 +71,6 @@ class GateTest(unittest.TestCase):
         self.assertEqual([*seconds], [("noc_view", "edits")])
         self.assertGreater(seconds["noc_view", "edits"], 0.5)
 
-    def test_the_page_has_a_place_for_it(self):
+    def test_the_page_has_a_place_for_it(self) -> None:
         page = (TOP / gate_costs.PAGE).read_text()
         self.assertEqual([it.count("| Crate |") for it in gate_costs.IN_PAGE.findall(page)], [1])

@@ -55,7 +55,7 @@ wrong: list[str] = noc_tools.latencies("c", "t")
 """
 
 
-def built_in(folder, build, top=TOP):
+def built_in(folder: Path, build: str, top: Path = TOP) -> Path:
     """What a hook of the backend makes, in a process of its own as under pip."""
     script = f"import make_wheel; print(make_wheel.{build}({str(folder)!r}))"
     words = ["env", f"PYTHONPATH={top / 'release'}", sys.executable, "-c", script]
@@ -71,21 +71,21 @@ class FolderOfArchives(unittest.TestCase):
     sources: Path
 
     @classmethod
-    def setUpClass(cls):
+    def setUpClass(cls) -> None:
         cls.folder = Path(cls.enterClassContext(tempfile.TemporaryDirectory(prefix="noc-test-")))
         cls.wheel, cls.sources = (built_in(cls.folder, name) for name in HOOKS)
 
 
 class Archives(FolderOfArchives):
-    def contents(self):
+    def contents(self) -> dict[str, bytes]:
         """What is in the wheel, by its names."""
         with zipfile.ZipFile(self.wheel) as archive:
             return {name: archive.read(name) for name in archive.namelist()}
 
-    def test_their_names_are_those_of_the_version(self):
+    def test_their_names_are_those_of_the_version(self) -> None:
         self.assertEqual((self.wheel.name, self.sources.name), (WHEEL, SOURCES))
 
-    def test_the_wheel_has_the_package(self):
+    def test_the_wheel_has_the_package(self) -> None:
         """All of it that git has, and nothing else, but for what tells of it."""
         words = ["git", "ls-files", "-co", "--exclude-standard", "noc_tools"]
         listed = subprocess.run(words, cwd=TOP, capture_output=True, text=True)
@@ -97,7 +97,7 @@ class Archives(FolderOfArchives):
         self.assertEqual(told, licences | {f"{ABOUT}{name}" for name in
                                            ("METADATA", "WHEEL", "RECORD", "entry_points.txt")})
 
-    def test_it_has_licences_and_a_mark_of_types(self):
+    def test_it_has_licences_and_a_mark_of_types(self) -> None:
         """As they are in the repository; a licence has its whole text."""
         contents = self.contents()
         self.assertEqual(contents["noc_tools/py.typed"], b"")
@@ -107,7 +107,7 @@ class Archives(FolderOfArchives):
         self.assertIn(b"The above copyright notice and this permission notice", mit)
         self.assertIn(b"END OF TERMS AND CONDITIONS", apache)
 
-    def test_what_an_index_shows(self):
+    def test_what_an_index_shows(self) -> None:
         told = message_from_bytes(self.contents()[f"{ABOUT}METADATA"])
         self.assertEqual((told["Name"], told["Version"], told["Summary"]),
                          ("noc_tools", VERSION, PROJECT["description"]))
@@ -118,7 +118,7 @@ class Archives(FolderOfArchives):
         self.assertEqual(told["Description-Content-Type"], "text/markdown")
         self.assertTrue(told.get_payload().startswith("# noc\n"))
 
-    def test_addresses_and_extras_are_shown(self):
+    def test_addresses_and_extras_are_shown(self) -> None:
         """Those that pyproject.toml has. A requirement of an extra says which one it is of."""
         about = PROJECT | {"urls": {"Source": "https://a.example/noc"},
                            "optional-dependencies": {"extra": ["one>=2"]}}
@@ -127,7 +127,7 @@ class Archives(FolderOfArchives):
         self.assertEqual(told["Provides-Extra"], "extra")
         self.assertEqual(told["Requires-Dist"], "one>=2; extra == 'extra'")
 
-    def test_the_list_of_all_has_their_digests(self):
+    def test_the_list_of_all_has_their_digests(self) -> None:
         contents = self.contents()
         rows = list(csv.reader(io.StringIO(contents[f"{ABOUT}RECORD"].decode())))
         self.assertEqual({name for name, *_ in rows}, set(contents))
@@ -137,7 +137,7 @@ class Archives(FolderOfArchives):
                 self.assertEqual(digest, f"sha256={right.rstrip('=')}")
                 self.assertEqual(size, str(len(contents[name])))
 
-    def test_the_same_files_give_the_same_bytes(self):
+    def test_the_same_files_give_the_same_bytes(self) -> None:
         """Later, in another time zone and from a copy whose files are newer."""
         with tempfile.TemporaryDirectory(prefix="noc-test-") as name:
             copy = Path(name)
@@ -150,7 +150,7 @@ class Archives(FolderOfArchives):
                              [path.read_bytes() for path in (self.wheel, self.sources)])
 
     @unittest.skipUnless(BUILD, "there is no pyproject-build here")
-    def test_build_makes_both(self):
+    def test_build_makes_both(self) -> None:
         """It makes the wheel out of the archive of sources, and the bytes are the same."""
         with tempfile.TemporaryDirectory(prefix="noc-test-") as name:
             ran = subprocess.run([BUILD, "-o", name, TOP], capture_output=True, text=True)
@@ -160,7 +160,7 @@ class Archives(FolderOfArchives):
         self.assertEqual(made, same)
 
     @unittest.skipUnless(TWINE, "there is no twine here")
-    def test_twine_finds_nothing(self):
+    def test_twine_finds_nothing(self) -> None:
         words = [TWINE, "check", "--strict", self.wheel, self.sources]
         ran = subprocess.run(words, capture_output=True, text=True)
         self.assertEqual(ran.returncode, 0, ran.stdout + ran.stderr)
@@ -171,20 +171,22 @@ class InEnvironment(FolderTest):
     """A test with an environment that has nothing, and an environment of variables that has next to
     nothing."""
 
-    def setUp(self):
+    def setUp(self) -> None:
         super().setUp()
         self.root = self.folder / "root"
         venv.create(self.root, symlinks=True)
         self.addCleanup(shutil.rmtree, self.root)
 
-    def pip(self, *words):
+    def pip(self, *words: object) -> None:
         """Has pip do something, and looks whether it did."""
         pip = [sys.executable, "-m", "pip", "--python", self.root / "bin/python",
                "--disable-pip-version-check"]
         ran = self.called([*pip, *words])
         self.assertEqual(ran.returncode, 0, ran.stderr)
 
-    def run_installed(self, name, *words, folder=".", **environment):
+    def run_installed(
+            self, name: str, *words: object, folder: str | Path = ".", **environment: str,
+    ) -> subprocess.CompletedProcess[str]:
         """How a call of what is installed ends."""
         return self.called(["env", "-C", folder, self.root / "bin" / name, *words],
                            env={"PATH": os.defpath, **environment})
@@ -194,7 +196,7 @@ class InEnvironment(FolderTest):
 class Installed(InEnvironment):
     """What pip installs, from a copy of the folder."""
 
-    def setUp(self):
+    def setUp(self) -> None:
         super().setUp()
         self.sources = self.folder / "sources"
         kept = shutil.ignore_patterns("__pycache__")
@@ -204,24 +206,24 @@ class Installed(InEnvironment):
             shutil.copy(TOP / name, self.sources / name)
         self.addCleanup(shutil.rmtree, self.sources)
 
-    def install(self, *words):
+    def install(self, *words: object) -> None:
         """Has pip install something, and looks whether something is left behind."""
         before = sorted(self.sources.rglob("*"))
         self.pip("install", "--no-index", *words)
         self.assertEqual(sorted(self.sources.rglob("*")), before)
 
-    def installed(self, *words):
+    def installed(self, *words: object) -> subprocess.CompletedProcess[str]:
         """How an installed command ends, with the program and nothing of the repository."""
         return self.run_installed("noc-tools", *words, NOC=str(PROGRAM))
 
-    def test_pip_installs_it_without_a_network(self):
+    def test_pip_installs_it_without_a_network(self) -> None:
         """The command and the page of 'replay' are there."""
         self.install(self.sources)
         page, same = self.installed("replay", "c", "t").stdout, self.said("replay", "c", "t")
         self.assertIn("<h1>c, t: mesh of 3", page)
         self.assertEqual(page, same)
 
-    def test_pip_installs_it_in_place(self):
+    def test_pip_installs_it_in_place(self) -> None:
         """An edit of the folder is seen at once."""
         self.install("-e", self.sources)
         self.assertIn("life of a packet", self.installed("--help").stdout)
@@ -230,7 +232,7 @@ class Installed(InEnvironment):
         self.assertIn("end of a packet", self.installed("--help").stdout)
 
     @unittest.skipUnless(MYPY, "there is no mypy here")
-    def test_its_types_are_seen(self):
+    def test_its_types_are_seen(self) -> None:
         """One line of two is wrong, and the package itself is neither unknown nor looked at."""
         self.install(self.sources)
         self.put(**{"root/user.py": USER})
@@ -251,7 +253,7 @@ class Folder(InEnvironment):
     told: str
 
     @classmethod
-    def setUpClass(cls):
+    def setUpClass(cls) -> None:
         super().setUpClass()
         programs = [cls.folder / name for name in ("noc_avx2", "programs/noc")]
         cls.target = cls.folder / "made"
@@ -261,25 +263,25 @@ class Folder(InEnvironment):
         words: list[str | Path] = [sys.executable, TOP / "release/make_folder.py", cls.target]
         cls.told = subprocess.run([*words, *programs], capture_output=True, text=True, check=True).stderr
 
-    def pages(self):
+    def pages(self) -> list[Path]:
         """The pages that are installed."""
         return sorted(path for path in self.target.rglob("*.md"))
 
-    def test_a_link_leads_to_what_is_installed(self):
+    def test_a_link_leads_to_what_is_installed(self) -> None:
         self.assertLess(8, len(self.pages()))
         for page in self.pages():
             for target in LINK.findall(page.read_text()):
                 with self.subTest(page=page.name, target=target):
                     self.assertTrue((page.parent / target).exists())
 
-    def test_nothing_is_said_of_builds(self):
+    def test_nothing_is_said_of_builds(self) -> None:
         """But for what was new once."""
         for page in self.pages():
             if page.name != "CHANGELOG.md":
                 self.assertNotRegex(page.read_text(), OF_BUILDS, page.name)
         self.assertRegex((TOP / "README.md").read_text(), OF_BUILDS)
 
-    def test_its_wheel_gives_all(self):
+    def test_its_wheel_gives_all(self) -> None:
         """As the step of a container installs it: the first example of the page, where its files
         were installed, by what was installed and nothing else."""
         self.pip("wheel", "--no-index", "--no-deps", "--wheel-dir", self.folder, self.target)
@@ -300,7 +302,7 @@ class Folder(InEnvironment):
         self.assertEqual([path for path in self.root.rglob("*noc*") if path.is_file()], [])
 
     @unittest.skipUnless(HAS_JUPYTER, "there is no Jupyter here")
-    def test_the_notebook_runs_on_what_is_installed(self):
+    def test_the_notebook_runs_on_what_is_installed(self) -> None:
         """In an environment with the wheel, and with the libraries that the notebook wants beside
         it."""
         self.pip("install", "--no-index", "--no-deps", self.target)
@@ -311,7 +313,7 @@ class Folder(InEnvironment):
         self.assertEqual(shown_by(json.loads(ran.stdout)), shown_by(json.loads(path.read_text())))
 
     @unittest.skipUnless(OBJDUMP, "there is no objdump here")
-    def test_the_wheel_wants_the_glibc_of_its_program(self):
+    def test_the_wheel_wants_the_glibc_of_its_program(self) -> None:
         """The name of the wheel says which, and so does the page."""
         symbols = self.called([OBJDUMP, "-T", PROGRAM]).stdout
         newest = max(map(int, re.findall(r"GLIBC_2\.(\d+)", symbols)))
@@ -321,11 +323,11 @@ class Folder(InEnvironment):
         self.assertIn(f"glibc 2.{newest} ", (TOP / "README.md").read_text())
 
     @unittest.skipUnless(SHTAB, "there is no shtab here")
-    def test_bash_completes_words(self):
+    def test_bash_completes_words(self) -> None:
         """Commands, options, and the names of what a word stands for."""
         script = self.target / "share/bash-completion/completions/noc-tools"
 
-        def completed(*words):
+        def completed(*words: str) -> set[str]:
             bash = ["bash", "-c", COMPLETE, "bash", script, "noc-tools"]
             return set(self.called([*bash, *words]).stdout.split())
         self.assertLessEqual({"stalls", "sweep", "shrink"}, completed("s"))
@@ -336,14 +338,14 @@ class Folder(InEnvironment):
         self.assertEqual(completed("help", "cer"), {"certify"})
 
     @unittest.skipUnless(SHTAB and ZSH, "there is no shtab or no zsh here")
-    def test_zsh_reads_its_completions(self):
+    def test_zsh_reads_its_completions(self) -> None:
         script = self.target / "share/zsh/site-functions/_noc-tools"
         ran = self.called([ZSH, "-n", script])
         self.assertEqual((ran.returncode, ran.stderr), (0, ""))
         self.assertTrue(script.read_text().startswith("#compdef noc-tools\n"))
 
     @unittest.skipUnless(HELP2MAN and GROFF, "there is no help2man or no groff here")
-    def test_each_command_has_a_manual_page(self):
+    def test_each_command_has_a_manual_page(self) -> None:
         """It begins with what the command does, has its options, and groff finds nothing wrong in
         it."""
         words = [*(f"noc {name}" for name in ("run", "explain", "trace", "check", "ranks")),

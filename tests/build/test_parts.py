@@ -22,7 +22,7 @@ sys.exit({failed})
 
 
 class Parts(unittest.TestCase):
-    def setUp(self):
+    def setUp(self) -> None:
         room = tempfile.TemporaryDirectory(prefix="noc-parts-")
         self.addCleanup(room.cleanup)
         self.top = Path(room.name)
@@ -35,22 +35,22 @@ class Parts(unittest.TestCase):
         for name, does in ("rt", makes), ("mypy", ":"), ("flake8", ":"):
             self.write(f"bin/{name}", f"#!/bin/sh\n[ \"$1\" != version ] || exit 0\necho {name} >> journal\n{does}\n")
 
-    def write(self, name, text):
+    def write(self, name: str, text: str) -> None:
         path = self.top / name
         path.parent.mkdir(exist_ok=True)
         path.write_text(text)
         path.chmod(0o755)
 
-    def script(self, name, passed, failed):
+    def script(self, name: str, passed: int, failed: int) -> None:
         path = self.top / SCRIPTS[name]
         path.parent.mkdir(parents=True, exist_ok=True)
         path.write_text(CALLED.format(name=name, passed=passed, failed=failed))
 
-    def build(self):
+    def build(self) -> None:
         self.write("crates/noc/out/noc", "")
         self.write("crates/noc/out/noc.sources", "the sources\n")
 
-    def run_test(self, *parts):
+    def run_test(self, *parts: str) -> tuple[int, str, list[str]]:
         """The status, the last line, and what was called."""
         journal = self.top / "journal"
         journal.write_text("")
@@ -60,18 +60,18 @@ class Parts(unittest.TestCase):
         self.said = ran.stdout
         return ran.returncode, ran.stdout.splitlines()[-1], journal.read_text().split()
 
-    def test_quick_is_all_that_needs_no_proof(self):
+    def test_quick_is_all_that_needs_no_proof(self) -> None:
         self.build()
         status, last, called = self.run_test("quick")
         self.assertEqual((status, last, sorted(called)), (0, "18 passed, 0 failed", sorted(QUICK)))
         self.assertNotIn("not of the sources", self.said)
 
-    def test_parts_run_in_their_order_and_once(self):
+    def test_parts_run_in_their_order_and_once(self) -> None:
         self.build()
         twice = self.run_test("names", "growth", "names")
         self.assertEqual(twice, (0, "4 passed, 0 failed", ["run_growth", "run_names"]))
 
-    def test_without_a_part_all_run(self):
+    def test_without_a_part_all_run(self) -> None:
         status, _, called = self.run_test()
         without_avx2 = [it for it in called if it != "run_avx2"]
         self.assertEqual(without_avx2, ["rt", *QUICK[:8], "run_growth", *QUICK[8:]])
@@ -81,7 +81,7 @@ class Parts(unittest.TestCase):
         # The stand-in makes no program for AVX2, which is a failure where the processor has it.
         self.assertEqual(status, 1 if "run_avx2" in called else 0)
 
-    def test_the_gate_says_what_it_took(self):
+    def test_the_gate_says_what_it_took(self) -> None:
         """Two processes of a command of the kit work for two seconds each, and it waits for one more."""
         busy = "python3 -c 'import time\nwhile time.process_time() < 2.2: pass'"
         makes = f"{busy} & {busy} & wait; sleep 1; touch crates/noc/out/noc; chmod +x crates/noc/out/noc"
@@ -92,7 +92,7 @@ class Parts(unittest.TestCase):
         self.assertLessEqual(3, 60 * minutes + seconds)
         self.assertIn(processor, range(3, 8))
 
-    def test_what_fails_counts(self):
+    def test_what_fails_counts(self) -> None:
         self.build()
         self.script("run_cases", 3, 1)
         self.assertEqual(self.run_test("cases", "names")[:2], (1, "5 passed, 1 failed"))
@@ -100,20 +100,20 @@ class Parts(unittest.TestCase):
         self.assertEqual(self.run_test("cases")[:2], (1, "0 passed, 1 failed"))
         self.assertEqual(self.run_test("quick")[:2], (1, "16 passed, 1 failed"))
 
-    def test_a_word_that_names_no_part_is_refused(self):
+    def test_a_word_that_names_no_part_is_refused(self) -> None:
         self.build()
         self.assertEqual(self.run_test("cases", "nonsense"), (1, "0 passed, 1 failed", []))
         self.assertIn("there is no part 'nonsense'", self.said)
         self.assertEqual(self.run_test("quick", "cases"), (1, "0 passed, 1 failed", []))
 
-    def test_a_program_that_is_missing_or_old_is_told(self):
+    def test_a_program_that_is_missing_or_old_is_told(self) -> None:
         self.assertEqual(self.run_test("cases", "tour"), (1, "0 passed, 2 failed", []))
         self.build()
         self.write("crates/noc/out/noc.sources", "other sources\n")
         self.assertEqual(self.run_test("cases")[:2], (0, "2 passed, 0 failed"))
         self.assertIn("crates/noc/out/noc is not of the sources as they stand", self.said)
 
-    def ci(self, user):
+    def ci(self, user: int) -> tuple[list[str], list[str]]:
         """What .ci/run says, where a user has no program that tests want, and apt-get has all of them but one."""
         self.write(".ci/run", (TOP / ".ci/run").read_text())
         self.write("test", "#!/bin/sh\necho 2 passed, 0 failed\n")
@@ -128,7 +128,7 @@ class Parts(unittest.TestCase):
         ran = subprocess.run([self.top / ".ci/run"], env=alone, capture_output=True, text=True)
         return ran.stdout.splitlines(), (self.top / "journal").read_text().split()
 
-    def test_ci_installs_what_it_can(self):
+    def test_ci_installs_what_it_can(self) -> None:
         """One that is refused keeps none of the others; and only root may install. What is installed here is called as
         its package, so a program that has another name is still missing. There is no Python that could tell of
         libraries."""

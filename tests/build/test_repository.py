@@ -8,6 +8,7 @@ import tempfile
 import unittest
 from importlib.util import find_spec
 from pathlib import Path
+from typing import Any
 
 from support import PROGRAM, TOP
 
@@ -21,7 +22,7 @@ LOOKS_FOR = r"^[A-Z][A-Z0-9_, ]* = .*shutil\.which[^)]*\)"
 OTHER_NAMES = {"vvp", "chromium-browser", "google-chrome"}
 
 
-def read(path):
+def read(path: Path) -> Any:
     """What a file in YAML says."""
     from yaml import safe_load
     return safe_load(path.read_text())
@@ -29,29 +30,29 @@ def read(path):
 
 @unittest.skipUnless(find_spec("yaml"), "there is no PyYAML here")
 class Forge(unittest.TestCase):
-    def steps(self, job):
+    def steps(self, job: str) -> list[list[str]]:
         """The commands of a job."""
         steps = read(WORKFLOW)["jobs"][job]["steps"]
         return [step["run"].split() for step in steps if "run" in step]
 
-    def test_all_tests_run_where_the_kit_is(self):
+    def test_all_tests_run_where_the_kit_is(self) -> None:
         self.assertEqual(self.steps("all"), [[".ci/run"]])
         self.assertTrue((TOP / ".ci/run").stat().st_mode & 0o100)
 
-    def test_some_tests_run_without_the_kit(self):
+    def test_some_tests_run_without_the_kit(self) -> None:
         """They are parts of ./test, of which none needs a program."""
         *_, words = self.steps("without-kit")
         self.assertEqual((words[0], set(words[1:])), ("./test", WITHOUT_KIT))
         parts = re.findall(r"^(?:parts=')?(\w+) +quick ", (TOP / "test").read_text(), re.M)
         self.assertLessEqual(WITHOUT_KIT, set(parts))
 
-    def test_hooks_are_parts_of_the_test(self):
+    def test_hooks_are_parts_of_the_test(self) -> None:
         hooks = [hook for repository in read(HOOKS)["repos"] for hook in repository["hooks"]]
         entries = [hook["entry"].split() for hook in hooks if hook["language"] == "system"]
         self.assertEqual({words[0] for words in entries}, {"./test"})
         self.assertLessEqual({word for words in entries for word in words[1:]}, WITHOUT_KIT)
 
-    def test_a_subject_has_at_most_72_columns(self):
+    def test_a_subject_has_at_most_72_columns(self) -> None:
         """A hook of this language refuses a message in which its pattern is found."""
         hooks = read(HOOKS)["repos"][0]["hooks"]
         (hook,) = [hook for hook in hooks if hook["language"] == "pygrep"]
@@ -60,13 +61,13 @@ class Forge(unittest.TestCase):
             self.assertEqual(bool(re.search(hook["entry"], message, re.MULTILINE)), is_found)
 
     @unittest.skipUnless(PRE_COMMIT, "there is no pre-commit here")
-    def test_pre_commit_takes_the_hooks(self):
+    def test_pre_commit_takes_the_hooks(self) -> None:
         ran = subprocess.run([PRE_COMMIT, "validate-config", HOOKS], capture_output=True, text=True)
         self.assertEqual((ran.returncode, ran.stdout), (0, ""))
 
 
 class Tools(unittest.TestCase):
-    def test_ci_installs_what_tests_look_for(self):
+    def test_ci_installs_what_tests_look_for(self) -> None:
         """Each program without which a test is left out."""
         listed = re.search(r"^programs=\(([^)]*)\)", (TOP / ".ci/run").read_text(), re.M)[1].split()
         looked_for = set()
@@ -82,19 +83,19 @@ class Tools(unittest.TestCase):
 class ByPytest(unittest.TestCase):
     """The tests run by pytest too."""
 
-    def lines(self, top, *words, **environment):
+    def lines(self, top: Path, *words: str, **environment: str) -> tuple[int, list[str]]:
         """How pytest ends, and the lines that it says."""
         given = {**os.environ, **environment}
         ran = subprocess.run([PYTEST, "-q", "-p", "no:cacheprovider", *words], cwd=top, env=given,
                              capture_output=True, text=True)
         return ran.returncode, (ran.stdout + ran.stderr).strip().splitlines()
 
-    def ran(self, top, **environment):
+    def ran(self, top: Path, **environment: str) -> tuple[int, str]:
         """How it ends on one module, and the last line that it says."""
         status, lines = self.lines(top, "tests/build/test_version.py", **environment)
         return status, lines[-1]
 
-    def test_it_finds_each_module(self):
+    def test_it_finds_each_module(self) -> None:
         """Here those beside the package, of which it would leave out a folder by itself."""
         status, lines = self.lines(TOP, "--collect-only", "--ignore=tests/package", NOC=str(PROGRAM))
         found = {line.partition("::")[0] for line in lines if "::" in line}
@@ -102,18 +103,18 @@ class ByPytest(unittest.TestCase):
                  if path.parent.name != "package"}
         self.assertEqual((status, found), (0, there))
 
-    def test_as_many_pass(self):
+    def test_as_many_pass(self) -> None:
         status, last = self.ran(TOP, NOC=str(PROGRAM))
         module = unittest.defaultTestLoader.loadTestsFromName("test_version")
         self.assertEqual((status, last.split(" in ")[0]), (0, f"{module.countTestCases()} passed"))
 
-    def test_nothing_is_built_for_it(self):
+    def test_nothing_is_built_for_it(self) -> None:
         """Where no program is built, it says so before the first test."""
         with tempfile.TemporaryDirectory(prefix="noc-test-") as name:
             for file in ("noc", "release/choose.sh", "tests/conftest.py",
                          "tests/build/test_version.py"):
                 (Path(name) / file).parent.mkdir(parents=True, exist_ok=True)
                 shutil.copy(TOP / file, Path(name) / file)
-            status, last = self.ran(name, NOC="")
+            status, last = self.ran(Path(name), NOC="")
         self.assertEqual(status, 1)
         self.assertRegex(last, "there is no program .*/crates/noc/out/noc(_avx2)?: call ./noc, ")

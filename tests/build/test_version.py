@@ -13,22 +13,22 @@ SOURCE = TOP / "crates/noc_cli/src/version.rt"
 RELEASED = r"^## (\d+\.\d+\.\d+) - \d{4}-\d\d-\d\d$"
 
 
-def found_in(name, pattern):
+def found_in(name: str, pattern: str) -> str | None:
     """What a pattern finds first in a file."""
     found = re.search(pattern, (TOP / name).read_text(), re.M)
-    return found and found[1]
+    return found[1] if found else None
 
 
 class Version(unittest.TestCase):
-    def setUp(self):
+    def setUp(self) -> None:
         self.said = dict(re.findall(r'pub const (\w+): &str = "(.*)";', SOURCE.read_text()))
 
-    def test_the_program_says_what_the_source_says(self):
+    def test_the_program_says_what_the_source_says(self) -> None:
         ran = subprocess.run([PROGRAM, "--version"], capture_output=True, text=True)
         text = "noc {VERSION}\nformats {FORMATS}\nkit {KIT}\n".format(**self.said)
         self.assertEqual((ran.returncode, ran.stdout, ran.stderr), (0, text, ""))
 
-    def test_files_with_the_version_agree(self):
+    def test_files_with_the_version_agree(self) -> None:
         self.assertEqual(found_in("CHANGELOG.md", RELEASED), self.said["VERSION"])
         self.assertEqual(found_in("CITATION.cff", r"^version: (\S+)$"), self.said["VERSION"])
         date = found_in("CHANGELOG.md", rf"^## {re.escape(self.said['VERSION'])} - (\S+)$")
@@ -37,7 +37,7 @@ class Version(unittest.TestCase):
         project = tomllib.loads((TOP / "pyproject.toml").read_text())["project"]
         self.assertEqual(project["version"], self.said["VERSION"])
 
-    def test_changes_have_the_dates_of_their_versions(self):
+    def test_changes_have_the_dates_of_their_versions(self) -> None:
         """What no version has yet comes first, and then the versions, the newest first."""
         unreleased, *versions = re.findall(r"^## .*$", (TOP / "CHANGELOG.md").read_text(), re.M)
         self.assertEqual(unreleased, "## Unreleased")
@@ -49,5 +49,5 @@ class Version(unittest.TestCase):
             headings = re.findall(r"^### .*$", version, re.M)
             self.assertEqual(sorted(set(headings)), sorted(headings), "a heading stands twice, as after a merge")
 
-    def test_the_builder_wants_the_same_kit(self):
+    def test_the_builder_wants_the_same_kit(self) -> None:
         self.assertEqual(found_in("builder/build.py", r'^KIT = "(.*)"$'), self.said["KIT"])

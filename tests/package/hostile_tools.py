@@ -20,9 +20,11 @@ import signal
 import sys
 import tempfile
 import traceback
+from collections.abc import Sequence
 from contextlib import chdir, redirect_stderr, redirect_stdout
 from pathlib import Path
 from random import Random
+from types import FrameType
 from unittest.mock import patch
 
 TOP = Path(__file__).resolve().parents[2]
@@ -89,12 +91,12 @@ class Late(BaseException):
     """A call that takes too long."""
 
 
-def late(number, frame):
+def late(number: int, frame: FrameType | None) -> None:
     """Ends a call."""
     raise Late
 
 
-def call(words, given=b""):
+def call(words: Sequence[str], given: bytes = b"") -> tuple[str | None, str]:
     """How a command ends: None where it is right, else what is wrong; and what it printed."""
     out, source = io.StringIO(), io.TextIOWrapper(io.BytesIO(given))
     signal.alarm(LONGEST)
@@ -114,7 +116,7 @@ def call(words, given=b""):
     return None, out.getvalue()
 
 
-def prepare(folder):
+def prepare(folder: Path) -> dict[str, bytes]:
     """Makes the files that calls are given, and returns their bytes by their names."""
     for name, text in GIVEN.items():
         (folder / name).write_text(text)
@@ -131,7 +133,7 @@ def prepare(folder):
     return {str(path.relative_to(folder)): path.read_bytes() for path in files}
 
 
-def damaged(random, text):
+def damaged(random: Random, text: bytes) -> bytes:
     """A text with one change, which is often a number that none should be."""
     numbers = list(re.finditer(rb"\d+", text))
     if not text or not numbers or random.randrange(3):
@@ -140,10 +142,10 @@ def damaged(random, text):
     return text[:number.start()] + random.choice(NUMBERS) + text[number.end():]
 
 
-def made_input(random, files):
+def made_input(random: Random, files: dict[str, bytes]) -> tuple[list[str], dict[str, bytes], str]:
     """A call with its standard input, and the files that have changes."""
-    words, _, given = random.choice([one for one in CALLS if not one.startswith(SELDOM)] * 4 + CALLS).partition(" < ")
-    words = words.split()
+    chosen, _, given = random.choice([one for one in CALLS if not one.startswith(SELDOM)] * 4 + CALLS).partition(" < ")
+    words = chosen.split()
     meant = {word.split("=")[-1] for word in [*words, given]}
     named = [name for name in files if meant & {name, name.split("/")[0]}]
     edits = {}
@@ -157,14 +159,14 @@ def made_input(random, files):
     return words, edits, given
 
 
-def left_behind(folder, before):
+def left_behind(folder: Path, before: dict[str, bytes]) -> list[str]:
     """What a call changed that it was given, or left of its own files."""
     changed_files = [name for name, data in before.items() if (folder / name).read_bytes() != data]
     gc.collect()
     return [*changed_files, *(path.name for path in (folder / "tmp").iterdir())]
 
 
-def one_call(folder, files, seed, number):
+def one_call(folder: Path, files: dict[str, bytes], seed: int, number: int) -> bool:
     """Makes an input and a call, and shows it where it fails."""
     random = Random(f"{seed} {number}")
     words, edits, given = made_input(random, files)
@@ -188,7 +190,7 @@ def one_call(folder, files, seed, number):
     return not found
 
 
-def main():
+def main() -> int:
     options = options_of("Gives cut, changed and mixed files and words to commands.", COUNT)
     os.environ["NOC"] = str(options.program.resolve())
     resource.setrlimit(resource.RLIMIT_AS, (MOST_MEMORY, MOST_MEMORY))

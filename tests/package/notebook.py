@@ -9,6 +9,7 @@ import os
 import sys
 from pathlib import Path
 from tempfile import TemporaryDirectory
+from typing import Any
 
 import nbformat
 from nbclient import NotebookClient
@@ -22,7 +23,7 @@ ANY_KERNEL = {"kernelspec": {"display_name": "Python 3", "language": "python", "
               "language_info": {"name": "python"}}
 
 
-def executed(path):
+def executed(path: Path) -> Any:
     """A notebook as its cells show it when they run one after the other."""
     found, place = nbformat.read(path, as_version=4), {"metadata": {"path": str(path.parent)}}
     with TemporaryDirectory(prefix="noc-kernel-") as folder:

@@ -5,6 +5,7 @@ import unittest
 from dataclasses import replace
 from pathlib import Path
 from tempfile import TemporaryDirectory
+from typing import Any
 
 from support import HEADER, LINE, FolderTest
 
@@ -12,6 +13,7 @@ from noc_tools import Demand, Network
 from noc_tools.bound import (
     CUTS, SUM, Split, asked_for, bound_of, flows_of, has_one_way, sent, ways_of,
 )
+from noc_tools.bound import Bound, Flows, Ways
 from noc_tools.measure import Experiment, kept_bound
 from noc_tools.study.plan import case_of
 from noc_tools.replies import Replies
@@ -39,8 +41,11 @@ found = linprog(cost, most, numpy.zeros(links), same, amounts, method="highs")
 print(found.fun)
 """
 
+# An entry of a matrix: its row, its column and its value.
+Entry = tuple[int, int, float]
 
-def python_with_scipy():
+
+def python_with_scipy() -> str | None:
     """A Python that has the solver, where there is one."""
     for name in ("python3", "/usr/bin/python3"):
         if subprocess.run([name, "-c", "import scipy"], capture_output=True).returncode == 0:
@@ -48,18 +53,18 @@ def python_with_scipy():
     return None
 
 
-def flows(network, pattern, **more):
+def flows(network: Network, pattern: str, **more: Any) -> Flows:
     """What a pattern sends at a load of 1."""
     return flows_of(Demand(pattern, 1, 4, **more), network)
 
 
-def bound(network, pattern, **more):
+def bound(network: Network, pattern: str, **more: Any) -> Bound:
     """The bound of a pattern."""
     return bound_of(ways_of(network), flows(network, pattern, **more), lambda _: 1, 1)
 
 
 class OneWay(unittest.TestCase):
-    def test_patterns_have_the_bounds_of_the_book(self):
+    def test_patterns_have_the_bounds_of_the_book(self) -> None:
         """Of a mesh of 8 by 8 by dimension order, at a load of 1. Uniform: over the link from
         column 3 to 4 of a row go the packets of 4 nodes to 32 of 63 each. Transpose: of row 0 those
         of 7 nodes turn in one corner. Bit complement: of 4 nodes all cross the middle. Tornado: 3
@@ -74,7 +79,7 @@ class OneWay(unittest.TestCase):
             self.assertEqual(found.way, SUM)
             self.assertAlmostEqual(1 / found.load, most, places=9, msg=pattern)
 
-    def test_what_comes_out_is_of_the_nodes_that_send(self):
+    def test_what_comes_out_is_of_the_nodes_that_send(self) -> None:
         """Eight of 64 nodes are on the diagonal of a transpose and send nothing. The packets of row
         0 come to router 0 and go on along its column: both links carry all, and the first one is
         named."""
@@ -82,14 +87,14 @@ class OneWay(unittest.TestCase):
         self.assertAlmostEqual(found.accepted, 56 / 64 / 7)
         self.assertEqual(found.link, "router 0, +1")
 
-    def test_a_torus_has_ways_over_its_ends(self):
+    def test_a_torus_has_ways_over_its_ends(self) -> None:
         """In a ring of five, by the shorter way, a packet goes one or two hops: of each node two of
         four pairs go up, over three links in all."""
         ring = Network("torus", (5,), 2, 1, 1, "dateline", 100)
         self.assertAlmostEqual(1 / bound(ring, "uniform").load, max(3 / 4, 1))
         self.assertAlmostEqual(asked_for(ways_of(ring), flows(ring, "uniform"))[0], 3 / 4)
 
-    def test_a_permutation_is_that_of_its_seed(self):
+    def test_a_permutation_is_that_of_its_seed(self) -> None:
         """Each seed has its own, which is that of its packets."""
         for seed in (1, 2):
             rows = Demand("permutation", 1, 1, seed).rows(replace(MESH, cycles=60))
@@ -98,7 +103,7 @@ class OneWay(unittest.TestCase):
             pairs = {(source, goal) for (_, goal), sources in sends.items() for source in sources}
             self.assertEqual(ways, pairs)
 
-    def test_replies_are_asked_for_too(self):
+    def test_replies_are_asked_for_too(self) -> None:
         """Requests of two flits in class 0 from node 0, 1 and 2 of a line, answered by four in
         class 1: at a load of 1 half a packet of each node in a cycle, a half of which goes to each
         other one. From 0 to 1 go two halves of a flit, and as replies to 1 and 2 of what these sent
@@ -116,7 +121,7 @@ class OneWay(unittest.TestCase):
 
 
 class SeveralWays(unittest.TestCase):
-    def test_they_are_told(self):
+    def test_they_are_told(self) -> None:
         """By `west-first` a packet that goes west has one way to its column, and none of a row has
         a choice."""
         found = {
@@ -127,7 +132,7 @@ class SeveralWays(unittest.TestCase):
         one_way = {key for key, is_one in found.items() if is_one}
         self.assertEqual(one_way, {("dor", "uniform"), ("dor", "tornado"), ("dor", "neighbour")})
 
-    def test_a_corner_has_two_links(self):
+    def test_a_corner_has_two_links(self) -> None:
         """Of a mesh of 2 by 2 each node sends all to the opposite corner: half by each way fills
         half of each link, and its port is full."""
         square = Network("mesh", (2, 2), 2, 1, 1, "adaptive", 100)
@@ -135,7 +140,7 @@ class SeveralWays(unittest.TestCase):
         self.assertEqual(found.way, CUTS)
         self.assertAlmostEqual(found.load, 1)
 
-    def test_prices_come_near_the_best_split(self):
+    def test_prices_come_near_the_best_split(self) -> None:
         """As a solver of linear programmes finds it: never below, and at most 2 percent above."""
         name = python_with_scipy()
         if name is None:
@@ -153,7 +158,7 @@ class SeveralWays(unittest.TestCase):
                     self.assertLessEqual(best - 1e-9, found)
                     self.assertLessEqual(found, 1.02 * best)
 
-    def test_a_table_has_the_ways_of_its_rule(self):
+    def test_a_table_has_the_ways_of_its_rule(self) -> None:
         """The balanced dateline of a ring takes other channels, but the links of the plain one."""
         settings = ["kind=torus", "radix=5", "channels=2", "buffer=1", "length=1", "load=0.1"]
         plain = case_of([*settings, "rule=dateline"]).experiment
@@ -164,7 +169,7 @@ class SeveralWays(unittest.TestCase):
         self.assertEqual(found.way, SUM)
 
 
-def programme_of(ways, sends):
+def programme_of(ways: Ways, sends: Flows) -> tuple[list[Entry], list[Entry], list[float], int]:
     """The linear programme of a split: what is kept at each place, what each link is used for, and
     what is sent."""
     kept, used, columns = [], [], 1
@@ -185,7 +190,7 @@ def programme_of(ways, sends):
 
 
 class Runs(FolderTest):
-    def test_a_window_asks_of_its_busiest_link(self):
+    def test_a_window_asks_of_its_busiest_link(self) -> None:
         """Of a line of three nodes: five flits over the link from 0 to 1, and six into node 2, of
         which three are due behind the window of ten cycles."""
         rows = [(0, 2, 0, 3, 2), (0, 1, 0, 2, 3), (1, 2, 0, 3, 12)]
@@ -194,7 +199,7 @@ class Runs(FolderTest):
         experiment = Experiment(LINE, Demand("uniform", 0.1, 1), Window(2, 12))
         self.assertEqual(experiment.asked_in(rows, Window(2, 12)), 0.5)
 
-    def test_a_limit_names_the_busiest(self):
+    def test_a_limit_names_the_busiest(self) -> None:
         """Of eight flits three go over each link to node 1, and six come out there."""
         self.put(t=HEADER + "0,1,0,3,0\n2,1,0,3,0\n1,0,0,2,0\n")
         said = self.said("limit", "c", "t")
@@ -203,7 +208,7 @@ class Runs(FolderTest):
         self.put(t=HEADER + "0,2,0,3,0\n0,1,0,2,0\n2,1,0,1,0\n1,2,0,1,0\n")
         self.assertTrue(self.said("limit", "c", "t").endswith("; router 0, +0 carries 5 flits\n"))
 
-    def test_a_curve_says_what_is_above(self):
+    def test_a_curve_says_what_is_above(self) -> None:
         """The bound of a transpose on a mesh of 8 by 8 is 1/7."""
         self.put(c=replace(MESH, cycles=600))
         ran = self.tool("load", "c", 2, 0.1, 0.15, "--pattern", "transpose")

@@ -11,6 +11,7 @@ import sys
 import time
 import unittest
 from importlib.util import find_spec
+from pathlib import Path
 
 from support import PROGRAM, FolderTest
 
@@ -66,7 +67,7 @@ if __name__ == "__main__":
 """
 
 
-def free_ports(count):
+def free_ports(count: int) -> list[int]:
     """So many ports on which nobody listens."""
     sockets = [socket.socket() for _ in range(count)]
     for each in sockets:
@@ -84,7 +85,7 @@ class ClusterTest(FolderTest):
     lines: list[bytes]
 
     @classmethod
-    def setUpClass(cls):
+    def setUpClass(cls) -> None:
         super().setUpClass()
         (cls.folder / "study.toml").write_text(SMALL)
         words = [sys.executable, "noc-tools", "sweep", "study.toml", "--jobs", "2"]
@@ -92,11 +93,11 @@ class ClusterTest(FolderTest):
         cls.lines = cls.lines_in("study")
 
     @classmethod
-    def lines_in(cls, name):
+    def lines_in(cls, name: str) -> list[bytes]:
         """The lines of a folder's results, but for the header."""
         return sorted((cls.folder / name / "results.csv").read_bytes().splitlines()[1:])
 
-    def assertCollected(self, name, files):
+    def assertCollected(self, name: str, files: list[str]) -> None:
         """Takes what was printed into a folder: the same lines byte for byte."""
         ran = self.tool("sweep", "study.toml", "--out", name, "--collect", *files)
         self.assertEqual((ran.returncode, self.lines_in(name)), (0, self.lines), ran.stderr)
@@ -104,7 +105,7 @@ class ClusterTest(FolderTest):
 
 @unittest.skipUnless(shutil.which("parallel"), "there is no GNU parallel here")
 class ByParallel(ClusterTest):
-    def test_parts_are_made(self):
+    def test_parts_are_made(self) -> None:
         """Three parts, two at a time."""
         words = [sys.executable, "noc-tools", "sweep", "study.toml", "--out", "by.out", "--jobs", "1", "--part", "{}/3"]
         ran = self.called(["parallel", "--will-cite", "--jobs", "2", *words, ":::", "1", "2", "3"])
@@ -112,7 +113,7 @@ class ByParallel(ClusterTest):
         self.assertEqual(ran.returncode, 0, ran.stderr)
         self.assertCollected("by.out", ["lines"])
 
-    def test_commands_are_called(self):
+    def test_commands_are_called(self) -> None:
         """Those of --list; each has a line in the log, by which parallel goes on after a stop."""
         commands = self.said("sweep", "study.toml", "--out", "each.out", "--list")
         words = ["parallel", "--will-cite", "--jobs", "2", "--joblog", "log", "--resume"]
@@ -124,7 +125,7 @@ class ByParallel(ClusterTest):
 
 @unittest.skipUnless(shutil.which("sbatch") and shutil.which("slurmctld"), "there is no Slurm here")
 class BySlurm(ClusterTest):
-    def setUp(self):
+    def setUp(self) -> None:
         super().setUp()
         host = socket.gethostname().split(".")[0]
         home = self.folder / "slurm"
@@ -140,7 +141,7 @@ class BySlurm(ClusterTest):
             self.addCleanup(daemon.terminate)
         self.wait_for_the_node(home)
 
-    def wait_for_the_node(self, home):
+    def wait_for_the_node(self, home: Path) -> None:
         """Waits until the node is idle; where it does not come up, the logs say why."""
         late = time.monotonic() + 60
         while "idle" not in self.called(["sinfo", "--noheader", "--format", "%T"], env=self.slurm).stdout:
@@ -148,7 +149,7 @@ class BySlurm(ClusterTest):
                 self.skipTest("\n".join(path.read_text()[-300:] for path in home.glob("*.log")))
             time.sleep(0.2)
 
-    def test_a_job_array_makes_the_parts(self):
+    def test_a_job_array_makes_the_parts(self) -> None:
         """A task for each of three parts, as examples/README.md calls it."""
         part = './noc-tools sweep study.toml --out array.out --jobs 1 --part "$SLURM_ARRAY_TASK_ID/3"'
         words = ["sbatch", "--array=1-3", "--wait", "--output=lines_%a", "--error=errors_%a", f"--wrap={part}"]
@@ -159,7 +160,7 @@ class BySlurm(ClusterTest):
 
 
 class ByAnEngine(ClusterTest):
-    def by(self, script, folder):
+    def by(self, script: str, folder: str) -> None:
         """What a script leaves in a folder."""
         self.put(**{"script.py": script})
         ran = self.called([sys.executable, "script.py"], env={**self.environment, "NOC": str(PROGRAM)})
@@ -167,9 +168,9 @@ class ByAnEngine(ClusterTest):
         self.assertEqual(self.lines_in(folder), self.lines)
 
     @unittest.skipUnless(find_spec("joblib"), "there is no joblib here")
-    def test_joblib_makes_the_lines(self):
+    def test_joblib_makes_the_lines(self) -> None:
         self.by(BY_JOBLIB, "joblib.out")
 
     @unittest.skipUnless(find_spec("distributed"), "there is no dask here")
-    def test_dask_makes_the_lines(self):
+    def test_dask_makes_the_lines(self) -> None:
         self.by(BY_DASK, "dask.out")

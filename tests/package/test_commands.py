@@ -8,6 +8,7 @@ import sys
 import time
 from dataclasses import replace
 from subprocess import DEVNULL, PIPE
+from typing import Any
 from unittest.mock import patch
 
 from support import HEADER, HUGE, IN_THE_WAY, LINE, SQUARE, TOP, FolderTest
@@ -82,14 +83,14 @@ UNREADABLE = [
 ]
 
 
-def heed_signals():
+def heed_signals() -> None:
     """Heeds signals that the caller has ignored, as nohup and a shell's background do."""
     signal.signal(signal.SIGINT, signal.default_int_handler)
     signal.signal(signal.SIGHUP, signal.SIG_DFL)
 
 
 class OfARun(FolderTest):
-    def calls_of(self, *words):
+    def calls_of(self, *words: object) -> int:
         """How often a command runs a network by the program."""
         log = self.folder / "calls"
         self.environment = self.in_place_of_the_program(f'#!/bin/sh\necho "$1" >> "{log}"\nexec "$PROGRAM" "$@"\n')
@@ -98,7 +99,7 @@ class OfARun(FolderTest):
         self.doCleanups()
         return sum(word in ("run", "trace") for word in log.read_text().split())
 
-    def test_one_file_comes_by_standard_input(self):
+    def test_one_file_comes_by_standard_input(self) -> None:
         """The configuration or the traffic, or one of them by a pipe: the answers are the same."""
         for command, *words in [("why", 2), ("why", 2, 5), ("timeline", 2), ("waves", "--router", 1)]:
             named = self.said(command, "c", "t", *words)
@@ -110,13 +111,13 @@ class OfARun(FolderTest):
         given = data_of(self.said("replay", "-", "t", given=LINE.text()))
         self.assertEqual(given, data_of(self.said("replay", "c", "t")))
 
-    def test_the_program_runs_once(self):
+    def test_the_program_runs_once(self) -> None:
         """In cycle 1 packet 0 has the one channel of the port local, so packet 2 is in its queue. A life without a wait
         takes one run, and that of packet 2, which waits at its source alone, takes two."""
         words = [("timeline", 2), ("why", 2, 5), ("why", 2, 1), ("why", 1), ("waves",), ("replay",), ("why", 2)]
         self.assertEqual([self.calls_of(*each) for each in words], [1, 1, 1, 1, 1, 1, 2])
 
-    def test_the_program_runs_once_more(self):
+    def test_the_program_runs_once_more(self) -> None:
         """Packet 1 waits at two routers, one of which is not its source; and packet 2 is in its queue while a channel
         is left."""
         self.put(c=replace(LINE, channels=2, buffer=4), t=HEADER + "0,2,0,4,0\n1,2,0,4,3\n")
@@ -124,7 +125,7 @@ class OfARun(FolderTest):
         self.put(c=replace(LINE, channels=3), t=HEADER + "0,2,0,4,1\n0,2,0,4,0\n0,2,0,1,2\n")
         self.assertEqual(self.calls_of("why", 2, 6), 2)
 
-    def test_commands_reach_the_end_of_a_run_that_drains(self):
+    def test_commands_reach_the_end_of_a_run_that_drains(self) -> None:
         """Two flits over one hop, due in cycle 40, are out in 46, where the configuration has 20 cycles. With the 14
         events that each packet takes the limit is 68."""
         self.put(t=HEADER + "0,2,0,1,0\n0,1,0,2,40\n")
@@ -139,13 +140,13 @@ class OfARun(FolderTest):
         self.assertEqual(bars["router 0, local.0"], drawn)
         self.assertEqual((times[0], times[-1], data["last"]), (45, 68, 67))
 
-    def test_what_is_refused(self):
+    def test_what_is_refused(self) -> None:
         self.put(late=HEADER + "0,1,0,1,20\n", broken=HEADER + "0,1,0,one,0\n", lost=HEADER + "0,3,0,1,0\n")
         self.assertEachRefused(REFUSED)
         for words in BY_NOC:
             self.assertRefusedByNoc(words, 3, "fault network 2 BadNode row 0")
 
-    def test_a_network_that_noc_does_not_take(self):
+    def test_a_network_that_noc_does_not_take(self) -> None:
         """Its size is that which noc refuses; nothing is made of it before."""
         self.put(huge=HUGE)
         for words in OF_HUGE:
@@ -159,36 +160,36 @@ class Ends(FolderTest):
         "seen": "time,source,destination,bytes\n0,0,1,9\n", "ring": RING,
     }
 
-    def setUp(self):
+    def setUp(self) -> None:
         super().setUp()
         self.put(stalls=self.noc("run", "c", "t", "--report", "stalls").stdout)
         self.put(**{"model.vcd": self.said("waves", "examples/rtl.toml", "examples/rtl.csv")})
         self.tool("certify", "c", "--out", "certificate")
 
-    def ends(self, command, **given):
+    def ends(self, command: str, **given: Any) -> tuple[int, str]:
         """The status of a command and its words on standard error."""
         with open(self.folder / "stalls", "rb") as stalls:
             words = [sys.executable, "noc-tools", command, *CALLS[command].split()]
             ran = self.called(words, stdin=stalls, capture_output=False, stderr=PIPE, **given)
         return ran.returncode, ran.stderr
 
-    def test_each_command_writes_something(self):
+    def test_each_command_writes_something(self) -> None:
         for command in CALLS:
             self.assertEqual(self.ends(command, stdout=DEVNULL), (0, ""), command)
 
-    def test_a_full_output_is_said(self):
+    def test_a_full_output_is_said(self) -> None:
         for command in CALLS:
             with open("/dev/full", "wb") as full:
                 ended = self.ends(command, stdout=full)
             sentence = f"noc-tools {command}: standard output: No space left on device\n"
             self.assertEqual(ended, (1, sentence))
 
-    def test_a_closed_output_is_said(self):
+    def test_a_closed_output_is_said(self) -> None:
         for command in CALLS:
             ended = self.ends(command, preexec_fn=lambda: os.close(1))
             self.assertEqual(ended, (1, f"noc-tools {command}: standard output is closed\n"))
 
-    def test_closed_errors_are_not_said(self):
+    def test_closed_errors_are_not_said(self) -> None:
         """Nor are they on standard output: what is there is as ever."""
         for words in "latency c r --tolerance 0", "why nothing t 0", "wy":
             told = self.tool(*words.split())
@@ -196,14 +197,14 @@ class Ends(FolderTest):
             self.assertTrue(told.stderr)
             self.assertEqual((ran.returncode, ran.stdout, ran.stderr), (told.returncode, told.stdout, ""))
 
-    def test_a_reader_that_went_ends_it(self):
+    def test_a_reader_that_went_ends_it(self) -> None:
         for command in CALLS:
             reader, writer = os.pipe()
             os.close(reader)
             with open(writer, "wb") as pipe:
                 self.assertEqual(self.ends(command, stdout=pipe), (141, ""), command)
 
-    def test_unreadable_input_is_said(self):
+    def test_unreadable_input_is_said(self) -> None:
         """One line that says why; with the environment in which Python reads strictly."""
         strict = self.environment | {"PYTHONIOENCODING": "utf-8:strict"}
         for command, words, given, sentence in UNREADABLE:
@@ -214,7 +215,7 @@ class Ends(FolderTest):
                 self.assertEqual((ran.returncode, ran.stdout, said.count("\n")), (1, b"", 1))
                 self.assertTrue(said.startswith(f"noc-tools {command}: ") and sentence in said, said)
 
-    def guarded(self, body):
+    def guarded(self, body: str) -> tuple[int, str, str]:
         """How a function ends that runs as a command does, though the caller may have interrupts ignored."""
         script = (
             "import signal, sys\nfrom noc_tools.cli import guarded\n"
@@ -224,18 +225,18 @@ class Ends(FolderTest):
         ran = self.called([sys.executable, "-c", script])
         return ran.returncode, ran.stdout, ran.stderr
 
-    def test_no_memory_is_said(self):
+    def test_no_memory_is_said(self) -> None:
         """A number of bytes that no machine has."""
         self.assertEqual(self.guarded("bytearray(1 << 60)"), (1, "", "x: there is not enough memory\n"))
 
-    def test_an_interrupt_ends_it(self):
+    def test_an_interrupt_ends_it(self) -> None:
         """What was written before goes out."""
         body = "print('some') or signal.raise_signal(signal.SIGINT)"
         self.assertEqual(self.guarded(body), (130, "some\n", ""))
 
-    def test_a_full_disk_is_said_with_the_file(self):
+    def test_a_full_disk_is_said_with_the_file(self) -> None:
         """A file of the command itself, of which no more than some bytes may be written, as on a full disk."""
-        def bound():
+        def bound() -> None:
             signal.signal(signal.SIGXFSZ, signal.SIG_IGN)
             resource.setrlimit(resource.RLIMIT_FSIZE, (20, 20))
 
@@ -244,7 +245,7 @@ class Ends(FolderTest):
         self.assertEqual((ran.returncode, ran.stdout), (1, ""))
         self.assertRegex(ran.stderr, r"^noc-tools replies: /\S+: File too large\n$")
 
-    def test_signals_leave_no_folder(self):
+    def test_signals_leave_no_folder(self) -> None:
         """While noc works, which takes ten minutes here; folders are made where TMPDIR says."""
         self.put(slow='#!/bin/sh\n[ $# -eq 0 ] && exit 0\n[ $1 = --which ] && exit 1\ntouch "$LOG"\nexec sleep 600\n',
                  c=replace(LINE, classes=2, channels=2))
@@ -267,7 +268,7 @@ class Ends(FolderTest):
                 self.assertEqual(list(room.iterdir()), [])
         self.assertFalse((self.folder / "certified").exists())
 
-    def test_an_interrupt_while_modules_are_read(self):
+    def test_an_interrupt_while_modules_are_read(self) -> None:
         """Python reads the first file before it begins; an interrupt comes when a module of the package is wanted."""
         self.put(**{"sitecustomize.py": (
             "import os, signal, sys\n"
@@ -282,7 +283,7 @@ class Ends(FolderTest):
         ran = self.called([sys.executable, "noc-tools", "limit", "c", "t"], env=environment)
         self.assertEqual((ran.returncode, ran.stdout, ran.stderr), (-signal.SIGINT, "", ""))
 
-    def test_no_thread_is_said(self):
+    def test_no_thread_is_said(self) -> None:
         refused = RuntimeError("can't start new thread")
         with patch("noc_tools.program.Thread.start", side_effect=refused):
             with self.assertRaisesRegex(Refused, "the system gives no further thread"):
@@ -290,7 +291,7 @@ class Ends(FolderTest):
 
 
 class Help(FolderTest):
-    def test_one_help_lists_all_commands(self):
+    def test_one_help_lists_all_commands(self) -> None:
         """Each with the first line of its own help, which has the whole text of its module."""
         ran = self.tool("--help")
         self.assertEqual((ran.returncode, ran.stderr), (0, ""))
@@ -304,31 +305,31 @@ class Help(FolderTest):
                 self.assertLess(len(line), 80)
                 self.assertIn(" ".join(text.split()), " ".join(self.said(name, "--help").split()))
 
-    def test_commands_stand_under_what_they_are_for(self):
+    def test_commands_stand_under_what_they_are_for(self) -> None:
         """Three headings, which are no commands, each with some."""
         listed = self.said("help").split("\n\n")[2:]
         self.assertEqual([text.splitlines()[0].split()[0] for text in listed], ["Ask", "Study", "Prove,"])
         for text, name in zip(listed, ["why", "sweep", "certify"]):
             self.assertRegex(text, rf"(?m)^  {name} ")
 
-    def test_help_is_a_word_too(self):
+    def test_help_is_a_word_too(self) -> None:
         """Alone it says what --help says, and before a command the help of that command."""
         for words, same in [(["help"], ["--help"]), (["-h"], ["--help"]), (["help", "why"], ["why", "--help"])]:
             ran = self.tool(*words)
             self.assertEqual((ran.returncode, ran.stderr), (0, ""))
             self.assertEqual(ran.stdout, self.said(*same))
 
-    def test_no_words_are_answered_by_the_list(self):
+    def test_no_words_are_answered_by_the_list(self) -> None:
         """On standard error and with the status of wrong words, since nothing was asked for."""
         ran = self.tool()
         self.assertEqual((ran.returncode, ran.stdout, ran.stderr), (2, "", self.said("help")))
 
-    def test_the_version_is_said(self):
+    def test_the_version_is_said(self) -> None:
         for word in "--version", "-V":
             ran = self.tool(word)
             self.assertEqual((ran.returncode, ran.stdout, ran.stderr), (0, f"noc-tools {VERSION}\n", ""))
 
-    def test_another_command_is_refused(self):
+    def test_another_command_is_refused(self) -> None:
         """The one that may have been meant is named, where one is near."""
         for words, hint in [
             (["wy"], "'wy'; did you mean 'why'?"), (["help", "latncy"], "'latncy'; did you mean 'latency'?"),
@@ -338,7 +339,7 @@ class Help(FolderTest):
             self.assertEqual((ran.returncode, ran.stdout), (2, ""))
             self.assertEqual(ran.stderr, f"noc-tools: there is no command {hint}\n")
 
-    def test_an_option_is_not_shortened(self):
+    def test_an_option_is_not_shortened(self) -> None:
         """The one that may have been meant is named, where one is near."""
         near = [("--dra", "; did you mean '--drain'?"), ("--tabel=F", "; did you mean '--table'?"), ("--x", "")]
         for option, hint in near:
@@ -347,7 +348,7 @@ class Help(FolderTest):
             last = f"noc-tools why: error: unrecognized arguments: {option}{hint}\n"
             self.assertTrue(ran.stderr.endswith(last), ran.stderr)
 
-    def test_help_is_as_wide_as_the_terminal(self):
+    def test_help_is_as_wide_as_the_terminal(self) -> None:
         """But for lines that are indented, as those of a table."""
         for columns in 60, 100:
             self.environment = {**self.environment, "COLUMNS": str(columns)}
@@ -355,7 +356,7 @@ class Help(FolderTest):
             self.assertLessEqual(max(map(len, lines)), columns)
             self.assertLess(columns - 15, max(map(len, lines)))
 
-    def test_examples_are_words_that_a_command_takes(self):
+    def test_examples_are_words_that_a_command_takes(self) -> None:
         """Each help has one, or forms in its beginning."""
         for name in COMMANDS:
             text = (TOP / f"noc_tools/commands/{name}.py").read_text().split('"""')[1]
@@ -364,6 +365,6 @@ class Help(FolderTest):
             for words in examples:
                 options_of(parser_of(name), words.split())
 
-    def test_no_command_takes_shortened_options(self):
+    def test_no_command_takes_shortened_options(self) -> None:
         for name in COMMANDS:
             self.assertFalse(parser_of(name).allow_abbrev, name)

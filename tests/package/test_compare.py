@@ -1,6 +1,7 @@
 """'compare' on waves that are written by hand: a packet that goes through a router, and a design beside it."""
 import re
 from dataclasses import replace
+from typing import Any
 
 from support import IN_THE_WAY, LINE, TOP, FolderTest
 
@@ -29,7 +30,8 @@ MAP = 'clock = "top.clock"\noffset = 1\nscope = "top"\n[signals]\n'
 MOVED = 'moved = "moved[{index}]"\n'
 
 
-def design(values, variables="$var wire 3 m moved [2:0] $end", edges=(5, 10)):
+def design(values: dict[int, str], variables: str = "$var wire 3 m moved [2:0] $end",
+           edges: tuple[int, int] = (5, 10)) -> str:
     """A dump with a clock whose edges rise at 5, 15 and so on, and what changes at each time."""
     lines = ["$scope module top $end $var wire 1 c clock $end", variables, "$upscope $end", "$enddefinitions $end"]
     times = {time: f"{1 if time % edges[1] else 0}c" for time in range(0, 60, edges[0])}
@@ -46,27 +48,28 @@ GOOD = {0: "b0 m", 25: "b100 m", 35: "b0 m"}
 
 
 class Compares(FolderTest):
-    def compared(self, signals=MOVED, values=GOOD, head=MAP, **given):
+    def compared(self, signals: str = MOVED, values: dict[int, str] = GOOD, head: str = MAP,
+                 **given: Any) -> tuple[int, str, str]:
         """How 'compare' ends with a map and a design."""
         self.put(**{"r.vcd": MODEL, "d.vcd": design(values, **given), "m": head + signals})
         ran = self.tool("compare", "r.vcd", "d.vcd", "--map", "m")
         return ran.returncode, ran.stdout, ran.stderr
 
-    def assertAgrees(self, *words, **given):
+    def assertAgrees(self, *words: Any, **given: Any) -> None:
         status, said, error = self.compared(*words, **given)
         self.assertEqual((status, error), (0, ""), said)
         self.assertIn("agree", said)
 
-    def assertDiffers(self, line, *words, **given):
+    def assertDiffers(self, line: str, *words: Any, **given: Any) -> None:
         status, said, error = self.compared(*words, **given)
         self.assertEqual((status, error), (8, ""), said)
         self.assertEqual(said.splitlines()[0], line)
 
-    def test_what_agrees_is_counted(self):
+    def test_what_agrees_is_counted(self) -> None:
         agreed = "4 cycles (cycles 0 to 3) of 2 channels agree: moved.\n" + OCCUR
         self.assertEqual(self.compared(), (0, agreed, ""))
 
-    def test_waves_of_1_0_0_are_taken(self):
+    def test_waves_of_1_0_0_are_taken(self) -> None:
         """Their variables have no port in their names."""
         self.compared()
         self.put(**{"r.vcd": re.sub(" (plus_0|local)_", " ", MODEL)})
@@ -74,7 +77,7 @@ class Compares(FolderTest):
         agreed = "4 cycles (cycles 0 to 3) of 2 channels agree: moved.\n" + OCCUR
         self.assertEqual((ran.returncode, ran.stdout), (0, agreed))
 
-    def test_only_cycles_that_both_have_are_compared(self):
+    def test_only_cycles_that_both_have_are_compared(self) -> None:
         """The last edge, at 55, ends cycle 2 with this offset, before which the model has moved."""
         later = {time + 20 if time else 0: change for time, change in GOOD.items()}
         said = self.compared(values=later, head=MAP.replace("offset = 1", "offset = 3"))[1]
@@ -84,7 +87,7 @@ class Compares(FolderTest):
         occur = OCCUR.replace("all but ", "all but Routed, ")
         self.assertEqual(said, "3 cycles (cycles 1 to 3) of 2 channels agree: moved.\n" + occur)
 
-    def test_a_move_that_is_missing(self):
+    def test_a_move_that_is_missing(self) -> None:
         """What changes at the time of an edge is there for the next one."""
         self.assertEqual(self.compared(values={0: "b0 m"})[:2], (8, (
             "cycle 2, router 1, local.0: the model moves a flit (Moved), and the design does not.\n"
@@ -92,7 +95,7 @@ class Compares(FolderTest):
             "In the design top.moved[2] is 0 before the edge at 35.\n"
         )))
 
-    def test_a_move_too_many(self):
+    def test_a_move_too_many(self) -> None:
         """In cycle 1, at both channels: the first in the order of ports is told."""
         status, said, _ = self.compared(values={0: "b0 m", 15: "b101 m", 35: "b0 m"})
         self.assertEqual((status, said), (8, (
@@ -102,7 +105,7 @@ class Compares(FolderTest):
             "1 further channel differs in this cycle: router 1, local.0.\n"
         )))
 
-    def test_why_the_model_grants_and_routes(self):
+    def test_why_the_model_grants_and_routes(self) -> None:
         granted = self.compared('granted = "moved[{index}]"\n')[1].splitlines()
         self.assertEqual(granted[:2], [
             "cycle 1, router 1, local.0: the model grants an output channel (Granted), and the design does not.",
@@ -114,14 +117,14 @@ class Compares(FolderTest):
             "In the model the head of packet 5 is first in its buffer.",
         ])
 
-    def test_an_unknown_value_differs(self):
+    def test_an_unknown_value_differs(self) -> None:
         """The bits on the left that a value leaves out are as its first one, where that is unknown, and else 0."""
         line = "cycle 2, router 1, local.0: the model has moved 1 (Moved), and the design x."
         self.assertDiffers(line, values={0: "b0 m", 25: "bx00 m", 35: "b0 m"})
         self.assertDiffers(line, values={0: "b0 m", 25: "bx0 m", 35: "b0 m"})
         self.assertDiffers(line.replace("design x", "design 2"), values={0: "b0 m", 25: "b200 m", 35: "b0 m"})
 
-    def test_an_offset_moves_cycle_0(self):
+    def test_an_offset_moves_cycle_0(self) -> None:
         later = {time + 20 if time else 0: change for time, change in GOOD.items()}
         self.assertAgrees(values=later, head=MAP.replace("offset = 1", "offset = 3"))
         self.assertDiffers(
@@ -129,7 +132,7 @@ class Compares(FolderTest):
             head=MAP.replace("offset = 1", "offset = 3"),
         )
 
-    def test_an_offset_is_found(self):
+    def test_an_offset_is_found(self) -> None:
         """Where the map has none: here the edge at 35 ends cycle 0, and those at 5 to 25 come before it."""
         later = {time + 20 if time else 0: change for time, change in GOOD.items()}
         without = MAP.replace("offset = 1\n", "")
@@ -138,7 +141,7 @@ class Compares(FolderTest):
             line = f"{cycles} of 2 channels agree: moved. The offset is {offset}."
             self.assertEqual((status, said.splitlines()[0]), (0, line))
 
-    def test_an_offset_that_would_fit_is_named(self):
+    def test_an_offset_that_would_fit_is_named(self) -> None:
         """Of the design in tests/rtl, where cycle 0 begins behind the third edge; what differs by itself has none."""
         self.put(**{"r.vcd": self.said("waves", "examples/rtl.toml", "examples/rtl.csv")})
         names = (TOP / "examples/rtl_map.toml").read_text()
@@ -151,7 +154,7 @@ class Compares(FolderTest):
         wrong = self.said("compare", "r.vcd", "examples/rtl_freed.vcd", "--map", "examples/rtl_map.toml")
         self.assertNotIn("With offset", wrong)
 
-    def test_cycles_from_one_on(self):
+    def test_cycles_from_one_on(self) -> None:
         """The design moves a flit too many in cycle 0, and one too few in cycle 2."""
         for words, first in [((), "cycle 0"), (("--from", 1), "cycle 2"), (("--from", 2), "cycle 2")]:
             self.put(**{"r.vcd": MODEL, "d.vcd": design({0: "b100 m", 15: "b0 m"}), "m": MAP + MOVED})
@@ -162,7 +165,7 @@ class Compares(FolderTest):
         ran = self.tool("compare", "r.vcd", "d.vcd", "--map", "m", "--from", 4)
         self.assertRefused(ran, "have no cycle from cycle 4 on in common", "compare")
 
-    def test_coverage_counts_cycles(self):
+    def test_coverage_counts_cycles(self) -> None:
         """Of the four cycles +0.0 is Empty in all, and local.0 has four verdicts once each; from cycle 2 on, two."""
         self.put(**{"r.vcd": MODEL, "d.vcd": design(GOOD), "m": MAP + MOVED})
         for words, rows in [((), ["+0,4,0,0,0", "local,1,1,1,1"]), (("--from", 2), ["+0,2,0,0,0", "local,1,0,0,1"])]:
@@ -171,13 +174,13 @@ class Compares(FolderTest):
                       "lost_input,lost_switch")
             self.assertEqual(said.splitlines()[2:], [header, *(f"{row},0,0,0,0,0,0" for row in rows)])
 
-    def test_the_other_edge(self):
+    def test_the_other_edge(self) -> None:
         """The edges at 10, 20 and so on fall: with offset 1 the one at 20 ends cycle 0."""
         falling = MAP + 'edge = "falling"\n[signals]\n'
         falling = falling.replace("[signals]\n", "", 1)
         self.assertAgrees(values={0: "b0 m", 32: "b100 m", 40: "b0 m"}, head=falling)
 
-    def test_a_signal_that_shows_a_cycle_later(self):
+    def test_a_signal_that_shows_a_cycle_later(self) -> None:
         late = {time + 10 if time else 0: change for time, change in GOOD.items()}
         delayed = 'moved = { name = "moved[{index}]", delay = 1 }\n'
         self.assertAgrees(delayed, late)
@@ -186,7 +189,7 @@ class Compares(FolderTest):
         status, said, _ = self.compared(delayed, {0: "b0 m"})
         self.assertEqual((status, said.splitlines()[2]), (8, "In the design top.moved[2] is 0 before the edge at 45."))
 
-    def test_names_of_every_form(self):
+    def test_names_of_every_form(self) -> None:
         """Bits of a vector that counts up, a variable for each bit, one for each port, and arithmetic."""
         self.assertAgrees(variables="$var wire 3 m moved[0:2] $end", values={0: "b0 m", 25: "b1 m", 35: "b0 m"})
         each = "$var wire 1 n moved [0] $end\n$var\nwire 1 m moved [2]\n$end"
@@ -197,12 +200,12 @@ class Compares(FolderTest):
         self.assertAgrees('moved = "{port}.moved"\n', {0: "0m 0n", 25: "1m", 35: "0m"}, named, variables=ports)
         self.assertAgrees('moved = "moved[{(port + router * 3 - 3) % 3 + channel}]"\n')
 
-    def test_other_numbers_of_ports(self):
+    def test_other_numbers_of_ports(self) -> None:
         """A design whose local port is port 0, and +0 port 1."""
         numbered = MAP.replace("[signals]", "ports = [1, 2, 0]\n[signals]")
         self.assertAgrees(values={0: "b0 m", 25: "b1 m", 35: "b0 m"}, head=numbered)
 
-    def test_packets_and_output_channels_are_compared_where_the_model_has_them(self):
+    def test_packets_and_output_channels_are_compared_where_the_model_has_them(self) -> None:
         both = "$var reg 8 p packet [7:0] $end $var reg 2 o out [1:0] $end"
         for kind, good, bad, said in [
             ("packet", "b101 p", "b111 p", "the model has packet 5 (Granted), and the design 7."),
@@ -214,7 +217,7 @@ class Compares(FolderTest):
                 line = f"cycle 1, router 1, local.0: {said}"
                 self.assertDiffers(line, named, {5: good, 15: bad}, variables=both)
 
-    def test_codes_of_verdicts(self):
+    def test_codes_of_verdicts(self) -> None:
         """Codes of the design's own, by a list; a verdict that is not in it is not compared."""
         codes = MAP.replace("[signals]", 'verdicts = ["Empty", "Moved", "", "Granted"]\n[signals]')
         coded = 'verdict = "moved[{index}]"\n', {0: "b0 m"}
@@ -226,7 +229,7 @@ class Compares(FolderTest):
         self.assertDiffers("cycle 1, router 1, local.0: the model says Granted, and the design 2.",
                            coded[0], {**good, 15: "b10 n"}, codes, variables=variables)
 
-    def test_stalls_name_what_the_model_lacks(self):
+    def test_stalls_name_what_the_model_lacks(self) -> None:
         """At router 1 of a line packet 0 waits in cycle 4 for packet 1, and for its tail to drain (docs/MODEL.md)."""
         never = "\n".join([
             "$scope module top $end $var wire 1 c clock $end $var wire 1 m moved $end $upscope $end",
@@ -241,7 +244,7 @@ class Compares(FolderTest):
             "In the model packet 0 waits there, but no channel that it may take is free.",
         ])
 
-    def test_each_reason(self):
+    def test_each_reason(self) -> None:
         """Who won is named; a flit that leaves the network needs no credit."""
         at_router = {
             channel: Finding(4, 1, channel, verdict, packet, out, ()) for channel, verdict, packet, out in [
@@ -262,7 +265,7 @@ class Compares(FolderTest):
 
 
 class Refuses(FolderTest):
-    def refused(self, sentence, **files):
+    def refused(self, sentence: str, **files: Any) -> None:
         """A comparison is refused by one sentence."""
         words = {"r.vcd": MODEL, "d.vcd": design(GOOD), "m": MAP + MOVED} | {
             {"model": "r.vcd", "dut": "d.vcd", "map": "m"}[name]: content for name, content in files.items()
@@ -271,7 +274,7 @@ class Refuses(FolderTest):
             self.put(**words)
             self.assertRefused(self.tool("compare", "r.vcd", "d.vcd", "--map", "m"), sentence, "compare")
 
-    def test_maps(self):
+    def test_maps(self) -> None:
         for text, sentence in [
             ("clock = ", "m is no map: Invalid value"),
             ("[signals]\nmoved = 'moved'\n", "m is no map: it names no clock"),
@@ -295,14 +298,14 @@ class Refuses(FolderTest):
         ]:
             self.refused(sentence, map=text)
 
-    def test_a_channel_that_the_design_has_not(self):
+    def test_a_channel_that_the_design_has_not(self) -> None:
         self.put(c=replace(LINE, channels=2), t=IN_THE_WAY)
         self.refused(
             "d.vcd has no signal 'top.moved_1', which the map names", model=self.said("waves", "c", "t"),
             dut=design(GOOD, "$var wire 1 m moved_0 $end"), map=MAP + "moved = 'moved_{channel}'\n",
         )
 
-    def test_numbers_that_are_too_large(self):
+    def test_numbers_that_are_too_large(self) -> None:
         """Of thousands of digits, and such as would take all memory or time; and a value that its variable cannot
         have, of which zeros in front are no part."""
         great, head = "9" * 5000, design(GOOD).split("#0", 1)[0]
@@ -325,7 +328,7 @@ class Refuses(FolderTest):
         self.put(**{"r.vcd": MODEL, "m": MAP + MOVED, "d.vcd": design(GOOD | {25: "b000100 m"})})
         self.assertIn(" agree: moved.", self.said("compare", "r.vcd", "d.vcd", "--map", "m"))
 
-    def test_dumps(self):
+    def test_dumps(self) -> None:
         head, _ = design(GOOD).split("#0", 1)
         for text, sentence in [
             ("", "d.vcd is no VCD file: it has no $enddefinitions"),
@@ -359,7 +362,7 @@ LAWS = {"every_cycle_is_right": "Headline", "verdicts_take_effect": "Effects"}
 
 
 class Assertions(FolderTest):
-    def test_each_has_its_law(self):
+    def test_each_has_its_law(self) -> None:
         """The comment over an assertion, its message and the page name the same, and the law has such parts."""
         text = (TOP / "noc_tools/assertions.sv").read_text()
         named = re.findall(r"^ +// (\w+), (\w+) \((.*)\):$", text, re.MULTILINE)
@@ -372,7 +375,7 @@ class Assertions(FolderTest):
             for part in parts.split(", "):
                 self.assertIn(f"\n  pub {part} : ", specs, name)
 
-    def test_a_line(self):
+    def test_a_line(self) -> None:
         """Router 0 has the ports +0 and local, 1 has all three and 2 has -0 and local: 110 111 101 from the highest."""
         self.put(c=LINE)
         text = self.said("assertions", "c")
@@ -381,7 +384,7 @@ class Assertions(FolderTest):
         self.assertIn("LINKS = 9'h1bd;", text)
         self.assertNotRegex(text, "@[A-Z_]+@")
 
-    def test_out(self):
+    def test_out(self) -> None:
         self.put(c=LINE)
         ran = self.tool("assertions", "c", "--out", "made.sv")
         self.assertEqual((ran.returncode, ran.stdout), (0, ""))

@@ -10,7 +10,7 @@ from test_sweep import SweepTest, lines_of
 from noc_tools import Network
 from noc_tools.deadlock import has_formula, has_ranks, is_deadlock_free
 from noc_tools.ranks import table_file
-from noc_tools.relation import Channels, of_table_rule
+from noc_tools.relation import Channels, Relation, of_table_rule
 from noc_tools.rules import table_rule
 
 TORUS = Network("torus", (8, 8), 1, 4, 1, "dor", 1000)
@@ -50,7 +50,7 @@ cycles = 300
 
 
 class Answers(unittest.TestCase):
-    def test_a_rule_with_a_formula_has_ranks(self):
+    def test_a_rule_with_a_formula_has_ranks(self) -> None:
         """Of each rule of noc that is said to have one, on networks of several sizes, the search
         finds ranks too."""
         networks = [
@@ -63,7 +63,7 @@ class Answers(unittest.TestCase):
         self.assertEqual([has_formula(network) for network in networks], [True] * 5)
         self.assertEqual([has_ranks(network, None, 0) for network in networks], [True] * 5)
 
-    def test_dimension_order_on_a_torus_has_a_formula_nowhere(self):
+    def test_dimension_order_on_a_torus_has_a_formula_nowhere(self) -> None:
         """Of three routers in a ring each is one hop from the others, so no packet goes on from a
         channel to the next; of four, packets over two hops close the ring."""
         three, four = (replace(TORUS, radix=(k,)) for k in (3, 4))
@@ -73,7 +73,7 @@ class Answers(unittest.TestCase):
 class Commands(FolderTest):
     FILES = {"torus": TORUS, "mesh": MESH}
 
-    def test_a_curve_says_which_runs_stood_still(self):
+    def test_a_curve_says_which_runs_stood_still(self) -> None:
         """Of one channel round a torus at more than it can carry nothing moves in the end, and on a
         mesh all do."""
         pairs = ("torus", 0.7), ("mesh", 0.45)
@@ -86,7 +86,7 @@ class Commands(FolderTest):
         self.assertEqual((torus.returncode, torus.stderr), (5, told))
         self.assertEqual((mesh.returncode, mesh.stderr), (0, ""))
 
-    def test_figures_of_one_run_say_it(self):
+    def test_figures_of_one_run_say_it(self) -> None:
         for network, load, status, told in [
             ("torus", 0.8, 5, [NO_RANKS, f"1 of 1 {STOOD_STILL}"]), ("torus", 0.005, 0, [NO_RANKS]),
             ("mesh", 0.005, 0, []),
@@ -98,7 +98,7 @@ class Commands(FolderTest):
             of_deadlock = [line for line in said if "no ranks" in line or "circle" in line]
             self.assertEqual((ran.returncode, of_deadlock), (status, told))
 
-    def test_a_curve_is_marked(self):
+    def test_a_curve_is_marked(self) -> None:
         """The name says that it can deadlock, and the run that stood still has two strokes that
         cross."""
         self.put(torus_curve=self.said("load", "torus", 8, 0.02, 0.8))
@@ -114,7 +114,7 @@ class Commands(FolderTest):
 class Studies(SweepTest):
     FILES = SweepTest.FILES | {"torus.toml": STUDY, "tables.toml": TABLES}
 
-    def test_a_network_that_can_deadlock_wins_nothing(self):
+    def test_a_network_that_can_deadlock_wins_nothing(self) -> None:
         """It has figures, but keeps up with nothing, and no load is searched for it."""
         ran = self.sweep("torus.toml", "--out", "torus.out")
         dor, dateline = csv.DictReader(ran.stdout.splitlines())
@@ -139,7 +139,7 @@ class Studies(SweepTest):
         self.assertLessEqual({"dor (can deadlock)", "dateline"}, set(texts_of(root)))
         self.assertEqual(len(crossed), int(dor["stuck"]) + 1)
 
-    def test_tables_of_a_user_are_asked(self):
+    def test_tables_of_a_user_are_asked(self) -> None:
         """Odd-even; and with rows by which packets may turn from a row to a column everywhere."""
         network = Network("mesh", (4, 4), 1, 2, 1, "table", 300)
         right = of_table_rule(Channels(network), table_rule(network, "odd-even"))
@@ -152,7 +152,7 @@ class Studies(SweepTest):
         self.assertEqual((found, len(rows)), ({"right.csv": "yes", "wrong.csv": "no"}, 4))
         self.assertIn("table wrong.csv, 1 channel", ran.stderr)
 
-    def test_a_line_that_says_otherwise_is_not_taken(self):
+    def test_a_line_that_says_otherwise_is_not_taken(self) -> None:
         alone = STUDY.replace('["dor", "dateline"]', '"dor"').replace("search = 0.05\n", "")
         self.put(**{"one.toml": alone})
         self.sweep("one.toml", "--out", "one.out")
@@ -170,7 +170,8 @@ class Studies(SweepTest):
         self.assertRefused(forged, "has 'yes' as 'deadlock_free', and here it is another", "sweep")
 
 
-def any_minimal(network, message_class, entered, destination):
+def any_minimal(
+        network: Network, message_class: int, entered: tuple[int, str, int], destination: int) -> list[tuple[str, int]]:
     """Each port that leads nearer."""
     router = entered[0]
     pairs = zip(network.coordinates(router), network.coordinates(destination))
@@ -180,13 +181,13 @@ def any_minimal(network, message_class, entered, destination):
     return [(port, number) for port in ports for number in network.block(message_class)]
 
 
-def text_of(relation):
+def text_of(relation: Relation) -> str:
     """The text of a table."""
     return "".join(f"{line}\n" for line in table_file(relation))
 
 
 class Once(unittest.TestCase):
-    def test_a_network_is_asked_once(self):
+    def test_a_network_is_asked_once(self) -> None:
         """Whatever its buffers and its cycles."""
         has_ranks.cache_clear()
         sizes = [(buffer, cycles) for buffer in (1, 4) for cycles in (9, 90)]

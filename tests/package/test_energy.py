@@ -8,12 +8,12 @@ from support import HEADER, LINE, SQUARE, FolderTest
 class Energy(FolderTest):
     FILES = {"c": LINE, "t": HEADER + "0,2,0,3,0\n"}
 
-    def counted(self, *words):
+    def counted(self, *words: object) -> list[dict[str, str]]:
         """The lines of the command, for a run that drains."""
         given = self.noc("run", "c", "t", "--drain", "--report", "stalls").stdout
         return list(csv.DictReader(self.said("energy", "c", *words, given=given).splitlines()))
 
-    def test_a_packet_alone(self):
+    def test_a_packet_alone(self) -> None:
         """Three flits from node 0 to node 2: at each of three routers they are written, read and sent on, and the head
         is routed and granted a channel. Two links have three flits each."""
         each = {"routes": 1, "requests": 1, "grants": 1}
@@ -27,13 +27,13 @@ class Energy(FolderTest):
             ("all", "-", "-", "6"),
         ])
 
-    def test_costs(self):
+    def test_costs(self) -> None:
         """Nine reads at 0.5 pJ and six hops at 2.25, 13.5 pJ each."""
         rows = self.counted("--pj", "reads=0.5", "hops=2.25")
         self.assertEqual([row["picojoules"] for row in rows], ["8.2", "8.2", "1.5", "18.0"])
         self.assertEqual([row["picojoules"] for row in self.counted("--links", "--pj", "hops=2")][-1], "12.0")
 
-    def test_sums_over_packets(self):
+    def test_sums_over_packets(self) -> None:
         """Of packets with L flits over d hops, in a network in which they wait: L d hops, L (d + 1) reads, and d + 1
         routes and grants; who loses asks more often."""
         self.put(c=replace(SQUARE, channels=2), t="")
@@ -51,7 +51,7 @@ class Energy(FolderTest):
         self.assertGreater(int(whole["sends"]), int(whole["reads"]))
         self.assertEqual(sum(int(row["hops"]) for row in routers), flits)
 
-    def test_what_is_refused(self):
+    def test_what_is_refused(self) -> None:
         report = self.noc("run", "c", "t", "--report", "stalls").stdout
         self.put(other=SQUARE)
         self.assertEachRefused([

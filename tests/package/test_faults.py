@@ -72,7 +72,7 @@ MORE = [
 
 
 class Sentences(FolderTest):
-    def test_each_mistake_of_the_page(self):
+    def test_each_mistake_of_the_page(self) -> None:
         """The lines are those that noc gives, as the test of the page shows."""
         for (line, words, text, traffic, rows), said in zip(MISTAKES, SENTENCES):
             with self.subTest(line=line, words=words), chdir(self.folder):
@@ -81,7 +81,7 @@ class Sentences(FolderTest):
                 found = sentence(f"fault {line}", [*words.split(), *table]) or ""
                 self.assertTrue(found.startswith(said), found)
 
-    def test_other_mistakes(self):
+    def test_other_mistakes(self) -> None:
         """Behind the line that noc gives itself."""
         for words, config, traffic, rows, ranks, said in MORE:
             called = [*words.split(), *(["--table", "table"] if rows else []), *(["--ranks", "ranks"] if ranks else [])]
@@ -89,7 +89,7 @@ class Sentences(FolderTest):
                 self.put(c=config, t=traffic, table="\n".join([TABLE_HEADER, *(rows or []), ""]), ranks=ranks or "")
                 self.assertIn(said, sentence(self.noc(*called).stderr.rstrip("\n"), called) or "")
 
-    def test_each_network_that_does_not_fit(self):
+    def test_each_network_that_does_not_fit(self) -> None:
         """Of 288 those have a sentence, and only those, which noc refuses for their rule, kind, channels or classes."""
         self.put(t=HEADER)
         kinds, rules = ("mesh", "torus"), ("dor", "dateline", "west-first", "adaptive")
@@ -99,7 +99,7 @@ class Sentences(FolderTest):
             is_refused = self.noc("run", "c", "t").returncode == 4
             self.assertEqual(misfit(network) is not None, is_refused, network)
 
-    def test_commands_say_it_behind_the_line(self):
+    def test_commands_say_it_behind_the_line(self) -> None:
         """In their own name; of a file that a command made for itself no name is told."""
         self.put(c=Network("mesh", (4, 4), 3, 2, 2, "dor", 100), t=GOOD)
         ran = self.tool("why", "c", "t", 0)
@@ -109,7 +109,7 @@ class Sentences(FolderTest):
         told = told.replace(" c ", " ")
         self.assertEqual((ran.returncode, ran.stderr), (4, f"fault relation 1 WrongShape\nnoc-tools load: {told}\n"))
 
-    def test_what_cannot_be_told(self):
+    def test_what_cannot_be_told(self) -> None:
         """Another line, a fault without a sentence, a row that is not there, and a file that is gone."""
         self.put(c=FOUR, t=GOOD)
         with chdir(self.folder):

@@ -55,7 +55,7 @@ MISTAKES: list[tuple[str, str, str, str, list[str]]] = [
 
 
 class Limits(FolderTest):
-    def test_the_stack_and_the_memory_of_the_page_are_enough(self):
+    def test_the_stack_and_the_memory_of_the_page_are_enough(self) -> None:
         """For words of 32 bits, with six channels in two dimensions, and of 64 bits, with eight."""
         (stack,), (memory,) = (re.findall(rf"\(`ulimit -{letter} (\d+)`\)", FORMATS) for letter in "sv")
         self.put(t=GOOD)
@@ -69,7 +69,7 @@ class Limits(FolderTest):
 
 
 class Formats(FolderTest):
-    def test_mistakes_have_the_lines_of_the_page(self):
+    def test_mistakes_have_the_lines_of_the_page(self) -> None:
         """Each mistake gives its line, and the page has these lines and no others."""
         page = FORMATS[FORMATS.index("## Mistakes"):]
         lines = re.findall(r"^\| `fault ([^`]+)` \|", page[:page.index("\n## ", 1)], re.MULTILINE)
@@ -81,7 +81,7 @@ class Formats(FolderTest):
                 ran = self.called([self.folder / "noc", *words.split(), *table], input=text + traffic)
                 self.assertEqual((ran.stdout, ran.stderr), ("", f"fault {line}\n"))
 
-    def test_each_verdict_has_its_column(self):
+    def test_each_verdict_has_its_column(self) -> None:
         """The table of the page has the names of a trace beside the columns of a stall report, in their order."""
         named = re.findall(r"^\| `([A-Z]\w+)` \| `([a-z_]+)` \|", FORMATS, re.MULTILINE)
         self.put(c=FOUR, t=HEADER + "0,5,0,3,0\n1,5,0,3,0\n4,5,0,9,0\n1,2,0,4,0\n")
@@ -91,7 +91,7 @@ class Formats(FolderTest):
         self.assertLessEqual(seen, {verdict for verdict, _ in named})
         self.assertGreater(len(seen), 5)
 
-    def test_data_frames_keep_port_names(self):
+    def test_data_frames_keep_port_names(self) -> None:
         """The page's recipe where there is pandas, and else what it says of the csv module: what is read and written
         is the same file."""
         (recipe,) = re.findall(r"^```python\n(import pandas\n.*?)^```$", FORMATS, re.MULTILINE | re.DOTALL)

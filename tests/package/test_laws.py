@@ -10,8 +10,11 @@ import math
 import tempfile
 import unittest
 from collections import Counter
+from collections.abc import Callable
 from decimal import Decimal
 from html.parser import HTMLParser
+from random import Random
+from typing import Any
 
 try:
     from hypothesis import assume, configuration, given, settings, strategies as st
@@ -33,6 +36,7 @@ from noc_tools.rules import RULES
 from noc_tools.signals import filled
 from noc_tools.study import plan
 from noc_tools.traffic import HEADER, LONGEST, PATTERN_NAMES, numbers_in, read_traffic, traffic_text
+from noc_tools.traffic import Row
 from noc_tools.vcd import Dump
 
 # (what hypothesis writes down for itself goes with this process)
@@ -50,7 +54,7 @@ networks = st.builds(
 )
 
 
-def in_a_file(text):
+def in_a_file(text: str) -> Any:
     """A file with this text, which is there until it is closed."""
     file = tempfile.NamedTemporaryFile("w", newline="", encoding="utf-8")
     file.write(text)
@@ -63,27 +67,27 @@ def in_a_file(text):
 
 class Files(unittest.TestCase):
     @given(networks)
-    def test_a_configuration_is_read_as_it_was_written(self, network):
+    def test_a_configuration_is_read_as_it_was_written(self, network: Network) -> None:
         self.assertEqual(network_of(settings_of(network.text())), network)
 
     @given(st.lists(st.text(st.characters(blacklist_categories=["Cs"])), min_size=2, max_size=6))
-    def test_a_line_of_csv_is_read_as_it_was_written(self, fields):
+    def test_a_line_of_csv_is_read_as_it_was_written(self, fields: list[str]) -> None:
         with in_a_file(csv_line(fields)) as file:
             self.assertEqual(csv_rows(read_lines(file.name, "x"), "x", "x"), [fields])
 
     @given(st.lists(st.tuples(*[st.integers(0, 10 ** 6)] * 5)))
-    def test_a_traffic_is_read_as_it_was_written(self, rows):
+    def test_a_traffic_is_read_as_it_was_written(self, rows: list[Row]) -> None:
         with in_a_file(traffic_text(rows)) as file:
             self.assertEqual(list(map(numbers_in, read_traffic(file.name))), rows)
         self.assertTrue(traffic_text(rows).startswith(f"{HEADER}\n"))
 
     @given(st.text("<>&;'\"/!-? #xa1"))
-    def test_words_are_shown_as_they_are(self, words):
+    def test_words_are_shown_as_they_are(self, words: str) -> None:
         """In a page of HTML, whatever signs they have that are its own."""
         seen = []
 
         class Seen(HTMLParser):
-            def handle_data(self, data):
+            def handle_data(self, data: str) -> None:
                 seen.append(data)
 
         Seen().feed(f"<p>{page.in_html(words)}</p>")
@@ -93,7 +97,7 @@ class Files(unittest.TestCase):
         st.integers(0, 5),
         st.dictionaries(st.sampled_from("abc"), st.text("01xz", min_size=1, max_size=4), max_size=3),
     ), max_size=8))
-    def test_a_dump_has_what_was_written(self, steps):
+    def test_a_dump_has_what_was_written(self, steps: list[tuple[int, dict[str, str]]]) -> None:
         lines = ["$timescale 1ns $end", "$scope module top $end"]
         lines += [f"$var wire 4 {sign} {sign}_name [3:0] $end" for sign in "abc"]
         lines += ["$upscope $end", "$enddefinitions $end"]
@@ -106,7 +110,7 @@ class Files(unittest.TestCase):
             self.assertEqual(list(dump.steps("abc")), list(zip(times, (one for _, one in steps))))
 
     @given(st.integers(0, 10 ** 6))
-    def test_no_two_signs_are_alike(self, first):
+    def test_no_two_signs_are_alike(self, first: int) -> None:
         """Of 300 numbers in succession; and each is of the characters that a VCD file takes."""
         signs = [sign_of(number) for number in range(first, first + 300)]
         self.assertEqual(len(set(signs)), len(signs))
@@ -120,8 +124,8 @@ class Files(unittest.TestCase):
     )
 
     @given(sums, numbers, numbers)
-    def test_braces_are_filled_as_python_would(self, words, router, channel):
-        names = {"router": router, "channel": channel}
+    def test_braces_are_filled_as_python_would(self, words: str, router: int, channel: int) -> None:
+        names: dict[str, int | str] = {"router": router, "channel": channel}
         self.assertEqual(filled(f"a[{{{words}}}]", names), f"a[{eval(words, {}, names)}]")
 
 
@@ -130,7 +134,7 @@ class Files(unittest.TestCase):
 
 class Networks(unittest.TestCase):
     @given(networks, st.data())
-    def test_hops_are_a_distance(self, network, data):
+    def test_hops_are_a_distance(self, network: Network, data: Any) -> None:
         """They are those of a walk over the links that goes everywhere at once."""
         node = data.draw(st.integers(0, network.nodes - 1))
         found, waiting = {node: 0}, [node]
@@ -144,12 +148,12 @@ class Networks(unittest.TestCase):
         self.assertEqual(hops, [found[other] for other in range(network.nodes)])
 
     @given(networks, st.data())
-    def test_coordinates_name_a_node(self, network, data):
+    def test_coordinates_name_a_node(self, network: Network, data: Any) -> None:
         node = data.draw(st.integers(0, network.nodes - 1))
         self.assertEqual(network.node_at(network.coordinates(node)), node)
 
     @given(networks, st.data())
-    def test_a_link_leads_back(self, network, data):
+    def test_a_link_leads_back(self, network: Network, data: Any) -> None:
         node = data.draw(st.integers(0, network.nodes - 1))
         for port in network.ports[:-1]:
             other = network.neighbour(node, port)
@@ -157,7 +161,7 @@ class Networks(unittest.TestCase):
                 self.assertEqual(network.neighbour(other, opposite(port)), node)
 
     @given(networks, st.data())
-    def test_a_channel_has_one_number(self, network, data):
+    def test_a_channel_has_one_number(self, network: Network, data: Any) -> None:
         """By its parts, and by where a packet comes in by it."""
         channels = Channels(network)
         channel = data.draw(st.sampled_from(channels.links()))
@@ -165,7 +169,7 @@ class Networks(unittest.TestCase):
         self.assertEqual(channels.entering(*channels.entered(channel)), channel)
 
     @given(networks, st.data())
-    def test_a_rule_takes_shortest_ways(self, network, data):
+    def test_a_rule_takes_shortest_ways(self, network: Network, data: Any) -> None:
         is_met = {
             "dateline": network.kind == "torus" and network.channels % 2 == 0,
             "west-first": network.kind == "mesh" and len(network.radix) == 2,
@@ -183,7 +187,7 @@ class Networks(unittest.TestCase):
 
     @given(st.sampled_from(PATTERN_NAMES), st.floats(0.01, 0.9), st.integers(1, 8), st.integers(0, 99),
            st.integers(2, 4))
-    def test_a_traffic_is_of_the_network(self, pattern, load, length, seed, side):
+    def test_a_traffic_is_of_the_network(self, pattern: str, load: float, length: Any, seed: int, side: int) -> None:
         network = Network("mesh", (side, side), 1, 2, 1, "dor", 50)
         try:
             rows = Demand(pattern, load, length, seed).first_rows(network)
@@ -197,7 +201,7 @@ class Networks(unittest.TestCase):
             self.assertIn(due, range(50))
 
     @given(st.sampled_from(PATTERN_NAMES), st.integers(1, 4), st.integers(0, 99))
-    def test_a_pattern_is_a_choice_for_each_node(self, pattern, power, seed):
+    def test_a_pattern_is_a_choice_for_each_node(self, pattern: str, power: int, seed: int) -> None:
         """But for uniform and the hot spot, a node sends to one node alone, and no two to the
         same one."""
         network = Network("torus", (2 ** power,) * 2, 1, 2, 1, "dor", 60)
@@ -212,7 +216,7 @@ class Networks(unittest.TestCase):
 
 
 @st.composite
-def relations(draw):
+def relations(draw: Any) -> Relation:
     """Relations of any kind: at each step some of the shortest ways are permitted, by any of the
     channels."""
     kind = draw(st.sampled_from(KINDS))
@@ -222,7 +226,7 @@ def relations(draw):
     random = draw(st.randoms(use_true_random=False))
     chosen = {}
 
-    def permitted(_, channel, router, goal):
+    def permitted(_: int, channel: int, router: int, goal: int) -> list[int]:
         if (channel, goal) not in chosen:
             near = [port for port in network.ports[:-1] if network.neighbour(router, port) is not None and
                     network.distance(network.linked(router, port), goal) < network.distance(router, goal)]
@@ -233,7 +237,7 @@ def relations(draw):
     return Relation(channels, permitted)
 
 
-def dependencies_of(relation):
+def dependencies_of(relation: Relation) -> dict[int, set[int]]:
     """For each link channel those that packets ask for next, goal by goal."""
     found: dict[int, set[int]] = {channel: set() for channel in relation.channels.links()}
     for goal in relation.nodes:
@@ -245,7 +249,7 @@ def dependencies_of(relation):
 
 class Ranks(unittest.TestCase):
     @given(relations())
-    def test_ranks_are_found_exactly_where_there_is_no_circle(self, relation):
+    def test_ranks_are_found_exactly_where_there_is_no_circle(self, relation: Relation) -> None:
         """As the sorter of the standard library sees it. A circle goes along dependencies, and
         ends where it began."""
         after = dependencies_of(relation)
@@ -266,7 +270,7 @@ class Ranks(unittest.TestCase):
         self.assertTrue(all(ranks[one] < ranks[other] for one, onward in after.items() for other in onward))
 
     @given(relations())
-    def test_no_arrow_of_a_graph_runs_behind_a_box(self, relation):
+    def test_no_arrow_of_a_graph_runs_behind_a_box(self, relation: Relation) -> None:
         try:
             ranks = find_ranks(relation, set(range(relation.channels.vcs)))
         except NoRanks:
@@ -278,7 +282,7 @@ class Ranks(unittest.TestCase):
             self.assertEqual(behind, [], (one, other))
 
     @given(st.sets(st.integers(0, 300)))
-    def test_members_are_the_bits(self, numbers):
+    def test_members_are_the_bits(self, numbers: set[int]) -> None:
         self.assertEqual(list(members(sum(1 << number for number in numbers))), sorted(numbers))
 
 
@@ -289,18 +293,18 @@ lengths = st.integers(1, LONGEST)
 
 
 class Cuts(unittest.TestCase):
-    def first(self, is_stuck):
+    def first(self, is_stuck: Callable[[list[Row]], bool]) -> jam.First:
         """Of traffics the first that is stuck."""
         return lambda found: next((one for one in found if is_stuck(one[0])), None)
 
     @given(st.lists(lengths, min_size=1, max_size=40), st.data())
-    def test_what_is_needed_is_left_and_nothing_else(self, flits, data):
+    def test_what_is_needed_is_left_and_nothing_else(self, flits: list[int], data: Any) -> None:
         """Where a traffic is stuck that has some packets, each of some length at least."""
         rows = [(number, 0, 0, length, 0) for number, length in enumerate(flits)]
         needed = data.draw(st.sets(st.integers(0, len(rows) - 1), min_size=1, max_size=6))
         least = {number: data.draw(st.integers(1, flits[number])) for number in sorted(needed)}
 
-        def is_stuck(some):
+        def is_stuck(some: list[Row]) -> bool:
             there = {row[0]: row[3] for row in some}
             return all(least[number] <= there.get(number, 0) for number in needed)
 
@@ -308,11 +312,11 @@ class Cuts(unittest.TestCase):
         self.assertEqual(left, [(number, 0, 0, least[number], 0) for number in sorted(needed)])
 
     @given(st.integers(1, 40), st.randoms(use_true_random=False))
-    def test_no_packet_can_be_left_out(self, count, random):
+    def test_no_packet_can_be_left_out(self, count: int, random: Random) -> None:
         """Whatever is stuck: of what is left nothing is stuck that has a packet less."""
         seen: dict[tuple[int, ...], bool] = {}
 
-        def is_stuck(some):
+        def is_stuck(some: list[Row]) -> bool:
             key = tuple(row[0] for row in some)
             return key == tuple(range(count)) or seen.setdefault(key, bool(key) and random.random() < 0.3)
 
@@ -328,14 +332,14 @@ class Cuts(unittest.TestCase):
 
 class Figures(unittest.TestCase):
     @given(st.lists(st.integers(0, 10_000), min_size=1, max_size=300), st.integers(1, 100))
-    def test_a_percentile_is_the_least_that_suffices(self, numbers, percent):
+    def test_a_percentile_is_the_least_that_suffices(self, numbers: list[int], percent: int) -> None:
         """The least of the numbers that so many percent of them do not exceed."""
         found = statistics.percentile(sorted(numbers), len(numbers), percent)
         enough = (one for one in numbers if percent * len(numbers) <= 100 * sum(x <= one for x in numbers))
         self.assertEqual(found, min(enough))
 
     @given(st.floats(1e-5, 1e14))
-    def test_an_axis_ends_at_its_last_number(self, top):
+    def test_an_axis_ends_at_its_last_number(self, top: float) -> None:
         end = curves.rounded_up(top)
         numbers = curves.ticks(end)
         self.assertGreaterEqual(end, top * (1 - 1e-6))
@@ -345,7 +349,8 @@ class Figures(unittest.TestCase):
         self.assertEqual(len({f"{number:g}" for number in numbers}), len(numbers))
 
     @given(st.decimals(0, 2, places=3), st.decimals(0, 2, places=3), st.decimals("0.001", 1, places=3))
-    def test_a_range_of_loads_goes_from_the_first_to_the_last(self, first, more, step):
+    def test_a_range_of_loads_goes_from_the_first_to_the_last(
+            self, first: Decimal, more: Decimal, step: Decimal) -> None:
         last = first + more
         assume(more < plan.MOST_LOADS * step)
         loads = [Decimal(word) for word in plan.load_range(f"{first}:{last}:{step}")]
@@ -353,7 +358,7 @@ class Figures(unittest.TestCase):
         self.assertTrue(loads[-1] <= last < loads[-1] + step)
 
     @given(st.integers(1, 10_000), st.data())
-    def test_a_window_of_a_shorter_run_is_a_part_of_it(self, cycles, data):
+    def test_a_window_of_a_shorter_run_is_a_part_of_it(self, cycles: int, data: Any) -> None:
         first = data.draw(st.integers(0, cycles - 1))
         window = statistics.Window(first, data.draw(st.integers(first + 1, cycles)))
         shorter = data.draw(st.integers(1, cycles))
@@ -362,7 +367,7 @@ class Figures(unittest.TestCase):
         self.assertEqual(window.fitted(cycles, cycles), window)
 
     @given(st.integers(0, 10_000), st.integers(1, 10_000))
-    def test_halves_are_the_whole(self, first, cycles):
+    def test_halves_are_the_whole(self, first: int, cycles: int) -> None:
         window = statistics.Window(first, first + cycles)
         one, other = window.halves()
         self.assertEqual((one.first, one.end, other.end), (window.first, other.first, window.end))
@@ -374,7 +379,7 @@ class Figures(unittest.TestCase):
 
 class Studies(unittest.TestCase):
     @given(st.integers(1, 99), st.integers(1, 99))
-    def test_parts_are_the_whole(self, runs, count):
+    def test_parts_are_the_whole(self, runs: int, count: int) -> None:
         """Each run is in one part, and no part has more than one more than another."""
         parts = [part(f"{number}/{count}") for number in range(1, count + 1)]
         shares = [range(runs)[number - 1::of] for number, of in parts]
@@ -382,7 +387,7 @@ class Studies(unittest.TestCase):
         self.assertLessEqual(max(map(len, shares)) - min(map(len, shares)), 1)
 
     @given(st.lists(st.sampled_from("abcd")), st.data())
-    def test_each_item_is_given_once(self, items, data):
+    def test_each_item_is_given_once(self, items: list[str], data: Any) -> None:
         """Whatever group a process had last; it gets another of that group as long as there are
         some."""
         waiting, given_away = Waiting(items, lambda item: item), []
@@ -395,7 +400,7 @@ class Studies(unittest.TestCase):
         self.assertEqual(sorted(given_away), list(range(len(items))))
 
     @given(st.lists(st.integers(1, LONGEST), min_size=1, max_size=4), st.integers(1, 30))
-    def test_a_chance_brings_the_load(self, lengths, percent):
+    def test_a_chance_brings_the_load(self, lengths: list[int], percent: int) -> None:
         """Of the chance of a packet and its mean length, in bursts as long as pauses too."""
         mean = sum(lengths) / len(lengths)
         for burst, part_on in (None, 1), ((7, 7), 0.5):
@@ -404,7 +409,7 @@ class Studies(unittest.TestCase):
 
     @given(st.dictionaries(st.sampled_from(["channels", "buffer", "seed"]),
                            st.lists(st.integers(1, 5), min_size=1, max_size=3, unique=True), min_size=1))
-    def test_values_are_combined_with_all_others(self, lists):
+    def test_values_are_combined_with_all_others(self, lists: dict[str, list[Any]]) -> None:
         words = {key: [str(value) for value in values] for key, values in lists.items()}
         fixed = {"kind": ["mesh"], "radix": ["4"], "rule": ["dor"], "length": ["1"], "load": ["0.1"]}
         fixed |= {key: ["1"] for key in ("channels", "buffer") if key not in words}

@@ -53,31 +53,31 @@ class Number(int):
     """A number as another library has it, which is no integer of Python's own to those who look
     at the type."""
 
-    def tolist(self):
+    def tolist(self) -> int:
         return int(self)
 
 
 class Values(FolderTest):
     FILES = {"c": LINE, "t": IN_THE_WAY, "study.toml": AS_A_FILE}
 
-    def setUp(self):
+    def setUp(self) -> None:
         super().setUp()
         self.run_made = noc_tools.run(self.folder / "c", self.folder / "t")
 
-    def test_a_network_has_defaults(self):
+    def test_a_network_has_defaults(self) -> None:
         self.assertEqual(Network(), Network("mesh", (8, 8), 2, 4, 1, "dor", 3000))
         radix: Any = [3]
         self.assertEqual(Network(radix=radix, channels=1, buffer=2, cycles=20), LINE)
         self.assertEqual(replace(LINE, buffer=Number(2), radix=[Number(3)]).text(), LINE.text())
         self.assertEqual(noc_tools.run(Network(), Demand("uniform", 0.001, 1)).status, 0)
 
-    def test_a_latency_is_a_field(self):
+    def test_a_latency_is_a_field(self) -> None:
         """So it is a column of a table of packets, and stays right in a changed one."""
         packet = self.run_made.packets[2]
         self.assertEqual((packet.latency, asdict(packet)["latency"]), (17, 17))
         self.assertEqual((replace(packet, out=9).latency, Packet(0, 1, 2, 0, 1, 5).latency), (9, None))
 
-    def test_a_run_is_shown(self):
+    def test_a_run_is_shown(self) -> None:
         """Latencies of 10, 5 and 17 cycles; a run that was not made calls no program."""
         self.assertEqual(repr(self.run_made), "<Run of a mesh of 3, dor: 3 packets, 3 out, mean latency 10.67>")
         shown = self.run_made._repr_html_()
@@ -91,7 +91,7 @@ class Values(FolderTest):
         self.assertEqual(repr(ring), "<Run of a torus of 4, dor: 4 packets, 0 out, stuck>")
         self.assertIn("<td>stuck</td>", ring._repr_html_())
 
-    def test_figures_are_of_a_window(self):
+    def test_figures_are_of_a_window(self) -> None:
         """Five flits for three nodes in twenty cycles. Packet 0 waits for none, and packet 2 for
         it to come in."""
         figures = self.run_made.figures()
@@ -106,7 +106,7 @@ class Values(FolderTest):
             with self.assertRaisesRegex(Refused, "a window is A:B with A below B"):
                 self.run_made.figures(window)
 
-    def test_figures_are_those_of_the_command(self):
+    def test_figures_are_those_of_the_command(self) -> None:
         """Of a run that drained too."""
         for drain in False, True:
             run = noc_tools.run(replace(LINE, cycles=8), self.folder / "t", drain=drain)
@@ -117,7 +117,7 @@ class Values(FolderTest):
             grouped = {f"source {node}": each.columns() for node, each in run.grouped("source", (0, 8)).items()}
             self.assertEqual(found, grouped)
 
-    def test_each_channel_is_counted(self):
+    def test_each_channel_is_counted(self) -> None:
         """Router 1 by port -0, cycle by cycle as its life is worked out in test_waves."""
         (row,) = [row for row in self.run_made.stalls if (row["router"], row["port"]) == (1, "-0")]
         says = [(0, "Empty"), *((cycle, verdict) for cycle, verdict, *_ in AT_ROUTER_1), (20, "")]
@@ -129,7 +129,7 @@ class Values(FolderTest):
 
 
 class Questions(FolderTest):
-    def test_a_load_curve(self):
+    def test_a_load_curve(self) -> None:
         """Of two routers a packet alone takes five cycles. The rows are those of the command."""
         pair = Network(radix=(2,), cycles=400)
         self.assertEqual(noc_tools.load(pair, 1, [0.01], jobs=1)[0]["max"], 5)
@@ -145,7 +145,7 @@ class Questions(FolderTest):
                 number = isinstance(value, (int, float))
                 self.assertEqual(value, float(word) if number else None if word == "-" else word, name)
 
-    def test_what_a_load_curve_refuses(self):
+    def test_what_a_load_curve_refuses(self) -> None:
         cases: list[tuple[dict[str, Any], str]] = [
             ({"loads": [9]}, "a load is 0 or more, and at most the length of a packet"),
             ({"loads": [0.1], "pattern": "wave"}, "there is no pattern 'wave'"),
@@ -156,7 +156,7 @@ class Questions(FolderTest):
             with self.assertRaisesRegex(Refused, sentence):
                 noc_tools.load(LINE, 4, **given)
 
-    def test_ranks_are_found_and_checked(self):
+    def test_ranks_are_found_and_checked(self) -> None:
         """Those of the command, also as escape channels; noc refuses others, by its line and
         status."""
         adaptive = Network("mesh", (3, 3), 3, 2, 1, "adaptive", 100)
@@ -178,7 +178,7 @@ class Questions(FolderTest):
         with self.assertRaisesRegex(Refused, "there are no ranks: these steps close a circle"):
             noc_tools.ranks_of(TOP / "examples/ring.toml")
 
-    def test_a_table_is_taken(self):
+    def test_a_table_is_taken(self) -> None:
         """That of four left turns has a circle."""
         files = TOP / "examples/turns.toml", TOP / "examples/turns_table.csv"
         with self.assertRaisesRegex(Refused, "close a circle"):
@@ -186,7 +186,7 @@ class Questions(FolderTest):
         with self.assertRaisesRegex(Refused, "fault rank"):
             noc_tools.check(files[0], TOP / "examples/turns_ranks.csv", files[1])
 
-    def test_a_certificate_is_that_of_the_command(self):
+    def test_a_certificate_is_that_of_the_command(self) -> None:
         """By formula, found, and by ranks that are given; a folder with files is refused."""
         self.put(c=LINE)
         cases: list[tuple[str, str, dict[str, Any]]] = [
@@ -208,7 +208,7 @@ class Questions(FolderTest):
 class Studies(FolderTest):
     FILES = {"c": LINE, "t": IN_THE_WAY, "study.toml": AS_A_FILE}
 
-    def test_a_dict_is_a_study(self):
+    def test_a_dict_is_a_study(self) -> None:
         """With tuples, and numbers of other libraries, as in a file; its folder goes with it, or
         is one that is named."""
         with Study(self.folder / "study.toml", self.folder / "file.out") as study:
@@ -226,7 +226,7 @@ class Studies(FolderTest):
             self.assertEqual(study.open_cases(), [])
         self.assertEqual(settings["seed"], [1, 2])
 
-    def test_files_that_a_dict_names_lie_here(self):
+    def test_files_that_a_dict_names_lie_here(self) -> None:
         """In the folder where it is made, and what is wrong is said of the study."""
         with chdir(self.folder):
             network = {name: SETTINGS[name] for name in ("kind", "radix", "channels", "buffer", "cycles")}
@@ -237,7 +237,7 @@ class Studies(FolderTest):
             with self.assertRaisesRegex(Refused, sentence):
                 Study({**SETTINGS, **wrong})
 
-    def test_libraries_are_wanted_only_where_they_are_called(self):
+    def test_libraries_are_wanted_only_where_they_are_called(self) -> None:
         ran = self.called([sys.executable, "-c", WITHOUT], env={**self.environment, "NOC": str(PROGRAM)})
         told = "{} needs {}, which the extra 'plots' of noc_tools brings"
         self.assertEqual(ran.stdout.splitlines(), [
@@ -247,11 +247,11 @@ class Studies(FolderTest):
 
 @unittest.skipUnless(find_spec("pandas"), "there is no pandas here")
 class Frames(FolderTest):
-    def setUp(self):
+    def setUp(self) -> None:
         super().setUp()
         self.run_made = noc_tools.run(self.folder / "c", self.folder / "t")
 
-    def test_packets_are_rows(self):
+    def test_packets_are_rows(self) -> None:
         frame = self.run_made.frame()
         self.assertEqual(list(frame.columns), "source destination class length due out latency hops".split())
         self.assertEqual(frame.values.tolist(), [
@@ -260,13 +260,13 @@ class Frames(FolderTest):
         cut = noc_tools.run(replace(LINE, cycles=6), self.folder / "t").frame()
         self.assertEqual((cut.latency.isna().tolist(), cut.latency.sum()), ([True, False, True], 5))
 
-    def test_channels_are_rows(self):
+    def test_channels_are_rows(self) -> None:
         frame = self.run_made.frame("stalls")
         rows = frame.reset_index().to_dict("records")
         self.assertEqual(rows, self.run_made.stalls)
         self.assertEqual(frame.loc[1, "-0", 0].sum(), 20)
 
-    def test_a_trace_is_rows(self):
+    def test_a_trace_is_rows(self) -> None:
         """Those of the findings, a missing value for what is none."""
         frame = self.run_made.frame("trace", router=1, first=4, last=6)
         found = list(self.run_made.trace(router=1, first=4, last=6))
@@ -279,7 +279,7 @@ class Frames(FolderTest):
         with self.assertRaisesRegex(Refused, "a frame is of packets, stalls, trace, not of 'runs'"):
             self.run_made.frame("runs")
 
-    def test_a_study_is_rows(self):
+    def test_a_study_is_rows(self) -> None:
         """Numbers are numbers, also where all of them are missing."""
         study = Study(SETTINGS).make(2)
         frame, table = study.frame(), study.frame("table")
@@ -294,11 +294,11 @@ NOTHING = object()
 
 @unittest.skipUnless(find_spec("matplotlib"), "there is no matplotlib here")
 class Figures(FolderTest):
-    def setUp(self):
+    def setUp(self) -> None:
         super().setUp()
         self.study = Study(SETTINGS).make(2)
 
-    def test_a_figure_fits_a_column(self):
+    def test_a_figure_fits_a_column(self) -> None:
         """3.5 inches, and each letter of 8 points; two curves at the means over the seeds, and a
         legend of both."""
         figure = self.study.figure()
@@ -315,7 +315,7 @@ class Figures(FolderTest):
             self.assertEqual(list(line.get_ydata()), means)
         self.assertTrue(figure.caption.startswith("Latency against accepted load: mesh, 4x4, 2 channels"))
 
-    def test_a_point_is_hollow_where_packets_are_left(self):
+    def test_a_point_is_hollow_where_packets_are_left(self) -> None:
         """In the runs of one of its seeds at least."""
         marks = [line for line in self.study.figure(top=9999).axes[0].lines if len(line.get_xdata()) == 1]
         rows: list[dict[str, Any]] = self.study.rows()
@@ -324,7 +324,7 @@ class Figures(FolderTest):
         self.assertEqual([mark.get_markerfacecolor() == "white" for mark in marks], [point in left for point in points])
         self.assertIn(len(left), range(1, 6))
 
-    def test_the_bound_of_a_pattern_is_shown(self):
+    def test_the_bound_of_a_pattern_is_shown(self) -> None:
         """Of the 16 nodes of a mesh 8 send 8 of 15 packets over the four links across the
         middle."""
         figure = Study({**SETTINGS, "load": [0.1, 0.5, 1]}).make(2).figure("accepted", "offered")
@@ -332,7 +332,7 @@ class Figures(FolderTest):
         self.assertEqual(bounds, [round(4 / (8 * 8 / 15), 4)])
         self.assertIn("Upright: the bound of the pattern.", figure.caption)
 
-    def test_a_point_says_how_well_it_is_known(self):
+    def test_a_point_says_how_well_it_is_known(self) -> None:
         """An interval, and an arrow where percentiles are not known from the next load on."""
         study = Study({**SETTINGS, "load": [0.1, 0.5, 1], "cycles": 900}).make(2)
         figure = study.figure("p95", "load", top=1000)
@@ -344,7 +344,7 @@ class Figures(FolderTest):
         self.assertTrue(bars)
         self.assertIn("Bar: 95 percent interval of confidence.", figure.caption)
 
-    def test_a_network_that_can_deadlock_is_named(self):
+    def test_a_network_that_can_deadlock_is_named(self) -> None:
         """A ring by dimension order stands still under much traffic: its points are crosses."""
         ring = {"kind": "torus", "radix": [6], "rule": "dor", "channels": 1, "load": 0.9, "length": 16, "cycles": 1500}
         study = Study({**SETTINGS, **ring}).make(1)
@@ -353,7 +353,7 @@ class Figures(FolderTest):
         self.assertEqual([each.get_text() for each in figure.legends[0].get_texts()], ["all (can deadlock)"])
         self.assertIn("x", [line.get_marker() for line in figure.axes[0].lines])
 
-    def test_letters_of_a_file_are_text(self):
+    def test_letters_of_a_file_are_text(self) -> None:
         """Fonts of Type 3 are refused by many a publisher. The same curves give the same bytes."""
         paths = [self.folder / name for name in ("one.pdf", "two.pdf", "one.svg", "two.svg", "one.png")]
         for path in paths:
@@ -366,7 +366,7 @@ class Figures(FolderTest):
         self.assertIn(b">adaptive</text>", svg)
         self.assertTrue(png.startswith(b"\x89PNG") and self.study.figure()._repr_png_().startswith(b"\x89PNG"))
 
-    def test_some_curves_are_chosen(self):
+    def test_some_curves_are_chosen(self) -> None:
         """By a setting, with frames beside one another over a page."""
         figure = self.study.figure("p95", "offered", where={"rule": "dor"}, width=7.16)
         self.assertEqual([each.get_text() for each in figure.legends[0].get_texts()], ["all"])
@@ -381,7 +381,7 @@ class Figures(FolderTest):
 
 @unittest.skipUnless(HAS_JUPYTER, "there is no Jupyter here")
 class Example(FolderTest):
-    def test_the_notebook_shows_what_it_shows(self):
+    def test_the_notebook_shows_what_it_shows(self) -> None:
         """Each cell runs, and its words are those that the file holds; pictures are there,
         whatever their bytes."""
         path = self.folder / "examples/notebook.ipynb"
@@ -395,7 +395,7 @@ class Example(FolderTest):
         self.assertTrue(any("image/png" in kinds for kinds, _ in shown_by(kept)))
 
 
-def shown_by(notebook):
+def shown_by(notebook: Any) -> list[tuple[list[str], str]]:
     """What the cells of a notebook show: the kinds of each output, and its words.
 
     Neighbouring words of one stream count as one output, since a kernel sends them in as

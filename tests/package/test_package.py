@@ -3,6 +3,7 @@ import os
 import shutil
 import sys
 import unittest
+from collections.abc import Callable
 from dataclasses import replace
 
 import noc_tools
@@ -14,23 +15,23 @@ TINY = replace(LINE, cycles=4)
 
 
 class Names(unittest.TestCase):
-    def test_scripts_of_1_0_0_find_what_makes_a_run_of_a_study(self):
+    def test_scripts_of_1_0_0_find_what_makes_a_run_of_a_study(self) -> None:
         self.assertIs(results.line_of, study.line_of)
 
 
 class Library(FolderTest):
-    def setUp(self):
+    def setUp(self) -> None:
         super().setUp()
         self.files = self.folder / "c", self.folder / "t"
 
-    def test_a_run_has_packets_and_counts(self):
+    def test_a_run_has_packets_and_counts(self) -> None:
         """Packet 1 takes five cycles. Packet 0 is behind it: it is granted its channel in cycle 6, moves at router 1 in
         7, and leaves router 2 in 10. Packet 2 is out in 17, as its life says by hand in test_why."""
         run = noc_tools.run(*self.files)
         self.assertEqual((run.status, [packet.out for packet in run.packets]), (0, [10, 5, 17]))
         self.assertEqual(run.latencies, [10, 5, 17])
 
-    def test_files_and_values_are_the_same(self):
+    def test_files_and_values_are_the_same(self) -> None:
         """A network, packets or a demand in the place of their files."""
         run = noc_tools.run(*self.files)
         again = noc_tools.run(LINE, run.packets)
@@ -41,7 +42,7 @@ class Library(FolderTest):
         asked = noc_tools.run(LINE, noc_tools.Demand("uniform", 0.5, 2, seed=3))
         self.assertEqual([packet.row for packet in asked.packets], self.made("uniform", 0.5, 2, "--seed", 3))
 
-    def test_a_trace_is_chosen(self):
+    def test_a_trace_is_chosen(self) -> None:
         found = noc_tools.trace(*self.files, router=1, packet=0, first=4, last=5)
         self.assertEqual([(each.cycle, each.channel, each.verdict) for each in found], [
             (4, "-0.0", "NoIdleChannel"), (5, "-0.0", "NoIdleChannel"),
@@ -51,7 +52,7 @@ class Library(FolderTest):
             (0, 1, "Routed"), (2, 1, "Moved"), (3, 2, "Routed"), (5, 2, "Moved"),
         ])
 
-    def test_a_run_that_is_cut_or_stuck(self):
+    def test_a_run_that_is_cut_or_stuck(self) -> None:
         """No packet is out after four cycles, and a run that drains has them all. The ring waits for itself."""
         self.assertEqual(noc_tools.latencies(TINY, self.files[1]), [])
         self.assertEqual(len(noc_tools.latencies(TINY, self.files[1], drain=True)), 3)
@@ -59,15 +60,16 @@ class Library(FolderTest):
         self.assertEqual((ring.status, ring.latencies, ring.counts["left"]), (5, [], 4))
         self.assertIsNone(ring.counts["latency_max"])
 
-    def test_what_is_refused_is_an_error(self):
+    def test_what_is_refused_is_an_error(self) -> None:
         """With the line and the status of noc where noc refuses."""
-        for call, reason, status in [
+        cases: list[tuple[Callable[[], object], str, int]] = [
             (lambda: noc_tools.run(replace(LINE, rule="odd"), self.files[1]), "fault config 8 BadValue key rule", 3),
             (lambda: noc_tools.run(replace(LINE, radix=(2,)), self.files[1]), "fault network 2 BadNode row 0", 3),
             (lambda: list(noc_tools.trace(LINE, self.files[1], router=3)), "fault option 2 BadRouter", 3),
             (lambda: noc_tools.run("nothing", "t"), "nothing: No such file or directory", 1),
             (lambda: noc_tools.Demand("wave", 0.1, 1).traffic(LINE), "there is no pattern 'wave'", 1),
-        ]:
+        ]
+        for call, reason, status in cases:
             with self.subTest(reason=reason), self.assertRaises(noc_tools.Refused) as caught:
                 call()
             self.assertIn(reason, str(caught.exception))
@@ -75,13 +77,13 @@ class Library(FolderTest):
 
 
 class Program(FolderTest):
-    def which(self, **environment):
+    def which(self, **environment: str) -> str:
         """The program that the package calls in the folder."""
         script = "from noc_tools import program; print(program.program())"
         ran = self.called([sys.executable, "-c", script], env={**self.environment, **environment})
         return ran.stdout.strip() or ran.stderr.splitlines()[-1]
 
-    def test_where_it_is_found(self):
+    def test_where_it_is_found(self) -> None:
         """$NOC comes before the file beside the package, that before the one that pip put there with --target, and that
         before PATH."""
         other, target = self.folder / "other", self.folder / "bin/noc"
@@ -100,7 +102,7 @@ class Program(FolderTest):
         self.assertIn("there is no noc: it is looked for in $NOC", self.which(PATH="/nowhere"))
         (self.folder / "gone").rename(beside)
 
-    def test_a_script_names_what_it_runs(self):
+    def test_a_script_names_what_it_runs(self) -> None:
         """One that does not is called itself, and has no digest."""
         names = f'#!/bin/sh\n[ "$1" = --which ] && echo {PROGRAM} && exit\nexec {PROGRAM} "$@"\n'
         self.put(names=names, silent=f'#!/bin/sh\nexec {PROGRAM} "$@"\n', broken="#!/bin/sh\nexit 3\n")
@@ -111,7 +113,7 @@ class Program(FolderTest):
         self.assertIn("broken runs no program", self.which(NOC=str(self.folder / "broken")))
         self.assertEqual(self.which(NOC="/nowhere/noc").split(": ", 1)[1], "/nowhere/noc: No such file or directory")
 
-    def test_nothing_is_built(self):
+    def test_nothing_is_built(self) -> None:
         """A script that stands for ./noc writes down all that it is called with. The program is not there, or not of
         the sources as they stand, or has no file that says so; and then all is well. No call has it run or build."""
         built, log = self.folder / "built", self.folder / "log"
@@ -134,7 +136,7 @@ class Program(FolderTest):
             self.assertIn(found, self.which(NOC=str(script)))
         self.assertEqual(set(log.read_text().split()), {"--which", "--sources"})
 
-    def test_a_digest_is_of_the_file(self):
+    def test_a_digest_is_of_the_file(self) -> None:
         """The first digits of the SHA-256 of nothing."""
         self.put(nothing="")
         self.assertEqual(program.digest(self.folder / "nothing"), "e3b0c44298fc1c14")

@@ -5,6 +5,9 @@ What the page shows of a moment is looked at in test_replay.
 """
 import shutil
 import unittest
+from collections.abc import Callable
+from pathlib import Path
+from typing import Any
 
 try:
     from selenium import webdriver
@@ -25,7 +28,7 @@ DRIVER = shutil.which("chromedriver")
 PATIENCE = 20
 
 
-def started(folder):
+def started(folder: Path) -> Any:
     """A browser that keeps what its console says, with a profile of its own."""
     options = webdriver.ChromeOptions()
     options.binary_location = CHROMIUM
@@ -44,43 +47,43 @@ class UnderClicksAndKeys(FolderTest):
     browser: webdriver.Chrome
 
     @classmethod
-    def setUpClass(cls):
+    def setUpClass(cls) -> None:
         super().setUpClass()
         cls.browser = started(cls.folder / "profile")
         cls.addClassCleanup(cls.browser.quit)
 
-    def setUp(self):
+    def setUp(self) -> None:
         super().setUp()
         self.put(**{"page.html": self.said("replay", "c", "t")})
 
-    def tearDown(self):
+    def tearDown(self) -> None:
         """Whatever was done, the console tells of no error."""
         said = [entry for entry in self.browser.get_log("browser") if entry["level"] == "SEVERE"]
         self.assertEqual(said, [])
 
-    def open(self, moment):
+    def open(self, moment: str) -> None:
         """Opens the page anew at a moment."""
         self.browser.get("about:blank")
         self.browser.get(f"{(self.folder / 'page.html').as_uri()}#{moment}")
 
-    def part(self, name):
+    def part(self, name: str) -> Any:
         """A part of the page by its name."""
         return self.browser.find_element(By.ID, name)
 
-    def words(self, *names):
+    def words(self, *names: str) -> list[str]:
         """The words of parts, as they are seen."""
         return [self.part(name).text for name in names]
 
-    def rows(self, name):
+    def rows(self, name: str) -> list[list[str]]:
         """The rows of a table below its head."""
         rows = self.part(name).find_elements(By.TAG_NAME, "tr")[1:]
         return [[cell.text for cell in row.find_elements(By.CSS_SELECTOR, "td, th")] for row in rows]
 
-    def cycle(self):
+    def cycle(self) -> str:
         """The cycle in its field."""
         return self.part("cycle").get_attribute("value")
 
-    def press(self, *keys, shift=False):
+    def press(self, *keys: str, shift: bool = False) -> None:
         """Presses keys, one after the other, wherever the focus is."""
         actions = ActionChains(self.browser)
         if shift:
@@ -89,11 +92,11 @@ class UnderClicksAndKeys(FolderTest):
             actions.send_keys(key)
         (actions.key_up(Keys.SHIFT) if shift else actions).perform()
 
-    def until(self, holds):
+    def until(self, holds: Callable[[], object]) -> None:
         """Waits until something holds, which the page does by itself."""
         WebDriverWait(self.browser, PATIENCE).until(lambda _: holds())
 
-    def test_clicks_list_a_router_and_follow_a_packet(self):
+    def test_clicks_list_a_router_and_follow_a_packet(self) -> None:
         """From cycle 4, when packet 1 is granted local.0 at router 2, one cycle on: then it
         moves."""
         self.open("cycle=4")
@@ -106,7 +109,7 @@ class UnderClicksAndKeys(FolderTest):
             ["-0.0", "Moved", "-", "1", "local.0", "-", "-"], ["local.0", "Empty", "-", "-", "-", "-", "-"],
         ])
 
-    def test_keys_work_where_a_button_was_clicked(self):
+    def test_keys_work_where_a_button_was_clicked(self) -> None:
         """An arrow goes on by a cycle, and the space bar plays up to the last one: it does not
         press the button too."""
         self.open("cycle=4")
@@ -120,7 +123,7 @@ class UnderClicksAndKeys(FolderTest):
         self.until(lambda: self.words("play") == ["Play"])
         self.assertEqual(self.cycle(), "19")
 
-    def test_a_key_in_a_field_is_the_field_s(self):
+    def test_a_key_in_a_field_is_the_field_s(self) -> None:
         """What is typed as a cycle is gone to, and an arrow within it moves the mark there
         alone."""
         self.open("cycle=4")
@@ -131,7 +134,7 @@ class UnderClicksAndKeys(FolderTest):
         self.part("router-1").click()
         self.assertEqual(self.words("router-name"), ["Router 1 in cycle 12"])
 
-    def test_shift_goes_from_change_to_change(self):
+    def test_shift_goes_from_change_to_change(self) -> None:
         """Router 1 changes in 7, 8, 10, 11 and 12."""
         self.open("cycle=8&router=1")
         self.press(Keys.ARROW_RIGHT, Keys.ARROW_RIGHT, shift=True)
@@ -139,7 +142,7 @@ class UnderClicksAndKeys(FolderTest):
         self.press(Keys.ARROW_LEFT, Keys.ARROW_LEFT, Keys.ARROW_LEFT, shift=True)
         self.assertEqual(self.cycle(), "7")
 
-    def test_the_address_is_that_of_the_moment(self):
+    def test_the_address_is_that_of_the_moment(self) -> None:
         """It follows a click, and the page follows it where a person changes it."""
         self.open("cycle=4&router=1&packet=2")
         self.part("forward").click()
@@ -147,13 +150,13 @@ class UnderClicksAndKeys(FolderTest):
         self.browser.execute_script("location.hash = 'cycle=9&router=2'")
         self.until(lambda: self.words("router-name") == ["Router 2 in cycle 9"])
 
-    def test_a_click_into_the_strip_goes_to_its_cycle(self):
+    def test_a_click_into_the_strip_goes_to_its_cycle(self) -> None:
         """Its middle is the middle of the twenty cycles."""
         self.open("cycle=0")
         ActionChains(self.browser).move_to_element(self.part("chart")).click().perform()
         self.assertIn(self.cycle(), ("9", "10"))
 
-    def test_what_is_typed_is_followed(self):
+    def test_what_is_typed_is_followed(self) -> None:
         """The number of a packet, by the keyboard alone: from field to field with the tabulator."""
         self.open("cycle=5")
         self.part("follow").click()
@@ -162,7 +165,7 @@ class UnderClicksAndKeys(FolderTest):
             "Packet 2 in cycle 5", "So packet 2 waits for packet 1, which goes on.",
         ])
 
-    def test_a_router_is_reached_by_the_keyboard(self):
+    def test_a_router_is_reached_by_the_keyboard(self) -> None:
         """From the field before the picture with the tabulator, and then chosen by the enter
         key."""
         self.open("cycle=5")
@@ -174,7 +177,7 @@ class UnderClicksAndKeys(FolderTest):
         self.press(Keys.ENTER)
         self.assertEqual(self.words("router-name"), ["Router 1 in cycle 5"])
 
-    def test_the_wheel_zooms(self):
+    def test_the_wheel_zooms(self) -> None:
         """The picture, while the page stays where it is; a button shows the whole again."""
         self.open("cycle=5")
         whole, origin = self.view(), ScrollOrigin.from_element(self.part("picture"))
@@ -184,12 +187,12 @@ class UnderClicksAndKeys(FolderTest):
         self.part("whole").click()
         self.assertEqual(self.view(), whole)
 
-    def view(self):
+    def view(self) -> list[float]:
         """What the picture shows of itself: its left and upper edge, width and height."""
         script = "return document.getElementById('picture').getAttribute('viewBox')"
         return list(map(float, self.browser.execute_script(script).split()))
 
-    def test_a_dark_system_is_heeded(self):
+    def test_a_dark_system_is_heeded(self) -> None:
         """Where it changes while the page is open, too."""
         self.open("cycle=5")
         script = "return getComputedStyle(document.body).backgroundColor.match(/[0-9]+/g).slice(0, 3).map(Number)"

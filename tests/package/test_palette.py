@@ -2,7 +2,9 @@
 import math
 import unittest
 import xml.etree.ElementTree as ElementTree
+from collections.abc import Sequence
 from itertools import combinations
+from typing import Any
 
 from noc_tools.palette import KINDS, TILE, patterns
 from noc_tools.picture import WHITE
@@ -23,13 +25,13 @@ SEEN = {
 LEAST = {"all colours": 25, "deuteranopia": 25, "protanopia": 25, "no colour": 9}
 
 
-def light_of(colour):
+def light_of(colour: str) -> list[float]:
     """The light of a colour #rrggbb, each part from 0 to 1."""
     parts = [int(colour[place:place + 2], 16) / 255 for place in (1, 3, 5)]
     return [part / 12.92 if part <= 0.04045 else ((part + 0.055) / 1.055) ** 2.4 for part in parts]
 
 
-def lab_of(light):
+def lab_of(light: Sequence[float]) -> tuple[float, float, float]:
     """CIE Lab of some light, under the white D65."""
     red, green, blue = light
     parts = (
@@ -40,14 +42,14 @@ def lab_of(light):
     return 116 * y - 16, 500 * (x - y), 200 * (y - z)
 
 
-def seen_as(colour, matrix):
+def seen_as(colour: str, matrix: Any) -> tuple[float, float, float]:
     """A colour as such eyes see it, in CIE Lab."""
     light = light_of(colour)
     return lab_of([min(1, max(0, sum(a * b for a, b in zip(row, light)))) for row in matrix])
 
 
 class Palette(unittest.TestCase):
-    def test_colours_are_far_apart(self):
+    def test_colours_are_far_apart(self) -> None:
         """Those of the kinds that have one, and the paper."""
         colours = {name: kind.colour for name, kind in KINDS.items() if kind.colour != WHITE} | {"paper": WHITE}
         self.assertEqual(len(colours), 9)
@@ -56,13 +58,13 @@ class Palette(unittest.TestCase):
                 apart = math.dist(*(seen_as(colours[name], matrix) for name in (one, other)))
                 self.assertGreater(apart, LEAST[eyes], (eyes, one, other))
 
-    def test_the_distances_are_those_of_cie(self):
+    def test_the_distances_are_those_of_cie(self) -> None:
         """Black to white is 100, and pure red lies at 53, 80, 67."""
         self.assertAlmostEqual(math.dist(lab_of((0, 0, 0)), lab_of((1, 1, 1))), 100, delta=0.1)
         for found, expected in zip(lab_of((1, 0, 0)), (53.2, 80.1, 67.2)):
             self.assertAlmostEqual(found, expected, delta=0.2)
 
-    def test_signs_tell_kinds_apart_too(self):
+    def test_signs_tell_kinds_apart_too(self) -> None:
         """Each stall has a sign that no other kind has; what has the colour of the paper has another sign or none; and
         strokes are far from the colour under them."""
         stalls = [kind.sign for name, kind in KINDS.items() if name.startswith(("No", "Lost"))]
@@ -74,7 +76,7 @@ class Palette(unittest.TestCase):
                 lightness = [lab_of(light_of(colour))[0] for colour in (kind.ink, kind.colour)]
                 self.assertGreater(abs(lightness[0] - lightness[1]), 40, name)
 
-    def test_patterns_have_the_colour_and_the_sign(self):
+    def test_patterns_have_the_colour_and_the_sign(self) -> None:
         for text, (name, kind) in zip(patterns()[1:-1], KINDS.items(), strict=True):
             pattern = ElementTree.fromstring(text)
             ground, *strokes = pattern

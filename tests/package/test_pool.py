@@ -50,21 +50,21 @@ runpy.run_path("noc-tools", run_name="__main__")
 
 
 class Begun(FolderTest):
-    def test_a_locked_file_is_let_go_of_whatever_its_number(self):
+    def test_a_locked_file_is_let_go_of_whatever_its_number(self) -> None:
         """Three numbers are doubled, though a process that the server begins has other files by
         these numbers."""
         self.put(**{"twice.py": BY_A_SERVER})
         said = self.called([sys.executable, "twice.py"]).stdout.splitlines()
         self.assertEqual(said, ["(0, 2) (1, 4) (2, 6)"] * len(NUMBERS))
 
-    def test_a_study_is_made_whatever_files_are_open(self):
+    def test_a_study_is_made_whatever_files_are_open(self) -> None:
         self.put(**{"study.py": STUDY_BY_A_SERVER})
         ran = self.called([sys.executable, "study.py"])
         self.assertEqual((ran.stdout, ran.stderr), (9 * "2\n", ""))
 
 
 class Older(FolderTest):
-    def test_an_older_python_is_told_which_is_needed(self):
+    def test_an_older_python_is_told_which_is_needed(self) -> None:
         """In one sentence, which the Python of ten years ago can read."""
         ran = self.called([sys.executable, "-c", OLDER])
         told = "noc-tools: Python 3.11 or a later one is needed, and this is 3.10.12\n"

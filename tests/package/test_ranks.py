@@ -7,8 +7,10 @@ are granted one after another; and runs that packets crowd. All else was worked 
 import csv
 import os
 import re
+from collections.abc import Iterable, Iterator
 from dataclasses import replace
 from random import Random
+from typing import Any
 
 from support import HEADER, LINE, FolderTest
 
@@ -21,7 +23,7 @@ RANK_HEADER = "router,port,vc,rank\n"
 CROWDED = 300
 
 
-def network(kind, radix, channels, classes, rule):
+def network(kind: str, radix: tuple[int, ...], channels: int, classes: int, rule: str) -> Network:
     """A network on which packets may crowd."""
     return Network(kind, radix, channels, 2, classes, rule, CROWDED)
 
@@ -57,7 +59,7 @@ TABLES = [
 class Known:
     """What the program says of a relation, worked out from that of the package: the entries in the program's order."""
 
-    def __init__(self, made):
+    def __init__(self, made: Relation) -> None:
         self.made, self.channels = made, made.channels
         network = self.channels.network
         self.entries = {}
@@ -69,12 +71,12 @@ class Known:
                     self.entries[message_class, router, place, vc, destination] = channel, onward
         self.entries = dict(sorted(self.entries.items()))
 
-    def entry(self, key):
+    def entry(self, key: tuple[int, ...]) -> str:
         """An entry as a fault line has it."""
         message_class, router, place, vc, destination = key
         return f"class {message_class} router {router} port {self.channels.ports[place]} vc {vc} dst {destination}"
 
-    def not_rising(self, ranks):
+    def not_rising(self, ranks: dict[int, int]) -> str:
         """The fault line of the first hop that does not rise, where every channel has a rank."""
         for key, (channel, onward) in self.entries.items():
             for following in sorted(onward):
@@ -84,14 +86,14 @@ class Known:
                     return f"fault rank 2 NotRising {self.entry(key)} out {port} vc {vc} {numbers}\n"
         return "accepted\n"
 
-    def no_escape(self, ranks):
+    def no_escape(self, ranks: dict[int, int]) -> str | None:
         """The fault line of the first entry without an escape."""
         for key, (channel, onward) in self.entries.items():
             if onward and not any(following in ranks for following in onward):
                 return f"fault rank 4 NoEscape {self.entry(key)}\n"
         return None
 
-    def not_ahead(self, ranks):
+    def not_ahead(self, ranks: dict[int, int]) -> str:
         """The fault line of the first two channels of which the second has no greater rank, where some have none."""
         first = None
         for message_class in range(self.channels.network.classes):
@@ -108,18 +110,18 @@ class Known:
         return f"fault rank 2 NotRising router {a} port {p} vc {v} to router {b} port {q} vc {w} {numbers}\n"
 
 
-def rank_text(channels, ranks):
+def rank_text(channels: Channels, ranks: dict[int, int]) -> str:
     """A rank file in which channels without a rank are adaptive."""
     rows = [(*channels.parts(channel), ranks.get(channel, "adaptive")) for channel in channels.links()]
     return RANK_HEADER + "".join("{},{},{},{}\n".format(*row) for row in rows)
 
 
-def random_rows(channels, random):
+def random_rows(channels: Channels, random: Random) -> list[tuple[Any, ...]]:
     """Rows for every entry, most of which no packet reaches: of all ways that come nearer some."""
     network = channels.network
     entered = [channels.entered(channel) for channel in channels.links()]
     entered += [(router, "local", vc) for router in range(network.nodes) for vc in range(network.channels)]
-    rows = []
+    rows: list[tuple[Any, ...]] = []
     for message_class in range(network.classes):
         for destination in range(network.nodes):
             for router, in_port, in_vc in entered:
@@ -131,7 +133,7 @@ def random_rows(channels, random):
     return rows
 
 
-def nearer_ports(network, router, destination):
+def nearer_ports(network: Network, router: int, destination: int) -> list[str]:
     """All ports that lead nearer to a destination, and the one to the node where it is here."""
     found = [(port, network.neighbour(router, port)) for port in network.ports]
     distance = network.distance(router, destination)
@@ -139,7 +141,7 @@ def nearer_ports(network, router, destination):
     return nearer or ["local"]
 
 
-def crowd(network, random):
+def crowd(network: Network, random: Random) -> str:
     """Traffic that crowds a network."""
     nodes = network.nodes
     rows = [
@@ -150,7 +152,7 @@ def crowd(network, random):
     return HEADER + "".join("{},{},{},{},{}\n".format(*row) for row in rows if row[0] != row[1])
 
 
-def steps_of(said):
+def steps_of(said: str) -> list[tuple[int, int, list[str]]]:
     """The steps of a circle: class, destination, and the channels from one with a rank to the next."""
     found = []
     for line in said.splitlines()[1:]:
@@ -160,27 +162,27 @@ def steps_of(said):
 
 
 class RankTest(FolderTest):
-    def put_network(self, network):
+    def put_network(self, network: Network) -> Channels:
         """The channels of a network that is written as the configuration."""
         self.put(c=network)
         return Channels(network)
 
-    def put_table(self, rows):
+    def put_table(self, rows: Iterable[tuple[Any, ...]]) -> None:
         """Writes a table."""
         lines = [",".join(map(str, row)) for row in rows]
         self.put(table="\n".join([TABLE_HEADER, *lines, ""]))
 
-    def put_relation(self, relation):
+    def put_relation(self, relation: Relation) -> None:
         """Writes a relation as a table."""
         self.put(table="".join(f"{line}\n" for line in table_file(relation)))
 
-    def check(self, ranks, *words):
+    def check(self, ranks: str, *words: object) -> str:
         """What the program says of a rank file."""
         self.put(r=ranks)
         ran = self.noc("check", "c", "--ranks", "r", *words)
         return ran.stderr if ran.returncode else ran.stdout
 
-    def random_tables(self):
+    def random_tables(self) -> Iterator[tuple[Relation, list[tuple[Any, ...]], Random]]:
         """The relation of a network and a table beside the program, and the rows."""
         random = Random(2)
         for network in TABLES:
@@ -189,7 +191,7 @@ class RankTest(FolderTest):
             self.put_table(rows)
             yield of_network(channels, self.folder / "table"), rows, random
 
-    def assertAccepted(self, *words):
+    def assertAccepted(self, *words: str) -> None:
         """Ranks are found that the program accepts."""
         table = words[words.index("--table"):][:2] if "--table" in words else ()
         ran = self.tool("ranks", "c", *words)
@@ -198,7 +200,7 @@ class RankTest(FolderTest):
 
 
 class OfThePackage(RankTest):
-    def look_at_random_ranks(self, made, random, count, *words):
+    def look_at_random_ranks(self, made: Relation, random: Random, count: int, *words: object) -> None:
         """The program says of random ranks what follows from the relation."""
         known, channels = Known(made), made.channels
         for number in range(count):
@@ -209,7 +211,7 @@ class OfThePackage(RankTest):
             expected = known.no_escape(ranks) or known.not_ahead(ranks) if bare else known.not_rising(ranks)
             self.assertEqual(self.check(rank_text(channels, ranks), *words), expected)
 
-    def look_at_each_set(self, made, *words):
+    def look_at_each_set(self, made: Relation, *words: object) -> None:
         """The first entry without an escape is that of the relation, for each router and each of its sets as the
         adaptive channels, and for that set without one of them."""
         known, channels = Known(made), made.channels
@@ -219,7 +221,7 @@ class OfThePackage(RankTest):
             expected, said = known.no_escape(ranks), self.check(rank_text(channels, ranks), *words)
             self.assertEqual(said if "NoEscape" in said else None, expected)
 
-    def test_the_relation_of_each_rule_is_the_programs(self):
+    def test_the_relation_of_each_rule_is_the_programs(self) -> None:
         random = Random(1)
         for network, _ in RULES + CIRCLES:
             with self.subTest(network=network):
@@ -227,12 +229,12 @@ class OfThePackage(RankTest):
                 self.look_at_random_ranks(made, random, 12)
                 self.look_at_each_set(made)
 
-    def test_the_relation_of_a_table_is_the_programs(self):
+    def test_the_relation_of_a_table_is_the_programs(self) -> None:
         for made, _, random in self.random_tables():
             self.look_at_random_ranks(made, random, 30, "--table", "table")
             self.look_at_each_set(made, "--table", "table")
 
-    def test_exactly_the_reached_entries_need_rows(self):
+    def test_exactly_the_reached_entries_need_rows(self) -> None:
         """Without the rows of an entry the program says NoWay there where packets reach it, and else says nothing of
         the table."""
         for made, rows, _ in self.random_tables():
@@ -248,13 +250,13 @@ class OfThePackage(RankTest):
                 else:
                     self.assertNotIn("relation", said)
 
-    def granted(self, router, cycles):
+    def granted(self, router: int, cycles: Iterable[int]) -> Iterator[str]:
         """The output channels that a router's packets are granted in these cycles."""
         for cycle in cycles:
             rows = self.report("explain", "c", "t", "--cycle", cycle, "--router", router)
             yield from [row["out"] for row in rows if row["verdict"] == "Granted"]
 
-    def test_packets_are_granted_each_channel_of_their_set(self):
+    def test_packets_are_granted_each_channel_of_their_set(self) -> None:
         """Of packets of one flit from one node to another the next is granted the next channel, as long as the first
         one drains: for five cycles, in which at least three are injected."""
         for network, _ in RULES:
@@ -272,7 +274,7 @@ class OfThePackage(RankTest):
                     self.assertEqual(found, expected[:len(found)], (network, source, goal))
                     self.assertGreaterEqual(len(found), min(3, len(expected)))
 
-    def test_a_rule_written_as_a_table_runs_alike(self):
+    def test_a_rule_written_as_a_table_runs_alike(self) -> None:
         """Every verdict of every channel is counted alike, and each packet is out at the same time, where packets crowd
         the network."""
         random = Random(3)
@@ -287,13 +289,13 @@ class OfThePackage(RankTest):
 
 
 class Ranks(RankTest):
-    def test_found_ranks_are_accepted(self):
+    def test_found_ranks_are_accepted(self) -> None:
         for network, words in RULES:
             with self.subTest(network=network):
                 self.put(c=network)
                 self.assertAccepted(*words.split())
 
-    def assertCircle(self, made, said, numbers):
+    def assertCircle(self, made: Relation, said: str, numbers: set[int]) -> None:
         """Each step begins where the one before ends, its class and destination permit it, and the channels within have
         no rank: their numbers are some of these."""
         channels = made.channels
@@ -307,7 +309,7 @@ class Ranks(RankTest):
             for before, after in zip(way, way[1:]):
                 self.assertIn(after, made.steps(*goal).get(before, ()))
 
-    def test_circles_are_those_of_the_relation(self):
+    def test_circles_are_those_of_the_relation(self) -> None:
         for network, words in CIRCLES:
             made = of_network(self.put_network(network))
             ran = self.tool("ranks", "c", *words.split())
@@ -315,7 +317,7 @@ class Ranks(RankTest):
             if "no escape channel" not in ran.stderr:
                 self.assertCircle(made, ran.stderr, {1, 2} if words == "--escape 0" else set())
 
-    def test_the_first_reason_is_told(self):
+    def test_the_first_reason_is_told(self) -> None:
         """Without any numbers the first hop has no escape; with number 0 the ring is a circle."""
         made = of_network(Channels(network("torus", (4,), 2, 1, "dor")))
         none: set[int] = set()
@@ -323,7 +325,7 @@ class Ranks(RankTest):
             with self.assertRaisesRegex(NoRanks, reason):
                 first_found(made, [*choices])
 
-    def test_the_circle_of_a_ring_is_shown(self):
+    def test_the_circle_of_a_ring_is_shown(self) -> None:
         """Four routers: each step is that of packets two hops from their destination."""
         self.put(c=network("torus", (4,), 1, 1, "dor"))
         ran = self.tool("ranks", "c")
@@ -335,7 +337,7 @@ class Ranks(RankTest):
             for router in (2, 3, 0, 1)
         ])
 
-    def test_random_tables_have_ranks_or_a_circle(self):
+    def test_random_tables_have_ranks_or_a_circle(self) -> None:
         """What is found is accepted, and a circle is one of the relation; with escape channels too, where each step
         goes from one of these to the next by others alone."""
         ends = set()
@@ -350,7 +352,7 @@ class Ranks(RankTest):
         self.assertIn(1, ends)
         self.assertLessEqual(ends, {0, 1})
 
-    def test_an_entry_without_escape_is_shown(self):
+    def test_an_entry_without_escape_is_shown(self) -> None:
         """On a mesh of three routers channel 1 alone leads on from what comes in by channel 1."""
         self.put(c=network("mesh", (3,), 2, 1, "table"))
         ways = [(router, goal, "+0" if router < goal else "-0") for router in range(3) for goal in range(3)]
@@ -369,7 +371,7 @@ class Ranks(RankTest):
             "class 0 to node 1, at router 0 by local.1: it may take +0.1",
         ])
 
-    def test_steps_through_adaptive_channels_count(self):
+    def test_steps_through_adaptive_channels_count(self) -> None:
         """Three by two routers, by dimension order on channel 0; but packets from node 3 to the lower row go down
         first, and those to node 5 may leave the lower row early, by channel 1.
 
@@ -378,7 +380,7 @@ class Ranks(RankTest):
         """
         channels = self.put_network(network("mesh", (3, 2), 2, 1, "table"))
 
-        def permitted(message_class, channel, router, destination):
+        def permitted(message_class: int, channel: int, router: int, destination: int) -> list[int]:
             goes_down = router == 3 and destination in (1, 2)
             port = "-1" if goes_down else dimension_order_port(channels.network, router, destination)
             ways = [(router, port, 0)] + [(router, "+1", 1)] * ((router, destination) == (1, 5))
@@ -391,9 +393,9 @@ class Ranks(RankTest):
         self.assertEqual(in_order, sorted(set(in_order)))
         self.assertAccepted("--table", "table", "--escape", "0")
 
-    def test_the_largest_take_less_than_twenty_seconds(self):
+    def test_the_largest_take_less_than_twenty_seconds(self) -> None:
         """Of processor time."""
-        def time_of_others():
+        def time_of_others() -> float:
             times = os.times()
             return times.children_user + times.children_system
 
@@ -428,10 +430,10 @@ BY_NOC = [
 
 
 class Refused(RankTest):
-    def test_what_is_refused(self):
+    def test_what_is_refused(self) -> None:
         self.assertEachRefused((words, {"c": given}, sentence) for words, given, sentence in WRONG)
 
-    def test_what_noc_refuses(self):
+    def test_what_noc_refuses(self) -> None:
         for words, given, status, line in BY_NOC:
             self.put(c=given)
             self.assertRefusedByNoc(words, status, line)

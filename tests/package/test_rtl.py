@@ -5,6 +5,7 @@ import shutil
 import subprocess
 import unittest
 from dataclasses import replace
+from typing import Any
 
 from support import HEADER, LINE, TOP, FolderTest
 
@@ -25,9 +26,11 @@ DRAINS = HEADER + "0,2,0,1,0\n1,2,0,1,0\n"
 # the port local.
 IN_TURN = HEADER + "0,2,0,4,0\n1,2,0,4,3\n"
 TWO_CHANNELS = replace(LINE, channels=2)
+# A source, a text of it, and what stands in its place.
+Edit = tuple[str, ...]
 # What is wrong in each mutant: a text of a source, what stands in its place, a run that shows it, the first difference,
 # the cycle of the first one where moves alone are compared, and the assertion that finds it too, if one does.
-MUTANTS = {
+MUTANTS: dict[str, tuple[Any, ...]] = {
     "a credit too many": (
         "router", "credits[o*COUNT +: COUNT] <= BUFFER;", "credits[o*COUNT +: COUNT] <= BUFFER + 1;", LINE, FULL,
         "cycle 4, router 0, local.0: the design moves a flit, and the model does not (NoCredit).", 4, "credit_room",
@@ -90,7 +93,7 @@ LAWS = re.findall(r"// (\w+), (\w+) \(([\w, ]+)\):\n", ASSERTED)
 RECORDS = {"every_cycle_is_right": ("Headline", "IsRightCycle"), "verdicts_take_effect": ("Effects", "IsRightStep")}
 
 
-def has_verilator():
+def has_verilator() -> bool:
     """Whether there is a Verilator that knows delays, and the compiler that it needs."""
     if not all(map(shutil.which, ["verilator", "g++", "make"])):
         return False
@@ -98,18 +101,18 @@ def has_verilator():
     return version.startswith("Verilator 5")
 
 
-def broken_by(said):
+def broken_by(said: str) -> set[str]:
     """The assertions that failed in a simulation."""
     return set(re.findall(r"^ERROR: .*: (\w+): router", said, re.MULTILINE))
 
 
 class Laws(unittest.TestCase):
-    def test_the_page_has_those_of_the_assertions(self):
+    def test_the_page_has_those_of_the_assertions(self) -> None:
         self.assertEqual([name for name, _, _ in LAWS], re.findall(r'\$error\("(\w+): ', ASSERTED))
         rows = re.findall(r"^\| `(\w+)` \| `(\w+)` \(([`\w, ]+)\) \|", (TOP / "docs/RTL.md").read_text(), re.MULTILINE)
         self.assertEqual(sorted((name, law, parts.replace("`", "")) for name, law, parts in rows), sorted(LAWS))
 
-    def test_they_are_proved_and_have_these_parts(self):
+    def test_they_are_proved_and_have_these_parts(self) -> None:
         crate = TOP / "crates/noc_theory_headline"
         for law, (file, record) in RECORDS.items():
             self.assertRegex((crate / "src/laws.rt").read_text(), rf"fn {law}\(\)\n(?: .*\n)*? .*\b{record}\b")
@@ -120,7 +123,7 @@ class Laws(unittest.TestCase):
 
 
 class Memories(FolderTest):
-    def test_words_by_hand(self):
+    def test_words_by_hand(self) -> None:
         """Node 0 of a line sends one flit to 2, and later, though that stands first, two flits. Its router sends to its
         node by local.0 and .1, which are the channels 4 and 5, and to others by +0, the channels 0 and 1."""
         self.put(c=replace(LINE, channels=2), t=HEADER + "0,1,0,2,9\n0,2,0,1,3\n")
@@ -136,12 +139,12 @@ class Memories(FolderTest):
         self.assertEqual((self.folder / "made/routes_0.hex").read_text(), "30\n3\n3\n")
         self.assertEqual((self.folder / "made/routes_1.hex").read_text(), "c\n30\n3\n")
 
-    def test_a_table_has_no_routes(self):
+    def test_a_table_has_no_routes(self) -> None:
         self.put(t=HEADER)
         self.said("memories", "examples/turns.toml", "t", "tabled")
         self.assertEqual({path.name[:7] for path in (self.folder / "tabled").iterdir()}, {"packets"})
 
-    def test_what_is_refused(self):
+    def test_what_is_refused(self) -> None:
         self.put(c=LINE, t=HEADER + "0,2,0,1,70\n", far=HEADER + "0,5,0,1,7\n", odd=HEADER + "0,2,0,1,x\n")
         self.assertEachRefused([
             ("memories c t out --widths 6,7,2,8,16", "the due of a packet is 70, which 6 bits do not hold"),
@@ -152,7 +155,7 @@ class Memories(FolderTest):
 
 
 class Template(FolderTest):
-    def test_it_has_each_input(self):
+    def test_it_has_each_input(self) -> None:
         """Those of the module, in their order, with widths; clock and reset have neither."""
         self.put(c=LINE)
         self.tool("assertions", "c", "--out", CHECKER, "--bind", "bind.sv")
@@ -166,7 +169,7 @@ class Template(FolderTest):
 
 
 class RtlTest(FolderTest):
-    def put_design(self, network, traffic, edit=None):
+    def put_design(self, network: Network | str, traffic: str, edit: Edit | None = None) -> tuple[list[str], list[str]]:
         """Writes the design, with an edit of one of its sources, the checker and all that they read; their names, and
         the parameters of the bench."""
         self.put(c=network, t=traffic, **{f"{name}.sv": (TOP / f"tests/rtl/{name}.sv").read_text() for name in SOURCES})
@@ -182,7 +185,7 @@ class RtlTest(FolderTest):
 
 @unittest.skipUnless(ICARUS, "there is no Icarus Verilog here")
 class Rtl(RtlTest):
-    def simulated(self, network, traffic, edit=None, checks=False):
+    def simulated(self, network: Network | str, traffic: str, edit: Edit | None = None, checks: bool = False) -> str:
         """Runs the design, with an edit of one of its sources, and returns what the simulation says."""
         sources, parameters = self.put_design(network, traffic, edit)
         given = [*(f"-Pbench.{word}" for word in parameters), *(["-DCHECKS"] if checks else [])]
@@ -192,13 +195,13 @@ class Rtl(RtlTest):
         self.assertEqual(ran.returncode, 0, ran.stderr)
         return ran.stdout
 
-    def compared(self, names="examples/rtl_map.toml"):
+    def compared(self, names: str = "examples/rtl_map.toml") -> tuple[int, list[str]]:
         """How the design compares with the model, by a map."""
         self.put(**{"model.vcd": self.said("waves", "c", "t")})
         ran = self.tool("compare", "model.vcd", "dump.vcd", "--map", names)
         return ran.returncode, ran.stdout.splitlines()
 
-    def assertAgrees(self, network, channels, *words):
+    def assertAgrees(self, network: Network, channels: int, *words: object) -> None:
         """The design agrees under a load that it does not take, and breaks no assertion in its first 200 cycles."""
         self.put(c=network)
         traffic = self.said("traffic", "c", "uniform", *words)
@@ -210,7 +213,7 @@ class Rtl(RtlTest):
         self.assertEqual(never, [])
         self.assertNotIn("ERROR", self.simulated(replace(network, cycles=200), traffic, checks=True))
 
-    def test_the_dumps_of_the_examples(self):
+    def test_the_dumps_of_the_examples(self) -> None:
         """They are of the design as it stands, and of the mutant that frees a channel at the tail."""
         network, traffic = ((TOP / f"examples/rtl.{end}").read_text() for end in ("toml", "csv"))
         freed = MUTANTS["a channel that is freed at the tail"][:3]
@@ -220,19 +223,19 @@ class Rtl(RtlTest):
             made, kept = (dump.partition("$version")[2] for dump in dumps)
             self.assertEqual(made, kept, name)
 
-    def test_a_mesh(self):
+    def test_a_mesh(self) -> None:
         """Of its 12 links each has two directions; with 9 injection ports these are 33 ports of two channels."""
         self.assertAgrees(MESH, 66, 1, 4)
 
-    def test_a_ring(self):
+    def test_a_ring(self) -> None:
         """Four links and four injection ports: 12 ports of two channels."""
         self.assertAgrees(RING, 24, 1, "1+6")
 
-    def test_a_mesh_of_two_classes(self):
+    def test_a_mesh_of_two_classes(self) -> None:
         """Ten links and eight injection ports: 28 ports of four channels."""
         self.assertAgrees(WIDE, 112, 1, "1+5", "--classes", "0,1")
 
-    def test_what_is_wrong_is_found(self):
+    def test_what_is_wrong_is_found(self) -> None:
         moves, _, _ = (TOP / "examples/rtl_map.toml").read_text().partition("granted = ")
         for name, (source, old, new, network, traffic, line, cycle, assertion) in MUTANTS.items():
             with self.subTest(name):
@@ -245,7 +248,7 @@ class Rtl(RtlTest):
                 self.assertTrue(self.compared("moves")[1][0].startswith(f"cycle {cycle}, "), self.compared("moves"))
                 self.assertTrue(assertion in broken_by(said) if assertion else not broken_by(said), said)
 
-    def test_each_assertion_fails_for_something(self):
+    def test_each_assertion_fails_for_something(self) -> None:
         """In a run in which packets want the same channels and the same ports."""
         names = re.findall(r'\$error\("(\w+): ', (TOP / "noc_tools/assertions.sv").read_text())
         self.assertEqual({*BROKEN, *(mutant[-1] for mutant in MUTANTS.values())} - {None}, set(names))
@@ -265,7 +268,7 @@ UNREAD = re.compile(
 class Formal(RtlTest):
     """Whatever comes to a router of the line in its first eight cycles, no assertion is broken."""
 
-    def proved(self, edit=None):
+    def proved(self, edit: Edit | None = None) -> tuple[int, str]:
         """How the proof ends of the design, with an edit of one of its sources, and what it says."""
         sources, _ = self.put_design(LINE, FULL, edit)
         for name in sources:
@@ -273,13 +276,13 @@ class Formal(RtlTest):
         ran = self.called(["yosys", TOP / "tests/rtl/router.ys"])
         return ran.returncode, ran.stdout
 
-    def test_no_assertion_is_broken(self):
+    def test_no_assertion_is_broken(self) -> None:
         status, said = self.proved()
         self.assertIn("Base case for induction length 8 proven.", said)
         self.assertNotIn("model found", said)
         self.assertEqual(status, 0)
 
-    def test_what_is_wrong_is_found(self):
+    def test_what_is_wrong_is_found(self) -> None:
         for name in ("a credit too many", "a channel that is freed at the tail"):
             with self.subTest(name):
                 self.assertIn("model found for base case: FAIL!", self.proved(MUTANTS[name][:3])[1])
@@ -287,7 +290,7 @@ class Formal(RtlTest):
 
 @unittest.skipUnless(has_verilator(), "there is no Verilator 5 with g++ and make here")
 class InVerilator(RtlTest):
-    def test_the_checker_is_clean(self):
+    def test_the_checker_is_clean(self) -> None:
         """Of networks of all shapes, and of sizes for which a count has no bits to spare."""
         for network in (
             LINE, MESH, RING, WIDE, Network("mesh", (2,), 1, 16, 1, "dor", 20),
@@ -298,7 +301,7 @@ class InVerilator(RtlTest):
             ran = self.called(["verilator", "--lint-only", "-Wall", CHECKER])
             self.assertEqual((ran.returncode, ran.stdout + ran.stderr), (0, ""))
 
-    def test_it_is_bound_by_the_line_of_the_page(self):
+    def test_it_is_bound_by_the_line_of_the_page(self) -> None:
         """And by the template, in which a signal of the same name stands for each input."""
         self.put(c=LINE)
         self.tool("assertions", "c", "--out", CHECKER, "--bind", "template.sv")
@@ -310,7 +313,7 @@ class InVerilator(RtlTest):
             with self.subTest(bound=bound):
                 self.bound(bound)
 
-    def bound(self, line):
+    def bound(self, line: str) -> None:
         """No assertion fails in a design with this line, but for one where it begins with a credit too many."""
         source, old, new = MUTANTS["a credit too many"][:3]
         either = old.replace("BUFFER;", 'BUFFER + $test$plusargs("wrong");')

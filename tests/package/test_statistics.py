@@ -1,7 +1,9 @@
 """The figures of a run: loads, latency in queue and network, hops, fairness, and when a state is steady."""
 import json
 import unittest
+from collections.abc import Iterable
 from dataclasses import replace
+from typing import Any
 
 from support import HEADER, HUGE, IN_THE_WAY, LINE, FolderTest, made_networks
 
@@ -54,7 +56,7 @@ TWENTY = REPORT_HEADER + "".join(f"{n},0,1,0,1,0,{n + 1},{n + 1}\n" for n in ran
 class Figures(FolderTest):
     FILES = FolderTest.FILES | {"r": REPORT}
 
-    def test_they_are_those_of_the_definitions(self):
+    def test_they_are_those_of_the_definitions(self) -> None:
         names = [word for name in ("class", "distance", "source", "destination") for word in ("--by", name)]
         ran = self.tool("latency", "c", "r", "--window", "4:12", *names)
         self.assertEqual((ran.stderr, ran.returncode), (f"{NAME}{OWN_TIME}", 0))
@@ -62,7 +64,7 @@ class Figures(FolderTest):
         lines = OF_REPORT.replace("|", UNKNOWN).replace("\n", f"{NO_MARGINS}\n")
         self.assertEqual(ran.stdout, header + lines)
 
-    def test_percentiles_fall_among_packets_that_stay(self):
+    def test_percentiles_fall_among_packets_that_stay(self) -> None:
         """Of twenty the 19th is the 95th percentile, and the 20th the 99th; the mean is that of the other 19."""
         ran = self.tool("latency", "c", given=TWENTY)
         line = ran.stdout.splitlines()[1]
@@ -70,7 +72,7 @@ class Figures(FolderTest):
         told = "noc-tools latency: 1 of the 20 packets of the window were not out at the end of the run\n"
         self.assertIn(told, ran.stderr)
 
-    def test_windows_reach_what_a_drain_did(self):
+    def test_windows_reach_what_a_drain_did(self) -> None:
         """The run is of 20 cycles, and the last packet is due in cycle 30 and out in cycle 36: it went on until
         then."""
         self.put(r=REPORT + "6,0,1,0,3,30,36,6\n")
@@ -79,7 +81,7 @@ class Figures(FolderTest):
         self.assertTrue(line.startswith("all,1,3,1,0.0625,0.0625,6.0,6,6,6,6,"), line)
         self.assertRefused(outside, "B at most the 37 cycles of the run, not '21:38'", "latency")
 
-    def test_json_holds_the_same(self):
+    def test_json_holds_the_same(self) -> None:
         found = json.loads(self.said("latency", "c", "--json", given=TWENTY))
         (figures,) = found["figures"]
         self.assertEqual(list(figures), ["group", *FIGURES, *PARTS, *MARGINS])
@@ -95,38 +97,38 @@ class QueueAndNetwork(FolderTest):
     the channel that drains of packet 0 in 8, and the next in 11. Its second flit moves in 10, its third, for want of a
     place, in 13; this one leaves router 1 in 16, and the network in 17."""
 
-    def test_each_has_its_figures(self):
+    def test_each_has_its_figures(self) -> None:
         line = self.said("latency", "c", "--traffic", "t").splitlines()[1]
         latency, queue, network = "10.7,10,17,17,17", "1.0,0,3,3,3", "9.7,10,14,14,14"
         hops, sources = "1.7,2,2,2,2", "0.0500,0.1250,0.2000"
         self.assertEqual(line, f"all,3,5,3,0.0833,0.0833,{latency},{queue},{network},{hops},{sources}{NO_MARGINS}")
 
-    def test_only_packets_that_are_out_count(self):
+    def test_only_packets_that_are_out_count(self) -> None:
         """At the end of cycle 8 this is packet 1 alone, though all have come in; of three it is no half."""
         self.put(c=replace(LINE, cycles=9))
         line = self.said("latency", "c", "--traffic", "t").splitlines()[1]
         self.assertEqual(line.split(",")[6:23], "5.0,-,-,-,-,0.0,-,-,-,-,5.0,-,-,-,-,1.7,2".split(","))
 
-    def test_a_run_may_drain(self):
+    def test_a_run_may_drain(self) -> None:
         """Then it is that of 20 cycles, of which the configuration has 9: the loads are of these."""
         self.put(c=replace(LINE, cycles=9))
         line = self.said("latency", "c", "--traffic", "t", "--drain").splitlines()[1]
         self.assertTrue(line.startswith("all,3,5,3,0.1852,0.0370,10.7,10,17,17,17,1.0,0,3,3,3,9.7,10,14,14,14,"), line)
 
-    def test_they_come_by_standard_input_too(self):
+    def test_they_come_by_standard_input_too(self) -> None:
         """The configuration or the traffic."""
         named = self.said("latency", "c", "--traffic", "t")
         self.assertEqual(named, self.said("latency", "-", "--traffic", "t", given=LINE.text()))
         self.assertEqual(named, self.said("latency", "c", "--traffic", "-", given=IN_THE_WAY))
 
-    def test_they_add_up_on_made_networks(self):
+    def test_they_add_up_on_made_networks(self) -> None:
         """Of every packet of ten networks. A packet comes in when it is first seen at its source, and no sooner than
         one before it in the queue; a lone one takes 3 cycles a hop, 2 more, and one for each flit behind the head."""
         seen = 0
         for network, text in made_networks(10):
             self.put(c=network, t=text)
             run = Run(self.folder / "c", self.folder / "t")
-            first: dict = {}
+            first: dict[int | None, tuple[int, int, str]] = {}
             for finding in run.trace():
                 first.setdefault(finding.packet, (finding.cycle, finding.router, finding.channel.partition(".")[0]))
             packets = run.timed_packets
@@ -142,7 +144,7 @@ class QueueAndNetwork(FolderTest):
             self.assert_queues_keep_order(packets)
         self.assertGreater(seen, 100)
 
-    def assert_queues_keep_order(self, packets):
+    def assert_queues_keep_order(self, packets: Iterable[Any]) -> None:
         """Those of a source come in by due time and then by number."""
         for source in {packet.source for packet in packets}:
             queue = sorted((packet.due, packet.number, packet.came_in) for packet in packets if packet.source == source)
@@ -152,10 +154,10 @@ class QueueAndNetwork(FolderTest):
 
 
 class Parts(unittest.TestCase):
-    def test_a_window_has_halves(self):
+    def test_a_window_has_halves(self) -> None:
         self.assertEqual(Window(4, 12).halves(), (Window(4, 8), Window(8, 12)))
 
-    def test_what_is_not_known_has_none(self):
+    def test_what_is_not_known_has_none(self) -> None:
         """A packet that waits, one that is in, one that is out."""
         packets = [Packet(0, 0, 1, 0, 1, 5), Packet(0, 0, 1, 0, 1, 5, None, 7), Packet(0, 0, 1, 0, 1, 5, 15, 7)]
         found = [(packet.latency, packet.queue_latency, packet.network_latency) for packet in packets]
@@ -163,7 +165,7 @@ class Parts(unittest.TestCase):
 
 
 class WellKnown(unittest.TestCase):
-    def test_margins_are_those_of_the_text_book(self):
+    def test_margins_are_those_of_the_text_book(self) -> None:
         """Of 1, 2, 3 the standard error is the root of a third, and Student's t for two degrees of freedom 4.303. One
         number tells nothing."""
         self.assertAlmostEqual(margin([1, 2, 3]), 4.303 / 3 ** 0.5)
@@ -171,7 +173,7 @@ class WellKnown(unittest.TestCase):
         for degrees, expected in (1, 12.706), (30, 2.042), (40, 2.021), (60, 2.000), (120, 1.980):
             self.assertAlmostEqual(student(degrees), expected, delta=0.001)
 
-    def test_ten_batches_say_how_well_figures_are_known(self):
+    def test_ten_batches_say_how_well_figures_are_known(self) -> None:
         """A hundred packets in the order of their due times, ten of each latency from 10 to 19: so batches have these
         as means, whose squares around 14.5 add up to 82.5. At most 14, the median, are all of five batches and none of
         the others: squares of a half, so the rank 50 is off by 2.262 times a sixth of 100, which is less than 38. The
@@ -183,14 +185,14 @@ class WellKnown(unittest.TestCase):
             self.assertAlmostEqual(found.mean, 2.262 * (82.5 / 9 / 10) ** 0.5)
             self.assertEqual(found[1:], (4, None, None))
 
-    def test_nothing_is_known_of_a_network_that_does_not_forget(self):
+    def test_nothing_is_known_of_a_network_that_does_not_forget(self) -> None:
         """Packets over one hop that wait 20 cycles for a channel that each holds for 5: it takes 8 times 400 / 5 cycles
         to forget, and batches of a shorter window depend on one another."""
         packets = Columns.of_packets([Packet(n, 0, 1, 0, 1, n, n + 25) for n in range(100)])
         for cycles, known in (639, (None,) * 4), (640, (0, 0, 0, 0)):
             self.assertEqual(Sample(packets, Window(0, cycles)).figures(LINE, 3).margins, known)
 
-    def test_the_rank_of_a_percentile_says_how_well_it_is_known(self):
+    def test_the_rank_of_a_percentile_says_how_well_it_is_known(self) -> None:
         """Ten batches of twenty packets with one of two latencies each. The median is the longer one, of rank 100. In
         the first case 55 and 35 percent of the batches in turn are less: squares of a tenth, so the rank is off by
         2.262 times a thirtieth of 200, 16 at most; and 90 packets are less. In the second case 50 and 25 percent are
@@ -198,7 +200,7 @@ class WellKnown(unittest.TestCase):
         first, second = ([[10] * low + [20] * (20 - low) for low in lows] * 5 for lows in ((11, 7), (10, 5)))
         self.assertEqual((margins(first).median, margins(second).median), (10, 0))
 
-    def test_what_comes_in_steps_is_known_to_a_step(self):
+    def test_what_comes_in_steps_is_known_to_a_step(self) -> None:
         """Five runs whose percentile is the same, and four whose own margins are halved: the mean may be off by a step
         of three, or by what is the margin of each. Without own margins it is a step."""
         cases: list[tuple[list[int], list[int | None], int, float | None]] = [
@@ -210,7 +212,7 @@ class WellKnown(unittest.TestCase):
             with self.subTest(figures=figures, own=own, step=step):
                 self.assertAlmostEqual(margin_over(figures, own, step), expected)
 
-    def test_nothing_is_known_of_few_packets_or_where_one_stays(self):
+    def test_nothing_is_known_of_few_packets_or_where_one_stays(self) -> None:
         """99, and a hundred of which one is not out."""
         rows = [Packet(n, 0, 1, 0, 1, n, n + 10) for n in range(100)]
         for packets in (rows[1:], [*rows[1:], Packet(0, 0, 1, 0, 1, 0)]):
@@ -218,25 +220,25 @@ class WellKnown(unittest.TestCase):
             self.assertEqual(set(found), {None})
 
 
-def rising(lanes):
+def rising(lanes: int) -> str:
     """Lanes of one packet in each of 200 cycles, and each packet takes longer: the one of cycle d takes 10 + d/4
     cycles."""
     rows = [(due, due + due // 4 + 10) for due in range(200) for _ in range(lanes)]
     return report_of(rows)
 
 
-def report_of(rows):
+def report_of(rows: Iterable[tuple[int, int]]) -> str:
     """A report of packets of one flit, by when they are due and out."""
     lines = [f"{number},0,1,0,1,{due},{out},{out - due}\n" for number, (due, out) in enumerate(rows)]
     return REPORT_HEADER + "".join(lines)
 
 
 class Steady(FolderTest):
-    def warned(self, *words):
+    def warned(self, *words: object) -> str:
         """What is said on standard error."""
         return self.tool("latency", "c", *words).stderr
 
-    def test_halves_that_differ_are_told(self):
+    def test_halves_that_differ_are_told(self) -> None:
         """Latencies 5, 10 and 4 are due from 4 to 7, and 7 is from 8 to 11: 6.3 and 7.0, a tenth of 6.5 apart."""
         self.put(r=REPORT)
         warned = [self.warned("r", "--window", "4:12", "--tolerance", share) for share in (11, 10)]
@@ -244,7 +246,7 @@ class Steady(FolderTest):
         own = f"{NAME}{OWN_TIME}"
         self.assertEqual(warned, [own, f"{NAME}no steady state: {said}\n{own}"])
 
-    def test_halves_that_differ_by_chance_are_not_told(self):
+    def test_halves_that_differ_by_chance_are_not_told(self) -> None:
         """A packet in each of a hundred cycles, and mean latencies of 22 and 18 in the halves. In the one report the
         batches of a half are all alike, so nothing is left to chance; in the other they are of 10 or of 30 cycles."""
         alike = [(due, due + (22 if due < 50 else 18)) for due in range(100)]
@@ -253,7 +255,7 @@ class Steady(FolderTest):
         warned = [self.warned(name, "--window", "0:100", "--tolerance", 10) for name in ("alike", "apart")]
         self.assertEqual(["in the first half of the window" in said for said in warned], [True, False])
 
-    def test_an_overload_is_told(self):
+    def test_an_overload_is_told(self) -> None:
         """Under way in cycle 66 are those of the cycles 45 to 65, and in cycle 100 those of 72 to 99: 21 and 28 of a
         lane. So 27 of 34 come out, and the mean latency of the halves is 28.1 and 32.4, less than a fifth apart. Of ten
         lanes 280 are 70 more than 210, and three times the root of 490 is 66; of four lanes 112 are 28 more than 84,
@@ -266,7 +268,7 @@ class Steady(FolderTest):
         own = f"{NAME}{OWN_TIME}".replace("10 cycles", "1019 cycles").replace("has 8", "has 34")
         self.assertEqual(warned, [f"{NAME}no steady state: {told}\n{own}", own])
 
-    def test_a_growth_by_three_deviations_is_none(self):
+    def test_a_growth_by_three_deviations_is_none(self) -> None:
         """400 packets come out in the window, and ten or nine that are due in it are not out at its end: ten is more
         than three times its root, and nine is not."""
         self.put(**{f"late{late}": report_of([(5, 6)] * 400 + [(9, 12)] * late) for late in (10, 9)})
@@ -274,7 +276,7 @@ class Steady(FolderTest):
         self.assertIn("under way are 0 before the window and 10 after it, 97.6 percent of what is", warned[0])
         self.assertEqual(warned[1], "")
 
-    def test_a_run_fills_at_first(self):
+    def test_a_run_fills_at_first(self) -> None:
         """Ten packets are under way at the end of a window that begins with the run. Where 400 others are out, 97.6
         percent of what is offered comes out, and where a hundred are, 90.9 percent."""
         self.put(**{
@@ -284,7 +286,7 @@ class Steady(FolderTest):
         self.assertEqual(warned[0], "")
         self.assertIn("under way are 0 before the window and 10 after it, 90.9 percent", warned[1])
 
-    def test_a_source_that_falls_behind_is_told(self):
+    def test_a_source_that_falls_behind_is_told(self) -> None:
         """17 packets of node 2 are under way at the end of the window, four times whose root is 16.5, and with a
         hundred others before it and as many after it they are no growth of all: 117 are 17 more than 100, and three
         times the root of 217 is 44. To node 1 they are as little."""
@@ -295,7 +297,7 @@ class Steady(FolderTest):
         told = "no steady state: the packets of source 2 under way are 0 before the window and 17 after it\n"
         self.assertEqual(said, f"{NAME}{told}")
 
-    def test_a_network_takes_time_to_forget(self):
+    def test_a_network_takes_time_to_forget(self) -> None:
         """Ten packets of one flit over one hop, 5 cycles if alone, that wait 10 cycles each: 8 times 100 / 5, where a
         channel is held for a flit and four cycles. Nine are too few, and leave the way of 5 cycles itself."""
         for count, expected in (10, 160), (9, 5):
@@ -325,10 +327,10 @@ REFUSED = [
 
 
 class Refusals(FolderTest):
-    def test_what_is_refused(self):
+    def test_what_is_refused(self) -> None:
         self.put(huge=HUGE)
         self.assertEachRefused((f"latency {words}", {"r": report}, sentence) for words, report, sentence in REFUSED)
 
-    def test_what_noc_refuses_has_its_line_and_status(self):
+    def test_what_noc_refuses_has_its_line_and_status(self) -> None:
         self.put(t=HEADER + "0,3,0,1,0\n")
         self.assertRefusedByNoc("latency c --traffic t", 3, "fault network 2 BadNode row 0")

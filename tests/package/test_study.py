@@ -7,6 +7,7 @@ from support import IN_THE_WAY, TOP
 from test_sweep import SMALL, STUDY, SweepTest, lines_of
 
 from noc_tools import Refused, Study
+from noc_tools.curves import Axes
 from noc_tools.study import drawing
 from noc_tools.study.results import HEADER
 
@@ -33,7 +34,7 @@ ODD = ["form\x0cfeed", "\x1c", "\x85", "\u2028", "line\nfeed", "carriage\rreturn
 
 
 class Files(SweepTest):
-    def test_files_of_others_stay(self):
+    def test_files_of_others_stay(self) -> None:
         """A foreign results.csv is refused as it is, and pictures that are named like no picture of a sweep stay."""
         for number, text in enumerate(FOREIGN):
             path = self.folder / f"foreign{number}.out" / "results.csv"
@@ -54,7 +55,7 @@ class Files(SweepTest):
         own = {"results.csv", "saturation.csv", "latency.svg", "p95.svg", "p99.svg", "accepted.svg"}
         self.assertEqual(left, own | set(mine))
 
-    def test_nothing_of_others_is_written_over(self):
+    def test_nothing_of_others_is_written_over(self) -> None:
         """A picture or a table beside which there are no results; and a table that is a link is replaced itself."""
         for name in ("latency.svg", "p99_2.svg", "saturation.csv"):
             (self.folder / "mine.out").mkdir()
@@ -72,7 +73,7 @@ class Files(SweepTest):
         self.assertEqual(self.sweep("small.toml", "--out", "one.out").returncode, 0)
         self.assertEqual(((self.folder / "notes").read_text(), table.read_text()), ("mine\n", text))
 
-    def test_files_of_one_run_go_over_no_others(self):
+    def test_files_of_one_run_go_over_no_others(self) -> None:
         """The same files again are no others."""
         words = *"--one kind=mesh radix=2x2 rule=dor channels=1 buffer=2 length=1 load=0.1 cycles=30".split(), "--files"
         (self.folder / "mine").mkdir()
@@ -84,13 +85,13 @@ class Files(SweepTest):
         one, two = (self.sweep(*words, "kept") for _ in range(2))
         self.assertEqual((one.returncode, two.returncode, one.stdout), (0, 0, two.stdout))
 
-    def test_a_pipe_is_no_file_of_results(self):
+    def test_a_pipe_is_no_file_of_results(self) -> None:
         (self.folder / "pipe.out").mkdir()
         os.mkfifo(self.folder / "pipe.out/results.csv")
         ran = self.sweep("small.toml", "--out", "pipe.out", timeout=300)
         self.assertRefused(ran, "pipe.out/results.csv is no plain file", "sweep")
 
-    def test_a_header_that_was_cut_off_is_written_again(self):
+    def test_a_header_that_was_cut_off_is_written_again(self) -> None:
         self.sweep("small.toml", "--out", "one.out")
         header = lines_of(self.folder / "one.out" / "results.csv")[0]
         cut = self.folder / "cut.out" / "results.csv"
@@ -99,13 +100,13 @@ class Files(SweepTest):
         self.assertEqual(self.sweep("small.toml", "--out", "cut.out").returncode, 0)
         self.assertEqual((lines_of(cut)[0], len(lines_of(cut))), (header, 9))
 
-    def test_one_sweep_has_a_folder_at_a_time(self):
+    def test_one_sweep_has_a_folder_at_a_time(self) -> None:
         with Study(self.folder / "small.toml", self.folder / "one.out"):
             ran = self.sweep("small.toml", "--out", "one.out")
         self.assertRefused(ran, "another sweep is at work on one.out/results.csv", "sweep")
         self.assertEqual(self.sweep("small.toml", "--out", "one.out", "--list").returncode, 0)
 
-    def test_folders_may_have_odd_names(self):
+    def test_folders_may_have_odd_names(self) -> None:
         """The commands of --list, what they print, and a sweep itself, on a table in such a folder."""
         for name in ODD:
             with self.subTest(name=name):
@@ -127,7 +128,7 @@ class Files(SweepTest):
 class Changed(SweepTest):
     """A study of which lines are changed by hand."""
 
-    def changed(self, sentence, *changes, study="small.toml"):
+    def changed(self, sentence: str, *changes: tuple[int, str, str], study: str = "small.toml") -> None:
         """Refused with a sentence where the words of these lines and columns are others; pictures and table stay."""
         path = self.folder / "one.out" / "results.csv"
         kept = path.read_text()
@@ -141,7 +142,7 @@ class Changed(SweepTest):
                 self.assertEqual((self.folder / "one.out" / name).read_bytes(), data)
         path.write_text(kept)
 
-    def test_a_line_that_is_not_of_its_run(self):
+    def test_a_line_that_is_not_of_its_run(self) -> None:
         """Its settings or figures are others than those of any run of this name."""
         self.sweep("small.toml", "--out", "one.out")
         out = self.folder / "one.out"
@@ -162,7 +163,7 @@ class Changed(SweepTest):
                 self.changed(f"line 2: '{word}' of the column '{column}' is no number", (1, column, word))
         self.changed("one.out/results.csv has results of the programs", (1, "program_digest", "f" * 16))
 
-    def test_results_of_another_program_are_told(self):
+    def test_results_of_another_program_are_told(self) -> None:
         """All of a study: it is drawn, and one line says which program made them. Nothing is said of the results of
         this one, nor where no program is there to be another one."""
         self.sweep("small.toml", "--out", "one.out")
@@ -179,11 +180,11 @@ class Changed(SweepTest):
         alone = self.sweep("small.toml", "--out", "one.out", env=environment)
         self.assertEqual((alone.returncode, alone.stdout, alone.stderr), (0, here.stdout, here.stderr))
 
-    def test_a_picture_that_cannot_be_drawn_leaves_those_of_before(self):
+    def test_a_picture_that_cannot_be_drawn_leaves_those_of_before(self) -> None:
         self.sweep("small.toml", "--out", "one.out")
         before = {path.name: path.read_bytes() for path in (self.folder / "one.out").iterdir()}
 
-        def drawn(frames, axes, *told):
+        def drawn(frames: object, axes: Axes, *told: object) -> str:
             if axes.y == "p99":
                 raise Refused("it cannot be drawn")
             return "another picture"
@@ -196,7 +197,7 @@ class Changed(SweepTest):
 
 
 class Tables(SweepTest):
-    def test_a_table_is_known_by_what_is_in_it(self):
+    def test_a_table_is_known_by_what_is_in_it(self) -> None:
         """Beside the same table elsewhere no run is to be made, and beside another one of this name all are."""
         left = []
         for name, table in ("here", "turns_table.csv"), ("there", "turns_table.csv"), ("there", "other.csv"):
@@ -310,7 +311,7 @@ OTHERS = [
 
 
 class Refusals(SweepTest):
-    def test_studies_that_make_no_sense(self):
+    def test_studies_that_make_no_sense(self) -> None:
         one = self.sweep(*ONE.split(), "radix=2x2", "channels=1", "cycles=30").stdout
         self.assertEqual(len(one.split(",")), len(HEADER))
         self.put(lines="1,2,3\n", foreign=one, long="0" * 140_000 + "\n", **{"t.csv": IN_THE_WAY + "0,1,0,1,9\n"})
@@ -318,10 +319,10 @@ class Refusals(SweepTest):
             shutil.rmtree(self.folder / "s", ignore_errors=True)
             self.assertEachRefused([(f"sweep s.toml {words}", {"s.toml": text}, sentence)])
 
-    def test_words_that_make_no_sense(self):
+    def test_words_that_make_no_sense(self) -> None:
         self.put(**{"s.txt": STUDY})
         self.assertEachRefused((f"sweep {words}", sentence) for words, sentence in OTHERS)
 
-    def test_what_noc_refuses_has_its_line_and_status(self):
+    def test_what_noc_refuses_has_its_line_and_status(self) -> None:
         words = "kind=mesh radix=2x2 rule=dateline channels=1 buffer=2 length=1 load=0.1"
         self.assertRefusedByNoc(f"sweep --one {words}", 4, "fault relation .*")

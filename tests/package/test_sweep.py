@@ -13,6 +13,7 @@ import unittest
 import xml.etree.ElementTree as ElementTree
 from dataclasses import replace
 from pathlib import Path
+from typing import Any
 
 from support import LINE, PROGRAM, TOP, FolderTest, texts_of
 from test_load import COLUMNS
@@ -103,12 +104,12 @@ sys.addaudithook(watch)
 """
 
 
-def lines_of(path):
+def lines_of(path: Path) -> list[str]:
     """The lines of a file, if it is there."""
     return path.read_text().splitlines() if path.exists() else []
 
 
-def rows_of(path):
+def rows_of(path: Path) -> list[dict[str, str]]:
     """The rows of a file of CSV by their names."""
     with open(path, newline="") as file:
         return list(csv.DictReader(file))
@@ -119,28 +120,28 @@ class SweepTest(FolderTest):
 
     FILES = {"study.toml": STUDY, "small.toml": SMALL, "short.toml": SHORT}
 
-    def setUp(self):
+    def setUp(self) -> None:
         super().setUp()
         for path in self.folder.glob("*out"):
             shutil.rmtree(path)
 
-    def sweep(self, *words, **given):
+    def sweep(self, *words: object, **given: Any) -> subprocess.CompletedProcess[str]:
         """How a sweep ends."""
         return self.called([sys.executable, "noc-tools", "sweep", *words], **given)
 
-    def watched(self, log, **more):
+    def watched(self, log: str, **more: str) -> dict[str, str]:
         """The environment in which a run writes a line into a file."""
         (self.folder / "hooks").mkdir(exist_ok=True)
         self.put(**{"hooks/sitecustomize.py": AT_START})
         return self.environment | {"PYTHONPATH": str(self.folder / "hooks"), "LOG": str(self.folder / log)} | more
 
-    def results(self, name):
+    def results(self, name: str) -> list[dict[str, str]]:
         """The rows of a folder's results."""
         return rows_of(self.folder / name / "results.csv")
 
 
 class Runs(SweepTest):
-    def stopped_after(self, count, number, log):
+    def stopped_after(self, count: int, number: int, log: str) -> tuple[int, list[str]]:
         """Starts the sweep, of which so many runs go on, and stops it by a signal as from a terminal when their lines
         are there; its status, and the lines that it left."""
         results, environment = self.folder / "study" / "results.csv", self.watched(log, FIRST=str(count))
@@ -157,7 +158,7 @@ class Runs(SweepTest):
         (self.folder / f"{log}.go").touch()
         return started.wait(300), lines_of(results)
 
-    def test_a_sweep_goes_on_after_a_kill(self):
+    def test_a_sweep_goes_on_after_a_kill(self) -> None:
         """Of a hundred runs none is lost and none that has a line is made again, after a kill, an interrupt, by which
         those that have begun are ended, and a line cut off."""
         results = self.folder / "study" / "results.csv"
@@ -180,7 +181,7 @@ class Runs(SweepTest):
         self.assertTrue(ended.stdout)
         self.assertEqual(again.stdout, ended.stdout)
 
-    def test_a_run_that_is_killed_is_named(self):
+    def test_a_run_that_is_killed_is_named(self) -> None:
         """The others go on, and the next sweep makes it."""
         environment = self.watched("killed", KILLED=str(self.folder / "is_killed"))
         ran = self.sweep("small.toml", "--out", "killed.out", env=environment)
@@ -190,7 +191,7 @@ class Runs(SweepTest):
         again = self.sweep("small.toml", "--out", "killed.out", env=environment)
         self.assertEqual((again.returncode, len(lines_of(self.folder / "killed"))), (0, 9))
 
-    def test_all_processors_are_used(self):
+    def test_all_processors_are_used(self) -> None:
         """As many runs at a time as processors that may be used, and with --jobs so many."""
         wanted = {"processors": len(os.sched_getaffinity(0)), "three": 3}
         seeds = list(range(max(wanted.values()) + 1))
@@ -201,7 +202,7 @@ class Runs(SweepTest):
             self.sweep("crowd.toml", "--out", f"{name}.out", *more, env=self.watched(name, WANTED=str(jobs)))
             self.assertEqual(max(map(int, lines_of(self.folder / f"{name}.most"))), jobs)
 
-    def test_results_hold_what_was_run(self):
+    def test_results_hold_what_was_run(self) -> None:
         """Eight runs; the digests are those of the program and of the files that --one keeps, whose figures `load`
         gives too."""
         self.assertEqual(self.sweep("small.toml", "--out", "one.out").returncode, 0)
@@ -218,7 +219,7 @@ class Runs(SweepTest):
         self.assertEqual(digests, [*expected, "-"])
         self.assertEqual(curve[1:], [row[name] for name in COLUMNS[1:]])
 
-    def test_commands_give_the_same_lines(self):
+    def test_commands_give_the_same_lines(self) -> None:
         """Each command of --list prints its line in whatever folder, and --collect takes them; one that is cut off
         stays to be made."""
         self.sweep("small.toml", "--out", "one.out")
@@ -233,16 +234,17 @@ class Runs(SweepTest):
         told = "1 of 8 runs have no result yet: --part makes them, and --list prints their commands"
         self.assertRefused(part, told, "sweep")
 
-    def test_commands_run_in_whatever_folder(self):
+    def test_commands_run_in_whatever_folder(self) -> None:
         command = self.sweep("small.toml", "--list").stdout.splitlines()[0]
         printed = subprocess.run(shlex.split(command), cwd="/", env=self.environment, capture_output=True, text=True)
         self.assertEqual((printed.returncode, printed.stdout.count("\n")), (0, 1))
 
-    def part(self, number, count, name, study="small.toml", **given):
+    def part(self, number: int, count: int, name: str, study: str = "small.toml",
+             **given: Any) -> subprocess.CompletedProcess[str]:
         """How a part of a study ends that has no result in this folder but those that are there."""
         return self.sweep(study, "--out", name, "--jobs", "2", "--part", f"{number}/{count}", **given)
 
-    def test_parts_give_the_same_lines(self):
+    def test_parts_give_the_same_lines(self) -> None:
         """Two runs of eight, and then the other six in four parts, two of them by a rule of tables. No part writes
         into the folder, which another study may have at that time."""
         self.put(**{"small.toml": SMALL.replace('"dateline" }', '"dateline-even" }')})
@@ -261,7 +263,7 @@ class Runs(SweepTest):
         self.assertEqual([part.count("\n") for part in parts], [2, 2, 1, 1])
         self.assertEqual((ended.returncode, one), (0, two))
 
-    def test_lines_that_were_made_elsewhere_are_taken(self):
+    def test_lines_that_were_made_elsewhere_are_taken(self) -> None:
         """By whatever calls `line_of`; not one of another program, of another study, or that is cut off."""
         with Study(self.folder / "small.toml", self.folder / "taken.out") as study:
             made = [line_of(case) for case in study.open_cases()[:2]]
@@ -280,14 +282,14 @@ class Runs(SweepTest):
                     study.take([wrong])
             self.assertEqual(len(study.rows()), 2)
 
-    def test_a_part_names_a_run_that_is_killed(self):
+    def test_a_part_names_a_run_that_is_killed(self) -> None:
         """The others of the part are printed."""
         environment = self.watched("part", KILLED=str(self.folder / "is_part_killed"))
         ran = self.part(1, 2, "part.out", env=environment)
         self.assertEqual((ran.returncode, ran.stdout.count("\n")), (1, 3))
         self.assertRegex(ran.stderr, r"1 of 4 runs failed, the first: .* --one .*: it ended with status -9\n$")
 
-    def test_a_part_that_is_ended_leaves_nothing(self):
+    def test_a_part_that_is_ended_leaves_nothing(self) -> None:
         """By the signal with which a cluster ends a job, while two runs are made."""
         room = self.folder / "room"
         room.mkdir()
@@ -302,7 +304,7 @@ class Runs(SweepTest):
         said = started.communicate(timeout=300)[0]
         self.assertEqual((started.returncode, said, list(room.iterdir())), (143, b"", []))
 
-    def test_words_that_are_no_part(self):
+    def test_words_that_are_no_part(self) -> None:
         for words in ("0/2", "3/2", "1", "a/b", "1/-2", ""):
             ran = self.sweep("small.toml", "--part", words)
             self.assertEqual((ran.returncode, ran.stdout), (2, ""))
@@ -312,7 +314,7 @@ class Runs(SweepTest):
             self.assertRefused(ran, "--part takes --out and --jobs, and nothing else", "sweep")
         self.assertRefused(self.sweep("--one", "kind=mesh", "--part", "1/2"), "--one takes --files and", "sweep")
 
-    def test_a_notebook_has_the_rows(self):
+    def test_a_notebook_has_the_rows(self) -> None:
         """Numbers where the files have them, and None for a dash."""
         with Study(self.folder / "small.toml", self.folder / "rows.out") as study:
             rows, table = study.make().rows(), study.table()
@@ -324,7 +326,7 @@ class Runs(SweepTest):
 
 
 class Loads(SweepTest):
-    def test_a_range_has_both_ends(self):
+    def test_a_range_has_both_ends(self) -> None:
         """As sums of tenths and hundredths that no binary number is; with a last step that does not fit, without it."""
         for words, loads in {
             "0.05:0.3:0.05": ["0.05", "0.1", "0.15", "0.2", "0.25", "0.3"], "0.1:0.1:1": ["0.1"],
@@ -333,12 +335,12 @@ class Loads(SweepTest):
             self.assertEqual(words_of("load", words), loads)
         self.assertEqual(words_of("load", [0.02, "0.1:0.2:0.1"]), ["0.02", "0.1", "0.2"])
 
-    def test_what_is_no_range(self):
+    def test_what_is_no_range(self) -> None:
         for words in "0.1 1:2 a:b:c 0.2:0.1:0.1 0:1:0 0:1:-1 -1:1:1 0:inf:1 nan:1:1 0:1:0.001".split():
             with self.subTest(words=words), self.assertRaisesRegex(Refused, "loads are A:B:STEP, .*, not"):
                 words_of("load", words)
 
-    def test_a_study_and_a_curve_take_a_range(self):
+    def test_a_study_and_a_curve_take_a_range(self) -> None:
         self.put(**{"range.toml": SMALL.replace("load = [0.6, 0.1]", 'load = "0.1:0.6:0.25"'), "c": LINE})
         self.assertEqual(self.sweep("range.toml", "--list").stdout.count("\n"), 12)
         loads = [line.split(",")[0] for line in self.said("load", "c", 1, "0.02", "0.1:0.2:0.1").splitlines()]
@@ -347,7 +349,7 @@ class Loads(SweepTest):
 
 
 class Kept(unittest.TestCase):
-    def test_a_traffic_is_made_once(self):
+    def test_a_traffic_is_made_once(self) -> None:
         """For a torus that of a mesh is taken, and for another seed, radix or end another one is made."""
         mesh = Network("mesh", (4, 4), 2, 2, 1, "dor", 300)
         torus, demand = replace(mesh, kind="torus", rule="dateline"), Demand("uniform", 0.2, 2)
@@ -360,7 +362,7 @@ class Kept(unittest.TestCase):
             found = Experiment(network, asked, Window(10, 90)).made
             self.assertEqual((found.text, found.cycles), (asked.traffic(network), network.cycles))
 
-    def test_a_process_gets_what_shares_something(self):
+    def test_a_process_gets_what_shares_something(self) -> None:
         """Of words by their first letter: the others of its letter first, then a letter that none has had, then any."""
         waiting = Waiting(["ant", "bee", "ape", "cow", "bat"], lambda word: word[0])
         asked = [None, "a", None, "a", "b"]
@@ -371,7 +373,7 @@ class Kept(unittest.TestCase):
 
 
 class Table(unittest.TestCase):
-    def row(self, stays, unsteady, at=None, seeds=(0,), **said):
+    def row(self, stays: float, unsteady: float, at: Any = None, seeds: Any = (0,), **said: str) -> Any:
         """The row of a network of two channels that accepts 0.28 of 0.3, and nearly all of other loads. At one load a
         packet stays, and one is not steady. A seed accepts so much more than the others. Each line says more too."""
         words = {"kind": "mesh", "radix": "4x4", "channels": "2", "buffer": "3", "flit_bytes": "-"}
@@ -388,7 +390,7 @@ class Table(unittest.TestCase):
         (combination,) = combinations_of(rows)
         return row_of(combination, ["channels"], at)
 
-    def test_it_is_that_of_the_lines(self):
+    def test_it_is_that_of_the_lines(self) -> None:
         row = self.row(stays=0.5, unsteady=0.2)
         self.assertEqual(row, {
             "channels": 2, "slots": 6, "latency_load": 0.1, "mean": 10, "p95": None, "p99": 9, "queue_mean": 1,
@@ -403,22 +405,22 @@ class Table(unittest.TestCase):
             "1,-,-,-,-,0.1,-,-"
         ))
 
-    def test_a_packet_that_stays_does_not_keep_up(self):
+    def test_a_packet_that_stays_does_not_keep_up(self) -> None:
         names = ("keeps_up_to", "keeps_up_load", "steady_load")
         self.assertEqual([self.row(stays=0.2, unsteady=0.1)[name] for name in names], [0.1, 0.1, None])
 
-    def test_latencies_are_at_the_load_that_is_asked_for(self):
+    def test_latencies_are_at_the_load_that_is_asked_for(self) -> None:
         """At 0.4 the mean is 40, and at 0.35 there is none."""
         for at, mean in (0.4, 40), (0.35, None):
             row = self.row(stays=0.5, unsteady=0.5, at=at)
             self.assertEqual((row["latency_load"], row["mean"], row["steady"]), (at, mean, "no"))
 
-    def test_seeds_have_a_spread(self):
+    def test_seeds_have_a_spread(self) -> None:
         row = self.row(stays=0.5, unsteady=0.5, seeds=(0, 0.02))
         found = [round(row[name], 9) for name in ("saturation", "saturation_least", "saturation_most")]
         self.assertEqual(found, [0.5, 0.49, 0.51])
 
-    def test_nothing_keeps_up_above_the_bound(self):
+    def test_nothing_keeps_up_above_the_bound(self) -> None:
         """With 0.2 of which 0.19 is accepted it does where the bound is 0.2, and not where it is less in load, in what
         is offered or in what is accepted. Where there is none, a link may be asked for a flit in a cycle."""
         fits = {"bound": "0.2", "bound_load": "0.2", "asked": "1.0001"}
@@ -431,7 +433,7 @@ class Table(unittest.TestCase):
             self.assertEqual(row["keeps_up_load"], load, more)
         self.assertEqual((row["keeps_up_step"], row["bound"], self.row(0.5, 0.5, **fits)["bound"]), (0.1, None, 0.2))
 
-    def test_most_seeds_decide_what_is_steady(self):
+    def test_most_seeds_decide_what_is_steady(self) -> None:
         """Two of three at a load of 0.2, and one of two."""
         for steady, found in ((["yes", "no", "yes"], 0.2), (["yes", "no"], 0.1)):
             rows = [{"load": load, "steady": "yes" if load == "0.1" else flag} for load in ("0.1", "0.2")
@@ -439,7 +441,7 @@ class Table(unittest.TestCase):
             lines = [Line([row for row in rows if row["load"] == load]) for load in ("0.1", "0.2")]
             self.assertAlmostEqual(max(line.load for line in lines if line.is_steady), found)
 
-    def test_margins_are_of_batches_or_of_seeds(self):
+    def test_margins_are_of_batches_or_of_seeds(self) -> None:
         """Of up to four seeds the squares of the runs' own margins add up: half of what four alike have. The loads of
         five are 0, 1, .. 4 apart, so their variance is 2.5, and the margin 2.776 times the root of 2.5 / 5."""
         margins = {"mean_margin": "3.0"}
@@ -449,14 +451,14 @@ class Table(unittest.TestCase):
         self.assertAlmostEqual(five["saturation_margin"], 2.776 * 0.5 ** 0.5)
         self.assertEqual((five["mean_margin"], five["seeds"]), (0, 5))
 
-    def test_the_margin_of_a_percentile_is_not_below_a_step(self):
+    def test_the_margin_of_a_percentile_is_not_below_a_step(self) -> None:
         """Of three cycles, or of the runs' own margins where these are less."""
         cases = ("4.0", 4, 3), ("2.0", 4, 2), ("4.0", 5, 3), ("8.0", 4, 4), ("-", 5, 3), ("4.0", 1, 4)
         for own, seeds, expected in cases:
             row = self.row(0.5, 0.5, seeds=range(seeds), p99_margin=own, p95_margin="0.0")
             self.assertEqual((row["p99_margin"], row["p95_margin"]), (expected, None))
 
-    def test_capacity_is_that_of_the_book(self):
+    def test_capacity_is_that_of_the_book(self) -> None:
         """Of k nodes in a row, as many rows as there may be: 4/k where k is even, and for uniform traffic of an odd k
         4k/(k^2 - 1); twice that on a torus; and a node takes one flit in a cycle."""
         for kind, radix, expected in [
@@ -467,11 +469,11 @@ class Table(unittest.TestCase):
 
 
 class Shown(SweepTest):
-    def picture(self, path):
+    def picture(self, path: str) -> list[str]:
         """The words of a picture."""
         return texts_of(ElementTree.parse(self.folder / path).getroot())
 
-    def test_the_table_says_what_a_network_bears(self):
+    def test_the_table_says_what_a_network_bears(self) -> None:
         """Its figures are means over two seeds: of the latency at the lower load, and of what is accepted at the load
         at which this is most."""
         said = list(csv.DictReader(self.sweep("small.toml", "--out", "one.out").stdout.splitlines()))
@@ -488,7 +490,7 @@ class Shown(SweepTest):
         for name in ("latency", "p95", "p99", "accepted"):
             self.assertLessEqual({"mesh, dor", "torus, dateline"}, set(self.picture(f"one.out/{name}.svg")))
 
-    def test_a_shortened_run_is_told(self):
+    def test_a_shortened_run_is_told(self) -> None:
         """In the table, in the pictures and on standard error; a study of which no run is shortened is silent."""
         whole, short = (self.sweep(f"{name}.toml", "--out", f"{name}.out") for name in ("small", "short"))
         rows = [row for row in self.results("short.out") if row["ran"] != "4000"]
@@ -502,7 +504,7 @@ class Shown(SweepTest):
         self.assertNotIn("shortest run", self.picture("small.out/latency.svg")[1])
         self.assertTrue(self.picture("short.out/latency.svg")[1].endswith(f"; shortest run: {shortest} cycles"))
 
-    def test_names_count_rightly(self):
+    def test_names_count_rightly(self) -> None:
         """One channel, one slot and one flit, and of others more."""
         plural = SHORT.replace("channels = 2", "channels = [1, 2]").replace("buffer = 2", "buffer = 1")
         plural = plural.replace(', { kind = "torus", rule = "dateline" }', "")
@@ -514,7 +516,7 @@ class Shown(SweepTest):
         self.assertLessEqual({"1 channel", "2 channels"}, set(texts))
 
 
-def put_program(clone, name, behind):
+def put_program(clone: Path, name: str, behind: bytes) -> None:
     """Puts the program with some bytes behind it in the place of a built one, with what a build keeps beside it."""
     built = clone / "crates" / "noc" / "out" / name
     built.write_bytes(PROGRAM.read_bytes() + behind)
@@ -526,7 +528,7 @@ def put_program(clone, name, behind):
 
 
 class Programs(SweepTest):
-    def clone(self):
+    def clone(self) -> Path:
         """A clone with both programs built, which differ by their names behind them."""
         clone = self.folder / "clone"
         (clone / "crates" / "noc" / "out").mkdir(parents=True)
@@ -539,7 +541,7 @@ class Programs(SweepTest):
             put_program(clone, name, name.encode())
         return clone
 
-    def test_digests_are_of_the_program_that_runs(self):
+    def test_digests_are_of_the_program_that_runs(self) -> None:
         """The launcher of a clone runs one of two programs. A sweep goes on with the same one, and not where it has
         changed."""
         clone = self.clone()
@@ -547,7 +549,7 @@ class Programs(SweepTest):
         studies[0].write_text(SMALL)
         studies[1].write_text(SMALL.replace("seed = [1, 2]", "seed = [1, 2, 3]"))
         command = [sys.executable, "noc-tools", "sweep"]
-        given = {"cwd": clone, "env": self.environment, "capture_output": True, "text": True}
+        given: Any = {"cwd": clone, "env": self.environment, "capture_output": True, "text": True}
         for _ in range(2):
             first = subprocess.run([*command, studies[0], "--out", "one"], **given)
             self.assertEqual(first.returncode, 0, first.stderr)
@@ -560,13 +562,13 @@ class Programs(SweepTest):
         self.assertEqual(second.returncode, 1)
         self.assertIn(f"results of the program {digest}", second.stderr)
 
-    def test_a_script_that_names_no_program_is_refused(self):
+    def test_a_script_that_names_no_program_is_refused(self) -> None:
         """In the place of the program, one that passes the word on to a program that does not know it."""
         environment = self.in_place_of_the_program('#!/bin/bash\nexec "$PROGRAM" "$@"\n')
         ran = self.sweep("small.toml", "--out", "unnamed.out", env=environment)
         self.assertRefused(ran, "--which does not say which program it runs", "sweep")
 
-    def test_results_of_another_program_are_refused(self):
+    def test_results_of_another_program_are_refused(self) -> None:
         self.sweep("small.toml", "--out", "one.out")
         lines = lines_of(self.folder / "one.out" / "results.csv")
         path = self.folder / "other.out" / "results.csv"

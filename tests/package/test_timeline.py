@@ -5,7 +5,7 @@ import xml.etree.ElementTree as ElementTree
 from support import HEADER, SVG, FolderTest
 
 
-def bars_of(svg):
+def bars_of(svg: str) -> dict[str, list[str]]:
     """The bars of each row, by its name."""
     found = {}
     for group in ElementTree.fromstring(svg).iter(f"{SVG}g"):
@@ -15,7 +15,7 @@ def bars_of(svg):
 
 
 class Timeline(FolderTest):
-    def test_a_packet_alone(self):
+    def test_a_packet_alone(self) -> None:
         """A head is routed, granted a channel and moved in three cycles, and is in the next buffer in the fourth."""
         self.put(t=HEADER + "0,1,0,2,4\n")
         self.assertEqual(bars_of(self.said("timeline", "c", "t", 0)), {
@@ -23,7 +23,7 @@ class Timeline(FolderTest):
             "router 1, -0.0": ["cycle 7: Routed", "cycle 8: Granted", "cycles 9 to 10: Moved"],
         })
 
-    def test_a_wait(self):
+    def test_a_wait(self) -> None:
         """Packet 2 waits in its queue until packet 0 has gone, and then for the channel that packet 0 went by.
 
         Packet 1 leaves router 2 in cycle 5 and its credit is back in 6. So packet 0 is granted its channel in 6 and
@@ -34,7 +34,7 @@ class Timeline(FolderTest):
         self.assertEqual(bars["node 0, queue"], ["cycles 0 to 2: queue"])
         self.assertEqual(bars["router 0, local.0"][:2], ["cycle 3: Routed", "cycles 4 to 7: NoIdleChannel"])
 
-    def test_numbers_at_its_ends(self):
+    def test_numbers_at_its_ends(self) -> None:
         """The axis begins with the due cycle and ends behind the last; each row says its cycles, and why the packet
         stood still longest."""
         root = self.drawn("timeline", "c", "t", 2)
@@ -45,7 +45,7 @@ class Timeline(FolderTest):
         self.assertEqual(numbers, sorted(set(numbers)))
         self.assertEqual(ends, ["3 cycles", "11 cycles, NoIdleChannel in 4", "7 cycles, NoCredit in 2", "5 cycles"])
 
-    def test_bars_lie_at_their_cycles(self):
+    def test_bars_lie_at_their_cycles(self) -> None:
         """The bars of a row follow one another, each as wide as its cycles, and stay within the picture."""
         root = self.drawn("timeline", "examples/blocked.toml", "examples/blocked.csv", 3)
         scales, ends = set(), []
@@ -58,7 +58,7 @@ class Timeline(FolderTest):
         self.assertEqual(len(scales), 1)
         self.assertLessEqual(max(ends), float(root.get("width")))
 
-    def test_no_two_bars_look_alike(self):
+    def test_no_two_bars_look_alike(self) -> None:
         """Each verdict, and the queue, is filled by a pattern of its own, which the picture has."""
         root = self.drawn("timeline", "c", "t", 2)
         patterns = {f"url(#{pattern.get('id')})" for pattern in root.iter(f"{SVG}pattern")}

@@ -24,7 +24,7 @@ cases = [
 
 
 class Units(unittest.TestCase):
-    def test_a_packet_counts_for_what_it_is(self):
+    def test_a_packet_counts_for_what_it_is(self) -> None:
         """With flits of 16 bytes, of packets of 8, 20 or 30 bytes and of a class that has none of
         these: 20 and 30 have two flits each, so two flits stand for 25 on average."""
         sizes = (8, 20, 30)
@@ -37,7 +37,7 @@ class Units(unittest.TestCase):
         })
         self.assertEqual(Unit("payload", 16, sizes, (0,)).of_a_flit(0, (1, 2, 2)), 58 / 5)
 
-    def test_lengths_follow_from_bytes(self):
+    def test_lengths_follow_from_bytes(self) -> None:
         """72 bytes are five flits of 16, of which the last is half full."""
         network = ["kind=mesh", "radix=4x4", "rule=dor", "channels=1", "buffer=2"]
         given = [*network, "load=0.8", "flit_bytes=16"]
@@ -57,7 +57,7 @@ class Studies(SweepTest):
         "m.toml": STUDY, "p.toml": STUDY.replace("load = 0.8", 'load = 0.02\nunit = "packets"'),
     }
 
-    def test_padding_is_no_load(self):
+    def test_padding_is_no_load(self) -> None:
         """At one load both networks get the same packets, and the measured loads are the bytes of
         these."""
         self.sweep("m.toml", "--out", "m.out")
@@ -71,7 +71,7 @@ class Studies(SweepTest):
         table = list(csv.DictReader((self.folder / "m.out" / "saturation.csv").open()))
         self.assertAlmostEqual(float(table[0]["capacity"]), 80 / 6, places=4)
 
-    def test_loads_may_be_in_packets(self):
+    def test_loads_may_be_in_packets(self) -> None:
         self.sweep("p.toml", "--out", "p.out")
         for row in self.results("p.out"):
             self.assertEqual(row["offered"], f"{int(row['packets']) / 16 / 200:.4f}")

@@ -42,9 +42,9 @@ noc.router_0.local.local_out_0
 class Dump:
     """A VCD file, read back: the values of each variable, by the names of its scopes and its own."""
 
-    def __init__(self, text):
+    def __init__(self, text: str) -> None:
         head, _, body = text.partition("$enddefinitions $end\n")
-        self.changes: dict[str, list[tuple[int, str]]] = {}
+        self.changes: dict[str, list[tuple[int, int | str | None]]] = {}
         self.times, signs, scopes = [], {}, []
         for words in map(str.split, head.splitlines()):
             if words[0] == "$scope":
@@ -60,31 +60,31 @@ class Dump:
                 self.times.append(int(line[1:]))
             elif not line.startswith("$"):
                 value, sign = line.split(" ")
-                said = value[1:] if value[0] == "s" else number_of(value)
+                said: int | str | None = value[1:] if value[0] == "s" else number_of(value)
                 self.changes[signs[sign]].append((self.times[-1], said))
 
-    def at(self, name, time):
+    def at(self, name: str, time: int) -> int | str | None:
         """The value of a variable at a time."""
         return [value for since, value in self.changes[name] if since <= time][-1]
 
 
-def number_of(value):
+def number_of(value: str) -> int | None:
     """A number of VCD, or None."""
     return None if value == "bz" else int(value[1:], 2)
 
 
-def found_by_explain(test, cycle, router):
+def found_by_explain(test: FolderTest, cycle: int, router: int) -> dict[str, tuple[str, str, str]]:
     """What the program says of each channel of a router: its name with verdict, packet and output channel."""
     rows = test.report("explain", "c", "t", "--cycle", cycle, "--router", router)
     return {f"{row['port']}.{row['vc']}": (row["verdict"], row["packet"], row["out"]) for row in rows}
 
 
 class Waves(FolderTest):
-    def dump(self, *words):
+    def dump(self, *words: object) -> Dump:
         """The waves of the line, or of what stands in its place."""
         return Dump(self.said("waves", "c", "t", *words))
 
-    def test_a_router_is_read_back(self):
+    def test_a_router_is_read_back(self) -> None:
         """Each value once, from the first cycle on, and only where it changes; port +0 of router 1 stays empty."""
         dump = self.dump("--router", 1)
         verdicts = [(0, "Empty")] + [(cycle, verdict) for cycle, verdict, *_ in AT_ROUTER_1]
@@ -102,14 +102,14 @@ class Waves(FolderTest):
             "noc.router_1.local.local_out_0": [(0, "-"), (1, "+0.0"), (3, "-")],
         })
 
-    def test_a_span_says_all_at_its_start(self):
+    def test_a_span_says_all_at_its_start(self) -> None:
         dump = self.dump("--from", 5, "--to", 7)
         values = [dump.changes[name] for name in dump.changes if name.startswith("noc.router_1.minus_0")]
         self.assertEqual(dump.times, [5, 6, 7, 8])
         verdicts = [(5, "NoIdleChannel"), (6, "Granted"), (7, "Moved")]
         self.assertEqual(values, [verdicts, [(5, 0)], [(5, "-"), (6, "+0.0")]])
 
-    def test_all_channels_agree_with_the_program(self):
+    def test_all_channels_agree_with_the_program(self) -> None:
         """On made networks, in some cycles, all channels of all routers."""
         for network, traffic in made_networks(4):
             self.put(c=network, t=traffic)
@@ -123,7 +123,7 @@ class Waves(FolderTest):
                     said = verdict, "-" if holder is None else str(holder), out
                     self.assertEqual(said, found, (network, cycle, scope))
 
-    def test_no_input_is_written_over(self):
+    def test_no_input_is_written_over(self) -> None:
         """Nor is a file that is none for a viewer."""
         self.put(mine="my notes\n")
         self.assertEachRefused([
@@ -132,7 +132,7 @@ class Waves(FolderTest):
         ])
         self.assertEqual((self.folder / "mine").read_text(), "my notes\n")
 
-    def test_a_viewer_is_told_which_signals_to_show(self):
+    def test_a_viewer_is_told_which_signals_to_show(self) -> None:
         """A line for each variable of the file, behind how it is shown, in a group for each port and router; those of
         several routers are closed. What the file shows is in the waves, which are the same ones."""
         waves = self.said("waves", "c", "t", "--from", 3)

@@ -8,6 +8,7 @@ first comment of the file, and which statement rests on it. Crates stand in the 
 """
 import re
 from collections import defaultdict
+from collections.abc import Iterable, Iterator
 from pathlib import Path
 
 TOP = Path(__file__).resolve().parents[2]
@@ -35,6 +36,8 @@ STATEMENTS = {
 }
 COLUMNS = """| File | What it is | Definitions that contracts name | Part of |
 |---|---|---|---|"""
+# The files of specs/ by crate and name.
+Files = dict[tuple[str, str], Path]
 IMPORT = re.compile(r"ghost use Rattle\.(\w+)\.specs\.(\w+)\.\{([^}]*)\}")
 # What a file of specs/ passes on.
 PASSED = re.compile(r"^(?:unfoldable )?pub use Rattle\.(\w+)\.specs\.(\w+)\.\{([^}]*)\}", re.MULTILINE)
@@ -45,14 +48,14 @@ CITED = re.compile(r"\bRattle\.(\w+)\.specs\.(\w+)\b(?:\.\{([^}]*)\})?")
 DECLARED = re.compile(r"^ *(?:(?:abbrev|unfoldable|pub|record|data) +)+([^\s:(]+)", re.MULTILINE)
 
 
-def handed_out(crate):
+def handed_out(crate: str) -> set[str]:
     """The names that a library gives to other crates: those of the `pub use` items of its root. A program has none."""
     root = TOP / "crates" / crate / "src" / "lib.rt"
     lists = re.findall(r"^pub use [\w:]+?::(?:\{([^}]*)\}|(\w+));", root.read_text() if root.exists() else "", re.M)
     return {name for several, one in lists for name in re.findall(r"\w+", several or one)}
 
 
-def contracts(crate, source):
+def contracts(crate: str, source: str) -> Iterator[str]:
     """The contracts of a source that other crates can see, and what they see of its types."""
     out = handed_out(crate)
     for block in BLOCK.finditer(source):
@@ -61,14 +64,14 @@ def contracts(crate, source):
             yield block[0] if model else "\n".join(part[0] for part in SIGNATURE.finditer(block[0]))
 
 
-def names_of(listed):
+def names_of(listed: str) -> Iterator[tuple[str, str]]:
     """The names of an import, each as its home has it, and as it is called here."""
     for name in listed.split(","):
         own, *given = name.strip().split(" as ")
         yield own, (given or [own])[0]
 
 
-def home(files, owner, file, name):
+def home(files: Files, owner: str, file: str, name: str) -> tuple[str, str, str]:
     """The crate and the file of specs/ that define a name, which other files may pass on."""
     for crate, passed, names in PASSED.findall(files.get((owner, file), Path("/dev/null")).read_text()):
         for own, given in names_of(names):
@@ -77,9 +80,9 @@ def home(files, owner, file, name):
     return owner, file, name
 
 
-def cited(crates, files):
+def cited(crates: Iterable[str], files: Files) -> dict[tuple[str, str], set[str]]:
     """By crate and file of specs/, the names in it by which contracts speak."""
-    found = defaultdict(set)
+    found: dict[tuple[str, str], set[str]] = defaultdict(set)
     for crate in crates:
         for path in (TOP / "crates" / crate / "src").rglob("*.rt"):
             source = path.read_text()
@@ -87,24 +90,24 @@ def cited(crates, files):
             for owner, file, names in IMPORT.findall(source):
                 for own, given in names_of(names):
                     if given in words:
-                        *place, name = home(files, owner, file, own)
-                        found[tuple(place)].add(name)
+                        crate_of_it, file_of_it, name = home(files, owner, file, own)
+                        found[crate_of_it, file_of_it].add(name)
     return found
 
 
-def specs_of(crate):
+def specs_of(crate: str) -> list[Path]:
     """The files of a crate's specs/, by name."""
     return [path for path in sorted((TOP / "crates" / crate / "specs").glob("*.antt")) if path.stem != "Lib"]
 
 
-def cites(files, path):
+def cites(files: Files, path: Path) -> Iterator[tuple[str, str]]:
     """The files of specs/ that a source cites, which are those that define the names where it lists some."""
     for owner, file, names in CITED.findall(path.read_text()):
         for own, _ in names_of(names):
             yield home(files, owner, file, own)[:2]
 
 
-def parts_of(files, sources):
+def parts_of(files: Files, sources: Iterable[Path]) -> set[tuple[str, str]]:
     """The files of specs/ that the sources cite, and those that these cite, at any remove."""
     todo = [it for path in sources for it in cites(files, path)]
     found = set()
@@ -116,7 +119,7 @@ def parts_of(files, sources):
     return found
 
 
-def statements(files):
+def statements(files: Files) -> dict[str, set[tuple[str, str]]]:
     """By statement, the files of specs/ that are a part of it."""
     found = {}
     for word, (_, places) in STATEMENTS.items():
@@ -126,13 +129,13 @@ def statements(files):
     return found
 
 
-def length(path):
+def length(path: Path) -> int:
     """How many lines of a file are neither empty, comments nor imports."""
     lines = (line.strip() for line in path.read_text().splitlines())
     return sum(bool(line) and not re.match(r"--|(pub )?(use|mod) ", line) for line in lines)
 
 
-def head(files, parts):
+def head(files: Files, parts: dict[str, set[tuple[str, str]]]) -> str:
     """What stands above the tables."""
     told = "\n".join(
         f"- *{word}* ({what}): {len(parts[word])} files with {sum(length(files[it]) for it in parts[word]):,} lines"
@@ -140,7 +143,7 @@ def head(files, parts):
     return HEAD.format(parts=told, count=len(files), lines=f"{sum(map(length, files.values())):,}")
 
 
-def about(path):
+def about(path: Path) -> str:
     """The first comment of a file, on one line."""
     lines = []
     for line in path.read_text().splitlines():
@@ -150,7 +153,7 @@ def about(path):
     return " ".join(lines)
 
 
-def page():
+def page() -> str:
     crates = re.findall(r"^(\w+):", (TOP / "crates.txt").read_text(), re.MULTILINE)
     files = {(crate, path.stem): path for crate in crates for path in specs_of(crate)}
     found, parts = cited(crates, files), statements(files)

@@ -28,6 +28,7 @@ names and all are there, else 1.
 import re
 import subprocess
 import sys
+from collections.abc import Iterator
 from pathlib import Path
 
 import definitions
@@ -53,13 +54,13 @@ CRATE_LINE = re.compile(r"^(\w+):(.*)$", re.MULTILINE)
 EDITS_SECTION = re.compile(r"^## Edits that must fail\n(.*?)(?=^## |\Z)", re.MULTILINE | re.DOTALL)
 
 
-def anchors(page):
+def anchors(page: Path) -> set[str]:
     """The names by which links lead to the headings of a page."""
     headings = HEADING.findall(FENCED.sub("", page.read_text()))
     return {re.sub(r"[^\w -]", "", heading.lower()).replace(" ", "-") for heading in headings}
 
 
-def links(page):
+def links(page: Path) -> Iterator[tuple[str, bool]]:
     """What the links and the paths of a page lead to, and whether it is there."""
     text = page.read_text()
     for file, heading in LINK.findall(text):
@@ -69,7 +70,7 @@ def links(page):
         yield f"path {path}", any(TOP.glob(path.rstrip("/")))
 
 
-def has_public(crate, name):
+def has_public(crate: str, name: str) -> bool:
     """Whether a crate hands out a function or type of this name; a method is named as Type::method."""
     owner, _, last = name.rpartition("::")
     if (owner or last) not in handed_out(crate):
@@ -81,7 +82,7 @@ def has_public(crate, name):
     return any(re.search(rf"^ *pub (fn|struct|enum|trait) {last}\b", text, re.MULTILINE) for text in texts)
 
 
-def contracts(page):
+def contracts(page: Path) -> Iterator[tuple[str, bool]]:
     """The functions that carry what is said of a crate below its name, and whether the crate hands them out."""
     for heading, text in re.findall(r"^### `(\w+)`\n(.*?)(?=^#|\Z)", page.read_text(), re.MULTILINE | re.DOTALL):
         for statement in STATEMENT.findall(text):
@@ -93,27 +94,27 @@ def contracts(page):
                 yield f"{heading}'s {name}", has_public(heading, name)
 
 
-def print_is_kept(page):
+def print_is_kept(page: Path) -> Iterator[tuple[str, bool]]:
     """Whether a page that is printed from the sources is as they have it now."""
     for script in (definitions, interface):
         if page.resolve() == TOP / f"docs/{script.__name__.upper()}.md":
             yield f"what 'python3 tests/pages/{script.__name__}.py' prints", page.read_text() == script.page()
 
 
-def picture_is_kept():
+def picture_is_kept() -> Iterator[tuple[Path, str, bool]]:
     """Whether the picture of the figures of speed is of these as they stand."""
     ran = subprocess.run([sys.executable, TOP / "bench/plot_figures.py"], capture_output=True, text=True)
     picture = TOP / "bench/figures.svg"
     yield picture.relative_to(TOP), "what bench/plot_figures.py draws", picture.read_text() == ran.stdout
 
 
-def long_sentences(page):
+def long_sentences(page: Path) -> Iterator[tuple[str, bool]]:
     """Whether no sentence of a page is longer than it may be."""
     longest = max((len(words) for words in prose.sentences(page.read_text())), default=0)
     yield f"a full stop in a sentence of {longest} words, where {prose.LONG} are the most,", longest <= prose.LONG
 
 
-def quote_is_kept():
+def quote_is_kept() -> Iterator[tuple[str, bool]]:
     """Whether the use of the libraries is quoted at the head of noc_net as it stands."""
     head, example = (TOP / f"crates/{crate}/src/lib.rt" for crate in ("noc_net", "noc_library_example"))
     quoted = re.search(r"^//! ```rust\n((?://!.*\n)+?)//! ```$", head.read_text(), re.MULTILINE)
@@ -121,7 +122,7 @@ def quote_is_kept():
     yield f"the quote of {example.relative_to(TOP)}", bool(text) and text in example.read_text()
 
 
-def floors(page, lines):
+def floors(page: str, lines: str) -> Iterator[tuple[str, bool]]:
     """Whether the page of the crates has each crate once, behind all crates that it stands on."""
     rows = CRATE_ROW.findall(page)
     stands_on = {crate: below.split() for crate, below in CRATE_LINE.findall(lines)}
@@ -134,7 +135,7 @@ def floors(page, lines):
                     yield f"{below} before {crate}, which stands on it,", below in rows[:rows.index(crate)]
 
 
-def replaces_what_is_there(edit):
+def replaces_what_is_there(edit: Path) -> bool:
     """Whether each text that an edit replaces stands once in its file, as the pairs before have left it."""
     texts: dict[Path, str] = {}
     file, old = None, ""
@@ -153,7 +154,7 @@ def replaces_what_is_there(edit):
     return True
 
 
-def edits():
+def edits() -> Iterator[tuple[str | Path, str, bool]]:
     """Whether the edits that must fail are few, in few crates that a page names, and each of what is there."""
     all_edits, crates = told_numbers.edits(), told_numbers.crates_with_edits()
     for what, count, most in (("edits", len(all_edits), MOST_EDITS), ("crates with edits", len(crates), MOST_CRATES)):
@@ -166,9 +167,9 @@ def edits():
         yield edit.relative_to(TOP), "one place for each text that it replaces", replaces_what_is_there(edit)
 
 
-def main():
+def main() -> int:
     passed = failed = 0
-    found = [("crates/noc_net/src/lib.rt", *it) for it in quote_is_kept()]
+    found: list[tuple[str | Path, str, bool]] = [("crates/noc_net/src/lib.rt", *it) for it in quote_is_kept()]
     crates = TOP / "crates/README.md"
     found += [(crates.relative_to(TOP), *it) for it in floors(crates.read_text(), (TOP / "crates.txt").read_text())]
     found += [*picture_is_kept(), *edits(), *told_numbers.numbers(), *told_numbers.builder()]
@@ -176,11 +177,11 @@ def main():
         found += [(page, *it) for it in (
             *links(page), *contracts(page), *print_is_kept(page), *told_names.modules(page), *told_names.items(page),
             *told_names.names(page), *long_sentences(page))]
-    for page, name, is_there in found:
+    for place, name, is_there in found:
         passed += is_there
         failed += not is_there
         if not is_there:
-            print(f"{page}: {name} is not there")
+            print(f"{place}: {name} is not there")
     print(f"{passed} passed, {failed} failed")
     return 0 if passed and not failed else 1
 

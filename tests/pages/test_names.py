@@ -2,7 +2,9 @@
 import sys
 import tempfile
 import unittest
+from collections.abc import Iterable
 from pathlib import Path
+from typing import Any
 from unittest import mock
 
 TOP = Path(__file__).resolve().parents[2]
@@ -15,18 +17,18 @@ LINES = "# NAME: ..\nnoc_low:\nnoc_high: noc_low rtrb\n"
 LONG = "word " * 36
 
 
-def row(crate):
+def row(crate: str) -> str:
     """A row of the page of the crates."""
     return f"| `{crate}` | what it is | yes |\n"
 
 
-def wrong(found):
+def wrong(found: Iterable[tuple[Any, ...]]) -> list[str]:
     """What is not as it should be."""
     return [name for *_, name, is_right in found if not is_right]
 
 
 class Names(unittest.TestCase):
-    def page(self, text):
+    def page(self, text: str) -> Path:
         """A page that says this."""
         room = tempfile.TemporaryDirectory()
         self.addCleanup(room.cleanup)
@@ -34,26 +36,26 @@ class Names(unittest.TestCase):
         page.write_text(text)
         return page
 
-    def test_an_item_is_in_its_crate_and_a_member_in_its_type(self):
+    def test_an_item_is_in_its_crate_and_a_member_in_its_type(self) -> None:
         right = "`Engine::run`, `noc_engine::Engine::run`, `Verdict::NoFlit` and `RankFault::NotRisingTo`"
         self.assertEqual(wrong(told_names.items(self.page(right))), [])
         # (the first two are words of the code, but not there)
         for name in ("noc_view::Engine", "Network::self", "Verdict::NoSuch", "noc_engine::run_backwards"):
             self.assertEqual(wrong(told_names.items(self.page(f"`{name}`"))), [name])
 
-    def test_a_name_stands_somewhere_in_the_code(self):
+    def test_a_name_stands_somewhere_in_the_code(self) -> None:
         # (a name that stands in no file, so not in this one either)
         nowhere = "Verdict" + "Satz"
         page = self.page(f"`Verdict`, `take_beats`, `verdict_of` and `{nowhere}`")
         self.assertEqual(wrong(told_names.names(page)), [f"the name {nowhere}"])
 
-    def test_a_table_names_all_modules_and_no_others(self):
+    def test_a_table_names_all_modules_and_no_others(self) -> None:
         page = self.page("| Module of `noc_waiting` | What |\n|---|---|\n| `none` | it |\n")
         self.assertEqual(wrong(told_names.modules(page)), ["the module none of noc_waiting"])
         page = self.page("| Module of `noc_vc` | What |\n|---|---|\n| `input` | it |\n")
         self.assertIn("the module output of noc_vc, in a table,", wrong(told_names.modules(page)))
 
-    def test_each_crate_stands_once_behind_those_below_it(self):
+    def test_each_crate_stands_once_behind_those_below_it(self) -> None:
         right = row("noc_low") + row("noc_high")
         self.assertEqual(wrong(run_names.floors(right, LINES)), [])
         for page, told in (
@@ -64,11 +66,11 @@ class Names(unittest.TestCase):
         ):
             self.assertIn(told, wrong(run_names.floors(page, LINES)))
 
-    def test_a_sentence_has_an_end(self):
+    def test_a_sentence_has_an_end(self) -> None:
         self.assertEqual(wrong(run_names.long_sentences(self.page(f"{LONG[5:]}.\n"))), [])
         self.assertEqual(len(wrong(run_names.long_sentences(self.page(f"{LONG}.\n")))), 1)
 
-    def test_each_number_that_is_told_is_compared(self):
+    def test_each_number_that_is_told_is_compared(self) -> None:
         read = told_numbers.text_of
         for page, words, right in list(told_numbers.told()):
             found = told_numbers.told_in(page, words)
@@ -80,7 +82,7 @@ class Names(unittest.TestCase):
                         told_numbers, "text_of", lambda name: other if name == page else read(name)):
                     self.assertTrue(any(words in name for name in wrong(told_numbers.numbers())))
 
-    def test_the_builder_knows_each_crate_of_the_program(self):
+    def test_the_builder_knows_each_crate_of_the_program(self) -> None:
         read = told_numbers.text_of
         with mock.patch.object(
                 told_numbers, "text_of", lambda name: read(name).replace('"noc_vc":', '"noc_vd":')):

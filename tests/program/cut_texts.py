@@ -1,11 +1,17 @@
 """Texts cut after each number of bytes, and how each call on them has to end: by a small reader of the formats of
 docs/FORMATS.md, for texts without quotes, empty lines and carriage returns, or by ranges worked out by hand."""
 import tomllib
+from collections.abc import Sequence
+from pathlib import Path
+from typing import TYPE_CHECKING
 
 from fault_lines import HEADERS, TOP
 
-from noc_tools.network import network_of
+from noc_tools.network import Network, network_of
 from noc_tools.relation import Channels, of_network
+
+if TYPE_CHECKING:
+    from run_process import Calls
 
 EXAMPLES = TOP / "examples"
 KEYS = ["kind", "radix", "channels", "buffer", "classes", "rule", "cycles"]
@@ -26,7 +32,7 @@ RING_FALLS = "fault rank 2 NotRising class 0 router 0 port -0 vc 0 dst 1 out +0 
 TURNS_FALL = "fault rank 2 NotRising class 0 router 3 port -1 vc 0 dst 2 out -0 vc 0 ranks 4 1\n"
 
 
-def config_fault(text):
+def config_fault(text: str) -> str | None:
     """The fault of a configuration whose keys are all known and in order, None where it has all of them."""
     try:
         document = tomllib.loads(text)
@@ -35,7 +41,7 @@ def config_fault(text):
     return next((f"fault config 6 MissingKey key {key}\n" for key in KEYS if key not in document), None)
 
 
-def read_rows(kind, text, ports=()):
+def read_rows(kind: str, text: str, ports: Sequence[str] = ()) -> tuple[str | None, list[list[str]]]:
     """The fault of a CSV text, or None, and its rows."""
     header, *lines = text.splitlines() or [""]
     if header + "\n" != HEADERS[kind]:
@@ -54,13 +60,13 @@ def read_rows(kind, text, ports=()):
     return None, rows
 
 
-def traffic_answer(text):
+def traffic_answer(text: str) -> str:
     """The report of a run of one cycle, in which no packet comes out, and something happens if a packet is due."""
     fault, rows = read_rows("traffic", text)
     return fault or REPORT_HEADER + "".join(f"{number},{','.join(row)},-,-\n" for number, row in enumerate(rows))
 
 
-def ranks_answer(text, network, whole):
+def ranks_answer(text: str, network: Network, whole: str) -> str:
     """The first link channel without a row, or the answer for the whole text."""
     fault, rows = read_rows("ranks", text, network.ports)
     if fault:
@@ -70,7 +76,7 @@ def ranks_answer(text, network, whole):
     return f"fault rank 7 MissingChannel router {missing[0][0]} port {missing[0][1]} vc 0\n" if missing else whole
 
 
-def table_answer(text, network, path):
+def table_answer(text: str, network: Network, path: Path) -> str:
     """The first entry without a way, by router, port and destination, or that the table has no ranks by formula."""
     fault, rows = read_rows("table", text, network.ports)
     if fault:
@@ -84,11 +90,11 @@ def table_answer(text, network, path):
     return "fault rank 1 NoGenerated\n"
 
 
-def cuts(text):
+def cuts(text: str) -> list[str]:
     return [text[:length] for length in range(len(text) + 1)]
 
 
-def cut_joined(calls):
+def cut_joined(calls: "Calls") -> None:
     """The joined text of two routers, and the same bytes as two files."""
     whole = (EXAMPLES / "two_routers.noc").read_bytes()
     config, traffic = whole.split(b"---\n")
@@ -101,7 +107,7 @@ def cut_joined(calls):
                 calls.answers(f"two files cut after {length} bytes", ["run", "whole", "cut"], answer.encode())
 
 
-def cut_configs(calls):
+def cut_configs(calls: "Calls") -> None:
     """Configurations beside a traffic file that is missing; a table file is missing too where the rule wants one."""
     for name in ("ring", "ring_dateline", "turns"):
         for text in cuts((EXAMPLES / f"{name}.toml").read_text()):
@@ -111,7 +117,7 @@ def cut_configs(calls):
             calls.answers(f"{name}.toml cut after {len(text)} bytes", ["run", "cut", "missing"], answer.encode())
 
 
-def cut_traffic(calls):
+def cut_traffic(calls: "Calls") -> None:
     for name in ("ring", "torus"):
         config = (EXAMPLES / f"{name}.toml").read_text()
         calls.put(whole=config.replace(f"cycles = {tomllib.loads(config)['cycles']}", "cycles = 1").encode())
@@ -121,7 +127,7 @@ def cut_traffic(calls):
                           traffic_answer(text).encode())
 
 
-def cut_tables_and_ranks(calls):
+def cut_tables_and_ranks(calls: "Calls") -> None:
     turns, ring = ((EXAMPLES / f"{name}.toml").read_text() for name in ("turns", "ring"))
     calls.put(turns=turns.encode(), ring=ring.encode(), routes=(EXAMPLES / "turns_table.csv").read_bytes())
     for text in cuts((EXAMPLES / "turns_table.csv").read_text()):
@@ -137,7 +143,7 @@ def cut_tables_and_ranks(calls):
                           answer)
 
 
-def cut_texts(calls):
+def cut_texts(calls: "Calls") -> None:
     """All texts cut after each number of bytes."""
     for group in (cut_joined, cut_configs, cut_traffic, cut_tables_and_ranks):
         group(calls)

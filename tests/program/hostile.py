@@ -16,7 +16,7 @@ import subprocess
 import sys
 import tempfile
 import time
-from collections.abc import Callable
+from collections.abc import Callable, Iterator, Sequence
 from pathlib import Path
 from random import Random
 
@@ -34,7 +34,7 @@ PIECES = [b"\n", b"\r\n", b"\r", b"---\n", b" ", b"\0", b"\xff", b"\xef\xbb\xbf"
     b"1979-05-27").split()]
 
 
-def sets():
+def sets() -> Iterator[dict[str, bytes]]:
     """Files that go together: a configuration, its traffic, and a table and ranks where there are some."""
     example = {it.name: it.read_bytes() for it in (TOP / "examples").glob("*.*") if it.suffix in (".toml", ".csv")}
     for name in ("ring", "ring_dateline", "turns", "torus", "transpose", "blocked"):
@@ -58,7 +58,7 @@ SETS = list(sets())
 TEXTS = [text for files in SETS for text in files.values()]
 
 
-def changed(random, text):
+def changed(random: Random, text: bytes) -> bytes:
     """A text with one change."""
     at, end = sorted(random.randrange(len(text) + 1) for _ in range(2))
     lines = text.splitlines(keepends=True) or [b""]
@@ -82,16 +82,15 @@ def changed(random, text):
         case _ if numbers:
             number = random.choice(numbers)
             return text[:number.start()] + str(random.choice(NUMBERS)).encode() + text[number.end():]
-        case _:
-            return b""
+    return b""
 
 
-def bounded(config):
+def bounded(config: bytes) -> bytes:
     """The configuration with no number of five to seven digits, so that no run takes long."""
     return re.sub(rb"(?<!\d)\d{5,7}(?!\d)", lambda number: number[0][:4], config)
 
 
-def made_files(random):
+def made_files(random: Random) -> dict[str, bytes]:
     """A set of files, one or two of them changed up to three times, and now and then one of another set."""
     files = dict(random.choice(SETS * 2 + SETS[-2:]))
     for kind in random.sample(sorted(files), min(len(files), random.choice([1, 1, 1, 2]))):
@@ -103,7 +102,7 @@ def made_files(random):
     return files
 
 
-def made_words(random, files):
+def made_words(random: Random, files: dict[str, bytes]) -> list[str]:
     """Words of a command on these files; none for a joined text."""
     command = random.choice(["", "run", "run", "explain", "trace", "check", "ranks"])
     words = [command, "config"] if command else []
@@ -128,7 +127,7 @@ def made_words(random, files):
     return words
 
 
-def complaint(words, is_full, ran):
+def complaint(words: Sequence[str], is_full: bool, ran: subprocess.CompletedProcess[bytes]) -> str | None:
     """What is wrong with the end of a call, None where it's right."""
     status, out, error = ran.returncode, ran.stdout or b"", ran.stderr
     if ("--wrong" in words) != (status == 2):
@@ -146,7 +145,7 @@ def complaint(words, is_full, ran):
     return None if status in (3, 4, 7) and status_of(error) == status else "no fault line with this status"
 
 
-def one_call(program, folder, seed, number):
+def one_call(program: Path, folder: Path, seed: int, number: int) -> bool:
     """Makes an input, calls the program, and shows the call where it fails."""
     random = Random(f"{seed} {number}")
     files = made_files(random)
@@ -190,11 +189,11 @@ def count_passed(options: argparse.Namespace, passes: Callable[[int], bool]) -> 
     return 0 if number and passed == number else 1
 
 
-def main():
+def main() -> int:
     options = options_of("Gives cut, changed and mixed texts to a program.", COUNT)
     program = options.program.resolve()
     with tempfile.TemporaryDirectory() as name:
-        def passes(number):
+        def passes(number: int) -> bool:
             for kind in ("config", "traffic", "table", "ranks"):
                 (Path(name) / kind).write_bytes(b"")
             return one_call(program, Path(name), options.seed, number)

@@ -10,22 +10,27 @@ import re
 import shutil
 import subprocess
 import sys
+from collections.abc import Sequence
 from pathlib import Path
+from typing import TYPE_CHECKING
 
 from fault_lines import HEADERS
 
 from noc_tools.network import Network
+
+if TYPE_CHECKING:
+    from run_process import Calls
 
 MOST_GROWTHS = 5000
 TRAFFIC_HEADER, REPORT_HEADER, TABLE_HEADER = (HEADERS[kind] for kind in ("traffic", "latency", "table"))
 WANT = re.compile(rb"fault (\w+ \d+ Memory|run 2 NoWorker)\n")
 
 
-def config(kind, radix, channels, buffer, rule, cycles):
+def config(kind: str, radix: tuple[int, ...], channels: int, buffer: int, rule: str, cycles: int) -> str:
     return Network(kind, radix, channels, buffer, 1, rule, cycles).text()
 
 
-def ring_ranks(size):
+def ring_ranks(size: int) -> str:
     """Ranks of a ring with two channels per link: along each way round, those of the low channel before those of the
     high one."""
     lines = ["router,port,vc,rank"]
@@ -35,13 +40,13 @@ def ring_ranks(size):
     return "\n".join(lines) + "\n"
 
 
-def adaptive_ranks(size):
+def adaptive_ranks(size: int) -> str:
     """The same for a ring with a third channel on each link, which is adaptive."""
     lines = ring_ranks(size).splitlines()
     return "\n".join(lines + [f"{router},{port},2,adaptive" for router in range(size) for port in ("+0", "-0")]) + "\n"
 
 
-def report(*rows):
+def report(*rows: tuple[str, int]) -> str:
     """Rows of packets, each out as many cycles after its due time 0 as stands last."""
     return REPORT_HEADER + "".join(f"{number},{packet},{out},{out}\n" for number, (packet, out) in enumerate(rows))
 
@@ -72,7 +77,7 @@ ACROSS_REPORT = REPORT_HEADER + "".join(f"{number},63,64,0,1,{due},{due + 5},5\n
 # Words with the text on standard input, the answer, and the families of which want of memory is told: of all that is
 # read and made. Of runs by two workers it is told both ways, as run 1 where memory itself was short, and as run 2 where
 # a thread could not be started for it.
-ANSWERED = [
+ANSWERED: list[tuple[list[str], str, str, str]] = [
     ([], FILES["pair"] + "---\n" + FILES["one"], PAIR_REPORT, "joined config relation traffic network"),
     (["check", "ring", "--ranks", "ring_ranks"], "", "accepted\n", "config relation ranks rank"),
     (["check", "adaptive", "--ranks", "adaptive_ranks"], "", "accepted\n", "config relation ranks rank"),
@@ -93,14 +98,16 @@ REPORTS = [["--report", kind] for kind in ("summary", "latency", "stalls")]
 class Growths:
     """Calls in which one growth is refused, by a library that stands before the program's own memory calls."""
 
-    def __init__(self, calls):
+    def __init__(self, calls: "Calls") -> None:
         self.calls = calls
         self.library, self.count = calls.folder / "refused_growth.so", calls.folder / "growths"
         source = Path(__file__).resolve().with_suffix(".c")
         compiler = shutil.which("cc") or shutil.which("gcc")
         subprocess.run([compiler, "-shared", "-fPIC", "-O1", "-o", self.library, source], check=True)
 
-    def refusing(self, number, words, given=b""):
+    def refusing(
+            self, number: int, words: Sequence[str], given: bytes = b"",
+    ) -> tuple[subprocess.CompletedProcess[bytes], int]:
         """The call with this growth refused (none where it is 0), and how many growths were asked for."""
         self.count.unlink(missing_ok=True)
         env = os.environ | {"LD_PRELOAD": str(self.library), "REFUSED_GROWTH": str(number),
@@ -109,13 +116,13 @@ class Growths:
         return ran, int.from_bytes(self.count.read_bytes(), sys.byteorder)
 
 
-def family_of(line):
+def family_of(line: str) -> str:
     """The family of a fault line that tells of a want, and its number where that says of what."""
     _, family, number, _ = line.split()
     return family + number if family == "run" else family
 
 
-def each_growth_refused(growths):
+def each_growth_refused(growths: Growths) -> None:
     """Every growth refused in turn: want of memory with nothing written, or the whole answer; without a refusal the
     answer."""
     for words, given, answer, families in ANSWERED:
@@ -133,7 +140,7 @@ def each_growth_refused(growths):
                             told == set(families.split()) and said == wanted, ran)
 
 
-def no_growth_after_building(growths):
+def no_growth_after_building(growths: Growths) -> None:
     """The program asks for memory as often for one cycle as for a thousand, and for each report."""
     by_two = "--workers", "2"
     for name, traffic, more in (("pair", "one", ()), ("ring", "round", ()), ("line", "two", by_two),
@@ -149,7 +156,7 @@ def no_growth_after_building(growths):
         growths.calls.count(f"growths of {name}: {asked}", len(asked) == 1, ran)
 
 
-def refused_growths(calls):
+def refused_growths(calls: "Calls") -> None:
     calls.put(**{name: text.encode() for name, text in FILES.items()})
     growths = Growths(calls)
     each_growth_refused(growths)

@@ -1,8 +1,13 @@
 """Configurations, joined texts, traffic, tables and rank files of every written form, and the first fault of those that
 are refused. What each call on them says is worked out by hand from the rules of docs/FORMATS.md."""
+from typing import TYPE_CHECKING, Any
+
 from fault_lines import HEADERS
 
 from noc_tools.network import Network
+
+if TYPE_CHECKING:
+    from run_process import Calls
 
 MARK = b"\xef\xbb\xbf"
 TRAFFIC_HEADER, TABLE_HEADER, RANKS_HEADER, REPORT_HEADER = (
@@ -122,13 +127,13 @@ BAD_RANKS = [
 ]
 
 
-def refused(calls, what, words, text, fault, **how):
+def refused(calls: "Calls", what: str, words: list[str], text: bytes, fault: str, **how: Any) -> None:
     """A call on a text, as the file `given`, ends with a fault."""
     calls.put(given=text)
     calls.answers(f"{what} {text[-60:]!r}", words, f"fault {fault}\n".encode(), **how)
 
 
-def configurations(calls):
+def configurations(calls: "Calls") -> None:
     for count, last, fault in BAD_CONFIGS:
         refused(calls, "configuration", ["ranks", "given"], b"".join(LINES[:count]) + last, f"config {fault}")
     for text, cycles, fault in GOOD_CONFIGS:
@@ -138,7 +143,7 @@ def configurations(calls):
             refused(calls, f"cycle {cycle} of", words, text, said)
 
 
-def joined_texts(calls):
+def joined_texts(calls: "Calls") -> None:
     """Texts that are divided or not, and standard input that never ends."""
     for text, fault in JOINED:
         calls.answers(f"joined {text[-40:]!r}", [], f"fault {fault}\n".encode() if fault else REPORT_HEADER, given=text)
@@ -146,7 +151,7 @@ def joined_texts(calls):
         calls.answers("an endless text", [], b"fault joined 2 TooLong\n", stdin=endless)
 
 
-def traffic(calls):
+def traffic(calls: "Calls") -> None:
     """Packets that are read, and two whose fields are all others."""
     calls.put(line=CONFIG, largest=LARGEST.text().encode())
     words = ["run", "line", "given"]
@@ -168,13 +173,13 @@ def traffic(calls):
                   REPORT_HEADER + b"0,0,1,2,3,4,-,-\n1,255,7,0,64,1000000,-,-\n")
 
 
-def tables(calls):
+def tables(calls: "Calls") -> None:
     calls.put(torus=TORUS.text().encode())
     for text, fault in BAD_TABLES:
         refused(calls, "table", ["ranks", "torus", "--table", "given"], text, fault)
 
 
-def rank_files(calls):
+def rank_files(calls: "Calls") -> None:
     """Rank files of a line, and of a square whose last row has the greatest rank in other written forms."""
     calls.put(line=CONFIG, plane=PLANE.text().encode())
     for text, fault in BAD_RANKS:
@@ -189,7 +194,7 @@ def rank_files(calls):
             "rank 5 UnknownChannel row 24")
 
 
-def worked_inputs(calls):
+def worked_inputs(calls: "Calls") -> None:
     """All of these texts."""
     for group in (configurations, joined_texts, traffic, tables, rank_files):
         group(calls)

@@ -1,8 +1,13 @@
 """What routing rules permit and which ranks they have, as traces and rank files tell it, worked out by hand from the
 rules of docs/MODEL.md."""
+from typing import TYPE_CHECKING
+
 from fault_lines import HEADERS
 
 from noc_tools.network import Network
+
+if TYPE_CHECKING:
+    from run_process import Calls
 
 TRAFFIC_HEADER, TABLE_HEADER, RANKS_HEADER = (HEADERS[kind] for kind in ("traffic", "table", "ranks"))
 TRACE_HEADER = "cycle,router,port,vc,verdict,packet,out,permitted\n"
@@ -49,7 +54,7 @@ RISING = ["0,+0,0,2", "0,+0,1,adaptive", "1,+0,0,3", "1,+0,1,adaptive", "1,-0,0,
           "2,-0,1,adaptive"]
 
 
-def ask(calls, network, **texts):
+def ask(calls: "Calls", network: Network, **texts: list[str]) -> None:
     """Puts a configuration, and other files below their headers."""
     headers = {"traffic": TRAFFIC_HEADER, "table": TABLE_HEADER, "ranks": RANKS_HEADER}
     bodies = {f"given_{kind}": (headers[kind] + "".join(f"{row}\n" for row in rows)).encode()
@@ -57,7 +62,7 @@ def ask(calls, network, **texts):
     calls.put(given=network.text().encode(), **bodies)
 
 
-def permitted_channels(calls):
+def permitted_channels(calls: "Calls") -> None:
     for network, packet, last, lines in GRANTS:
         ask(calls, network, traffic=[packet])
         calls.answers(f"grants to {packet} in {network}",
@@ -65,7 +70,7 @@ def permitted_channels(calls):
                       (TRACE_HEADER + lines).encode())
 
 
-def relations(calls):
+def relations(calls: "Calls") -> None:
     """Tables, and what makes no relation."""
     for rows, fault in TABLES:
         ask(calls, TWO_NODES, table=rows)
@@ -75,7 +80,7 @@ def relations(calls):
         calls.answers(f"no relation {network}", ["ranks", "given"], b"fault relation 1 WrongShape\n")
 
 
-def ranks(calls):
+def ranks(calls: "Calls") -> None:
     """Ranks by formula, those of the largest mesh, and ranks beside adaptive channels."""
     ask(calls, Network(*SQUARE, 1, 2, 1, "west-first", 8))
     ran = calls.run(["ranks", "given"])
@@ -87,6 +92,6 @@ def ranks(calls):
     calls.answers("ranks beside adaptive channels", ["check", "given", "--ranks", "given_ranks"], b"accepted\n")
 
 
-def worked_routes(calls):
+def worked_routes(calls: "Calls") -> None:
     for group in (permitted_channels, relations, ranks):
         group(calls)

@@ -1,10 +1,14 @@
 """Joined texts and their answers, worked out by hand: first faults, runs that are cut off or in which nothing happens
 for long, and rings after each number of cycles."""
 from dataclasses import replace
+from typing import TYPE_CHECKING
 
 from fault_lines import HEADERS
 
 from noc_tools.network import Network
+
+if TYPE_CHECKING:
+    from run_process import Calls
 
 TRAFFIC_HEADER, REPORT_HEADER = HEADERS["traffic"], HEADERS["latency"]
 TRACE_HEADER = "cycle,router,port,vc,verdict,packet,out,permitted\n"
@@ -54,12 +58,12 @@ ON_A_CUBE = [("0,7,0,4,0", 14), ("7,1,0,1,50", 58)]
 BESIDE = AROUND + "6,8,0,4,300\n4,11,0,4,30000\n"
 
 
-def joined(network, traffic):
+def joined(network: Network, traffic: str) -> bytes:
     """A joined text."""
     return f"{network.text()}---\n{TRAFFIC_HEADER}{traffic}".encode()
 
 
-def first_faults(calls):
+def first_faults(calls: "Calls") -> None:
     """Of the traffic, and before it of the configuration."""
     for traffic, fault in BAD_TRAFFIC:
         calls.answers(f"traffic {traffic[:30]!r}", [], fault.encode(), given=joined(LINE, traffic))
@@ -67,7 +71,7 @@ def first_faults(calls):
         calls.answers(f"configuration {network}", [], fault.encode(), given=joined(network, "0,1,0\n"))
 
 
-def short_runs(calls):
+def short_runs(calls: "Calls") -> None:
     """A packet that is still under way, and the largest mesh with four channels and classes, which has no packets."""
     calls.answers("a run of five cycles", [], (REPORT_HEADER + "0,0,1,0,1,0,-,-\n").encode(),
                   given=joined(replace(LINE, cycles=5), "0,1,0,1,0\n"))
@@ -75,7 +79,7 @@ def short_runs(calls):
     calls.answers("the largest mesh", [], REPORT_HEADER.encode(), given=joined(largest, ""))
 
 
-def rings_after_each_cycle(calls):
+def rings_after_each_cycle(calls: "Calls") -> None:
     """A ring that is stuck from its fifth cycle on, and one with a dateline, which never is."""
     for channels, rule, most in ((1, "dor", 20), (2, "dateline", 60)):
         for cycles in range(1, most + 1):
@@ -85,12 +89,12 @@ def rings_after_each_cycle(calls):
             calls.count(f"{rule} after {cycles} cycles", (ran.returncode, ran.stderr) == (status, b""), ran)
 
 
-def put_files(calls, network, traffic):
+def put_files(calls: "Calls", network: Network, traffic: str) -> None:
     """The same as two files."""
     calls.put(given=network.text().encode(), given_traffic=(TRAFFIC_HEADER + traffic).encode())
 
 
-def moves_by_credits(calls):
+def moves_by_credits(calls: "Calls") -> None:
     for buffer, cycles in MOVES:
         put_files(calls, replace(LINE, buffer=buffer), "0,1,0,3,0\n")
         lines = "".join(f"{cycle},0,local,0,Moved,0,+0.0,-\n" for cycle in cycles)
@@ -98,7 +102,7 @@ def moves_by_credits(calls):
                                                      "Moved"], (TRACE_HEADER + lines).encode())
 
 
-def jumps_to_late_packets(calls):
+def jumps_to_late_packets(calls: "Calls") -> None:
     """Runs that end before, in and after the due cycle of a packet."""
     for cycles, last_event, (sent, arrived) in AFTER_CYCLES:
         put_files(calls, replace(LINE, buffer=4, cycles=cycles), LATE)
@@ -111,7 +115,7 @@ def jumps_to_late_packets(calls):
         calls.count(f"counts after {cycles} cycles", set(lines) < set(ran.stdout.decode().splitlines()), ran)
 
 
-def lone_packets(calls):
+def lone_packets(calls: "Calls") -> None:
     report = "".join(f"{number},{packet},{out},{out - int(packet.split(',')[4])}\n"
                      for number, (packet, out) in enumerate(ON_A_CUBE))
     for channels in (4, 8):
@@ -120,7 +124,7 @@ def lone_packets(calls):
                       given=joined(cube, "".join(f"{packet}\n" for packet, _ in ON_A_CUBE)))
 
 
-def jam_beside_a_ring(calls):
+def jam_beside_a_ring(calls: "Calls") -> None:
     """The packets of the first ring never come out, and those of the other one do, of which one is due before the end
     of a short run."""
     for cycles, left in ((400, ["0", "1", "2", "3", "5"]), (2_000_000, ["0", "1", "2", "3"])):
@@ -129,7 +133,7 @@ def jam_beside_a_ring(calls):
         calls.count(f"a jam beside a ring, {cycles} cycles", (ran.returncode, ran.stderr, found) == (5, b"", left), ran)
 
 
-def worked_texts(calls):
+def worked_texts(calls: "Calls") -> None:
     """All of these texts."""
     for group in (first_faults, short_runs, rings_after_each_cycle, moves_by_credits, jumps_to_late_packets,
                   lone_packets, jam_beside_a_ring):
