@@ -89,8 +89,8 @@ def package_files() -> dict[str, bytes]:
 
 
 def files_below(path: Path) -> list[Path]:
-    """A file, or all files of a folder."""
-    return [each for each in sorted(path.rglob("*")) if each.is_file()] if path.is_dir() else [path]
+    """A file, or all files of a folder; none where nothing is there."""
+    return [each for each in (path, *sorted(path.rglob("*"))) if each.is_file()]
 
 
 def program_files(about: Mapping[str, Any]) -> dict[str, bytes]:
