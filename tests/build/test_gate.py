@@ -21,7 +21,7 @@ def rattle(command: str, crate: str, more: str = "src/lib.rt -o x") -> str:
 
 
 BUILD, CHECK = rattle("build", "noc_topo"), rattle("check", "noc_topo")
-RUN = "/tmp/rt-run-7-x/bin/noc_tests_parts_tests "
+RUN = "/tmp/rt-run-7-x/bin/noc_tests_tests "
 # A gate of four crates, worked out by hand. Each line has the time, and of each process its number, its parent, its own
 # seconds, those of its children that have ended, and its command line where it is new.
 SAMPLED = [
@@ -30,7 +30,7 @@ SAMPLED = [
     # The first two checks took twelve seconds more after their last samples. 20 is another process now.
     [1764400120, [[9, 1, 2, 252, ""], [20, 9, 12, 0, CHECK], [31, 9, 6, 0, CHECK]]],
     [1764400180, [[9, 1, 2, 270, ""], [32, 9, 60, 0, CHECK], [40, 9, 18, 0, rattle("check", "noc_view")]]],
-    [1764400240, [[9, 1, 3, 348, ""], [50, 9, 90, 0, rattle("build", "noc_tests_parts", "src/lib.rt --test -o x")],
+    [1764400240, [[9, 1, 3, 348, ""], [50, 9, 90, 0, rattle("build", "noc_tests", "src/lib.rt --test -o x")],
                   [51, 9, 30, 0, rattle("check", "noc", "src/main.rt -o checked")]]],
     [1764400300, [[9, 1, 3, 471, ""], [60, 9, 0, 0, f"sh -c own {RUN}"], [61, 60, 6, 0, RUN],
                   [62, 9, 6, 0, "/kit/bin/rattle-link -o out/noc out/noc.o "]]],
@@ -41,11 +41,11 @@ TABLE = """The gate took 5 minutes by the clock and 8 of processor time (2025-11
 |---|--:|--:|--:|--:|--:|--:|
 | `noc_topo` | 2.1 | 3.1 | 0.3 | 2 | | 5.5 |
 | `noc_view` | | | 0.3 | 1 | | 0.3 |
-| `noc_tests_parts` | | | | | 1.6 | 1.6 |
+| `noc_tests` | | | | | 1.6 | 1.6 |
 | `noc` | 0.5 | | | | 0.1 | 0.6 |
 | all | 2.6 | 3.1 | 0.6 | 3 | 1.7 | 7.9 |
 """
-CRATES = ["noc_topo", "noc_view", "noc_tests_parts", "noc"]
+CRATES = ["noc_topo", "noc_view", "noc_tests", "noc"]
 
 
 class GateTest(unittest.TestCase):

@@ -3,12 +3,13 @@
 
     run_growth.py
 
-The tests are those that the gate has built, of the crates of tests. Each test in REFUSED makes one call that takes
-memory, beside those that make what it is given. With any one of its growths refused it says that memory, or a thread,
-was refused, or all is as with ample memory. The tests in TAKES_NONE begin as the test MADE does, and go on with calls
-that are to take no memory. So they ask for as many growths as that one. The tests in NO_THREAD run where no thread may
-start: those by several workers say that a worker was refused, and the one by one worker passes. Each failure is shown,
-and the last line is 'N passed, M failed'. The exit status is 0 where all passed, else 1.
+The tests are those of noc_tests, as the gate has built them. Each test in REFUSED makes one call that takes memory,
+beside those that make what it is given. With any one of its growths refused it says that memory, or a thread, was
+refused, or all is as with ample memory. The tests in TAKES_NONE begin as the test MADE does, and go on with calls that
+are to take no memory. So they ask for as many growths as that one. The tests in NO_THREAD run where no thread may
+start: those by several workers say that a worker was refused, and the one by one worker passes. Calls that the program
+makes are refused their growths by refused_growth.py. Each failure is shown, and the last line is 'N passed, M failed'.
+The exit status is 0 where all passed, else 1.
 """
 import re
 import shutil
@@ -23,33 +24,26 @@ TOP = Path(__file__).resolve().parents[2]
 MOST_GROWTHS = 1000
 BY_ONE = "growth::a_line_runs_by_one_worker"
 BY_MANY = ["growth::a_line_runs_by_two_workers", "growth::a_line_runs_by_three_workers"]
-REFUSED = {
-    "noc_tests_parts": ["buffers::banks_go_to_a_thread_and_come_back_with_their_flits"],
-    "noc_tests_networks": ["growth::a_relation_is_built", "growth::ranks_are_made_from_rows",
-                           "growth::ranks_are_generated_and_checked", "growth::a_router_and_a_plan_are_made",
-                           "growth::a_line_is_made", *BY_MANY],
-    "noc_tests_files": ["inputs::bytes_one_by_one_up_to_the_limit", "configurations::a_configuration_with_every_key",
-                        "traffic_files::the_packets_of_a_text", "table_files::the_rows_of_a_table",
-                        "rank_files::the_rows_of_a_rank_file"],
-}
-MADE = ("noc_tests_networks", "growth::a_line_is_made")
-TAKES_NONE = {
-    "noc_tests_networks": ["growth::a_line_runs_twice", "growth::a_line_is_read", "growth::a_core_of_a_line_is_read",
-                           "events::parts_make_the_network_again", "events::cycles_from_the_last_router_to_the_first",
-                           BY_ONE],
-    "noc_tests_files": ["growth::a_line_is_reported"],
-}
-NO_THREAD = {"noc_tests_networks": [BY_ONE, *BY_MANY]}
+MADE = "growth::a_line_is_made"
+REFUSED = [
+    "buffers::banks_go_to_a_thread_and_come_back_with_their_flits", "ranks::ranks_are_made_from_rows",
+    "growth::a_router_and_a_plan_are_made", MADE, *BY_MANY, "inputs::bytes_one_by_one_up_to_the_limit",
+]
+TAKES_NONE = [
+    "growth::a_line_runs_twice_and_is_read", "growth::a_core_of_a_line_is_read", "growth::a_line_is_reported",
+    "events::parts_make_the_network_again", "events::cycles_from_the_last_router_to_the_first", BY_ONE,
+]
+NO_THREAD = [BY_ONE, *BY_MANY]
 NO_WORKER = re.compile(r"error: (\w+\()*NoWorker\)*$", re.MULTILINE)
 WANT = re.compile(r"error: (\w+\()*(Memory|NoWorker|AllocError)\)*$", re.MULTILINE)
 
 
 class Tests:
-    """The tests of a crate, run one by one with one of their growths, or all threads, refused."""
+    """The tests, run one by one with one of their growths, or all threads, refused."""
 
-    def __init__(self, room: Path, crate: str) -> None:
+    def __init__(self, room: Path) -> None:
         self.room = room
-        self.program = TOP / f"crates/{crate}/out/{crate}_tests"
+        self.program = TOP / "crates/noc_tests/out/noc_tests_tests"
         self.library, self.count = room / "refused_growth.so", room / "growths"
 
     def refusing(self, number: int, name: str) -> tuple[bool, str, int]:
@@ -86,8 +80,7 @@ def refused(tests: Tests, name: str) -> str:
 
 def takes_none(tests: Tests, name: str) -> str:
     """What is wrong with a test that is to ask for no growth but those of the line that it begins with."""
-    crate, test = MADE
-    made, line, wanted = Tests(tests.room, crate).refusing(0, test)
+    made, line, wanted = tests.refusing(0, MADE)
     passed, said, asked = tests.refusing(0, name)
     if made and passed and asked == wanted > 0:
         return ""
@@ -112,10 +105,9 @@ def main() -> int:
         compiler = shutil.which("cc") or "gcc"
         source = Path(__file__).with_name("refused_growth.c")
         subprocess.run([compiler, "-shared", "-fPIC", "-O1", "-o", room / "refused_growth.so", source], check=True)
+        tests = Tests(room)
         for looked, names in ((refused, REFUSED), (takes_none, TAKES_NONE), (no_thread, NO_THREAD)):
-            for crate, chosen in names.items():
-                tests = Tests(room, crate)
-                outcomes |= {f"{looked.__name__} {crate} {name}": looked(tests, name) for name in chosen}
+            outcomes |= {f"{looked.__name__} {name}": looked(tests, name) for name in names}
     for name, wrong in outcomes.items():
         if wrong:
             print(f"run_growth: {name}: {wrong}")

@@ -1,0 +1,129 @@
+//! Worked networks: parts taken and put together again, and events one by one.
+
+ghost use Rattle.std.specs.Prelude.{◌≡◌, ◌∷◌, [], IfOk, false};
+
+use crate::networks::{line_of_three, line_of_two};
+use crate::read::{LINE, are_out};
+use noc_net::{Core, Event, Network};
+use std::alloc::Global;
+use std::test::Fail;
+
+// The line of three routers after four cycles, in which one packet waits for the other.
+fn waiting(alloc: Global) -> Result<Network, Fail>
+    ensures { IfOk result (λ n. n.count ≡ 4) }
+{
+    let mut line = line_of_three(alloc)?;
+    line.run(4);
+    Ok(line)
+}
+
+#[test]
+fn parts_make_the_network_again(rt: HostRuntime) -> Result<(), Fail> {
+    let mut line = Network::from_parts(waiting(rt.alloc())?.into_parts());
+    line.run(16);
+    assert!(rt; are_out(&line, LINE));
+    Ok(())
+}
+
+// All routers of a line of three take, decide and put, from the last to the first.
+fn backwards(core: &mut Core) {
+    for router in [2, 1, 0] {
+        for port in 0..2 {
+            let _ = core.apply(Event::Take(router, port));
+        }
+    }
+    for router in [2, 1, 0] {
+        let _ = core.apply(Event::Decide(router));
+    }
+    for router in [2, 1, 0] {
+        for port in 0..2 {
+            let _ = core.apply(Event::Put(router, port));
+        }
+    }
+}
+
+// Whether a core is a network of so many cycles, whose packets are out in these ones.
+fn is_network(core: Core, count: u64, cycles: &[Option<u64>]) -> bool {
+    match core.finish() {
+        Ok(line) => line.count() == count && are_out(&line, cycles),
+        Err(_) => false,
+    }
+}
+
+#[test]
+fn cycles_from_the_last_router_to_the_first(rt: HostRuntime) -> Result<(), Fail> {
+    let mut core = Core::new(waiting(rt.alloc())?);
+    for _ in 0..16 {
+        backwards(&mut core);
+    }
+    assert!(rt; is_network(core, 20, LINE));
+    Ok(())
+}
+
+// Whether each event is ready or not, as it should be.
+fn agree(core: &mut Core, answers: &[(Event, bool)]) -> bool
+    ensures { core.new.net ≡ core.old.net }
+{
+    for (event, ready) in answers {
+        if core.apply(*event).is_ok() != *ready {
+            return false;
+        }
+    }
+    true
+}
+
+// Whether two routers in a line have made so many steps, and there are so many beats on the wires
+// between them, towards the second and back.
+fn is_at(core: &Core, steps: [u64; 2], beats: [usize; 2]) -> bool
+    requires { core.now.net.relation.grid ≡ record { wraps = false; radix = 2 ∷ [] } }
+{
+    core.steps(0) == steps[0]
+        && core.steps(1) == steps[1]
+        && core.beats(1, 1) == beats[0]
+        && core.beats(0, 0) == beats[1]
+}
+
+// Events up to the first put of router 0, and whether each is ready.
+const FIRST: &[(Event, bool)] = &[
+    (Event::Take(0, 0), true),
+    (Event::Take(0, 0), false),
+    (Event::Decide(1), false),
+    (Event::Decide(0), true),
+    (Event::Put(0, 0), true),
+    (Event::Put(0, 0), false),
+    (Event::Take(0, 0), false),
+    (Event::Take(0, 2), false),
+    (Event::Take(5, 0), false),
+];
+
+// Events up to the first put of router 1.
+const SECOND: &[(Event, bool)] = &[
+    (Event::Take(1, 1), true),
+    (Event::Decide(1), true),
+    (Event::Put(1, 1), true),
+    (Event::Take(0, 2), false),
+    (Event::Take(5, 0), false),
+];
+
+#[test]
+fn a_router_waits_for_its_neighbour(rt: HostRuntime) -> Result<(), Fail> {
+    let mut core = Core::new(line_of_two(rt.alloc())?);
+    assert!(rt; agree(&mut core, FIRST) && is_at(&core, [1, 0], [2, 0]));
+    let Err(mut core) = core.finish() else {
+        panic!(rt; "finished")
+    };
+    assert!(rt; agree(&mut core, SECOND) && is_at(&core, [1, 1], [1, 1]));
+    assert!(rt; is_network(core, 1, &[]));
+    Ok(())
+}
+
+// The first events of router 0.
+const DECIDED: &[(Event, bool)] = &[(Event::Take(0, 0), true), (Event::Decide(0), true)];
+
+#[test]
+fn nothing_is_found_before_a_decide(rt: HostRuntime) -> Result<(), Fail> {
+    let mut core = Core::new(line_of_two(rt.alloc())?);
+    assert!(rt; core.findings(0).is_empty());
+    assert!(rt; agree(&mut core, DECIDED) && core.findings(0).len() == 3);
+    Ok(())
+}

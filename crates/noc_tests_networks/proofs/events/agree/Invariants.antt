@@ -1,6 +1,0 @@
-use Rattle.std.proofs.Common.{◌≡◌}
-use Rattle.noc_tests_networks.proofs.events.agree.Given as goal
-
--- the network stays
-abbrev pub invariant-loop-event : goal.invariant-loop-event
-invariant-loop-event l = l.core.net ≡ l.initial.core.net
