@@ -29,11 +29,15 @@ channel_name g between port vc =
 abbrev pub channel_text : Grid → ℕ → List ℕ → ℕ → List ℕ
 channel_text g width between index = channel_name g between (index / width) (index % width)
 
+-- the label of each verdict is its name between two commas
+abbrev pub AreNames : List Label → Type 0
+AreNames labels = (verdict : Verdict)
+    → option_map label_text (slice_get labels (column verdict))
+    ≡ Some (comma ++ verdict_name verdict ++ comma)
+
 -- the labels that are the same in many lines on the channels of a relation
 pub record AreLabels (relation : Routes) (labels : Labels) : Type 0 where
   pub inputs : HasTexts (channel_text relation.grid 8 comma) labels.inputs
   pub outputs : HasTexts (channel_text relation.grid 8 (codes ".")) labels.outputs
   pub channels : HasTexts (channel_text relation.grid relation.vcs (codes ".")) labels.channels
-  pub verdicts : (verdict : Verdict)
-      → option_map label_text (slice_get labels.verdicts (column verdict))
-      ≡ Some (comma ++ verdict_name verdict ++ comma)
+  pub verdicts : AreNames labels.verdicts

@@ -6,7 +6,7 @@ ghost use Rattle.noc_files.specs.Channels.{AreInputs};
 ghost use Rattle.noc_files.specs.Trace.{kept_line, over_traced, told_text};
 ghost use Rattle.noc_files.specs.Labels.{AreLabels, label_text};
 
-use crate::inputs::Inputs;
+use crate::inputs::InputPorts;
 use crate::label::{LABEL, Label};
 use crate::labels::{LONGEST_VERDICT, Labels};
 use crate::listing::{Lines, Listing};
@@ -18,6 +18,7 @@ use crate::told::{is_same, is_wanted, tells_nothing, told_at};
 use crate::trace::Trace;
 use noc_bytes::{Sink, WriteFault};
 use noc_net::Network;
+use noc_topo::Shape;
 use noc_view::Finding;
 
 // The most bytes of what is told of an input channel.
@@ -68,6 +69,18 @@ impl<'a> Lines for CycleLines<'a> {
     ghost said = { λ s router port vc.
         kept_line s.network.now s.trace.now.0 s.trace.now.1 s.cycle router port vc };
 
+    fn shape(&self) -> &Shape {
+        self.network.relation().shape()
+    }
+
+    fn listed(&self) -> usize {
+        self.network.relation().shape().ports()
+    }
+
+    fn vcs(&self) -> usize {
+        self.network.relation().vcs()
+    }
+
     fn is_silent(&self, router: usize) -> bool {
         let trace = self.trace;
         let packet = trace.traced.packet;
@@ -99,7 +112,7 @@ impl<'a> Lines for CycleLines<'a> {
 // Puts the lines of a trace in the last cycle of a network, and says how many bytes they have.
 pub(crate) fn put_cycle<W: Sink>(
     network: &Network,
-    inputs: &Inputs,
+    inputs: &InputPorts,
     labels: &Labels,
     trace: &Trace,
     page: &mut Page,
@@ -125,14 +138,9 @@ pub(crate) fn put_cycle<W: Sink>(
         cycle,
         number: Label::of(page.text()),
     };
-    let relation = network.relation();
-    let shape = relation.shape();
     let listing = Listing {
         lines: &lines,
-        shape,
         inputs,
-        listed: shape.ports(),
-        vcs: relation.vcs(),
         router: trace.traced.router,
     };
     put_pages(&listing, page, sink)

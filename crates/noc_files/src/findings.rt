@@ -5,13 +5,13 @@ ghost use Rattle.noc_files.specs.Prelude.{Run, nodes, ports, Wrote};
 ghost use Rattle.noc_files.specs.Findings.{finding_header, findings_text, found_line};
 ghost use Rattle.noc_files.specs.Labels.{AreLabels};
 
-use crate::inputs::inputs_of;
 use crate::labels::Labels;
-use crate::listing::{Lines, Listing, write_lines};
+use crate::listing::{Lines, write_lines};
 use crate::page::Page;
 use noc_bytes::{Sink, WriteFault};
 use noc_net::Network;
 use noc_route::Relation;
+use noc_topo::Shape;
 use noc_view::Finding;
 
 // What a router found of its input channels, by their indices.
@@ -31,6 +31,18 @@ impl<'a> Lines for Found<'a> {
     ghost vcs = { λ s. s.relation.now.vcs };
 
     ghost said = { λ s router. found_line s.relation.now s.findings.now };
+
+    fn shape(&self) -> &Shape {
+        self.relation.shape()
+    }
+
+    fn listed(&self) -> usize {
+        self.relation.shape().ports()
+    }
+
+    fn vcs(&self) -> usize {
+        self.relation.vcs()
+    }
 
     fn add_line(&self, _: usize, port: usize, vc: usize, page: &mut Page) {
         let relation = self.relation;
@@ -58,22 +70,12 @@ pub fn write_findings<W: Sink>(
         (findings_text network.now router) result }
 {
     let relation = network.relation();
-    let shape = relation.shape();
     let found = Found {
         relation,
         findings: network.findings(router),
         labels: Labels::of(relation),
     };
-    let inputs = inputs_of(shape);
-    let listing = Listing {
-        lines: &found,
-        shape,
-        inputs: &inputs,
-        listed: shape.ports(),
-        vcs: relation.vcs(),
-        router: Some(router),
-    };
-    write_lines("port,vc,verdict,packet,out\n", &listing, sink)
+    write_lines("port,vc,verdict,packet,out\n", &found, Some(router), sink)
 }
 
 /// Before its first cycle a network has found nothing, and the report of each

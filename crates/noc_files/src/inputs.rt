@@ -10,10 +10,10 @@ use noc_topo::Shape;
 
 /// For each router and each of its ports, `MAX_PORTS` entries to a router,
 /// whether it is an input port.
-pub(crate) type Inputs = [bool; MAX_NODES * MAX_PORTS];
+pub(crate) type InputPorts = [bool; MAX_NODES * MAX_PORTS];
 
 /// The input ports of a shape.
-pub(crate) fn inputs_of(shape: &Shape) -> Inputs
+pub(crate) fn inputs_of(shape: &Shape) -> InputPorts
     ensures { AreInputs shape.now result }
 {
     let mut inputs = [false; MAX_NODES * MAX_PORTS];

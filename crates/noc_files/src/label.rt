@@ -1,6 +1,7 @@
 //! Short texts of a fixed size, each of which goes onto a page as one copy.
 
 ghost use Rattle.std.specs.Prelude.{◌≤◌};
+ghost use Rattle.noc_files.specs.declared.label.TheConstants.{LABEL};
 
 /// The most bytes of a label.
 pub(crate) const LABEL: usize = 32;
@@ -16,7 +17,7 @@ pub(crate) const EMPTY: Label = Label {
 pub(crate) struct Label {
     pub(crate) bytes: [u8; LABEL],
     pub(crate) length: usize,
-    ghost short: { length ≤ 32 },
+    ghost short: { length ≤ LABEL },
 }
 
 impl Label {

@@ -1,12 +1,10 @@
 //! The texts that are the same in many lines on the channels of a network, each made once.
 
-ghost use Rattle.std.specs.Prelude.{◌≡◌, ◌+◌, ◌<◌, ◌≤◌, ◌++◌, [], ◌∷◌, Some, length, option_map, slice_get};
+ghost use Rattle.std.specs.Prelude.{◌≡◌, ◌+◌, ◌<◌, ◌≤◌, ◌++◌, [], ◌∷◌, length};
 ghost use Rattle.noc_files.specs.Prelude.{ports, comma};
 ghost use Rattle.noc_view.specs.Names.{verdict_name};
-ghost use Rattle.noc_view.specs.Verdict.{column};
-ghost use Rattle.noc_view.specs.declared.verdict.Verdict.{Verdict as VerdictValue};
 ghost use Rattle.noc_files.specs.Findings.{out_name, verdict_text};
-ghost use Rattle.noc_files.specs.Labels.{AreLabels, HasTexts, channel_name, channel_text, label_text};
+ghost use Rattle.noc_files.specs.Labels.{AreLabels, AreNames, HasTexts, channel_name, channel_text, label_text};
 
 use crate::label::{EMPTY, LABEL, Label};
 use crate::page::{COLUMN, PAGE, Page};
@@ -65,15 +63,15 @@ impl Labels {
         // (the count says that the index is within the table)
         prove!(port < relation.shape().ports());
         page.add_label(&self.inputs[port * MAX_CHANNELS + vc]);
-        page.add_label(self.verdict(relation, finding.verdict));
+        page.add_label(self.verdict(finding.verdict));
         page.add_or(finding.packet.map(u64::from), "-");
         page.add_byte(b',');
     }
 
     // The label of a verdict, between two commas.
     #[inline]
-    fn verdict(&self, relation: &Relation, verdict: Verdict) -> &Label
-        requires labels { AreLabels relation.now self.now }
+    fn verdict(&self, verdict: Verdict) -> &Label
+        requires { AreNames self.now.verdicts }
         ensures { label_text result.now ≡ comma ++ verdict_name verdict ++ comma }
     {
         &self.verdicts[verdict as usize]
@@ -124,9 +122,7 @@ fn add_channel(shape: &Shape, port: usize, between: u8, vc: usize, page: &mut Pa
 
 // The labels of all verdicts, each between two commas.
 fn verdict_labels(page: &mut Page) -> [Label; VERDICTS]
-    ensures { (verdict : VerdictValue)
-        → option_map label_text (slice_get result (column verdict))
-        ≡ Some (comma ++ verdict_name verdict ++ comma) }
+    ensures { AreNames result }
 {
     let mut labels = [EMPTY; VERDICTS];
     for index in 0..VERDICTS {

@@ -4,9 +4,8 @@ ghost use Rattle.std.specs.Prelude.{◌≡◌, ◌+◌, ◌<◌, ◌≤◌, ◌+
 ghost use Rattle.std.proofs.Props.{props};
 ghost use Rattle.noc_files.specs.Prelude.{Grid, nodes, ports, Wrote};
 ghost use Rattle.noc_files.specs.Channels.{AreInputs, is_input, lines_listed, lines_of_port, lines_of_router, page_router, router_pages};
-ghost use Rattle.noc_packet.specs.declared.limits.TheConstants.{MAX_CHANNELS as CHANNELS, MAX_PORTS as PORTS};
 
-use crate::inputs::Inputs;
+use crate::inputs::{InputPorts, inputs_of};
 use crate::page::{PAGE, Page};
 use crate::pages::{Pages, write_pages};
 use noc_bytes::{Sink, WriteFault};
@@ -32,6 +31,21 @@ pub(crate) trait Lines {
     // The lines on the channel of a router, a port and a VC.
     ghost said: { Self → ℕ → ℕ → ℕ → List ℕ };
 
+    // The shape.
+    fn shape(&self) -> &Shape
+        ensures { result.now ≡ grid self.now };
+
+    // How many ports of each router there are lines on.
+    fn listed(&self) -> usize
+        ensures value { result ≡ listed self.now }
+        ensures within { result ≤ ports (grid self.now) }
+        ensures few { result ≤ MAX_PORTS };
+
+    // How many channels of each port there are lines on.
+    fn vcs(&self) -> usize
+        ensures value { result ≡ vcs self.now }
+        ensures few { result ≤ MAX_CHANNELS };
+
     // Whether a look at a router shows that there are no lines on any of its channels.
     fn is_silent(&self, router: usize) -> bool
         requires { router < nodes (grid self.now) }
@@ -51,23 +65,13 @@ pub(crate) trait Lines {
         ensures short { length page.new ≤ length page.old + LONGEST_LINE };
 }
 
-// The lines on one router or on all, a page for each router. They are on the first `listed` ports
-// of a router, and on the first `vcs` channels of each.
+// The lines on one router or on all, a page for each router.
 #[derive(Drop)]
 pub(crate) struct Listing<'a, L: Lines> {
     pub(crate) lines: &'a L,
-    pub(crate) shape: &'a Shape,
-    pub(crate) inputs: &'a Inputs,
-    pub(crate) listed: usize,
-    pub(crate) vcs: usize,
+    pub(crate) inputs: &'a InputPorts,
     pub(crate) router: Option<usize>,
-    ghost over: { shape.now ≡ L.grid lines.now },
     ghost known: { AreInputs (L.grid lines.now) inputs.now },
-    ghost first: { listed ≡ L.listed lines.now },
-    ghost within: { listed ≤ ports (L.grid lines.now) },
-    ghost few: { listed ≤ PORTS },
-    ghost numbers: { vcs ≡ L.vcs lines.now },
-    ghost small: { vcs ≤ CHANNELS },
     ghost there: { IfSome router (λ r. r < nodes (L.grid lines.now)) } by { Prim.hlevel props },
 }
 
@@ -75,19 +79,21 @@ impl<'a, L: Lines> Listing<'a, L> {
     // Adds the lines on a port, if it is local or has a link.
     fn add_port(&self, router: usize, port: usize, page: &mut Page)
         requires router { router < nodes (L.grid self.now.lines.now) }
-        requires port { port < self.now.listed }
+        requires port { port < L.listed self.now.lines.now }
         requires room { length page.old + LONGEST_PORT ≤ PAGE }
         ensures said { page.new ≡ page.old
-            ++ lines_of_port (L.grid self.now.lines.now) self.now.vcs router
+            ++ lines_of_port (L.grid self.now.lines.now) (L.vcs self.now.lines.now) router
             (L.said self.now.lines.now router) port }
         ensures short { length page.new ≤ length page.old + LONGEST_PORT }
     {
+        let shape = self.lines.shape();
+        let listed = self.lines.listed();
         // (the counts say that the index is within the table)
-        prove!(router < self.shape.nodes() && port < self.shape.ports());
+        prove!(router < shape.nodes() && port < listed && listed <= shape.ports());
         if !self.inputs[router * MAX_PORTS + port] {
             return;
         }
-        for vc in 0..self.vcs {
+        for vc in 0..self.lines.vcs() {
             self.lines.add_line(router, port, vc, page);
         }
     }
@@ -96,13 +102,14 @@ impl<'a, L: Lines> Listing<'a, L> {
 impl<'a, L: Lines> Pages for Listing<'a, L> {
     ghost pages = { λ s. router_pages (L.grid s.lines.now) s.router };
 
-    ghost text = { λ s number. lines_of_router (L.grid s.lines.now) s.listed s.vcs
-        (page_router s.router number) (L.said s.lines.now (page_router s.router number)) };
+    ghost text = { λ s number. lines_of_router (L.grid s.lines.now) (L.listed s.lines.now)
+        (L.vcs s.lines.now) (page_router s.router number)
+        (L.said s.lines.now (page_router s.router number)) };
 
     fn pages(&self) -> usize {
         match self.router {
             Some(_) => 1,
-            None => self.shape.nodes(),
+            None => self.lines.shape().nodes(),
         }
     }
 
@@ -112,7 +119,7 @@ impl<'a, L: Lines> Pages for Listing<'a, L> {
         if self.lines.is_silent(router) {
             return;
         }
-        for port in 0..self.listed {
+        for port in 0..self.lines.listed() {
             self.add_port(router, port, page);
         }
     }
@@ -121,13 +128,20 @@ impl<'a, L: Lines> Pages for Listing<'a, L> {
 // Writes a header, and below it the lines on one router or on all.
 pub(crate) fn write_lines<L: Lines, W: Sink>(
     header: &str,
-    listing: &Listing<L>,
+    lines: &L,
+    router: Option<usize>,
     sink: &mut W,
 ) -> Result<(), WriteFault>
+    requires { IfSome router (λ r. r < nodes (L.grid lines.now)) }
     ensures { Wrote W.contents W.has_failed sink.old sink.new
-        (header.now ++ lines_listed
-        (L.grid listing.now.lines.now) listing.now.listed listing.now.vcs listing.now.router
-        (L.said listing.now.lines.now)) result }
+        (header.now ++ lines_listed (L.grid lines.now) (L.listed lines.now) (L.vcs lines.now)
+        router (L.said lines.now)) result }
 {
-    write_pages(header, listing, sink)
+    let inputs = inputs_of(lines.shape());
+    let listing = Listing {
+        lines,
+        inputs: &inputs,
+        router,
+    };
+    write_pages(header, &listing, sink)
 }

@@ -1,6 +1,6 @@
 //! The lines on a router, which are put together before they go into a sink.
 
-ghost use Rattle.std.specs.Prelude.{◌≡◌, ◌+◌, ◌<◌, ◌≤◌, ◌++◌, [], ◌∷◌, ℕ, List, decimal, length, take};
+ghost use Rattle.std.specs.Prelude.{◌≡◌, ◌+◌, ◌<◌, ◌≤◌, ◌++◌, [], ◌∷◌, decimal, length};
 ghost use Rattle.noc_files.specs.Labels.{label_text};
 ghost use Rattle.noc_files.specs.Prelude.{comma, number_or};
 
@@ -25,11 +25,14 @@ pub(crate) struct Page {
 
 // A page is seen as its bytes.
 impl Model for Page {
+    ghost use Rattle.std.specs.Prelude.{◌≤◌, ℕ, List, take};
+    ghost use Rattle.noc_files.specs.declared.page.TheConstants.{PAGE};
+
     ghost Value = { List ℕ };
 
     ghost view = { λ s. take s.length s.bytes };
 
-    ghost invariant = { λ s. s.length ≤ 114688 };
+    ghost invariant = { λ s. s.length ≤ PAGE };
 }
 
 impl Page {

@@ -2,13 +2,13 @@
 
 ghost use Rattle.std.specs.Prelude.{◌≡◌, ◌↔◌, ◌≤◌, ℕ, List, Ok, Err};
 ghost use Rattle.noc_files.specs.Prelude.{fields_of, Grid, IsGrid, local_port, InputFault as Fault, Gives, Wrote};
+ghost use Rattle.noc_packet.specs.declared.limits.TheConstants.{MAX_CHANNELS as CHANNELS};
 ghost use Rattle.noc_route.specs.Ranks.{Ranking};
 ghost use Rattle.noc_rank.specs.Ranking.{IsRanking};
 ghost use Rattle.noc_rank.specs.declared.rows.RankRow.{RankRow as RowValue};
 ghost use Rattle.noc_files.specs.Ranks.{rank_line, rank_of, rank_row, rank_row_of, rank_rows, ranks_of, ranks_text, IsRankFile, IsRankFileFault, ListsRanks};
 
-use crate::inputs::inputs_of;
-use crate::listing::{Lines, Listing, write_lines};
+use crate::listing::{Lines, write_lines};
 use crate::page::Page;
 use crate::ports::known_name;
 use crate::rows::{number, number_in, port_in};
@@ -98,12 +98,15 @@ pub fn written_ranks_are_read_back()
         → (ranks_of k.grid (ranks_text k) ≡ Ok (rank_rows k)) × ListsRanks k (rank_rows k) }
 {}
 
-// Some ranks with their shape.
+// Some ranks with their shape and how many channels a link has.
 #[derive(Drop)]
 struct Listed<'a> {
     ranks: &'a Ranks,
     shape: &'a Shape,
+    vcs: usize,
     ghost same: { ranks.now.grid ≡ shape.now },
+    ghost numbers: { ranks.now.vcs ≡ vcs },
+    ghost few: { vcs ≤ CHANNELS },
 }
 
 impl<'a> Lines for Listed<'a> {
@@ -115,6 +118,18 @@ impl<'a> Lines for Listed<'a> {
 
     ghost said = { λ s router port vc. rank_line s.ranks.now.grid
         (rank_row s.ranks.now router port vc) };
+
+    fn shape(&self) -> &Shape {
+        self.shape
+    }
+
+    fn listed(&self) -> usize {
+        self.shape.ports() - 1
+    }
+
+    fn vcs(&self) -> usize {
+        self.vcs
+    }
 
     fn add_line(&self, router: usize, port: usize, vc: usize, page: &mut Page) {
         page.add_column(router as u64);
@@ -142,15 +157,6 @@ pub fn write_ranks<W: Sink>(
     requires few { vcs ≤ MAX_CHANNELS }
     ensures { Wrote W.contents W.has_failed sink.old sink.new (ranks_text ranks.now) result }
 {
-    let lines = Listed { ranks, shape };
-    let inputs = inputs_of(shape);
-    let listing = Listing {
-        lines: &lines,
-        shape,
-        inputs: &inputs,
-        listed: shape.ports() - 1,
-        vcs,
-        router: None,
-    };
-    write_lines("router,port,vc,rank\n", &listing, sink)
+    let lines = Listed { ranks, shape, vcs };
+    write_lines("router,port,vc,rank\n", &lines, None, sink)
 }

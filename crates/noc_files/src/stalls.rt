@@ -4,14 +4,14 @@ ghost use Rattle.std.specs.Prelude.{◌≡◌, ◌+◌, ◌≤◌, ◌++◌, ℕ
 ghost use Rattle.noc_files.specs.Prelude.{flat_map, ports, Run as RunValue, Wrote};
 ghost use Rattle.noc_files.specs.Stalls.{channel_counts, channel_line, count_text, stall_header, stalls_text};
 
-use crate::inputs::inputs_of;
-use crate::listing::{Lines, Listing, write_lines};
+use crate::listing::{Lines, write_lines};
 use crate::page::{COLUMN, PAGE, Page};
 use crate::ports::known_name;
 use crate::summary::LONGEST_NAME;
 use arrayvec::ArrayString;
 use noc_bytes::{Sink, WriteFault};
 use noc_net::Network;
+use noc_topo::Shape;
 use noc_view::{VERDICTS, Verdict};
 
 // The most bytes of the header: of its first columns, and of each verdict's name behind a comma.
@@ -61,6 +61,18 @@ impl<'a> Lines for StallLines<'a> {
 
     ghost said = { λ s. channel_line s.network.now };
 
+    fn shape(&self) -> &Shape {
+        self.network.relation().shape()
+    }
+
+    fn listed(&self) -> usize {
+        self.network.relation().shape().ports()
+    }
+
+    fn vcs(&self) -> usize {
+        self.network.relation().vcs()
+    }
+
     #[tactic(auto, unfolding(crate::specs::Stalls::channel_line, crate::specs::Stalls::channel_counts))]
     fn add_line(&self, router: usize, port: usize, vc: usize, page: &mut Page) {
         page.add_column(router as u64);
@@ -78,19 +90,7 @@ impl<'a> Lines for StallLines<'a> {
 pub fn write_stalls<W: Sink>(network: &Network, sink: &mut W) -> Result<(), WriteFault>
     ensures { Wrote W.contents W.has_failed sink.old sink.new (stalls_text network.now) result }
 {
-    let relation = network.relation();
-    let shape = relation.shape();
-    let lines = StallLines { network };
-    let inputs = inputs_of(shape);
-    let listing = Listing {
-        lines: &lines,
-        shape,
-        inputs: &inputs,
-        listed: shape.ports(),
-        vcs: relation.vcs(),
-        router: None,
-    };
-    write_lines(header().as_str(), &listing, sink)
+    write_lines(header().as_str(), &StallLines { network }, None, sink)
 }
 
 /// The ten counts of a line of the stall report add up to the cycles of the run.

@@ -1,9 +1,6 @@
-use Rattle.std.proofs.Common.{◌≡◌, ◌∙◌, ◌-◌, ℕ, List, Option, ap, ap₂, flat_map, subst}
+use Rattle.std.proofs.Common.{◌≡◌, ◌∙◌, ◌-◌, ℕ, List, Option, ap, subst}
 use Rattle.noc_topo.specs.Shape.{ports}
-use Rattle.noc_topo.specs.Lists.{below}
-use Rattle.noc_route.specs.Routes.{Routes}
 use Rattle.noc_view.specs.declared.finding.Finding.{Finding}
-use Rattle.noc_files.specs.Channels.{lines_of_router, page_router, router_pages}
 use Rattle.noc_files.specs.Trace.{kept_line, over_traced}
 use Rattle.noc_files.specs.Writing.{Puts}
 use Rattle.noc_files.specs.declared.trace.Traced.{Traced}
@@ -17,11 +14,6 @@ returns-clause-puts g c =
     let relation = run.net.relation in
     let line = kept_line run c.args.trace.now.0 c.args.trace.now.1 (c.count-cycle.result - 1) in
     let router : c.trace.inside.traced.router ≡ c.args.trace.now.0.router = ap (λ (t : Traced × List (List Finding)). t.0.router) c.trace.view_is in
-    let ports_are : c.ports.result ≡ ports relation.grid = c.ports.ensures.value ∙ ap ports (c.shape-shape.ensures.value ∙ ap (λ (r : Routes). r.grid) c.relation-relation.ensures) in
-    let vcs_are : c.vcs.result ≡ relation.vcs = c.vcs.ensures.value ∙ ap (λ (r : Routes). r.vcs) c.relation-relation.ensures in
-    let pages = below (router_pages relation.grid c.trace.inside.traced.router) in
-    let router_of = page_router c.trace.inside.traced.router in
-    let text = ap₂ (λ (p v : ℕ). flat_map (λ n. lines_of_router relation.grid p v (router_of n) (line (router_of n))) pages) ports_are vcs_are
-    ∙ listing_is relation.grid (ports relation.grid) relation.vcs c.trace.inside.traced.router line ∙ ap (λ (r : Option ℕ). over_traced relation r line) router
+    let text = listing_is relation.grid (ports relation.grid) relation.vcs c.trace.inside.traced.router line ∙ ap (λ (r : Option ℕ). over_traced relation r line) router
     ∙ ap (λ (k : ℕ). over_traced relation c.args.trace.now.0.router (kept_line run c.args.trace.now.0 c.args.trace.now.1 (k - 1))) c.count-cycle.ensures.value in
     subst (λ (t : List ℕ). Puts w.contents w.has_failed c.args.sink.now c.put_pages.new.sink t c.put_pages.result) text c.put_pages.ensures.puts

@@ -3,4 +3,4 @@ use Rattle.noc_files.proofs.findings.write_findings.Goals as goal
 
 pub returns : goal.returns
 unfolding finding_header
-returns g c = rw (c.ports.ensures.value, c.shape-shape.ensures.value, c.vcs.ensures.value, c.relation-relation.ensures, c.findings.ensures) at c.write_lines.ensures
+returns g c = rw (c.relation-relation.ensures, c.findings.ensures) at c.write_lines.ensures

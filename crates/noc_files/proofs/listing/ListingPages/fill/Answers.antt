@@ -21,7 +21,7 @@ returns-then-is_silent g c =
     let s = c.args.self.now in
     let lines = s.lines.now in
     let router = c.unwrap_or-router.result in
-    rw (← c.unwrap_or-router.ensures) (c.clear.ensures ∙ sym (no_lines (l.grid lines) s.listed s.vcs router (l.said lines router) (c.is_silent.ensures c.if-is_silent.true)))
+    rw (← c.unwrap_or-router.ensures) (c.clear.ensures ∙ sym (no_lines (l.grid lines) (l.listed lines) (l.vcs lines) router (l.said lines router) (c.is_silent.ensures c.if-is_silent.true)))
 
 pub loop-port-init : goal.loop-port-init
 loop-port-init g c =
@@ -29,7 +29,7 @@ loop-port-init g c =
     let s = c.args.self.now in
     let lines = s.lines.now in
     let router = c.unwrap_or-router.result in
-    record { said = c.clear.ensures ∙ added_none (lines_of_port (l.grid lines) s.vcs router (l.said lines router)) []; short = omega (arith, ap length c.clear.ensures) }
+    record { said = c.clear.ensures ∙ added_none (lines_of_port (l.grid lines) (l.vcs lines) router (l.said lines router)) []; short = omega (arith, ap length c.clear.ensures) }
 
 pub loop-port-preserved : goal.loop-port-preserved
 loop-port-preserved g c =
@@ -37,7 +37,7 @@ loop-port-preserved g c =
     let s = c.args.self.now in
     let lines = s.lines.now in
     let router = c.unwrap_or-router.result in
-    let said = lines_of_port (l.grid lines) s.vcs router (l.said lines router) in
+    let said = lines_of_port (l.grid lines) (l.vcs lines) router (l.said lines router) in
     record {
       said = added_more said [] c.loop-port.port c.loop-port.page c.add_port.new.page c.loop-port.invariant.said c.add_port.ensures.said;
       short = omega (arith, c.add_port.ensures.short, c.loop-port.invariant.short);

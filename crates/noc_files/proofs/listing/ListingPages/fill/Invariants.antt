@@ -6,6 +6,6 @@ use Rattle.noc_files.proofs.listing.ListingPages.fill.Given as goal
 
 abbrev pub invariant-loop-port : goal.invariant-loop-port
 invariant-loop-port g l = record {
-  said : l.page ≡ flat_map (lines_of_port (g.L.Lines.grid l.self.lines.now) l.self.vcs l.router (g.L.Lines.said l.self.lines.now l.router)) (below l.port);
+  said : l.page ≡ flat_map (lines_of_port (g.L.Lines.grid l.self.lines.now) (g.L.Lines.vcs l.self.lines.now) l.router (g.L.Lines.said l.self.lines.now l.router)) (below l.port);
   short : length l.page ≤ LONGEST_PORT * l.port;
 }
