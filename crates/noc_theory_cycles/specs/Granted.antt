@@ -1,5 +1,6 @@
 -- Which output channel an input channel of a router of a block is granted.
-use Rattle.std.specs.Prelude.{◌≡◌, ℕ, ◌<◌, Some}
+use Rattle.std.specs.Prelude.{◌≡◌, ℕ, ◌<◌, true, Some}
+use Rattle.noc_packet.specs.Set.{has_bit}
 use Rattle.noc_sets.specs.Cycle.{Still, granted_in}
 use Rattle.noc_sets.specs.Grants.{Allocation}
 use Rattle.noc_cycles.specs.Deciding.{undecided}
@@ -16,3 +17,10 @@ pub record IsGranted (pattern : Pattern) (s : Still) (h : Held) (chosen : Alloca
   pub below : owned_by pattern.table.ports.links.vcs h k < channels_count pattern
   pub is_granted : granted_in (undecided s) chosen (owned_by pattern.table.ports.links.vcs h k)
       ≡ Some k
+
+-- the input channels of a set are those that are granted an output channel
+pub record AreGranted (pattern : Pattern) (s : Still) (h : Held) (chosen : Allocation) (granted : ℕ)
+    : Type 0 where
+  pub each : (k : ℕ) → has_bit granted k ≡ true → IsGranted pattern s h chosen k
+  pub all : (o k : ℕ) → granted_in (undecided s) chosen o ≡ Some k
+      → (has_bit granted k ≡ true) × (owned_by pattern.table.ports.links.vcs h k ≡ o)
