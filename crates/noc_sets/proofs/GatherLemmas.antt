@@ -1,6 +1,6 @@
 -- What is gathered at fixed distances is what comes over the links.
-use Rattle.std.proofs.Common.{◌≡◌, ℕ, ◌+◌, ◌-◌, ◌*◌, ◌/◌, ◌%◌, ◌^◌, ◌<◌, ◌≤◌, Bool, true, false, Some, None, refl, ap, ap₂, sym, ◌∙◌, arith, inl, inr, bit_and, mul-le-mul_right, List, bit_or, Option}
-use Rattle.std.specs.Prelude.{◌⊎◌, ◌&&◌, ◌||◌, nat_eq, nat_lt, not, if◌then◌else◌, slice_index}
+use Rattle.std.proofs.Common.{◌≡◌, ℕ, ◌+◌, ◌-◌, ◌*◌, ◌/◌, ◌%◌, ◌^◌, ◌<◌, ◌≤◌, Bool, true, false, Some, None, refl, ap, ap₂, sym, ◌∙◌, arith, inl, inr, bit_and, mul-le-mul_right, Option}
+use Rattle.std.specs.Prelude.{◌⊎◌, ◌&&◌, ◌||◌, nat_eq, nat_lt, not, if◌then◌else◌}
 use Rattle.std.proofs.lemmas.Bool.{cases_eq, cases_lt, eq-eqb, false≢true, le-ltb, lt-ltb, ne_eqb}
 use Rattle.std.proofs.lemmas.Nat.{div-add-mod', mod_below, div-mul-add}
 use Rattle.noc_topo.specs.Shape.{Grid, IsGrid, is_plus, local_port, nodes, opposite, neighbour}
@@ -10,9 +10,9 @@ use Rattle.noc_packet.proofs.SetLemmas.{both_members, either_members, has_bit-ze
 use Rattle.noc_sets.specs.Sets.{up_by, down_by}
 use Rattle.noc_sets.proofs.MemberLemmas.{down_members, up_members, up_none, ones-members}
 use Rattle.noc_sets.specs.Unions.{some_below}
-use Rattle.noc_sets.proofs.UnionLemmas.{union-same, some-none, some-one, union-members}
-use Rattle.noc_sets.specs.Gather.{by_port, comes_over, is_over, from_row, gathered, gathered_row, place_round, place_straight, span, stride, goes_round, goes_straight, mask_where, round, shifted, straight}
-use Rattle.noc_sets.proofs.DistanceLemmas.{neighbour-by, round-known, span-fits, straight-known, stride-fits}
+use Rattle.noc_sets.proofs.UnionLemmas.{some-none, some-one, union-members}
+use Rattle.noc_sets.specs.Gather.{by_port, comes_over, is_over, gathered, goes_round, goes_straight, mask_where, round, shifted, straight}
+use Rattle.noc_sets.proofs.DistanceLemmas.{neighbour-by}
 
 and-false : (b : Bool) → (b && false) ≡ false
 and-false true = refl
@@ -152,48 +152,6 @@ gathered-links g sound vcs some words r known i e = link (cases_lt (i / vcs) (lo
         let over : comes_over g vcs words r i ≡ false
         = ap (is_over vcs words (i % vcs)) (neighbour-by g sound r (i / vcs) known ∙ ap (λ b. if b then (if goes_straight g r (i / vcs) then Some (straight g r (i / vcs), opposite (i / vcs)) else if goes_round g r (i / vcs) then Some (round g r (i / vcs), opposite (i / vcs)) else None) else None) (le-ltb (i / vcs) (local_port g) past)) in
         absurd (false≢true (sym (gathered-is g sound vcs some words r known i ∙ over) ∙ e))
-
--- ---- from a row of words
-and-zero : (a : ℕ) → bit_and a 0 ≡ 0
-and-zero a = same_set (bit_and a 0) 0 (λ k. both_members a 0 k ∙ ap (λ b. has_bit a k && b) (has_bit-zero k) ∙ and-false (has_bit a k) ∙ sym (has_bit-zero k))
-
--- where the word of each router stands in its place, behind some room
-pub row-gathered : (g : Grid) → IsGrid g → (vcs room : ℕ) (words : ℕ → ℕ) (row : List ℕ) → ((s : ℕ) → s < nodes g → slice_index row (room + s) ≡ words s) → (r : ℕ) → r < nodes g
-    → gathered_row g vcs room row r ≡ gathered g vcs words r
-row-gathered g sound vcs room words row stands r known = union-same (local_port g) (from_row g vcs room row r) (by_port g vcs words r) (λ q l. ap₂ bit_or (on q l) (back q l))
-  where
-    -- where nothing goes, nothing is taken
-    masked : (q a b : ℕ) (go : Bool) → (go ≡ true → a ≡ b) → bit_and (shifted vcs q a) (mask_where vcs q go) ≡ bit_and (shifted vcs q b) (mask_where vcs q go)
-    masked q a b true same = ap (λ n. bit_and (shifted vcs q n) (mask_where vcs q true)) (same refl)
-    masked q a b false same = and-zero (shifted vcs q a) ∙ sym (and-zero (shifted vcs q b))
-
-    on : (q : ℕ) → q < local_port g → bit_and (shifted vcs q (slice_index row (place_straight g room r q))) (mask_where vcs q (goes_straight g r q)) ≡ bit_and (shifted vcs q (words (straight g r q))) (mask_where vcs q (goes_straight g r q))
-    on q l = masked q _ _ (goes_straight g r q) (λ e. ap (slice_index row) (place (is_plus q) refl e) ∙ stands (straight g r q) (straight-known g sound r q known l e))
-      where
-        place : (up : Bool) → is_plus q ≡ up → goes_straight g r q ≡ true → place_straight g room r q ≡ room + straight g r q
-        place true up e =
-            ap (λ b. if b then room + r + stride g (q / 2) else room + r - stride g (q / 2)) up
-            ∙ (let z : room + r + stride g (q / 2) ≡ room + (r + stride g (q / 2)) = omega arith in z)
-            ∙ sym (ap (λ b. room + (if b then r + stride g (q / 2) else r - stride g (q / 2))) up)
-        place false down e =
-            let fits = stride-fits g sound r q known l down e in
-            ap (λ b. if b then room + r + stride g (q / 2) else room + r - stride g (q / 2)) down
-            ∙ (let z : room + r - stride g (q / 2) ≡ room + (r - stride g (q / 2)) = omega (arith, fits) in z)
-            ∙ sym (ap (λ b. room + (if b then r + stride g (q / 2) else r - stride g (q / 2))) down)
-
-    back : (q : ℕ) → q < local_port g → bit_and (shifted vcs q (slice_index row (place_round g room r q))) (mask_where vcs q (goes_round g r q)) ≡ bit_and (shifted vcs q (words (round g r q))) (mask_where vcs q (goes_round g r q))
-    back q l = masked q _ _ (goes_round g r q) (λ e. ap (slice_index row) (place (is_plus q) refl e) ∙ stands (round g r q) (round-known g sound r q known l e))
-      where
-        place : (up : Bool) → is_plus q ≡ up → goes_round g r q ≡ true → place_round g room r q ≡ room + round g r q
-        place true up e =
-            let fits = span-fits g sound r q known l up e in
-            ap (λ b. if b then room + r - span g (q / 2) else room + r + span g (q / 2)) up
-            ∙ (let z : room + r - span g (q / 2) ≡ room + (r - span g (q / 2)) = omega (arith, fits) in z)
-            ∙ sym (ap (λ b. room + (if b then r - span g (q / 2) else r + span g (q / 2))) up)
-        place false down e =
-            ap (λ b. if b then room + r - span g (q / 2) else room + r + span g (q / 2)) down
-            ∙ (let z : room + r + span g (q / 2) ≡ room + (r + span g (q / 2)) = omega arith in z)
-            ∙ sym (ap (λ b. room + (if b then r - span g (q / 2) else r + span g (q / 2))) down)
 
 -- so words that agree on the channels of links are gathered alike
 pub gathered-same : (g : Grid) → IsGrid g → (vcs : ℕ) → 0 < vcs → (words others : ℕ → ℕ)

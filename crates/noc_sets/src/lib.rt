@@ -10,6 +10,6 @@ mod planes;
 
 pub use links::{
     links_are_gathered_at_two_distances, neighbours_are_at_two_distances,
-    only_channels_of_links_are_gathered, words_of_links_are_taken_from_a_row,
+    only_channels_of_links_are_gathered,
 };
 pub use planes::{numbers_of_members_fall, numbers_of_members_rise, sets_of_numbers_are_right};

@@ -1,8 +1,8 @@
 //! What comes over the links, at fixed distances in the numbering of routers.
 
-ghost use Rattle.std.specs.Prelude.{◌≡◌, ℕ, ◌+◌, ◌/◌, ◌<◌, List, slice_index};
+ghost use Rattle.std.specs.Prelude.{◌≡◌, ℕ, ◌/◌, ◌<◌};
 ghost use Rattle.noc_packet.specs.Set.{has_bit};
-ghost use Rattle.noc_sets.specs.Gather.{comes_over, gathered, gathered_row, neighbour_by};
+ghost use Rattle.noc_sets.specs.Gather.{comes_over, gathered, neighbour_by};
 ghost use Rattle.noc_topo.specs.Shape.{Grid, IsGrid, local_port, neighbour, nodes};
 
 /// The neighbour of a router at a port is one stride away, or where a line of a torus closes a span
@@ -25,12 +25,4 @@ pub fn only_channels_of_links_are_gathered()
         → ((s k : ℕ) → s < nodes g → k / vcs < local_port g
         → has_bit (words s) k ≡ has_bit (others s) k)
         → r < nodes g → gathered g vcs words r ≡ gathered g vcs others r }
-{}
-
-/// They are taken from a row of words, in which the neighbours of routers that stand together stand
-/// one stride or one span from them.
-pub fn words_of_links_are_taken_from_a_row()
-    ensures { (g : Grid) (vcs room : ℕ) (words : ℕ → ℕ) (row : List ℕ) (r : ℕ)
-        → IsGrid g → r < nodes g → ((s : ℕ) → s < nodes g → slice_index row (room + s) ≡ words s)
-        → gathered_row g vcs room row r ≡ gathered g vcs words r }
 {}
