@@ -3,7 +3,7 @@ use Rattle.std.specs.Prelude.{◌≡◌, ℕ, ◌+◌, ◌-◌, ◌*◌, ◌<◌
 use Rattle.noc_topo.specs.Lists.{one_if}
 use Rattle.noc_packet.specs.Set.{has_bit}
 use Rattle.noc_view.specs.View.{View, size_of}
-use Rattle.noc_view.specs.declared.sets.VerdictSets.{VerdictSets}
+use Rattle.noc_view.specs.VerdictSets.{VerdictSets}
 use Rattle.noc_sets.specs.Column.{Column}
 use Rattle.noc_sets.specs.Passes.{lane_no_credit, lane_no_flit, lane_no_idle_channel, lane_ready}
 use Rattle.noc_sets.specs.Sets.{less}
@@ -21,7 +21,7 @@ pub record ByVerdict : Type 0 where
   pub lost_input : ℕ
   pub lost_switch : ℕ
 
--- the sets, as a router keeps them
+-- the sets of a cycle, by which each channel has its verdict
 abbrev pub verdict_sets : ByVerdict → VerdictSets
 verdict_sets sets = record {
   routed = sets.routed;

@@ -3,8 +3,7 @@ use Rattle.std.proofs.Common.{◌≡◌, ℕ, zero, suc, ◌+◌, ◌<◌, ◌�
 use Rattle.std.specs.Prelude.{◌⊎◌, if◌then◌else◌}
 use Rattle.noc_topo.specs.Lists.{one_if}
 use Rattle.noc_packet.specs.Set.{has_bit}
-use Rattle.noc_view.specs.VerdictSets.{HasVerdict, sets_with, verdict_by}
-use Rattle.noc_view.specs.declared.sets.VerdictSets.{VerdictSets}
+use Rattle.noc_view.specs.VerdictSets.{HasVerdict, VerdictSets, sets_with, verdict_by}
 use Rattle.noc_view.specs.declared.verdict.Verdict.{Verdict}
 use Rattle.noc_view.specs.declared.verdict.Verdict.TheVariants.{Empty, Routed, Granted, Moved, NoFlit, NoIdleChannel, LostChannel, NoCredit, LostInput, LostSwitch}
 

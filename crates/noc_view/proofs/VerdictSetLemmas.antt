@@ -9,14 +9,12 @@ use Rattle.noc_vc.specs.declared.input.InputState.{InputState}
 use Rattle.noc_vc.specs.declared.input.InputState.TheVariants.{Idle, Waiting, Active}
 use Rattle.noc_alloc.specs.Requests.{is_given}
 use Rattle.noc_view.specs.States.{is_supplied, is_won_from}
-use Rattle.noc_view.specs.ReadySets.{AreReadySetsOf}
+use Rattle.noc_view.specs.ReadySets.{AreReadySetsOf, ReadySets}
 use Rattle.noc_view.specs.Verdict.{Round, Unrouted, Waits, Holds, ask_of, verdict_of}
-use Rattle.noc_view.specs.VerdictSets.{sets_with, verdict_by}
+use Rattle.noc_view.specs.VerdictSets.{VerdictSets, sets_with, verdict_by}
 use Rattle.noc_view.specs.View.{View, asked_for, claim_in, finding_of, size_of, view_buffer, view_claim, view_input, view_output}
-use Rattle.noc_view.specs.declared.sets.ReadySets.{ReadySets}
 use Rattle.noc_view.specs.declared.verdict.Verdict.{Verdict}
 use Rattle.noc_view.specs.declared.verdict.Verdict.TheVariants.{Empty, Routed, Granted, Moved, NoFlit, NoIdleChannel, LostChannel, NoCredit, LostInput, LostSwitch}
-use Rattle.noc_view.specs.declared.sets.VerdictSets.{VerdictSets}
 
 -- the first verdict in whose set a channel is, by whether it is in each
 unfoldable pub first : Bool → Bool → Bool → Bool → Bool → Bool → Bool → Bool → Bool → Verdict

@@ -6,9 +6,19 @@ use Rattle.noc_packet.specs.declared.packet.Flit.{Flit}
 use Rattle.noc_vc.specs.Input.{Input, idle_input, is_active, is_idle_phase, is_empty, is_waiting}
 use Rattle.noc_vc.specs.Output.{Output}
 use Rattle.noc_alloc.specs.Members.{MembersAreBelow}
-use Rattle.noc_view.specs.declared.sets.ReadySets.{ReadySets}
 use Rattle.noc_view.specs.States.{is_supplied}
 use Rattle.noc_view.specs.View.{View, size_of}
+
+-- those that hold something, by the state of their packet: a head that is not routed; a packet that
+-- waits for an output channel; one that owns an output channel and whose next flit is not there;
+-- one whose next flit is there, but whose output channel has no credit; and one whose output
+-- channel has a credit, or leads out
+pub record ReadySets : Type 0 where
+  pub heads : ℕ
+  pub waiting : ℕ
+  pub no_flit : ℕ
+  pub no_credit : ℕ
+  pub ready : ℕ
 
 -- what the input channels can go on with: each that holds something is in one of the sets
 pub record AreReadySets (size : ℕ) (buffers : List (List Flit)) (inputs : List Input)

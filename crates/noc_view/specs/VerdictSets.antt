@@ -2,9 +2,20 @@
 use Rattle.std.specs.Prelude.{◌≡◌, ℕ, ◌+◌, IsTrue, if◌then◌else◌}
 use Rattle.noc_packet.specs.Set.{has_bit}
 use Rattle.noc_topo.specs.Lists.{one_if}
-use Rattle.noc_view.specs.declared.sets.VerdictSets.{VerdictSets}
 use Rattle.noc_view.specs.declared.verdict.Verdict.{Verdict}
 use Rattle.noc_view.specs.declared.verdict.Verdict.TheVariants.{Empty, Routed, Granted, Moved, NoFlit, NoIdleChannel, LostChannel, NoCredit, LostInput, LostSwitch}
+
+-- for each verdict but Empty the input channels that have it
+pub record VerdictSets : Type 0 where
+  pub routed : ℕ
+  pub granted : ℕ
+  pub moved : ℕ
+  pub no_flit : ℕ
+  pub no_idle_channel : ℕ
+  pub lost_channel : ℕ
+  pub no_credit : ℕ
+  pub lost_input : ℕ
+  pub lost_switch : ℕ
 
 -- the first verdict in whose set channel i is
 abbrev pub verdict_by : VerdictSets → ℕ → Verdict

@@ -9,5 +9,5 @@ mod sets;
 mod verdict;
 
 pub use finding::Finding;
-pub use sets::{ReadySets, VerdictSets, a_channel_has_the_verdict_of_its_set};
+pub use sets::a_channel_has_the_verdict_of_its_set;
 pub use verdict::{VERDICTS, Verdict};
