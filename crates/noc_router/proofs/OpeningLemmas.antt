@@ -14,7 +14,7 @@ use Rattle.noc_router.specs.declared.arbiters.Arbiters.{Arbiters}
 use Rattle.noc_router.specs.declared.arrivals.Arrivals.{Arrivals}
 use Rattle.noc_router.specs.declared.channels.Channels.{Channels}
 use Rattle.noc_router.specs.declared.source.Source.{Source}
-use Rattle.noc_router.specs.declared.tally.Tally.{Tally}
+use Rattle.noc_router.specs.declared.tally.VerdictTally.{VerdictTally}
 use Rattle.noc_router.specs.Arbiters.{SizedArbiters, arbiter_states_in, sized_arbiters_in}
 use Rattle.noc_router.specs.Inside.{view_of, queue_of}
 use Rattle.noc_router.specs.Parts.{ChannelStates, opening_states, states_in}
@@ -26,7 +26,7 @@ last_port : (d vcs : ℕ) → (2 * d + 1) * vcs - 2 * d * vcs ≡ vcs
 last_port d vcs = let e : (2 * d + 1) * vcs ≡ 2 * d * vcs + 1 * vcs = add-mul (2 * d) 1 vcs in omega arith
 
 -- the view of a router none of whose parts has done anything
-pub opening-is : (node p vcs depth : ℕ) (shape : Grid) (source : Source) (channels : Channels) (to_put : List Beat) (tally : Tally) (arbiters : Arbiters) (arrivals : Arrivals) (starts : List (ℕ × Packet)) (ends : List ℕ)
+pub opening-is : (node p vcs depth : ℕ) (shape : Grid) (source : Source) (channels : Channels) (to_put : List Beat) (tally : VerdictTally) (arbiters : Arbiters) (arrivals : Arrivals) (starts : List (ℕ × Packet)) (ends : List ℕ)
     → IsGrid shape → p ≡ ports shape → queue_of source ≡ starts → source.vc ≡ None
     → states_in channels ≡ opening_states (p * vcs) ((p - 1) * vcs) depth
     → to_put ≡ replicate 6 idle_beat

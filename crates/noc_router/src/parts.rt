@@ -9,7 +9,7 @@ ghost use Rattle.noc_view.specs.Verdict.{opening_arbiters};
 
 use crate::arbiters::Arbiters;
 use crate::channels::Channels;
-use crate::tally::Tally;
+use crate::tally::VerdictTally;
 use noc_packet::Memory;
 use std::alloc::Global;
 
@@ -19,7 +19,7 @@ pub(crate) fn new_parts(
     ports: usize,
     vcs: usize,
     depth: usize,
-) -> Result<(Channels, Tally, Arbiters), Memory>
+) -> Result<(Channels, VerdictTally, Arbiters), Memory>
     requires sized { IsSizedRouter ports vcs }
     requires some_depth { 0 < depth }
     requires depth { depth ≤ MAX_BUFFER }
@@ -31,7 +31,7 @@ pub(crate) fn new_parts(
         IfOk result (λ parts. sized_arbiters_in parts.2 ≡ sized) }
 {
     let channels = Channels::new(alloc, ports * vcs, (ports - 1) * vcs, depth)?;
-    let tally = Tally::new(alloc, ports * vcs)?;
+    let tally = VerdictTally::new(alloc, ports * vcs)?;
     let arbiters = Arbiters::new(alloc, ports, vcs)?;
     Ok((channels, tally, arbiters))
 }

@@ -28,8 +28,7 @@ impl Router {
         ensures view { self.new ≡ view_after_put port self.old }
         ensures site { self.new.site ≡ self.old.site }
     {
-        // (whoever reads a field of a router knows that the router is sound)
-        let _vcs = self.vcs;
+        prove!(port < self.ports - 1);
         let beat = self.to_put[port];
         self.to_put[port] = Beat::idle();
         beat

@@ -14,7 +14,7 @@ use crate::channels::Channels;
 use crate::parts::new_parts;
 use crate::plan::Plan;
 use crate::source::Source;
-use crate::tally::Tally;
+use crate::tally::VerdictTally;
 use noc_packet::{Beat, MAX_BUFFER, Memory, Packet};
 use noc_route::Relation;
 use noc_topo::{LINKS, Shape};
@@ -43,7 +43,7 @@ pub struct Router {
     pub(crate) channels: Channels,
     // The beat that is still to be put on each link.
     pub(crate) to_put: [Beat; LINKS],
-    pub(crate) tally: Tally,
+    pub(crate) tally: VerdictTally,
     pub(crate) arbiters: Arbiters,
     pub(crate) arrivals: Arrivals,
     shape: Shape,

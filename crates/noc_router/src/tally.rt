@@ -16,14 +16,14 @@ use std::marker::Model;
 /// How often each verdict was that of each input channel, and what was found of each channel in
 /// the last cycle.
 #[derive(Drop)]
-pub(crate) struct Tally {
+pub(crate) struct VerdictTally {
     // How many cycles are counted: as many of each channel.
     cycles: u64,
     counts: Vec<[u64; VERDICTS]>,
     findings: Vec<Finding>,
 }
 
-impl Model for Tally {
+impl Model for VerdictTally {
     ghost use Rattle.std.specs.Prelude.{[], nat_eq, if◌then◌else◌};
     ghost use Rattle.noc_router.specs.Tally.{IsTally, TallyContents};
 
@@ -37,14 +37,14 @@ impl Model for Tally {
     ghost invariant = { λ t. IsTally t.cycles t.counts.items t.findings.items };
 }
 
-impl Tally {
+impl VerdictTally {
     // Nothing is counted and found yet, of so many channels.
-    pub(crate) fn new(alloc: Global, size: usize) -> Result<Tally, Memory>
+    pub(crate) fn new(alloc: Global, size: usize) -> Result<VerdictTally, Memory>
         ensures { IfOk result (λ tally. tally ≡ empty_tally size) }
     {
         let counts = vec![in alloc; [0; VERDICTS]; size]?;
         let findings = vec![in alloc; Finding::EMPTY; size]?;
-        Ok(Tally {
+        Ok(VerdictTally {
             cycles: 0,
             counts,
             findings,
