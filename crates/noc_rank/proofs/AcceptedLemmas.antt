@@ -9,7 +9,8 @@ use Rattle.noc_topo.proofs.ShapeLemmas.{length-coordinates}
 use Rattle.noc_topo.proofs.LinkLemmas.{IsWithin-at, IsWithin-coordinates, AreRadices, AreRadices-from_test, Hop, hop_of}
 use Rattle.noc_topo.proofs.DistanceLemmas.{hop-coordinates}
 use Rattle.noc_route.specs.Channel.{Link}
-use Rattle.noc_route.specs.Relation.{leads, takes_port, is_nearer, is_of_class, resource_class}
+use Rattle.noc_route.specs.Relation.{leads, takes_port, is_nearer, resource_class}
+use Rattle.noc_steps.specs.Ways.{is_of_class}
 use Rattle.noc_route.specs.Routes.{Routes}
 use Rattle.noc_route.specs.Built.{IsRelationOfRule, routing_of}
 use Rattle.noc_route.specs.Ranks.{Ranking, is_channel, rank_count, rank_at, AreAllRanked, IsRankedBy, IsRising}

@@ -15,7 +15,8 @@ use Rattle.noc_route.specs.Routes.{Routes, set_at, permits, IsRelation}
 use Rattle.noc_route.proofs.PermitsLemmas.{PermitsLink-from_test, permits-nearer}
 use Rattle.noc_route.proofs.EntryLemmas.{flat-below, flat-div, flat-mod}
 use Rattle.noc_rank.specs.declared.ahead.Search.{Search}
-use Rattle.noc_rank.specs.LeastAhead.{IsLeastOf, lesser, over, mark_at, IsAhead, outputs, counts_for, IsValueIn, IsBefore, AreLeast, AreAllLeast}
+use Rattle.noc_rank.specs.LeastAhead.{IsLeastOf, lesser, over, mark_at, IsAhead, outputs, IsValueIn, IsBefore, AreLeast, AreAllLeast}
+use Rattle.noc_steps.specs.Falls.{counts_for}
 use Rattle.noc_rank.proofs.BareLemmas.{link-member, member-link}
 use Rattle.noc_rank.proofs.LeastLemmas.{least-same, least-none, least-either}
 use Rattle.noc_rank.proofs.IndexLemmas.{is_port_channel-parts, is_port_channel-true, is_port_channel-index, rank_index-below, rank_index-same, output-place}

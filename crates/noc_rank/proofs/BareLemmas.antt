@@ -1,11 +1,11 @@
 -- Entries at which no channel with a rank is permitted.
 use Rattle.std.proofs.Common.{◌≡◌, ◌≢◌, ℕ, zero, suc, ◌+◌, ◌*◌, ◌/◌, ◌%◌, ◌<◌, Bool, true, false, List, [], ◌∷◌, Option, Some, None, refl, sym, subst, ap, ◌∙◌, arith, inl, inr}
 use Rattle.std.specs.Prelude.{◌⊎◌, ◌↔◌, is_some, nat_eq, IfNone, IfSome, MatchOption}
-use Rattle.std.proofs.Math.Nat.{div-lt_iff_lt-mul, zero-mul}
+use Rattle.std.proofs.Math.Nat.{div-lt_iff_lt-mul, mul_assoc, zero-mul}
 use Rattle.std.proofs.lemmas.Bool.{ne_eqb, false≢true}
 use Rattle.std.proofs.lemmas.Option.{some_pair_parts}
 use Rattle.noc_packet.specs.Set.{has_bit}
-use Rattle.noc_topo.specs.Shape.{nodes, ports, local_port}
+use Rattle.noc_topo.specs.Shape.{Grid, nodes, ports, local_port}
 use Rattle.noc_route.specs.Channel.{Channel, Link, Inject, Eject, arrival_of, channel_vc, output_at}
 use Rattle.noc_route.specs.Order.{numbers_before, entry_numbers}
 use Rattle.noc_route.specs.Routes.{Routes, set_at, permits, is_sent, IsRelation}
@@ -20,6 +20,15 @@ use Rattle.noc_rank.specs.NoEscape.{entries, numbered_entry, IsRankedIn, IsBareS
 use Rattle.noc_rank.specs.Faults.{IsBare, IsFirstBare, HasEscapes}
 use Rattle.noc_rank.proofs.CheckLemmas.{IsFirstBut}
 use Rattle.noc_rank.proofs.IndexLemmas.{flat, flat-before, div-mod}
+
+-- ---- how many entries there are
+
+pub count-entries : (routes : Routes) (c v : ℕ) (g : Grid) → c ≡ routes.classes → g ≡ routes.grid → v ≡ routes.vcs → c * (nodes g * ports g * v) * nodes g ≡ entries routes
+count-entries routes c v g few grid vcs =
+    let n = nodes routes.grid in
+    let p = ports routes.grid in
+    ap (λ x. x * (nodes g * ports g * v) * nodes g) few ∙ ap (λ x. routes.classes * (nodes x * ports x * v) * nodes x) grid ∙ ap (λ x. routes.classes * (n * p * x) * n) vcs
+    ∙ ap (λ x. x * n) (sym (mul_assoc routes.classes (n * p) routes.vcs) ∙ ap (λ x. x * routes.vcs) (sym (mul_assoc routes.classes n p)))
 
 -- ---- channels and sets
 

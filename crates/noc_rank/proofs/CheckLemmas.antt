@@ -2,12 +2,11 @@
 use Rattle.std.proofs.Common.{◌≡◌, Bor, ℕ, zero, suc, ◌+◌, ◌-◌, ◌*◌, ◌%◌, ◌<◌, ◌≤◌, Bool, true, false, List, [], ◌∷◌, Option, Some, None, refl, ap, sym, subst, ◌∙◌, arith, inl, inr}
 use Rattle.std.specs.Prelude.{◌⊎◌, ◌↔◌, MatchOption, slice_get, is_some}
 use Rattle.std.specs.List.{range_with_len, AllZip}
-use Rattle.std.proofs.Math.Nat.{mul_assoc}
 use Rattle.std.proofs.lemmas.Bool.{cases_lt, false≢true}
 use Rattle.rayon.proofs.ListFacts.{AllZip-weaken}
 use Rattle.rayon.specs.Lists.{filter_by_mask}
 use Rattle.rayon.specs.Numbers.{nat_range}
-use Rattle.noc_topo.specs.Shape.{IsGrid, nodes, ports}
+use Rattle.noc_topo.specs.Shape.{Grid, IsGrid, nodes, ports}
 use Rattle.noc_route.specs.Routes.{Routes, set_at}
 use Rattle.noc_route.specs.Ranks.{Ranking, IsRising, rank_at}
 use Rattle.noc_rank.specs.declared.rising.Fall.{Fall}
@@ -17,10 +16,9 @@ use Rattle.noc_rank.proofs.FallLemmas.{rising, first_fall, over}
 
 -- ---- all entries
 
-pub count-inputs : (k : Ranking) (c n p v : ℕ) → n ≡ nodes k.grid → p ≡ ports k.grid → v ≡ k.vcs → c * n * p * v ≡ c * input_count k
-count-inputs k c n p v node port vcs =
-    ap (λ x. c * x * p * v) node ∙ ap (λ x. c * nodes k.grid * x * v) port ∙ ap (λ x. c * nodes k.grid * ports k.grid * x) vcs
-    ∙ ap (λ x. x * k.vcs) (mul_assoc c (nodes k.grid) (ports k.grid)) ∙ mul_assoc c (nodes k.grid * ports k.grid) k.vcs
+pub count-inputs : (k : Ranking) (c v classes : ℕ) (g : Grid) → c ≡ classes → g ≡ k.grid → v ≡ k.vcs → c * (nodes g * ports g * v) ≡ classes * input_count k
+count-inputs k c v classes g few grid vcs =
+    ap (λ x. c * (nodes x * ports x * v)) grid ∙ ap (λ x. c * (nodes k.grid * ports k.grid * x)) vcs ∙ ap (λ x. x * input_count k) few
 
 -- the ranks, over the shape and the channels of the relation
 same_over : (routes : Routes) (k : Ranking) (sound : IsGrid routes.grid) → routes.grid ≡ k.grid → routes.vcs ≡ k.vcs → over routes k.ranks sound ≡ k

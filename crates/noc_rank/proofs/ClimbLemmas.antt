@@ -5,7 +5,7 @@ use Rattle.std.proofs.lemmas.Bool.{cases_lt}
 use Rattle.std.proofs.lemmas.List.{get_or-set_other}
 use Rattle.noc_topo.specs.Shape.{Grid, dimensions, is_plus, moved_in}
 use Rattle.noc_topo.proofs.LinkLemmas.{IsWithin, AreRadices}
-use Rattle.noc_route.specs.Relation.{goes_up, dateline_class}
+use Rattle.noc_steps.specs.Ways.{goes_up, dateline_class}
 use Rattle.noc_route.proofs.AdaptiveLemmas.{Nearer}
 use Rattle.noc_rank.specs.Formulas.{passed_in}
 use Rattle.noc_rank.proofs.RiseLemmas.{IsOrderPort, order_rank, half_at, dor-rises, dateline-rises}

@@ -12,7 +12,8 @@ use Rattle.noc_route.specs.Routes.{Routes, permits, IsRelation}
 use Rattle.noc_route.proofs.BuiltLemmas.{set_at-member}
 use Rattle.noc_route.proofs.PermitsLemmas.{PermitsLink-from_test}
 use Rattle.noc_rank.specs.LeastAhead.{IsLeastOf, over, mark_at, IsAhead, AreAllLeast}
-use Rattle.noc_rank.specs.NotRisingTo.{channel_at, IsLinkIndex, AreReal, falls, mark_below, BeginsDescent, IsStartBy, IsAheadAt, IsOver}
+use Rattle.noc_rank.specs.NotRisingTo.{channel_at, IsLinkIndex, AreReal, mark_below, BeginsDescent, IsStartBy, IsAheadAt, IsOver}
+use Rattle.noc_steps.specs.Falls.{falls}
 use Rattle.noc_rank.specs.Faults.{IsDescent, IsFirstDescent, HasNoDescent, pair_numbers}
 use Rattle.noc_rank.specs.declared.channel.LinkChannel.{LinkChannel}
 use Rattle.noc_rank.specs.declared.ahead.RankList.{RankList}

@@ -9,7 +9,8 @@ use Rattle.noc_topo.specs.Lists.{is_some_of}
 use Rattle.noc_topo.specs.Shape.{Grid, IsGrid, nodes, coordinates, is_plus, node_at}
 use Rattle.noc_topo.proofs.ShapeLemmas.{length-coordinates}
 use Rattle.noc_topo.proofs.LinkLemmas.{AreRadices-from_test, node_at-coordinates}
-use Rattle.noc_route.specs.Relation.{is_right, escapes, goes_up, dor_port, dor_port_from, is_nearer, is_of_class, index_in_class, is_escape, is_escape_taken, takes_channel}
+use Rattle.noc_route.specs.Relation.{is_right, escapes, dor_port, dor_port_from, is_nearer, index_in_class, is_escape, is_escape_taken, takes_channel}
+use Rattle.noc_steps.specs.Ways.{goes_up, is_of_class}
 use Rattle.noc_route.specs.declared.rule.Rule.TheVariants.{Adaptive}
 use Rattle.noc_route.proofs.AdaptiveLemmas.{adaptive-some}
 use Rattle.noc_rank.proofs.StepLemmas.{half-few}

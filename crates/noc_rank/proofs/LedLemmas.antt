@@ -5,7 +5,8 @@ use Rattle.std.proofs.lemmas.Bool.{eqb-true, ltb-true, and_parts, false≢true}
 use Rattle.std.proofs.lemmas.Option.{none-some, same_Some}
 use Rattle.noc_topo.specs.Shape.{Grid, coordinates, local_port}
 use Rattle.noc_route.specs.Channel.{Channel, Link, arrival_of, channel_vc}
-use Rattle.noc_route.specs.Relation.{RelationParts, IsReached, led_on, rule_offers, rule_has, leads, is_led, takes_port, takes_channel, is_of_class}
+use Rattle.noc_route.specs.Relation.{RelationParts, IsReached, led_on, rule_offers, rule_has, leads, is_led, takes_port, takes_channel}
+use Rattle.noc_steps.specs.Ways.{is_of_class}
 use Rattle.noc_route.specs.Ranks.{is_channel}
 use Rattle.noc_route.specs.declared.rule.Rule.{Rule}
 use Rattle.noc_rank.specs.Formulas.{is_ranked, formula, formula_at}

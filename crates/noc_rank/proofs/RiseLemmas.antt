@@ -6,7 +6,8 @@ use Rattle.std.proofs.lemmas.List.{get_or-set_same, get_or-set_other}
 use Rattle.noc_topo.specs.Lists.{is_some_of}
 use Rattle.noc_topo.specs.Shape.{Grid, dimensions, is_plus, moved_in}
 use Rattle.noc_topo.proofs.LinkLemmas.{IsWithin, IsWithin-at, AreRadices, AreRadices-at}
-use Rattle.noc_route.specs.Relation.{dor_port, goes_up, dateline_class}
+use Rattle.noc_route.specs.Relation.{dor_port}
+use Rattle.noc_steps.specs.Ways.{goes_up, dateline_class}
 use Rattle.noc_route.proofs.NamedLemmas.{dor_port_from-some, port-up, some_of-true}
 use Rattle.noc_rank.specs.Formulas.{passed_in}
 use Rattle.noc_rank.proofs.StepLemmas.{behind, half, behind-below, half-few, mesh-rises, mesh-onward, round-rises}

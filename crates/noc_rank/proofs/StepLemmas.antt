@@ -3,7 +3,7 @@ use Rattle.std.proofs.Common.{◌≡◌, ◌≢◌, ℕ, ◌+◌, ◌-◌, ◌*�
 use Rattle.std.specs.Prelude.{◌⊎◌, nat_lt, if◌then◌else◌}
 use Rattle.std.proofs.lemmas.Bool.{cases_lt, lt-ltb, le-ltb, ltb-true, ltb-false, leb-true, leb-false, le-leb, lt-leb, false≢true}
 use Rattle.noc_topo.specs.Shape.{moved_in}
-use Rattle.noc_route.specs.Relation.{goes_up}
+use Rattle.noc_steps.specs.Ways.{goes_up}
 use Rattle.noc_route.proofs.NamedLemmas.{round-above}
 
 -- how many routers lie behind coordinate x, seen up or down

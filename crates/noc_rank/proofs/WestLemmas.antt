@@ -4,7 +4,8 @@ use Rattle.std.specs.Prelude.{◌⊎◌, nat_eq, nat_lt, if◌then◌else◌}
 use Rattle.std.proofs.lemmas.Bool.{ltb-true, ltb-false, leb-true, and_parts, false≢true}
 use Rattle.std.proofs.lemmas.List.{get_or-set_same, get_or-set_other}
 use Rattle.noc_topo.specs.Shape.{Grid, is_plus, moved_in}
-use Rattle.noc_route.specs.Relation.{goes_up, is_nearer, is_west_first, takes_port}
+use Rattle.noc_route.specs.Relation.{is_nearer, takes_port}
+use Rattle.noc_steps.specs.Ways.{goes_up, is_west_first}
 use Rattle.noc_route.specs.declared.rule.Rule.TheVariants.{WestFirst}
 use Rattle.noc_route.proofs.AdaptiveLemmas.{Nearer, Nearer-from_test}
 use Rattle.noc_rank.proofs.StepLemmas.{moved-up, moved-down}

@@ -1,8 +1,9 @@
 -- The least mark among the channels with a rank to which steps lead from a channel, directly or
 -- through adaptive channels.
-use Rattle.std.specs.Prelude.{◌≡◌, ℕ, ◌+◌, ◌*◌, ◌<◌, ◌≤◌, ◌⊎◌, true, List, Option, Some, None, min, is_some, slice_index_or, length, if◌then◌else◌, IsTrue}
+use Rattle.std.specs.Prelude.{◌≡◌, ℕ, ◌+◌, ◌*◌, ◌<◌, ◌≤◌, ◌⊎◌, true, List, Option, Some, None, min, slice_index_or, length, IsTrue}
 use Rattle.noc_packet.specs.Set.{has_bit}
 use Rattle.noc_topo.specs.Shape.{local_port, neighbour, distance}
+use Rattle.noc_steps.specs.Falls.{counts_for}
 use Rattle.noc_route.specs.Channel.{Link}
 use Rattle.noc_route.specs.Ranks.{Ranking, LeadsTo, is_port_channel, rank_count, rank_index, rank_at}
 use Rattle.noc_route.specs.Routes.{Routes, permits}
@@ -42,13 +43,6 @@ pub record IsAhead (routes : Routes) (ranks marks : List (Option ℕ)) (m t r p 
 -- how many output channels on link ports a router has
 abbrev pub outputs : Routes → ℕ
 outputs routes = local_port routes.grid * routes.vcs
-
--- what the channel with an index counts for: its mark where it has a rank, else
--- the least mark ahead of it
-abbrev pub counts_for : List (Option ℕ) → List (Option ℕ) → List (Option ℕ) → ℕ → Option ℕ
-counts_for ranks marks least index =
-    if is_some (slice_index_or ranks index None) then slice_index_or marks index None
-    else slice_index_or least index None
 
 -- a channel of this set, with an index below `end`, counts for n
 pub record IsValueIn (routes : Routes) (ranks marks least : List (Option ℕ)) (r set end n : ℕ)

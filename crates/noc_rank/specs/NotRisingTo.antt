@@ -1,7 +1,8 @@
 -- Descents, where steps lead from a channel with a rank to one of no greater rank, with channels
 -- named by their indices.
-use Rattle.std.specs.Prelude.{◌≡◌, ℕ, ◌*◌, ◌/◌, ◌%◌, ◌<◌, ◌≤◌, Bool, true, false, List, Option, Some, None, nat_le, slice_index_or, length, if◌then◌else◌}
+use Rattle.std.specs.Prelude.{◌≡◌, ℕ, ◌*◌, ◌/◌, ◌%◌, ◌<◌, ◌≤◌, true, List, Option, Some, None, slice_index_or, length, if◌then◌else◌}
 use Rattle.noc_topo.specs.Shape.{nodes, local_port}
+use Rattle.noc_steps.specs.Falls.{falls}
 use Rattle.noc_route.specs.Ranks.{is_port_channel, is_channel, rank_index, rank_at}
 use Rattle.noc_route.specs.Routes.{Routes}
 use Rattle.noc_rank.specs.LeastAhead.{over, IsAhead}
@@ -32,12 +33,6 @@ abbrev pub AreReal : Routes → List (Option ℕ) → Type 0
 AreReal routes ranks =
     (r p v n : ℕ) → rank_at (over routes ranks) r p v ≡ Some n
     → is_channel routes.grid routes.vcs r p v ≡ true
-
--- whether a rank is no less than the one ahead, where both are there
-abbrev pub falls : Option ℕ → Option ℕ → Bool
-falls None ahead = false
-falls (Some rank) None = false
-falls (Some rank) (Some ahead) = nat_le ahead rank
 
 -- the index of a channel whose rank is no greater than that of the channel `start`
 abbrev pub mark_below : List (Option ℕ) → ℕ → ℕ → Option ℕ

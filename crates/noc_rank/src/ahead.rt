@@ -5,13 +5,15 @@ ghost use Rattle.noc_topo.specs.Shape.{nodes, distance};
 ghost use Rattle.noc_packet.specs.declared.limits.TheConstants.{INDICES};
 ghost use Rattle.noc_route.specs.Ranks.{rank_count};
 ghost use Rattle.noc_route.specs.Routes.{IsRelation};
-ghost use Rattle.noc_rank.specs.LeastAhead.{IsLeastOf, outputs, counts_for, lesser};
+ghost use Rattle.noc_rank.specs.LeastAhead.{IsLeastOf, outputs, lesser};
+ghost use Rattle.noc_steps.specs.Falls.{counts_for};
 ghost use Rattle.noc_rank.specs.NotRisingTo.{AreReal};
 ghost use Rattle.noc_packet.specs.Set.{has_bit};
 
 use crate::channel::{link_ports, rank_index};
 use noc_packet::ChannelSet;
 use noc_route::Relation;
+use noc_steps::counts_for;
 use noc_topo::MAX_DISTANCE;
 
 // The ranks of a relation's link channels, by index.
@@ -133,12 +135,7 @@ impl<'a> Search<'a> {
         if !set.contains(index) {
             return None;
         }
-        let channel = first + index;
-        if self.ranks[channel].is_some() {
-            self.marks[channel]
-        } else {
-            least[channel]
-        }
+        counts_for(self.ranks, self.marks, least, first + index)
     }
 }
 

@@ -11,6 +11,7 @@ use crate::ranked::Ranked;
 use crate::ranks::output_rank;
 use noc_packet::ChannelSet;
 use noc_route::{Entry, Relation};
+use noc_steps::inputs;
 use rayon::prelude::*;
 use std::thread::Threads;
 
@@ -22,8 +23,8 @@ pub(crate) fn first_bare(rt: &(impl Threads + Sync), ranked: &Ranked) -> Option<
         (IsFirstBare ranked.now.relation.now ranked.now.ranks.now) }
 {
     let relation = ranked.relation;
-    let nodes = relation.shape().nodes();
-    let count = relation.classes() * nodes * relation.shape().ports() * relation.vcs() * nodes;
+    let shape = relation.shape();
+    let count = inputs(shape, relation.vcs(), relation.classes()) * shape.nodes();
     let number = (0..count).into_par_iter().find_first(
         rt,
         |number: &usize| -> bool

@@ -4,7 +4,8 @@ ghost use Rattle.std.specs.Prelude.{◌≡◌, ℕ, ◌<◌, ◌⊎◌, Some, No
 ghost use Rattle.noc_route.specs.Routes.{IsRelation};
 ghost use Rattle.noc_rank.specs.Faults.{HasNoDescent, IsFirstDescent};
 ghost use Rattle.noc_rank.specs.LeastAhead.{over, IsLeastOf};
-ghost use Rattle.noc_rank.specs.NotRisingTo.{IsOver, BeginsDescent, IsStartBy, IsAheadAt, IsLinkIndex, channel_at, falls, mark_below, fault_of_descent};
+ghost use Rattle.noc_rank.specs.NotRisingTo.{IsOver, BeginsDescent, IsStartBy, IsAheadAt, IsLinkIndex, channel_at, mark_below, fault_of_descent};
+ghost use Rattle.noc_steps.specs.Falls.{falls};
 
 use crate::ahead::{RankList, Search, lesser};
 use crate::channel::{LinkChannel, all_ports, link_ports};
@@ -12,6 +13,7 @@ use crate::fault::RankFault;
 use crate::ranked::Ranked;
 use crate::ranks::list;
 use noc_route::Relation;
+use noc_steps::falls;
 use std::alloc::{AllocError, Global};
 
 // Two channels such that packets come on from the first to the second, with their ranks, of which
@@ -112,13 +114,6 @@ fn start_in(list: &RankList, least: &[Option<u32>]) -> Option<u32>
         }
     }
     None
-}
-
-// Whether a rank is no less than the one ahead, where both are there.
-fn falls(rank: Option<u32>, ahead: Option<u32>) -> bool
-    ensures { result ≡ falls rank ahead }
-{
-    matches!((rank, ahead), (Some(rank), Some(ahead)) if ahead <= rank)
 }
 
 // Marks each channel whose rank is no greater than that of the channel `start` with its index.

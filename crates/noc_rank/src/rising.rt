@@ -13,6 +13,7 @@ use crate::ranked::Ranked;
 use crate::ranks::{output_rank, rank_at};
 use noc_packet::ChannelSet;
 use noc_route::{Entry, RouteRow};
+use noc_steps::{falls, inputs};
 use rayon::prelude::*;
 use std::thread::Threads;
 
@@ -25,10 +26,7 @@ pub(crate) fn first_fall(rt: &(impl Threads + Sync), ranked: &Ranked) -> Option<
         fall.next) }
 {
     let relation = ranked.relation;
-    let count = relation.classes()
-        * relation.shape().nodes()
-        * relation.shape().ports()
-        * relation.vcs();
+    let count = inputs(relation.shape(), relation.vcs(), relation.classes());
     let number = (0..count).into_par_iter().find_first(
         rt,
         |number: &usize| -> bool
@@ -188,7 +186,11 @@ impl<'a> Arrival<'a> {
         if !set.contains(index) {
             return None;
         }
-        let next = output_rank(self.ranked.ranks, self.router, index)?;
-        if next <= self.rank { Some(next) } else { None }
+        let next = output_rank(self.ranked.ranks, self.router, index);
+        if falls(Some(self.rank), next) {
+            next
+        } else {
+            None
+        }
     }
 }

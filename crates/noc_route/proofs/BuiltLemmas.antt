@@ -11,7 +11,8 @@ use Rattle.noc_packet.proofs.SetLemmas.{has_bit-zero, zero_from_none}
 use Rattle.noc_route.specs.Channel.{Channel, Link, Inject, Eject, arrival_of, channel_vc}
 use Rattle.noc_route.specs.Relation.{RelationParts, leads, rule_offers, rule_has, IsReached, injected, led_on, IsPermitted}
 use Rattle.noc_route.specs.Routes.{Routes, width, pages, page_of, is_entry, set_at, permits, permits_at, is_sent, HasTableSize, IsRelation, HasLead}
-use Rattle.noc_route.specs.Trimming.{set_in, page_set, left_at, comes_in, comes_at, is_stuck_at, any_below, IsPage, CanCome, injected as come_injected, led as come_led, ComesNearer, IsSoundOut, IsFullOut}
+use Rattle.noc_route.specs.Trimming.{set_in, page_set, left_at, comes_in, comes_at, is_stuck_at, IsPage, CanCome, injected as come_injected, led as come_led, ComesNearer, IsSoundOut, IsFullOut}
+use Rattle.noc_steps.specs.Reached.{any_below}
 use Rattle.noc_route.specs.Entered.{IsEntered}
 use Rattle.noc_route.proofs.EntryLemmas.{flat-below, is_entry-true}
 use Rattle.noc_route.proofs.TrimLemmas.{IsSized, any_below-some, any_below-at, index-parts, port-below, CanCome-within, comes_in-sound, comes_in-full, page-dst, page-class, page-sender, page-below}

@@ -6,6 +6,7 @@ use Rattle.std.proofs.Math.Nat.{mul-le-mul_right, mul_comm, mul_assoc, div-lt_if
 use Rattle.std.proofs.lemmas.List.{get_or-set_same, get_or-set_other, get_or_default}
 use Rattle.noc_topo.proofs.ListLemmas.{tabulate-from_each, get_or-tabulate}
 use Rattle.noc_topo.specs.Shape.{nodes, ports}
+use Rattle.noc_steps.proofs.WrittenLemmas.{StandsTo}
 use Rattle.noc_route.specs.Columns.{table_of, column_set, AreColumns, AreKept, IsColumnAt, AreKeptTo}
 use Rattle.noc_route.specs.Routes.{width, pages, page_of}
 use Rattle.noc_route.specs.declared.sizes.Sizes.{Sizes}
@@ -28,10 +29,6 @@ row-end a m n l =
 
 -- ---- reading and writing a column
 
--- what stands from `start` on, as far as destination n
-abbrev pub StandsTo : (ℕ → ℕ) → List ℕ → ℕ → ℕ → Type 0
-StandsTo want sets start n = (t : ℕ) → t < n → get_or sets (start + t) 0 ≡ want t
-
 -- the column of an input of a block
 abbrev pub column_of : List ℕ → ℕ → ℕ → ℕ → ℕ
 column_of block nodes input t = get_or block (input * nodes + t) 0
@@ -43,20 +40,6 @@ column-at block n nodes input t b same from at_b = at_b ∙ get_or_default block
 pub stands-more : (want : ℕ → ℕ) (sets : List ℕ) (start n a : ℕ) → start + n < length sets → a ≡ get_or sets (start + n) a → a ≡ want n → StandsTo want sets start n → StandsTo want sets start (n + 1)
 stands-more want sets start n a there at_a same all =
     below_more (λ t. get_or sets (start + t) 0 ≡ want t) n all (sym (get_or_default sets (start + n) a 0 there) ∙ sym at_a ∙ same)
-
--- what is left alone by a column that is written as far as destination n
-abbrev pub LeavesOthers : List ℕ → List ℕ → ℕ → ℕ → Type 0
-LeavesOthers before sets start n = (j : ℕ) → (j < start) ⊎ (start + n ≤ j) → get_or sets j 0 ≡ get_or before j 0
-
-pub written-more : (want : ℕ → ℕ) (sets : List ℕ) (start n b : ℕ) → start + n < length sets → b ≡ want n → StandsTo want sets start n → StandsTo want (set sets (start + n) b) start (n + 1)
-written-more want sets start n b there is all =
-    below_more (λ t. get_or (set sets (start + n) b) (start + t) 0 ≡ want t) n
-    (λ t l. let other : start + t ≢ start + n = omega arith in get_or-set_other sets (start + n) (start + t) b 0 other ∙ all t l)
-    (get_or-set_same sets (start + n) b 0 there ∙ is)
-
-pub others-more : (before sets : List ℕ) (start n b : ℕ) → LeavesOthers before sets start n → LeavesOthers before (set sets (start + n) b) start (n + 1)
-others-more before sets start n b all j (inl l) = let other : j ≢ start + n = omega arith in get_or-set_other sets (start + n) j b 0 other ∙ all j (inl l)
-others-more before sets start n b all j (inr l) = let other : j ≢ start + n = omega arith in get_or-set_other sets (start + n) j b 0 other ∙ all j (inr (omega arith))
 
 -- ---- the columns of a router and a class
 

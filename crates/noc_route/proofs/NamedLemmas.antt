@@ -9,7 +9,8 @@ use Rattle.noc_topo.proofs.ShapeLemmas.{length-coordinates}
 use Rattle.noc_topo.proofs.LinkLemmas.{AreRadices-from_test, AreRadices-at, get_or-padded, get_or-past, corner-at, IsWithin-at, IsWithin-coordinates, hop_of, led}
 use Rattle.noc_topo.proofs.DistanceLemmas.{hop-distance}
 use Rattle.noc_topo.specs.Lists.{is_some_of}
-use Rattle.noc_route.specs.Relation.{goes_up, dor_port, dor_port_from}
+use Rattle.noc_route.specs.Relation.{dor_port, dor_port_from}
+use Rattle.noc_steps.specs.Ways.{goes_up}
 
 -- ---- the port of dimension order
 

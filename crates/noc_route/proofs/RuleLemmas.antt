@@ -8,7 +8,8 @@ use Rattle.noc_topo.specs.Lists.{is_some_of}
 use Rattle.noc_topo.specs.Shape.{Grid, IsGrid, local_port, neighbour, distance, coordinates}
 use Rattle.noc_topo.proofs.DistanceLemmas.{hop-by_one}
 use Rattle.noc_packet.specs.declared.limits.TheConstants.{MAX_CHANNELS, MAX_CLASSES}
-use Rattle.noc_route.specs.Relation.{RelationParts, is_right, fits, is_of_class, takes_port, takes_channel, takes_of_class, names_entry, has_route_row, rows_of, table_rows_of, is_real_row, hop_fault, row_fault, leads, is_led, dor_port, is_nearer, goes_up}
+use Rattle.noc_route.specs.Relation.{RelationParts, is_right, fits, takes_port, takes_channel, takes_of_class, names_entry, has_route_row, rows_of, table_rows_of, is_real_row, hop_fault, row_fault, leads, is_led, dor_port, is_nearer}
+use Rattle.noc_steps.specs.Ways.{is_of_class, goes_up}
 use Rattle.noc_route.specs.declared.rule.Rule.{Rule}
 use Rattle.noc_route.specs.declared.rule.Rule.TheVariants.{Dor, Dateline, WestFirst, Adaptive, Rows}
 use Rattle.noc_route.specs.declared.rule.RouteRow.{RouteRow}

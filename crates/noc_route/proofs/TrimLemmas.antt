@@ -1,5 +1,5 @@
 -- What packets can come to, and the lists of channels by which they leave.
-use Rattle.std.proofs.Common.{◌≡◌, ◌≢◌, ℕ, zero, suc, ◌+◌, ◌*◌, ◌/◌, ◌%◌, ◌<◌, ◌≤◌, Bool, true, false, List, length, set, Option, Some, None, refl, sym, subst, ap, ◌∙◌, add-one, arith, inl, inr}
+use Rattle.std.proofs.Common.{◌≡◌, ◌≢◌, ℕ, zero, suc, ◌+◌, ◌*◌, ◌/◌, ◌%◌, ◌<◌, ◌≤◌, Bool, true, false, List, length, set, Option, Some, None, refl, sym, subst, ap, ◌∙◌, arith, inl, inr}
 use Rattle.std.specs.Prelude.{◌||◌, ◌&&◌, ◌⊎◌, ◌-◌, not, nat_eq, nat_le, nat_lt, slice_index, if◌then◌else◌}
 use Rattle.std.proofs.Math.Nat.{mod-lt, div-add-mod, mul_comm, div-lt_iff_lt-mul}
 use Rattle.std.proofs.lemmas.Nat.{div-mul-add, mod-mul-add}
@@ -12,7 +12,8 @@ use Rattle.noc_packet.proofs.SetLemmas.{has_bit-zero, zero_from_none}
 use Rattle.noc_topo.specs.Shape.{Grid, IsGrid, nodes, ports, local_port, neighbour, distance}
 use Rattle.noc_topo.proofs.LinkLemmas.{link_back, neighbour-range}
 use Rattle.noc_route.specs.Routes.{Routes, width, pages, page_of}
-use Rattle.noc_route.specs.Trimming.{set_in, IsPage, CanCome, injected, led, ComesNearer, CanLeave, comes_in, any_below, IsSoundOut, IsFullOut}
+use Rattle.noc_route.specs.Trimming.{set_in, IsPage, CanCome, injected, led, ComesNearer, CanLeave, comes_in, IsSoundOut, IsFullOut}
+use Rattle.noc_steps.specs.Reached.{any_below}
 use Rattle.noc_route.specs.Gathering.{AreOuts, AreOutsFrom, FartherFull, IsPairDone}
 use Rattle.noc_route.proofs.BoolLemmas.{same_test, and_where}
 use Rattle.noc_route.proofs.EntryLemmas.{flat-below}
@@ -242,21 +243,6 @@ page-below g classes m r t a b c = flat-below (r * classes + m) (nodes g * class
 abbrev pub IsOutOf : Routes → List ℕ → ℕ → ℕ → ℕ → ℕ → Type 0
 IsOutOf routes outs m r t out =
     (k : ℕ) → k < width routes.grid routes.vcs → has_bit out k ≡ any_below (width routes.grid routes.vcs) (λ i. comes_in routes outs m r t i && has_bit (set_in routes m r t i) k)
-
--- the same, as far as the first n input channels
-abbrev pub IsGathered : Routes → List ℕ → ℕ → ℕ → ℕ → ℕ → ℕ → Type 0
-IsGathered routes outs m r t n out =
-    (k : ℕ) → k < width routes.grid routes.vcs → has_bit out k ≡ any_below n (λ i. comes_in routes outs m r t i && has_bit (set_in routes m r t i) k)
-
-any_below-more : (n : ℕ) (test : ℕ → Bool) → any_below (n + 1) test ≡ (any_below n test || test n)
-any_below-more n test = rw add-one refl
-
-pub IsGathered-more : (routes : Routes) (outs : List ℕ) (m r t n out set more : ℕ) (reached : Bool) → reached ≡ comes_in routes outs m r t n → set ≡ set_in routes m r t n
-    → ((k : ℕ) → has_bit more k ≡ (has_bit out k || (reached && has_bit set k))) → IsGathered routes outs m r t n out → IsGathered routes outs m r t (n + 1) more
-IsGathered-more routes outs m r t n out set more reached come same either had = λ k l.
-    let F : ℕ → Bool = λ i. comes_in routes outs m r t i && has_bit (set_in routes m r t i) k in
-    let here : (reached && has_bit set k) ≡ F n = ap (λ b. b && has_bit set k) come ∙ ap (λ s. comes_in routes outs m r t n && has_bit s k) same in
-    either k ∙ ap (λ b. b || (reached && has_bit set k)) (had k l) ∙ ap (λ b. any_below n F || b) here ∙ sym (any_below-more n F)
 
 out-sound : (routes : Routes) (outs : List ℕ) (m r t out k : ℕ) → IsSized routes → IsSoundOut routes outs → IsPage routes m r t → IsOutOf routes outs m r t out
     → k < width routes.grid routes.vcs → has_bit out k ≡ true → CanLeave routes m r t k

@@ -7,7 +7,8 @@ use Rattle.std.proofs.lemmas.Nat.{div-mul-add, mod-mul-add}
 use Rattle.noc_topo.specs.Shape.{Grid, coordinates, local_port}
 use Rattle.noc_route.specs.Built.{routing_of}
 use Rattle.noc_route.specs.Entered.{routing_in}
-use Rattle.noc_route.specs.Relation.{RelationParts, escapes, index_in_class, is_escape_taken, is_led, is_nearer, is_of_class, is_west_first, takes_port, takes_channel, takes_of_class}
+use Rattle.noc_route.specs.Relation.{RelationParts, escapes, index_in_class, is_escape_taken, is_led, is_nearer, takes_port, takes_channel, takes_of_class}
+use Rattle.noc_steps.specs.Ways.{is_of_class, is_west_first}
 use Rattle.noc_route.specs.declared.sizes.Sizes.{Sizes}
 use Rattle.noc_route.specs.declared.rule.Rule.{Rule}
 use Rattle.noc_route.specs.declared.rule.RouteRow.{RouteRow}

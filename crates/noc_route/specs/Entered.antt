@@ -11,7 +11,7 @@ use Rattle.noc_route.specs.declared.entered.Entered.{Entered}
 use Rattle.noc_route.specs.declared.entered.Entered.TheVariants.{OfPages, OfEntries}
 use Rattle.noc_route.specs.declared.rule.RouteRow.{RouteRow}
 use Rattle.noc_route.specs.declared.rule.Rule.{Rule}
-use Rattle.noc_route.specs.declared.named.Way.{Way}
+use Rattle.noc_steps.specs.declared.way.Way.{Way}
 use Rattle.noc_route.specs.declared.routing.Routing.{Routing}
 
 -- a rule over these sizes

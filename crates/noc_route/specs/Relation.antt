@@ -4,6 +4,7 @@ use Rattle.std.specs.List.{list_any}
 use Rattle.noc_topo.specs.Lists.{is_some_of}
 use Rattle.noc_topo.specs.Shape.{Grid, coordinates, nodes, dimensions, is_plus, local_port, neighbour, distance}
 use Rattle.noc_packet.specs.declared.limits.TheConstants.{MAX_CHANNELS, MAX_CLASSES}
+use Rattle.noc_steps.specs.Ways.{goes_up, is_west_first, is_of_class, dateline_class, is_escape_by}
 use Rattle.noc_route.specs.Channel.{Channel, Link, Inject, Eject, arrival_of, channel_vc}
 use Rattle.noc_route.specs.Order.{numbers_before, row_numbers, row_before, entry_numbers}
 use Rattle.noc_route.specs.declared.rule.RouteRow.{RouteRow}
@@ -42,10 +43,6 @@ is_right g vcs classes rule =
 
 -- ---- ports
 
--- the shorter way is up; where both are equally long, up
-abbrev pub goes_up : Bool → ℕ → ℕ → ℕ → Bool
-goes_up wraps k x t = if wraps then nat_le ((t + k - x) % k) ((x + k - t) % k) else nat_lt x t
-
 -- the port of dimension order: in the lowest dimension in which x and t differ
 abbrev pub dor_port_from : Bool → ℕ → List ℕ → List ℕ → List ℕ → Option ℕ
 dor_port_from wraps i [] xs ts = None
@@ -67,10 +64,6 @@ is_nearer g xs ts port =
     && (if goes_up g.wraps (slice_index g.radix i) (slice_index xs i) (slice_index ts i)
     then is_plus port else not (is_plus port))
 
--- down dimension 0 alone while the destination is there, and else any port
-abbrev pub is_west_first : List ℕ → List ℕ → ℕ → Bool
-is_west_first xs ts port = nat_eq port 1 || nat_le (slice_index xs 0) (slice_index ts 0)
-
 -- whether a rule by coordinates leads along this port, from a router at xs
 -- towards a destination at ts
 abbrev pub takes_port : Grid → Rule → List ℕ → List ℕ → ℕ → Bool
@@ -82,19 +75,9 @@ takes_port g (Rows rows) xs ts port = false
 
 -- ---- channels
 
--- the channels of a class
-abbrev pub is_of_class : ℕ → ℕ → ℕ → ℕ → Bool
-is_of_class vcs classes m v = nat_le (m * vcs / classes) v && nat_lt v ((m + 1) * vcs / classes)
-
 -- the half of its class's channels in which a channel is
 abbrev pub resource_class : ℕ → ℕ → ℕ → ℕ
 resource_class vcs classes v = v % (vcs / classes) / (vcs / classes / 2)
-
--- the half that the next hop along a port takes, where in its dimension the router is at x and the
--- destination at t: the low half while the way still crosses the ends
-abbrev pub dateline_class : ℕ → ℕ → ℕ → ℕ
-dateline_class port x t =
-    if is_plus port then (if nat_lt t x then 0 else 1) else (if nat_lt x t then 0 else 1)
 
 -- the index of a channel among those of its class
 abbrev pub index_in_class : ℕ → ℕ → ℕ → ℕ
@@ -107,9 +90,8 @@ is_escape g vcs classes v = nat_lt (index_in_class vcs classes v) (escapes g)
 -- the escape channel of dimension order: on a torus the one for the half that a dateline takes
 abbrev pub is_escape_taken : Grid → ℕ → ℕ → List ℕ → List ℕ → ℕ → ℕ → Bool
 is_escape_taken g vcs classes xs ts port v =
-    is_some_of (dor_port g xs ts) port
-    && nat_eq (index_in_class vcs classes v) (if g.wraps
-    then dateline_class port (slice_index xs (port / 2)) (slice_index ts (port / 2)) else 0)
+    is_escape_by g.wraps (dor_port g xs ts) port (slice_index xs (port / 2))
+    (slice_index ts (port / 2)) (index_in_class vcs classes v)
 
 -- whether a rule by coordinates takes a channel of a port that it takes, among
 -- those of the packet's class

@@ -1,5 +1,5 @@
 -- The entries that packets reach under a table of sets, and how they are found.
-use Rattle.std.specs.Prelude.{◌≡◌, ◌≢◌, ℕ, zero, suc, ◌+◌, ◌*◌, ◌/◌, ◌%◌, ◌<◌, Bool, true, false, ◌&&◌, ◌||◌, not, List, Option, Some, None, nat_eq, slice_index, if◌then◌else◌, ◌⊎◌}
+use Rattle.std.specs.Prelude.{◌≡◌, ◌≢◌, ℕ, ◌+◌, ◌*◌, ◌/◌, ◌%◌, ◌<◌, Bool, true, false, ◌&&◌, not, List, Option, Some, None, nat_eq, slice_index, if◌then◌else◌, ◌⊎◌}
 use Rattle.noc_topo.specs.Lists.{tabulate}
 use Rattle.noc_topo.specs.Shape.{nodes, local_port, neighbour, distance}
 use Rattle.noc_packet.specs.Set.{has_bit}
@@ -63,11 +63,6 @@ comes_in routes outs m r t i =
       | Some from ↦ has_bit (slice_index outs (page_of routes.grid routes.classes m from.0 t))
           (from.1 * routes.vcs + i % routes.vcs)
     ])
-
--- whether one of the numbers below n passes
-abbrev pub any_below : ℕ → (ℕ → Bool) → Bool
-any_below zero test = false
-any_below (suc n) test = any_below n test || test n
 
 -- each channel of the lists is one by which packets leave
 abbrev pub IsSoundOut : Routes → List ℕ → Type 0

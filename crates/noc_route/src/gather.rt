@@ -1,17 +1,19 @@
 //! Which channels packets leave each router by, found by falling distance to their destination.
 
-ghost use Rattle.std.specs.Prelude.{◌≡◌, ℕ, ◌+◌, ◌-◌, ◌*◌, ◌/◌, ◌%◌, ◌<◌, ◌≤◌, ◌&&◌, ◌||◌, List, nat_eq, nat_le, nat_lt, length, slice_index, true, if◌then◌else◌};
+ghost use Rattle.std.specs.Prelude.{◌≡◌, ℕ, ◌+◌, ◌-◌, ◌*◌, ◌/◌, ◌%◌, ◌<◌, ◌≤◌, ◌&&◌, ◌||◌, List, nat_eq, nat_le, nat_lt, length, slice_index, true};
 ghost use Rattle.noc_packet.specs.Set.{has_bit};
 ghost use Rattle.noc_packet.specs.declared.limits.TheConstants.{INDICES};
 ghost use Rattle.noc_topo.specs.Shape.{nodes, ports};
 ghost use Rattle.noc_route.specs.Entered.{AreAll, sets_in};
 ghost use Rattle.noc_route.specs.Routes.{width, pages};
-ghost use Rattle.noc_route.specs.Trimming.{routes_in, set_in, ComesNearer, comes_in, any_below, AreComing};
+ghost use Rattle.noc_route.specs.Trimming.{routes_in, set_in, ComesNearer, comes_in, AreComing};
 ghost use Rattle.noc_route.specs.Gathering.{AreOuts, AreOutsFrom, FartherFull, IsPairDone};
+ghost use Rattle.noc_steps.specs.Reached.{any_below};
 
 use crate::entered::Entered;
 use crate::map::Map;
 use noc_packet::ChannelSet;
+use noc_steps::{only_if, taken};
 
 // Writes the channels by which packets leave each router, by class and destination. A packet comes
 // nearer with each hop, so what reaches a router is known once the routers farther off are done.
@@ -112,30 +114,11 @@ impl<'a> Table<'a> {
         };
         let page = sizes.page(class, router, dst);
         let coming = before.arrivals(class, router, dst);
-        if let Entered::OfPages(sets) = self.entered {
-            return only_if(sets[page], !coming.is_empty());
+        match self.entered {
+            Entered::OfPages(sets) => only_if(sets[page], !coming.is_empty()),
+            Entered::OfEntries(sets) => taken(sets, sizes.slot(page, 0), sizes.width(), coming),
         }
-        let mut all = ChannelSet::empty();
-        for input in 0..sizes.width() {
-            let set = self.entered.set(sizes, page, input);
-            all = either_if(all, set, coming.contains(input));
-        }
-        all
     }
-}
-
-// The members of a set, and those of another one if they are to be added.
-fn either_if(set: ChannelSet, other: ChannelSet, is_added: bool) -> ChannelSet
-    ensures { (k : ℕ) → has_bit result k ≡ (has_bit set k || (is_added && has_bit other k)) }
-{
-    if is_added { set.either(other) } else { set }
-}
-
-// This set, or else the one without members.
-pub(crate) fn only_if(set: ChannelSet, is_kept: bool) -> ChannelSet
-    ensures { result ≡ (if is_kept then set else 0) }
-{
-    if is_kept { set } else { ChannelSet::empty() }
 }
 
 // The channels by which packets leave each router, by class and destination.

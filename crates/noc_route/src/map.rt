@@ -3,9 +3,10 @@
 ghost use Rattle.std.specs.Prelude.{◌≡◌, ℕ, Option, Some, None, ◌+◌, ◌-◌, ◌*◌, ◌/◌, ◌%◌, ◌<◌, ◌≤◌, IfOk, IfSome, EachIndex, length, slice_index, slice_index_or, vec_len};
 ghost use Rattle.noc_topo.specs.declared.limits.TheConstants.{MAX_DISTANCE, MAX_RADIX};
 ghost use Rattle.noc_topo.specs.Shape.{Grid, nodes, ports, local_port, neighbour, distance, coordinates, three_coordinates};
-ghost use Rattle.noc_route.specs.Relation.{goes_up};
+ghost use Rattle.noc_steps.specs.Ways.{goes_up};
 
 use crate::sizes::Sizes;
+use noc_steps::goes_up;
 use noc_topo::Kind;
 use std::alloc::{AllocError, Global};
 
@@ -94,11 +95,8 @@ impl Map {
         ensures { result ≡ goes_up self.now.sizes.shape.wraps
             (slice_index self.now.last i + 1) x t }
     {
-        if self.sizes.shape.kind() == Kind::Mesh {
-            return x < t;
-        }
-        let size = self.last[i] + 1;
-        (t + size - x) % size <= (x + size - t) % size
+        let wraps = self.sizes.shape.kind() == Kind::Torus;
+        goes_up(wraps, self.last[i] + 1, x, t)
     }
 }
 

@@ -5,14 +5,16 @@ ghost use Rattle.std.specs.Prelude.{◌≡◌, ℕ, ◌/◌, ◌%◌, ◌<◌, �
 ghost use Rattle.noc_packet.specs.Set.{has_bit};
 ghost use Rattle.noc_topo.specs.Shape.{Grid, nodes, ports, local_port, coordinates, three_coordinates};
 ghost use Rattle.noc_route.specs.Entered.{parts_of, IsWay};
-ghost use Rattle.noc_route.specs.Relation.{is_led, is_of_class, takes_channel, dor_port, is_nearer, is_west_first, takes_port, takes_of_class, index_in_class, is_escape_taken, dateline_class};
+ghost use Rattle.noc_route.specs.Relation.{is_led, takes_channel, dor_port, is_nearer, takes_port, takes_of_class, index_in_class, is_escape_taken};
 ghost use Rattle.noc_route.specs.Routes.{width};
+ghost use Rattle.noc_steps.specs.Ways.{is_of_class};
 
 use crate::map::Map;
 use crate::routing::Routing;
 use crate::rule::Rule;
 use crate::sizes::{Sizes, escapes, resource_class};
 use noc_packet::ChannelSet;
+use noc_steps::{Way, channels_of_class};
 use noc_topo::{Kind, LINKS};
 
 // The output channels by which a rule by coordinates leads a packet of this class, at this router
@@ -29,14 +31,14 @@ pub(crate) fn named_set(routing: &Routing, class: usize, router: usize, dst: usi
     if router == dst {
         return ejection(sizes, class);
     }
-    let way = Way::of(routing.map, router, dst);
-    if let Some(port) = way.only_port(routing.rule) {
-        return way.channels(routing, class, port);
+    let way = way_of(routing.map, router, dst);
+    if let Some(port) = only_port(&way, routing.rule) {
+        return channels(&way, routing, class, port);
     }
     let mut set = ChannelSet::empty();
     for port in 0..sizes.port_count {
-        if port < LINKS && way.takes_port(routing, port) {
-            set = set.either(way.channels(routing, class, port));
+        if port < LINKS && takes_port(&way, routing, port) {
+            set = set.either(channels(&way, routing, class, port));
         }
     }
     set
@@ -49,170 +51,134 @@ fn ejection(sizes: &Sizes, class: usize) -> ChannelSet
         ≡ (nat_eq (k / f.vcs) (local_port f.shape)
         && is_of_class f.vcs f.classes class (k % f.vcs)) }
 {
-    let first = sizes.first_of_class(class);
-    let count = sizes.first_of_class(class + 1) - first;
-    ChannelSet::span((sizes.port_count - 1) * sizes.vcs + first, count)
+    let (first, end) = channels_of_class(sizes.vcs, sizes.classes, class);
+    ChannelSet::span((sizes.port_count - 1) * sizes.vcs + first, end - first)
 }
 
-// The coordinates of a router and a destination, and the port of dimension order between them.
-#[derive(Clone, Copy)]
-struct Way {
-    here: [usize; 3],
-    there: [usize; 3],
-    towards: Option<usize>,
+// The way from a router to a destination.
+fn way_of(map: &Map, router: usize, dst: usize) -> Way
+    requires router { router < nodes map.now.sizes.shape }
+    requires dst { dst < nodes map.now.sizes.shape }
+    ensures way { IsWay map.now.sizes.shape result router dst }
+    ensures link { IfSome result.towards (λ port. port < local_port map.now.sizes.shape) }
+    ensures here { let xs = result.here in
+        EachIndex xs (λ i. slice_index xs i ≤ slice_index map.now.last i) }
+    ensures there { let ts = result.there in
+        EachIndex ts (λ i. slice_index ts i ≤ slice_index map.now.last i) }
+{
+    let here = map.sizes.shape.coordinates(router);
+    let there = map.sizes.shape.coordinates(dst);
+    Way {
+        here,
+        there,
+        towards: dor_port(map, &here, &there),
+    }
 }
 
-impl Way {
-    fn of(map: &Map, router: usize, dst: usize) -> Way
-        requires router { router < nodes map.now.sizes.shape }
-        requires dst { dst < nodes map.now.sizes.shape }
-        ensures way { IsWay map.now.sizes.shape result router dst }
-        ensures link { IfSome result.towards (λ port. port < local_port map.now.sizes.shape) }
-        ensures here { let xs = result.here in
-            EachIndex xs (λ i. slice_index xs i ≤ slice_index map.now.last i) }
-        ensures there { let ts = result.there in
-            EachIndex ts (λ i. slice_index ts i ≤ slice_index map.now.last i) }
-    {
-        let here = map.sizes.shape.coordinates(router);
-        let there = map.sizes.shape.coordinates(dst);
-        Way {
-            here,
-            there,
-            towards: dor_port(map, &here, &there),
+// The port that a rule takes, where it takes no other.
+fn only_port(way: &Way, rule: &Rule) -> Option<usize>
+    ensures towards { IfSome result (λ port. way.now.towards ≡ Some port) }
+    ensures only { IfSome result (λ port. (g : Grid) (r t p : ℕ) → IsWay g way.now r t
+        → takes_port g rule.now (coordinates g.radix r) (coordinates g.radix t) p
+        ≡ nat_eq port p) }
+{
+    match rule {
+        Rule::Dor | Rule::Dateline => way.towards,
+        Rule::WestFirst | Rule::Adaptive | Rule::Rows(_) => None,
+    }
+}
+
+// The channels of a class and of a port that a rule takes, along which it leads.
+fn channels(way: &Way, routing: &Routing, class: usize, port: usize) -> ChannelSet
+    requires class { class < routing.now.map.now.sizes.classes }
+    requires port { port < LINKS }
+    requires exists { port < ports routing.now.map.now.sizes.shape }
+    ensures { let g = parts_of routing.now in (r t k : ℕ) → IsWay g.grid way.now r t
+        → has_bit result k ≡ (nat_eq (k / g.vcs) port
+        && takes_channel g.grid g.vcs g.classes g.rule class (coordinates g.grid.radix r)
+        (coordinates g.grid.radix t) port (k % g.vcs)) }
+{
+    let sizes = &routing.map.sizes;
+    let (first, end) = channels_of_class(sizes.vcs, sizes.classes, class);
+    let mut set = ChannelSet::empty();
+    for vc in first..end {
+        if takes_of_class(way, routing, port, vc) {
+            set = set.with(sizes.index(port, vc));
         }
     }
+    set
+}
 
-    // The port that a rule takes, where it takes no other.
-    fn only_port(&self, rule: &Rule) -> Option<usize>
-        ensures towards { IfSome result (λ port. self.now.towards ≡ Some port) }
-        ensures only { IfSome result (λ port. (g : Grid) (r t p : ℕ) → IsWay g self.now r t
-            → takes_port g rule.now (coordinates g.radix r) (coordinates g.radix t) p
-            ≡ nat_eq port p) }
-    {
-        match rule {
-            Rule::Dor | Rule::Dateline => self.towards,
-            Rule::WestFirst | Rule::Adaptive | Rule::Rows(_) => None,
+// Whether a rule leads along this port, away from the destination.
+fn takes_port(way: &Way, routing: &Routing, port: usize) -> bool
+    requires port { port < LINKS }
+    requires here { let xs = way.now.here in
+        EachIndex xs (λ i. slice_index xs i ≤ slice_index routing.now.map.now.last i) }
+    requires there { let ts = way.now.there in
+        EachIndex ts (λ i. slice_index ts i ≤ slice_index routing.now.map.now.last i) }
+    ensures { let g = routing.now.map.now.sizes.shape in (r t : ℕ) → IsWay g way.now r t
+        → result ≡ takes_port g routing.now.rule.now (coordinates g.radix r)
+        (coordinates g.radix t) port }
+{
+    match routing.rule {
+        Rule::Dor | Rule::Dateline => way.towards == Some(port),
+        Rule::WestFirst => is_nearer(way, routing.map, port) && way.is_west_first(port),
+        Rule::Adaptive => is_nearer(way, routing.map, port),
+        Rule::Rows(_) => false,
+    }
+}
+
+// Whether a link port leads along the shorter way in its dimension, or up where both are
+// equally long.
+fn is_nearer(way: &Way, map: &Map, port: usize) -> bool
+    requires port { port < LINKS }
+    requires here { let xs = way.now.here in
+        EachIndex xs (λ i. slice_index xs i ≤ slice_index map.now.last i) }
+    requires there { let ts = way.now.there in
+        EachIndex ts (λ i. slice_index ts i ≤ slice_index map.now.last i) }
+    ensures { let g = map.now.sizes.shape in (r t : ℕ) → IsWay g way.now r t
+        → result ≡ is_nearer g (coordinates g.radix r) (coordinates g.radix t) port }
+{
+    let i = port / 2;
+    if way.here[i] == way.there[i] {
+        return false;
+    }
+    if map.goes_up(i, way.here[i], way.there[i]) {
+        port % 2 == 0
+    } else {
+        port % 2 != 0
+    }
+}
+
+// Whether a rule takes a channel of a port that it takes, among those of the packet's class.
+fn takes_of_class(way: &Way, routing: &Routing, port: usize, vc: usize) -> bool
+    requires { port < LINKS }
+    ensures { let f = routing.now.map.now.sizes in (r t : ℕ) → IsWay f.shape way.now r t
+        → result ≡ takes_of_class f.shape f.vcs f.classes routing.now.rule.now
+        (coordinates f.shape.radix r) (coordinates f.shape.radix t) port vc }
+{
+    let sizes = &routing.map.sizes;
+    match routing.rule {
+        Rule::Dor | Rule::WestFirst | Rule::Rows(_) => true,
+        Rule::Dateline => {
+            resource_class(sizes.vcs, sizes.classes, vc) == way.dateline_class(port)
+        }
+        Rule::Adaptive => {
+            let index = vc % (sizes.vcs / sizes.classes);
+            index >= escapes(&sizes.shape) || takes_escape(way, sizes, port, index)
         }
     }
+}
 
-    // The channels of a class and of a port that a rule takes, along which it leads.
-    fn channels(&self, routing: &Routing, class: usize, port: usize) -> ChannelSet
-        requires class { class < routing.now.map.now.sizes.classes }
-        requires port { port < LINKS }
-        requires exists { port < ports routing.now.map.now.sizes.shape }
-        ensures { let g = parts_of routing.now in (r t k : ℕ) → IsWay g.grid self.now r t
-            → has_bit result k ≡ (nat_eq (k / g.vcs) port
-            && takes_channel g.grid g.vcs g.classes g.rule class (coordinates g.grid.radix r)
-            (coordinates g.grid.radix t) port (k % g.vcs)) }
-    {
-        let sizes = &routing.map.sizes;
-        let mut set = ChannelSet::empty();
-        for vc in sizes.first_of_class(class)..sizes.first_of_class(class + 1) {
-            if self.takes_of_class(routing, port, vc) {
-                set = set.with(sizes.index(port, vc));
-            }
-        }
-        set
-    }
-
-    // Whether a rule leads along this port, away from the destination.
-    fn takes_port(&self, routing: &Routing, port: usize) -> bool
-        requires port { port < LINKS }
-        requires here { let xs = self.now.here in
-            EachIndex xs (λ i. slice_index xs i ≤ slice_index routing.now.map.now.last i) }
-        requires there { let ts = self.now.there in
-            EachIndex ts (λ i. slice_index ts i ≤ slice_index routing.now.map.now.last i) }
-        ensures { let g = routing.now.map.now.sizes.shape in (r t : ℕ) → IsWay g self.now r t
-            → result ≡ takes_port g routing.now.rule.now (coordinates g.radix r)
-            (coordinates g.radix t) port }
-    {
-        match routing.rule {
-            Rule::Dor | Rule::Dateline => self.towards == Some(port),
-            Rule::WestFirst => self.is_nearer(routing.map, port) && self.is_west_first(port),
-            Rule::Adaptive => self.is_nearer(routing.map, port),
-            Rule::Rows(_) => false,
-        }
-    }
-
-    // Whether west first may lead along this port: down dimension 0 alone while the destination is
-    // there.
-    fn is_west_first(&self, port: usize) -> bool
-        ensures { result ≡ is_west_first self.now.here self.now.there port }
-    {
-        port == 1 || self.here[0] <= self.there[0]
-    }
-
-    // Whether a link port leads along the shorter way in its dimension, or up where both are
-    // equally long.
-    fn is_nearer(&self, map: &Map, port: usize) -> bool
-        requires port { port < LINKS }
-        requires here { let xs = self.now.here in
-            EachIndex xs (λ i. slice_index xs i ≤ slice_index map.now.last i) }
-        requires there { let ts = self.now.there in
-            EachIndex ts (λ i. slice_index ts i ≤ slice_index map.now.last i) }
-        ensures { let g = map.now.sizes.shape in (r t : ℕ) → IsWay g self.now r t
-            → result ≡ is_nearer g (coordinates g.radix r) (coordinates g.radix t) port }
-    {
-        let i = port / 2;
-        if self.here[i] == self.there[i] {
-            return false;
-        }
-        if map.goes_up(i, self.here[i], self.there[i]) {
-            port % 2 == 0
-        } else {
-            port % 2 != 0
-        }
-    }
-
-    // Whether a rule takes a channel of a port that it takes, among those of the packet's class.
-    fn takes_of_class(&self, routing: &Routing, port: usize, vc: usize) -> bool
-        requires { port < LINKS }
-        ensures { let f = routing.now.map.now.sizes in (r t : ℕ) → IsWay f.shape self.now r t
-            → result ≡ takes_of_class f.shape f.vcs f.classes routing.now.rule.now
-            (coordinates f.shape.radix r) (coordinates f.shape.radix t) port vc }
-    {
-        let sizes = &routing.map.sizes;
-        match routing.rule {
-            Rule::Dor | Rule::WestFirst | Rule::Rows(_) => true,
-            Rule::Dateline => {
-                resource_class(sizes.vcs, sizes.classes, vc) == self.dateline_class(port)
-            }
-            Rule::Adaptive => {
-                let index = vc % (sizes.vcs / sizes.classes);
-                index >= escapes(&sizes.shape) || self.takes_escape(sizes, port, index)
-            }
-        }
-    }
-
-    // Whether an escape channel, by its index among those of its class, is taken along a port.
-    fn takes_escape(&self, sizes: &Sizes, port: usize, index: usize) -> bool
-        requires { port < LINKS }
-        ensures { let f = sizes.now in (r t v : ℕ) → IsWay f.shape self.now r t
-            → index ≡ index_in_class f.vcs f.classes v
-            → result ≡ is_escape_taken f.shape f.vcs f.classes (coordinates f.shape.radix r)
-            (coordinates f.shape.radix t) port v }
-    {
-        if self.towards != Some(port) {
-            return false;
-        }
-        let taken = match sizes.shape.kind() {
-            Kind::Mesh => 0,
-            Kind::Torus => self.dateline_class(port),
-        };
-        index == taken
-    }
-
-    // The half of a class's channels that the next hop along a port takes.
-    fn dateline_class(&self, port: usize) -> usize
-        requires { port < LINKS }
-        ensures { result ≡ dateline_class port (slice_index self.now.here (port / 2))
-            (slice_index self.now.there (port / 2)) }
-    {
-        let x = self.here[port / 2];
-        let t = self.there[port / 2];
-        let crosses = if port % 2 == 0 { t < x } else { x < t };
-        if crosses { 0 } else { 1 }
-    }
+// Whether an escape channel, by its index among those of its class, is taken along a port.
+fn takes_escape(way: &Way, sizes: &Sizes, port: usize, index: usize) -> bool
+    requires { port < LINKS }
+    ensures { let f = sizes.now in (r t v : ℕ) → IsWay f.shape way.now r t
+        → index ≡ index_in_class f.vcs f.classes v
+        → result ≡ is_escape_taken f.shape f.vcs f.classes (coordinates f.shape.radix r)
+        (coordinates f.shape.radix t) port v }
+{
+    way.takes_escape(sizes.shape.kind() == Kind::Torus, port, index)
 }
 
 // The port of dimension order: in the lowest dimension in which router and destination differ.

@@ -161,15 +161,6 @@ impl Sizes {
     {
         self.slot(self.page(class, router, dst), self.index(in_port, in_vc))
     }
-
-    // The first channel of a class, and the end of the channels of the class before.
-    pub(crate) fn first_of_class(&self, class: usize) -> usize
-        requires { class ≤ self.now.classes }
-        ensures value { result ≡ class * self.now.vcs / self.now.classes }
-        ensures within { result ≤ self.now.vcs }
-    {
-        class * self.vcs / self.classes
-    }
 }
 
 /// The half of its class's channels in which a channel is: 0, 1, or 2 for the odd one at the end.

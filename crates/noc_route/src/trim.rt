@@ -1,8 +1,7 @@
 //! Taking out the entries that no packet reaches.
 
-ghost use Rattle.std.specs.Prelude.{◌≡◌, ℕ, ◌⊎◌, ◌+◌, ◌*◌, ◌<◌, ◌≤◌, ◌&&◌, length, nat_eq, slice_index, if◌then◌else◌};
+ghost use Rattle.std.specs.Prelude.{◌≡◌, ℕ, ◌⊎◌, ◌+◌, ◌*◌, ◌<◌, ◌≤◌, ◌&&◌, length, nat_eq, slice_index};
 ghost use Rattle.noc_packet.specs.Set.{has_bit};
-ghost use Rattle.noc_packet.specs.declared.limits.TheConstants.{INDICES};
 ghost use Rattle.noc_topo.specs.Shape.{nodes};
 ghost use Rattle.noc_route.specs.Entered.{AreAll, sets_in};
 ghost use Rattle.noc_route.specs.Order.{earlier_entry};
@@ -10,10 +9,11 @@ ghost use Rattle.noc_route.specs.Routes.{width, pages};
 ghost use Rattle.noc_route.specs.Trimming.{routes_in, page_set, comes_at, reached_at, left_in, AreComing, IsFirstLeft};
 
 use crate::entered::Entered;
-use crate::gather::{Departures, only_if};
+use crate::gather::Departures;
 use crate::rule::Entry;
 use crate::sizes::Sizes;
 use noc_packet::ChannelSet;
+use noc_steps::{only_if, take_row};
 
 // Writes the sets that are left of a router and a class, by input channel and destination, and
 // answers the first entry that packets reach and whose set is empty, among those of this router and
@@ -97,31 +97,6 @@ fn trim_column(
             take_row(sets, pair * nodes, coming, input, block, input * nodes);
         }
         Entered::OfEntries(_) => take_entries(sizes, entered, coming, block, pair, input),
-    }
-}
-
-// Writes the sets from `first` on where packets come to an input channel, and else none.
-fn take_row(
-    sets: &[ChannelSet],
-    first: usize,
-    coming: &[ChannelSet],
-    input: usize,
-    block: &mut [ChannelSet],
-    from: usize,
-)
-    requires sets { first + length coming.now ≤ length sets.now }
-    requires input { input < INDICES }
-    requires block { from + length coming.now ≤ length block.old }
-    ensures column { (t : ℕ) → t < length coming.now → slice_index block.new (from + t)
-        ≡ (if has_bit (slice_index coming.now t) input
-        then slice_index sets.now (first + t) else 0) }
-    ensures others { (j : ℕ) → (j < from) ⊎ (from + length coming.now ≤ j)
-        → slice_index block.new j ≡ slice_index block.old j }
-{
-    for dst in 0..coming.len() {
-        let set = sets[first + dst];
-        let is_reached = coming[dst].contains(input);
-        block[from + dst] = only_if(set, is_reached);
     }
 }
 

@@ -1,5 +1,5 @@
 use Rattle.std.proofs.Common.{◌≡◌, ◌<◌, ℕ, None, get_or, false}
-use Rattle.noc_rank.specs.NotRisingTo.{falls}
+use Rattle.noc_steps.specs.Falls.{falls}
 use Rattle.noc_rank.proofs.descent.start_in.Given as goal
 
 abbrev pub invariant-loop-index : goal.invariant-loop-index

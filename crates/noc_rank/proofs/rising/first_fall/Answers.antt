@@ -1,7 +1,5 @@
-use Rattle.std.proofs.Common.{◌≡◌, ◌*◌, ◌<◌, ◌≤◌, ℕ, ap, subst, ◌∙◌, arith}
-use Rattle.std.proofs.lemmas.Nat.{mul-le}
+use Rattle.std.proofs.Common.{◌≡◌, ◌*◌, ◌<◌, ℕ, subst, ◌∙◌, arith}
 use Rattle.rayon.proofs.ToStd.{nat_range-All}
-use Rattle.noc_topo.specs.Shape.{nodes, ports}
 use Rattle.noc_rank.specs.NotRising.{input_count, HasNoFall}
 use Rattle.noc_rank.proofs.CheckLemmas.{count-inputs, all-rise, IsFirstBut, searched, one-first}
 use Rattle.noc_rank.proofs.rising.first_fall.Goals as goal
@@ -11,10 +9,10 @@ find_first-requires-clause-items g c κs within =
     let ends = c.into_par_iter.ensures in
     let relation = c.args.ranked.now.relation.now in
     let k = c.args.ranked.now.ranks.now in
-    let n = c.classes.result * c.nodes.result * c.ports.result * c.vcs.result in
+    let n = c.inputs-count.result in
     let count : n ≡ relation.classes * input_count k
-    = ap (λ x. x * c.nodes.result * c.ports.result * c.vcs.result) c.classes.ensures.value
-    ∙ count-inputs k relation.classes c.nodes.result c.ports.result c.vcs.result (c.nodes.ensures.value ∙ ap nodes (c.shape.ensures.value ∙ c.args.ranked.now.grid)) (c.ports.ensures.value ∙ ap ports (c.shape-2.ensures.value ∙ c.args.ranked.now.grid)) (c.vcs.ensures.value ∙ c.args.ranked.now.vcs) in
+    = c.inputs-count.ensures.value
+    ∙ count-inputs k c.classes.result c.vcs.result relation.classes c.shape.result.now c.classes.ensures.value (c.shape.ensures.value ∙ c.args.ranked.now.grid) (c.vcs.ensures.value ∙ c.args.ranked.now.vcs) in
     let inside = nat_range-All (λ i. i < relation.classes * input_count k) 0 n (λ i low high. subst (λ m. i < m) count high) in
     rw (ends.0, ends.1) (λ j d lt p e. rw e (inside j d lt))
 
@@ -23,10 +21,10 @@ returns-in_err-number g c =
     let ends = c.into_par_iter.ensures in
     let relation = c.args.ranked.now.relation.now in
     let k = c.args.ranked.now.ranks.now in
-    let n = c.classes.result * c.nodes.result * c.ports.result * c.vcs.result in
+    let n = c.inputs-count.result in
     let count : n ≡ relation.classes * input_count k
-    = ap (λ x. x * c.nodes.result * c.ports.result * c.vcs.result) c.classes.ensures.value
-    ∙ count-inputs k relation.classes c.nodes.result c.ports.result c.vcs.result (c.nodes.ensures.value ∙ ap nodes (c.shape.ensures.value ∙ c.args.ranked.now.grid)) (c.ports.ensures.value ∙ ap ports (c.shape-2.ensures.value ∙ c.args.ranked.now.grid)) (c.vcs.ensures.value ∙ c.args.ranked.now.vcs) in
+    = c.inputs-count.ensures.value
+    ∙ count-inputs k c.classes.result c.vcs.result relation.classes c.shape.result.now c.classes.ensures.value (c.shape.ensures.value ∙ c.args.ranked.now.grid) (c.vcs.ensures.value ∙ c.args.ranked.now.vcs) in
     let told = searched (HasNoFall relation k) n _ _ c.find_first.result ends.0 ends.1 c.find_first.ensures in
     let none : (e : ℕ) → e < n → HasNoFall relation k e = rw c.in_err-number.was at told in
     rw c.from_residual.ensures (all-rise relation k n c.args.ranked.now.grid c.args.ranked.now.vcs c.vcs.ensures.built.table.grid count none)
@@ -36,10 +34,10 @@ first_at-requires g c =
     let ends = c.into_par_iter.ensures in
     let relation = c.args.ranked.now.relation.now in
     let k = c.args.ranked.now.ranks.now in
-    let n = c.classes.result * c.nodes.result * c.ports.result * c.vcs.result in
+    let n = c.inputs-count.result in
     let count : n ≡ relation.classes * input_count k
-    = ap (λ x. x * c.nodes.result * c.ports.result * c.vcs.result) c.classes.ensures.value
-    ∙ count-inputs k relation.classes c.nodes.result c.ports.result c.vcs.result (c.nodes.ensures.value ∙ ap nodes (c.shape.ensures.value ∙ c.args.ranked.now.grid)) (c.ports.ensures.value ∙ ap ports (c.shape-2.ensures.value ∙ c.args.ranked.now.grid)) (c.vcs.ensures.value ∙ c.args.ranked.now.vcs) in
+    = c.inputs-count.ensures.value
+    ∙ count-inputs k c.classes.result c.vcs.result relation.classes c.shape.result.now c.classes.ensures.value (c.shape.ensures.value ∙ c.args.ranked.now.grid) (c.vcs.ensures.value ∙ c.args.ranked.now.vcs) in
     let told = searched (HasNoFall relation k) n _ _ c.find_first.result ends.0 ends.1 c.find_first.ensures in
     let found : IsFirstBut (HasNoFall relation k) 0 n c.in_ok-number.number = rw c.in_ok-number.was at told in
     omega (arith, count, found.below)
@@ -49,23 +47,7 @@ returns g c =
     let ends = c.into_par_iter.ensures in
     let relation = c.args.ranked.now.relation.now in
     let k = c.args.ranked.now.ranks.now in
-    let n = c.classes.result * c.nodes.result * c.ports.result * c.vcs.result in
+    let n = c.inputs-count.result in
     let told = searched (HasNoFall relation k) n _ _ c.find_first.result ends.0 ends.1 c.find_first.ensures in
     let found : IsFirstBut (HasNoFall relation k) 0 n c.in_ok-number.number = rw c.in_ok-number.was at told in
     one-first relation k n c.in_ok-number.number c.first_at.result c.args.ranked.now.grid c.args.ranked.now.vcs c.vcs.ensures.built.table.grid found c.first_at.ensures
-
-pub overflow_mul-count-2 : goal.overflow_mul-count-2
-overflow_mul-count-2 g c =
-    let classes : c.classes.result ≤ 4 = omega (arith, c.classes.ensures.value, c.classes.ensures.built.table.few_classes) in
-    let a = mul-le c.classes.result c.nodes.result 4 256 classes (omega (arith, c.nodes.ensures.few)) in
-    let b = mul-le (c.classes.result * c.nodes.result) c.ports.result (4 * 256) 7 a (omega (arith, c.ports.ensures.few)) in
-    omega (arith, b)
-
-pub overflow_mul-count-3 : goal.overflow_mul-count-3
-overflow_mul-count-3 g c =
-    let few : c.vcs.result ≤ 8 = omega (arith, c.vcs.ensures.value, c.vcs.ensures.built.table.few_vcs) in
-    let classes : c.classes.result ≤ 4 = omega (arith, c.classes.ensures.value, c.vcs.ensures.built.table.few_classes) in
-    let a = mul-le c.classes.result c.nodes.result 4 256 classes (omega (arith, c.nodes.ensures.few)) in
-    let b = mul-le (c.classes.result * c.nodes.result) c.ports.result (4 * 256) 7 a (omega (arith, c.ports.ensures.few)) in
-    let d = mul-le (c.classes.result * c.nodes.result * c.ports.result) c.vcs.result (4 * 256 * 7) 8 b few in
-    omega (arith, d)

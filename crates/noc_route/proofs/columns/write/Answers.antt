@@ -1,7 +1,8 @@
 use Rattle.std.proofs.Common.{◌<◌, ◌+◌, ◌*◌, length, arith}
 use Rattle.noc_topo.specs.Shape.{nodes}
 use Rattle.noc_route.specs.Routes.{width}
-use Rattle.noc_route.proofs.ColumnLemmas.{block-below, column_of, column-at, written-more, others-more}
+use Rattle.noc_route.proofs.ColumnLemmas.{block-below, column_of, column-at}
+use Rattle.noc_steps.proofs.WrittenLemmas.{written-more, others-more}
 use Rattle.noc_route.proofs.columns.write.Goals as goal
 
 pub bounds-block-input : goal.bounds-block-input

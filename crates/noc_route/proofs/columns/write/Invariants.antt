@@ -1,5 +1,6 @@
 use Rattle.noc_topo.specs.Shape.{nodes}
-use Rattle.noc_route.proofs.ColumnLemmas.{StandsTo, LeavesOthers, column_of}
+use Rattle.noc_route.proofs.ColumnLemmas.{column_of}
+use Rattle.noc_steps.proofs.WrittenLemmas.{StandsTo, LeavesOthers}
 use Rattle.noc_route.proofs.columns.write.Given as goal
 
 abbrev pub invariant-loop-dst : goal.invariant-loop-dst

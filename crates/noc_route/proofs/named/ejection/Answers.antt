@@ -8,6 +8,6 @@ returns c = λ k.
     let f = c.args.sizes.now in
     let local : f.port_count - 1 ≡ local_port f.shape = omega (arith, f.all_ports) in
     c.span.ensures k
-    ∙ span_test k (local_port f.shape) (c.args.class * f.vcs / f.classes) ((c.args.class + 1) * f.vcs / f.classes) f.vcs _ _ (omega (arith, c.first_of_class.ensures.value, c.first_of_class.ensures.within))
-    (ap (λ p. p * f.vcs + c.first_of_class-first.result) local ∙ ap (λ v. local_port f.shape * f.vcs + v) c.first_of_class-first.ensures.value)
-    (omega (arith, c.first_of_class.ensures.value, c.first_of_class-first.ensures.value))
+    ∙ span_test k (local_port f.shape) (c.args.class * f.vcs / f.classes) ((c.args.class + 1) * f.vcs / f.classes) f.vcs _ _ (omega (arith, c.channels_of_class-first.ensures.end, c.channels_of_class-first.ensures.within))
+    (ap (λ p. p * f.vcs + c.channels_of_class-first.result.0) local ∙ ap (λ v. local_port f.shape * f.vcs + v) c.channels_of_class-first.ensures.first)
+    (omega (arith, c.channels_of_class-first.ensures.end, c.channels_of_class-first.ensures.first))

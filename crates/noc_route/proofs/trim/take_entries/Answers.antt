@@ -7,7 +7,8 @@ use Rattle.noc_route.specs.Entered.{sets_in}
 use Rattle.noc_route.specs.Routes.{width, pages}
 use Rattle.noc_route.specs.Trimming.{routes_in, page_set, reached_at}
 use Rattle.noc_route.proofs.EntryLemmas.{flat-below}
-use Rattle.noc_route.proofs.ColumnLemmas.{StandsTo, LeavesOthers, block-below, written-more, others-more}
+use Rattle.noc_route.proofs.ColumnLemmas.{block-below}
+use Rattle.noc_steps.proofs.WrittenLemmas.{StandsTo, LeavesOthers, written-more, others-more}
 use Rattle.noc_route.proofs.trim.take_entries.Goals as goal
 
 pub set-set-requires-clause-page : goal.set-set-requires-clause-page

@@ -2,7 +2,7 @@ use Rattle.std.proofs.Common.{◌*◌}
 use Rattle.noc_topo.specs.Shape.{nodes}
 use Rattle.noc_route.specs.Entered.{sets_in}
 use Rattle.noc_route.specs.Trimming.{reached_at}
-use Rattle.noc_route.proofs.ColumnLemmas.{StandsTo, LeavesOthers}
+use Rattle.noc_steps.proofs.WrittenLemmas.{StandsTo, LeavesOthers}
 use Rattle.noc_route.proofs.trim.take_entries.Given as goal
 
 abbrev pub invariant-loop-dst : goal.invariant-loop-dst

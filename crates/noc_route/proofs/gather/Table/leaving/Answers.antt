@@ -1,13 +1,17 @@
-use Rattle.std.proofs.Common.{◌≡◌, ℕ, ◌+◌, ◌*◌, ◌<◌, ◌∙◌, sym, ap, arith, subst}
-use Rattle.std.specs.Prelude.{◌&&◌, not, slice_index}
+use Rattle.std.proofs.Common.{◌≡◌, ℕ, ◌+◌, ◌*◌, ◌<◌, ◌∙◌, sym, ap, arith, subst, get_or}
+use Rattle.std.specs.Prelude.{◌&&◌, not}
 use Rattle.std.proofs.lemmas.List.{get_or_default}
 use Rattle.noc_packet.specs.Set.{has_bit}
+use Rattle.noc_topo.specs.Shape.{ports}
 use Rattle.noc_route.specs.Routes.{width, pages}
 use Rattle.noc_route.specs.Entered.{AreAll, sets_in}
 use Rattle.noc_route.specs.Trimming.{routes_in, set_in, page_set, comes_in}
 use Rattle.noc_route.specs.declared.entered.Entered.{Entered}
 use Rattle.noc_route.proofs.EnterLemmas.{page_set-pages}
-use Rattle.noc_route.proofs.TrimLemmas.{IsGathered, IsGathered-more, any_below-same, any_below-and, any_of_set, has_bit-only}
+use Rattle.noc_route.proofs.TrimLemmas.{any_below-same, any_below-and, any_of_set, has_bit-only}
+use Rattle.noc_route.proofs.EntryLemmas.{flat-below}
+use Rattle.noc_route.proofs.ColumnLemmas.{row-end}
+use Rattle.noc_steps.specs.Reached.{any_below}
 use Rattle.noc_route.proofs.gather.Table.leaving.Goals as goal
 
 pub returns-in-OfPages : goal.returns-in-OfPages
@@ -35,25 +39,32 @@ returns-in-OfPages c = λ k l.
     ∙ any_below-same w (λ i. has_bit coming i && has_bit set k) (λ i. comes i && has_bit (set_in routes c.args.class c.args.router c.args.dst i) k)
     (λ i m. ap (λ b. b && has_bit set k) (c.arrivals-coming.ensures.members (sets_in f entered) i m) ∙ ap (λ s. comes i && has_bit s k) (had i m))
 
-pub loop-input-init : goal.loop-input-init
-loop-input-init c = λ k l. c.empty-all.ensures.members k
+pub slot-requires-clause-input : goal.slot-requires-clause-input
+slot-requires-clause-input c = let f = c.args.self.now.map.now.sizes in let some = flat-below 0 (ports f.shape) 0 f.vcs (omega arith) f.some_vcs in omega (arith, some)
 
-pub set-set-requires-clause-input : goal.set-set-requires-clause-input
-set-set-requires-clause-input c = let P : ℕ → Type 0 = λ n. c.loop-input.input < n in subst P c.width-input-end.ensures.value c.loop-input-test.true
-
-pub loop-input-preserved : goal.loop-input-preserved
-loop-input-preserved c =
+pub taken-requires-clause-sets : goal.taken-requires-clause-sets
+taken-requires-clause-sets c =
     let f = c.args.self.now.map.now.sizes in
-    let sets = sets_in f c.args.self.now.entered.now in
-    let within : c.loop-input.input < width f.shape f.vcs = let P : ℕ → Type 0 = λ n. c.loop-input.input < n in subst P c.width-input-end.ensures.value c.loop-input-test.true in
-    IsGathered-more (routes_in f sets) c.args.outs.now c.args.class c.args.router c.args.dst c.loop-input.input c.loop-input.all c.set-set.result c.either_if-all.result c.contains.result
-    (c.contains.ensures ∙ c.arrivals-coming.ensures.members sets c.loop-input.input within)
-    (c.set-set.ensures ∙ ap (λ b. slice_index sets (b * width f.shape f.vcs + c.loop-input.input)) c.page-page.ensures.value)
-    c.either_if-all.ensures c.loop-input.invariant
+    let P : Entered → Type 0 = λ e. AreAll f e in
+    let all : c.in-OfEntries.sets.len ≡ pages f.shape f.classes * width f.shape f.vcs = subst P c.in-OfEntries.is c.args.self.now.all in
+    let room = row-end c.page-page.result (pages f.shape f.classes) (width f.shape f.vcs) c.page-page.ensures.within in
+    omega (arith, all, room, c.slot.ensures.value, c.width.ensures.value, c.deref.ensures.len)
 
-pub returns : goal.returns
-returns c =
+pub returns-in-OfEntries : goal.returns-in-OfEntries
+returns-in-OfEntries c = λ k l.
     let f = c.args.self.now.map.now.sizes in
-    let P : ℕ → Type 0 = λ n. IsGathered (routes_in f (sets_in f c.args.self.now.entered.now)) c.args.outs.now c.args.class c.args.router c.args.dst n c.loop-input.all in
-    let all : c.loop-input.input ≡ width f.shape f.vcs = omega (arith, c.loop-input.auto.input-end, c.loop-input-test.false, c.width-input-end.ensures.value) in
-    subst P all c.loop-input.invariant
+    let entered = c.args.self.now.entered.now in
+    let routes = routes_in f (sets_in f entered) in
+    let outs = c.args.outs.now in
+    let w = width f.shape f.vcs in
+    let coming = c.arrivals-coming.result in
+    let sets = c.in-OfEntries.sets.items in
+    let comes = λ (i : ℕ). comes_in routes outs c.args.class c.args.router c.args.dst i in
+    let place : (i : ℕ) → c.slot.result + i ≡ c.page-page.result * w + i = λ i. omega (arith, c.slot.ensures.value) in
+    let had : (i : ℕ) → get_or c.deref.result.now (c.slot.result + i) 0 ≡ set_in routes c.args.class c.args.router c.args.dst i
+    = λ i. ap (λ xs. get_or xs (c.slot.result + i) 0) c.deref.ensures.value ∙ ap (λ n. get_or sets n 0) (place i)
+    ∙ sym (ap (λ e. page_set (routes_in f (sets_in f e)) c.page-page.result i) c.in-OfEntries.is) ∙ ap (λ b. page_set routes b i) c.page-page.ensures.value in
+    c.taken.ensures k
+    ∙ ap (λ n. any_below n (λ i. has_bit coming i && has_bit (get_or c.deref.result.now (c.slot.result + i) 0) k)) c.width.ensures.value
+    ∙ any_below-same w (λ i. has_bit coming i && has_bit (get_or c.deref.result.now (c.slot.result + i) 0) k) (λ i. comes i && has_bit (set_in routes c.args.class c.args.router c.args.dst i) k)
+    (λ i m. ap (λ b. b && has_bit (get_or c.deref.result.now (c.slot.result + i) 0) k) (c.arrivals-coming.ensures.members (sets_in f entered) i m) ∙ ap (λ s. comes i && has_bit s k) (had i))
