@@ -29,6 +29,7 @@ LINE = Network("mesh", (2,), 1, 2, 1, "dor", 12)
 # A configuration whose values do not go together, and its first fault, which comes before that of the traffic.
 BAD_CONFIGS = [
     (replace(LINE, radix=(17,)), "fault shape 2 BadRadix\n"),
+    (replace(LINE, radix=(1,)), "fault shape 2 BadRadix\n"),
     (replace(LINE, radix=(17, 2, 2, 2)), "fault shape 1 BadDimensions\n"),
     (replace(LINE, radix=(16, 16, 2)), "fault shape 3 TooManyNodes\n"),
     (replace(LINE, channels=9), "fault config 8 BadValue key channels\n"),
