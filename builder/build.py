@@ -55,7 +55,7 @@ SECONDS = {
     "noc_theory": 102, "noc_theory_bits": 34, "noc_columns": 330, "noc_cycles": 170, "noc_counts": 60,
     "noc_theory_cycles": 45, "noc_queues": 20, "noc_engine": 130, "noc_workers": 140, "noc_wires": 30, "noc_net": 75,
     "noc_commands": 47, "noc_bytes": 20, "noc_files": 272, "noc_cli": 193, "noc_faults": 27, "noc_answers": 64,
-    "noc_program": 68, "noc": 160,
+    "noc_asked": 25, "noc_program": 55, "noc": 160,
 }
 
 

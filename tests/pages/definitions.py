@@ -32,7 +32,7 @@ STATEMENTS = {
     "headline": ("the laws of `noc_theory_headline`", ["noc_theory_headline/src"]),
     "answer": ("`answer` of noc_answers", ["noc_answers/src/answers.rt"]),
     "program": ("words, answer, exit status and fault line", [
-        "noc_answers/src/answers.rt", "noc_cli/src", "noc_program/src", "noc_faults/src/line.rt"]),
+        "noc_answers/src/answers.rt", "noc_cli/src", "noc_asked/src", "noc_program/src", "noc_faults/src/line.rt"]),
 }
 COLUMNS = """| File | What it is | Definitions that contracts name | Part of |
 |---|---|---|---|"""

@@ -1,11 +1,13 @@
--- A request has a file where its words name one.
-use Rattle.std.proofs.Common.{◌≡◌, ℕ, List, Option, Some, None, refl}
-use Rattle.std.specs.Prelude.{is_some}
-use Rattle.std.specs.Borrow.{Bor}
-use Rattle.noc_program.specs.Requests.{ReadsIfNamed}
+-- What words ask for, by what their arguments do.
+use Rattle.std.proofs.Common.{ℕ, ◌<◌, List, length, subst, sym}
+use Rattle.noc_cli.specs.Args.{IsAskedBy}
+use Rattle.noc_cli.specs.declared.args.Args.{Args}
+use Rattle.noc_commands.specs.Workers.{HasWorkers}
+use Rattle.noc_asked.specs.Asked.{AsksAs}
+use Rattle.noc_asked.specs.declared.asked.Asked.{Asked}
+use Rattle.noc_asked.specs.declared.asked.Asked.TheVariants.{Answer, Version}
+use Rattle.noc_program.specs.Requests.{IsAskedAs, names}
 
-pub named_alike : {T : Type 0} (Reads : List ℕ → T → Type 0) (name : Option (Bor (List ℕ))) (text : Option T) → ReadsIfNamed Reads name text → is_some text ≡ is_some name
-named_alike Reads None None reads = refl
-named_alike Reads None (Some text) reads = absurd reads
-named_alike Reads (Some name) None reads = absurd reads
-named_alike Reads (Some name) (Some text) reads = refl
+pub asked-as : (words : List (List ℕ)) (args : Args) (asked : Asked) → 1 < length words → IsAskedBy words args → HasWorkers args.command → AsksAs args asked → IsAskedAs words asked
+asked-as words args (Answer request) more said workers made = (names {args = args} more said made.0 made.1 made.2, subst HasWorkers (sym made.0) workers)
+asked-as words args Version more said workers made = absurd made

@@ -1,6 +1,5 @@
--- What arguments ask for, and the texts of a request, read from the files that they name.
-use Rattle.std.specs.Prelude.{◌≡◌, ◌≢◌, ◌<◌, ◌≤◌, List, ℕ, Option, Some, None, Result, Err, ⊤, is_some, length}
-use Rattle.std.specs.Borrow.{Bor}
+-- What arguments ask for.
+use Rattle.std.specs.Prelude.{◌≡◌, ◌≢◌, ◌<◌, ◌≤◌, List, ℕ, None, ⊤, is_some, length}
 use Rattle.clap.specs.Words.{kind_of}
 use Rattle.clap.specs.declared.error.Error.{Error}
 use Rattle.clap.specs.declared.error.kind.ErrorKind.TheVariants.{DisplayVersion}
@@ -9,10 +8,8 @@ use Rattle.noc_cli.specs.Args.{IsAskedBy, IsRefusal}
 use Rattle.noc_cli.specs.declared.args.Args.{Args}
 use Rattle.noc_commands.specs.Workers.{HasWorkers}
 use Rattle.noc_commands.specs.declared.command.Command.TheVariants.{Joined}
-use Rattle.noc_bytes.specs.declared.input_fault.InputFault.{InputFault}
-use Rattle.noc_bytes.specs.declared.input_fault.InputFault.TheVariants.{ReadFailed}
-use Rattle.noc_program.specs.declared.arguments.Asked.{Asked}
-use Rattle.noc_program.specs.declared.arguments.Asked.TheVariants.{Answer, Version}
+use Rattle.noc_asked.specs.declared.asked.Asked.{Asked}
+use Rattle.noc_asked.specs.declared.asked.Asked.TheVariants.{Answer, Version}
 use Rattle.noc_program.specs.declared.arguments.Refusal.{Refusal}
 use Rattle.noc_program.specs.declared.arguments.Refusal.TheVariants as refusal
 
@@ -37,16 +34,3 @@ abbrev pub IsRefusedAs : List (List ℕ) → Refusal → Type 0
 IsRefusedAs words refusal.Memory = ⊤
 IsRefusedAs words (refusal.NotText number) = ⊥
 IsRefusedAs words (refusal.Args error) = IsRefusal words error × (kind_of error ≢ DisplayVersion)
-
--- what is read for a name, where there is one
-abbrev pub ReadsIfNamed : {T : Type 0} → (List ℕ → T → Type 0) → Option (Bor (List ℕ)) → Option T
-    → Type 0
-ReadsIfNamed Reads None None = ⊤
-ReadsIfNamed Reads (Some name) (Some text) = Reads name.now text
-ReadsIfNamed Reads _ _ = ⊥
-
--- what is read for a name, or that nothing was read where there is none
-abbrev pub ReadsOrFails : {T : Type 0} → (List ℕ → Result T InputFault → Type 0)
-    → Option (Bor (List ℕ)) → Result T InputFault → Type 0
-ReadsOrFails Reads None text = text ≡ Err ReadFailed
-ReadsOrFails Reads (Some name) text = Reads name.now text

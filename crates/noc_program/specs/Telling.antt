@@ -1,27 +1,17 @@
--- How the program ends: the exit status, and the line of a fault.
+-- How the program ends.
 use Rattle.std.specs.Prelude.{◌≡◌, ◌⊎◌, ℕ, Bool, List, Option, Result, Ok, Err, ⊤}
 use Rattle.noc_answers.specs.Answer.{Asks, FirstFault}
 use Rattle.noc_answers.specs.Ending.{Ends}
 use Rattle.noc_answers.specs.declared.request.Request.{Request}
 use Rattle.noc_commands.specs.Workers.{workers_of}
-use Rattle.noc_faults.specs.Line.{line_of}
-use Rattle.noc_faults.specs.Status.{status_code, status_of_fault}
 use Rattle.noc_faults.specs.declared.fault.Fault.{Fault}
 use Rattle.noc_faults.specs.declared.fault.Fault.TheVariants.{Config, Write}
 use Rattle.noc_faults.specs.declared.status.Status.{Status}
 use Rattle.noc_faults.specs.declared.status.Status.TheVariants.{Done}
-use Rattle.noc_files.specs.Writing.{Wrote}
 use Rattle.noc_bytes.specs.declared.input_fault.InputFault.TheVariants.{Memory}
 use Rattle.noc_bytes.specs.declared.writing.WriteFault.{WriteFault}
 use Rattle.noc_program.specs.Requests.{Asks as AsksFor, AsksForVersion}
-
--- the exit status is that of the answer, and the line of a fault is written
-abbrev pub Tells : {S : Type 0} → (S → Option (List ℕ)) → (S → Bool) → S → S → Result Status Fault
-    → ℕ → Type 0
-Tells contents failed old new (Ok ended) status = (status ≡ status_code ended) × (new ≡ old)
-Tells contents failed old new (Err fault) status =
-    (status ≡ status_of_fault fault)
-    × ((done : Result (Unit {0}) WriteFault) × Wrote contents failed old new (line_of fault) done)
+use Rattle.noc_asked.specs.Telling.{Tells}
 
 -- how answering a request ends, whatever the device is on which the answer goes: `Done` and `Stuck`
 -- are of the text that is asked for. There may also be no memory for the way to the device.

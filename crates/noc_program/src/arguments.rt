@@ -1,12 +1,12 @@
 //! The request that the arguments make, with the texts of the files that they name.
 
-ghost use Rattle.std.specs.Prelude.{◌≡◌, IfErr, IfOk, map, string_bytes};
-ghost use Rattle.std.specs.Fn.{FnReturnsAt};
-ghost use Rattle.noc_program.specs.Requests.{IsAskedAs, IsRefusedAs, ReadsIfNamed, ReadsOrFails};
+ghost use Rattle.std.specs.Prelude.{IfErr, IfOk, map, string_bytes};
+ghost use Rattle.noc_program.specs.Requests.{IsAskedAs, IsRefusedAs};
 
 use clap::error::ErrorKind;
 use noc_answers::{Request, Text};
-use noc_cli::{Args, read_args};
+use noc_asked::{Asked, asked_of};
+use noc_cli::read_args;
 use noc_commands::Command;
 use noc_files::{InputFault, read_all};
 use std::env::FillError;
@@ -16,15 +16,6 @@ use std::{env, io};
 
 /// The most bytes of one input text.
 const INPUT_LIMIT: usize = 67_108_864;
-
-// What the arguments ask for.
-#[derive(Drop)]
-pub(crate) enum Asked {
-    // An answer.
-    Answer(Request),
-    // Which version of the program this is.
-    Version,
-}
 
 /// Why the arguments make no request.
 #[derive(Drop)]
@@ -63,7 +54,7 @@ pub(crate) fn parse_args(
         }
     };
     match read_args(rt.alloc(), args) {
-        Ok(args) => Ok(Asked::Answer(request_of(&args, file_text))),
+        Ok(args) => Ok(asked_of(&args, file_text)),
         Err(error) => match error.kind() {
             ErrorKind::DisplayVersion => Ok(Asked::Version),
             ErrorKind::OutOfMemory => Err(Refusal::Memory),
@@ -92,23 +83,4 @@ fn wrong_arg(rt: &impl Env) -> Option<usize> {
         }
     }
     None
-}
-
-/// The request of the arguments, with what `read` gives for the files that they name. Traffic that
-/// is not named is not read.
-pub fn request_of<F: Fn(&str) -> Text>(args: &Args<'_>, read: F) -> Request
-    requires { F.IsAlwaysCallable read }
-    ensures command { result.command ≡ args.now.command }
-    ensures config { FnReturnsAt F.Fn read args.now.config.now result.config }
-    ensures table { ReadsIfNamed (FnReturnsAt F.Fn read) args.now.table result.table }
-    ensures ranks { ReadsIfNamed (FnReturnsAt F.Fn read) args.now.ranks result.ranks }
-    ensures traffic { ReadsOrFails (FnReturnsAt F.Fn read) args.now.traffic result.traffic }
-{
-    Request {
-        config: read(args.config),
-        table: args.table.map(&read),
-        ranks: args.ranks.map(&read),
-        traffic: args.traffic.map_or(Err(InputFault::ReadFailed), &read),
-        command: args.command,
-    }
 }

@@ -9,8 +9,8 @@ mod program;
 mod telling;
 mod version;
 
-pub use arguments::{Refusal, request_of};
+pub use arguments::Refusal;
 pub use device::{write_answer, write_answer_one};
+pub use noc_asked::{report, request_of};
 pub use program::{run, run_args};
-pub use telling::report;
 pub use version::write_version;

@@ -7,11 +7,12 @@ ghost use Rattle.noc_program.specs.Ending.{IsExitStatus};
 ghost use Rattle.noc_program.specs.Requests.{IsRefusedAs};
 ghost use Rattle.noc_program.specs.Telling.{HasEnded, TellsVersion, WasAnswered};
 
-use crate::arguments::{Asked, Refusal, all_args, parse_args};
+use crate::arguments::{Refusal, all_args, parse_args};
 use crate::device::answer_on;
-use crate::telling::{report, report_refusal};
+use crate::telling::report_refusal;
 use crate::version::write_version;
 use noc_answers::Request;
+use noc_asked::{Asked, report};
 use noc_faults::{Fault, Status};
 use noc_files::{Out, Sink};
 use std::fs::Files;

@@ -1,13 +1,13 @@
-//! How the program tells how it has ended.
+//! How the program tells why nothing was asked for.
 
 ghost use Rattle.std.specs.Prelude.{◌≡◌, ◌≢◌};
 ghost use Rattle.std.specs.Process.{exit_status};
-ghost use Rattle.noc_program.specs.Telling.{Tells};
 
 use crate::arguments::Refusal;
 use arrayvec::ArrayString;
-use noc_faults::{Fault, Status, fault_line, status_of};
-use noc_files::{InputFault, Out, Sink};
+use noc_asked::report;
+use noc_faults::Fault;
+use noc_files::{InputFault, Out};
 use std::fmt::Write as _;
 use std::io::Write;
 use std::process::ExitCode;
@@ -33,19 +33,4 @@ pub(crate) fn report_refusal<W: Write + Drop>(mut to: W, refusal: &Refusal) -> E
         Refusal::Args(error) => write!(to, "{error}"),
     };
     ExitCode::from(WRONG_ARGS)
-}
-
-/// Gives the exit status of an answer, and tells its fault, if there is one, by its line
-/// (docs/FORMATS.md, "Fault lines"). The line goes out in one write, so that programs side by side,
-/// with one file for their errors, leave whole lines there.
-pub fn report<W: Sink>(ended: Result<Status, Fault>, errors: &mut W) -> ExitCode
-    ensures { Tells W.contents W.has_failed errors.old errors.new ended (exit_status result) }
-{
-    match ended {
-        Ok(status) => ExitCode::from(status.code()),
-        Err(fault) => {
-            let _ = fault_line(&fault, errors);
-            ExitCode::from(status_of(&fault))
-        }
-    }
 }
