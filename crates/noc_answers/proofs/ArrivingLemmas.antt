@@ -17,7 +17,7 @@ use Rattle.noc_theory.proofs.worms.OpeningLemmas.{below-rises}
 use Rattle.noc_theory.proofs.worms.TurnLemmas.{take-turns}
 use Rattle.noc_wires.proofs.BelowLemmas.{one_not}
 use Rattle.noc_answers.specs.Arriving.{is_left, left_for}
-use Rattle.noc_answers.specs.Drain.{is_out_at}
+use Rattle.noc_requests.specs.Drain.{is_out_at}
 
 -- rising numbers are different
 different : (xs : List ℕ) → Pairs (λ (a b : ℕ). a < b) xs → Pairs (λ (a b : ℕ). a ≢ b) xs

@@ -10,7 +10,7 @@ use Rattle.noc_theory.specs.Progress.{NoneDue, events}
 use Rattle.noc_theory.proofs.worms.BuiltLemmas.{well-formed}
 use Rattle.noc_theory.proofs.budget.UnchangedLemmas.{state-until}
 use Rattle.noc_net.proofs.LimitLemmas.{all-out, limit-once, limit-some}
-use Rattle.noc_answers.specs.Drain.{DrainsAt, DrainsBy, RunsTo, at_limit, at_once, is_out_at, look, once_out}
+use Rattle.noc_requests.specs.Drain.{DrainsAt, DrainsBy, RunsTo, at_limit, at_once, is_out_at, look, once_out}
 
 module _ (net : Setup) (limit : ℕ) where
   -- where it ends at once: at the limit, or where every packet is out

@@ -1,6 +1,4 @@
 pub mod MemoryLemmas
-pub mod EndingLemmas
-pub mod AskedLemmas
 pub mod OneSettingsLemmas
 pub mod ArrivalLemmas
 pub mod DrainLemmas

@@ -12,19 +12,19 @@ use Rattle.noc_bytes.specs.Joined.{SplitsAt, line_at}
 use Rattle.noc_files.specs.Ranks.{ranks_text}
 use Rattle.noc_files.specs.Trace.{trace_text}
 use Rattle.noc_files.specs.declared.trace.Traced.{Traced}
-use Rattle.noc_answers.specs.Asked.{Asked, ReadsAs, as_files, as_joined, parts}
-use Rattle.noc_answers.specs.Options.{first_cycle, packet_option_fault, trace_of}
+use Rattle.noc_requests.specs.Asked.{Asked, ReadsAs, as_files, as_joined, parts}
+use Rattle.noc_requests.specs.Options.{first_cycle, packet_option_fault, trace_of}
 use Rattle.noc_faults.specs.declared.fault.OptionFault.{OptionFault}
 use Rattle.noc_commands.specs.declared.command.Command.{Command}
 use Rattle.noc_commands.specs.declared.command.Command.TheVariants as command
 use Rattle.noc_commands.specs.declared.report.Report.{Report}
-use Rattle.noc_answers.specs.declared.request.Request.{Request}
+use Rattle.noc_requests.specs.declared.request.Request.{Request}
 use Rattle.noc_faults.specs.declared.status.Status.{Status}
-use Rattle.noc_answers.specs.Answer.{Asks, AsksFor, a_report, findings, traces, accepted, ranks}
-use Rattle.noc_answers.specs.Drain.{RunsTo}
-use Rattle.noc_answers.specs.Formula.{HasRanks}
+use Rattle.noc_requests.specs.Answer.{Asks, AsksFor, a_report, findings, traces, accepted, ranks}
+use Rattle.noc_requests.specs.Drain.{RunsTo}
+use Rattle.noc_requests.specs.Formula.{HasRanks}
 use Rattle.noc_files.specs.Reports.{report_text}
-use Rattle.noc_answers.specs.Run.{AsksForRun, IsNetworkOf, cycles_asked, ending, runs_until_out, report_of}
+use Rattle.noc_requests.specs.Run.{AsksForRun, IsNetworkOf, cycles_asked, ending, runs_until_out, report_of}
 use Rattle.noc_answers.proofs.OneSettingsLemmas.{one_relation_asked}
 use Rattle.noc_answers.proofs.DrainLemmas.{ends-once}
 use Rattle.noc_answers.proofs.OneRankingLemmas.{one-generated}

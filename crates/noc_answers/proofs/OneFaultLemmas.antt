@@ -20,25 +20,25 @@ use Rattle.noc_files.specs.Configuration.{Settings}
 use Rattle.noc_bytes.specs.Joined.{SplitsAt, line_at, line_len}
 use Rattle.noc_files.specs.Ranks.{ranks_of}
 use Rattle.noc_bytes.specs.declared.input_fault.InputFault.{InputFault}
-use Rattle.noc_answers.specs.Asked.{Asked, TextValue, ReadsAs, as_files, as_joined, is_joined, owned_text, read_by}
-use Rattle.noc_answers.specs.Answer.{Asks, AsksFor, a_report, findings, traces, accepted, ranks, TextsFault, in_settings, in_formula, in_ranks, in_packets, no_packet, runs, FirstFault, unread, unsplit, in_texts}
-use Rattle.noc_answers.specs.Check.{Accepts, AsksForChecked, HasRanking, RanksFault, bad_file, bad_rows, bad_ranks, checked_by, checked_ranks}
-use Rattle.noc_answers.specs.Formula.{HasRanks, IsFormulaFault}
+use Rattle.noc_requests.specs.Asked.{Asked, TextValue, ReadsAs, as_files, as_joined, is_joined, owned_text, read_by}
+use Rattle.noc_requests.specs.Answer.{Asks, AsksFor, a_report, findings, traces, accepted, ranks, TextsFault, in_settings, in_formula, in_ranks, in_packets, no_packet, runs, FirstFault, unread, unsplit, in_texts}
+use Rattle.noc_requests.specs.Check.{Accepts, AsksForChecked, HasRanking, RanksFault, bad_file, bad_rows, bad_ranks, checked_by, checked_ranks}
+use Rattle.noc_requests.specs.Formula.{HasRanks, IsFormulaFault}
 use Rattle.noc_net.specs.declared.net_fault.NetFault.{NetFault}
 use Rattle.noc_net.specs.declared.net_fault.NetFault.TheVariants as net
 use Rattle.noc_packet.specs.declared.packet.Packet.{Packet}
-use Rattle.noc_answers.specs.Settings.{AsksForRelation}
+use Rattle.noc_requests.specs.Settings.{AsksForRelation}
 use Rattle.noc_route.specs.Names.{rule_named}
 use Rattle.noc_faults.specs.Status.{is_memory}
 use Rattle.noc_faults.specs.declared.fault.Fault.{Fault}
 use Rattle.noc_faults.specs.declared.fault.Fault.TheVariants as fault
-use Rattle.noc_answers.specs.Options.{packet_option_fault}
+use Rattle.noc_requests.specs.Options.{packet_option_fault}
 use Rattle.noc_faults.specs.declared.fault.OptionFault.{OptionFault}
 use Rattle.noc_commands.specs.declared.command.Command.{Command}
 use Rattle.noc_commands.specs.declared.command.Command.TheVariants as command
-use Rattle.noc_answers.specs.declared.request.Request.{Request}
+use Rattle.noc_requests.specs.declared.request.Request.{Request}
 use Rattle.noc_faults.specs.declared.status.Status.{Status}
-use Rattle.noc_answers.specs.Run.{IsNetworkOf, IsUnmade, Opens, PacketsFault, bad_traffic, bad_network}
+use Rattle.noc_requests.specs.Run.{IsNetworkOf, IsUnmade, Opens, PacketsFault, bad_traffic, bad_network}
 use Rattle.noc_answers.proofs.MemoryLemmas.{network_not_memory, ranks_not_memory, traffic_not_memory}
 use Rattle.noc_answers.proofs.OneSettingsLemmas.{one_relation_asked, no_settings_fault, one_settings_fault}
 use Rattle.noc_answers.proofs.OneAnswerLemmas.{kind, reports, explains, checks, ranked, is_trace, has_packet, has_no_packet, one_reading}

@@ -16,9 +16,9 @@ use Rattle.noc_files.specs.Configuration.{Settings, config_of}
 use Rattle.noc_files.specs.Table.{table_of}
 use Rattle.noc_route.specs.declared.rule.RuleName.{RuleName}
 use Rattle.noc_bytes.specs.declared.input_fault.InputFault.{InputFault}
-use Rattle.noc_answers.specs.Asked.{Asked, TextValue, read_by}
-use Rattle.noc_answers.specs.Options.{early_fault, late_fault}
-use Rattle.noc_answers.specs.Settings.{AsksForSettings, AsksForShape, AsksForRelation, IsRuleOf, named, tabled, RefusesTable, bad_table, SettingsFault, bad_config, bad_option, bad_shape, bad_late_option, in_table, bad_relation}
+use Rattle.noc_requests.specs.Asked.{Asked, TextValue, read_by}
+use Rattle.noc_requests.specs.Options.{early_fault, late_fault}
+use Rattle.noc_requests.specs.Settings.{AsksForSettings, AsksForShape, AsksForRelation, IsRuleOf, named, tabled, RefusesTable, bad_table, SettingsFault, bad_config, bad_option, bad_shape, bad_late_option, in_table, bad_relation}
 use Rattle.noc_faults.specs.Status.{is_memory}
 use Rattle.noc_faults.specs.declared.fault.Fault.{Fault}
 use Rattle.noc_faults.specs.declared.fault.Fault.TheVariants as fault

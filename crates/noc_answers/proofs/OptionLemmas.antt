@@ -7,9 +7,9 @@ use Rattle.noc_topo.specs.Shape.{Grid, nodes}
 use Rattle.noc_route.specs.Routes.{Routes}
 use Rattle.noc_theory.specs.Network.{Setup}
 use Rattle.noc_files.specs.declared.trace.Traced.{Traced}
-use Rattle.noc_answers.specs.Asked.{Asked}
-use Rattle.noc_answers.specs.Options.{early_fault, first_cycle, is_bad_span, last_cycle, late_fault, or_option_fault, router_fault, table_fault, trace_of}
-use Rattle.noc_answers.specs.Run.{Opens}
+use Rattle.noc_requests.specs.Asked.{Asked}
+use Rattle.noc_requests.specs.Options.{early_fault, first_cycle, is_bad_span, last_cycle, late_fault, or_option_fault, router_fault, table_fault, trace_of}
+use Rattle.noc_requests.specs.Run.{Opens}
 use Rattle.noc_faults.specs.declared.fault.OptionFault.{OptionFault}
 use Rattle.noc_faults.specs.declared.fault.OptionFault.TheVariants.{BadCycle, BadRouter}
 use Rattle.noc_commands.specs.declared.command.Command.{Command}

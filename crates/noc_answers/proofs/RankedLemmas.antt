@@ -10,20 +10,20 @@ use Rattle.noc_theory.specs.Network.{Run, state_at}
 use Rattle.noc_theory.proofs.worms.BuiltLemmas.{well-formed}
 use Rattle.noc_theory.proofs.budget.ProgressTheoremLemmas.{not-stuck}
 use Rattle.noc_bytes.specs.declared.writing.WriteFault.{WriteFault}
-use Rattle.noc_answers.specs.Asked.{Asked, TextValue, ReadsAs, as_files, as_joined, is_joined, owned_text}
-use Rattle.noc_answers.specs.Ending.{Ends, at_fault, cut_off, in_full, unstarted}
+use Rattle.noc_requests.specs.Asked.{Asked, TextValue, ReadsAs, as_files, as_joined, is_joined, owned_text}
+use Rattle.noc_requests.specs.Ending.{Ends, at_fault, cut_off, in_full, unstarted}
 use Rattle.noc_commands.specs.declared.command.Command.{Command}
 use Rattle.noc_commands.specs.declared.command.Command.TheVariants as command
 use Rattle.noc_commands.specs.declared.report.Report.{Report}
-use Rattle.noc_answers.specs.declared.request.Request.{Request}
+use Rattle.noc_requests.specs.declared.request.Request.{Request}
 use Rattle.noc_faults.specs.declared.status.Status.{Status}
 use Rattle.noc_faults.specs.declared.status.Status.TheVariants.{Done, Stuck}
 use Rattle.noc_faults.specs.declared.fault.Fault.{Fault}
-use Rattle.noc_answers.specs.Answer.{Asks, AsksFor, AsksForArrivals, IsRankedDrain, IsRankedRun, a_report, findings, traces, accepted, ranks}
-use Rattle.noc_answers.specs.Check.{Accepts, checked_by, checked_ranks}
-use Rattle.noc_answers.specs.Drain.{RunsTo}
-use Rattle.noc_answers.specs.Options.{trace_of}
-use Rattle.noc_answers.specs.Run.{AsksForRun, cycles_asked, ending, runs_until_out}
+use Rattle.noc_requests.specs.Answer.{Asks, AsksFor, AsksForArrivals, IsRankedDrain, IsRankedRun, a_report, findings, traces, accepted, ranks}
+use Rattle.noc_requests.specs.Check.{Accepts, checked_by, checked_ranks}
+use Rattle.noc_requests.specs.Drain.{RunsTo}
+use Rattle.noc_requests.specs.Options.{trace_of}
+use Rattle.noc_requests.specs.Run.{AsksForRun, cycles_asked, ending, runs_until_out}
 use Rattle.noc_answers.proofs.DrainLemmas.{drained-out}
 
 -- a run whose ranks are checked ends done

@@ -5,17 +5,17 @@ use Rattle.std.proofs.lemmas.Bool.{false≢true}
 use Rattle.noc_files.specs.Configuration.{Settings}
 use Rattle.noc_theory.specs.Network.{Run, Setup}
 use Rattle.noc_route.specs.Routes.{Routes}
-use Rattle.noc_answers.specs.Asked.{Asked, TextValue, ReadsAs, as_files, as_joined, is_joined}
-use Rattle.noc_answers.specs.Settings.{AsksForRelation}
+use Rattle.noc_requests.specs.Asked.{Asked, TextValue, ReadsAs, as_files, as_joined, is_joined}
+use Rattle.noc_requests.specs.Settings.{AsksForRelation}
 use Rattle.noc_faults.specs.declared.fault.Fault.{Fault}
 use Rattle.noc_commands.specs.declared.command.Command.{Command}
 use Rattle.noc_commands.specs.declared.command.Command.TheVariants as command
 use Rattle.noc_commands.specs.declared.report.Report.{Report}
-use Rattle.noc_answers.specs.declared.request.Request.{Request}
-use Rattle.noc_answers.specs.Answer.{TextsFault, in_ranks, runs}
-use Rattle.noc_answers.specs.Drain.{RunsTo}
-use Rattle.noc_answers.specs.Check.{RanksFault, checked_ranks}
-use Rattle.noc_answers.specs.Run.{AsksForRun, Opens, cycles_asked, runs_until_out, report_of}
+use Rattle.noc_requests.specs.declared.request.Request.{Request}
+use Rattle.noc_requests.specs.Answer.{TextsFault, in_ranks, runs}
+use Rattle.noc_requests.specs.Drain.{RunsTo}
+use Rattle.noc_requests.specs.Check.{RanksFault, checked_ranks}
+use Rattle.noc_requests.specs.Run.{AsksForRun, Opens, cycles_asked, runs_until_out, report_of}
 use Rattle.noc_commands.specs.Workers.{workers_of}
 use Rattle.noc_answers.proofs.DrainLemmas.{ends-some}
 
@@ -60,12 +60,6 @@ some-run a report drain before opens reports drains =
     let end = ends-some before.net drain opens.settings.cycles in
     let run : Run = record { net = before.net; count = end.0 } in
     (run, ran-report a report drain before run opens opens.settings.cycles reports drains refl refl end.1)
-
--- the fault of ranks that are checked
-pub in_checked_ranks : (a : Asked) (s : Settings) (routes : Routes) (f : Fault) (ranks : Option TextValue) → AsksForRelation a s routes → checked_ranks a ≡ ranks
-    → IsSomeAnd ranks (λ text. RanksFault routes text f) → TextsFault a f
-in_checked_ranks a s routes f (Some text) asks checked bad = in_ranks asks checked bad
-in_checked_ranks a s routes f None asks checked bad = absurd bad
 
 -- a request has the workers of the texts as which it is read
 one-worker : (x : Command) → is_joined x ≡ true → 1 ≡ workers_of x

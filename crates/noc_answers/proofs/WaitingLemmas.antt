@@ -12,7 +12,7 @@ use Rattle.noc_theory.proofs.worms.WormRecordLemmas.{valid-last}
 use Rattle.noc_theory.proofs.alone.UndueLemmas.{undue-at}
 use Rattle.noc_wires.proofs.BelowLemmas.{one_not}
 use Rattle.noc_net.proofs.LimitLemmas.{packet-here}
-use Rattle.noc_answers.specs.Drain.{is_out_at}
+use Rattle.noc_requests.specs.Drain.{is_out_at}
 
 module _ (net : Setup) (good : IsGoodSetup net) where
   -- its tail is at its source then

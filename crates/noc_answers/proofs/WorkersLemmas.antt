@@ -5,15 +5,15 @@ use Rattle.std.proofs.lemmas.Bool.{cases_lt, false≢true, lt-ltb, ltb-true}
 use Rattle.noc_topo.specs.Shape.{Grid, nodes}
 use Rattle.noc_route.specs.Routes.{Routes}
 use Rattle.noc_files.specs.Configuration.{Settings}
-use Rattle.noc_answers.specs.Asked.{as_files, as_joined, files_of}
-use Rattle.noc_answers.specs.Options.{late_fault, trace_of}
-use Rattle.noc_answers.specs.Settings.{AsksForRelation}
+use Rattle.noc_requests.specs.Asked.{as_files, as_joined, files_of}
+use Rattle.noc_requests.specs.Options.{late_fault, trace_of}
+use Rattle.noc_requests.specs.Settings.{AsksForRelation}
 use Rattle.noc_faults.specs.declared.fault.OptionFault.TheVariants.{BadWorkers}
 use Rattle.noc_commands.specs.declared.command.Command.TheVariants as command
 use Rattle.noc_commands.specs.declared.report.Report.{Report}
-use Rattle.noc_answers.specs.declared.request.Request.{Request}
+use Rattle.noc_requests.specs.declared.request.Request.{Request}
 use Rattle.noc_faults.specs.declared.status.Status.{Status}
-use Rattle.noc_answers.specs.Answer.{Asks, AsksFor, a_report, accepted, by_workers, findings, ranks, traces}
+use Rattle.noc_requests.specs.Answer.{Asks, AsksFor, a_report, accepted, by_workers, findings, ranks, traces}
 use Rattle.noc_answers.proofs.OneAnswerLemmas.{one_answer}
 
 module _ (r : Request) (report : Report) (drain : Bool) (many few : ℕ) (less : few ≤ many) where

@@ -1,11 +1,2 @@
-pub mod Asked
-pub mod Ending
-pub mod Options
-pub mod Settings
-pub mod Check
-pub mod Drain
-pub mod Formula
-pub mod Run
-pub mod Answer
 pub mod Arriving
 pub mod Prelude

@@ -3,15 +3,14 @@
 ghost use Rattle.std.specs.Prelude.{◌≡◌, ℕ, IfErr, IfOk, List, Ok};
 ghost use Rattle.noc_answers.specs.Prelude.{Wrote, ReadsAs, lent_files, Ends, Refuses, Asks, AsksForArrivals, FirstFault, IsAnswered, IsRankedDrain, IsRankedRun, HasWorkers, workers_of};
 
-use crate::checking::answer_check;
 use crate::explain::explain;
 use crate::formula::answer_ranks;
-use crate::request::{Files, Request, files_of};
 use crate::run::{Task, run, run_by_workers};
 use crate::tracing::{Span, trace};
 use noc_commands::{Command, Report};
 use noc_faults::{Fault, Status};
 use noc_files::{InputFault, Sink, Traced, split_joined};
+use noc_requests::{Files, Request, answer_check, files_of};
 use std::alloc::Global;
 use std::sync::Wait;
 use std::thread::Threads;

@@ -1,17 +1,15 @@
 //! Running a network for its cycles, and on until every packet is out.
 
-ghost use Rattle.std.specs.Prelude.{◌≡◌, ℕ, ◌+◌, ◌*◌, ◌<◌, ◌≤◌, max, false, true, IfOk};
+ghost use Rattle.std.specs.Prelude.{◌≡◌, ℕ, ◌+◌, ◌<◌, ◌≤◌, false, true, IfOk};
 ghost use Rattle.noc_answers.specs.Prelude.{DrainsBy, RunsTo, is_out_at, state_at, events};
 
 use crate::arriving::arriving_cycles;
 use noc_net::{CYCLE_LIMIT, Network, NotRun};
+use noc_times::{to_next_look, was_quiet};
 use std::alloc::Global;
 use std::sync::Wait;
 use std::thread::Threads;
 use std::time::Clock;
-
-// After how many cycles a run that is to drain looks again whether every packet is out.
-const DRAIN_CHECK_INTERVAL: u64 = 64;
 
 // Runs a network on where it is to drain: until every packet is out, or to its limit.
 pub(crate) fn run_on(network: &mut Network, drain: bool)
@@ -92,7 +90,7 @@ fn unchanged_cycles(network: &Network, most: u64) -> u64
     ensures same { (k : ℕ) → k ≤ result → state_at network.now.net (network.now.count + k)
         ≡ state_at network.now.net network.now.count }
 {
-    if !was_quiet(network) {
+    if !is_quiet(network) {
         return 0;
     }
     let count = network.count();
@@ -107,22 +105,12 @@ fn unchanged_cycles(network: &Network, most: u64) -> u64
 }
 
 // Whether the last cycle had no event.
-fn was_quiet(network: &Network) -> bool
+fn is_quiet(network: &Network) -> bool
     ensures { result ≡ true → (n : ℕ) × (network.now.count ≡ n + 1)
         × (events network.now.net n (state_at network.now.net n) ≡ 0) }
 {
     match network.count().checked_sub(1) {
-        Some(last) => network.last_event() != Some(last),
+        Some(last) => was_quiet(last, network.last_event()),
         None => false,
     }
-}
-
-// How many cycles it is to the first of the later looks that is at least so many cycles away.
-fn to_next_look(cycles: u64) -> u64
-    requires { cycles ≤ CYCLE_LIMIT }
-    ensures look { (k : ℕ) × (result ≡ (k + 1) * DRAIN_CHECK_INTERVAL)
-        × (k * DRAIN_CHECK_INTERVAL < max cycles 1) }
-    ensures enough { cycles ≤ result }
-{
-    cycles.max(1).next_multiple_of(DRAIN_CHECK_INTERVAL)
 }

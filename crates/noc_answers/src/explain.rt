@@ -3,12 +3,10 @@
 ghost use Rattle.std.specs.Prelude.{◌≡◌};
 ghost use Rattle.noc_answers.specs.Prelude.{lent_files, IsAnswered};
 
-use crate::ending::ended;
-use crate::request::Files;
-use crate::run::opening_network;
 use noc_commands::Command;
 use noc_faults::{Fault, Status};
 use noc_files::{Sink, write_findings};
+use noc_requests::{Files, ended, opening_network};
 use std::alloc::Global;
 use std::thread::Threads;
 

@@ -3,13 +3,11 @@
 ghost use Rattle.std.specs.Prelude.{◌≡◌};
 ghost use Rattle.noc_answers.specs.Prelude.{lent_files, IsAnswered};
 
-use crate::ending::ended;
-use crate::request::Files;
-use crate::settings::relation_of;
 use noc_commands::Command;
 use noc_faults::{Fault, Status};
 use noc_files::{Sink, write_ranks};
 use noc_rank::{RankFault, Ranks};
+use noc_requests::{Files, ended, relation_of};
 use std::alloc::Global;
 
 // Writes the ranks by formula of the rule, once its relation could be made. A table has none.

@@ -3,7 +3,7 @@
 ghost use Rattle.std.specs.Prelude.{ℕ, Bool, List, [], ◌∷◌, ◌++◌, Some, length, decimal, ◌≡◌, ◌-◌, ◌<◌, ◌≤◌, false, true};
 ghost use Rattle.noc_answers.specs.Prelude.{are_all_out, Run, arrival_in, packet_at, state_at, latency_line, packet_start, comma, text_of_pieces, line_end, is_memory, Asks, FirstFault, by_workers};
 ghost use Rattle.noc_faults.specs.declared.fault.Fault.{Fault as FaultValue};
-ghost use Rattle.noc_answers.specs.declared.request.Request.{Request as RequestValue};
+ghost use Rattle.noc_requests.specs.declared.request.Request.{Request as RequestValue};
 ghost use Rattle.noc_faults.specs.declared.status.Status.{Status as StatusValue};
 ghost use Rattle.noc_commands.specs.declared.report.Report.{Report as ReportValue};
 

@@ -2,15 +2,12 @@
 
 ghost use Rattle.std.specs.Prelude.{◌≡◌, IfErr, IfOk, None, OnOk, length, true};
 ghost use Rattle.noc_answers.specs.Prelude.{nothing_found, lent_files, Refuses, IsAnswered, TextsFault, runs, Opens};
-ghost use Rattle.noc_answers.specs.Options.{packet_option_fault, trace_of};
+ghost use Rattle.noc_requests.specs.Options.{packet_option_fault, trace_of};
 
-use crate::ending::ended;
-use crate::request::Files;
-use crate::run::opening_network;
-use crate::settings::{last_cycle, packet_fault};
 use noc_faults::{Fault, Status};
 use noc_files::{Sink, Trace, Traced, write_trace};
 use noc_net::{NetFault, Network};
+use noc_requests::{Files, ended, last_cycle, opening_network, packet_fault};
 use std::alloc::Global;
 use std::thread::Threads;
 

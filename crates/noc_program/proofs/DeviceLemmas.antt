@@ -5,12 +5,12 @@ use Rattle.std.specs.Io.KnownBytes.{Appends, Keeps, append_known}
 use Rattle.std.proofs.lemmas.List.{append_assoc, append-nil, take-append-drop}
 use Rattle.std.proofs.Math.Seq.{take-append-add, take-append_seam}
 use Rattle.noc_files.specs.Writing.{Wrote}
-use Rattle.noc_answers.specs.Ending.{Ends, at_fault, cut_off, in_full, is_late, unstarted}
+use Rattle.noc_requests.specs.Ending.{Ends, at_fault, cut_off, in_full, is_late, unstarted}
 use Rattle.noc_faults.specs.declared.fault.Fault.{Fault}
 use Rattle.noc_faults.specs.declared.fault.Fault.TheVariants as fault
-use Rattle.noc_answers.specs.declared.request.Request.{Request}
+use Rattle.noc_requests.specs.declared.request.Request.{Request}
 use Rattle.noc_faults.specs.declared.status.Status.{Status}
-use Rattle.noc_answers.specs.Answer.{Asks, FirstFault}
+use Rattle.noc_requests.specs.Answer.{Asks, FirstFault}
 use Rattle.noc_program.specs.Counted.{with_start}
 use Rattle.noc_program.specs.Ending.{EndsAs, IsOnDevice}
 

@@ -1,9 +1,9 @@
 -- How answering ends, once it is left out what the device has.
 use Rattle.std.proofs.Common.{◌≡◌, ℕ, List, Option, Some, None, Result, Ok, Err, inl, inr}
 use Rattle.std.specs.Prelude.{IfNone, IfSome}
-use Rattle.noc_answers.specs.Answer.{Asks, FirstFault}
-use Rattle.noc_answers.specs.Ending.{Ends, at_fault, cut_off, in_full, unstarted}
-use Rattle.noc_answers.specs.declared.request.Request.{Request}
+use Rattle.noc_requests.specs.Answer.{Asks, FirstFault}
+use Rattle.noc_requests.specs.Ending.{Ends, at_fault, cut_off, in_full, unstarted}
+use Rattle.noc_requests.specs.declared.request.Request.{Request}
 use Rattle.noc_commands.specs.Workers.{workers_of}
 use Rattle.noc_faults.specs.declared.fault.Fault.{Fault}
 use Rattle.noc_faults.specs.declared.fault.Fault.TheVariants.{Config}

@@ -3,7 +3,7 @@ use Rattle.std.specs.Prelude.{◌≡◌, ◌≢◌, ◌<◌, ◌≤◌, List, �
 use Rattle.clap.specs.Words.{kind_of}
 use Rattle.clap.specs.declared.error.Error.{Error}
 use Rattle.clap.specs.declared.error.kind.ErrorKind.TheVariants.{DisplayVersion}
-use Rattle.noc_answers.specs.declared.request.Request.{Request}
+use Rattle.noc_requests.specs.declared.request.Request.{Request}
 use Rattle.noc_cli.specs.Args.{IsAskedBy, IsRefusal}
 use Rattle.noc_cli.specs.declared.args.Args.{Args}
 use Rattle.noc_commands.specs.Workers.{HasWorkers}

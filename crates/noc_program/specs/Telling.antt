@@ -1,8 +1,8 @@
 -- How the program ends.
 use Rattle.std.specs.Prelude.{◌≡◌, ◌⊎◌, ℕ, Bool, List, Option, Result, Ok, Err, ⊤}
-use Rattle.noc_answers.specs.Answer.{Asks, FirstFault}
-use Rattle.noc_answers.specs.Ending.{Ends}
-use Rattle.noc_answers.specs.declared.request.Request.{Request}
+use Rattle.noc_requests.specs.Answer.{Asks, FirstFault}
+use Rattle.noc_requests.specs.Ending.{Ends}
+use Rattle.noc_requests.specs.declared.request.Request.{Request}
 use Rattle.noc_commands.specs.Workers.{workers_of}
 use Rattle.noc_faults.specs.declared.fault.Fault.{Fault}
 use Rattle.noc_faults.specs.declared.fault.Fault.TheVariants.{Config, Write}

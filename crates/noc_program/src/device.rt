@@ -3,8 +3,8 @@
 ghost use Rattle.std.specs.Prelude.{◌≡◌, [], Err, IfNone, IfSome, IsErr};
 ghost use Rattle.std.specs.Io.Buffered.{writer_buffer, writer_contents, writer_inner};
 ghost use Rattle.std.specs.Io.KnownBytes.{Keeps};
-ghost use Rattle.noc_answers.specs.Ending.{Ends};
-ghost use Rattle.noc_answers.specs.Answer.{Asks, FirstFault};
+ghost use Rattle.noc_requests.specs.Ending.{Ends};
+ghost use Rattle.noc_requests.specs.Answer.{Asks, FirstFault};
 ghost use Rattle.noc_commands.specs.Workers.{HasWorkers, workers_of};
 ghost use Rattle.noc_program.specs.Counted.{IsOpened, IsTakenBack, counted_contents};
 ghost use Rattle.noc_program.specs.Ending.{EndsAs, IsOnDevice};

@@ -1,11 +1,11 @@
 use Rattle.std.proofs.Common.{◌≡◌, ap, sym, subst}
 use Rattle.noc_files.specs.Writing.{Wrote}
-use Rattle.noc_answers.specs.Asked.{Asked, ReadsAs, as_files, lent_files, files_of, is_joined}
-use Rattle.noc_answers.specs.Ending.{Ends}
+use Rattle.noc_requests.specs.Asked.{Asked, ReadsAs, as_files, lent_files, files_of, is_joined}
+use Rattle.noc_requests.specs.Ending.{Ends}
 use Rattle.noc_commands.specs.declared.command.Command.{Command}
-use Rattle.noc_answers.specs.Answer.{Asks, AsksFor, FirstFault, TextsFault, in_texts}
+use Rattle.noc_requests.specs.Answer.{Asks, AsksFor, FirstFault, TextsFault, in_texts}
 use Rattle.noc_commands.specs.Workers.{workers_of}
-use Rattle.noc_answers.proofs.EndingLemmas.{ends_more}
+use Rattle.noc_requests.proofs.EndingLemmas.{ends_more}
 use Rattle.noc_answers.proofs.RankedLemmas.{ends-done, ends-drained}
 use Rattle.noc_answers.proofs.answers.answer.Goals as goal
 

@@ -1,11 +1,11 @@
 use Rattle.std.proofs.Common.{◌≡◌, ℕ, refl, subst}
 use Rattle.std.proofs.lemmas.Result.{err_from_is_err_and}
 use Rattle.noc_files.specs.Writing.{Wrote}
-use Rattle.noc_answers.specs.Asked.{lent_files}
-use Rattle.noc_answers.specs.Ending.{Ends, at_fault}
-use Rattle.noc_answers.specs.Answer.{Asks, AsksFor, FirstFault, TextsFault, in_texts}
+use Rattle.noc_requests.specs.Asked.{lent_files}
+use Rattle.noc_requests.specs.Ending.{Ends, at_fault}
+use Rattle.noc_requests.specs.Answer.{Asks, AsksFor, FirstFault, TextsFault, in_texts}
 use Rattle.noc_commands.specs.Workers.{workers_of}
-use Rattle.noc_answers.proofs.EndingLemmas.{ends_more}
+use Rattle.noc_requests.proofs.EndingLemmas.{ends_more}
 use Rattle.noc_answers.proofs.RequestLemmas.{same-workers}
 use Rattle.noc_answers.proofs.RankedLemmas.{ends-done, ends-drained}
 use Rattle.noc_answers.proofs.answers.answer_one.Goals as goal

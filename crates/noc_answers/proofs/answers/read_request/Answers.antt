@@ -1,8 +1,8 @@
 use Rattle.std.proofs.Common.{◌≡◌, Ok, ap, refl}
-use Rattle.noc_answers.specs.Asked.{is_joined, owned_text}
-use Rattle.noc_answers.specs.Asked.{as_files, as_joined}
-use Rattle.noc_answers.specs.Answer.{unread, unsplit}
-use Rattle.noc_answers.proofs.AskedLemmas.{not_joined}
+use Rattle.noc_requests.specs.Asked.{is_joined, owned_text}
+use Rattle.noc_requests.specs.Asked.{as_files, as_joined}
+use Rattle.noc_requests.specs.Answer.{unread, unsplit}
+use Rattle.noc_requests.proofs.AskedLemmas.{not_joined}
 use Rattle.noc_answers.proofs.answers.read_request.Goals as goal
 
 pub returns-in_default : goal.returns-in_default

@@ -2,7 +2,7 @@ use Rattle.std.proofs.Common.{◌≡◌, ℕ, ◌+◌, ◌-◌, ◌<◌, ◌≤�
 use Rattle.std.specs.Prelude.{◌⊎◌}
 use Rattle.std.proofs.lemmas.Bool.{cases_lt}
 use Rattle.noc_net.specs.Limit.{are_all_out}
-use Rattle.noc_answers.specs.Drain.{is_out_at}
+use Rattle.noc_requests.specs.Drain.{is_out_at}
 use Rattle.noc_answers.proofs.DrainLemmas.{drains-waiting}
 use Rattle.noc_answers.proofs.drain.next_piece.Goals as goal
 

@@ -1,5 +1,5 @@
 use Rattle.std.proofs.Common.{◌≡◌, ℕ, ◌-◌}
-use Rattle.noc_answers.specs.Drain.{DrainsBy}
+use Rattle.noc_requests.specs.Drain.{DrainsBy}
 use Rattle.noc_answers.proofs.drain.run_on_by.Given as goal
 
 -- where the run drains from here, it drains from where it began

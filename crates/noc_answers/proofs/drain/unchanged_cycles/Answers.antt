@@ -5,7 +5,7 @@ use Rattle.noc_answers.proofs.drain.unchanged_cycles.Goals as goal
 pub returns-clause-same : goal.returns-clause-same
 returns-clause-same c =
     let now = c.args.network.now in
-    let last = c.was_quiet.ensures c.if-not-was_quiet.false in
+    let last = c.is_quiet.ensures c.if-not-is_quiet.false in
     let packets = c.packets-number-end.ensures in
     unchanged-for now.net packets.good last.0 now.count c.loop-number.quiet last.1 last.2
     (λ p l due.

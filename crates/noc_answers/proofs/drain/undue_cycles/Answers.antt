@@ -1,7 +1,7 @@
 use Rattle.std.proofs.Common.{◌≡◌, ℕ, ◌+◌, ◌<◌, ◌≤◌, false, arith, inl, inr}
 use Rattle.std.specs.Prelude.{◌⊎◌}
 use Rattle.std.proofs.lemmas.Bool.{cases_lt}
-use Rattle.noc_answers.specs.Drain.{is_out_at}
+use Rattle.noc_requests.specs.Drain.{is_out_at}
 use Rattle.noc_answers.proofs.WaitingLemmas.{not-out-undue}
 use Rattle.noc_answers.proofs.drain.undue_cycles.Goals as goal
 

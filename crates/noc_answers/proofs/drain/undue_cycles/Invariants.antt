@@ -1,5 +1,5 @@
 use Rattle.std.proofs.Common.{◌≡◌, ℕ, ◌+◌, ◌<◌, ◌≤◌, false}
-use Rattle.noc_answers.specs.Drain.{is_out_at}
+use Rattle.noc_requests.specs.Drain.{is_out_at}
 use Rattle.noc_answers.proofs.drain.undue_cycles.Given as goal
 
 -- as far as the packets so far say

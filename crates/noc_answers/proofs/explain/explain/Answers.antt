@@ -1,12 +1,12 @@
 use Rattle.std.proofs.Common.{◌≡◌, ◌+◌, ap, arith, refl, subst, sym}
 use Rattle.std.proofs.lemmas.Result.{err_from_is_err_and}
 use Rattle.noc_theory.specs.Network.{Run}
-use Rattle.noc_answers.specs.Answer.{findings}
-use Rattle.noc_answers.specs.Asked.{lent_files}
-use Rattle.noc_answers.specs.Drain.{RunsTo}
-use Rattle.noc_answers.specs.Ending.{at_fault}
-use Rattle.noc_answers.specs.Run.{cycles_asked, runs_until_out}
-use Rattle.noc_answers.proofs.EndingLemmas.{answered}
+use Rattle.noc_requests.specs.Answer.{findings}
+use Rattle.noc_requests.specs.Asked.{lent_files}
+use Rattle.noc_requests.specs.Drain.{RunsTo}
+use Rattle.noc_requests.specs.Ending.{at_fault}
+use Rattle.noc_requests.specs.Run.{cycles_asked, runs_until_out}
+use Rattle.noc_requests.proofs.EndingLemmas.{answered}
 use Rattle.noc_answers.proofs.OptionLemmas.{explained-cycle, explained-router}
 use Rattle.noc_answers.proofs.RequestLemmas.{ran}
 use Rattle.noc_answers.proofs.explain.explain.Goals as goal

@@ -1,13 +1,13 @@
 use Rattle.std.proofs.Common.{refl, subst, sym}
 use Rattle.std.proofs.lemmas.Result.{err_from_is_err_and}
 use Rattle.noc_files.specs.Configuration.{settings}
-use Rattle.noc_answers.specs.Asked.{lent_files}
-use Rattle.noc_answers.specs.Settings.{SettingsFault}
-use Rattle.noc_answers.specs.Answer.{TextsFault, in_formula, in_settings, ranks}
-use Rattle.noc_answers.specs.Ending.{at_fault}
+use Rattle.noc_requests.specs.Asked.{lent_files}
+use Rattle.noc_requests.specs.Settings.{SettingsFault}
+use Rattle.noc_requests.specs.Answer.{TextsFault, in_formula, in_settings, ranks}
+use Rattle.noc_requests.specs.Ending.{at_fault}
 use Rattle.noc_rank.specs.declared.fault.RankFault.TheVariants.{NoGenerated}
 use Rattle.noc_rank.specs.Formulas.{IsFaultOfFormula, IsGenerated}
-use Rattle.noc_answers.proofs.EndingLemmas.{answered, refuses_more}
+use Rattle.noc_requests.proofs.EndingLemmas.{answered, refuses_more}
 use Rattle.noc_answers.proofs.formula.answer_ranks.Goals as goal
 
 pub returns-in_err-config : goal.returns-in_err-config

@@ -1,12 +1,12 @@
 use Rattle.std.proofs.Common.{◌≡◌, ◌+◌, ◌∙◌, ap, arith, refl, rules, subst}
 use Rattle.std.proofs.lemmas.Result.{err_from_is_err_and}
 use Rattle.noc_theory.specs.Network.{Run}
-use Rattle.noc_answers.specs.Asked.{lent_files}
-use Rattle.noc_answers.specs.Answer.{a_report}
-use Rattle.noc_answers.specs.Drain.{RunsTo}
-use Rattle.noc_answers.specs.Ending.{at_fault}
-use Rattle.noc_answers.specs.Run.{AsksForRun, ending}
-use Rattle.noc_answers.proofs.EndingLemmas.{answered}
+use Rattle.noc_requests.specs.Asked.{lent_files}
+use Rattle.noc_requests.specs.Answer.{a_report}
+use Rattle.noc_requests.specs.Drain.{RunsTo}
+use Rattle.noc_requests.specs.Ending.{at_fault}
+use Rattle.noc_requests.specs.Run.{AsksForRun, ending}
+use Rattle.noc_requests.proofs.EndingLemmas.{answered}
 use Rattle.noc_answers.proofs.RequestLemmas.{ran-report, runs-report}
 use Rattle.noc_answers.proofs.run.run.Goals as goal
 

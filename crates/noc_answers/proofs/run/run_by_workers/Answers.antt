@@ -1,11 +1,11 @@
 use Rattle.std.proofs.Common.{◌≡◌, ◌+◌, ◌<◌, arith, refl, rules, subst, sym}
 use Rattle.std.proofs.lemmas.Result.{err_from_is_err_and}
-use Rattle.noc_answers.specs.Asked.{lent_files}
-use Rattle.noc_answers.specs.Answer.{a_report}
-use Rattle.noc_answers.specs.Drain.{RunsTo}
-use Rattle.noc_answers.specs.Ending.{at_fault, unstarted}
-use Rattle.noc_answers.specs.Run.{AsksForRun, ending}
-use Rattle.noc_answers.proofs.EndingLemmas.{answered}
+use Rattle.noc_requests.specs.Asked.{lent_files}
+use Rattle.noc_requests.specs.Answer.{a_report}
+use Rattle.noc_requests.specs.Drain.{RunsTo}
+use Rattle.noc_requests.specs.Ending.{at_fault, unstarted}
+use Rattle.noc_requests.specs.Run.{AsksForRun, ending}
+use Rattle.noc_requests.proofs.EndingLemmas.{answered}
 use Rattle.noc_answers.proofs.RequestLemmas.{ran-report, runs-report, some-run}
 use Rattle.noc_answers.proofs.run.run_by_workers.Goals as goal
 

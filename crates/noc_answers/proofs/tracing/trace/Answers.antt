@@ -3,13 +3,13 @@ use Rattle.std.proofs.lemmas.Result.{err_from_is_err_and}
 use Rattle.noc_theory.specs.Network.{Run, Setup}
 use Rattle.noc_files.specs.Trace.{trace_text}
 use Rattle.noc_files.specs.Writing.{Wrote}
-use Rattle.noc_answers.specs.Asked.{lent_files}
-use Rattle.noc_answers.specs.Options.{first_cycle, last_cycle, packet_option_fault}
-use Rattle.noc_answers.specs.Answer.{runs, traces}
-use Rattle.noc_answers.specs.Drain.{RunsTo}
-use Rattle.noc_answers.specs.Ending.{at_fault}
-use Rattle.noc_answers.specs.Run.{cycles_asked, runs_until_out}
-use Rattle.noc_answers.proofs.EndingLemmas.{answered}
+use Rattle.noc_requests.specs.Asked.{lent_files}
+use Rattle.noc_requests.specs.Options.{first_cycle, last_cycle, packet_option_fault}
+use Rattle.noc_requests.specs.Answer.{runs, traces}
+use Rattle.noc_requests.specs.Drain.{RunsTo}
+use Rattle.noc_requests.specs.Ending.{at_fault}
+use Rattle.noc_requests.specs.Run.{cycles_asked, runs_until_out}
+use Rattle.noc_requests.proofs.EndingLemmas.{answered}
 use Rattle.noc_answers.proofs.OptionLemmas.{traced-router, traced-span}
 use Rattle.noc_answers.proofs.RequestLemmas.{ran}
 use Rattle.noc_answers.proofs.tracing.trace.Goals as goal

@@ -1,7 +1,7 @@
 use Rattle.std.proofs.Common.{◌∙◌, ap, inr, refl, sym}
-use Rattle.noc_answers.specs.Options.{packet_option_fault}
-use Rattle.noc_answers.specs.Answer.{in_packets, no_packet}
-use Rattle.noc_answers.specs.Run.{bad_network}
+use Rattle.noc_requests.specs.Options.{packet_option_fault}
+use Rattle.noc_requests.specs.Answer.{in_packets, no_packet}
+use Rattle.noc_requests.specs.Run.{bad_network}
 use Rattle.noc_answers.proofs.tracing.trace_for.Goals as goal
 
 pub returns-in-Some-clause-fault : goal.returns-in-Some-clause-fault

@@ -1,0 +1,10 @@
+pub mod Asked
+pub mod Ending
+pub mod Options
+pub mod Settings
+pub mod Check
+pub mod Drain
+pub mod Formula
+pub mod Run
+pub mod Answer
+pub mod Prelude
