@@ -50,12 +50,13 @@ STEP, BESIDE = 15, 10
 # The seconds that each crate takes by itself on four processors. Only their shares count. bench/crate_seconds.py makes
 # them from the log of a build.
 SECONDS = {
-    "noc_topo": 34, "noc_packet": 35, "noc_waiting": 16, "noc_times": 14, "noc_ring": 37, "noc_steps": 20,
-    "noc_route": 96, "noc_rank": 216, "noc_alloc": 72, "noc_vc": 25, "noc_view": 14, "noc_sets": 11, "noc_router": 317,
-    "noc_theory": 102, "noc_theory_bits": 34, "noc_columns": 330, "noc_cycles": 170, "noc_counts": 60,
-    "noc_theory_cycles": 45, "noc_queues": 20, "noc_engine": 130, "noc_workers": 140, "noc_wires": 30, "noc_net": 75,
-    "noc_commands": 47, "noc_bytes": 20, "noc_files": 272, "noc_cli": 193, "noc_faults": 27, "noc_requests": 35,
-    "noc_answers": 50, "noc_asked": 25, "noc_program": 55, "noc": 160,
+    "noc_topo": 34, "noc_packet": 35, "noc_waiting": 16, "noc_times": 14, "noc_exchange": 35, "noc_ring": 37,
+    "noc_steps": 20, "noc_route": 96, "noc_rank": 216, "noc_alloc": 72, "noc_vc": 25, "noc_view": 14,
+    "noc_sets": 11, "noc_router": 317, "noc_theory": 102, "noc_theory_bits": 34, "noc_columns": 330,
+    "noc_cycles": 170, "noc_counts": 60, "noc_theory_cycles": 45, "noc_queues": 20, "noc_engine": 130,
+    "noc_workers": 140, "noc_wires": 30, "noc_net": 75, "noc_commands": 47, "noc_bytes": 20, "noc_files": 272,
+    "noc_cli": 193, "noc_faults": 27, "noc_requests": 35, "noc_answers": 50, "noc_asked": 25, "noc_program": 55,
+    "noc": 160,
 }
 
 

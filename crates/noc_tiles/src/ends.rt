@@ -5,10 +5,9 @@ ghost use Rattle.noc_tiles.specs.Prelude.{beat_at};
 ghost use Rattle.noc_tiles.specs.Ends.{end_after_beat, inlet, outlet};
 ghost use Rattle.noc_tiles.specs.TileStep.{with_beat};
 
-use crate::gate::Stop;
+use noc_exchange::{Stop, arrived, put};
 use noc_packet::Beat;
 use noc_topo::LINKS;
-use noc_waiting::rested;
 use rtrb::{Consumer, Producer};
 use std::sync::Wait;
 
@@ -42,17 +41,10 @@ impl Inlet {
         ensures took { MatchOption result (stop.now ≡ true)
             (λ x. inlet self.new ≡ end_after_beat (inlet self.old) x) }
     {
-        let mut looks = 0u32;
-        for _ in rt.forever() {
-            if let Ok(beat) = self.end.pop() {
-                return Some(beat);
-            }
-            if stop.raised() {
-                return None;
-            }
-            looks = rested(rt, looks);
+        if !arrived(rt, &mut self.end, stop) {
+            return None;
         }
-        unreachable!()
+        Some(self.end.pop_known())
     }
 }
 
@@ -64,17 +56,7 @@ impl Outlet {
         ensures put { IsTrue result → outlet self.new ≡ end_after_beat (outlet self.old) beat }
         ensures stopped { IsFalse result → stop.now ≡ true }
     {
-        let mut looks = 0u32;
-        for _ in rt.forever() {
-            if self.end.push(beat).is_ok() {
-                return true;
-            }
-            if stop.raised() {
-                return false;
-            }
-            looks = rested(rt, looks);
-        }
-        unreachable!()
+        put(rt, &mut self.end, beat, stop)
     }
 }
 

@@ -2,7 +2,6 @@
 #![tactic(auto)]
 
 mod ends;
-mod gate;
 mod laws;
 mod partition;
 mod threads;
@@ -11,8 +10,8 @@ mod tiles;
 mod worker;
 
 pub use ends::{Inlet, Outlet};
-pub use gate::{AllOpen, Gate, Stop};
 pub use laws::tiles_that_ran_apart_are_in_lockstep;
+pub use noc_exchange::{AllOpen, Gate, Stop};
 pub use noc_net::{MAX_WORKERS, RunFault};
 pub use tile::{Outcome, Tile};
 pub use tiles::run_tiles;

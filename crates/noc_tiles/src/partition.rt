@@ -20,11 +20,11 @@ ghost use Rattle.noc_net.specs.declared.workers.TheConstants.{MAX_WORKERS};
 
 use crate::ends::{Inlet, Outlet, set_beat};
 use crate::tile::{Outcome, Tile};
+use noc_exchange::ring_with;
 use noc_net::Parts;
 use noc_packet::{Beat, Memory};
 use noc_router::{Plan, Router};
 use noc_topo::{LINKS, Shape};
-use rtrb::RingBuffer;
 use std::alloc::{AllocError, Global};
 use std::mem;
 
@@ -263,8 +263,7 @@ fn new_ring(
     ensures to { IfOk result (λ r. ((inlet r.0).at ≡ (router, port)) × ((inlet r.0).past ≡ [])) }
     ensures from { IfOk result (λ r. outlet r.1 ≡ record (inlet r.0) { past = beat ∷ [] }) }
 {
-    let (mut producer, consumer) = RingBuffer::new(alloc, 2)?;
-    producer.push_reserved(beat);
+    let (producer, consumer) = ring_with(alloc, 2, beat)?;
     Ok((
         Inlet {
             router,

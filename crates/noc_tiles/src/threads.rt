@@ -9,10 +9,10 @@ ghost use Rattle.noc_tiles.specs.Tiles.{AllCanRun, AllEnded};
 ghost use Rattle.noc_tiles.specs.declared.tile.Tile.{Tile as tile_value};
 
 use crate::ends::{Inlet, Outlet};
-use crate::gate::{Gate, Stop};
 use crate::partition::{Kept, empty_all, partition};
 use crate::tile::{Outcome, Tile};
 use crate::worker::run_tile;
+use noc_exchange::{Gate, Stop, may_be_shut};
 use noc_net::{Network, Parts, RunFault};
 use noc_packet::Beat;
 use noc_route::Relation;
@@ -46,10 +46,10 @@ pub(crate) fn run_threads<R: Threads + Wait + Sync, G: Gate>(
     let stop = Stop::new();
     let tiles = run_all(rt, &kept.parts.relation, tiles, &stop, gate)?;
     if !all_whole(&tiles) {
-        return Err(if gate.always() {
-            RunFault::NoWorker
-        } else {
+        return Err(if may_be_shut(gate) {
             RunFault::LostWorker
+        } else {
+            RunFault::NoWorker
         });
     }
     let Ok(all) = gather(alloc, tiles) else {

@@ -2,9 +2,9 @@
 
 ghost use Rattle.std.specs.Prelude.{ℕ, ◌≡◌, ◌+◌, ◌<◌, ◌≤◌, true, false, IfErr, IfOk, IsOk};
 
-use crate::gate::Gate;
 use crate::partition::Kept;
 use crate::threads::{network_of, run_threads};
+use noc_exchange::Gate;
 use noc_net::{CYCLE_LIMIT, MAX_WORKERS, Network, RunFault};
 use std::alloc::Global;
 use std::mem;

@@ -13,8 +13,8 @@ ghost use Rattle.noc_tiles.specs.TileStep.{ends_after_beats, with_row, names, ar
 ghost use Rattle.noc_tiles.specs.Tiles.{AreLinkPorts, CanRun, IsReady, IsSameTile, Cycles, Runs, outlets};
 
 use crate::ends::{Inlet, Outlet, set_beat};
-use crate::gate::{Gate, Stop};
 use crate::tile::{Inner, Outcome, Tile, inner_of};
+use noc_exchange::{Gate, Stop};
 use noc_net::{deliver, take_beats};
 use noc_packet::Beat;
 use noc_route::Relation;

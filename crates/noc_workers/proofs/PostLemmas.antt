@@ -1,5 +1,5 @@
 -- The rings between two tiles, in a cycle.
-use Rattle.std.proofs.Common.{◌≡◌, ℕ, ◌+◌, Bool, true, List, [], ◌∷◌, ◌++◌, All, Some, length, refl, ap, sym, ◌∙◌, subst}
+use Rattle.std.proofs.Common.{◌≡◌, ℕ, ◌+◌, Bool, true, false, List, [], ◌∷◌, ◌++◌, All, Some, length, refl, ap, sym, ◌∙◌, subst}
 use Rattle.rtrb.specs.Ring.{sent, received}
 use Rattle.std.proofs.lemmas.List.{length-map}
 use Rattle.noc_workers.specs.Mails.{IsMail, blocks_in}
@@ -10,6 +10,11 @@ use Rattle.noc_workers.specs.declared.post.Post.{Post}
 use Rattle.noc_engine.specs.declared.exchange.Told.{Told}
 use Rattle.noc_engine.proofs.ListLemmas.{same-item}
 use Rattle.noc_workers.proofs.RoundLemmas.{follows, gone-more, next-from, next-of, senders-more, start-kept}
+
+-- what holds after either answer
+pub either : {A : Type 0} (answer : Bool) → (answer ≡ true → A) → (answer ≡ false → A) → A
+either true so not = so refl
+either false so not = not refl
 
 -- a mail has a place for each of its blocks
 pub as-many-places : (mail : Mail) → length mail.told.items ≡ length (blocks_in mail)

@@ -5,6 +5,7 @@ ghost use Rattle.noc_workers.specs.Prelude.{HasHeard, IsMail, Plan, Setup, block
 
 use crate::origin::{Origin, Run};
 use noc_engine::{Tile, Told};
+use noc_exchange::Letter;
 use noc_packet::Memory;
 use std::alloc::Global;
 
@@ -48,15 +49,19 @@ impl Mail {
             tile.tell(blocks[k], &mut self.told[k]);
         }
     }
+}
 
-    /// Has a tile hear what it says of the cycle that the tile has run.
-    pub(crate) fn tell(&self, tile: &mut Tile)
-        requires { (net : Setup) × (plan : Plan) × (n : ℕ) × (from : ℕ → Bool) × (was : Tile)
-            × HasHeard net plan n from was tile.old × IsMail net plan n self.now }
-        ensures { (net : Setup) (plan : Plan) (n : ℕ) (from : ℕ → Bool) (was : Tile)
-            → HasHeard net plan n from was tile.old → IsMail net plan n self.now
-            → HasHeard net plan n (with_blocks from (blocks_in self.now)) was tile.new }
-    {
+impl Letter<Tile> for Mail {
+    ghost use Rattle.noc_engine.specs.declared.tile.Tile.{Tile};
+
+    ghost can_tell = { λ mail tile. (net : Setup) × (plan : Plan) × (n : ℕ) × (from : ℕ → Bool)
+        × (was : Tile) × HasHeard net plan n from was tile × IsMail net plan n mail };
+
+    ghost tells = { λ mail old new. (net : Setup) (plan : Plan) (n : ℕ) (from : ℕ → Bool)
+        (was : Tile) → HasHeard net plan n from was old → IsMail net plan n mail
+        → HasHeard net plan n (with_blocks from (blocks_in mail)) was new };
+
+    fn tell(&self, tile: &mut Tile) {
         for told in &self.told {
             tile.hear(told);
         }

@@ -6,7 +6,7 @@ ghost use Rattle.noc_workers.specs.Prelude.{Follows, HasHeard, HasSameBlocks, Is
 
 use crate::mail::Mail;
 use noc_engine::Tile;
-use noc_waiting::rested;
+use noc_exchange::{TillGone, hear_next, put};
 use rtrb::{Consumer, Producer, Protocol};
 use std::alloc::Global;
 use std::sync::Wait;
@@ -46,28 +46,7 @@ impl Post {
             return false;
         };
         mail.write(tile, self.blocks.as_slice());
-        self.put(rt, mail)
-    }
-
-    // Waits until there is room for the mail, and sends it. False where the other tile is gone.
-    fn put(&mut self, rt: &impl Wait, mail: Mail) -> bool
-        requires { Follows (sent self.old.out) mail }
-        ensures blocks { self.new.blocks ≡ self.old.blocks }
-        ensures back { self.new.back ≡ self.old.back }
-        ensures sent { IsTrue result → sent self.new.out ≡ sent self.old.out ++ mail ∷ [] }
-    {
-        let mut looks = 0u32;
-        for _ in rt.forever() {
-            if !self.out.is_full() {
-                self.out.push_reserved(mail);
-                return true;
-            }
-            if self.out.is_abandoned() {
-                return false;
-            }
-            looks = rested(rt, looks);
-        }
-        unreachable!()
+        put(rt, &mut self.out, mail, &TillGone)
     }
 
     /// Waits for what the other tile's blocks tell in the cycle that the tile has run, and has it
@@ -85,33 +64,6 @@ impl Post {
             (with_blocks from (near_in self.old)) was tile.new
             × IsReadyPost start (has_block was) (c + 1) self.new }
     {
-        if !self.wait(rt) {
-            return false;
-        }
-        let mail = self.back.pop_known();
-        mail.tell(tile);
-        self.mail = Some(mail);
-        true
-    }
-
-    // Waits until a mail is there. False where the other tile is gone and has left none.
-    fn wait(&mut self, rt: &impl Wait) -> bool
-        ensures blocks { self.new.blocks ≡ self.old.blocks }
-        ensures out { self.new.out ≡ self.old.out }
-        ensures back { received self.new.back ≡ received self.old.back }
-        ensures there { IsTrue result → 0 < length (known_items self.new.back) }
-    {
-        let mut looks = 0u32;
-        for _ in rt.forever() {
-            if !self.back.is_empty() {
-                return true;
-            }
-            if self.back.is_abandoned() {
-                // (it may have sent one since, and then ended)
-                return !self.back.is_empty();
-            }
-            looks = rested(rt, looks);
-        }
-        unreachable!()
+        hear_next(rt, &mut self.back, &mut self.mail, tile, &TillGone)
     }
 }

@@ -7,8 +7,9 @@ ghost use Rattle.noc_workers.specs.Prelude.{IsReadyPost, near_in, start_by};
 use crate::mail::Mail;
 use crate::origin::Run;
 use crate::post::{Post, Rounds};
+use noc_exchange::ring_with;
 use noc_packet::Memory;
-use rtrb::{Consumer, Producer, RingBuffer};
+use rtrb::{Consumer, Producer};
 use std::alloc::Global;
 
 // How many mails a ring has room for. At most two are on their way, but who sends looks how many
@@ -28,8 +29,7 @@ fn greet(alloc: Global, hello: Mail) -> Result<Greeted, Memory>
     ensures ends { IfOk result (λ ring. (sent ring.0 ≡ hello ∷ [])
         × (received ring.1 ≡ hello ∷ [])) }
 {
-    let (mut out, mut back) = RingBuffer::with_protocol::<Global, Rounds>(alloc, ROOM)?;
-    out.push_reserved(hello);
+    let (mut out, mut back) = ring_with(alloc, ROOM, hello)?;
     back.slots_beside(&mut out);
     let mail = back.pop_known();
     Ok((out, back, mail))

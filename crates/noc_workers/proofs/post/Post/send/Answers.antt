@@ -1,5 +1,6 @@
-use Rattle.std.proofs.Common.{◌≡◌, ◌∙◌, ◌+◌, true, All, ap, false, length, subst, sym}
+use Rattle.std.proofs.Common.{◌≡◌, ◌∙◌, ◌+◌, true, All, ap, false, length, refl, subst, sym}
 use Rattle.noc_engine.specs.Shows.{has_block}
+use Rattle.noc_workers.specs.declared.post.Post.{Post}
 use Rattle.noc_workers.proofs.MailLemmas.{heard-own}
 use Rattle.noc_workers.proofs.PostLemmas.{may-send, post-sent, ready-places}
 use Rattle.noc_workers.proofs.post.Post.send.Goals as goal
@@ -22,4 +23,6 @@ put-requires g c =
 
 pub returns-clause-sent : goal.returns-clause-sent
 returns-clause-sent g c = λ done start n was heard ready.
-    post-sent start (has_block was) n c.args.self.now c.put.new.self c.write.new.self ready.rings c.put.ensures.blocks c.put.ensures.back (c.put.ensures.sent done)
+    let post = c.args.self.now in
+    let next : Post = record post { mail = c.take.new.self; out = c.put.new.out } in
+    post-sent start (has_block was) n post next c.write.new.self ready.rings refl refl (c.put.ensures.put done)

@@ -3,7 +3,7 @@ use Rattle.std.specs.List.{slice_get}
 use Rattle.noc_engine.specs.declared.exchange.Told.{Told}
 use Rattle.noc_engine.proofs.ListLemmas.{read}
 use Rattle.noc_workers.proofs.MailLemmas.{heard-all, heard-next}
-use Rattle.noc_workers.proofs.mail.Mail.tell.Goals as goal
+use Rattle.noc_workers.proofs.mail.MailLetterTile.tell.Goals as goal
 
 pub hear-requires : goal.hear-requires
 hear-requires c =

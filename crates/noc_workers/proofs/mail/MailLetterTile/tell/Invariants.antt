@@ -4,7 +4,7 @@ use Rattle.noc_workers.specs.Mails.{HasHeard, IsMail, with_blocks}
 use Rattle.noc_engine.specs.declared.plan.Plan.{Plan}
 use Rattle.noc_engine.specs.declared.tile.Tile.{Tile}
 use Rattle.noc_engine.specs.declared.exchange.Told.{Told}
-use Rattle.noc_workers.proofs.mail.Mail.tell.Given as goal
+use Rattle.noc_workers.proofs.mail.MailLetterTile.tell.Given as goal
 
 -- it has heard the blocks before this one
 abbrev pub invariant-loop-told : goal.invariant-loop-told
