@@ -1,4 +1,4 @@
-//! The rings between two tiles, and waiting at them.
+//! The rings between two tiles, and a cycle at them.
 
 ghost use Rattle.std.specs.Prelude.{◌≡◌, ℕ, ◌+◌, ◌<◌, ◌++◌, ◌∷◌, [], Bool, false, length, IsTrue};
 ghost use Rattle.rtrb.specs.Ring.{known_items, received, sent};
