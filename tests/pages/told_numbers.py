@@ -9,7 +9,7 @@ from pathlib import Path
 
 TOP = Path(__file__).resolve().parents[2]
 MOST_EDITS = 60
-MOST_CRATES = 11
+MOST_CRATES = 10
 NAMES = ("no one two three four five six seven eight nine ten eleven twelve thirteen fourteen "
          "fifteen sixteen").split()
 
