@@ -12,24 +12,33 @@ pub type Text = Result<Vec<u8>, InputFault>;
 /// The bytes of one file, lent, or the fault of reading it.
 pub type Bytes<'a> = Result<&'a [u8], InputFault>;
 
-/// A command with the texts of its files: the configuration, or a joined text; a routing table;
-/// ranks; traffic. A command that looks at no traffic takes any text there.
+/// A command with the texts of its files. A command that looks at no traffic takes any text there.
 #[derive(Drop)]
 pub struct Request {
+    /// The configuration, or a joined text.
     pub config: Text,
+    /// The routing table, where one is named.
     pub table: Option<Text>,
+    /// The ranks, where they are named.
     pub ranks: Option<Text>,
+    /// The traffic.
     pub traffic: Text,
+    /// What is asked for.
     pub command: Command,
 }
 
 /// A command with the texts that it looks at: a joined text is parted here.
 #[derive(Clone, Copy)]
 pub struct Files<'a> {
+    /// The configuration.
     pub config: Bytes<'a>,
+    /// The routing table, where there is one.
     pub table: Option<Bytes<'a>>,
+    /// The ranks, where there are some.
     pub ranks: Option<Bytes<'a>>,
+    /// The traffic.
     pub traffic: Bytes<'a>,
+    /// What is asked for.
     pub command: Command,
 }
 

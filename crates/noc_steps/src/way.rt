@@ -8,8 +8,11 @@ ghost use Rattle.noc_steps.specs.Ways.{goes_up, is_west_first, dateline_class, i
 /// The coordinates of a router and of a destination, and the port of dimension order between them.
 #[derive(Clone, Copy)]
 pub struct Way {
+    /// The coordinates of the router, by dimension; 0 in those that the shape does not have.
     pub here: [usize; 3],
+    /// Those of the destination.
     pub there: [usize; 3],
+    /// The port of dimension order, or none at the destination itself.
     pub towards: Option<usize>,
 }
 
