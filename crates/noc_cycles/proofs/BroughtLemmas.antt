@@ -1,11 +1,14 @@
 -- What comes over the links of all ports is what the links bring.
 use Rattle.std.proofs.Common.{◌≡◌, ◌≢◌, ◌⊎◌, ℕ, zero, suc, ◌+◌, ◌-◌, ◌*◌, ◌/◌, ◌%◌, ◌<◌, ◌≤◌, Bool, true, false, List, [], ◌∷◌, Vec, Global, Option, Some, None, length, get_or, ap, ap₂, sym, subst, ◌∙◌, refl, arith, inl, inr}
-use Rattle.std.specs.Prelude.{◌&&◌, ◌||◌, if◌then◌else◌}
+use Rattle.std.specs.Prelude.{◌&&◌, ◌||◌, nat_le, if◌then◌else◌}
+use Rattle.std.proofs.Common.{le-leb}
+use Rattle.std.proofs.lemmas.Bool.{lt-leb}
 use Rattle.std.proofs.lemmas.Nat.{div-add-mod', div_below, le-div, mod_below}
 use Rattle.noc_topo.specs.Shape.{IsGrid}
 use Rattle.noc_topo.proofs.LinkLemmas.{link_back}
 use Rattle.noc_sets.specs.Gather.{gathered, is_over}
 use Rattle.noc_sets.proofs.GatherLemmas.{gathered-is, gathered-links}
+use Rattle.noc_sets.proofs.MemberLemmas.{or-false}
 use Rattle.noc_sets.proofs.UnionLemmas.{some-none}
 use Rattle.noc_columns.specs.Near.{comes_by, comes_from, comes_near}
 use Rattle.noc_columns.specs.Places.{AreFar, IsNear, far_places, places_by, stands_in}
@@ -228,6 +231,30 @@ module _ (g : Grid) (links : Ports) (near : Near) (far : ℕ → List Far) (sent
           below-members (links.width * links.vcs) (λ c. has_bit (word ((links_of links).index c) now) (s % 64)) i
           ∙ ap (λ x. x && has_bit (word ((links_of links).index i) now) (s % 64)) (le-ltb i (links.width * links.vcs) u)
           ∙ sym (has_bit-zero i)
+
+-- ---- a block that is alone
+-- none of its neighbours stand in another block
+alone-none : (g : Grid) (b p count : ℕ) (far : List Far) (sent : ℕ → ℕ) (r : ℕ) → AreFar g b p far → nodes g ≤ 64 * count → b < count → count ≤ 1 → comes_by (far_places far) sent r ≡ false
+alone-none g b p count far sent r are blocks own alone =
+    some-none (length far) _ (λ j m.
+    let other = (are.block j m).0 in
+    let there = (are.block j m).1 in
+    absurd (other (omega (arith, there, blocks, own, alone))))
+
+-- so what comes by all ports has come, where those that may lead to other blocks are done
+pub ports-whole : (g : Grid) (links : Ports) (near : Near) (far : ℕ → List Far) (sent : ℕ → List ℕ) (b n count : ℕ) (now : List ℕ) → n ≡ (if nat_le count 1 then 0 else links.width) → links.width ≡ local_port g
+    → nodes g ≤ 64 * count → b < count → ((p : ℕ) → p < local_port g → AreFar g b p (far p)) → ArePorts links near far sent b n now → ArePorts links near far sent b links.width now
+ports-whole g links near far sent b n count now is width blocks own others are = elim (cases_lt 1 count) [
+  | inl several ↦ subst (λ m. ArePorts links near far sent b m now) (is ∙ ap (λ x. if x then 0 else links.width) (lt-leb count 1 several)) are
+  | inr alone ↦ record {
+    done = λ q v r l m few low.
+        are.left q v r (let z : n ≡ 0 = is ∙ ap (λ x. if x then 0 else links.width) (le-leb count 1 alone) in omega (arith, z)) m few low
+        ∙ sym (ap (λ x. comes_near near (sent b) ((port_at links q).index v) r || x)
+        (alone-none g b q count (far q) (λ c. word ((port_at links (opposite q)).index v) (sent c)) r (others q (subst (λ w. q < w) width m)) blocks own alone)
+        ∙ or-false (comes_near near (sent b) ((port_at links q).index v) r));
+    left = λ q v r l m few low. absurd (omega (arith, l, m));
+  }
+]
 
 -- ---- what is asked for
 abbrev pub items_of : Vec Far Global → List Far

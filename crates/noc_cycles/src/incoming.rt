@@ -1,6 +1,6 @@
 //! What has left the routers of all blocks comes over the links to the routers of one.
 
-ghost use Rattle.std.specs.Prelude.{◌≡◌, ◌≢◌, ◌<◌, ◌≤◌, ◌*◌, ◌/◌, ◌%◌, ◌||◌, ℕ, length};
+ghost use Rattle.std.specs.Prelude.{◌≡◌, ◌≢◌, ◌<◌, ◌≤◌, ◌*◌, ◌/◌, ◌%◌, ◌||◌, ℕ, length, nat_le, if◌then◌else◌};
 ghost use Rattle.noc_topo.specs.Shape.{Grid, nodes, opposite};
 ghost use Rattle.noc_sets.specs.Cycle.{Links as Left};
 ghost use Rattle.noc_columns.specs.Channels.{links_by};
@@ -37,9 +37,19 @@ pub fn gather_links(
 {
     gather(&pattern.frame, &around.near, &left[around.block], came);
     let links = &pattern.table.ports.links;
-    for port in 0..links.width {
+    let ports = ports_to_others(links, left.len());
+    for port in 0..ports {
         gather_port(links, &around.far[port], left, came);
     }
+}
+
+// How many ports may lead to other blocks of a network of so many: none, where there is no other.
+#[inline(always)]
+fn ports_to_others(links: &Ports, blocks: usize) -> usize
+    ensures is { result ≡ (if nat_le blocks 1 then 0 else links.now.width) }
+    ensures few { result ≤ links.now.width }
+{
+    if blocks <= 1 { 0 } else { links.width }
 }
 
 // Gathers what comes from other blocks by one port, besides what has come already.

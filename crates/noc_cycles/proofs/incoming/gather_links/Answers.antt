@@ -1,7 +1,8 @@
 use Rattle.std.proofs.Common.{ℕ, ◌≡◌, ◌≢◌, ◌<◌, List, Vec, Global, ap, length, arith, subst, sym, ◌∙◌}
+use Rattle.std.specs.Prelude.{nat_le, if◌then◌else◌}
 use Rattle.noc_cycles.proofs.Common.{local_port, port_at, Links, Far, far_by, LeadBy, left_by}
 use Rattle.noc_cycles.proofs.GatherLemmas.{from-left}
-use Rattle.noc_cycles.proofs.BroughtLemmas.{ArePorts, brought-set, far-at, items_of, lead-by, nothing-set, ports-first, ports-next}
+use Rattle.noc_cycles.proofs.BroughtLemmas.{brought-set, far-at, items_of, lead-by, nothing-set, ports-first, ports-next, ports-whole}
 use Rattle.noc_cycles.proofs.incoming.gather_links.Goals as goal
 
 pub loop-port-init : goal.loop-port-init
@@ -27,7 +28,7 @@ gather_port-requires-clause-port c =
     let pattern = c.args.pattern.now in
     let p = c.loop-port.port in
     let far = c.args.around.now.far.items in
-    let l : p < pattern.table.ports.links.width = omega arith in
+    let l : p < pattern.table.ports.links.width = let few = c.ports_to_others-ports.ensures.few in omega (arith, few) in
     let m : p < local_port g = subst (λ n. p < n) wired.ports l in
     let here : p < length far = subst (λ n. p < n) (sym wired.tables.far.ports) m in
     let row : c.deref.result.now ≡ far_by far p = c.deref.ensures.value ∙ ap (λ (v : Vec Far Global). items_of v) c.index.ensures ∙ far-at far p c.index.result.now here in (
@@ -47,7 +48,7 @@ loop-port-preserved c =
     let b = c.args.around.now.block in
     let p = c.loop-port.port in
     let far = c.args.around.now.far.items in
-    let l : p < links.width = omega arith in
+    let l : p < links.width = let few = c.ports_to_others-ports.ensures.few in omega (arith, few) in
     let m : p < local_port g = subst (λ n. p < n) wired.ports l in
     let here : p < length far = subst (λ n. p < n) (sym wired.tables.far.ports) m in
     let row : c.deref.result.now ≡ far_by far p = c.deref.ensures.value ∙ ap (λ (v : Vec Far Global). items_of v) c.index.ensures ∙ far-at far p c.index.result.now here in
@@ -67,14 +68,15 @@ returns-clause-brought c = λ g leaves r wired shows home known x.
     let far = c.args.around.now.far.items in
     let left = c.args.left.now in
     let b = c.args.around.now.block in
-    let all : c.loop-port.port ≡ links.width = omega arith in
+    let blocks : b < length left = let m = c.requires.1.block in let n = c.requires.2 in omega (arith, m, n) in
+    let all : c.loop-port.port ≡ (if nat_le (length left) 1 then 0 else links.width) = (let e : c.loop-port.port ≡ c.ports_to_others-ports.result = omega arith in e) ∙ c.ports_to_others-ports.ensures.is in
     record {
       flits = brought-set g wired.sound links near (far_by far) (λ b. (left_by left b).flits) b r c.loop-port.came.flits (λ s. (leaves s).flits) pattern.some pattern.table.ports.pairs pattern.first wired.ports home known wired.tables.near wired.tables.far.each
-          (subst (λ n. ArePorts links near (far_by far) (λ b. (left_by left b).flits) b n c.loop-port.came.flits) all c.loop-port.invariant.flits) (λ t l o m. (shows t l).flits o m) x;
+          (ports-whole c.requires.0 links near (far_by far) (λ b. (left_by left b).flits) b c.loop-port.port (length left) c.loop-port.came.flits all c.requires.1.ports c.requires.2 blocks c.requires.1.tables.far.each c.loop-port.invariant.flits) (λ t l o m. (shows t l).flits o m) x;
       tails = brought-set g wired.sound links near (far_by far) (λ b. (left_by left b).tails) b r c.loop-port.came.tails (λ s. (leaves s).tails) pattern.some pattern.table.ports.pairs pattern.first wired.ports home known wired.tables.near wired.tables.far.each
-          (subst (λ n. ArePorts links near (far_by far) (λ b. (left_by left b).tails) b n c.loop-port.came.tails) all c.loop-port.invariant.tails) (λ t l o m. (shows t l).tails o m) x;
+          (ports-whole c.requires.0 links near (far_by far) (λ b. (left_by left b).tails) b c.loop-port.port (length left) c.loop-port.came.tails all c.requires.1.ports c.requires.2 blocks c.requires.1.tables.far.each c.loop-port.invariant.tails) (λ t l o m. (shows t l).tails o m) x;
       credits = brought-set g wired.sound links near (far_by far) (λ b. (left_by left b).credits) b r c.loop-port.came.credits (λ s. (leaves s).credits) pattern.some pattern.table.ports.pairs pattern.first wired.ports home known wired.tables.near wired.tables.far.each
-          (subst (λ n. ArePorts links near (far_by far) (λ b. (left_by left b).credits) b n c.loop-port.came.credits) all c.loop-port.invariant.credits) (λ t l o m. (shows t l).credits o m) x;
+          (ports-whole c.requires.0 links near (far_by far) (λ b. (left_by left b).credits) b c.loop-port.port (length left) c.loop-port.came.credits all c.requires.1.ports c.requires.2 blocks c.requires.1.tables.far.each c.loop-port.invariant.credits) (λ t l o m. (shows t l).credits o m) x;
     }
 
 pub returns-clause-nothing : goal.returns-clause-nothing
@@ -85,12 +87,13 @@ returns-clause-nothing c = λ g r wired home beyond x.
     let far = c.args.around.now.far.items in
     let left = c.args.left.now in
     let b = c.args.around.now.block in
-    let all : c.loop-port.port ≡ links.width = omega arith in
+    let blocks : b < length left = let m = c.requires.1.block in let n = c.requires.2 in omega (arith, m, n) in
+    let all : c.loop-port.port ≡ (if nat_le (length left) 1 then 0 else links.width) = (let e : c.loop-port.port ≡ c.ports_to_others-ports.result = omega arith in e) ∙ c.ports_to_others-ports.ensures.is in
     record {
       flits = nothing-set g links near (far_by far) (λ b. (left_by left b).flits) b r c.loop-port.came.flits pattern.first wired.ports home beyond wired.tables.near wired.tables.far.each
-          (subst (λ n. ArePorts links near (far_by far) (λ b. (left_by left b).flits) b n c.loop-port.came.flits) all c.loop-port.invariant.flits) x;
+          (ports-whole c.requires.0 links near (far_by far) (λ b. (left_by left b).flits) b c.loop-port.port (length left) c.loop-port.came.flits all c.requires.1.ports c.requires.2 blocks c.requires.1.tables.far.each c.loop-port.invariant.flits) x;
       tails = nothing-set g links near (far_by far) (λ b. (left_by left b).tails) b r c.loop-port.came.tails pattern.first wired.ports home beyond wired.tables.near wired.tables.far.each
-          (subst (λ n. ArePorts links near (far_by far) (λ b. (left_by left b).tails) b n c.loop-port.came.tails) all c.loop-port.invariant.tails) x;
+          (ports-whole c.requires.0 links near (far_by far) (λ b. (left_by left b).tails) b c.loop-port.port (length left) c.loop-port.came.tails all c.requires.1.ports c.requires.2 blocks c.requires.1.tables.far.each c.loop-port.invariant.tails) x;
       credits = nothing-set g links near (far_by far) (λ b. (left_by left b).credits) b r c.loop-port.came.credits pattern.first wired.ports home beyond wired.tables.near wired.tables.far.each
-          (subst (λ n. ArePorts links near (far_by far) (λ b. (left_by left b).credits) b n c.loop-port.came.credits) all c.loop-port.invariant.credits) x;
+          (ports-whole c.requires.0 links near (far_by far) (λ b. (left_by left b).credits) b c.loop-port.port (length left) c.loop-port.came.credits all c.requires.1.ports c.requires.2 blocks c.requires.1.tables.far.each c.loop-port.invariant.credits) x;
     }
