@@ -1,13 +1,13 @@
 -- Tables by columns.
 use Rattle.std.proofs.Math.Seq.{take-append_seam}
-use Rattle.std.proofs.Common.{◌≡◌, ◌≢◌, ℕ, ◌*◌, ◌+◌, ◌++◌, ◌<◌, ◌≤◌, ◌/◌, ◌%◌, List, length, get_or, take, drop, set, arith, inl, inr, subst, sym, ap, ◌∙◌, below_more}
+use Rattle.std.proofs.Common.{◌≡◌, ◌≢◌, ℕ, ◌*◌, ◌+◌, ◌-◌, ◌++◌, ◌<◌, ◌≤◌, ◌/◌, ◌%◌, List, length, get_or, take, drop, set, arith, inl, inr, subst, sym, ap, ◌∙◌, below_more, length-drop}
 use Rattle.std.specs.Prelude.{◌⊎◌}
 use Rattle.std.proofs.Math.Nat.{mul-le-mul_right, mul_comm, mul_assoc, div-lt_iff_lt-mul, mod-lt}
-use Rattle.std.proofs.lemmas.List.{get_or-set_same, get_or-set_other, get_or_default}
+use Rattle.std.proofs.lemmas.List.{get_or-set_same, get_or-set_other, get_or_default, get_or-take, get_or-drop, length-take-le}
 use Rattle.noc_topo.proofs.ListLemmas.{tabulate-from_each, get_or-tabulate}
 use Rattle.noc_topo.specs.Shape.{nodes, ports}
 use Rattle.noc_steps.proofs.WrittenLemmas.{StandsTo}
-use Rattle.noc_route.specs.Columns.{table_of, column_set, AreColumns, AreKept, IsColumnAt, AreKeptTo}
+use Rattle.noc_route.specs.Columns.{table_of, column_set, AreColumns, AreKept, IsColumnAt, AreKeptTo, StandsAt}
 use Rattle.noc_route.specs.Routes.{width, pages, page_of}
 use Rattle.noc_route.specs.declared.sizes.Sizes.{Sizes}
 use Rattle.noc_route.proofs.EntryLemmas.{flat-below, flat-div, flat-mod, pages-few}
@@ -30,12 +30,30 @@ row-end a m n l =
 -- ---- reading and writing a column
 
 -- the column of an input of a block
-abbrev pub column_of : List ℕ → ℕ → ℕ → ℕ → ℕ
-column_of block nodes input t = get_or block (input * nodes + t) 0
+abbrev pub column_of : List ℕ → ℕ → ℕ → List ℕ
+column_of block n input = take (input * n + n - input * n) (drop (input * n) block)
 
--- its set at a destination
-pub column-at : (block : List ℕ) (n nodes input t b : ℕ) → n ≡ nodes → input * n + t < length block → b ≡ get_or block (input * n + t) b → b ≡ column_of block nodes input t
-column-at block n nodes input t b same from at_b = at_b ∙ get_or_default block (input * n + t) b 0 from ∙ ap (λ x. get_or block (input * x + t) 0) same
+-- it lies in the block
+pub block-row : (block : List ℕ) (input n nodes w : ℕ) → n ≡ nodes → length block ≡ nodes * w → input < w → input * n + n ≤ length block
+block-row block input n nodes w same long inside =
+    let size : nodes * w ≡ n * w = ap (λ x. x * w) (sym same) in
+    omega (arith, row-end input w n inside, long, size, mul_comm w n)
+
+pub length-column_of : (block : List ℕ) (n input : ℕ) → input * n + n ≤ length block → length (column_of block n input) ≡ n
+length-column_of block n input room =
+    let size : input * n + n - input * n ≡ n = omega arith in
+    length-take-le (input * n + n - input * n) (drop (input * n) block) (omega (arith, length-drop (input * n) block, room)) ∙ size
+
+-- where it stands as a list, it stands as the column of its input
+pub IsColumnAt-stands : (f : Sizes) (block sets : List ℕ) (n input start : ℕ) → n ≡ nodes f.shape → input * n + n ≤ length block
+    → StandsAt (column_of block n input) sets start → IsColumnAt f block input sets start
+IsColumnAt-stands f block sets n input start same room stands t l =
+    let here : t < n = omega (arith, l, same) in
+    let there : t < length (column_of block n input) = omega (arith, here, length-column_of block n input room) in
+    stands t there
+    ∙ get_or-take (input * n + n - input * n) (drop (input * n) block) t 0 (omega (arith, here))
+    ∙ get_or-drop (input * n) block t 0
+    ∙ ap (λ m. get_or block (input * m + t) 0) same
 
 pub stands-more : (want : ℕ → ℕ) (sets : List ℕ) (start n a : ℕ) → start + n < length sets → a ≡ get_or sets (start + n) a → a ≡ want n → StandsTo want sets start n → StandsTo want sets start (n + 1)
 stands-more want sets start n a there at_a same all =

@@ -29,6 +29,11 @@ IsColumnAt f block input sets start =
     (t : ℕ) → t < nodes f.shape
     → slice_index sets (start + t) ≡ slice_index block (input * nodes f.shape + t)
 
+-- a column stands there among the sets
+abbrev pub StandsAt : List ℕ → List ℕ → ℕ → Type 0
+StandsAt column sets start =
+    (t : ℕ) → t < length column → slice_index sets (start + t) ≡ slice_index column t
+
 -- the columns of the first inputs of a block stand between `first` and `end`, where `starts` says,
 -- and nothing else was written
 pub record AreKeptTo (f : Sizes) (block before sets old_starts starts : List ℕ)

@@ -1,10 +1,10 @@
 //! The table of a relation by columns: the sets of an input channel, by destination.
 
 ghost use Rattle.std.specs.Prelude.{◌≡◌, ◌⊎◌, ℕ, ◌+◌, ◌*◌, ◌<◌, ◌≤◌, IfOk, IfSome, IsTrue, length, slice_index, vec_len};
-ghost use Rattle.noc_topo.specs.Shape.{nodes, ports};
-ghost use Rattle.noc_route.specs.Columns.{table_of, AreColumns, AreKept, IsColumnAt, AreKeptTo};
+ghost use Rattle.noc_topo.specs.Shape.{nodes};
+ghost use Rattle.noc_route.specs.Columns.{table_of, AreColumns, AreKept, AreKeptTo, StandsAt};
 ghost use Rattle.noc_route.specs.Entered.{AreAll, sets_in};
-ghost use Rattle.noc_route.specs.Routes.{width, pages, entry_index};
+ghost use Rattle.noc_route.specs.Routes.{width, pages};
 ghost use Rattle.noc_route.specs.Trimming.{left_in, IsFirstLeft};
 
 use crate::entered::Entered;
@@ -63,25 +63,14 @@ impl Columns {
         Ok((columns, first))
     }
 
-    // The set of an entry.
-    pub(crate) fn set(
-        &self,
-        class: usize,
-        router: usize,
-        in_port: usize,
-        in_vc: usize,
-        dst: usize,
-    ) -> ChannelSet
-        requires class { class < self.now.sizes.classes }
-        requires router { router < nodes self.now.sizes.shape }
-        requires in_port { in_port < ports self.now.sizes.shape }
-        requires in_vc { in_vc < self.now.sizes.vcs }
+    // The set of a column at a destination.
+    pub(crate) fn set(&self, column: usize, dst: usize) -> ChannelSet
+        requires column { let f = self.now.sizes in
+            column < nodes f.shape * f.classes * width f.shape f.vcs }
         requires dst { dst < nodes self.now.sizes.shape }
-        ensures { let f = self.now.sizes in result
-            ≡ slice_index (table_of f self.now.sets.items self.now.starts.items)
-            (entry_index f.shape f.vcs f.classes class router in_port in_vc dst) }
+        ensures { result ≡ slice_index self.now.sets.items
+            (slice_index self.now.starts.items column + dst) }
     {
-        let column = self.sizes.column(class, router, in_port, in_vc);
         self.sets[self.starts[column] as usize + dst]
     }
 }
@@ -143,96 +132,73 @@ fn keep_pair(
     ensures { let f = sizes.now in AreKeptTo f block.now sets.old sets.new starts.old starts.new
         pair first (width f.shape f.vcs) result }
 {
+    let nodes = sizes.node_count;
     let width = sizes.width();
     let mut end = first;
     for input in 0..width {
-        let start = place(sizes, block, input, sets, first, end);
+        let from = input * nodes;
+        let start = place(&block[from..from + nodes], sets, first, end);
         starts[pair * width + input] = start as u32;
-        end = end.max(start + sizes.node_count);
+        end = end.max(start + nodes);
     }
     end
 }
 
-// Where the column of an input is kept: with an equal one of those from `first` on, or at the end.
-fn place(
-    sizes: &Sizes,
-    block: &[ChannelSet],
-    input: usize,
-    sets: &mut [ChannelSet],
-    first: usize,
-    end: usize,
-) -> usize
-    requires block { length block.now
-        ≡ nodes sizes.now.shape * width sizes.now.shape sizes.now.vcs }
-    requires input { input < width sizes.now.shape sizes.now.vcs }
+// Where a column is kept: with an equal one of those from `first` on, or at the end.
+fn place(column: &[ChannelSet], sets: &mut [ChannelSet], first: usize, end: usize) -> usize
+    requires some { 0 < length column.now }
     requires order { first ≤ end }
-    requires room { end + nodes sizes.now.shape ≤ length sets.old }
+    requires room { end + length column.now ≤ length sets.old }
     ensures start { result ≤ end }
-    ensures kept { IsColumnAt sizes.now block.now input sets.new result }
-    ensures others { (j : ℕ) → (j < end) ⊎ (end + nodes sizes.now.shape ≤ j)
+    ensures kept { StandsAt column.now sets.new result }
+    ensures others { (j : ℕ) → (j < end) ⊎ (end + length column.now ≤ j)
         → slice_index sets.new j ≡ slice_index sets.old j }
 {
-    match find(sizes, block, input, &sets[first..end]) {
+    match find(column, &sets[first..end]) {
         Some(offset) => first + offset,
         None => {
-            write(sizes, block, input, sets, end);
+            write(column, sets, end);
             end
         }
     }
 }
 
-// Where the column of an input stands among others, of which the last is looked at first.
-fn find(sizes: &Sizes, block: &[ChannelSet], input: usize, kept: &[ChannelSet]) -> Option<usize>
-    requires block { length block.now
-        ≡ nodes sizes.now.shape * width sizes.now.shape sizes.now.vcs }
-    requires input { input < width sizes.now.shape sizes.now.vcs }
-    ensures within { IfSome result (λ start. start + nodes sizes.now.shape ≤ length kept.now) }
-    ensures same { IfSome result (IsColumnAt sizes.now block.now input kept.now) }
+// Where a column stands among others, of which the last is looked at first.
+fn find(column: &[ChannelSet], kept: &[ChannelSet]) -> Option<usize>
+    requires { 0 < length column.now }
+    ensures within { IfSome result (λ start. start + length column.now ≤ length kept.now) }
+    ensures same { IfSome result (StandsAt column.now kept.now) }
 {
-    for k in 0..kept.len() / sizes.node_count {
-        let start = kept.len() - (k + 1) * sizes.node_count;
-        if is_at(sizes, block, input, kept, start) {
+    for k in 0..kept.len() / column.len() {
+        let start = kept.len() - (k + 1) * column.len();
+        if is_at(column, kept, start) {
             return Some(start);
         }
     }
     None
 }
 
-// Whether the column of an input stands there.
-fn is_at(
-    sizes: &Sizes,
-    block: &[ChannelSet],
-    input: usize,
-    kept: &[ChannelSet],
-    start: usize,
-) -> bool
-    requires block { length block.now
-        ≡ nodes sizes.now.shape * width sizes.now.shape sizes.now.vcs }
-    requires input { input < width sizes.now.shape sizes.now.vcs }
-    requires start { start + nodes sizes.now.shape ≤ length kept.now }
-    ensures { IsTrue result → IsColumnAt sizes.now block.now input kept.now start }
+// Whether a column stands there.
+fn is_at(column: &[ChannelSet], kept: &[ChannelSet], start: usize) -> bool
+    requires { start + length column.now ≤ length kept.now }
+    ensures { IsTrue result → StandsAt column.now kept.now start }
 {
-    let nodes = sizes.node_count;
-    for dst in 0..nodes {
-        if kept[start + dst] != block[input * nodes + dst] {
+    for dst in 0..column.len() {
+        if kept[start + dst] != column[dst] {
             return false;
         }
     }
     true
 }
 
-// Writes the column of an input.
-fn write(sizes: &Sizes, block: &[ChannelSet], input: usize, sets: &mut [ChannelSet], start: usize)
-    requires block { length block.now
-        ≡ nodes sizes.now.shape * width sizes.now.shape sizes.now.vcs }
-    requires input { input < width sizes.now.shape sizes.now.vcs }
-    requires start { start + nodes sizes.now.shape ≤ length sets.old }
-    ensures written { IsColumnAt sizes.now block.now input sets.new start }
-    ensures others { (j : ℕ) → (j < start) ⊎ (start + nodes sizes.now.shape ≤ j)
+// Writes a column.
+fn write(column: &[ChannelSet], sets: &mut [ChannelSet], start: usize)
+    requires { start + length column.now ≤ length sets.old }
+    ensures written { StandsAt column.now sets.new start }
+    ensures others { (j : ℕ) → (j < start) ⊎ (start + length column.now ≤ j)
         → slice_index sets.new j ≡ slice_index sets.old j }
 {
-    let nodes = sizes.node_count;
-    for dst in 0..nodes {
-        sets[start + dst] = block[input * nodes + dst];
+    for dst in 0..column.len() {
+        sets[start + dst] = column[dst];
     }
 }

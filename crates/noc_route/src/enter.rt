@@ -64,9 +64,9 @@ fn enter_rows(map: &Map, rows: &[RouteRow], sets: &mut [ChannelSet])
         ≡ (nat_lt k (width f.shape f.vcs) && has_row_at (routes_in f sets.new) rows.now b i k) }
 {
     for row in rows {
-        let index = map
-            .sizes
-            .entry_index(row.class, row.router, row.in_port, row.in_vc, row.dst);
-        sets[index] = sets[index].with(map.sizes.index(row.out_port, row.out_vc));
+        let page = map.sizes.page(row.class, row.router, row.dst);
+        let input = map.sizes.index(row.in_port, row.in_vc);
+        let slot = map.sizes.slot(page, input);
+        sets[slot] = sets[slot].with(map.sizes.index(row.out_port, row.out_vc));
     }
 }

@@ -90,7 +90,8 @@ impl Relation {
         ensures value { result ≡ set_at self.now class router in_port in_vc dst }
         ensures built { IsRelation self.now }
     {
-        self.columns.set(class, router, in_port, in_vc, dst)
+        let column = self.columns.sizes.column(class, router, in_port, in_vc);
+        self.columns.set(column, dst)
     }
 
     /// The shape of the network.

@@ -4,7 +4,7 @@ ghost use Rattle.std.specs.Prelude.{◌≡◌, ◌+◌, ◌*◌, ◌/◌, ◌<�
 ghost use Rattle.noc_packet.specs.declared.limits.TheConstants.{INDICES, MAX_CHANNELS, MAX_CLASSES, MAX_NODES, MAX_PORTS};
 ghost use Rattle.noc_topo.specs.Shape.{IsGrid, nodes, ports};
 ghost use Rattle.noc_route.specs.Relation.{resource_class, escapes, is_right};
-ghost use Rattle.noc_route.specs.Routes.{width, pages, page_of, entry_index, page_class, page_router, page_dst};
+ghost use Rattle.noc_route.specs.Routes.{width, pages, page_of, page_class, page_router, page_dst};
 
 use crate::rule::Rule;
 use noc_packet::{MAX_CHANNELS, MAX_CLASSES, MAX_NODES, MAX_PORTS};
@@ -138,28 +138,6 @@ impl Sizes {
             self.now.vcs }
     {
         page * self.width() + input
-    }
-
-    // The index of an entry in the table.
-    pub(crate) fn entry_index(
-        &self,
-        class: usize,
-        router: usize,
-        in_port: usize,
-        in_vc: usize,
-        dst: usize,
-    ) -> usize
-        requires class { class < self.now.classes }
-        requires router { router < nodes self.now.shape }
-        requires in_port { in_port < ports self.now.shape }
-        requires in_vc { in_vc < self.now.vcs }
-        requires dst { dst < nodes self.now.shape }
-        ensures value { result ≡ entry_index self.now.shape self.now.vcs self.now.classes class
-            router in_port in_vc dst }
-        ensures within { result < pages self.now.shape self.now.classes * width self.now.shape
-            self.now.vcs }
-    {
-        self.slot(self.page(class, router, dst), self.index(in_port, in_vc))
     }
 }
 

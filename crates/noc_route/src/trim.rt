@@ -70,7 +70,7 @@ fn trim_pair(
     }
 }
 
-// Writes those of one input channel.
+// Writes those of one input channel, empty where no packet comes to it.
 fn trim_column(
     sizes: &Sizes,
     entered: &Entered,
@@ -92,36 +92,10 @@ fn trim_column(
         → slice_index block.new j ≡ slice_index block.old j }
 {
     let nodes = sizes.node_count;
-    match entered {
-        Entered::OfPages(sets) => {
-            take_row(sets, pair * nodes, coming, input, block, input * nodes);
-        }
-        Entered::OfEntries(_) => take_entries(sizes, entered, coming, block, pair, input),
+    if let Entered::OfPages(sets) = entered {
+        take_row(sets, pair * nodes, coming, input, block, input * nodes);
+        return;
     }
-}
-
-// Writes the sets of an input channel where packets come to it, and else none.
-fn take_entries(
-    sizes: &Sizes,
-    entered: &Entered,
-    coming: &[ChannelSet],
-    block: &mut [ChannelSet],
-    pair: usize,
-    input: usize,
-)
-    requires all { AreAll sizes.now entered.now }
-    requires coming { length coming.now ≡ nodes sizes.now.shape }
-    requires block { let f = sizes.now in length block.old ≡ nodes f.shape * width f.shape f.vcs }
-    requires pair { pair < nodes sizes.now.shape * sizes.now.classes }
-    requires input { input < width sizes.now.shape sizes.now.vcs }
-    ensures column { let f = sizes.now in (t : ℕ) → t < nodes f.shape
-        → slice_index block.new (input * nodes f.shape + t)
-        ≡ reached_at f (sets_in f entered.now) coming.now pair input t }
-    ensures others { let from = input * nodes sizes.now.shape in (j : ℕ)
-        → (j < from) ⊎ (from + nodes sizes.now.shape ≤ j)
-        → slice_index block.new j ≡ slice_index block.old j }
-{
-    let nodes = sizes.node_count;
     for dst in 0..nodes {
         let set = entered.set(sizes, pair * nodes + dst, input);
         let is_reached = coming[dst].contains(input);

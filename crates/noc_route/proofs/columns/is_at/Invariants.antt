@@ -1,7 +1,6 @@
-use Rattle.noc_topo.specs.Shape.{nodes}
-use Rattle.noc_route.proofs.ColumnLemmas.{column_of}
+use Rattle.std.proofs.Common.{get_or}
 use Rattle.noc_steps.proofs.WrittenLemmas.{StandsTo}
 use Rattle.noc_route.proofs.columns.is_at.Given as goal
 
 abbrev pub invariant-loop-dst : goal.invariant-loop-dst
-invariant-loop-dst l = StandsTo (column_of l.block (nodes l.sizes.shape) l.input) l.kept l.start l.dst
+invariant-loop-dst l = StandsTo (λ t. get_or l.column t 0) l.kept l.start l.dst

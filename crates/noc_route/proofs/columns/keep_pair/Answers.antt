@@ -1,9 +1,10 @@
-use Rattle.std.proofs.Common.{◌+◌, ◌*◌, ◌<◌, length, set, refl, arith, subst, sym}
+use Rattle.std.proofs.Common.{◌≡◌, ◌+◌, ◌*◌, ◌<◌, ◌≤◌, ◌∙◌, ℕ, length, get_or, set, refl, arith, subst, sym}
+use Rattle.std.specs.Prelude.{◌⊎◌}
 use Rattle.noc_topo.specs.Shape.{nodes}
 use Rattle.noc_route.specs.Columns.{AreKeptTo}
 use Rattle.noc_route.specs.Routes.{width}
 use Rattle.noc_route.proofs.EntryLemmas.{flat-below}
-use Rattle.noc_route.proofs.ColumnLemmas.{column-below, column-room, kept-more, table-few}
+use Rattle.noc_route.proofs.ColumnLemmas.{IsColumnAt-stands, block-row, column-below, column_of, column-room, kept-more, length-column_of, table-few}
 use Rattle.noc_route.proofs.columns.keep_pair.Goals as goal
 
 pub loop-input-init : goal.loop-input-init
@@ -16,13 +17,21 @@ loop-input-init c = record {
   earlier = λ k l. refl;
 }
 
+pub place-start-requires-clause-some : goal.place-start-requires-clause-some
+place-start-requires-clause-some c =
+    let f = c.args.sizes.now in
+    let inside : c.loop-input.input < width f.shape f.vcs = subst (λ x. c.loop-input.input < x) c.width-width.ensures.value c.loop-input-test.true in
+    let row = block-row c.args.block.now c.loop-input.input f.node_count (nodes f.shape) (width f.shape f.vcs) f.all_nodes c.requires.block inside in
+    omega (arith, length-column_of c.args.block.now f.node_count c.loop-input.input row, f.some_nodes)
+
 pub place-start-requires-clause-room : goal.place-start-requires-clause-room
 place-start-requires-clause-room c =
     let f = c.args.sizes.now in
     let w = width f.shape f.vcs in
     let inside : c.loop-input.input < w = subst (λ x. c.loop-input.input < x) c.width-width.ensures.value c.loop-input-test.true in
+    let row = block-row c.args.block.now c.loop-input.input f.node_count (nodes f.shape) w f.all_nodes c.requires.block inside in
     let room = column-room c.args.first c.loop-input.end c.loop-input.input w (nodes f.shape) (length c.args.block.now) (length c.args.sets.now) inside c.loop-input.invariant.few c.requires.block c.requires.room in
-    omega (arith, room, c.loop-input.auto.sets)
+    omega (arith, room, c.loop-input.auto.sets, length-column_of c.args.block.now f.node_count c.loop-input.input row, f.all_nodes)
 
 pub overflow_cast-starts : goal.overflow_cast-starts
 overflow_cast-starts c =
@@ -56,8 +65,12 @@ bounds-starts-pair c =
     let below = column-below f c.args.pair c.loop-input.input c.width-width.result (length c.args.starts.now) c.width-width.ensures.value c.requires.pair c.loop-input-test.true c.requires.starts in
     omega (arith, below, c.loop-input.auto.starts)
 
-pub place-start-requires-clause-input : goal.place-start-requires-clause-input
-place-start-requires-clause-input c = subst (λ x. c.loop-input.input < x) c.width-width.ensures.value c.loop-input-test.true
+pub slice_bounds-place-end : goal.slice_bounds-place-end
+slice_bounds-place-end c =
+    let f = c.args.sizes.now in
+    let w = width f.shape f.vcs in
+    let inside : c.loop-input.input < w = subst (λ x. c.loop-input.input < x) c.width-width.ensures.value c.loop-input-test.true in
+    omega (arith, block-row c.args.block.now c.loop-input.input f.node_count (nodes f.shape) w f.all_nodes c.requires.block inside)
 
 pub overflow_add-start : goal.overflow_add-start
 overflow_add-start c =
@@ -75,9 +88,13 @@ loop-input-preserved c =
     let i = c.loop-input.input in
     let next = c.max-end.result in
     let inside : i < w = subst (λ x. i < x) c.width-width.ensures.value c.loop-input-test.true in
+    let row = block-row c.args.block.now i f.node_count (nodes f.shape) w f.all_nodes c.requires.block inside in
+    let size : length (column_of c.args.block.now f.node_count i) ≡ nodes f.shape = length-column_of c.args.block.now f.node_count i row ∙ f.all_nodes in
+    let others : (j : ℕ) → (j < c.loop-input.end) ⊎ (c.loop-input.end + nodes f.shape ≤ j) → get_or c.place-start.new.sets j 0 ≡ get_or c.loop-input.sets j 0
+    = λ j outside. c.place-start.ensures.others j (subst (λ n. (j < c.loop-input.end) ⊎ (c.loop-input.end + n ≤ j)) (sym size) outside) in
     let below = flat-below c.args.pair (nodes f.shape * f.classes) i w c.requires.pair inside in
     let there : c.args.pair * w + i < length c.loop-input.starts = omega (arith, below, c.requires.starts, c.loop-input.auto.starts) in
     subst (λ x. AreKeptTo f c.args.block.now c.args.sets.now c.place-start.new.sets c.args.starts.now (set c.loop-input.starts (c.args.pair * x + i) start) c.args.pair c.args.first (i + 1) next) (sym c.width-width.ensures.value)
     (kept-more f c.args.block.now c.args.sets.now c.loop-input.sets c.place-start.new.sets c.args.starts.now c.loop-input.starts c.args.pair c.args.first i c.loop-input.end start next
     c.requires.block inside there c.place-start.ensures.start (omega (arith, c.max-end.ensures)) (omega (arith, c.max-end.ensures, f.all_nodes)) (omega (arith, c.max-end.ensures, f.all_nodes, c.place-start.ensures.start))
-    c.place-start.ensures.kept c.place-start.ensures.others c.loop-input.invariant)
+    (IsColumnAt-stands f c.args.block.now c.place-start.new.sets f.node_count i start f.all_nodes row c.place-start.ensures.kept) others c.loop-input.invariant)

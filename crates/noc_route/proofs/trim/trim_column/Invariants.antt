@@ -3,7 +3,7 @@ use Rattle.noc_topo.specs.Shape.{nodes}
 use Rattle.noc_route.specs.Entered.{sets_in}
 use Rattle.noc_route.specs.Trimming.{reached_at}
 use Rattle.noc_steps.proofs.WrittenLemmas.{StandsTo, LeavesOthers}
-use Rattle.noc_route.proofs.trim.take_entries.Given as goal
+use Rattle.noc_route.proofs.trim.trim_column.Given as goal
 
 abbrev pub invariant-loop-dst : goal.invariant-loop-dst
 invariant-loop-dst l =
