@@ -1,9 +1,10 @@
 //! Channels from which packets come on, through adaptive channels, to one of no greater rank.
 
-ghost use Rattle.std.specs.Prelude.{◌≡◌, ℕ, ◌<◌, ◌⊎◌, Some, None, IfOk, IfSome, IfNone, MatchOption, length, slice_index_or, vec_len};
+ghost use Rattle.std.specs.Prelude.{◌≡◌, ℕ, ◌*◌, ◌/◌, ◌%◌, ◌<◌, ◌⊎◌, Some, None, IfOk, IfSome, IfNone, MatchOption, length, slice_index_or, vec_len};
+ghost use Rattle.noc_topo.specs.Shape.{nodes};
 ghost use Rattle.noc_route.specs.Routes.{IsRelation};
 ghost use Rattle.noc_rank.specs.Faults.{HasNoDescent, IsFirstDescent};
-ghost use Rattle.noc_rank.specs.LeastAhead.{over, IsLeastOf};
+ghost use Rattle.noc_rank.specs.LeastAhead.{over, IsLeastOf, AreAllLeast};
 ghost use Rattle.noc_rank.specs.NotRisingTo.{IsOver, BeginsDescent, IsStartBy, IsAheadAt, IsLinkIndex, channel_at, mark_below, fault_of_descent};
 ghost use Rattle.noc_steps.specs.Falls.{falls};
 
@@ -87,20 +88,34 @@ fn first_start(list: &RankList, least: &mut [Option<u32>]) -> Option<u32>
     ensures { IsLeastOf (IsOver list.now.relation.now
         (IsStartBy list.now.relation.now list.now.ranks.now)) result }
 {
-    let nodes = list.relation.shape().nodes();
     let mut first = None;
-    for number in 0..list.relation.classes() * nodes {
-        let search = Search {
-            relation: list.relation,
-            ranks: list.ranks,
-            marks: list.ranks,
-            class: number / nodes,
-            dst: number % nodes,
-        };
-        search.fill_least(least);
+    for number in 0..list.relation.classes() * list.relation.shape().nodes() {
+        fill_least(list, list.ranks, number, least);
         first = lesser(first, start_in(list, least));
     }
     first
+}
+
+// Writes for each link channel the least mark ahead of it, for the packets with this number: class
+// by class those to each node.
+fn fill_least(list: &RankList, marks: &[Option<u32>], number: usize, least: &mut [Option<u32>])
+    requires marks { length marks.now ≡ length list.now.ranks.now }
+    requires number { let routes = list.now.relation.now in
+        number < routes.classes * nodes routes.grid }
+    requires least { length least.old ≡ length list.now.ranks.now }
+    ensures { let routes = list.now.relation.now in
+        AreAllLeast routes list.now.ranks.now marks.now (number / nodes routes.grid)
+        (number % nodes routes.grid) least.new }
+{
+    let nodes = list.relation.shape().nodes();
+    let search = Search {
+        relation: list.relation,
+        ranks: list.ranks,
+        marks,
+        class: number / nodes,
+        dst: number % nodes,
+    };
+    search.fill_least(least);
 }
 
 // The index of the first channel with a rank that is no less than the one ahead of it.
@@ -158,17 +173,9 @@ fn first_end(
         IsLeastOf (IsOver routes
         (λ m t n. IsAheadAt routes list.now.ranks.now marks.now m t start n)) result }
 {
-    let nodes = list.relation.shape().nodes();
     let mut first = None;
-    for number in 0..list.relation.classes() * nodes {
-        let search = Search {
-            relation: list.relation,
-            ranks: list.ranks,
-            marks,
-            class: number / nodes,
-            dst: number % nodes,
-        };
-        search.fill_least(least);
+    for number in 0..list.relation.classes() * list.relation.shape().nodes() {
+        fill_least(list, marks, number, least);
         first = lesser(first, least[start as usize]);
     }
     first

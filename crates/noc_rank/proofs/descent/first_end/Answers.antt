@@ -1,9 +1,9 @@
-use Rattle.std.proofs.Common.{◌≡◌, ◌*◌, ◌/◌, ◌%◌, ◌∙◌, ap, arith}
+use Rattle.std.proofs.Common.{◌≡◌, ◌*◌, ◌/◌, ◌%◌, ◌<◌, ◌∙◌, ap, arith, refl, subst}
 use Rattle.noc_topo.specs.Shape.{nodes}
 use Rattle.std.proofs.Common.{None, get_or}
 use Rattle.noc_rank.specs.NotRisingTo.{IsAheadAt}
 use Rattle.noc_rank.proofs.DescentLemmas.{end-least, end-inside_list}
-use Rattle.noc_rank.proofs.OverLemmas.{over-more, over-all, pair-class, pair-dst, pairs-few}
+use Rattle.noc_rank.proofs.OverLemmas.{over-more, over-all, pairs-few}
 use Rattle.noc_rank.proofs.descent.first_end.Goals as goal
 
 pub loop-number-preserved : goal.loop-number-preserved
@@ -12,30 +12,25 @@ loop-number-preserved c =
     let routes = list.relation.now in
     let built = c.shape.ensures.built in
     let i = c.loop-number.number in
-    let k = c.nodes-nodes.result in
+    let k = nodes routes.grid in
     let least = c.fill_least.new.least in
-    let count : k ≡ nodes routes.grid = c.nodes-nodes.ensures.value ∙ ap nodes c.shape.ensures.value in
     let value = end-least routes built list.ranks.now c.args.marks.now (i / k) (i % k) c.args.start least c.requires.start c.fill_least.ensures in
-    rw c.lesser-first.ensures (over-more routes (λ m t n. IsAheadAt routes list.ranks.now c.args.marks.now m t c.args.start n) k i c.loop-number.first (get_or least c.args.start None) count c.loop-number.invariant value)
+    rw c.lesser-first.ensures (over-more routes (λ m t n. IsAheadAt routes list.ranks.now c.args.marks.now m t c.args.start n) k i c.loop-number.first (get_or least c.args.start None) refl c.loop-number.invariant value)
 
 pub slice_copy_out-lesser : goal.slice_copy_out-lesser
 slice_copy_out-lesser c = end-inside_list c.args.list.now.relation.now c.shape.ensures.built c.args.start _ c.requires.start c.fill_least.ensures.long
 
 pub overflow_mul-number-end : goal.overflow_mul-number-end
-overflow_mul-number-end c = omega (arith, pairs-few c.classes.result c.nodes-nodes.result (omega (arith, c.classes.ensures.value, c.classes.ensures.built.table.few_classes)) c.nodes-nodes.ensures.few)
+overflow_mul-number-end c = omega (arith, pairs-few c.classes.result c.nodes.result (omega (arith, c.classes.ensures.value, c.classes.ensures.built.table.few_classes)) c.nodes.ensures.few)
 
-pub nonzero_div-search : goal.nonzero_div-search
-nonzero_div-search c = omega (arith, c.nodes-nodes.ensures.some)
-
-pub invariant_of-search-clause-class_exists : goal.invariant_of-search-clause-class_exists
-invariant_of-search-clause-class_exists c =
-    pair-class c.args.list.now.relation.now c.classes.result c.nodes-nodes.result c.loop-number.number c.classes.ensures.value (c.nodes-nodes.ensures.value ∙ ap nodes c.shape.ensures.value) c.nodes-nodes.ensures.some c.loop-number-test.true
-
-pub invariant_of-search-clause-dst_exists : goal.invariant_of-search-clause-dst_exists
-invariant_of-search-clause-dst_exists c = pair-dst c.args.list.now.relation.now c.nodes-nodes.result c.loop-number.number (c.nodes-nodes.ensures.value ∙ ap nodes c.shape.ensures.value) c.nodes-nodes.ensures.some
+pub fill_least-requires-clause-number : goal.fill_least-requires-clause-number
+fill_least-requires-clause-number c =
+    let routes = c.args.list.now.relation.now in
+    let count : c.nodes.result ≡ nodes routes.grid = c.nodes.ensures.value ∙ ap nodes c.shape.ensures.value in
+    subst (λ k. c.loop-number.number < routes.classes * k) count (subst (λ m. c.loop-number.number < m * c.nodes.result) c.classes.ensures.value c.loop-number-test.true)
 
 pub returns : goal.returns
 returns c =
     let routes = c.args.list.now.relation.now in
-    let last : c.loop-number.number ≡ c.classes.result * c.nodes-nodes.result = omega (arith, c.loop-number-test.false, c.loop-number.auto.number-end) in
-    over-all routes (λ m t n. IsAheadAt routes c.args.list.now.ranks.now c.args.marks.now m t c.args.start n) c.classes.result c.nodes-nodes.result c.loop-number.number c.loop-number.first c.classes.ensures.value (c.nodes-nodes.ensures.value ∙ ap nodes c.shape.ensures.value) last c.loop-number.invariant
+    let last : c.loop-number.number ≡ c.classes.result * c.nodes.result = omega (arith, c.loop-number-test.false, c.loop-number.auto.number-end) in
+    over-all routes (λ m t n. IsAheadAt routes c.args.list.now.ranks.now c.args.marks.now m t c.args.start n) c.classes.result c.nodes.result c.loop-number.number c.loop-number.first c.classes.ensures.value (c.nodes.ensures.value ∙ ap nodes c.shape.ensures.value) last c.loop-number.invariant
