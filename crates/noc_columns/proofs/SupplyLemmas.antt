@@ -174,38 +174,32 @@ in-all : (b : Bool) (r : ℕ) → r < 64 → has_bit (if b then 2 ^ 64 - 1 else 
 in-all true r few = ones-members 64 r ∙ lt-ltb r 64 few
 in-all false r few = has_bit-zero r
 
+-- what holds of each number below 8 holds of one of them
+below-eight : (P : ℕ → Type 0) → P 0 → P 1 → P 2 → P 3 → P 4 → P 5 → P 6 → P 7 → (n : ℕ) → n < 8 → P n
+below-eight P a b c d e f g h zero l = a
+below-eight P a b c d e f g h (suc zero) l = b
+below-eight P a b c d e f g h (suc (suc zero)) l = c
+below-eight P a b c d e f g h (suc (suc (suc zero))) l = d
+below-eight P a b c d e f g h (suc (suc (suc (suc zero)))) l = e
+below-eight P a b c d e f g h (suc (suc (suc (suc (suc zero))))) l = f
+below-eight P a b c d e f g h (suc (suc (suc (suc (suc (suc zero)))))) l = g
+below-eight P a b c d e f g h (suc (suc (suc (suc (suc (suc (suc zero))))))) l = h
+below-eight P a b c d e f g h (suc (suc (suc (suc (suc (suc (suc (suc n)))))))) l = absurd (omega (arith, l))
+
 pub ones-are : (n r : ℕ) → n < 8 → r < 64 → has_bit (slice_index ONES n) r ≡ nat_eq (n % 2) 1
-ones-are zero r l few = in-all false r few
-ones-are (suc zero) r l few = in-all true r few
-ones-are (suc (suc zero)) r l few = in-all false r few
-ones-are (suc (suc (suc zero))) r l few = in-all true r few
-ones-are (suc (suc (suc (suc zero)))) r l few = in-all false r few
-ones-are (suc (suc (suc (suc (suc zero))))) r l few = in-all true r few
-ones-are (suc (suc (suc (suc (suc (suc zero)))))) r l few = in-all false r few
-ones-are (suc (suc (suc (suc (suc (suc (suc zero))))))) r l few = in-all true r few
-ones-are (suc (suc (suc (suc (suc (suc (suc (suc n)))))))) r l few = absurd (omega (arith, l))
+ones-are n r l few =
+    let all = λ (k : ℕ). in-all (nat_eq (k % 2) 1) r few in
+    below-eight (λ k. has_bit (slice_index ONES k) r ≡ nat_eq (k % 2) 1) (all 0) (all 1) (all 2) (all 3) (all 4) (all 5) (all 6) (all 7) n l
 
 pub twos-are : (n r : ℕ) → n < 8 → r < 64 → has_bit (slice_index TWOS n) r ≡ nat_eq (n / 2 % 2) 1
-twos-are zero r l few = in-all false r few
-twos-are (suc zero) r l few = in-all false r few
-twos-are (suc (suc zero)) r l few = in-all true r few
-twos-are (suc (suc (suc zero))) r l few = in-all true r few
-twos-are (suc (suc (suc (suc zero)))) r l few = in-all false r few
-twos-are (suc (suc (suc (suc (suc zero))))) r l few = in-all false r few
-twos-are (suc (suc (suc (suc (suc (suc zero)))))) r l few = in-all true r few
-twos-are (suc (suc (suc (suc (suc (suc (suc zero))))))) r l few = in-all true r few
-twos-are (suc (suc (suc (suc (suc (suc (suc (suc n)))))))) r l few = absurd (omega (arith, l))
+twos-are n r l few =
+    let all = λ (k : ℕ). in-all (nat_eq (k / 2 % 2) 1) r few in
+    below-eight (λ k. has_bit (slice_index TWOS k) r ≡ nat_eq (k / 2 % 2) 1) (all 0) (all 1) (all 2) (all 3) (all 4) (all 5) (all 6) (all 7) n l
 
 pub fours-are : (n r : ℕ) → n < 8 → r < 64 → has_bit (slice_index FOURS n) r ≡ nat_eq (n / 2 / 2 % 2) 1
-fours-are zero r l few = in-all false r few
-fours-are (suc zero) r l few = in-all false r few
-fours-are (suc (suc zero)) r l few = in-all false r few
-fours-are (suc (suc (suc zero))) r l few = in-all false r few
-fours-are (suc (suc (suc (suc zero)))) r l few = in-all true r few
-fours-are (suc (suc (suc (suc (suc zero))))) r l few = in-all true r few
-fours-are (suc (suc (suc (suc (suc (suc zero)))))) r l few = in-all true r few
-fours-are (suc (suc (suc (suc (suc (suc (suc zero))))))) r l few = in-all true r few
-fours-are (suc (suc (suc (suc (suc (suc (suc (suc n)))))))) r l few = absurd (omega (arith, l))
+fours-are n r l few =
+    let all = λ (k : ℕ). in-all (nat_eq (k / 2 / 2 % 2) 1) r few in
+    below-eight (λ k. has_bit (slice_index FOURS k) r ≡ nat_eq (k / 2 / 2 % 2) 1) (all 0) (all 1) (all 2) (all 3) (all 4) (all 5) (all 6) (all 7) n l
 
 -- a digit that is put, where it is told in one place alone
 pub digit-put : (x a b d : Bool) → (x ≡ true → a ≡ b) → (if x then a else d) ≡ (if x then b else d)

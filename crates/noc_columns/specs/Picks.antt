@@ -6,6 +6,8 @@ use Rattle.noc_sets.specs.Turns.{first_bit, in_turn}
 use Rattle.noc_sets.specs.Unions.{some_below}
 use Rattle.noc_columns.specs.Supply.{digits_by, number_in}
 use Rattle.noc_columns.specs.Words.{Numbering, set_of, word}
+use Rattle.noc_columns.specs.declared.channels.Decided.{Decided}
+use Rattle.noc_columns.specs.declared.channels.Standing.{Standing}
 use Rattle.noc_columns.specs.declared.ports.Ports.{Ports}
 use Rattle.noc_columns.specs.declared.ports.RouterPorts.{RouterPorts}
 use Rattle.noc_columns.specs.declared.supply.Sends.{Sends}
@@ -85,3 +87,10 @@ pub record HavePicked (ports : RouterPorts) (r : ℕ) (ready ahead picked past l
       → HasPick (port_of ports p) r p c last sends picks
   pub any : (p : ℕ) → p < ports.links.width + 1
       → has_bit (slice_index picks.any p) r ≡ not (nat_eq (set_of (port_of ports p) r ready) 0)
+
+-- the ports of a block pick of the channels that can do this, and what else is decided stays
+pub record PicksAll (ports : RouterPorts) (standing : Standing (List ℕ)) (ahead : List ℕ)
+    (sends : Sends (List ℕ)) (old new : Decided (List ℕ)) (picks : Picks) : Type 0 where
+  pub picked : (r : ℕ)
+      → HavePicked ports r standing.ready ahead new.picked new.past standing.last sends picks
+  pub rest : new ≡ record old { picked = new.picked; past = new.past }

@@ -1,9 +1,10 @@
 -- By which output channel an input channel sends, and whether that has a credit.
-use Rattle.std.specs.Prelude.{ℕ, ◌+◌, ◌*◌, Bool, true, List, [], ◌∷◌, nat_lt, if◌then◌else◌}
+use Rattle.std.specs.Prelude.{◌≡◌, ℕ, ◌+◌, ◌*◌, ◌<◌, ◌≤◌, Bool, true, List, [], ◌∷◌, nat_lt, if◌then◌else◌}
 use Rattle.noc_packet.specs.Set.{has_bit}
 use Rattle.noc_sets.specs.Planes.{plane_number}
 use Rattle.noc_columns.specs.Words.{word}
 use Rattle.noc_columns.specs.declared.supply.Digits.{Digits}
+use Rattle.noc_columns.specs.declared.supply.Sends.{Sends}
 
 -- each digit as what f makes of it
 abbrev pub digits_by : {A B : Type 0} → (A → B) → Digits A → Digits B
@@ -26,3 +27,14 @@ is_fed links some q v = if nat_lt q links then has_bit (some q) v else true
 abbrev pub is_fed_word : ℕ → List ℕ → ℕ → ℕ → ℕ → Bool
 is_fed_word links some r q v =
     if nat_lt q links then has_bit (word (v * links + q) some) r else true
+
+-- so many words tell it of the output channels by which channels send, where these have numbers
+-- below so many virtual channels
+abbrev pub TellFed : ℕ → ℕ → ℕ → Sends (List ℕ) → List ℕ → List ℕ → Type 0
+TellFed count links vcs sends some supplied =
+    (k r : ℕ) → k < count
+    → number_in (digits_by (word k) sends.vc) r < vcs
+    → number_in (digits_by (word k) sends.port) r ≤ links
+    → has_bit (word k supplied) r
+    ≡ is_fed_word links some r (number_in (digits_by (word k) sends.port) r)
+    (number_in (digits_by (word k) sends.vc) r)

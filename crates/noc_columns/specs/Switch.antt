@@ -13,6 +13,7 @@ use Rattle.noc_columns.specs.Picks.{output_of, port_of}
 use Rattle.noc_columns.specs.Words.{set_below, set_of, word}
 use Rattle.noc_columns.specs.declared.ports.RouterPorts.{RouterPorts}
 use Rattle.noc_columns.specs.declared.picks.Picks.{Picks}
+use Rattle.noc_columns.specs.declared.channels.Decided.{Decided}
 use Rattle.noc_columns.specs.declared.channels.Links.{Links}
 
 -- what the input ports pick: whether they do, and of the picked channel whether it has a tail in
@@ -71,6 +72,13 @@ Traverses ports picks ahead after sends left r =
     (λ p. has_bit (set_of (port_of ports p) r sends))
     (λ q. has_bit (set_of (port_of ports q) r left.flits))
     (λ q. has_bit (set_of (port_of ports q) r left.tails))
+
+-- what the ports of a block pick goes through its switches, and all else stays
+pub record TraversesAll (ports : RouterPorts) (picks : Picks) (ahead after : List ℕ)
+    (old new : Decided (List ℕ)) (was gone : Links (List ℕ)) : Type 0 where
+  pub traversed : (r : ℕ) → Traverses ports picks ahead after new.sends gone r
+  pub decided : new ≡ record old { sends = new.sends }
+  pub left : gone.credits ≡ was.credits
 
 -- what leaves by virtual channel v of output port q: by a link what is told, and by the local port,
 -- which is the last, what is taken and passes a test

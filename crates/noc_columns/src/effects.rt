@@ -1,11 +1,7 @@
 //! What is decided takes effect.
 
-ghost use Rattle.std.specs.Prelude.{◌≡◌, ◌<◌, ◌*◌, ℕ, nat_lt};
-ghost use Rattle.noc_columns.specs.Arrivals.{leaves_from};
-ghost use Rattle.noc_columns.specs.Channels.{decided_by, inputs_by, standing_by, verdicts_by};
-ghost use Rattle.noc_columns.specs.Steps.{Settles};
-ghost use Rattle.noc_columns.specs.Supply.{digits_by, number_in};
-ghost use Rattle.noc_columns.specs.Prelude.{IsWithin, Numbering, has_bit, set_of, some_below, word};
+ghost use Rattle.std.specs.Prelude.{◌<◌, ◌*◌, nat_lt};
+ghost use Rattle.noc_columns.specs.Steps.{Settles, SettlesAll};
 
 use crate::channels::{Decided, Inputs, Standing, Verdicts};
 use crate::frame::Frame;
@@ -38,27 +34,14 @@ pub fn settle(
     arrived: &mut Words,
 ) -> (u64, u64)
     requires { local < NUMBERS }
-    ensures settles { (n : Numbering) (r : ℕ) → IsWithin (GROUP * frame.now.groups) n
-        → Settles frame.now.deep (standing_by (set_of n r) moves.now.standing.now)
-        (decided_by (set_of n r) moves.now.decided.now) (set_of n r moves.now.grants.now.granted)
-        (inputs_by (set_of n r) inputs.old) (inputs_by (set_of n r) inputs.new)
-        (verdicts_by (set_of n r) verdicts.old) (verdicts_by (set_of n r) verdicts.new) }
-    ensures arrived { (n : Numbering) (r c : ℕ) → IsWithin (GROUP * frame.now.groups) n → c < n.size
-        → has_bit (set_of n r arrived.new) c
-        ≡ leaves_from local (set_of n r verdicts.new.moved)
-        (set_of n r moves.now.standing.now.last)
-        (number_in (digits_by (set_of n r) moves.now.grants.now.sends.port)) c }
-    ensures moved { (r : ℕ)
-        → has_bit result.0 r
-        ≡ some_below (GROUP * frame.now.groups) (λ i. has_bit (word i verdicts.new.moved) r) }
-    ensures some { (r : ℕ)
-        → has_bit result.1 r
-        ≡ some_below (GROUP * frame.now.groups) (λ i. has_bit (word i arrived.new) r) }
+    ensures { SettlesAll (GROUP * frame.now.groups) frame.now.deep local moves.now.standing.now
+        moves.now.decided.now moves.now.grants.now inputs.old inputs.new verdicts.old verdicts.new
+        arrived.new result.0 result.1 }
 {
     if frame.deep {
-        settle_all::<5>(frame, local, moves, inputs, verdicts, arrived)
+        settle_all::<5>(moves, frame, local, inputs, verdicts, arrived)
     } else {
-        settle_all::<SHALLOW>(frame, local, moves, inputs, verdicts, arrived)
+        settle_all::<SHALLOW>(moves, frame, local, inputs, verdicts, arrived)
     }
 }
 
@@ -70,30 +53,17 @@ const SHALLOW: usize = 3;
 // one that does less is unrolled, and does the words one by one that are left over.)
 #[inline(always)]
 fn settle_all<const BITS: usize>(
+    moves: &Moves<'_>,
     frame: &Frame,
     local: usize,
-    moves: &Moves<'_>,
     inputs: &mut Inputs<Words>,
     verdicts: &mut Verdicts<Words>,
     arrived: &mut Words,
 ) -> (u64, u64)
     requires { local < NUMBERS }
-    ensures settles { (n : Numbering) (r : ℕ) → IsWithin (GROUP * frame.now.groups) n
-        → Settles (nat_lt SHALLOW BITS) (standing_by (set_of n r) moves.now.standing.now)
-        (decided_by (set_of n r) moves.now.decided.now) (set_of n r moves.now.grants.now.granted)
-        (inputs_by (set_of n r) inputs.old) (inputs_by (set_of n r) inputs.new)
-        (verdicts_by (set_of n r) verdicts.old) (verdicts_by (set_of n r) verdicts.new) }
-    ensures arrived { (n : Numbering) (r c : ℕ) → IsWithin (GROUP * frame.now.groups) n → c < n.size
-        → has_bit (set_of n r arrived.new) c
-        ≡ leaves_from local (set_of n r verdicts.new.moved)
-        (set_of n r moves.now.standing.now.last)
-        (number_in (digits_by (set_of n r) moves.now.grants.now.sends.port)) c }
-    ensures moved { (r : ℕ)
-        → has_bit result.0 r
-        ≡ some_below (GROUP * frame.now.groups) (λ i. has_bit (word i verdicts.new.moved) r) }
-    ensures some { (r : ℕ)
-        → has_bit result.1 r
-        ≡ some_below (GROUP * frame.now.groups) (λ i. has_bit (word i arrived.new) r) }
+    ensures { SettlesAll (GROUP * frame.now.groups) (nat_lt SHALLOW BITS) local
+        moves.now.standing.now moves.now.decided.now moves.now.grants.now inputs.old inputs.new
+        verdicts.old verdicts.new arrived.new result.0 result.1 }
 {
     let deep = BITS > SHALLOW;
     let mut moving = 0;

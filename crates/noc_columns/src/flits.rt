@@ -1,9 +1,7 @@
 //! The flits that have come land.
 
-ghost use Rattle.std.specs.Prelude.{◌≡◌, ◌<◌, ◌*◌, ℕ};
-ghost use Rattle.noc_columns.specs.Channels.{inputs_by, links_by, standing_by};
-ghost use Rattle.noc_columns.specs.Steps.{Lands};
-ghost use Rattle.noc_columns.specs.Prelude.{IsWithin, Numbering, has_bit, set_of, some_below, word};
+ghost use Rattle.std.specs.Prelude.{◌*◌};
+ghost use Rattle.noc_columns.specs.Steps.{Lands, LandsAll};
 
 use crate::channels::{Inputs, Links, Standing};
 use crate::frame::Frame;
@@ -20,14 +18,8 @@ pub fn land(
     standing: &mut Standing<Words>,
     no_credit: &mut Words,
 ) -> u64
-    ensures flits { (n : Numbering) (r : ℕ) → IsWithin (GROUP * frame.now.groups) n
-        → Lands frame.now.deep (links_by (set_of n r) links.now)
-        (inputs_by (set_of n r) inputs.old) (inputs_by (set_of n r) inputs.new)
-        (standing_by (set_of n r) standing.old) (standing_by (set_of n r) standing.new)
-        (set_of n r no_credit.new) }
-    ensures heads { (r : ℕ)
-        → has_bit result r
-        ≡ some_below (GROUP * frame.now.groups) (λ i. has_bit (word i standing.new.heads) r) }
+    ensures { LandsAll (GROUP * frame.now.groups) frame.now.deep links.now inputs.old inputs.new
+        standing.old standing.new no_credit.new result }
 {
     if frame.deep {
         land_all(frame, true, links, inputs, standing, no_credit)
@@ -46,14 +38,8 @@ fn land_all(
     standing: &mut Standing<Words>,
     no_credit: &mut Words,
 ) -> u64
-    ensures flits { (n : Numbering) (r : ℕ) → IsWithin (GROUP * frame.now.groups) n
-        → Lands deep (links_by (set_of n r) links.now)
-        (inputs_by (set_of n r) inputs.old) (inputs_by (set_of n r) inputs.new)
-        (standing_by (set_of n r) standing.old) (standing_by (set_of n r) standing.new)
-        (set_of n r no_credit.new) }
-    ensures heads { (r : ℕ)
-        → has_bit result r
-        ≡ some_below (GROUP * frame.now.groups) (λ i. has_bit (word i standing.new.heads) r) }
+    ensures { LandsAll (GROUP * frame.now.groups) deep links.now inputs.old inputs.new standing.old
+        standing.new no_credit.new result }
 {
     let mut heading = 0;
     for i in 0..GROUP * frame.groups {

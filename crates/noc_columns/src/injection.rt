@@ -57,46 +57,18 @@ pub fn inject(
 {
     let busy = some_of(local, &injection.injecting);
     let starts = less(due, busy);
-    if frame.deep {
-        inject_all(frame, true, local, starts, inputs, injection)
+    let went = if frame.deep {
+        inject_each(frame, true, local, starts, inputs, injection)
     } else {
-        inject_all(frame, false, local, starts, inputs, injection)
-    }
-}
-
-// Sources inject, where it is told whether counts are deep, and which routers may begin a packet.
-#[inline(always)]
-fn inject_all(
-    frame: &Frame,
-    deep: bool,
-    local: &Ports,
-    starts: u64,
-    inputs: &Inputs<Words>,
-    injection: &mut Injection<Words>,
-) -> (u64, u64)
-    requires { local.now.width ≡ 1 }
-    ensures injecting { injection.new.injecting ≡ injection.old.injecting }
-    ensures went { (r : ℕ) (c : Column) → set_of (port_at local.now 0) r injection.new.went
-        ≡ lane_injected
-        (list_of deep (planes_by (set_alike (port_at local.now 0) r) frame.now.places))
-        (with_source deep (inputs_by (set_of (port_at local.now 0) r) inputs.now)
-        (set_of (port_at local.now 0) r injection.old.injecting) c) }
-    ensures begun { (r : ℕ) (c : Column) → set_of (port_at local.now 0) r injection.new.begun
-        ≡ lowest (lane_free (set_alike (port_at local.now 0) r starts)
-        (with_source deep (inputs_by (set_of (port_at local.now 0) r) inputs.now)
-        (set_of (port_at local.now 0) r injection.old.injecting) c)) }
-    ensures some_went { (r : ℕ) → has_bit result.0 r
-        ≡ not (nat_eq (set_of (port_at local.now 0) r injection.new.went) 0) }
-    ensures some_begun { (r : ℕ) → has_bit result.1 r
-        ≡ not (nat_eq (set_of (port_at local.now 0) r injection.new.begun) 0) }
-{
-    let went = inject_each(frame, deep, local, starts, inputs, injection);
+        inject_each(frame, false, local, starts, inputs, injection)
+    };
     let begins = begin_first(local, starts, &mut injection.begun);
     (went, begins)
 }
 
 // In each local channel a flit of its packet is injected, where that is not full, and it is told
-// in which of these routers it is free. The answer is the routers in which a flit is injected.
+// in which of these routers it is free. The answer is the routers in which a flit is injected. (It
+// is told whether counts are deep, so that each of both loops has one kind of count.)
 #[inline(always)]
 fn inject_each(
     frame: &Frame,

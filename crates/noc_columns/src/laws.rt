@@ -164,15 +164,6 @@ pub fn a_router_that_is_put_has_the_channel()
         ≡ (if nat_eq r router then bit_or (set_of n r words) (2 ^ c) else set_of n r words) }
 {}
 
-/// Where it is taken out, its set has this channel no more.
-pub fn a_router_that_is_taken_has_the_channel_no_more()
-    ensures { (n : Numbering) (words new : List ℕ) (c router r : ℕ) → AreApart n → c < n.size
-        → ((k s : ℕ) → has_bit (word k new) s
-        ≡ (not (nat_eq k (n.index c) && nat_eq s router) && has_bit (word k words) s))
-        → set_of n r new
-        ≡ (if nat_eq r router then less (set_of n r words) (2 ^ c) else set_of n r words) }
-{}
-
 /// The words of the channels of a router are apart.
 pub fn channels_of_a_router_are_apart()
     ensures { (ports : RouterPorts) → AreApart (channels_of ports) }

@@ -53,10 +53,9 @@ pub use grants::{Grants, grant, grant_all};
 pub use header::Header;
 pub use injection::{Injection, bring, inject};
 pub use laws::{
-    a_router_that_is_put_has_the_channel, a_router_that_is_taken_has_the_channel_no_more,
-    allotments_and_routes_are_what_a_router_chooses, allotments_are_what_a_router_allocates,
-    allotments_show_who_owns_a_channel, channels_of_a_router_are_apart,
-    near_and_far_are_the_places, neighbours_stand_at_these_places,
+    a_router_that_is_put_has_the_channel, allotments_and_routes_are_what_a_router_chooses,
+    allotments_are_what_a_router_allocates, allotments_show_who_owns_a_channel,
+    channels_of_a_router_are_apart, near_and_far_are_the_places, neighbours_stand_at_these_places,
     picked_channels_are_those_of_the_ports, places_bring_what_comes_over_the_link,
     ports_pass_what_a_router_passes, ports_pick_what_a_router_picks,
     ports_switch_what_a_router_switches, sources_send_what_a_router_sends,
@@ -68,7 +67,7 @@ pub use marks::Marks;
 pub use neighbours::{Far, Near, Neighbours};
 pub use over_links::{gather, gather_far};
 pub use payments::pay;
-pub use picks::{Picks, any_both, pick, pick_each};
+pub use picks::{Candidates, Picks, any_both, pick, pick_each};
 pub use places::{far_of, near_of};
 pub use planes::{Planes, less};
 pub use ports::{PORTS, Ports, RouterPorts};

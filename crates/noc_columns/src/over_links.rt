@@ -22,27 +22,10 @@ pub fn gather(frame: &Frame, near: &Near, left: &Links<Words>, came: &mut Links<
     ensures credits { (k r : ℕ) → k < GROUP * frame.now.link_groups → r < ROUTERS
         → has_bit (word k came.new.credits) r ≡ comes_near near.now left.now.credits k r }
 {
-    if near.rings {
-        gather_all(frame, near, true, left, came);
-    } else {
-        gather_all(frame, near, false, left, came);
-    }
-}
-
-// Gathers from the same block, where it is told whether lines are rings.
-#[inline(always)]
-fn gather_all(frame: &Frame, near: &Near, rings: bool, left: &Links<Words>, came: &mut Links<Words>)
-    requires { rings ≡ near.now.rings }
-    ensures flits { (k r : ℕ) → k < GROUP * frame.now.link_groups → r < ROUTERS
-        → has_bit (word k came.new.flits) r ≡ comes_near near.now left.now.flits k r }
-    ensures tails { (k r : ℕ) → k < GROUP * frame.now.link_groups → r < ROUTERS
-        → has_bit (word k came.new.tails) r ≡ comes_near near.now left.now.tails k r }
-    ensures credits { (k r : ℕ) → k < GROUP * frame.now.link_groups → r < ROUTERS
-        → has_bit (word k came.new.credits) r ≡ comes_near near.now left.now.credits k r }
-{
     // (All three stand in one loop. Else the compiler takes the same word of four groups at a time,
     // and moves words about. And all are read before one is written, so that where neighbours stand
     // is read once.)
+    let rings = near.rings;
     for g in 0..frame.link_groups {
         let at = GROUP * g;
         let flits = near_four(near, rings, &left.flits, at);

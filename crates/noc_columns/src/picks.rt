@@ -1,11 +1,11 @@
 //! Each input port picks one of its channels.
 
 ghost use Rattle.std.specs.Prelude.{◌≡◌, ◌⊎◌, ◌<◌, ◌≤◌, ◌+◌, ◌*◌, ◌&&◌, ℕ, true, not, nat_eq, bit_and, bit_or, slice_index};
-ghost use Rattle.noc_columns.specs.Picks.{HavePicked, IsPicked, turn_word};
+ghost use Rattle.noc_columns.specs.Picks.{HavePicked, IsPicked, PicksAll, turn_word};
 ghost use Rattle.noc_columns.specs.Prelude.{has_bit, less, port_at, port_of, set_of, some_below, word};
 
 use crate::by_port::write_side;
-use crate::channels::{Decided, Inputs, Standing};
+use crate::channels::{Decided, Standing};
 use crate::planes::less;
 use crate::ports::{PORTS, Ports, RouterPorts};
 use crate::supply::{Digits, Sends};
@@ -42,29 +42,36 @@ const NO_NUMBERS: Digits<[u64; PORTS]> = Digits {
     fours: NO_PORTS,
 };
 
+/// What the input ports of a block pick from.
+#[derive(Drop)]
+pub struct Candidates<'a> {
+    /// What the input channels can do.
+    pub standing: &'a Standing<Words>,
+    /// Those at or after the pointer of their port.
+    pub ahead: &'a Words,
+    /// By which output channel each of them sends.
+    pub sends: &'a Sends<Words>,
+}
+
 /// Of the ready channels of each input port one is picked, the first from the pointer on and
 /// around. It is written what these channels have.
 #[inline(always)]
 pub fn pick(
     ports: &RouterPorts,
-    inputs: &Inputs<Words>,
-    standing: &Standing<Words>,
-    sends: &Sends<Words>,
+    candidates: &Candidates<'_>,
     decided: &mut Decided<Words>,
     picks: &mut Picks,
 )
-    ensures picked { (r : ℕ) → HavePicked ports.now r standing.now.ready inputs.now.ahead
-        decided.new.picked decided.new.past standing.now.last sends.now picks.new }
-    ensures rest { decided.new
-        ≡ record decided.old { picked = decided.new.picked; past = decided.new.past } }
+    ensures { PicksAll ports.now candidates.now.standing.now candidates.now.ahead.now
+        candidates.now.sends.now decided.old decided.new picks.new }
 {
     let width = ports.links.width;
     if width == 2 {
-        pick_by::<2>(ports, inputs, standing, sends, decided, picks);
+        pick_by::<2>(ports, candidates, decided, picks);
     } else if width == 4 {
-        pick_by::<4>(ports, inputs, standing, sends, decided, picks);
+        pick_by::<4>(ports, candidates, decided, picks);
     } else {
-        pick_by::<6>(ports, inputs, standing, sends, decided, picks);
+        pick_by::<6>(ports, candidates, decided, picks);
     }
 }
 
@@ -73,31 +80,25 @@ pub fn pick(
 #[inline(never)]
 fn pick_by<const WIDTH: usize>(
     ports: &RouterPorts,
-    inputs: &Inputs<Words>,
-    standing: &Standing<Words>,
-    sends: &Sends<Words>,
+    candidates: &Candidates<'_>,
     decided: &mut Decided<Words>,
     picks: &mut Picks,
 )
     requires { WIDTH ≡ ports.now.links.width }
-    ensures picked { (r : ℕ) → HavePicked ports.now r standing.now.ready inputs.now.ahead
-        decided.new.picked decided.new.past standing.now.last sends.now picks.new }
-    ensures rest { decided.new
-        ≡ record decided.old { picked = decided.new.picked; past = decided.new.past } }
+    ensures { PicksAll ports.now candidates.now.standing.now candidates.now.ahead.now
+        candidates.now.sends.now decided.old decided.new picks.new }
 {
     let vcs = ports.links.vcs;
+    let picked = &mut decided.picked;
+    let past = &mut decided.past;
     if vcs == 2 {
-        let known = ports.known(WIDTH, 2);
-        pick_all(&known, inputs, standing, sends, decided, picks);
+        pick_all(&ports.known(WIDTH, 2), candidates, picked, past, picks);
     } else if vcs == 4 {
-        let known = ports.known(WIDTH, 4);
-        pick_all(&known, inputs, standing, sends, decided, picks);
+        pick_all(&ports.known(WIDTH, 4), candidates, picked, past, picks);
     } else if vcs == 8 {
-        let known = ports.known(WIDTH, 8);
-        pick_all(&known, inputs, standing, sends, decided, picks);
+        pick_all(&ports.known(WIDTH, 8), candidates, picked, past, picks);
     } else {
-        let known = ports.known(WIDTH, vcs);
-        pick_all(&known, inputs, standing, sends, decided, picks);
+        pick_all(&ports.known(WIDTH, vcs), candidates, picked, past, picks);
     }
 }
 
@@ -105,29 +106,23 @@ fn pick_by<const WIDTH: usize>(
 #[inline(always)]
 fn pick_all(
     ports: &RouterPorts,
-    inputs: &Inputs<Words>,
-    standing: &Standing<Words>,
-    sends: &Sends<Words>,
-    decided: &mut Decided<Words>,
+    candidates: &Candidates<'_>,
+    picked: &mut Words,
+    past: &mut Words,
     picks: &mut Picks,
 )
-    ensures picked { (r : ℕ) → HavePicked ports.now r standing.now.ready inputs.now.ahead
-        decided.new.picked decided.new.past standing.now.last sends.now picks.new }
-    ensures rest { decided.new
-        ≡ record decided.old { picked = decided.new.picked; past = decided.new.past } }
+    ensures { (r : ℕ) → HavePicked ports.now r candidates.now.standing.now.ready
+        candidates.now.ahead.now picked.new past.new candidates.now.standing.now.last
+        candidates.now.sends.now picks.new }
 {
-    let any = pick_each(
-        ports,
-        &standing.ready,
-        &inputs.ahead,
-        &mut decided.picked,
-        &mut decided.past,
-    );
+    let standing = candidates.standing;
+    let sends = candidates.sends;
+    let any = pick_each(ports, &standing.ready, candidates.ahead, picked, past);
     *picks = Picks {
         any,
-        tail: any_both(ports, &decided.picked, &standing.last),
-        port: numbers(ports, &decided.picked, &sends.port),
-        vc: numbers(ports, &decided.picked, &sends.vc),
+        tail: any_both(ports, picked, &standing.last),
+        port: numbers(ports, picked, &sends.port),
+        vc: numbers(ports, picked, &sends.vc),
     };
 }
 

@@ -1,6 +1,6 @@
 //! A count of each channel, bit by bit.
 
-ghost use Rattle.std.specs.Prelude.{◌≡◌, ◌≢◌, ◌<◌, ℕ};
+ghost use Rattle.std.specs.Prelude.{◌≡◌, ◌≢◌, ◌<◌, ℕ, bit_xor};
 ghost use Rattle.noc_columns.specs.Planes.{list_of, planes_by};
 ghost use Rattle.noc_sets.specs.Planes.{any_from, lowered_by, more_than_one, raised_by, wrong_from};
 ghost use Rattle.noc_columns.specs.Prelude.{less, word};
@@ -45,13 +45,7 @@ impl Planes<u64> {
         let fours = twos & self.twos;
         let eights = fours & self.fours;
         let sixteens = eights & self.eights;
-        Planes {
-            ones: self.ones ^ set,
-            twos: self.twos ^ twos,
-            fours: self.fours ^ fours,
-            eights: self.eights ^ eights,
-            sixteens: self.sixteens ^ sixteens,
-        }
+        self.flipped(set, twos, fours, eights, sixteens)
     }
 
     /// One less for each member of a set. A count of 0 becomes the greatest, 31 or 7.
@@ -63,8 +57,22 @@ impl Planes<u64> {
         let fours = less(twos, self.twos);
         let eights = less(fours, self.fours);
         let sixteens = less(eights, self.eights);
+        self.flipped(set, twos, fours, eights, sixteens)
+    }
+
+    // Of each plane the members of a set are put in or taken out.
+    #[inline(always)]
+    fn flipped(&self, ones: u64, twos: u64, fours: u64, eights: u64, sixteens: u64) -> Planes<u64>
+        ensures { result ≡ record {
+          ones = bit_xor self.now.ones ones;
+          twos = bit_xor self.now.twos twos;
+          fours = bit_xor self.now.fours fours;
+          eights = bit_xor self.now.eights eights;
+          sixteens = bit_xor self.now.sixteens sixteens;
+        } }
+    {
         Planes {
-            ones: self.ones ^ set,
+            ones: self.ones ^ ones,
             twos: self.twos ^ twos,
             fours: self.fours ^ fours,
             eights: self.eights ^ eights,

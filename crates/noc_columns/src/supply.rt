@@ -2,7 +2,7 @@
 //! a credit.
 
 ghost use Rattle.std.specs.Prelude.{◌≡◌, ◌⊎◌, ◌<◌, ◌≤◌, ◌+◌, ◌*◌, ◌&&◌, ℕ, false, not, nat_eq, [], ◌∷◌, if◌then◌else◌, slice_index};
-ghost use Rattle.noc_columns.specs.Supply.{by_four, digits_by, is_fed, is_fed_word, number_in};
+ghost use Rattle.noc_columns.specs.Supply.{TellFed, by_four, digits_by, is_fed, is_fed_word, number_in};
 ghost use Rattle.noc_columns.specs.Prelude.{IsWithin, Numbering, has_bit, port_at, set_of, word};
 
 use crate::frame::Frame;
@@ -182,12 +182,7 @@ fn look_up_by<const VCS: usize>(
     supplied: &mut Words,
 )
     requires { (width ≡ 2) ⊎ ((width ≡ 4) ⊎ (width ≡ 6)) }
-    ensures { (k r : ℕ) → k < GROUP * frame.now.groups
-        → number_in (digits_by (word k) sends.now.vc) r < VCS
-        → number_in (digits_by (word k) sends.now.port) r ≤ width
-        → has_bit (word k supplied.new) r
-        ≡ is_fed_word width some.now r (number_in (digits_by (word k) sends.now.port) r)
-        (number_in (digits_by (word k) sends.now.vc) r) }
+    ensures { TellFed (GROUP * frame.now.groups) width VCS sends.now some.now supplied.new }
 {
     if width == 2 {
         look_up_of::<2, VCS>(frame, sends, some, supplied);
@@ -208,12 +203,7 @@ fn look_up_of<const WIDTH: usize, const VCS: usize>(
     supplied: &mut Words,
 )
     requires { (WIDTH ≡ 2) ⊎ ((WIDTH ≡ 4) ⊎ (WIDTH ≡ 6)) }
-    ensures { (k r : ℕ) → k < GROUP * frame.now.groups
-        → number_in (digits_by (word k) sends.now.vc) r < VCS
-        → number_in (digits_by (word k) sends.now.port) r ≤ WIDTH
-        → has_bit (word k supplied.new) r
-        ≡ is_fed_word WIDTH some.now r (number_in (digits_by (word k) sends.now.port) r)
-        (number_in (digits_by (word k) sends.now.vc) r) }
+    ensures { TellFed (GROUP * frame.now.groups) WIDTH VCS sends.now some.now supplied.new }
 {
     // (A value of its own is none of the words that are written. So the compiler takes several
     // words at a time.)
@@ -261,11 +251,7 @@ fn of_four(wide: bool, port: &Digits<u64>, vc: &Digits<u64>, some: &Words) -> u6
     ensures { (r : ℕ) → (wide ≡ false → number_in vc.now r < 4) → number_in port.now r ≤ 4
         → has_bit result r ≡ is_fed_word 4 some.now r (number_in port.now r) (number_in vc.now r) }
 {
-    let none = by_vc(4, wide, vc, 0, some);
-    let one = by_vc(4, wide, vc, 1, some);
-    let two = by_vc(4, wide, vc, 2, some);
-    let three = by_vc(4, wide, vc, 3, some);
-    four(port, none, one, two, three) | port.fours
+    by_low_port(4, wide, port, vc, some) | port.fours
 }
 
 // The routers in which it does so, of six link ports: the local port has number 6.
@@ -274,14 +260,28 @@ fn of_six(wide: bool, port: &Digits<u64>, vc: &Digits<u64>, some: &Words) -> u64
     ensures { (r : ℕ) → (wide ≡ false → number_in vc.now r < 4) → number_in port.now r ≤ 6
         → has_bit result r ≡ is_fed_word 6 some.now r (number_in port.now r) (number_in vc.now r) }
 {
-    let none = by_vc(6, wide, vc, 0, some);
-    let one = by_vc(6, wide, vc, 1, some);
-    let two = by_vc(6, wide, vc, 2, some);
-    let three = by_vc(6, wide, vc, 3, some);
-    let low = four(port, none, one, two, three);
+    let low = by_low_port(6, wide, port, vc, some);
     let next = by_vc(6, wide, vc, 4, some);
     let last = by_vc(6, wide, vc, 5, some);
     either(port.fours, low, either(port.ones, next, last) | port.twos)
+}
+
+// The routers in which the virtual channel with this number is in a set, of that of the first four
+// ports which the two lowest bits of the port's number tell.
+#[inline(always)]
+fn by_low_port(width: usize, wide: bool, port: &Digits<u64>, vc: &Digits<u64>, some: &Words) -> u64
+    requires few { width ≤ LINKS }
+    requires four { 4 ≤ width }
+    ensures { (r : ℕ) → (wide ≡ false → number_in vc.now r < 4)
+        → has_bit result r
+        ≡ by_four (has_bit port.now.ones r) (has_bit port.now.twos r)
+        (λ q. has_bit (word (number_in vc.now r * width + q) some.now) r) }
+{
+    let none = by_vc(width, wide, vc, 0, some);
+    let one = by_vc(width, wide, vc, 1, some);
+    let two = by_vc(width, wide, vc, 2, some);
+    let three = by_vc(width, wide, vc, 3, some);
+    four(port, none, one, two, three)
 }
 
 // The routers in which the virtual channel with this number, of one port, is in a set.
@@ -292,35 +292,31 @@ fn by_vc(width: usize, wide: bool, vc: &Digits<u64>, port: usize, some: &Words) 
     ensures { (r : ℕ) → (wide ≡ false → number_in vc.now r < 4)
         → has_bit result r ≡ has_bit (word (number_in vc.now r * width + port) some.now) r }
 {
-    let none = channel(some, 0, width, port);
-    let one = channel(some, 1, width, port);
-    let two = channel(some, 2, width, port);
-    let three = channel(some, 3, width, port);
-    let low = four(vc, none, one, two, three);
+    let low = by_low_vc(0, width, vc, port, some);
     if wide {
-        high_vc(low, width, vc, port, some)
+        either(vc.fours, low, by_low_vc(4, width, vc, port, some))
     } else {
         low
     }
 }
 
-// The routers in which that virtual channel is in the set, where those below four give this.
+// The same of that of four virtual channels, from the first on, which the two lowest bits of the
+// number tell.
 #[inline(always)]
-fn high_vc(low: u64, width: usize, vc: &Digits<u64>, port: usize, some: &Words) -> u64
+fn by_low_vc(first: usize, width: usize, vc: &Digits<u64>, port: usize, some: &Words) -> u64
+    requires first { first + 4 ≤ MAX_CHANNELS }
     requires few { width ≤ LINKS }
     requires port { port < width }
     ensures { (r : ℕ)
         → has_bit result r
-        ≡ (if has_bit vc.now.fours r
-        then by_four (has_bit vc.now.ones r) (has_bit vc.now.twos r)
-        (λ v. has_bit (word ((4 + v) * width + port) some.now) r)
-        else has_bit low r) }
+        ≡ by_four (has_bit vc.now.ones r) (has_bit vc.now.twos r)
+        (λ v. has_bit (word ((first + v) * width + port) some.now) r) }
 {
-    let none = channel(some, 4, width, port);
-    let one = channel(some, 5, width, port);
-    let two = channel(some, 6, width, port);
-    let three = channel(some, 7, width, port);
-    either(vc.fours, low, four(vc, none, one, two, three))
+    let none = channel(some, first, width, port);
+    let one = channel(some, first + 1, width, port);
+    let two = channel(some, first + 2, width, port);
+    let three = channel(some, first + 3, width, port);
+    four(vc, none, one, two, three)
 }
 
 // The word of a virtual channel of a port.

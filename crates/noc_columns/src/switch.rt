@@ -4,7 +4,7 @@
 ghost use Rattle.std.specs.Prelude.{◌≡◌, ◌⊎◌, ◌<◌, ◌≤◌, ◌+◌, ◌*◌, ◌&&◌, ℕ, true, not, nat_eq, bit_and, bit_or, slice_index, if◌then◌else◌};
 ghost use Rattle.noc_sets.specs.Turns.{in_turn};
 ghost use Rattle.noc_columns.specs.Supply.{digits_by, number_in};
-ghost use Rattle.noc_columns.specs.Switch.{Traverses, asks_for, picks_in, taken_in};
+ghost use Rattle.noc_columns.specs.Switch.{Traverses, TraversesAll, asks_for, picks_in, taken_in};
 ghost use Rattle.noc_columns.specs.Prelude.{has_bit, less, output_of, port_at, port_of, set_of, some_below, word};
 
 use crate::channels::{Decided, Links};
@@ -46,10 +46,8 @@ pub fn traverse(
     decided: &mut Decided<Words>,
     left: &mut Links<Words>,
 )
-    ensures traversed { (r : ℕ) → Traverses ports.now picks.now switch.old.ahead switch.new.ahead
-        decided.new.sends left.new r }
-    ensures decided { decided.new ≡ record decided.old { sends = decided.new.sends } }
-    ensures left { left.new.credits ≡ left.old.credits }
+    ensures { TraversesAll ports.now picks.now switch.old.ahead switch.new.ahead decided.old
+        decided.new left.old left.new }
 {
     let width = ports.links.width;
     if width == 2 {
@@ -72,20 +70,20 @@ fn traverse_by<const WIDTH: usize>(
     left: &mut Links<Words>,
 )
     requires { WIDTH ≡ ports.now.links.width }
-    ensures traversed { (r : ℕ) → Traverses ports.now picks.now switch.old.ahead switch.new.ahead
-        decided.new.sends left.new r }
-    ensures decided { decided.new ≡ record decided.old { sends = decided.new.sends } }
-    ensures left { left.new.credits ≡ left.old.credits }
+    ensures { TraversesAll ports.now picks.now switch.old.ahead switch.new.ahead decided.old
+        decided.new left.old left.new }
 {
     let vcs = ports.links.vcs;
+    let ahead = &mut switch.ahead;
+    let sends = &mut decided.sends;
     if vcs == 2 {
-        traverse_all(&ports.known(WIDTH, 2), picks, switch, decided, left);
+        traverse_all(&ports.known(WIDTH, 2), picks, ahead, sends, left);
     } else if vcs == 4 {
-        traverse_all(&ports.known(WIDTH, 4), picks, switch, decided, left);
+        traverse_all(&ports.known(WIDTH, 4), picks, ahead, sends, left);
     } else if vcs == 8 {
-        traverse_all(&ports.known(WIDTH, 8), picks, switch, decided, left);
+        traverse_all(&ports.known(WIDTH, 8), picks, ahead, sends, left);
     } else {
-        traverse_all(&ports.known(WIDTH, vcs), picks, switch, decided, left);
+        traverse_all(&ports.known(WIDTH, vcs), picks, ahead, sends, left);
     }
 }
 
@@ -94,40 +92,39 @@ fn traverse_by<const WIDTH: usize>(
 fn traverse_all(
     ports: &RouterPorts,
     picks: &Picks,
-    switch: &mut Switch<Words>,
-    decided: &mut Decided<Words>,
+    ahead: &mut Words,
+    sends: &mut Words,
     left: &mut Links<Words>,
 )
-    ensures traversed { (r : ℕ) → Traverses ports.now picks.now switch.old.ahead switch.new.ahead
-        decided.new.sends left.new r }
-    ensures decided { decided.new ≡ record decided.old { sends = decided.new.sends } }
+    ensures traversed { (r : ℕ)
+        → Traverses ports.now picks.now ahead.old ahead.new sends.new left.new r }
     ensures left { left.new.credits ≡ left.old.credits }
 {
-    let taken = take(ports, picks, switch);
-    send(ports, &taken, decided, left);
+    let taken = take(ports, picks, ahead);
+    send(ports, &taken, sends, left);
 }
 
 // Each output port takes an input port. The answer is what goes.
 #[inline(always)]
-fn take(ports: &RouterPorts, picks: &Picks, switch: &mut Switch<Words>) -> Taken
+fn take(ports: &RouterPorts, picks: &Picks, ahead: &mut Words) -> Taken
     ensures turns { (r q p : ℕ) → q < ports.now.links.width + 1 → p < ports.now.links.width + 1
-        → has_bit (set_of (output_of ports.now q) r switch.new.ahead) p
+        → has_bit (set_of (output_of ports.now q) r ahead.new) p
         ≡ (if nat_eq (asks_for (ports.now.links.width + 1) (picks_in picks.now r) q) 0
-        then has_bit (set_of (output_of ports.now q) r switch.old.ahead) p
+        then has_bit (set_of (output_of ports.now q) r ahead.old) p
         else some_below p (has_bit (in_turn
         (asks_for (ports.now.links.width + 1) (picks_in picks.now r) q)
-        (set_of (output_of ports.now q) r switch.old.ahead)))) }
+        (set_of (output_of ports.now q) r ahead.old)))) }
     ensures any { (r q : ℕ) → q < ports.now.links.width + 1
         → has_bit (slice_index result.any q) r
         ≡ not (nat_eq (asks_for (ports.now.links.width + 1) (picks_in picks.now r) q) 0) }
     ensures goes { (r q p : ℕ) → q < ports.now.links.width + 1
-        → has_bit (taken_in ports.now picks.now switch.old.ahead r q) p ≡ true
+        → has_bit (taken_in ports.now picks.now ahead.old r q) p ≡ true
         → (number_in (digits_by (word q) result.vc) r ≡ (picks_in picks.now r).vc p)
         × (has_bit (slice_index result.tail q) r ≡ (picks_in picks.now r).tail p) }
     ensures sends { (r p : ℕ) → p < ports.now.links.width + 1
         → has_bit (slice_index result.sends p) r
         ≡ some_below (ports.now.links.width + 1)
-        (λ q. has_bit (taken_in ports.now picks.now switch.old.ahead r q) p) }
+        (λ q. has_bit (taken_in ports.now picks.now ahead.old r q) p) }
 {
     let outputs = ports.outputs();
     // (These are values of its own, which the compiler keeps out of memory.)
@@ -135,8 +132,8 @@ fn take(ports: &RouterPorts, picks: &Picks, switch: &mut Switch<Words>) -> Taken
     let mut taken = [0; WORDS];
     let mut past = [0; WORDS];
     ask(&outputs, picks, &mut asks);
-    let any = pick_each(&outputs, &asks, &switch.ahead, &mut taken, &mut past);
-    advance(&outputs, &any, &past, &mut switch.ahead);
+    let any = pick_each(&outputs, &asks, ahead, &mut taken, &mut past);
+    advance(&outputs, &any, &past, ahead);
     Taken {
         any,
         tail: of_taken(&outputs, &taken, &picks.tail),
@@ -281,9 +278,9 @@ fn any_of(count: usize, sets: &[u64; PORTS]) -> u64
 
 // What is taken leaves by the links, and all channels of the input ports that send are told so.
 #[inline(always)]
-fn send(ports: &RouterPorts, taken: &Taken, decided: &mut Decided<Words>, left: &mut Links<Words>)
+fn send(ports: &RouterPorts, taken: &Taken, sends: &mut Words, left: &mut Links<Words>)
     ensures sends { (p v : ℕ) → p < ports.now.links.width + 1 → v < ports.now.links.vcs
-        → word ((port_of ports.now p).index v) decided.new.sends ≡ slice_index taken.now.sends p }
+        → word ((port_of ports.now p).index v) sends.new ≡ slice_index taken.now.sends p }
     ensures flits { (q v r : ℕ) → q < ports.now.links.width → v < ports.now.links.vcs
         → has_bit (word ((port_of ports.now q).index v) left.new.flits) r
         ≡ (has_bit (slice_index taken.now.any q) r
@@ -293,11 +290,10 @@ fn send(ports: &RouterPorts, taken: &Taken, decided: &mut Decided<Words>, left: 
         ≡ ((has_bit (slice_index taken.now.any q) r
         && nat_eq (number_in (digits_by (word q) taken.now.vc) r) v)
         && has_bit (slice_index taken.now.tail q) r) }
-    ensures decided { decided.new ≡ record decided.old { sends = decided.new.sends } }
     ensures left { left.new.credits ≡ left.old.credits }
 {
     for v in 0..ports.links.vcs {
-        ports.put(v, &taken.sends, &mut decided.sends);
+        ports.put(v, &taken.sends, sends);
         send_by(&ports.links, v, taken, left);
     }
 }

@@ -20,7 +20,8 @@ use crate::block::{Block, Work};
 use crate::copies::clear;
 use crate::pattern::Pattern;
 use noc_columns::{
-    CHANNELS, Guide, Header, Links, Marks, Picks, ROUTERS, Words, allocate, pick, route, traverse,
+    CHANNELS, Candidates, Guide, Header, Links, Marks, Picks, ROUTERS, Words, allocate, pick,
+    route, traverse,
 };
 use noc_route::Relation;
 
@@ -91,14 +92,12 @@ pub fn decide(
     );
     let ports = &pattern.table.ports;
     let mut picks = Picks::NONE;
-    pick(
-        ports,
-        &block.inputs,
-        &work.standing,
-        &block.grants.sends,
-        &mut work.decided,
-        &mut picks,
-    );
+    let candidates = Candidates {
+        standing: &work.standing,
+        ahead: &block.inputs.ahead,
+        sends: &block.grants.sends,
+    };
+    pick(ports, &candidates, &mut work.decided, &mut picks);
     traverse(ports, &picks, &mut block.switch, &mut work.decided, left);
 }
 

@@ -45,23 +45,19 @@ loop-i-preserved g c =
       leaving = λ r. union-next c.loop-i.leaving c.having-gone.result i r (λ k. word k now) (λ k. word k after) (inv.leaving r) (λ k l. c.put-in-loop-i-2.ensures.others k (omega (arith, l))) c.put-in-loop-i-2.ensures.here;
     }
 
-pub returns-clause-settles : goal.returns-clause-settles
-returns-clause-settles g c = λ n r within.
-    let moves = c.args.moves.now in
-    settled (nat_lt 3 g.row.BITS) moves.standing.now moves.decided.now moves.grants.now.granted c.args.inputs.now c.loop-i.inputs c.args.verdicts.now c.loop-i.verdicts n r
-    (λ k few. c.loop-i.invariant.done (n.index k) (let here = within k few in omega (arith, here)))
-
-pub returns-clause-arrived : goal.returns-clause-arrived
-returns-clause-arrived g c = λ n r k within l.
-    let moves = c.args.moves.now in
-    member-is n r k c.loop-i.arrived l
-    ∙ c.loop-i.invariant.gone (n.index k) (let here = within k l in omega (arith, here)) r
-    ∙ sym (ap₂ (λ a b. a && b)
-    (ap₂ (λ a b. a && b) (member-is n r k c.loop-i.verdicts.moved l) (member-is n r k moves.standing.now.last l))
-    (ap (λ m. nat_eq m c.args.local) (number-is n r k moves.grants.now.sends.port l)))
-
-pub returns-clause-moved : goal.returns-clause-moved
-returns-clause-moved g c = λ r. let e : c.loop-i.i ≡ 4 * c.args.frame.now.groups = omega arith in c.loop-i.invariant.moving r ∙ ap (λ m. some_below m (λ k. has_bit (word k c.loop-i.verdicts.moved) r)) e
-
-pub returns-clause-some : goal.returns-clause-some
-returns-clause-some g c = λ r. let e : c.loop-i.i ≡ 4 * c.args.frame.now.groups = omega arith in c.loop-i.invariant.leaving r ∙ ap (λ m. some_below m (λ k. has_bit (word k c.loop-i.arrived) r)) e
+pub returns : goal.returns
+returns g c = record {
+  settles = λ n r within.
+      let moves = c.args.moves.now in
+      settled (nat_lt 3 g.row.BITS) moves.standing.now moves.decided.now moves.grants.now.granted c.args.inputs.now c.loop-i.inputs c.args.verdicts.now c.loop-i.verdicts n r
+      (λ k few. c.loop-i.invariant.done (n.index k) (let here = within k few in omega (arith, here)));
+  arrived = λ n r k within l.
+      let moves = c.args.moves.now in
+      member-is n r k c.loop-i.arrived l
+      ∙ c.loop-i.invariant.gone (n.index k) (let here = within k l in omega (arith, here)) r
+      ∙ sym (ap₂ (λ a b. a && b)
+      (ap₂ (λ a b. a && b) (member-is n r k c.loop-i.verdicts.moved l) (member-is n r k moves.standing.now.last l))
+      (ap (λ m. nat_eq m c.args.local) (number-is n r k moves.grants.now.sends.port l)));
+  moved = λ r. let e : c.loop-i.i ≡ 4 * c.args.frame.now.groups = omega arith in c.loop-i.invariant.moving r ∙ ap (λ m. some_below m (λ k. has_bit (word k c.loop-i.verdicts.moved) r)) e;
+  some = λ r. let e : c.loop-i.i ≡ 4 * c.args.frame.now.groups = omega arith in c.loop-i.invariant.leaving r ∙ ap (λ m. some_below m (λ k. has_bit (word k c.loop-i.arrived) r)) e;
+}

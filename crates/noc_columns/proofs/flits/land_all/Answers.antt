@@ -23,10 +23,10 @@ loop-i-preserved c =
       heading = λ r. union-next c.loop-i.heading _ i r (λ k. word k c.loop-i.standing.heads) _ (inv.heading r) (λ k l. ap (λ s. s.heads) (c.put-in-loop-i.ensures.others k (omega arith))) (ap (λ s. s.heads) c.put-in-loop-i.ensures.here);
     }
 
-pub returns-clause-flits : goal.returns-clause-flits
-returns-clause-flits c = λ n r within.
-    landed c.args.deep c.args.links.now c.args.inputs.now c.loop-i.inputs c.args.standing.now c.loop-i.standing c.loop-i.no_credit n r
-    (λ k few. c.loop-i.invariant.done (n.index k) (let here = within k few in omega (arith, here)))
-
-pub returns-clause-heads : goal.returns-clause-heads
-returns-clause-heads c = λ r. let e : c.loop-i.i ≡ 4 * c.args.frame.now.groups = omega arith in c.loop-i.invariant.heading r ∙ ap (λ m. some_below m (λ k. has_bit (word k c.loop-i.standing.heads) r)) e
+pub returns : goal.returns
+returns c = record {
+  flits = λ n r within.
+      landed c.args.deep c.args.links.now c.args.inputs.now c.loop-i.inputs c.args.standing.now c.loop-i.standing c.loop-i.no_credit n r
+      (λ k few. c.loop-i.invariant.done (n.index k) (let here = within k few in omega (arith, here)));
+  heads = λ r. let e : c.loop-i.i ≡ 4 * c.args.frame.now.groups = omega arith in c.loop-i.invariant.heading r ∙ ap (λ m. some_below m (λ k. has_bit (word k c.loop-i.standing.heads) r)) e;
+}

@@ -10,28 +10,28 @@ use Rattle.noc_columns.proofs.RouterLemmas.{first-among}
 use Rattle.noc_columns.proofs.SupplyLemmas.{member-is, number}
 use Rattle.noc_columns.proofs.picks.pick_all.Goals as goal
 
-pub returns-clause-picked : goal.returns-clause-picked
-returns-clause-picked c = λ r. record {
+pub returns : goal.returns
+returns c = λ r. record {
   first = λ p l. c.pick_each-any.ensures.picked p r l;
   any = λ p l. c.pick_each-any.ensures.some p r l;
   has = λ p k l m is.
       let ports = c.args.ports.now in
       let n = port_of ports p in
       let picked = c.pick_each-any.new.picked in
-      let ready = set_of n r c.args.standing.now.ready in
-      let ahead = set_of n r c.args.inputs.now.ahead in
+      let ready = set_of n r c.args.candidates.now.standing.now.ready in
+      let ahead = set_of n r c.args.candidates.now.ahead.now in
       let first = (c.pick_each-any.ensures.picked p r l).first in
       let here = sym (member-is n r k picked m) ∙ is in
       let alone = λ (d : ℕ) (b : d < n.size) (e : has_bit (word (n.index d) picked) r ≡ true).
       lowest-alone (in_turn ready ahead) k d (ap (λ s. has_bit s k) (sym first) ∙ is) (ap (λ s. has_bit s d) (sym first) ∙ member-is n r d picked b ∙ e) in
       let has = λ (words : List ℕ) (w : ℕ) (told : has_bit w r ≡ some_below n.size (λ d. has_bit (word (n.index d) picked) r && has_bit (word (n.index d) words) r)).
       told ∙ one-both n.size (λ d. has_bit (word (n.index d) picked) r) (λ d. has_bit (word (n.index d) words) r) k m here alone ∙ sym (member-is n r k words m) in
-      let sends = c.args.sends.now in
+      let sends = c.args.candidates.now.sends.now in
       let port = c.numbers.ensures in
       let vc = c.numbers-2.ensures in
       record {
         any = c.pick_each-any.ensures.some p r l ∙ ap not (some-member ready k (first-among ready ahead k (ap (λ s. has_bit s k) (sym first) ∙ is)));
-        tail = has c.args.standing.now.last _ (c.any_both.ensures p r l);
+        tail = has c.args.candidates.now.standing.now.last _ (c.any_both.ensures p r l);
         port = λ i. number (has sends.port.ones _ (port.ones p r l) i) (has sends.port.twos _ (port.twos p r l) i) (has sends.port.fours _ (port.fours p r l) i);
         vc = λ i. number (has sends.vc.ones _ (vc.ones p r l) i) (has sends.vc.twos _ (vc.twos p r l) i) (has sends.vc.fours _ (vc.fours p r l) i);
       };

@@ -1,47 +1,47 @@
-use Rattle.std.proofs.Common.{ℕ, List, subst}
+use Rattle.std.proofs.Common.{ℕ, List, refl, subst}
 use Rattle.noc_columns.specs.Picks.{HavePicked}
-use Rattle.noc_columns.specs.declared.channels.Decided.{Decided}
+use Rattle.noc_columns.specs.declared.channels.Standing.{Standing}
 use Rattle.noc_columns.specs.declared.picks.Picks.{Picks}
 use Rattle.noc_columns.specs.declared.ports.RouterPorts.{RouterPorts}
 use Rattle.noc_columns.specs.declared.supply.Sends.{Sends}
 use Rattle.noc_columns.proofs.picks.pick_by.Goals as goal
 
 -- what the clause says, of these ports
-abbrev Picked : List ℕ → List ℕ → List ℕ → Sends (List ℕ) → Decided (List ℕ) → Picks → RouterPorts → Type 0
-Picked ready ahead last sends decided picks ports = (r : ℕ) → HavePicked ports r ready ahead decided.picked decided.past last sends picks
+abbrev Picked : Standing (List ℕ) → List ℕ → Sends (List ℕ) → List ℕ → List ℕ → Picks → RouterPorts → Type 0
+Picked standing ahead sends picked past picks ports = (r : ℕ) → HavePicked ports r standing.ready ahead picked past standing.last sends picks
 
-pub returns-then-vcs-eq2-clause-picked : goal.returns-then-vcs-eq2-clause-picked
-returns-then-vcs-eq2-clause-picked g c =
-    let standing = c.args.standing.now in
+pub returns-then-vcs-eq2 : goal.returns-then-vcs-eq2
+returns-then-vcs-eq2 g c =
     let new = c.pick_all.new in
-    subst (Picked standing.ready c.args.inputs.now.ahead standing.last c.args.sends.now new.decided new.picks) c.known-known.ensures c.pick_all.ensures.picked
+    let from = c.args.candidates.now in
+    record {
+      picked = subst (Picked from.standing.now from.ahead.now from.sends.now new.picked new.past new.picks) c.known.ensures c.pick_all.ensures;
+      rest = refl;
+    }
 
-pub returns-then-vcs-eq2-clause-rest : goal.returns-then-vcs-eq2-clause-rest
-returns-then-vcs-eq2-clause-rest g c = c.pick_all.ensures.rest
-
-pub returns-then-vcs-eq4-clause-picked : goal.returns-then-vcs-eq4-clause-picked
-returns-then-vcs-eq4-clause-picked g c =
-    let standing = c.args.standing.now in
+pub returns-then-vcs-eq4 : goal.returns-then-vcs-eq4
+returns-then-vcs-eq4 g c =
     let new = c.pick_all-then-vcs-eq4.new in
-    subst (Picked standing.ready c.args.inputs.now.ahead standing.last c.args.sends.now new.decided new.picks) c.known-known-then-vcs-eq4.ensures c.pick_all-then-vcs-eq4.ensures.picked
+    let from = c.args.candidates.now in
+    record {
+      picked = subst (Picked from.standing.now from.ahead.now from.sends.now new.picked new.past new.picks) c.known-then-vcs-eq4.ensures c.pick_all-then-vcs-eq4.ensures;
+      rest = refl;
+    }
 
-pub returns-then-vcs-eq4-clause-rest : goal.returns-then-vcs-eq4-clause-rest
-returns-then-vcs-eq4-clause-rest g c = c.pick_all-then-vcs-eq4.ensures.rest
-
-pub returns-then-vcs-eq8-clause-picked : goal.returns-then-vcs-eq8-clause-picked
-returns-then-vcs-eq8-clause-picked g c =
-    let standing = c.args.standing.now in
+pub returns-then-vcs-eq8 : goal.returns-then-vcs-eq8
+returns-then-vcs-eq8 g c =
     let new = c.pick_all-then-vcs-eq8.new in
-    subst (Picked standing.ready c.args.inputs.now.ahead standing.last c.args.sends.now new.decided new.picks) c.known-known-then-vcs-eq8.ensures c.pick_all-then-vcs-eq8.ensures.picked
+    let from = c.args.candidates.now in
+    record {
+      picked = subst (Picked from.standing.now from.ahead.now from.sends.now new.picked new.past new.picks) c.known-then-vcs-eq8.ensures c.pick_all-then-vcs-eq8.ensures;
+      rest = refl;
+    }
 
-pub returns-then-vcs-eq8-clause-rest : goal.returns-then-vcs-eq8-clause-rest
-returns-then-vcs-eq8-clause-rest g c = c.pick_all-then-vcs-eq8.ensures.rest
-
-pub returns-else-vcs-eq8-clause-picked : goal.returns-else-vcs-eq8-clause-picked
-returns-else-vcs-eq8-clause-picked g c =
-    let standing = c.args.standing.now in
+pub returns-else-vcs-eq8 : goal.returns-else-vcs-eq8
+returns-else-vcs-eq8 g c =
     let new = c.pick_all-else-vcs-eq8.new in
-    subst (Picked standing.ready c.args.inputs.now.ahead standing.last c.args.sends.now new.decided new.picks) c.known-known-else-vcs-eq8.ensures c.pick_all-else-vcs-eq8.ensures.picked
-
-pub returns-else-vcs-eq8-clause-rest : goal.returns-else-vcs-eq8-clause-rest
-returns-else-vcs-eq8-clause-rest g c = c.pick_all-else-vcs-eq8.ensures.rest
+    let from = c.args.candidates.now in
+    record {
+      picked = subst (Picked from.standing.now from.ahead.now from.sends.now new.picked new.past new.picks) c.known-else-vcs-eq8.ensures c.pick_all-else-vcs-eq8.ensures;
+      rest = refl;
+    }

@@ -4,7 +4,7 @@ use Rattle.noc_packet.specs.Set.{has_bit}
 use Rattle.noc_packet.proofs.SetLemmas.{either_members}
 use Rattle.noc_columns.specs.Supply.{number_in}
 use Rattle.noc_columns.specs.Words.{word}
-use Rattle.noc_columns.proofs.SupplyLemmas.{four-words, port-four}
+use Rattle.noc_columns.proofs.SupplyLemmas.{port-four}
 use Rattle.noc_columns.proofs.supply.of_four.Goals as goal
 
 pub returns : goal.returns
@@ -13,6 +13,6 @@ returns c = λ r few l.
     let b = has_bit c.args.port.now.twos r in
     let d = has_bit c.args.port.now.fours r in
     let at = λ (q : ℕ). has_bit (word (number_in c.args.vc.now r * 4 + q) c.args.some.now) r in
-    either_members c.four.result c.args.port.now.fours r
-    ∙ ap (λ x. x || d) (c.four.ensures r ∙ four-words a b r c.by_vc-none.result c.by_vc-one.result c.by_vc-two.result c.by_vc-three.result at (c.by_vc-none.ensures r few) (c.by_vc-one.ensures r few) (c.by_vc-two.ensures r few) (c.by_vc-three.ensures r few))
+    either_members c.by_low_port.result c.args.port.now.fours r
+    ∙ ap (λ x. x || d) (c.by_low_port.ensures r few)
     ∙ port-four a b d at l

@@ -33,10 +33,9 @@ loop-v-preserved c =
     let sent = c.send_by.ensures in
     let any = λ (q k r : ℕ). has_bit (slice_index taken.any q) r && nat_eq (number_in (digits_by (word q) taken.vc) r) k in
     record {
-      sends = written-next ports c.loop-v.decided.sends c.put.new.words taken.sends (λ p k w. w ≡ slice_index taken.sends p) v (omega arith) inv.sends c.put.ensures.here c.put.ensures.others (λ p l x. slice_index taken.sends p);
+      sends = written-next ports c.loop-v.sends c.put.new.words taken.sends (λ p k w. w ≡ slice_index taken.sends p) v (omega arith) inv.sends c.put.ensures.here c.put.ensures.others (λ p l x. slice_index taken.sends p);
       flits = side-next ports.links c.loop-v.left.flits c.send_by.new.left.flits (λ q k w. (r : ℕ) → has_bit w r ≡ any q k r) v inv.flits (λ q l r. sent.flits q r l) (λ k o. (sent.others k o).0);
       tails = side-next ports.links c.loop-v.left.tails c.send_by.new.left.tails (λ q k w. (r : ℕ) → has_bit w r ≡ (any q k r && has_bit (slice_index taken.tail q) r)) v inv.tails (λ q l r. sent.tails q r l) (λ k o. (sent.others k o).1);
-      decided = λ x. record (inv.decided x) { sends = c.put.new.words };
       left = sent.rest ∙ inv.left;
     }
 

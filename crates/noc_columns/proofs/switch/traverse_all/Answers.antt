@@ -22,12 +22,12 @@ returns-clause-traversed c = λ r.
     let n = λ (p : ℕ). port_of ports p in
     record {
       turns = λ q p l m. take.turns r q p l m;
-      sending = λ p v l m. member-is (n p) r v c.send.new.decided.sends m ∙ ap (λ w. has_bit w r) (send.sends p v l m) ∙ take.sends r p l;
+      sending = λ p v l m. member-is (n p) r v c.send.new.sends m ∙ ap (λ w. has_bit w r) (send.sends p v l m) ∙ take.sends r p l;
       goes = λ q p v l m is.
           let link : q < ports.links.width = omega (arith, l) in
           let port : q < ports.links.width + 1 = omega (arith, link) in
           let goes = take.goes r q p port is in
-          let any : has_bit (slice_index taken.any q) r ≡ true = take.any r q port ∙ ap not (some-member (asked q) p (first-among (asked q) (set_of (output_of ports q) r c.args.switch.now.ahead) p is)) in (
+          let any : has_bit (slice_index taken.any q) r ≡ true = take.any r q port ∙ ap not (some-member (asked q) p (first-among (asked q) (set_of (output_of ports q) r c.args.ahead.now) p is)) in (
             member-is (n q) r v left.flits m ∙ send.flits q v r link m ∙ ap₂ (λ a b. a && nat_eq b v) any goes.0,
             member-is (n q) r v left.tails m ∙ send.tails q v r link m ∙ ap (λ b. b && has_bit (slice_index taken.tail q) r) (ap₂ (λ a b. a && nat_eq b v) any goes.0) ∙ ap (λ b. nat_eq ((picks_in picks r).vc p) v && b) goes.1,
           );

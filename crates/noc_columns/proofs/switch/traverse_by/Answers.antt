@@ -1,4 +1,4 @@
-use Rattle.std.proofs.Common.{ℕ, List, subst}
+use Rattle.std.proofs.Common.{ℕ, List, refl, subst}
 use Rattle.noc_columns.specs.Switch.{Traverses}
 use Rattle.noc_columns.specs.declared.channels.Links.{Links}
 use Rattle.noc_columns.specs.declared.picks.Picks.{Picks}
@@ -9,22 +9,38 @@ use Rattle.noc_columns.proofs.switch.traverse_by.Goals as goal
 abbrev Traversed : Picks → List ℕ → List ℕ → List ℕ → Links (List ℕ) → RouterPorts → Type 0
 Traversed picks ahead after sends left ports = (r : ℕ) → Traverses ports picks ahead after sends left r
 
-pub returns-then-vcs-eq2-clause-traversed : goal.returns-then-vcs-eq2-clause-traversed
-returns-then-vcs-eq2-clause-traversed g c =
+pub returns-then-vcs-eq2 : goal.returns-then-vcs-eq2
+returns-then-vcs-eq2 g c =
     let new = c.traverse_all.new in
-    subst (Traversed c.args.picks.now c.args.switch.now.ahead new.switch.ahead new.decided.sends new.left) c.known.ensures c.traverse_all.ensures.traversed
+    record {
+      traversed = subst (Traversed c.args.picks.now c.args.switch.now.ahead new.ahead new.sends new.left) c.known.ensures c.traverse_all.ensures.traversed;
+      decided = refl;
+      left = c.traverse_all.ensures.left;
+    }
 
-pub returns-then-vcs-eq4-clause-traversed : goal.returns-then-vcs-eq4-clause-traversed
-returns-then-vcs-eq4-clause-traversed g c =
+pub returns-then-vcs-eq4 : goal.returns-then-vcs-eq4
+returns-then-vcs-eq4 g c =
     let new = c.traverse_all-then-vcs-eq4.new in
-    subst (Traversed c.args.picks.now c.args.switch.now.ahead new.switch.ahead new.decided.sends new.left) c.known-then-vcs-eq4.ensures c.traverse_all-then-vcs-eq4.ensures.traversed
+    record {
+      traversed = subst (Traversed c.args.picks.now c.args.switch.now.ahead new.ahead new.sends new.left) c.known-then-vcs-eq4.ensures c.traverse_all-then-vcs-eq4.ensures.traversed;
+      decided = refl;
+      left = c.traverse_all-then-vcs-eq4.ensures.left;
+    }
 
-pub returns-then-vcs-eq8-clause-traversed : goal.returns-then-vcs-eq8-clause-traversed
-returns-then-vcs-eq8-clause-traversed g c =
+pub returns-then-vcs-eq8 : goal.returns-then-vcs-eq8
+returns-then-vcs-eq8 g c =
     let new = c.traverse_all-then-vcs-eq8.new in
-    subst (Traversed c.args.picks.now c.args.switch.now.ahead new.switch.ahead new.decided.sends new.left) c.known-then-vcs-eq8.ensures c.traverse_all-then-vcs-eq8.ensures.traversed
+    record {
+      traversed = subst (Traversed c.args.picks.now c.args.switch.now.ahead new.ahead new.sends new.left) c.known-then-vcs-eq8.ensures c.traverse_all-then-vcs-eq8.ensures.traversed;
+      decided = refl;
+      left = c.traverse_all-then-vcs-eq8.ensures.left;
+    }
 
-pub returns-else-vcs-eq8-clause-traversed : goal.returns-else-vcs-eq8-clause-traversed
-returns-else-vcs-eq8-clause-traversed g c =
+pub returns-else-vcs-eq8 : goal.returns-else-vcs-eq8
+returns-else-vcs-eq8 g c =
     let new = c.traverse_all-else-vcs-eq8.new in
-    subst (Traversed c.args.picks.now c.args.switch.now.ahead new.switch.ahead new.decided.sends new.left) c.known-else-vcs-eq8.ensures c.traverse_all-else-vcs-eq8.ensures.traversed
+    record {
+      traversed = subst (Traversed c.args.picks.now c.args.switch.now.ahead new.ahead new.sends new.left) c.known-else-vcs-eq8.ensures c.traverse_all-else-vcs-eq8.ensures.traversed;
+      decided = refl;
+      left = c.traverse_all-else-vcs-eq8.ensures.left;
+    }

@@ -2,7 +2,7 @@ use Rattle.std.proofs.Common.{◌≡◌, ℕ, ◌<◌, ◌*◌}
 use Rattle.noc_packet.specs.Set.{has_bit}
 use Rattle.noc_columns.specs.Near.{comes_near}
 use Rattle.noc_columns.specs.Words.{word}
-use Rattle.noc_columns.proofs.over_links.gather_all.Given as goal
+use Rattle.noc_columns.proofs.over_links.gather.Given as goal
 
 abbrev pub invariant-loop-g : goal.invariant-loop-g
 invariant-loop-g l = record {

@@ -1,7 +1,7 @@
 use Rattle.std.proofs.Common.{arith}
 use Rattle.noc_columns.specs.Near.{comes_near}
 use Rattle.noc_columns.proofs.NearLemmas.{four-next}
-use Rattle.noc_columns.proofs.over_links.gather_all.Goals as goal
+use Rattle.noc_columns.proofs.over_links.gather.Goals as goal
 
 pub loop-g-preserved : goal.loop-g-preserved
 loop-g-preserved c =
