@@ -74,7 +74,7 @@ impl Sharing<'_> {
 
 // Some routers of a shape, side by side.
 #[derive(Clone, Copy)]
-struct Span<'a> {
+struct RouterSpan<'a> {
     shape: &'a Shape,
     first: usize,
     count: usize,
@@ -82,7 +82,7 @@ struct Span<'a> {
     ghost within: { first + count ≤ nodes_of shape.now },
 }
 
-impl Span<'_> {
+impl RouterSpan<'_> {
     // The neighbour at a port, where it is none of these routers.
     fn other_at(&self, router: usize, port: usize) -> Option<(usize, usize)>
         requires { router < nodes_of self.now.shape.now }
@@ -335,7 +335,7 @@ fn cut_tile(alloc: Global, kept: &Kept, worker: usize, rest: &mut Uncut) -> Resu
     let first = rest.first;
     let end = sharing.start(worker + 1);
     let count = end - first;
-    let span = Span {
+    let span = RouterSpan {
         shape,
         first,
         count,
@@ -398,12 +398,11 @@ pub(crate) fn empty_all(ins: &mut Vec<Inlet>, outs: &mut Vec<Outlet>, beats: &mu
 }
 
 // The index of the outlet of the wire that arrives at this router and port.
-fn find_outlet(outs: &Vec<Outlet>, router: usize, port: usize) -> usize
-    requires { (o : ℕ) × (o < vec_len outs.now)
-        × ((d : outlet_value) → (outlet (get_or outs.now.items o d)).at ≡ (router, port)) }
-    ensures within { result < vec_len outs.now }
-    ensures at { (d : outlet_value)
-        → (outlet (get_or outs.now.items result d)).at ≡ (router, port) }
+fn find_outlet(outs: &[Outlet], router: usize, port: usize) -> usize
+    requires { (o : ℕ) × (o < length outs.now)
+        × ((d : outlet_value) → (outlet (get_or outs.now o d)).at ≡ (router, port)) }
+    ensures within { result < length outs.now }
+    ensures at { (d : outlet_value) → (outlet (get_or outs.now result d)).at ≡ (router, port) }
 {
     for k in 0..outs.len() {
         if outs[k].router == router && outs[k].port == port {

@@ -59,11 +59,11 @@ pub(crate) fn run_threads<R: Threads + Wait + Sync, G: Gate>(
 }
 
 // Whether every tile has made its cycles.
-fn all_whole(tiles: &Vec<Tile>) -> bool
-    ensures { IsTrue result ↔ AllWhole tiles.now.items }
+fn all_whole(tiles: &[Tile]) -> bool
+    ensures { IsTrue result ↔ AllWhole tiles.now }
 {
-    for t in 0..tiles.len() {
-        match tiles[t].outcome {
+    for tile in tiles {
+        match tile.outcome {
             Outcome::Whole => {}
             _ => return false,
         }
@@ -73,22 +73,27 @@ fn all_whole(tiles: &Vec<Tile>) -> bool
 
 // What a thread promises of its tiles.
 #[derive(Drop)]
-struct RunsOf<'a, G> {
+struct PromisedTiles<'a, G> {
     before: Snapshot<Vec<Tile>>,
     relation: &'a Relation,
     stop: &'a Stop,
     gate: &'a G,
 }
 
-impl<'a, G: Gate> RunsOf<'a, G> {
+impl<'a, G: Gate> PromisedTiles<'a, G> {
     // What is promised of these tiles.
-    fn of(tiles: &Vec<Tile>, relation: &'a Relation, stop: &'a Stop, gate: &'a G) -> RunsOf<'a, G>
+    fn of(
+        tiles: &Vec<Tile>,
+        relation: &'a Relation,
+        stop: &'a Stop,
+        gate: &'a G,
+    ) -> PromisedTiles<'a, G>
         ensures before { result.before.value.items ≡ tiles.now.items }
         ensures relation { result.relation.now ≡ relation.now }
         ensures stop { result.stop.now ≡ stop.now }
         ensures gate { result.gate.now ≡ gate.now }
     {
-        RunsOf {
+        PromisedTiles {
             before: Snapshot::of(tiles),
             relation,
             stop,
@@ -97,7 +102,7 @@ impl<'a, G: Gate> RunsOf<'a, G> {
     }
 }
 
-impl<'a, G: Gate> Promise<Result<Vec<Tile>, RunFault>> for RunsOf<'a, G> {
+impl<'a, G: Gate> Promise<Result<Vec<Tile>, RunFault>> for PromisedTiles<'a, G> {
     ghost kept_by = { λ p r. IfOk r (λ v. AllEnded p.relation.now p.stop.now
         (record { opens = G.opens p.gate.now; shuts = G.shuts p.gate.now })
         p.before.value.items v.items) };
@@ -137,7 +142,7 @@ pub(crate) fn run_all<R: Threads + Wait + Sync, G: Gate>(
                 (first.items ++ second.items) v.items) }
             ensures started { IfErr result (λ e. e ≢ RunFault.LostWorker) }
         {
-            let promise = RunsOf::of(&second, relation, stop, gate);
+            let promise = PromisedTiles::of(&second, relation, stop, gate);
             let child = scope.spawn_with(
                 promise,
                 move || -> Result<Vec<Tile>, RunFault>

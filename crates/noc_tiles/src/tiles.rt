@@ -35,7 +35,21 @@ pub fn run_tiles<R: Threads + Wait + Sync, G: Gate>(
     if workers == 1 {
         return run_single(network, cycles, gate);
     }
-    run_many(rt, alloc, network, cycles, workers, gate)
+    let mut parts = network.into_parts();
+    let routers = mem::replace(&mut parts.routers, Vec::new(alloc));
+    let kept = Kept {
+        parts,
+        cycles,
+        workers,
+    };
+    match run_threads(rt, alloc, &kept, routers, gate) {
+        Ok(all) => Ok(network_of(kept, all)),
+        Err(fault) => {
+            // (by name it is one call; else each of its fields would be let go here, one by one)
+            drop(kept);
+            Err(fault)
+        }
+    }
 }
 
 // Runs all routers of a network, in the caller.
@@ -60,36 +74,4 @@ fn run_single<G: Gate>(network: Network, cycles: u64, gate: &G) -> Result<Networ
         network.cycle();
     }
     Ok(network)
-}
-
-// Cuts a network into tiles, runs them in threads, and puts it together again.
-fn run_many<R: Threads + Wait + Sync, G: Gate>(
-    rt: &R,
-    alloc: Global,
-    network: Network,
-    cycles: u64,
-    workers: usize,
-    gate: &G,
-) -> Result<Network, RunFault>
-    requires { (0 < workers) × (workers ≤ MAX_WORKERS) × (network.count + cycles ≤ CYCLE_LIMIT) }
-    ensures net { IfOk result (λ v. v ≡ record network { count = network.count + cycles }) }
-    ensures asked { IfOk result (λ _. (worker k : ℕ) → worker < workers → k < cycles
-        → G.shuts gate.now worker (network.count + k) ≡ false) }
-    ensures lost { IfErr result (λ e. e ≡ RunFault.LostWorker → G.opens gate.now ≡ false) }
-{
-    let mut parts = network.into_parts();
-    let routers = mem::replace(&mut parts.routers, Vec::new(alloc));
-    let kept = Kept {
-        parts,
-        cycles,
-        workers,
-    };
-    match run_threads(rt, alloc, &kept, routers, gate) {
-        Ok(all) => Ok(network_of(kept, all)),
-        Err(fault) => {
-            // (by name it is one call; else each of its fields would be let go here, one by one)
-            drop(kept);
-            Err(fault)
-        }
-    }
 }

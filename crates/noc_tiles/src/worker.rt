@@ -215,13 +215,12 @@ fn put_all(rt: &impl Wait, ends: &mut Vec<Outlet>, beats: &[[Beat; LINKS]], stop
 }
 
 // The beats that went to other tiles are idle again.
-fn clear_all(ends: &Vec<Outlet>, beats: &mut [[Beat; LINKS]])
-    requires { AreLinkPorts (length beats.old) LINKS (arrival_ports (map outlet ends.now.items)) }
-    ensures { (r q : ℕ) → IsCleared (arrival_ports (map outlet ends.now.items)) beats.old beats.new
-        (length (arrival_ports (map outlet ends.now.items))) r q }
+fn clear_all(ends: &[Outlet], beats: &mut [[Beat; LINKS]])
+    requires { AreLinkPorts (length beats.old) LINKS (arrival_ports (map outlet ends.now)) }
+    ensures { (r q : ℕ) → IsCleared (arrival_ports (map outlet ends.now)) beats.old beats.new
+        (length (arrival_ports (map outlet ends.now))) r q }
 {
-    for k in 0..ends.len() {
-        let end = &ends[k];
+    for end in ends {
         set_beat(beats, end.router, end.port, Beat::idle());
     }
 }

@@ -1,4 +1,4 @@
-use Rattle.std.proofs.Common.{rules, arith, ◌≡◌, ◌<◌, map, length, get_or, set, ap, sym, ◌∙◌, subst, refl}
+use Rattle.std.proofs.Common.{rules, arith, ◌≡◌, ◌<◌, List, map, length, get_or, set, ap, sym, ◌∙◌, subst, refl}
 use Rattle.std.proofs.lemmas.List.{length-map, get_or-set_other, map-set, set-get_or}
 use Rattle.noc_tiles.specs.Ends.{End, inlet, outlet}
 use Rattle.noc_tiles.specs.declared.ends.Outlet.{Outlet}
@@ -38,19 +38,23 @@ found c =
 
 -- it has the place of the inlet
 same-place : (c : After-index_mut) → (outlet c.index_mut.result.now).at ≡ (inlet (get_or c.loop-one.one-items c.loop-one.one-index c.one-item.result)).at
-same-place c = ap (λ (q : Outlet). (outlet q).at) c.index_mut.ensures.value ∙ c.find_outlet-o.ensures.at c.index_mut.result.now
+same-place c =
+    ap (λ (q : Outlet). (outlet q).at) c.index_mut.ensures.value
+    ∙ ap (λ (outs : List Outlet). (outlet (get_or outs c.find_outlet-o.result c.index_mut.result.now)).at) (sym c.deref.ensures.value)
+    ∙ c.find_outlet-o.ensures.at c.index_mut.result.now
 
 pub find_outlet-o-requires : goal.find_outlet-o-requires
 find_outlet-o-requires c =
+    let turn = (goal.at.find_outlet-o-requires c).After-one-item in
     let n = length-views outlet c.loop-one.outs.items c.args.outs.now.items c.loop-one.invariant.outs in
-    let f = c.requires.found c.loop-one.one-index (within c) in
+    let f = c.requires.found c.loop-one.one-index (within turn) in
     let m : f.0 < length c.args.outs.now.items = rw length-map at f.1 in
     let ol : f.0 < length c.loop-one.outs.items = omega arith in (
       f.0,
       search (rules, arith),
       λ (d : Outlet).
           let w = view-at outlet c.loop-one.outs.items c.args.outs.now.items f.0 d (outlet d) c.loop-one.invariant.outs ol in
-          ap (λ (q : End). q.at) (sym w) ∙ (f.2 (outlet d) ∙ ap (λ (q : End). q.at) (inlet-is c (outlet d))),
+          ap (λ (outs : List Outlet). (outlet (get_or outs f.0 d)).at) c.deref.ensures.value ∙ ap (λ (q : End). q.at) (sym w) ∙ (f.2 (outlet d) ∙ ap (λ (q : End). q.at) (inlet-is turn (outlet d))),
     )
 
 pub empty_ring-beat-requires : goal.empty_ring-beat-requires

@@ -13,35 +13,35 @@ use Rattle.noc_tiles.proofs.tile.inner_of.Goals.{in-Some+then-sender-count, in-S
 
 pub neighbour-requires-clause-node : goal.neighbour-requires-clause-node
 neighbour-requires-clause-node c =
-    let os = c.args.outs.now.items in
-    let l : c.loop-k.k < length os = search (rules, arith) in
-    let at = place-of outlet os c.loop-k.k c.index-end.result.now (0, 0) l ∙ ap (λ (o : Outlet). (outlet o).at) (sym c.index-end.ensures) in
-    let w = c.requires c.loop-k.k (rw (length-map, length-map) l) in
+    let os = c.args.outs.now in
+    let l : c.loop-end.end-index < length os = search (rules, arith) in
+    let at = place-of outlet os c.loop-end.end-index c.end-item.result (0, 0) l ∙ ap (λ (o : Outlet). (outlet o).at) (sym c.end-item.is) in
+    let w = c.requires c.loop-end.end-index (rw (length-map, length-map) l) in
     omega (arith, w.0, ap (λ (p : ℕ × ℕ). p.0) at, ap nodes c.shape-shape.ensures.value)
 
 pub neighbour-requires-clause-port : goal.neighbour-requires-clause-port
 neighbour-requires-clause-port c =
-    let os = c.args.outs.now.items in
-    let l : c.loop-k.k < length os = search (rules, arith) in
-    let at = place-of outlet os c.loop-k.k c.index-end.result.now (0, 0) l ∙ ap (λ (o : Outlet). (outlet o).at) (sym c.index-end.ensures) in
-    let w = c.requires c.loop-k.k (rw (length-map, length-map) l) in
+    let os = c.args.outs.now in
+    let l : c.loop-end.end-index < length os = search (rules, arith) in
+    let at = place-of outlet os c.loop-end.end-index c.end-item.result (0, 0) l ∙ ap (λ (o : Outlet). (outlet o).at) (sym c.end-item.is) in
+    let w = c.requires c.loop-end.end-index (rw (length-map, length-map) l) in
     omega (arith, w.1, ap (λ (p : ℕ × ℕ). p.1) at, ap local_port c.shape-shape.ensures.value)
 
-pub loop-k-init : goal.loop-k-init
-loop-k-init c = record { from = omega arith; to = omega arith; within = omega arith; none = λ o l. absurd (omega arith) }
+pub loop-end-init : goal.loop-end-init
+loop-end-init c = record { from = omega arith; to = omega arith; within = omega arith; none = λ o l. absurd (omega arith) }
 
-pub loop-k-preserved : goal.loop-k-preserved
-loop-k-preserved c =
+pub loop-end-preserved : goal.loop-end-preserved
+loop-end-preserved c =
     let grid = c.args.relation.now.grid in
-    let os = c.args.outs.now.items in
+    let os = c.args.outs.now in
     let ps = arrival_ports (map outlet os) in
-    let k = c.loop-k.k in
-    let v = c.loop-k.invariant in
-    let old = c.loop-k.inner in
+    let k = c.loop-end.end-index in
+    let v = c.loop-end.invariant in
+    let old = c.loop-end.inner in
     let l : k < length os = search (rules, arith) in
-    let at : get_or ps k (0, 0) ≡ (c.index-end.result.now.router, c.index-end.result.now.port) = place-of outlet os k c.index-end.result.now (0, 0) l ∙ ap (λ (o : Outlet). (outlet o).at) (sym c.index-end.ensures) in
+    let at : get_or ps k (0, 0) ≡ (c.end-item.result.router, c.end-item.result.port) = place-of outlet os k c.end-item.result (0, 0) l ∙ ap (λ (o : Outlet). (outlet o).at) (sym c.end-item.is) in
     let from : neighbour grid (get_or ps k (0, 0)).0 (get_or ps k (0, 0)).1 ≡ c.neighbour.result =
-    ap (λ (p : ℕ × ℕ). neighbour grid p.0 p.1) at ∙ ap (λ (g : Grid). neighbour g c.index-end.result.now.router c.index-end.result.now.port) (sym c.shape-shape.ensures.value) ∙ sym c.neighbour.ensures.value in
+    ap (λ (p : ℕ × ℕ). neighbour grid p.0 p.1) at ∙ ap (λ (g : Grid). neighbour g c.end-item.result.router c.end-item.result.port) (sym c.shape-shape.ensures.value) ∙ sym c.neighbour.ensures.value in
     elim c.match-neighbour.branch [
       | in-Some+then-sender-count w ↦
           (let new : Inner = record { from = w.max.result; to = old.to } in
@@ -71,7 +71,7 @@ loop-k-preserved c =
 
 pub returns : goal.returns
 returns c =
-    let v = c.loop-k.invariant in
-    let end : c.loop-k.k ≡ length c.args.outs.now.items = search (rules, arith) in
-    let all : c.loop-k.k ≡ length (arrival_ports (map outlet c.args.outs.now.items)) = end ∙ sym (length-map (map outlet c.args.outs.now.items) (λ (w : End). w.at) ∙ length-map c.args.outs.now.items outlet) in
+    let v = c.loop-end.invariant in
+    let end : c.loop-end.end-index ≡ length c.args.outs.now = search (rules, arith) in
+    let all : c.loop-end.end-index ≡ length (arrival_ports (map outlet c.args.outs.now)) = end ∙ sym (length-map (map outlet c.args.outs.now) (λ (w : End). w.at) ∙ length-map c.args.outs.now outlet) in
     record { order = omega (arith, v.from, v.to); within = v.within; none = λ o l. v.none o (omega (arith, all, l)) }

@@ -1,7 +1,9 @@
-use Rattle.std.proofs.Common.{rules, arith, ◌≡◌, ℕ, ◌+◌, false, below_more, ap, ◌∙◌, refl, subst, sym, vec_len}
+use Rattle.std.proofs.Common.{rules, arith, ◌≡◌, ℕ, List, map, ◌+◌, false, below_more, ap, ◌∙◌, refl, subst, sym, vec_len}
 use Rattle.std.proofs.lemmas.Bool.{false_from_ne_true, false≢true}
+use Rattle.noc_tiles.specs.Ends.{outlet}
 use Rattle.noc_tiles.specs.TileStep.{arrival_ports}
 use Rattle.noc_tiles.specs.Tiles.{Cycles, Runs, outlets}
+use Rattle.noc_tiles.specs.declared.ends.Outlet.{Outlet}
 use Rattle.noc_tiles.proofs.InnerLemmas.{inner-same}
 use Rattle.noc_tiles.proofs.RunLemmas.{runs-none, runs-more}
 use Rattle.noc_tiles.proofs.TileStepLemmas.{ports-names}
@@ -12,7 +14,7 @@ loop-c-init g c = record {
   done = c.requires.done;
   same = record { worker = refl; first = refl; start = refl; cycles = refl; size = refl; ins = refl; outs = refl };
   ready = c.requires.ready;
-  inner = inner-same c.args.relation.now.grid c.args.tile.first c.args.tile.first c.len.result (vec_len c.args.tile.routers) (arrival_ports (outlets c.args.tile)) (arrival_ports (outlets c.args.tile)) c.inner_of-inner.result refl c.len.ensures refl c.inner_of-inner.ensures;
+  inner = inner-same c.args.relation.now.grid c.args.tile.first c.args.tile.first c.len.result (vec_len c.args.tile.routers) (arrival_ports (map outlet c.deref.result.now)) (arrival_ports (outlets c.args.tile)) c.inner_of-inner.result refl c.len.ensures (ap (λ (outs : List Outlet). arrival_ports (map outlet outs)) c.deref.ensures.value) c.inner_of-inner.ensures;
   ran = runs-none c.args.relation.now c.args.tile;
   asked = λ k l. absurd (omega (arith, l));
 }

@@ -7,19 +7,22 @@ use Rattle.noc_tiles.specs.Ends.{outlet}
 use Rattle.noc_tiles.specs.Phases.{IsCleared}
 use Rattle.noc_tiles.specs.TileStep.{ends_after_beats, arrival_ports}
 use Rattle.noc_tiles.specs.Tiles.{AreLinkPorts, outlets}
+use Rattle.noc_tiles.specs.declared.ends.Outlet.{Outlet}
 use Rattle.noc_tiles.proofs.TileStepLemmas.{ports-names}
 use Rattle.noc_tiles.proofs.worker.send.Goals as goal
 
 pub clear_all-requires : goal.clear_all-requires
 clear_all-requires g c =
     let a = c.args.tile.now in
-    let same : arrival_ports (map outlet c.put_all.new.ends.items) ≡ arrival_ports (outlets a) = ports-names (map outlet c.put_all.new.ends.items) (outlets a) c.put_all.ensures.ends in
-    subst (λ (k : ℕ). AreLinkPorts k 6 (arrival_ports (map outlet c.put_all.new.ends.items))) (sym (ap length c.deref_mut.ensures.value)) (subst (AreLinkPorts (length a.beats.items) 6) (sym same) c.requires)
+    let same : arrival_ports (map outlet c.deref-2.result.now) ≡ arrival_ports (outlets a)
+    = ap (λ (ends : List Outlet). arrival_ports (map outlet ends)) c.deref-2.ensures.value ∙ ports-names (map outlet c.put_all.new.ends.items) (outlets a) c.put_all.ensures.ends in
+    subst (λ (k : ℕ). AreLinkPorts k 6 (arrival_ports (map outlet c.deref-2.result.now))) (sym (ap length c.deref_mut.ensures.value)) (subst (AreLinkPorts (length a.beats.items) 6) (sym same) c.requires)
 
 pub returns-clause-sent : goal.returns-clause-sent
 returns-clause-sent g c h =
     let a = c.args.tile.now in
-    let same : arrival_ports (map outlet c.put_all.new.ends.items) ≡ arrival_ports (outlets a) = ports-names (map outlet c.put_all.new.ends.items) (outlets a) c.put_all.ensures.ends in
+    let same : arrival_ports (map outlet c.deref-2.result.now) ≡ arrival_ports (outlets a)
+    = ap (λ (ends : List Outlet). arrival_ports (map outlet ends)) c.deref-2.ensures.value ∙ ports-names (map outlet c.put_all.new.ends.items) (outlets a) c.put_all.ensures.ends in
     let before : c.deref_mut.result.now ≡ a.beats.items = c.deref_mut.ensures.value in
     let w = with_items a.beats c.clear_all.new.beats in
     let after : w.items ≡ c.clear_all.new.beats = with_items_is a.beats c.clear_all.new.beats (search (rules, arith)) in

@@ -1,5 +1,5 @@
 use Rattle.std.proofs.Common.{rules, arith}
-use Rattle.noc_tiles.proofs.partition.Span.going.Goals as goal
+use Rattle.noc_tiles.proofs.partition.RouterSpan.going.Goals as goal
 
 pub overflow_mul-result : goal.overflow_mul-result
 overflow_mul-result c = let few = c.args.self.now.grid.few_nodes in let r = c.in_ok-router.ensures in search (rules, arith)

@@ -1,7 +1,7 @@
 use Rattle.std.proofs.Common.{◌≡◌, ℕ, ◌≤◌, ◌*◌, None, get_or, map}
 use Rattle.noc_tiles.specs.Ends.{inlet}
 use Rattle.noc_tiles.specs.Rings.{AreTakenIn, in_slots}
-use Rattle.noc_tiles.proofs.partition.Span.take_ins.Given as goal
+use Rattle.noc_tiles.proofs.partition.RouterSpan.take_ins.Given as goal
 
 -- the ends before this one are taken
 abbrev pub invariant-loop-k : goal.invariant-loop-k

@@ -2,7 +2,7 @@ use Rattle.std.proofs.Common.{◌≡◌, ℕ, ◌+◌, ◌*◌, map, subst, rule
 use Rattle.noc_tiles.specs.Ends.{inlet}
 use Rattle.noc_tiles.specs.Rings.{AreTakenIn, in_slots}
 use Rattle.noc_tiles.proofs.RingLemmas.{in-step, in-there}
-use Rattle.noc_tiles.proofs.partition.Span.take_ins.Goals as goal
+use Rattle.noc_tiles.proofs.partition.RouterSpan.take_ins.Goals as goal
 
 pub move_end-requires : goal.move_end-requires
 move_end-requires c =

@@ -2,7 +2,7 @@ use Rattle.std.proofs.Common.{◌≡◌, ℕ, ◌+◌, ◌*◌, map, subst, rule
 use Rattle.noc_tiles.specs.Ends.{outlet}
 use Rattle.noc_tiles.specs.Rings.{AreLeftOut, AreTakenOut, out_slots}
 use Rattle.noc_tiles.proofs.RingLemmas.{out-step, out-there}
-use Rattle.noc_tiles.proofs.partition.Span.take_outs.Goals as goal
+use Rattle.noc_tiles.proofs.partition.RouterSpan.take_outs.Goals as goal
 
 pub move_end-requires : goal.move_end-requires
 move_end-requires c =

@@ -1,7 +1,7 @@
 use Rattle.std.proofs.Common.{◌≤◌, ◌*◌, map}
 use Rattle.noc_tiles.specs.Ends.{outlet}
 use Rattle.noc_tiles.specs.Rings.{AreLeftOut, AreTakenOut, out_slots}
-use Rattle.noc_tiles.proofs.partition.Span.take_outs.Given as goal
+use Rattle.noc_tiles.proofs.partition.RouterSpan.take_outs.Given as goal
 
 -- the ends before this one are taken
 abbrev pub invariant-loop-k : goal.invariant-loop-k
