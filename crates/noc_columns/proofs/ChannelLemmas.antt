@@ -59,6 +59,10 @@ module _ (ports : RouterPorts) where
       → (port_of ports p).index v ≡ (port_of ports q).index w → (p ≡ q) × (v ≡ w)
   same-place p v q w l few m less e = at (cases_lt p ports.links.width) (cases_lt q ports.links.width)
     where
+      -- the words of the links stand first
+      stand : ports.links.first + ports.links.vcs * ports.links.width ≤ ports.local.first
+      stand = let first = ports.first in let behind = ports.behind in omega (arith, first, behind)
+
       divided : p < ports.links.width → q < ports.links.width → v * ports.links.width + p ≡ w * ports.links.width + q → (p ≡ q) × (v ≡ w)
       divided b d f = (
         sym (mod-mul-add v ports.links.width p b) ∙ ap (λ x. x % ports.links.width) f ∙ mod-mul-add w ports.links.width q d,
@@ -71,11 +75,11 @@ module _ (ports : RouterPorts) where
           divided b d (omega (arith, f))
       at (inl b) (inr d) =
           let f = sym (link-index ports p v b) ∙ e ∙ local-place ports q w d ports.one in
-          let g = link-before ports p v b few ports.behind in
+          let g = link-before ports p v b few stand in
           absurd (omega (arith, f, g))
       at (inr b) (inl d) =
           let f = sym (local-place ports p v b ports.one) ∙ e ∙ link-index ports q w d in
-          let g = link-before ports q w d less ports.behind in
+          let g = link-before ports q w d less stand in
           absurd (omega (arith, f, g))
       at (inr b) (inr d) =
           let f = sym (local-place ports p v b ports.one) ∙ e ∙ local-place ports q w d ports.one in

@@ -33,3 +33,4 @@ pub mod DueLemmas
 pub mod SourceLemmas
 pub mod ByRouterLemmas
 pub mod BackLemmas
+pub mod UsedLemmas

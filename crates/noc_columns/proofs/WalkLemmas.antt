@@ -1,5 +1,5 @@
 -- A walk over the routers of a word adds a bit to the set of each.
-use Rattle.std.proofs.Common.{◌≡◌, ◌≢◌, ℕ, zero, suc, ◌+◌, ◌*◌, ◌^◌, ◌<◌, ◌≤◌, Bool, true, false, List, Some, arith, ap, ap₂, sym, ◌∙◌, subst, refl, inl, inr, bit_and, bit_or, slice_index}
+use Rattle.std.proofs.Common.{◌≡◌, ◌≢◌, ℕ, zero, suc, ◌^◌, ◌<◌, ◌≤◌, Bool, true, false, List, Some, arith, ap, ap₂, sym, ◌∙◌, subst, refl, inl, inr, bit_and, bit_or, slice_index}
 use Rattle.std.specs.Prelude.{◌⊎◌, ◌&&◌, ◌||◌, not, nat_eq, if◌then◌else◌}
 use Rattle.std.proofs.lemmas.Bool.{cases_eq, cases_lt, eq-eqb, le-ltb, ne_eqb}
 use Rattle.noc_packet.specs.Set.{has_bit, IsLeast}
@@ -131,32 +131,9 @@ last-step set rest after t part least after_is test last bit is bit_is r few =
         ∙ sym (ap (λ b. ((has_bit set r && not (has_bit rest r)) || b) && test r) (ne_eqb r t other) ∙ ap (λ b. b && test r) (or-false (has_bit set r && not (has_bit rest r))))
 
 -- ---- unions, and sets
-pub union-step : (base now n x : ℕ) (words : ℕ → ℕ) → now ≡ union_from base n words → x ≡ words n → bit_or now x ≡ union_from base (n + 1) words
-union-step base now n x words is next = ap₂ bit_or is next ∙ (let e : suc n ≡ n + 1 = omega arith in ap (λ m. union_from base m words) e)
-
 pub union-alike : (base n : ℕ) (f g : ℕ → ℕ) → ((k : ℕ) → k < n → f k ≡ g k) → union_from base n f ≡ union_from base n g
 union-alike base zero f g same = refl
 union-alike base (suc n) f g same = ap₂ bit_or (union-alike base n f g (λ k l. same k (omega (arith, l)))) (same n (omega arith))
-
-union-more : (base m n : ℕ) (words : ℕ → ℕ) → union_from (union_from base m words) n (λ v. words (m + v)) ≡ union_from base (m + n) words
-union-more base m zero words = let e : m ≡ m + 0 = omega arith in ap (λ k. union_from base k words) e
-union-more base m (suc n) words =
-    ap (λ u. bit_or u (words (m + n))) (union-more base m n words)
-    ∙ (let e : suc (m + n) ≡ m + suc n = omega arith in ap (λ k. union_from base k words) e)
-
--- the channels of one port more
-pub port-next : (vcs port old now new : ℕ) (by of : ℕ → ℕ) → new ≡ union_from now vcs by → ((v : ℕ) → v < vcs → by v ≡ of (port * vcs + v)) → now ≡ union_from old (port * vcs) of
-    → new ≡ union_from old ((port + 1) * vcs) of
-port-next vcs port old now new by of is same before =
-    is
-    ∙ union-alike now vcs by (λ v. of (port * vcs + v)) same
-    ∙ ap (λ u. union_from u vcs (λ v. of (port * vcs + v))) before
-    ∙ union-more old (port * vcs) vcs of
-    ∙ (let e : port * vcs + vcs ≡ (port + 1) * vcs = omega arith in ap (λ k. union_from old k of) e)
-
--- the channels of no port
-pub ports-none : (vcs old : ℕ) (of : ℕ → ℕ) → old ≡ union_from old (0 * vcs) of
-ports-none vcs old of = let e : 0 ≡ 0 * vcs = omega arith in ap (λ k. union_from old k of) e
 
 joined : (a b c : ℕ) → bit_or (bit_or a b) c ≡ bit_or a (bit_or b c)
 joined a b c = same_set _ _ (λ k.

@@ -4,40 +4,24 @@ ghost use Rattle.std.specs.Prelude.{◌≡◌, ◌+◌, ◌*◌, ◌^◌, ◌<�
 ghost use Rattle.noc_columns.specs.Marks.{ChangesIdle};
 ghost use Rattle.noc_columns.specs.Prelude.{has_bit, links_of, port_at, set_of, union_from, word};
 
+use crate::channel_table::ChannelTable;
 use crate::marks::Marks;
-use crate::ports::Ports;
 use crate::sets::{CHANNELS, but_lowest, least};
-use crate::words::{ROUTERS, Words};
+use crate::words::{ROUTERS, Words, used_words};
 
 /// The link channels that a router has in these words are idle again.
-pub fn add_links(links: &Ports, words: &Words, marks: &mut Marks)
-    requires { links.now.width * links.now.vcs ≤ CHANNELS }
+pub fn add_links(table: &ChannelTable, words: &Words, marks: &mut Marks)
     ensures idle { (r : ℕ) → r < ROUTERS → slice_index marks.new.idle r
-        ≡ bit_or (slice_index marks.old.idle r) (set_of (links_of links.now) r words.now) }
+        ≡ bit_or (slice_index marks.old.idle r)
+        (set_of (links_of table.now.ports.links) r words.now) }
     ensures kept { ChangesIdle marks.old marks.new }
 {
-    for port in 0..links.width {
-        add_port(links, port, words, marks);
-    }
-}
-
-// Those of one port are idle again.
-fn add_port(links: &Ports, port: usize, words: &Words, marks: &mut Marks)
-    requires port { port < links.now.width }
-    requires fit { (port + 1) * links.now.vcs ≤ CHANNELS }
-    ensures idle { (r : ℕ) → r < ROUTERS → slice_index marks.new.idle r
-        ≡ union_from (slice_index marks.old.idle r) links.now.vcs
-        (λ v. if has_bit (word ((port_at links.now port).index v) words.now) r
-        then 2 ^ (port * links.now.vcs + v) else 0) }
-    ensures kept { ChangesIdle marks.old marks.new }
-{
-    // (These are copied, so that they are not read again in each turn.)
-    let first = links.first;
-    let width = links.width;
-    let vcs = links.vcs;
-    for v in 0..vcs {
-        let routers = words[first + v * width + port];
-        add_channel(routers, port * vcs + v, marks);
+    let links = &table.ports.links;
+    let mut rest = used_words(links.width * links.vcs, words);
+    while rest != 0 {
+        let index = least(rest);
+        add_channel(words[index], table.channel_at(index), marks);
+        rest = but_lowest(rest);
     }
 }
 

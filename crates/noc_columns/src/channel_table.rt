@@ -20,6 +20,8 @@ pub struct ChannelTable {
     port: [u8; CHANNELS],
     // By channel, which virtual channel of the port it is.
     vc: [u8; CHANNELS],
+    // By the index of its word, a channel.
+    channel: [u8; CHANNELS],
     ghost few: { (ports.links.width + 1) * ports.links.vcs ≤ CHANNELS },
     ghost stands: { (c : ℕ) → c < (ports.links.width + 1) * ports.links.vcs
         → slice_index index c ≡ (channels_of ports).index c },
@@ -29,6 +31,8 @@ pub struct ChannelTable {
         → slice_index port c ≡ c / ports.links.vcs },
     ghost by_vc: { (c : ℕ) → c < (ports.links.width + 1) * ports.links.vcs
         → slice_index vc c ≡ c % ports.links.vcs },
+    ghost by_index: { (c : ℕ) → c < (ports.links.width + 1) * ports.links.vcs
+        → slice_index channel ((channels_of ports).index c) ≡ c },
 }
 
 impl ChannelTable {
@@ -41,17 +45,20 @@ impl ChannelTable {
         let mut index = [0u8; CHANNELS];
         let mut port = [0u8; CHANNELS];
         let mut vc = [0u8; CHANNELS];
+        let mut channel = [0u8; CHANNELS];
         for c in 0..size {
             let stands = ports.index(c);
             index[c] = stands as u8;
             port[c] = (c / ports.links.vcs) as u8;
             vc[c] = (c % ports.links.vcs) as u8;
+            channel[stands] = c as u8;
         }
         ChannelTable {
             ports,
             index,
             port,
             vc,
+            channel,
         }
     }
 
@@ -63,6 +70,16 @@ impl ChannelTable {
         ensures within { result < WORDS }
     {
         usize::from(self.index[channel])
+    }
+
+    /// The channel whose word has this index.
+    #[inline(always)]
+    pub fn channel_at(&self, index: usize) -> usize
+        requires { index < (self.now.ports.links.width + 1) * self.now.ports.links.vcs }
+        ensures within { result < (self.now.ports.links.width + 1) * self.now.ports.links.vcs }
+        ensures is { (channels_of self.now.ports).index result ≡ index }
+    {
+        usize::from(self.channel[index])
     }
 
     /// The port of a channel.

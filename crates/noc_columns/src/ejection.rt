@@ -7,10 +7,10 @@ ghost use Rattle.noc_columns.specs.Supply.{digits_by, number_in};
 ghost use Rattle.noc_columns.specs.Prelude.{channels_of, has_bit, port_at, set_of, union_from, word};
 
 use crate::marks::Marks;
-use crate::ports::{Ports, RouterPorts};
+use crate::ports::RouterPorts;
 use crate::sets::{CHANNELS, but_lowest, least};
 use crate::supply::Digits;
-use crate::words::{ROUTERS, Words};
+use crate::words::{ROUTERS, Words, used_words};
 use noc_packet::MAX_CHANNELS;
 
 /// The local output channels by which packets leave the network from these input channels are idle
@@ -25,37 +25,11 @@ pub fn give_back(ports: &RouterPorts, arrived: &Words, vc: &Digits<Words>, marks
     ensures kept { ChangesIdle marks.old marks.new }
 {
     let links = ports.links.width * ports.links.vcs;
-    for port in 0..ports.links.width {
-        give_back_port(&ports.links, port, links, arrived, vc, marks);
-    }
-    give_back_port(&ports.local, 0, links, arrived, vc, marks);
-}
-
-// Gives back the local channels by which packets leave from one port, which is number `j` of those
-// that stand side by side. They stand behind so many link channels.
-fn give_back_port(
-    side: &Ports,
-    j: usize,
-    links: usize,
-    arrived: &Words,
-    vc: &Digits<Words>,
-    marks: &mut Marks,
-)
-    requires j { j < side.now.width }
-    requires fit { links + MAX_CHANNELS ≤ CHANNELS }
-    ensures idle { (r : ℕ) → r < ROUTERS → slice_index marks.new.idle r
-        ≡ union_from (slice_index marks.old.idle r) side.now.vcs
-        (λ v. if has_bit (word ((port_at side.now j).index v) arrived.now) r
-        then 2 ^ (links + number_in (digits_by (word ((port_at side.now j).index v)) vc.now) r)
-        else 0) }
-    ensures kept { ChangesIdle marks.old marks.new }
-{
-    let first = side.first;
-    let width = side.width;
-    for v in 0..side.vcs {
-        let index = first + v * width + j;
-        let numbers = vc.at(index);
-        give_back_by(arrived[index], links, &numbers, marks);
+    let mut rest = used_words(links + ports.links.vcs, arrived);
+    while rest != 0 {
+        let index = least(rest);
+        give_back_by(arrived[index], links, &vc.at(index), marks);
+        rest = but_lowest(rest);
     }
 }
 

@@ -79,4 +79,6 @@ pub use sources::Sources;
 pub use starts::Start;
 pub use supply::{Digits, NUMBERS, Sends, look_up};
 pub use switch::{Switch, traverse};
-pub use words::{GROUP, ROUTERS, WORDS, Words, alone_if, bit, put, put_router, with_router};
+pub use words::{
+    GROUP, ROUTERS, WORDS, Words, alone_if, bit, put, put_router, used_words, with_router,
+};

@@ -27,7 +27,7 @@ pub struct Ports {
 /// channels are to an input port, so there `vcs` is how many input ports there are.
 #[derive(Drop)]
 pub struct RouterPorts {
-    /// The link ports: 2, 4 or 6.
+    /// The link ports: 2, 4 or 6. Their words stand first.
     pub links: Ports,
     /// The local port, whose words stand behind those of the link ports.
     pub local: Ports,
@@ -36,6 +36,7 @@ pub struct RouterPorts {
     ghost room: { links.width < PORTS },
     ghost one: { local.width ≡ 1 },
     ghost alike: { local.vcs ≡ links.vcs },
-    ghost behind: { links.first + links.vcs * links.width ≤ local.first },
+    ghost first: { links.first ≡ 0 },
+    ghost behind: { local.first ≡ links.vcs * links.width },
     ghost few: { links.vcs ≤ MAX_CHANNELS },
 }

@@ -13,7 +13,7 @@ use crate::channel_table::ChannelTable;
 use crate::header::Header;
 use crate::marks::Marks;
 use crate::sets::{CHANNELS, but_lowest, least};
-use crate::words::{ROUTERS, Words};
+use crate::words::{ROUTERS, Words, used_words};
 use noc_packet::{ChannelSet, INDICES};
 use noc_route::Relation;
 
@@ -58,39 +58,12 @@ pub fn route(
     ensures turns { marks.new.turns ≡ marks.old.turns }
 {
     let links = &guide.table.ports.links;
-    let size = (links.width + 1) * links.vcs;
-    for channel in 0..size {
-        let index = guide.table.index(channel);
-        route_channel(guide, channel, heads[index], packets, marks);
-    }
-}
-
-// The heads in one channel of these routers are routed, if there are some.
-#[inline(always)]
-fn route_channel(
-    guide: &Guide<'_>,
-    channel: usize,
-    routers: u64,
-    packets: &[[u32; CHANNELS]; ROUTERS],
-    marks: &mut Marks,
-)
-    requires ports { IsOfPorts guide.now.table.now.ports guide.now.relation.now }
-    requires headers { AreRoutable guide.now.relation.now guide.now.headers.now }
-    requires channel { channel < (guide.now.table.now.ports.links.width + 1)
-        * guide.now.table.now.ports.links.vcs }
-    requires heads { (r : ℕ) → r < ROUTERS → has_bit routers r ≡ true
-        → (guide.now.first + r < nodes guide.now.relation.now.grid)
-        × (packet_in packets.now r channel < length guide.now.headers.now) }
-    ensures routed { (r : ℕ) → r < ROUTERS → heading_at marks.new r
-        ≡ (if has_bit routers r
-        then headed channel
-        (sets_by guide.now.relation.now guide.now.headers.now (guide.now.first + r) channel
-        (packet_in packets.now r channel)) (heading_at marks.old r)
-        else heading_at marks.old r) }
-    ensures kept { ChangesWaiting marks.old marks.new }
-{
-    if routers != 0 {
-        route_routers(guide, channel, routers, packets, marks);
+    let mut rest = used_words((links.width + 1) * links.vcs, heads);
+    while rest != 0 {
+        let index = least(rest);
+        let channel = guide.table.channel_at(index);
+        route_routers(guide, channel, heads[index], packets, marks);
+        rest = but_lowest(rest);
     }
 }
 

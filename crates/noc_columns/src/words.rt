@@ -1,9 +1,10 @@
 //! Words of channels.
 
-ghost use Rattle.std.specs.Prelude.{◌≡◌, ◌≢◌, ◌^◌, ◌<◌, ◌&&◌, ◌||◌, ℕ, nat_eq, not, slice_index, if◌then◌else◌};
+ghost use Rattle.std.specs.Prelude.{◌≡◌, ◌≢◌, ◌^◌, ◌<◌, ◌≤◌, ◌&&◌, ◌||◌, ℕ, nat_eq, nat_lt, not, slice_index, if◌then◌else◌};
 ghost use Rattle.noc_columns.specs.Prelude.{has_bit, one_if, word};
 
 use crate::planes::less;
+use crate::sets::CHANNELS;
 
 /// How many routers a word has a bit of.
 pub const ROUTERS: usize = 64;
@@ -72,4 +73,34 @@ pub fn alone_if(inside: bool, member: usize) -> u64
     ensures { result ≡ (if inside then 2 ^ member else 0) }
 {
     if inside { 1 << member as u32 } else { 0 }
+}
+
+/// Which of the first so many words have a router, by index.
+#[inline(always)]
+pub fn used_words(count: usize, words: &Words) -> u64
+    requires { count < CHANNELS }
+    ensures { (i : ℕ) → has_bit result i ≡ (nat_lt i count && not (nat_eq (word i words.now) 0)) }
+{
+    let used = if count <= FEW {
+        used_of::<FEW>(words)
+    } else {
+        used_of::<CHANNELS>(words)
+    };
+    used & ((1 << count as u32) - 1)
+}
+
+// So many words are looked at where there are no more.
+const FEW: usize = 32;
+
+// Which of the first `COUNT` words have a router. (As a constant it needs no tests.)
+#[inline(always)]
+fn used_of<const COUNT: usize>(words: &Words) -> u64
+    requires { COUNT ≤ CHANNELS }
+    ensures { (i : ℕ) → has_bit result i ≡ (nat_lt i COUNT && not (nat_eq (word i words.now) 0)) }
+{
+    let mut used = 0;
+    for i in 0..COUNT {
+        used = used | alone_if(words[i] != 0, i);
+    }
+    used
 }

@@ -22,7 +22,7 @@ module _ (pattern : Pattern) where
   pub links-within : IsWithin (4 * pattern.frame.link_groups) (links_of pattern.table.ports.links)
   links-within c l =
       let far = apart (c % vcs) vcs width (c / vcs) (part width vcs pattern.some c) (port-below width vcs pattern.some c l) in
-      let first = pattern.first in
+      let first = pattern.table.ports.first in
       let few = pattern.links in
       omega (arith, far, first, few)
 
@@ -35,13 +35,13 @@ module _ (pattern : Pattern) where
       at : (c / vcs < width) ⊎ (width ≤ c / vcs) → (channels_of pattern.table.ports).index c < 4 * pattern.frame.groups
       at (inl m) =
           let far = apart (c % vcs) vcs width (c / vcs) few m in
-          let first = pattern.first in
+          let first = pattern.table.ports.first in
           let is = link-index all_ports (c / vcs) (c % vcs) m in
           let all = pattern.all in
           omega (arith, far, first, is, all)
       at (inr m) =
           let is = local-place all_ports (c / vcs) (c % vcs) m all_ports.one in
-          let behind = pattern.behind in
+          let behind = pattern.table.ports.behind in
           let all = pattern.all in
           omega (arith, is, behind, all, few)
 

@@ -70,7 +70,7 @@ module _ (pattern : Pattern) where
   pub link-index-below : (c : ℕ) → c < wide * vcs → (links_of pattern.table.ports.links).index c < vcs * wide
   link-index-below c l =
       let far = apart (c % vcs) vcs wide (c / vcs) (part wide vcs pattern.some c) (port-below wide vcs pattern.some c l) in
-      let first = pattern.first in
+      let first = pattern.table.ports.first in
       omega (arith, far, first)
 
   -- words of link channels that are as they were
@@ -78,5 +78,5 @@ module _ (pattern : Pattern) where
       → set_of (links_of pattern.table.ports.links) r new ≡ set_of (links_of pattern.table.ports.links) r old
   links-kept r old new same = below-same (wide * vcs) _ _ (λ c l.
       let below = link-index-below c l in
-      let behind = pattern.behind in
+      let behind = pattern.table.ports.behind in
       ap (λ w. has_bit w r) (same ((links_of pattern.table.ports.links).index c) (omega (arith, below, behind))))

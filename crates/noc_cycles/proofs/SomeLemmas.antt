@@ -60,7 +60,7 @@ module _ (pattern : Pattern) where
       let v = i / wide in
       let in_port : p < wide = mod_below i wide pattern.table.ports.some in
       let in_side : v < vcs = port-below vcs wide pattern.table.ports.some i l in
-      let first = pattern.first in
+      let first = pattern.table.ports.first in
       let whole : v * wide + p ≡ i = omega arith in (
         apart p wide vcs v in_port in_side,
         ap₂ (λ q w. (port_at pattern.table.ports.links q).index w) (div-mul-add p vcs v in_side) (mod-mul-add p vcs v in_side) ∙ omega (arith, first, whole),

@@ -1,10 +1,9 @@
-//! Words of channels: they become those of another set, or of none, or it is told which have a
-//! router.
+//! Words of channels become those of another set, or of none.
 
-ghost use Rattle.std.specs.Prelude.{◌≡◌, ◌*◌, ◌<◌, ◌≤◌, ℕ, nat_eq, not};
-ghost use Rattle.noc_columns.specs.Prelude.{has_bit, word};
+ghost use Rattle.std.specs.Prelude.{◌≡◌, ◌*◌, ◌<◌, ◌≤◌, ℕ};
+ghost use Rattle.noc_columns.specs.Prelude.{word};
 
-use noc_columns::{CHANNELS, GROUP, WORDS, Words, alone_if};
+use noc_columns::{GROUP, WORDS, Words};
 
 // So many groups of four words become those of another set.
 #[inline(always)]
@@ -29,18 +28,4 @@ pub(crate) fn clear(groups: usize, first: &mut Words, second: &mut Words)
         first[i] = 0;
         second[i] = 0;
     }
-}
-
-// The words that have a router, by their index, of so many groups of four words and up to 63.
-#[inline(always)]
-pub(crate) fn used_words(groups: usize, words: &Words) -> u64
-    requires { GROUP * groups ≤ WORDS }
-    ensures { (k : ℕ) → k < GROUP * groups → k < CHANNELS
-        → has_bit result k ≡ not (nat_eq (word k words.now) 0) }
-{
-    let mut used = 0;
-    for i in 0..GROUP * groups.min(16) {
-        used = used | alone_if(words[i] != 0, i);
-    }
-    used
 }

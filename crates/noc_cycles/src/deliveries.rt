@@ -5,7 +5,7 @@ ghost use Rattle.noc_columns.specs.Heads.{packet_in};
 ghost use Rattle.noc_columns.specs.Prelude.{channels_of, has_bit, set_of};
 ghost use Rattle.noc_cycles.specs.Concluding.{HaveArrived};
 
-use noc_columns::{CHANNELS, ChannelTable, ROUTERS, Words, but_lowest, least};
+use noc_columns::{CHANNELS, ChannelTable, ROUTERS, Words, but_lowest, least, used_words};
 
 /// The packets that leave the network from these input channels of a block arrive in this cycle.
 #[inline(never)]
@@ -23,10 +23,12 @@ pub fn arrive_all(
         (packet_in packets.now) (slice_index arrivals.old) (slice_index arrivals.new) }
 {
     let links = &table.ports.links;
-    let size = (links.width + 1) * links.vcs;
-    for channel in 0..size {
-        let index = table.index(channel);
+    let mut rest = used_words((links.width + 1) * links.vcs, arrived);
+    while rest != 0 {
+        let index = least(rest);
+        let channel = table.channel_at(index);
         arrive_from(channel, arrived[index], cycle, packets, arrivals);
+        rest = but_lowest(rest);
     }
 }
 

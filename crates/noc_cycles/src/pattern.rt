@@ -1,8 +1,7 @@
 //! What is the same for all routers of a network.
 
-ghost use Rattle.std.specs.Prelude.{◌≡◌, ◌⊎◌, ◌<◌, ◌≤◌, ◌+◌, ◌*◌, ◌^◌, ◌/◌, ◌%◌, nat_lt};
+ghost use Rattle.std.specs.Prelude.{◌≡◌, ◌<◌, ◌≤◌, ◌+◌, ◌*◌, ◌^◌, ◌%◌, nat_lt};
 ghost use Rattle.noc_cycles.specs.Alike.{all_if, same_count};
-ghost use Rattle.noc_columns.specs.Prelude.{channels_of};
 ghost use Rattle.noc_columns.specs.declared.words.TheConstants.{GROUP};
 
 use noc_columns::{ChannelTable, Frame, GROUP, Planes, Ports, RouterPorts, WORDS};
@@ -20,9 +19,6 @@ pub struct Pattern {
     /// Where the channels of a router stand: those of the links first, and then the local ones.
     pub table: ChannelTable,
     ghost some: { 0 < table.ports.links.vcs },
-    ghost first: { table.ports.links.first ≡ 0 },
-    ghost behind: { table.ports.local.first
-        ≡ table.ports.links.vcs * table.ports.links.width },
     ghost links: { table.ports.links.vcs * table.ports.links.width ≤ GROUP * frame.link_groups },
     ghost all: { table.ports.links.vcs * table.ports.links.width + table.ports.links.vcs
         ≤ GROUP * frame.groups },
@@ -46,39 +42,6 @@ impl Pattern {
             table: ChannelTable::of(ports_of(width, vcs)),
         }
     }
-
-    // The channel whose word has this index.
-    pub(crate) fn channel_at(&self, index: usize) -> usize
-        requires { index < (self.now.table.ports.links.width + 1) * self.now.table.ports.links.vcs }
-        ensures within { result < (self.now.table.ports.links.width + 1)
-            * self.now.table.ports.links.vcs }
-        ensures is { (channels_of self.now.table.ports).index result ≡ index }
-    {
-        let links = &self.table.ports.links;
-        if index < links.vcs * links.width {
-            let (vc, port) = divided(index, links.width);
-            port * links.vcs + vc
-        } else {
-            index
-        }
-    }
-}
-
-// A number divided by how many link ports there are, 2, 4 or 6, and what is left. (Where the
-// compiler knows the number, it need not divide.)
-#[inline(always)]
-fn divided(number: usize, width: usize) -> (usize, usize)
-    requires { (width ≡ 2) ⊎ ((width ≡ 4) ⊎ (width ≡ 6)) }
-    ensures whole { result.0 ≡ number / width }
-    ensures rest { result.1 ≡ number % width }
-{
-    if width == 2 {
-        (number / 2, number % 2)
-    } else if width == 4 {
-        (number / 4, number % 4)
-    } else {
-        (number / 6, number % 6)
-    }
 }
 
 // The ports of a router with so many link ports.
@@ -89,8 +52,6 @@ fn ports_of(width: usize, vcs: usize) -> RouterPorts
     requires vcs { vcs ≤ MAX_CHANNELS }
     ensures width { result.links.width ≡ width }
     ensures vcs { result.links.vcs ≡ vcs }
-    ensures first { result.links.first ≡ 0 }
-    ensures behind { result.local.first ≡ vcs * width }
 {
     let links = Ports {
         first: 0,

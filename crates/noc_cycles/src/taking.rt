@@ -129,7 +129,7 @@ fn free_links(pattern: &Pattern, routers: u64, home: &Words, marks: &mut Marks)
     ensures kept { ChangesIdle marks.old marks.new }
 {
     if routers != 0 {
-        add_links(&pattern.table.ports.links, home, marks);
+        add_links(&pattern.table, home, marks);
     }
 }
 

@@ -3,16 +3,14 @@
 ghost use Rattle.std.specs.Prelude.{◌≡◌, ◌<◌, ◌≤◌, ◌+◌, ◌*◌, ◌⊎◌, ◌||◌, ◌≢◌, ℕ, Bool, IfOk, Option, Some, vec_capacity, vec_len, nat_eq, true};
 ghost use Rattle.noc_topo.specs.Shape.{Grid, neighbour, nodes, opposite};
 ghost use Rattle.noc_columns.specs.Heads.{packet_in};
-ghost use Rattle.noc_columns.specs.Prelude.{channels_of};
 ghost use Rattle.noc_cycles.specs.Gathered.{IsWired};
 ghost use Rattle.noc_cycles.specs.Told.{AreNotes, AreTold, HaveRoom, IsNotedOver, NotesSome, noted, port_in, told_by, vc_in};
 
 use crate::around::{Around, NOWHERE};
 use crate::block::Block;
-use crate::copies::used_words;
 use crate::notes::Note;
 use crate::pattern::Pattern;
-use noc_columns::{CHANNELS, PORTS, ROUTERS, but_lowest, least};
+use noc_columns::{CHANNELS, PORTS, ROUTERS, but_lowest, least, used_words};
 use noc_packet::Memory;
 use std::alloc::Global;
 
@@ -42,31 +40,12 @@ pub fn tell(pattern: &Pattern, around: &Around, block: &Block, notes: &mut Vec<N
     ensures room { vec_capacity notes.old ≤ vec_capacity notes.new }
 {
     notes.clear();
-    let mut rest = used_words(pattern.frame.groups, &block.grants.granted);
-    while rest != 0 {
-        tell_word(pattern, around, block, least(rest), notes);
-        rest = but_lowest(rest);
-    }
-}
-
-// Notes the grants of the input channel whose word has this index, if there is one.
-#[inline(always)]
-fn tell_word(pattern: &Pattern, around: &Around, block: &Block, index: usize, notes: &mut Vec<Note>)
-    requires told { (g : Grid) × (tells : ℕ → ℕ → Option ℕ)
-        × AreTold g pattern.now around.now block.now tells }
-    requires room { vec_len notes.old + ROUTERS ≤ vec_capacity notes.old }
-    ensures notes { (g : Grid) (tells : ℕ → ℕ → Option ℕ) (done : ℕ → Bool)
-        → AreTold g pattern.now around.now block.now tells
-        → NotesSome g pattern.now around.now block.now tells (λ r k. done k ≡ true) notes.old.items
-        → NotesSome g pattern.now around.now block.now tells
-        (λ r k. (done k || nat_eq ((channels_of pattern.now.table.ports).index k) index) ≡ true)
-        notes.new.items }
-    ensures more { vec_len notes.new ≤ vec_len notes.old + ROUTERS }
-    ensures room { vec_capacity notes.old ≤ vec_capacity notes.new }
-{
     let links = &pattern.table.ports.links;
-    if index < (links.width + 1) * links.vcs {
-        tell_channel(pattern, around, block, pattern.channel_at(index), notes);
+    let mut rest = used_words((links.width + 1) * links.vcs, &block.grants.granted);
+    while rest != 0 {
+        let channel = pattern.table.channel_at(least(rest));
+        tell_channel(pattern, around, block, channel, notes);
+        rest = but_lowest(rest);
     }
 }
 

@@ -1,46 +1,76 @@
-use Rattle.std.proofs.Common.{◌≡◌, ℕ, ◌+◌, ◌*◌, ◌^◌, Bool, ◌∙◌, ap, ap₂, arith, sym, slice_index}
+use Rattle.std.proofs.Common.{◌≡◌, ◌^◌, ◌<◌, ◌∙◌, ap, arith, sym, bit_or, slice_index}
 use Rattle.std.specs.Prelude.{if◌then◌else◌}
-use Rattle.std.proofs.lemmas.Nat.{div-mul-add, mod-mul-add}
 use Rattle.noc_packet.specs.Set.{has_bit}
-use Rattle.noc_sets.specs.Unions.{union_from}
-use Rattle.noc_columns.specs.Picks.{links_of, port_at}
+use Rattle.noc_columns.specs.Picks.{links_of}
 use Rattle.noc_columns.specs.Words.{word}
+use Rattle.noc_columns.proofs.LoopLemmas.{left-part}
 use Rattle.noc_columns.proofs.MarkLemmas.{idle-next, idle-start}
-use Rattle.noc_columns.proofs.PickLemmas.{within}
-use Rattle.noc_columns.proofs.WalkLemmas.{port-next, ports-none, union-set}
+use Rattle.noc_columns.proofs.SupplyLemmas.{member-is}
+use Rattle.noc_columns.proofs.UsedLemmas.{channels-few, link-below, links-apart, links-index, links-within, sum_of, union-none, union-walked, used-below, used-is, walked, walked-all, walked-next, walked-none}
+use Rattle.noc_columns.proofs.WalkLemmas.{union-alike, union-set}
 use Rattle.noc_columns.proofs.by_router.add_links.Goals as goal
 
-pub loop-port-init : goal.loop-port-init
-loop-port-init c = record {
-  idle = λ r few. ports-none c.args.links.now.vcs (slice_index c.args.marks.now.idle r) _;
-  kept = idle-start c.args.marks.now;
-}
+pub used_words-rest-requires : goal.used_words-rest-requires
+used_words-rest-requires c = omega (arith, channels-few c.args.table.now.ports)
 
-pub add_port-requires : goal.add_port-requires
-add_port-requires c =
-    let links = c.args.links.now in
-    let l = within c.loop-port.port links.width links.vcs (omega arith) in
-    record { port = omega arith; fit = omega (arith, l, c.requires) }
-
-pub loop-port-preserved : goal.loop-port-preserved
-loop-port-preserved c =
-    let links = c.args.links.now in
-    let port = c.loop-port.port in
+pub loop-rest-init : goal.loop-rest-init
+loop-rest-init c =
+    let ports = c.args.table.now.ports in
+    let n = links_of ports.links in
+    let words = c.args.words.now in
+    let used = c.used_words-rest.result in
     record {
-      idle = λ r few.
-          let of : ℕ → ℕ = λ k. if has_bit (word ((links_of links).index k) c.args.words.now) r then 2 ^ k else 0 in
-          port-next links.vcs port (slice_index c.args.marks.now.idle r) (slice_index c.loop-port.marks.idle r) _ _ of (c.add_port.ensures.idle r few)
-          (λ v l.
-          ap₂ (λ p w. if has_bit (word ((port_at links p).index w) c.args.words.now) r then 2 ^ (port * links.vcs + v) else 0) (sym (div-mul-add port links.vcs v l)) (sym (mod-mul-add port links.vcs v l)))
-          (c.loop-port.invariant.idle r few);
-      kept = idle-next c.loop-port.invariant.kept c.add_port.ensures.kept;
+      few = used-below n.size used words c.used_words-rest.ensures;
+      idle = λ r l. union-none (slice_index c.args.marks.now.idle r) n.size (λ k. 2 ^ k) (walked n r words used)
+          (walked-none n (links-apart ports) r words used (λ k m. used-is n.size used words c.used_words-rest.ensures (n.index k) (links-within ports k m)));
+      kept = idle-start c.args.marks.now;
+    }
+
+pub channel_at-requires : goal.channel_at-requires
+channel_at-requires c =
+    let few = c.loop-rest.invariant.few c.least-index.result c.least-index.ensures.least.0 in
+    omega (arith, few)
+
+pub bounds-words-index : goal.bounds-words-index
+bounds-words-index c =
+    let few = c.loop-rest.invariant.few c.least-index.result c.least-index.ensures.least.0 in
+    omega (arith, few, channels-few c.args.table.now.ports)
+
+pub add_channel-requires : goal.add_channel-requires
+add_channel-requires c = let few = c.channel_at.ensures.within in omega (arith, few, channels-few c.args.table.now.ports)
+
+pub loop-rest-preserved : goal.loop-rest-preserved
+loop-rest-preserved c =
+    let inv = c.loop-rest.invariant in
+    let ports = c.args.table.now.ports in
+    let n = links_of ports.links in
+    let words = c.args.words.now in
+    let rest = c.loop-rest.rest in
+    let after = c.but_lowest-rest.result in
+    let t = c.least-index.result in
+    let least = c.least-index.ensures.least in
+    let channel = c.channel_at.result in
+    let told = c.channel_at.ensures in
+    let low = inv.few t least.0 in
+    let link : channel < n.size = link-below ports channel t told.within told.is (omega (arith, low)) in
+    record {
+      few = λ i e. inv.few i (left-part rest rest t least (λ j f. f) i (ap (λ w. has_bit w i) (sym c.but_lowest-rest.ensures.members) ∙ e));
+      idle = λ r l.
+          c.add_channel.ensures.idle r l
+          ∙ ap (λ u. bit_or u (if has_bit (word t words) r then 2 ^ channel else 0)) (inv.idle r l)
+          ∙ union-walked (slice_index c.args.marks.now.idle r) n.size (λ k. 2 ^ k) (walked n r words rest) (walked n r words after) channel (has_bit (word t words) r) link
+          (walked-next n (links-apart ports) r words rest after t channel least c.but_lowest-rest.ensures.members link (sym (links-index ports channel link) ∙ told.is));
+      kept = idle-next inv.kept c.add_channel.ensures.kept;
     }
 
 pub returns-clause-idle : goal.returns-clause-idle
-returns-clause-idle c = λ r few.
-    let links = c.args.links.now in
-    let test : ℕ → Bool = λ k. has_bit (word ((links_of links).index k) c.args.words.now) r in
-    let all : c.loop-port.port ≡ c.args.links.now.width = omega arith in
-    c.loop-port.invariant.idle r few
-    ∙ ap (λ n. union_from (slice_index c.args.marks.now.idle r) (n * links.vcs) (λ k. if test k then 2 ^ k else 0)) all
-    ∙ union-set (slice_index c.args.marks.now.idle r) (links.width * links.vcs) test
+returns-clause-idle c = λ r l.
+    let ports = c.args.table.now.ports in
+    let n = links_of ports.links in
+    let words = c.args.words.now in
+    let base = slice_index c.args.marks.now.idle r in
+    let none : c.loop-rest.rest ≡ 0 = omega arith in
+    c.loop-rest.invariant.idle r l
+    ∙ union-alike base n.size (sum_of (walked n r words c.loop-rest.rest) (λ k. 2 ^ k)) (λ k. if has_bit (word (n.index k) words) r then 2 ^ k else 0)
+    (λ k m. ap (λ b. if b then 2 ^ k else 0) (walked-all n (links-apart ports) r words c.loop-rest.rest none k ∙ member-is n r k words m))
+    ∙ union-set base n.size (λ k. has_bit (word (n.index k) words) r)

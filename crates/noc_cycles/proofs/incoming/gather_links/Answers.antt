@@ -16,9 +16,9 @@ loop-port-init c =
     let b = c.args.around.now.block in
     let l : b < length left = let m = wired.block in let n = c.requires.2 in omega (arith, m, n) in
     record {
-      flits = ports-first links near far (λ b. (left_by left b).flits) b pattern.frame.link_groups c.gather.new.came.flits _ (ap (λ (w : Links (List ℕ)). w.flits) (from-left left b _ l)) pattern.first pattern.links c.gather.ensures.flits;
-      tails = ports-first links near far (λ b. (left_by left b).tails) b pattern.frame.link_groups c.gather.new.came.tails _ (ap (λ (w : Links (List ℕ)). w.tails) (from-left left b _ l)) pattern.first pattern.links c.gather.ensures.tails;
-      credits = ports-first links near far (λ b. (left_by left b).credits) b pattern.frame.link_groups c.gather.new.came.credits _ (ap (λ (w : Links (List ℕ)). w.credits) (from-left left b _ l)) pattern.first pattern.links c.gather.ensures.credits;
+      flits = ports-first links near far (λ b. (left_by left b).flits) b pattern.frame.link_groups c.gather.new.came.flits _ (ap (λ (w : Links (List ℕ)). w.flits) (from-left left b _ l)) pattern.table.ports.first pattern.links c.gather.ensures.flits;
+      tails = ports-first links near far (λ b. (left_by left b).tails) b pattern.frame.link_groups c.gather.new.came.tails _ (ap (λ (w : Links (List ℕ)). w.tails) (from-left left b _ l)) pattern.table.ports.first pattern.links c.gather.ensures.tails;
+      credits = ports-first links near far (λ b. (left_by left b).credits) b pattern.frame.link_groups c.gather.new.came.credits _ (ap (λ (w : Links (List ℕ)). w.credits) (from-left left b _ l)) pattern.table.ports.first pattern.links c.gather.ensures.credits;
     }
 
 pub gather_port-requires-clause-port : goal.gather_port-requires-clause-port
@@ -71,11 +71,11 @@ returns-clause-brought c = λ g leaves r wired shows home known x.
     let blocks : b < length left = let m = c.requires.1.block in let n = c.requires.2 in omega (arith, m, n) in
     let all : c.loop-port.port ≡ (if nat_le (length left) 1 then 0 else links.width) = (let e : c.loop-port.port ≡ c.ports_to_others-ports.result = omega arith in e) ∙ c.ports_to_others-ports.ensures.is in
     record {
-      flits = brought-set g wired.sound links near (far_by far) (λ b. (left_by left b).flits) b r c.loop-port.came.flits (λ s. (leaves s).flits) pattern.some pattern.table.ports.pairs pattern.first wired.ports home known wired.tables.near wired.tables.far.each
+      flits = brought-set g wired.sound links near (far_by far) (λ b. (left_by left b).flits) b r c.loop-port.came.flits (λ s. (leaves s).flits) pattern.some pattern.table.ports.pairs pattern.table.ports.first wired.ports home known wired.tables.near wired.tables.far.each
           (ports-whole c.requires.0 links near (far_by far) (λ b. (left_by left b).flits) b c.loop-port.port (length left) c.loop-port.came.flits all c.requires.1.ports c.requires.2 blocks c.requires.1.tables.far.each c.loop-port.invariant.flits) (λ t l o m. (shows t l).flits o m) x;
-      tails = brought-set g wired.sound links near (far_by far) (λ b. (left_by left b).tails) b r c.loop-port.came.tails (λ s. (leaves s).tails) pattern.some pattern.table.ports.pairs pattern.first wired.ports home known wired.tables.near wired.tables.far.each
+      tails = brought-set g wired.sound links near (far_by far) (λ b. (left_by left b).tails) b r c.loop-port.came.tails (λ s. (leaves s).tails) pattern.some pattern.table.ports.pairs pattern.table.ports.first wired.ports home known wired.tables.near wired.tables.far.each
           (ports-whole c.requires.0 links near (far_by far) (λ b. (left_by left b).tails) b c.loop-port.port (length left) c.loop-port.came.tails all c.requires.1.ports c.requires.2 blocks c.requires.1.tables.far.each c.loop-port.invariant.tails) (λ t l o m. (shows t l).tails o m) x;
-      credits = brought-set g wired.sound links near (far_by far) (λ b. (left_by left b).credits) b r c.loop-port.came.credits (λ s. (leaves s).credits) pattern.some pattern.table.ports.pairs pattern.first wired.ports home known wired.tables.near wired.tables.far.each
+      credits = brought-set g wired.sound links near (far_by far) (λ b. (left_by left b).credits) b r c.loop-port.came.credits (λ s. (leaves s).credits) pattern.some pattern.table.ports.pairs pattern.table.ports.first wired.ports home known wired.tables.near wired.tables.far.each
           (ports-whole c.requires.0 links near (far_by far) (λ b. (left_by left b).credits) b c.loop-port.port (length left) c.loop-port.came.credits all c.requires.1.ports c.requires.2 blocks c.requires.1.tables.far.each c.loop-port.invariant.credits) (λ t l o m. (shows t l).credits o m) x;
     }
 
@@ -90,10 +90,10 @@ returns-clause-nothing c = λ g r wired home beyond x.
     let blocks : b < length left = let m = c.requires.1.block in let n = c.requires.2 in omega (arith, m, n) in
     let all : c.loop-port.port ≡ (if nat_le (length left) 1 then 0 else links.width) = (let e : c.loop-port.port ≡ c.ports_to_others-ports.result = omega arith in e) ∙ c.ports_to_others-ports.ensures.is in
     record {
-      flits = nothing-set g links near (far_by far) (λ b. (left_by left b).flits) b r c.loop-port.came.flits pattern.first wired.ports home beyond wired.tables.near wired.tables.far.each
+      flits = nothing-set g links near (far_by far) (λ b. (left_by left b).flits) b r c.loop-port.came.flits pattern.table.ports.first wired.ports home beyond wired.tables.near wired.tables.far.each
           (ports-whole c.requires.0 links near (far_by far) (λ b. (left_by left b).flits) b c.loop-port.port (length left) c.loop-port.came.flits all c.requires.1.ports c.requires.2 blocks c.requires.1.tables.far.each c.loop-port.invariant.flits) x;
-      tails = nothing-set g links near (far_by far) (λ b. (left_by left b).tails) b r c.loop-port.came.tails pattern.first wired.ports home beyond wired.tables.near wired.tables.far.each
+      tails = nothing-set g links near (far_by far) (λ b. (left_by left b).tails) b r c.loop-port.came.tails pattern.table.ports.first wired.ports home beyond wired.tables.near wired.tables.far.each
           (ports-whole c.requires.0 links near (far_by far) (λ b. (left_by left b).tails) b c.loop-port.port (length left) c.loop-port.came.tails all c.requires.1.ports c.requires.2 blocks c.requires.1.tables.far.each c.loop-port.invariant.tails) x;
-      credits = nothing-set g links near (far_by far) (λ b. (left_by left b).credits) b r c.loop-port.came.credits pattern.first wired.ports home beyond wired.tables.near wired.tables.far.each
+      credits = nothing-set g links near (far_by far) (λ b. (left_by left b).credits) b r c.loop-port.came.credits pattern.table.ports.first wired.ports home beyond wired.tables.near wired.tables.far.each
           (ports-whole c.requires.0 links near (far_by far) (λ b. (left_by left b).credits) b c.loop-port.port (length left) c.loop-port.came.credits all c.requires.1.ports c.requires.2 blocks c.requires.1.tables.far.each c.loop-port.invariant.credits) x;
     }
