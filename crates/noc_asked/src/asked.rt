@@ -4,9 +4,9 @@ ghost use Rattle.std.specs.Prelude.{◌≡◌};
 ghost use Rattle.std.specs.Fn.{FnReturnsAt};
 ghost use Rattle.noc_asked.specs.Asked.{AsksAs, ReadsIfNamed, ReadsOrFails};
 
-use noc_answers::{Request, Text};
 use noc_cli::Args;
 use noc_files::InputFault;
+use noc_requests::{Request, Text};
 
 /// What the arguments ask for.
 #[derive(Drop)]
