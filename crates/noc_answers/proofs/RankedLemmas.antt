@@ -1,6 +1,6 @@
 -- A run whose ranks were accepted is never stuck, and where it is to drain
--- every packet has arrived.
-use Rattle.std.proofs.Common.{◌≡◌, ℕ, true, false, cond, List, Option, Some, None, Ok, Result, is_some, option_map, refl, ap, sym, ◌∙◌, subst}
+-- every packet has arrived. So is what is answered to a request.
+use Rattle.std.proofs.Common.{◌≡◌, ℕ, Bool, true, false, cond, List, Option, Some, None, Ok, Result, is_some, option_map, refl, ap, sym, ◌∙◌, subst}
 use Rattle.std.specs.Option.{IfSome}
 use Rattle.std.specs.Result.{IfOk}
 use Rattle.noc_route.specs.Routes.{Routes}
@@ -9,9 +9,11 @@ use Rattle.noc_net.specs.Limit.{are_all_out}
 use Rattle.noc_theory.specs.Network.{Run, state_at}
 use Rattle.noc_theory.proofs.worms.BuiltLemmas.{well-formed}
 use Rattle.noc_theory.proofs.budget.ProgressTheoremLemmas.{not-stuck}
+use Rattle.noc_files.specs.Writing.{Wrote}
 use Rattle.noc_bytes.specs.declared.writing.WriteFault.{WriteFault}
 use Rattle.noc_requests.specs.Asked.{Asked, TextValue, ReadsAs, as_files, as_joined, is_joined, owned_text}
 use Rattle.noc_requests.specs.Ending.{Ends, at_fault, cut_off, in_full, unstarted}
+use Rattle.noc_commands.specs.Workers.{workers_of}
 use Rattle.noc_commands.specs.declared.command.Command.{Command}
 use Rattle.noc_commands.specs.declared.command.Command.TheVariants as command
 use Rattle.noc_commands.specs.declared.report.Report.{Report}
@@ -19,12 +21,15 @@ use Rattle.noc_requests.specs.declared.request.Request.{Request}
 use Rattle.noc_faults.specs.declared.status.Status.{Status}
 use Rattle.noc_faults.specs.declared.status.Status.TheVariants.{Done, Stuck}
 use Rattle.noc_faults.specs.declared.fault.Fault.{Fault}
-use Rattle.noc_requests.specs.Answer.{Asks, AsksFor, AsksForArrivals, IsRankedDrain, IsRankedRun, a_report, findings, traces, accepted, ranks}
+use Rattle.noc_requests.specs.Answer.{Asks, AsksFor, AsksForArrivals, FirstFault, IsAnswered, IsRankedDrain, IsRankedRun, TextsFault, in_texts, a_report, findings, traces, accepted, ranks}
 use Rattle.noc_requests.specs.Check.{Accepts, checked_by, checked_ranks}
 use Rattle.noc_requests.specs.Drain.{RunsTo}
 use Rattle.noc_requests.specs.Options.{trace_of}
 use Rattle.noc_requests.specs.Run.{AsksForRun, cycles_asked, ending, runs_until_out}
+use Rattle.noc_requests.proofs.EndingLemmas.{ends_more}
+use Rattle.noc_answers.specs.Answered.{IsRequestAnswered}
 use Rattle.noc_answers.proofs.DrainLemmas.{drained-out}
+use Rattle.noc_answers.proofs.RequestLemmas.{same-workers}
 
 -- a run whose ranks are checked ends done
 run-done : (a : Asked) (run : Run) (text : TextValue) → checked_ranks a ≡ Some text → AsksForRun a run → ending run ≡ Done
@@ -56,7 +61,7 @@ asks-done r out status ranked (a, as_files files, asks) =
     asked-done a out status text.0 checked asks
 asks-done r out status ranked (a, as_joined joined text splits, asks) = (let never : true ≡ false = sym joined ∙ ap is_joined ranked.3 in absurd (cc never))
 
-pub ends-done : (workers : ℕ) (r : Request) (Wrote : List ℕ → Result (Unit {0}) WriteFault → Type 0) (IsUnwritten : Type 0) (IsFirst : Fault → Type 0) (result : Result Status Fault)
+ends-done : (workers : ℕ) (r : Request) (Wrote : List ℕ → Result (Unit {0}) WriteFault → Type 0) (IsUnwritten : Type 0) (IsFirst : Fault → Type 0) (result : Result Status Fault)
     → Ends workers Wrote IsUnwritten (Asks r) IsFirst result → IsRankedRun r → IfOk result (λ status. status ≡ Done)
 ends-done workers r Wrote IsUnwritten IsFirst result (in_full {text = text} {status = status} asks wrote) ranked = asks-done r text status ranked asks
 ends-done workers r Wrote IsUnwritten IsFirst result (cut_off asks wrote) ranked = tt
@@ -93,9 +98,25 @@ asks-drained r out status ranked (a, as_files files, asks) =
     asked-drained r a out status ranked.0 ranked.1 text.0 ranked.2 (as_files files) checked asks
 asks-drained r out status ranked (a, as_joined joined text splits, asks) = (let never : true ≡ false = sym joined ∙ ap is_joined ranked.2 in absurd (cc never))
 
-pub ends-drained : (workers : ℕ) (r : Request) (Wrote : List ℕ → Result (Unit {0}) WriteFault → Type 0) (IsUnwritten : Type 0) (IsFirst : Fault → Type 0) (result : Result Status Fault)
+ends-drained : (workers : ℕ) (r : Request) (Wrote : List ℕ → Result (Unit {0}) WriteFault → Type 0) (IsUnwritten : Type 0) (IsFirst : Fault → Type 0) (result : Result Status Fault)
     → Ends workers Wrote IsUnwritten (Asks r) IsFirst result → IsRankedDrain r → IfOk result (λ _. (text : List ℕ) × AsksForArrivals r text × Wrote text (Ok tt))
 ends-drained workers r Wrote IsUnwritten IsFirst result (in_full {text = text} {status = status} asks wrote) ranked = (text, asks-drained r text status ranked asks, wrote)
 ends-drained workers r Wrote IsUnwritten IsFirst result (cut_off asks wrote) ranked = tt
 ends-drained workers r Wrote IsUnwritten IsFirst result (unstarted none many lost asks) ranked = tt
 ends-drained workers r Wrote IsUnwritten IsFirst result (at_fault none refuses) ranked = tt
+
+-- ---- what is answered to a request
+module _ {S : Type 0} (contents : S → Option (List ℕ)) (failed : S → Bool) (old new : S) (r : Request) (result : Result Status Fault) where
+  pub request-answered : Ends (workers_of r.command) (Wrote contents failed old new) (new ≡ old) (Asks r) (FirstFault r) result → IsRequestAnswered contents failed old new r result
+  request-answered ends = record {
+    ends = ends;
+    ranked = λ ranked. ends-done (workers_of r.command) r (Wrote contents failed old new) (new ≡ old) (FirstFault r) result ends ranked;
+    drained = λ ranked. ends-drained (workers_of r.command) r (Wrote contents failed old new) (new ≡ old) (FirstFault r) result ends ranked;
+  }
+
+  -- what is answered to its texts
+  pub texts-answered : (a : Asked) → ReadsAs r a → IsAnswered contents failed old new a result → IsRequestAnswered contents failed old new r result
+  texts-answered a reads answered =
+      let E : ℕ → Type 0 = λ workers. Ends workers (Wrote contents failed old new) (new ≡ old) (AsksFor a) (TextsFault a) result in
+      request-answered (ends_more (workers_of r.command) (Wrote contents failed old new) (new ≡ old) (AsksFor a) (TextsFault a) (Asks r) (FirstFault r) result
+      (λ text status asks. (a, reads, asks)) (λ f first. in_texts reads first) (subst E (same-workers r a reads) answered))

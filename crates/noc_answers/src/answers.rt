@@ -1,7 +1,7 @@
 //! What is answered to a request.
 
-ghost use Rattle.std.specs.Prelude.{◌≡◌, ℕ, IfErr, IfOk, List, Ok};
-ghost use Rattle.noc_answers.specs.Prelude.{Wrote, ReadsAs, lent_files, Ends, Refuses, Asks, AsksForArrivals, FirstFault, IsAnswered, IsRankedDrain, IsRankedRun, HasWorkers, workers_of};
+ghost use Rattle.std.specs.Prelude.{IfErr, IfOk};
+ghost use Rattle.noc_answers.specs.Prelude.{ReadsAs, lent_files, Refuses, FirstFault, IsAnswered, IsRequestAnswered, HasWorkers};
 
 use crate::explain::explain;
 use crate::formula::answer_ranks;
@@ -36,13 +36,7 @@ pub fn answer<R: Threads + Wait + Clock + Sync, W: Sink>(
     sink: &mut W,
 ) -> Result<Status, Fault>
     requires { HasWorkers request.now.command }
-    ensures ends { Ends (workers_of request.now.command)
-        (Wrote W.contents W.has_failed sink.old sink.new) (sink.new ≡ sink.old) (Asks request.now)
-        (FirstFault request.now) result }
-    ensures ranked { IsRankedRun request.now → IfOk result (λ status. status ≡ Status.Done) }
-    ensures drained { IsRankedDrain request.now
-        → IfOk result (λ _. (text : List ℕ) × AsksForArrivals request.now text
-        × Wrote W.contents W.has_failed sink.old sink.new text (Ok tt)) }
+    ensures { IsRequestAnswered W.contents W.has_failed sink.old sink.new request.now result }
 {
     match request.command {
         Command::Run {
@@ -68,13 +62,7 @@ pub fn answer_one<W: Sink>(
     request: &Request,
     sink: &mut W,
 ) -> Result<Status, Fault>
-    ensures ends { Ends (workers_of request.now.command)
-        (Wrote W.contents W.has_failed sink.old sink.new) (sink.new ≡ sink.old) (Asks request.now)
-        (FirstFault request.now) result }
-    ensures ranked { IsRankedRun request.now → IfOk result (λ status. status ≡ Status.Done) }
-    ensures drained { IsRankedDrain request.now
-        → IfOk result (λ _. (text : List ℕ) × AsksForArrivals request.now text
-        × Wrote W.contents W.has_failed sink.old sink.new text (Ok tt)) }
+    ensures { IsRequestAnswered W.contents W.has_failed sink.old sink.new request.now result }
 {
     let files = read_request(request)?;
     answer_files(rt, alloc, &files, sink)
