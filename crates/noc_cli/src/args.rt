@@ -15,10 +15,15 @@ use std::alloc::{AllocError, Global};
 /// What the arguments ask for: a command, with the names of its files.
 #[derive(Clone, Copy)]
 pub struct Args<'a> {
+    /// What is asked for.
     pub command: Command,
+    /// The name of the configuration's file.
     pub config: &'a str,
+    /// That of the routing table, where one is named.
     pub table: Option<&'a str>,
+    /// That of the ranks, where they are named.
     pub ranks: Option<&'a str>,
+    /// That of the traffic, where one is named.
     pub traffic: Option<&'a str>,
 }
 

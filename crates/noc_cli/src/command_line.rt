@@ -121,11 +121,17 @@ const DRAIN_HELP: &str = "Run on until every packet is out, or to the network's 
 
 const TABLE_HELP: &str = "The routing table (CSV) of the rule 'table'";
 
+const RANKS_HELP: &str = "The ranks of the channels (CSV)";
+
 const RUN_RANKS_HELP: &str = "Check these ranks before the run";
 
 const CYCLE_HELP: &str = "The cycle, from 0 to one less than the configuration's cycles";
 
+const FROM_HELP: &str = "The first cycle; without it 0";
+
 const TO_HELP: &str = "The last cycle; without it the last of the configuration";
+
+const NEEDED_ROUTER_HELP: &str = "The number of the router, from 0";
 
 const ROUTER_HELP: &str = "Only this router, by its number, from 0";
 
@@ -188,11 +194,7 @@ static COMMANDS: [Subcommand<'static>; 5] = [
             ("CONFIG", Takes::File, CONFIG_HELP),
             ("TRAFFIC", Takes::File, TRAFFIC_HELP),
             ("cycle", Takes::NeededNumber("N"), CYCLE_HELP),
-            (
-                "router",
-                Takes::NeededNumber("R"),
-                "The number of the router, from 0",
-            ),
+            ("router", Takes::NeededNumber("R"), NEEDED_ROUTER_HELP),
             ("table", Takes::Text("F"), TABLE_HELP),
         ],
     ),
@@ -203,7 +205,7 @@ static COMMANDS: [Subcommand<'static>; 5] = [
         &[
             ("CONFIG", Takes::File, CONFIG_HELP),
             ("TRAFFIC", Takes::File, TRAFFIC_HELP),
-            ("from", Takes::Number("A"), "The first cycle; without it 0"),
+            ("from", Takes::Number("A"), FROM_HELP),
             ("to", Takes::Number("B"), TO_HELP),
             ("router", Takes::Number("R"), ROUTER_HELP),
             ("packet", Takes::Number("P"), PACKET_HELP),
@@ -218,11 +220,7 @@ static COMMANDS: [Subcommand<'static>; 5] = [
         "Example: noc check torus.toml --ranks ranks.csv",
         &[
             ("CONFIG", Takes::File, CONFIG_HELP),
-            (
-                "ranks",
-                Takes::NeededText("F"),
-                "The ranks of the channels (CSV)",
-            ),
+            ("ranks", Takes::NeededText("F"), RANKS_HELP),
             ("table", Takes::Text("F"), TABLE_HELP),
         ],
     ),
