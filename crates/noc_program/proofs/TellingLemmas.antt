@@ -1,17 +1,14 @@
 -- How answering ends, once it is left out what the device has.
 use Rattle.std.proofs.Common.{◌≡◌, ℕ, List, Option, Some, None, Result, Ok, Err, inl, inr}
-use Rattle.std.specs.Prelude.{IfNone, IfSome}
 use Rattle.noc_requests.specs.Answer.{Asks, FirstFault}
 use Rattle.noc_requests.specs.Ending.{Ends, at_fault, cut_off, in_full, unstarted}
 use Rattle.noc_requests.specs.declared.request.Request.{Request}
 use Rattle.noc_commands.specs.Workers.{workers_of}
 use Rattle.noc_faults.specs.declared.fault.Fault.{Fault}
-use Rattle.noc_faults.specs.declared.fault.Fault.TheVariants.{Config}
 use Rattle.noc_faults.specs.declared.status.Status.{Status}
-use Rattle.noc_bytes.specs.declared.input_fault.InputFault.TheVariants.{Memory}
 use Rattle.noc_bytes.specs.declared.writing.WriteFault.{WriteFault}
 use Rattle.noc_program.specs.Ending.{IsOnDevice}
-use Rattle.noc_program.specs.Telling.{IsEndOf}
+use Rattle.noc_program.specs.Telling.{IsEndOf, IsEndOn}
 
 module _ (r : Request) (Wrote : List ℕ → Result (Unit {0}) WriteFault → Type 0) (IsUnwritten : Type 0) where
   pub end-of : (ended : Result Status Fault) → Ends (workers_of r.command) Wrote IsUnwritten (Asks r) (FirstFault r) ended → IsEndOf r ended
@@ -22,7 +19,6 @@ module _ (r : Request) (Wrote : List ℕ → Result (Unit {0}) WriteFault → Ty
 
 -- from what is said of the device where it is given back, and where it is not
 pub end-by : {W : Type 0} (contents : W → Option (List ℕ)) (r : Request) (device : W) (ended : Result Status Fault) (given : Option W)
-    → IfSome given (λ after. Ends (workers_of r.command) (IsOnDevice contents device after) (after ≡ device) (Asks r) (FirstFault r) ended)
-    → IfNone given (ended ≡ Err (Config Memory)) → IsEndOf r ended
-end-by contents r device ended None ends given_up = inr given_up
-end-by contents r device ended (Some after) ends given_up = end-of r (IsOnDevice contents device after) (after ≡ device) ended ends
+    → IsEndOn contents r device ended given → IsEndOf r ended
+end-by contents r device ended None ends = inr ends
+end-by contents r device ended (Some after) ends = end-of r (IsOnDevice contents device after) (after ≡ device) ended ends

@@ -1,5 +1,5 @@
 -- How the program ends.
-use Rattle.std.specs.Prelude.{◌≡◌, ◌⊎◌, ℕ, Bool, List, Option, Result, Ok, Err, ⊤}
+use Rattle.std.specs.Prelude.{◌≡◌, ◌⊎◌, ℕ, Bool, List, Option, Some, None, Result, Ok, Err, ⊤}
 use Rattle.noc_requests.specs.Answer.{Asks, FirstFault}
 use Rattle.noc_requests.specs.Ending.{Ends}
 use Rattle.noc_requests.specs.declared.request.Request.{Request}
@@ -10,8 +10,18 @@ use Rattle.noc_faults.specs.declared.status.Status.{Status}
 use Rattle.noc_faults.specs.declared.status.Status.TheVariants.{Done}
 use Rattle.noc_bytes.specs.declared.input_fault.InputFault.TheVariants.{Memory}
 use Rattle.noc_bytes.specs.declared.writing.WriteFault.{WriteFault}
+use Rattle.noc_program.specs.Ending.{IsOnDevice}
 use Rattle.noc_program.specs.Requests.{Asks as AsksFor, AsksForVersion}
 use Rattle.noc_asked.specs.Telling.{Tells}
+
+-- how answering a request ends on a device, and the device after it; it is not given back only
+-- where there was no memory for the way to it
+abbrev pub IsEndOn : {W : Type 0} → (W → Option (List ℕ)) → Request → W → Result Status Fault
+    → Option W → Type 0
+IsEndOn contents r device ended None = ended ≡ Err (Config Memory)
+IsEndOn contents r device ended (Some after) =
+    Ends (workers_of r.command) (IsOnDevice contents device after) (after ≡ device) (Asks r)
+    (FirstFault r) ended
 
 -- how answering a request ends, whatever the device is on which the answer goes: `Done` and `Stuck`
 -- are of the text that is asked for. There may also be no memory for the way to the device.

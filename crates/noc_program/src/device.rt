@@ -1,14 +1,12 @@
 //! The way of an answer onto a device.
 
-ghost use Rattle.std.specs.Prelude.{◌≡◌, [], Err, IfNone, IfSome, IsErr};
+ghost use Rattle.std.specs.Prelude.{◌≡◌, [], IfSome, IsErr};
 ghost use Rattle.std.specs.Io.Buffered.{writer_buffer, writer_contents, writer_inner};
 ghost use Rattle.std.specs.Io.KnownBytes.{Keeps};
-ghost use Rattle.noc_requests.specs.Ending.{Ends};
-ghost use Rattle.noc_requests.specs.Answer.{Asks, FirstFault};
-ghost use Rattle.noc_commands.specs.Workers.{HasWorkers, workers_of};
+ghost use Rattle.noc_commands.specs.Workers.{HasWorkers};
 ghost use Rattle.noc_program.specs.Counted.{IsOpened, IsTakenBack, counted_contents};
-ghost use Rattle.noc_program.specs.Ending.{EndsAs, IsOnDevice};
-ghost use Rattle.noc_program.specs.Telling.{IsEndOf};
+ghost use Rattle.noc_program.specs.Ending.{EndsAs};
+ghost use Rattle.noc_program.specs.Telling.{IsEndOf, IsEndOn};
 
 use crate::counted::Counted;
 use noc_answers::{Request, answer, answer_one};
@@ -34,10 +32,7 @@ pub fn write_answer<R: Threads + Wait + Clock + Sync, W: Write + Drop>(
     device: W,
 ) -> (Result<Status, Fault>, Option<W>)
     requires { HasWorkers request.now.command }
-    ensures ends { IfSome result.1 (λ after. Ends (workers_of request.now.command)
-        (IsOnDevice W.contents device after) (after ≡ device) (Asks request.now)
-        (FirstFault request.now) result.0) }
-    ensures given_up { IfNone result.1 (result.0 ≡ Err (Fault.Config InputFault.Memory)) }
+    ensures { IsEndOn W.contents request.now device result.0 result.1 }
 {
     let Some(mut out) = buffered(alloc, device) else {
         return (Err(Fault::Config(InputFault::Memory)), None);
@@ -55,10 +50,7 @@ pub fn write_answer_one<R: Threads + Sync, W: Write + Drop>(
     request: &Request,
     device: W,
 ) -> (Result<Status, Fault>, Option<W>)
-    ensures ends { IfSome result.1 (λ after. Ends (workers_of request.now.command)
-        (IsOnDevice W.contents device after) (after ≡ device) (Asks request.now)
-        (FirstFault request.now) result.0) }
-    ensures given_up { IfNone result.1 (result.0 ≡ Err (Fault.Config InputFault.Memory)) }
+    ensures { IsEndOn W.contents request.now device result.0 result.1 }
 {
     let Some(mut out) = buffered(alloc, device) else {
         return (Err(Fault::Config(InputFault::Memory)), None);

@@ -11,7 +11,7 @@ returns g c =
     let r = c.args.request.now in
     elim c.match-request.branch [
       | in-Run w ↦ subst (λ (ended : Result Status Fault). IsEndOf r ended) (sym (ap (λ x. x.0) w.ended-is))
-          (end-by g.W.Write.contents r c.args.device w.write_answer.result.0 w.write_answer.result.1 w.write_answer.ensures.ends w.write_answer.ensures.given_up)
+          (end-by g.W.Write.contents r c.args.device w.write_answer.result.0 w.write_answer.result.1 w.write_answer.ensures)
       | in_default w ↦ subst (λ (ended : Result Status Fault). IsEndOf r ended) (sym (ap (λ x. x.0) w.ended-is))
-          (end-by g.W.Write.contents r c.args.device w.write_answer_one.result.0 w.write_answer_one.result.1 w.write_answer_one.ensures.ends w.write_answer_one.ensures.given_up)
+          (end-by g.W.Write.contents r c.args.device w.write_answer_one.result.0 w.write_answer_one.result.1 w.write_answer_one.ensures)
     ]

@@ -7,8 +7,8 @@ use Rattle.noc_program.specs.Counted.{counted_contents}
 use Rattle.noc_program.proofs.DeviceLemmas.{told}
 use Rattle.noc_program.proofs.device.write_answer.Goals as goal
 
-pub returns-clause-ends : goal.returns-clause-ends
-returns-clause-ends g c =
+pub returns : goal.returns
+returns g c =
     let contents = g.W.Write.contents in
     let opened = c.in-Some.ensures in
     let back = c.taken_back-ended.ensures in
