@@ -1,6 +1,6 @@
 //! Configurations (docs/FORMATS.md).
 
-ghost use Rattle.std.specs.Prelude.{◌≡◌, ◌≤◌, ◌↔◌, ℕ, List, string_bytes, IfOk, IfSome};
+ghost use Rattle.std.specs.Prelude.{◌≡◌, ◌≤◌, ◌↔◌, ℕ, List, string_bytes, option_and_then, IfOk, IfSome};
 ghost use Rattle.std.specs.BTreeMap.{keys};
 ghost use Rattle.noc_files.specs.Prelude.{list_all, Gives, result_map, InputFault as Fault};
 ghost use Rattle.std.specs.Option.{is_some, ok_or};
@@ -134,6 +134,16 @@ fn are_integers(values: &[Value]) -> bool
     values.iter().all(|value| value.is_integer())
 }
 
+// The integer from 0 to 1000 that a value is.
+fn length_in(value: &Value) -> Option<u64>
+    ensures { result ≡ option_and_then (within 0 MAX_RADIX) (as_integer (view value.now)) }
+{
+    match value.as_integer() {
+        Some(integer) => limited(integer, 0, MAX_RADIX),
+        None => None,
+    }
+}
+
 // The integers from 0 to 1000 of an array.
 fn lengths(alloc: Global, values: &[Value]) -> Result<Vec<usize>, InputFault>
     ensures { Gives (λ v. v.items) result
@@ -141,10 +151,7 @@ fn lengths(alloc: Global, values: &[Value]) -> Result<Vec<usize>, InputFault>
 {
     let mut lengths = Vec::new(alloc);
     for value in values {
-        let Some(integer) = value.as_integer() else {
-            return Err(InputFault::BadValue(Key::Radix));
-        };
-        let Some(length) = limited(integer, 0, MAX_RADIX) else {
+        let Some(length) = length_in(value) else {
             return Err(InputFault::BadValue(Key::Radix));
         };
         lengths.push(length as usize)?;
@@ -171,7 +178,7 @@ fn radix_in(alloc: Global, table: &Table) -> Result<Vec<usize>, InputFault>
 
 // The configuration of a table that has no other keys.
 #[tactic(auto, unfolding(crate::specs::Configuration::config_at, crate::specs::Configuration::rule_setting))]
-fn config_in(alloc: Global, table: &Table) -> Result<Config, InputFault>
+fn settings_in(alloc: Global, table: &Table) -> Result<Config, InputFault>
     ensures value { Gives settings result (config_at (table_view table.now)) }
     ensures limits { IfOk result KeepsLimits }
 {
@@ -204,7 +211,7 @@ pub fn read_config(alloc: Global, text: &[u8]) -> Result<Config, InputFault>
     if !has_known_keys(&table) {
         return Err(InputFault::UnknownKey);
     }
-    config_in(alloc, &table)
+    settings_in(alloc, &table)
 }
 
 /// A text is read as these settings exactly where it is a TOML document in UTF-8 that has just the

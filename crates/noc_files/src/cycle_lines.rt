@@ -9,7 +9,7 @@ ghost use Rattle.noc_files.specs.Labels.{AreLabels, label_text};
 use crate::inputs::InputPorts;
 use crate::label::{LABEL, Label};
 use crate::labels::{LONGEST_VERDICT, Labels};
-use crate::listing::{Lines, Listing};
+use crate::listing::{Channels, Lines, Listing};
 use crate::page::{PAGE, Page};
 use crate::pages::{LONGEST_TEXT, put_pages};
 use crate::permitted::permitted_to;
@@ -18,7 +18,6 @@ use crate::told::{is_same, is_wanted, tells_nothing, told_at};
 use crate::trace::Trace;
 use noc_bytes::{Sink, WriteFault};
 use noc_net::Network;
-use noc_topo::Shape;
 use noc_view::Finding;
 
 // The most bytes of what is told of an input channel.
@@ -69,16 +68,8 @@ impl<'a> Lines for CycleLines<'a> {
     ghost said = { λ s router port vc.
         kept_line s.network.now s.trace.now.0 s.trace.now.1 s.cycle router port vc };
 
-    fn shape(&self) -> &Shape {
-        self.network.relation().shape()
-    }
-
-    fn listed(&self) -> usize {
-        self.network.relation().shape().ports()
-    }
-
-    fn vcs(&self) -> usize {
-        self.network.relation().vcs()
+    fn channels(&self) -> Channels<'_> {
+        Channels::of(self.network.relation())
     }
 
     fn is_silent(&self, router: usize) -> bool {

@@ -6,12 +6,11 @@ ghost use Rattle.noc_files.specs.Findings.{finding_header, findings_text, found_
 ghost use Rattle.noc_files.specs.Labels.{AreLabels};
 
 use crate::labels::Labels;
-use crate::listing::{Lines, write_lines};
+use crate::listing::{Channels, Lines, write_lines};
 use crate::page::Page;
 use noc_bytes::{Sink, WriteFault};
 use noc_net::Network;
 use noc_route::Relation;
-use noc_topo::Shape;
 use noc_view::Finding;
 
 // What a router found of its input channels, by their indices.
@@ -32,16 +31,8 @@ impl<'a> Lines for Found<'a> {
 
     ghost said = { λ s router. found_line s.relation.now s.findings.now };
 
-    fn shape(&self) -> &Shape {
-        self.relation.shape()
-    }
-
-    fn listed(&self) -> usize {
-        self.relation.shape().ports()
-    }
-
-    fn vcs(&self) -> usize {
-        self.relation.vcs()
+    fn channels(&self) -> Channels<'_> {
+        Channels::of(self.relation)
     }
 
     fn add_line(&self, _: usize, port: usize, vc: usize, page: &mut Page) {

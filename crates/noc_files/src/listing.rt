@@ -10,6 +10,7 @@ use crate::page::{PAGE, Page};
 use crate::pages::{Pages, write_pages};
 use noc_bytes::{Sink, WriteFault};
 use noc_packet::{INDICES, MAX_CHANNELS, MAX_PORTS};
+use noc_route::Relation;
 use noc_topo::Shape;
 
 // The most bytes of the line on a channel, and of the lines on a port.
@@ -17,6 +18,34 @@ use noc_topo::Shape;
 pub(crate) const LONGEST_LINE: usize = PAGE / INDICES;
 
 const LONGEST_PORT: usize = LONGEST_LINE * MAX_CHANNELS;
+
+// The channels that there are lines on: how many of the first ports of each router of a shape
+// there are lines on, and of how many channels of each port.
+#[derive(Drop)]
+pub(crate) struct Channels<'a> {
+    pub(crate) shape: &'a Shape,
+    pub(crate) listed: usize,
+    pub(crate) vcs: usize,
+}
+
+impl<'a> Channels<'a> {
+    // All input channels of the routers of a relation.
+    #[inline]
+    pub(crate) fn of(relation: &'a Relation) -> Channels<'a>
+        ensures shape { result.shape.now ≡ relation.now.grid }
+        ensures listed { result.listed ≡ ports relation.now.grid }
+        ensures few_ports { result.listed ≤ MAX_PORTS }
+        ensures vcs { result.vcs ≡ relation.now.vcs }
+        ensures few { result.vcs ≤ MAX_CHANNELS }
+    {
+        let shape = relation.shape();
+        Channels {
+            shape,
+            listed: shape.ports(),
+            vcs: relation.vcs(),
+        }
+    }
+}
 
 // Some lines on each of the channels of a shape.
 pub(crate) trait Lines {
@@ -31,20 +60,14 @@ pub(crate) trait Lines {
     // The lines on the channel of a router, a port and a VC.
     ghost said: { Self → ℕ → ℕ → ℕ → List ℕ };
 
-    // The shape.
-    fn shape(&self) -> &Shape
-        ensures { result.now ≡ grid self.now };
-
-    // How many ports of each router there are lines on.
-    fn listed(&self) -> usize
-        ensures value { result ≡ listed self.now }
-        ensures within { result ≤ ports (grid self.now) }
-        ensures few { result ≤ MAX_PORTS };
-
-    // How many channels of each port there are lines on.
-    fn vcs(&self) -> usize
-        ensures value { result ≡ vcs self.now }
-        ensures few { result ≤ MAX_CHANNELS };
+    // The channels that there are lines on.
+    fn channels(&self) -> Channels<'_>
+        ensures shape { result.shape.now ≡ grid self.now }
+        ensures listed { result.listed ≡ listed self.now }
+        ensures within { result.listed ≤ ports (grid self.now) }
+        ensures few_ports { result.listed ≤ MAX_PORTS }
+        ensures vcs { result.vcs ≡ vcs self.now }
+        ensures few { result.vcs ≤ MAX_CHANNELS };
 
     // Whether a look at a router shows that there are no lines on any of its channels.
     fn is_silent(&self, router: usize) -> bool
@@ -86,14 +109,13 @@ impl<'a, L: Lines> Listing<'a, L> {
             (L.said self.now.lines.now router) port }
         ensures short { length page.new ≤ length page.old + LONGEST_PORT }
     {
-        let shape = self.lines.shape();
-        let listed = self.lines.listed();
+        let Channels { shape, listed, vcs } = self.lines.channels();
         // (the counts say that the index is within the table)
         prove!(router < shape.nodes() && port < listed && listed <= shape.ports());
         if !self.inputs[router * MAX_PORTS + port] {
             return;
         }
-        for vc in 0..self.lines.vcs() {
+        for vc in 0..vcs {
             self.lines.add_line(router, port, vc, page);
         }
     }
@@ -109,7 +131,7 @@ impl<'a, L: Lines> Pages for Listing<'a, L> {
     fn pages(&self) -> usize {
         match self.router {
             Some(_) => 1,
-            None => self.lines.shape().nodes(),
+            None => self.lines.channels().shape.nodes(),
         }
     }
 
@@ -119,7 +141,7 @@ impl<'a, L: Lines> Pages for Listing<'a, L> {
         if self.lines.is_silent(router) {
             return;
         }
-        for port in 0..self.lines.listed() {
+        for port in 0..self.lines.channels().listed {
             self.add_port(router, port, page);
         }
     }
@@ -137,7 +159,7 @@ pub(crate) fn write_lines<L: Lines, W: Sink>(
         (header.now ++ lines_listed (L.grid lines.now) (L.listed lines.now) (L.vcs lines.now)
         router (L.said lines.now)) result }
 {
-    let inputs = inputs_of(lines.shape());
+    let inputs = inputs_of(lines.channels().shape);
     let listing = Listing {
         lines,
         inputs: &inputs,

@@ -8,7 +8,7 @@ ghost use Rattle.noc_rank.specs.Ranking.{IsRanking};
 ghost use Rattle.noc_rank.specs.declared.rows.RankRow.{RankRow as RowValue};
 ghost use Rattle.noc_files.specs.Ranks.{rank_line, rank_of, rank_row, rank_row_of, rank_rows, ranks_of, ranks_text, IsRankFile, IsRankFileFault, ListsRanks};
 
-use crate::listing::{Lines, write_lines};
+use crate::listing::{Channels, Lines, write_lines};
 use crate::page::Page;
 use crate::ports::known_name;
 use crate::rows::{number, number_in, port_in};
@@ -119,16 +119,12 @@ impl<'a> Lines for Listed<'a> {
     ghost said = { λ s router port vc. rank_line s.ranks.now.grid
         (rank_row s.ranks.now router port vc) };
 
-    fn shape(&self) -> &Shape {
-        self.shape
-    }
-
-    fn listed(&self) -> usize {
-        self.shape.ports() - 1
-    }
-
-    fn vcs(&self) -> usize {
-        self.vcs
+    fn channels(&self) -> Channels<'_> {
+        Channels {
+            shape: self.shape,
+            listed: self.shape.ports() - 1,
+            vcs: self.vcs,
+        }
     }
 
     fn add_line(&self, router: usize, port: usize, vc: usize, page: &mut Page) {

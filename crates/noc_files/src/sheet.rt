@@ -1,6 +1,6 @@
 //! Files of rows under a header.
 
-ghost use Rattle.std.specs.Prelude.{ℕ, Result, map};
+ghost use Rattle.std.specs.Prelude.{◌≡◌, ℕ, [], Result, map, vec_len};
 ghost use Rattle.noc_files.specs.Prelude.{InputFault as Fault, Gives};
 ghost use Rattle.noc_files.specs.Rows.{Fields, IsBetweenRows, rows_left, text_rows};
 ghost use Rattle.noc_files.specs.Sheet.{ReadsRows, sheet};
@@ -24,21 +24,24 @@ pub(crate) fn read_sheet<V: Drop, F: Fn(&ByteRecord, usize) -> Result<V, InputFa
 {
     let mut reader = rows(alloc, text);
     let mut row = ByteRecord::new(alloc);
-    read_left(alloc, &mut reader, &mut row, header, read)
+    let mut values = Vec::new(alloc);
+    read_left(&mut reader, &mut row, header, &read, &mut values)?;
+    Ok(values)
 }
 
 // What the rows that a reader has left say, the header first. Each is read into `row`.
-fn read_left<V: Drop, F: Fn(&ByteRecord, usize) -> Result<V, InputFault> + Drop>(
-    alloc: Global,
+fn read_left<V: Drop, F: Fn(&ByteRecord, usize) -> Result<V, InputFault>>(
     reader: &mut Reader<&[u8]>,
     row: &mut ByteRecord,
     header: &[&str],
-    read: F,
-) -> Result<Vec<V>, InputFault>
+    read: &F,
+    values: &mut Vec<V>,
+) -> Result<(), InputFault>
     requires ready { IsBetweenRows reader.old }
-    requires callable { F.IsAlwaysCallable read }
-    ensures { (said : ℕ → Fields → Result V Fault) → ReadsRows (F.post read) said
-        → Gives (λ v. v.items) result
+    requires callable { F.IsAlwaysCallable read.now }
+    requires empty { (values.old.items ≡ []) × (vec_len values.old ≡ 0) }
+    ensures { (said : ℕ → Fields → Result V Fault) → ReadsRows (F.post read.now) said
+        → Gives (λ _. values.new.items) result
         (sheet said (map (λ n. n.now) header.now) (rows_left reader.old)) }
 {
     if !next_row(reader, row)? {
@@ -47,10 +50,9 @@ fn read_left<V: Drop, F: Fn(&ByteRecord, usize) -> Result<V, InputFault> + Drop>
     if !has_fields(row, header) {
         return Err(InputFault::BadHeader);
     }
-    let mut values = Vec::new(alloc);
     'rows: while next_row(reader, row)? {
         let value = read(row, values.len())?;
         values.push(value)?;
     }
-    Ok(values)
+    Ok(())
 }

@@ -4,14 +4,13 @@ ghost use Rattle.std.specs.Prelude.{◌≡◌, ◌+◌, ◌≤◌, ◌++◌, ℕ
 ghost use Rattle.noc_files.specs.Prelude.{flat_map, ports, Run as RunValue, Wrote};
 ghost use Rattle.noc_files.specs.Stalls.{channel_counts, channel_line, count_text, stall_header, stalls_text};
 
-use crate::listing::{Lines, write_lines};
+use crate::listing::{Channels, Lines, write_lines};
 use crate::page::{COLUMN, PAGE, Page};
 use crate::ports::known_name;
 use crate::summary::LONGEST_NAME;
 use arrayvec::ArrayString;
 use noc_bytes::{Sink, WriteFault};
 use noc_net::Network;
-use noc_topo::Shape;
 use noc_view::{VERDICTS, Verdict};
 
 // The most bytes of the header: of its first columns, and of each verdict's name behind a comma.
@@ -61,16 +60,8 @@ impl<'a> Lines for StallLines<'a> {
 
     ghost said = { λ s. channel_line s.network.now };
 
-    fn shape(&self) -> &Shape {
-        self.network.relation().shape()
-    }
-
-    fn listed(&self) -> usize {
-        self.network.relation().shape().ports()
-    }
-
-    fn vcs(&self) -> usize {
-        self.network.relation().vcs()
+    fn channels(&self) -> Channels<'_> {
+        Channels::of(self.network.relation())
     }
 
     #[tactic(auto, unfolding(crate::specs::Stalls::channel_line, crate::specs::Stalls::channel_counts))]

@@ -20,7 +20,7 @@ const WIDE: usize = 40;
 const LINE: usize = LONGEST_NAME + WIDE + 2;
 
 // What the summary says of a network.
-#[derive(Clone, Copy)]
+#[derive(Drop)]
 struct Summary {
     cycles: u128,
     packets: u128,
@@ -34,7 +34,7 @@ struct Summary {
 }
 
 // How many latencies there are, their sum, and the greatest of them.
-#[derive(Clone, Copy)]
+#[derive(Drop)]
 struct LatencyTotals {
     count: usize,
     sum: u128,

@@ -12,4 +12,4 @@ returns-then-not-has_known_keys-clause-value c _ =
 pub returns-clause-value : goal.returns-clause-value
 returns-clause-value c =
     let known : all_known (table_view c.in_ok-table.table) ≡ true = sym (all_known_keys c.in_ok-table.table.entries) ∙ sym c.has_known_keys.ensures ∙ c.if-not-has_known_keys.false in
-    rw (c.in_ok-table.ensures, known) c.config_in.ensures.value
+    rw (c.in_ok-table.ensures, known) c.settings_in.ensures.value

@@ -17,7 +17,7 @@ returns-then-not-has_fields g c said reads _ =
 pub rows-init : goal.rows-init
 rows-init g c = record {
   ready = c.in_ok-next_row.ensures.ready c.if-not-branch.false;
-  so_far = λ said reads. rw (c.new-values.ensures.items, c.new-values.ensures.len) (under_header said (map (λ n. n.now) c.args.header.now) (rows_left c.args.reader.now) (rows_left c.next_row.new.reader) (fields_of c.next_row.new.row) (c.in_ok-next_row.ensures.row c.if-not-branch.false) (sym c.has_fields.ensures ∙ c.if-not-has_fields.false));
+  so_far = λ said reads. rw (c.requires.empty.0, c.requires.empty.1) (under_header said (map (λ n. n.now) c.args.header.now) (rows_left c.args.reader.now) (rows_left c.next_row.new.reader) (fields_of c.next_row.new.row) (c.in_ok-next_row.ensures.row c.if-not-branch.false) (sym c.has_fields.ensures ∙ c.if-not-has_fields.false));
 }
 
 pub returns-in_err-value : goal.returns-in_err-value
