@@ -1,7 +1,7 @@
 //! Joined texts.
 
 ghost use Rattle.std.specs.Prelude.{◌≡◌, ◌+◌, ◌≤◌, ◌<◌, ℕ, length, MatchOption};
-ghost use Rattle.noc_bytes.specs.Joined.{SplitsAt, line_at};
+ghost use Rattle.noc_bytes.specs.Joined.{SplitsAt, line_at, line_len};
 
 // How long the line of dashes is that begins at this byte, if one does.
 fn dashes_at(text: &[u8], at: usize) -> usize
@@ -9,13 +9,21 @@ fn dashes_at(text: &[u8], at: usize) -> usize
     ensures value { result ≡ line_at text.now at }
     ensures within { at + result ≤ length text.now }
 {
-    if at != 0 && text[at - 1] != b'\n' {
-        return 0;
+    if at == 0 || text[at - 1] == b'\n' {
+        dashes(&text[at..])
+    } else {
+        0
     }
-    let line = &text[at..];
-    if line.starts_with(b"---\n") {
+}
+
+// How long the line of dashes is with which a text begins, if it does with one.
+fn dashes(text: &[u8]) -> usize
+    ensures value { result ≡ line_len text.now }
+    ensures within { result ≤ length text.now }
+{
+    if text.starts_with(b"---\n") {
         4
-    } else if line.starts_with(b"---\r\n") {
+    } else if text.starts_with(b"---\r\n") {
         5
     } else {
         0
