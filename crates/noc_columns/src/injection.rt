@@ -111,7 +111,6 @@ fn inject_each(
 
 // Of the local channels that are free in these routers the first of each router stays. The answer
 // is the routers that have one. (Mostly there are none.)
-#[inline(always)]
 fn begin_first(local: &Ports, starts: u64, begun: &mut Words) -> u64
     requires width { local.now.width ≡ 1 }
     requires none { starts ≡ 0 → (v : ℕ) → v < local.now.vcs
@@ -123,24 +122,9 @@ fn begin_first(local: &Ports, starts: u64, begun: &mut Words) -> u64
     ensures some { result
         ≡ union_from 0 local.now.vcs (λ v. word (local.now.first + v) begun.old) }
 {
-    if starts != 0 {
-        first_free(local, begun)
-    } else {
-        0
+    if starts == 0 {
+        return 0;
     }
-}
-
-// Of the local channels in these words the first of each router stays. The answer is the routers
-// that have one.
-fn first_free(local: &Ports, begun: &mut Words) -> u64
-    requires { local.now.width ≡ 1 }
-    ensures begun { (v : ℕ) → v < local.now.vcs
-        → word (local.now.first + v) begun.new
-        ≡ less (word (local.now.first + v) begun.old)
-        (union_from 0 v (λ k. word (local.now.first + k) begun.old)) }
-    ensures some { result
-        ≡ union_from 0 local.now.vcs (λ v. word (local.now.first + v) begun.old) }
-{
     let mut before = 0;
     for v in 0..local.vcs {
         let i = local.first + v;

@@ -3,7 +3,7 @@ use Rattle.noc_sets.specs.Sets.{less}
 use Rattle.noc_sets.specs.Unions.{union_from}
 use Rattle.noc_columns.specs.Words.{word}
 use Rattle.noc_columns.proofs.PassLemmas.{IsPassed}
-use Rattle.noc_columns.proofs.injection.first_free.Given as goal
+use Rattle.noc_columns.proofs.injection.begin_first.Given as goal
 
 abbrev pub invariant-loop-v : goal.invariant-loop-v
 invariant-loop-v l = record {
