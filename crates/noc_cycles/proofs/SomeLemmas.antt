@@ -4,11 +4,12 @@ use Rattle.std.specs.Prelude.{◌&&◌, ◌||◌, not, nat_eq}
 use Rattle.std.proofs.lemmas.Nat.{mod_below}
 use Rattle.noc_sets.proofs.MemberLemmas.{either-zero}
 use Rattle.noc_sets.proofs.UnionLemmas.{some-none}
-use Rattle.noc_columns.proofs.PassLemmas.{some-next}
+use Rattle.noc_columns.proofs.PassLemmas.{some-same}
 use Rattle.noc_columns.proofs.PickLemmas.{some-asks, some-each}
-use Rattle.noc_cycles.proofs.Common.{div-mul-add, mod-mul-add, has_bit, either_members, up_by, some_below, channels_of, links_of, port_at, Numbering, set_of, word, port-below, apart, find-first, none-each, Pattern}
+use Rattle.noc_cycles.proofs.Common.{div-mul-add, mod-mul-add, has_bit, up_by, some_below, links_of, port_at, Numbering, set_of, word, port-below, apart, find-first, none-each, Pattern}
 use Rattle.noc_cycles.proofs.PartLemmas.{in-parts, link-index-below}
 use Rattle.noc_cycles.proofs.ShiftLemmas.{up-some}
+use Rattle.noc_cycles.specs.Taking.{comes_to}
 
 -- each of the first so many words is that of a channel
 pub some-words : (n : Numbering) (count r : ℕ) (words : List ℕ) → ((c : ℕ) → c < n.size → n.index c < count) → ((i : ℕ) → i < count → (c : ℕ) × (c < n.size) × (n.index c ≡ i))
@@ -30,21 +31,6 @@ in-neither a b = at (nat_eq a 0) (nat_eq b 0) ∙ ap not (sym (either-zero a b))
     at : (x y : Bool) → (not x || not y) ≡ not (x && y)
     at true y = refl
     at false y = refl
-
--- two words more are joined
-pub both-next : (some i r : ℕ) (one other : List ℕ) → has_bit some r ≡ (some_below i (λ k. has_bit (word k one) r) || some_below i (λ k. has_bit (word k other) r))
-    → has_bit (bit_or (bit_or some (word i one)) (word i other)) r ≡ (some_below (i + 1) (λ k. has_bit (word k one) r) || some_below (i + 1) (λ k. has_bit (word k other) r))
-both-next some i r one other is =
-    either_members (bit_or some (word i one)) (word i other) r
-    ∙ ap (λ b. b || has_bit (word i other) r) (either_members some (word i one) r ∙ ap (λ b. b || has_bit (word i one) r) is)
-    ∙ turned (some_below i (λ k. has_bit (word k one) r)) (some_below i (λ k. has_bit (word k other) r)) (has_bit (word i one) r) (has_bit (word i other) r)
-    ∙ sym (ap₂ (λ a b. a || b) (some-next i (λ k. has_bit (word k one) r)) (some-next i (λ k. has_bit (word k other) r)))
-  where
-    turned : (a b x y : Bool) → (((a || b) || x) || y) ≡ ((a || x) || (b || y))
-    turned true b x y = refl
-    turned false true true y = refl
-    turned false true false y = refl
-    turned false false x y = refl
 
 module _ (pattern : Pattern) where
   abbrev wide : ℕ
@@ -69,27 +55,24 @@ module _ (pattern : Pattern) where
   link-of : (i : ℕ) → i < vcs * wide → (c : ℕ) × (c < wide * vcs) × ((links_of pattern.table.ports.links).index c ≡ i)
   link-of i l = let at = link-place i l in (i % wide * vcs + i / wide, at.0, at.1)
 
-  pub some-links : (r : ℕ) (words : List ℕ) → some_below (vcs * wide) (λ i. has_bit (word i words) r) ≡ not (nat_eq (set_of (links_of pattern.table.ports.links) r words) 0)
+  some-links : (r : ℕ) (words : List ℕ) → some_below (vcs * wide) (λ i. has_bit (word i words) r) ≡ not (nat_eq (set_of (links_of pattern.table.ports.links) r words) 0)
   some-links r words = some-words (links_of pattern.table.ports.links) (vcs * wide) r words (λ c l. link-index-below pattern c l) (λ i l. link-of i l)
 
-  -- something comes to a local channel, or over a link
-  pub some-comes : (r local over : ℕ) (flits credits : List ℕ) → has_bit local r ≡ not (nat_eq (set_of (port_at pattern.table.ports.local 0) r flits) 0)
-      → has_bit over r ≡ not (nat_eq (bit_or (set_of (links_of pattern.table.ports.links) r flits) (set_of (links_of pattern.table.ports.links) r credits)) 0)
-      → has_bit (bit_or local over) r ≡ not (nat_eq (bit_or (set_of (channels_of pattern.table.ports) r flits) (set_of (links_of pattern.table.ports.links) r credits)) 0)
-  some-comes r local over flits credits a b =
+  -- .. from the first on
+  pub some-over : (r : ℕ) (words : List ℕ) → some_below (vcs * wide) (λ i. has_bit (word (0 + i) words) r) ≡ not (nat_eq (set_of (links_of pattern.table.ports.links) r words) 0)
+  some-over r words = some-same (vcs * wide) _ _ (λ k l. let e : 0 + k ≡ k = omega arith in ap (λ i. has_bit (word i words) r) e) ∙ some-links r words
+
+  -- where a source injects, something comes
+  pub injected-comes : (r : ℕ) (flits credits : List ℕ) → not (nat_eq (set_of (port_at pattern.table.ports.local 0) r flits) 0) ≡ true → comes_to pattern.table.ports (record { flits = flits; tails = flits; credits = credits }) r ≡ true
+  injected-comes r flits credits some =
       let own = set_of (port_at pattern.table.ports.local 0) r flits in
       let links = set_of (links_of pattern.table.ports.links) r flits in
       let back = set_of (links_of pattern.table.ports.links) r credits in
       let n = wide * vcs in
-      either_members local over r
-      ∙ ap₂ (λ x y. x || y) (a ∙ ap not (sym (up-some own n))) (b ∙ sym (in-neither links back))
-      ∙ turned (not (nat_eq (up_by own n) 0)) (not (nat_eq links 0)) (not (nat_eq back 0))
-      ∙ ap (λ x. x || not (nat_eq back 0)) (in-neither links (up_by own n))
-      ∙ in-neither (bit_or links (up_by own n)) back
-      ∙ ap (λ w. not (nat_eq (bit_or w back) 0)) (sym (in-parts pattern.table.ports r flits))
+      ap (λ w. not (nat_eq (bit_or w back) 0)) (in-parts pattern.table.ports r flits)
+      ∙ sym (in-neither (bit_or links (up_by own n)) back)
+      ∙ ap (λ x. x || not (nat_eq back 0)) (sym (in-neither links (up_by own n)) ∙ ap (λ x. not (nat_eq links 0) || x) (ap not (up-some own n) ∙ some) ∙ right (not (nat_eq links 0)))
     where
-      turned : (a b x : Bool) → (a || (b || x)) ≡ ((b || a) || x)
-      turned true true x = refl
-      turned true false x = refl
-      turned false true x = refl
-      turned false false x = refl
+      right : (b : Bool) → (b || true) ≡ true
+      right true = refl
+      right false = refl

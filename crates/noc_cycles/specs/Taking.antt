@@ -117,6 +117,12 @@ pub record MaySend (ports : RouterPorts) (starts : List Start) (cycle : ℕ) (bl
 abbrev pub TellsHeads : RouterPorts → Work → Type 0
 TellsHeads ports w = w.heading ≡ 0 → (r : ℕ) → set_of (channels_of ports) r w.standing.heads ≡ 0
 
+-- whether something comes to router r: a flit or a credit
+abbrev pub comes_to : RouterPorts → Links (List ℕ) → ℕ → Bool
+comes_to ports came r =
+    not (nat_eq (bit_or (set_of (channels_of ports) r came.flits)
+    (set_of (links_of ports.links) r came.credits)) 0)
+
 -- a router with these words has taken what comes, and then holds h; it is told what its input
 -- channels can do, and whether something comes
 pub record HasTaken (pattern : Pattern) (layout : Layout) (starts : List Start) (cycle : ℕ)

@@ -12,7 +12,7 @@ ghost use Rattle.noc_columns.specs.Sources.{AreDue, begun_if, left_in, sent_if, 
 ghost use Rattle.noc_columns.specs.Prelude.{channels_of, has_bit, links_of, port_at, set_of};
 ghost use Rattle.noc_cycles.specs.Held.{ShowsHeld, held_at, links_at};
 ghost use Rattle.noc_cycles.specs.May.{MayTake};
-ghost use Rattle.noc_cycles.specs.Taking.{FitsLayout, HasCredits, HasInjected, HasTaken, IsPunctual, MaySend, TellsHeads};
+ghost use Rattle.noc_cycles.specs.Taking.{FitsLayout, HasCredits, HasInjected, HasTaken, IsPunctual, MaySend, TellsHeads, comes_to};
 
 use crate::begins::begin_packets;
 use crate::block::{Block, Work};
@@ -23,7 +23,7 @@ use noc_columns::{
 };
 
 /// What comes to the routers of a block is taken: credits, what their sources inject, and flits.
-/// The answer is the routers to which something comes.
+/// The answer is the routers whose sources inject.
 #[inline(never)]
 pub fn take(
     pattern: &Pattern,
@@ -41,7 +41,10 @@ pub fn take(
         → (let all = set_of (channels_of pattern.now.table.ports) r in
         HasTaken pattern.now layout (starts_by starts.now) cycle b
         (held_at pattern.now.table.ports block.new r) (standing_by all work.new.standing)
-        (all work.new.verdicts.no_credit) (has_bit result r)) }
+        (all work.new.verdicts.no_credit)
+        (comes_to pattern.now.table.ports work.new.came r)) }
+    ensures injected { (r : ℕ) → has_bit result r ≡ not (nat_eq
+        (set_of (port_at pattern.now.table.ports.local 0) r work.new.came.flits) 0) }
     ensures heading { TellsHeads pattern.now.table.ports work.new }
     ensures punctual { IsPunctual cycle pattern.now.table.ports block.new }
     ensures block { block.new ≡ record block.old {
@@ -70,20 +73,7 @@ pub fn take(
         &mut work.verdicts.no_credit,
     );
     work.heading = heading;
-    injected | some_come(pattern, &work.came)
-}
-
-// The routers to which flits or credits come over the links.
-fn some_come(pattern: &Pattern, came: &Links<Words>) -> u64
-    ensures { (r : ℕ) → has_bit result r ≡ not (nat_eq
-        (bit_or (set_of (links_of pattern.now.table.ports.links) r came.now.flits)
-        (set_of (links_of pattern.now.table.ports.links) r came.now.credits)) 0) }
-{
-    let mut some = 0;
-    for i in 0..pattern.table.ports.links.vcs * pattern.table.ports.links.width {
-        some = some | came.flits[i] | came.credits[i];
-    }
-    some
+    injected
 }
 
 // The credits that come are counted. Channels that drain and have all their credits again are

@@ -75,35 +75,42 @@ some-bits x fits = elim (cases_eq x 0) [
       ap not (ne_eqb x 0 some) ∙ sym (some-each 64 (has_bit x) (least x) (least_below x more fits) (least_is x more fits).0)
 ]
 
-pub some-happens : (heads granted moved : ℕ) (f g h : ℕ → ℕ) → bit_or (bit_or heads granted) moved < 2 ^ 64 → ((r : ℕ) → has_bit heads r ≡ not (nat_eq (f r) 0)) → ((r : ℕ) → has_bit granted r ≡ not (nat_eq (g r) 0))
-    → ((r : ℕ) → has_bit moved r ≡ not (nat_eq (h r) 0))
-    → not (nat_eq (bit_or (bit_or heads granted) moved) 0) ≡ some_below 64 (λ r. not (nat_eq (bit_or (bit_or (f r) (g r)) (h r)) 0))
-some-happens heads granted moved f g h fits a b d = some-bits all fits ∙ ap (some_below 64) (λ i r. each r i)
+pub happens-bits : (heads granted moved : ℕ) (f g h : ℕ → ℕ) → ((r : ℕ) → has_bit heads r ≡ not (nat_eq (f r) 0)) → ((r : ℕ) → has_bit granted r ≡ not (nat_eq (g r) 0)) → ((r : ℕ) → has_bit moved r ≡ not (nat_eq (h r) 0))
+    → (r : ℕ) → has_bit (bit_or (bit_or heads granted) moved) r ≡ not (nat_eq (bit_or (bit_or (f r) (g r)) (h r)) 0)
+happens-bits heads granted moved f g h a b d r =
+    either_members (bit_or heads granted) moved r
+    ∙ ap₂ (λ x y. x || y) (either_members heads granted r ∙ ap₂ (λ x y. x || y) (a r) (b r)) (d r)
+    ∙ by (nat_eq (f r) 0) (nat_eq (g r) 0) (nat_eq (h r) 0)
+    ∙ sym (ap not (either-zero (bit_or (f r) (g r)) (h r) ∙ ap (λ y. y && nat_eq (h r) 0) (either-zero (f r) (g r))))
   where
-    all : ℕ
-    all = bit_or (bit_or heads granted) moved
-
     by : (p q t : Bool) → ((not p || not q) || not t) ≡ not ((p && q) && t)
     by true true t = refl
     by true false t = refl
     by false q t = refl
 
-    each : (r : ℕ) → has_bit all r ≡ not (nat_eq (bit_or (bit_or (f r) (g r)) (h r)) 0)
+-- .. or comes
+pub some-comes-or-happens : (flits credits happens : ℕ) (f g : ℕ → ℕ) (test : ℕ → Bool) → bit_or (bit_or flits credits) happens < 2 ^ 64 → ((r : ℕ) → has_bit flits r ≡ not (nat_eq (f r) 0)) → ((r : ℕ) → has_bit credits r ≡ not (nat_eq (g r) 0))
+    → ((r : ℕ) → has_bit happens r ≡ test r) → not (nat_eq (bit_or (bit_or flits credits) happens) 0) ≡ some_below 64 (λ r. not (nat_eq (bit_or (f r) (g r)) 0) || test r)
+some-comes-or-happens flits credits happens f g test fits a b d = some-bits all fits ∙ ap (some_below 64) (λ i r. each r i)
+  where
+    all : ℕ
+    all = bit_or (bit_or flits credits) happens
+
+    by : (p q : Bool) → (not p || not q) ≡ not (p && q)
+    by true q = refl
+    by false q = refl
+
+    each : (r : ℕ) → has_bit all r ≡ (not (nat_eq (bit_or (f r) (g r)) 0) || test r)
     each r =
-        either_members (bit_or heads granted) moved r
-        ∙ ap₂ (λ x y. x || y) (either_members heads granted r ∙ ap₂ (λ x y. x || y) (a r) (b r)) (d r)
-        ∙ by (nat_eq (f r) 0) (nat_eq (g r) 0) (nat_eq (h r) 0)
-        ∙ sym (ap not (either-zero (bit_or (f r) (g r)) (h r) ∙ ap (λ y. y && nat_eq (h r) 0) (either-zero (f r) (g r))))
+        either_members (bit_or flits credits) happens r
+        ∙ ap₂ (λ x y. x || y)
+        (either_members flits credits r ∙ ap₂ (λ x y. x || y) (a r) (b r) ∙ by (nat_eq (f r) 0) (nat_eq (g r) 0) ∙ sym (ap not (either-zero (f r) (g r)))) (d r)
 
--- .. to which something comes
-pub comes-happens : (comes : ℕ) (test : ℕ → Bool) → comes < 2 ^ 64 → comes ≢ 0 → true ≡ some_below 64 (λ r. has_bit comes r || test r)
-comes-happens comes test fits some =
-    let more : 0 < comes = omega (arith, some) in
-    sym (some-each 64 (λ r. has_bit comes r || test r) (least comes) (least_below comes more fits) (ap (λ b. b || test (least comes)) (least_is comes more fits).0))
-
--- .. and to none
-pub none-comes : (comes : ℕ) (test : ℕ → Bool) → comes ≡ 0 → some_below 64 test ≡ some_below 64 (λ r. has_bit comes r || test r)
-none-comes comes test none = some-same 64 test (λ r. has_bit comes r || test r) (λ r l. sym (ap (λ n. has_bit n r || test r) none ∙ ap (λ b. b || test r) (has_bit-zero r)))
+-- .. where a source injects
+pub injected-happens : (injected : ℕ) (comes test : ℕ → Bool) → injected < 2 ^ 64 → injected ≢ 0 → ((r : ℕ) → has_bit injected r ≡ true → comes r ≡ true) → true ≡ some_below 64 (λ r. comes r || test r)
+injected-happens injected comes test fits some are =
+    let more : 0 < injected = omega (arith, some) in
+    sym (some-each 64 (λ r. comes r || test r) (least injected) (least_below injected more fits) (ap (λ b. b || test (least injected)) (are (least injected) (least_is injected more fits).0)))
 
 -- ---- one router
 -- what is found of it follows from its verdicts and the output channels that are granted
@@ -343,15 +350,15 @@ module _ (net : Setup) (relation : Routes) (plan : Plan) (n b : ℕ) (words : �
   block-headers = coe 0 1 (x. AreRoutable (may.is x) (sym headers-are x)) (routable net may.good)
 
   -- what it takes
-  module _ (b1 : Block) (w1 : Work) (comes : ℕ)
+  module _ (b1 : Block) (w1 : Work) (comes : ℕ → Bool)
       (takes : (layout : Layout) (r : ℕ) (w : Router) → FitsLayout pattern_is layout → r < 64 → ShowsHeld pattern_is (held_at all_ports b0 r) (links_at all_ports w0.came r) w → MayTake pattern_is (starts_by starts) (held_at all_ports b0 r) w
-      → HasTaken pattern_is layout (starts_by starts) n w (held_at all_ports b1 r) (standing_at all_ports w1.standing r) (set_of (channels_of all_ports) r w1.verdicts.no_credit) (has_bit comes r)) where
+      → HasTaken pattern_is layout (starts_by starts) n w (held_at all_ports b1 r) (standing_at all_ports w1.standing r) (set_of (channels_of all_ports) r w1.verdicts.no_credit) (comes r)) where
     block-taken : (r : ℕ) → r < 64
-        → HasTaken pattern_is layout_is (all_starts net) n (words (64 * b + r)) (held_at all_ports b1 r) (standing_at all_ports w1.standing r) (set_of (channels_of all_ports) r w1.verdicts.no_credit) (has_bit comes r)
+        → HasTaken pattern_is layout_is (all_starts net) n (words (64 * b + r)) (held_at all_ports b1 r) (standing_at all_ports w1.standing r) (set_of (channels_of all_ports) r w1.verdicts.no_credit) (comes r)
     block-taken r l =
         let one = words (64 * b + r) in
         let may-take = node-may-take (bits_of pattern_is) net layout_is pattern_is n (64 * b + r) (links_at all_ports w0.came r) (held_at all_ports b0 r) one may.good may.few (plan-fits net plan may.good may.plan_is) (node r l) in
-        subst (λ s. HasTaken pattern_is layout_is s n one (held_at all_ports b1 r) (standing_at all_ports w1.standing r) (set_of (channels_of all_ports) r w1.verdicts.no_credit) (has_bit comes r)) starts-are
+        subst (λ s. HasTaken pattern_is layout_is s n one (held_at all_ports b1 r) (standing_at all_ports w1.standing r) (set_of (channels_of all_ports) r w1.verdicts.no_credit) (comes r)) starts-are
         (takes layout_is r one layout-fits l (node r l).held (subst (λ s. MayTake pattern_is s (held_at all_ports b0 r) one) (sym starts-are) may-take))
 
     pub block-may-decide : (r : ℕ) → r < 64 → MayDecide pattern_is (length headers) (nodes relation.grid) (64 * b + r) (held_at all_ports b1 r) (standing_at all_ports w1.standing r)
@@ -359,7 +366,7 @@ module _ (net : Setup) (relation : Routes) (plan : Plan) (n b : ℕ) (words : �
         let many : length (map header_of net.packets) ≡ length net.packets = length-map net.packets header_of in
         coe 0 1 (x. MayDecide pattern_is ((sym many ∙ ap length (sym headers-are)) x) (nodes (may.is x).grid) (64 * b + r) (held_at all_ports b1 r) (standing_at all_ports w1.standing r))
         (node-may-decide (bits_of pattern_is) net layout_is pattern_is n (64 * b + r) (links_at all_ports w0.came r) (held_at all_ports b0 r) (words (64 * b + r)) may.good may.few (plan-fits net plan may.good may.plan_is) (node r l) (held_at all_ports b1 r)
-        (standing_at all_ports w1.standing r) (set_of (channels_of all_ports) r w1.verdicts.no_credit) (has_bit comes r) (block-taken r l))
+        (standing_at all_ports w1.standing r) (set_of (channels_of all_ports) r w1.verdicts.no_credit) (comes r) (block-taken r l))
 
     -- .. and what is decided, and takes effect
     module _ (b2 b3 : Block) (w2 w3 : Work) (sent gone : Links (List ℕ)) (happened : Bool)
@@ -375,7 +382,7 @@ module _ (net : Setup) (relation : Routes) (plan : Plan) (n b : ℕ) (words : �
         (leaving : w3.leaving ≡ 0 → (r : ℕ) → set_of (channels_of all_ports) r w3.arrived ≡ 0)
         (something : happened
         ≡ some_below 64
-        (λ r. has_bit comes r || not (nat_eq
+        (λ r. comes r || not (nat_eq
         (bit_or (bit_or (set_of (channels_of all_ports) r w3.standing.heads) (set_of (channels_of all_ports) r b3.grants.granted)) (set_of (channels_of all_ports) r w3.verdicts.moved)) 0))) where
       decided-by-all : (r : ℕ) (l : r < 64)
           → HasDecidedHeld pattern_is layout_is (sets_by net.relation (map header_of net.packets) (64 * b + r)) (still_of layout_is (all_starts net) n (block-taken r l).up (words (64 * b + r))) (held_at all_ports b1 r) (held_at all_ports b2 r)
@@ -386,14 +393,14 @@ module _ (net : Setup) (relation : Routes) (plan : Plan) (n b : ℕ) (words : �
           (decides layout_is r (set_of (channels_of all_ports) r w1.verdicts.no_credit) (still_of layout_is (all_starts net) n (block-taken r l).up (words (64 * b + r))) l (block-taken r l).shows)
 
       abbrev happening : ℕ → Bool
-      happening r = has_bit comes r
+      happening r = comes r
           || not (nat_eq (bit_or (bit_or (set_of (channels_of all_ports) r w3.standing.heads) (set_of (channels_of all_ports) r b3.grants.granted)) (set_of (channels_of all_ports) r w3.verdicts.moved)) 0)
 
       abbrev Turned : ℕ → Turn → Type 0
       Turned r t = IsTurned net pattern_is layout_is n (64 * b + r) r (words (64 * b + r)) b3 w3 gone (happening r) t
 
       turned : (r : ℕ) (l : r < 64) → (t : Turn) × Turned r t
-      turned r l = router-turned (bits_of pattern_is) net layout_is pattern_is n (64 * b + r) r (links_at all_ports w0.came r) (held_at all_ports b0 r) (words (64 * b + r)) b1 b2 b3 w1 w2 w3 sent gone (has_bit comes r) may.good may.few (plan-fits net plan may.good may.plan_is) layout-fits (node r l)
+      turned r l = router-turned (bits_of pattern_is) net layout_is pattern_is n (64 * b + r) r (links_at all_ports w0.came r) (held_at all_ports b0 r) (words (64 * b + r)) b1 b2 b3 w1 w2 w3 sent gone (comes r) may.good may.few (plan-fits net plan may.good may.plan_is) layout-fits (node r l)
           (block-taken r l) (decided-by-all r l) (concludes r l) deciding_block deciding_work concluding_block concluding_work concluding_left
 
       chosen : (turns : ℕ → Turn) × ((r : ℕ) → r < 64 → Turned r (turns (64 * b + r)))
@@ -406,13 +413,13 @@ module _ (net : Setup) (relation : Routes) (plan : Plan) (n b : ℕ) (words : �
           turn = λ r l. (chosen.1 r l).turn;
           shows = λ r l. (chosen.1 r l).shows;
           packets = λ r l.
-              router-packets (bits_of pattern_is) net layout_is pattern_is n (64 * b + r) r (links_at all_ports w0.came r) (held_at all_ports b0 r) (words (64 * b + r)) b1 b2 b3 w1 w2 w3 sent gone (has_bit comes r) may.good may.few (plan-fits net plan may.good may.plan_is) layout-fits (node r l)
+              router-packets (bits_of pattern_is) net layout_is pattern_is n (64 * b + r) r (links_at all_ports w0.came r) (held_at all_ports b0 r) (words (64 * b + r)) b1 b2 b3 w1 w2 w3 sent gone (comes r) may.good may.few (plan-fits net plan may.good may.plan_is) layout-fits (node r l)
               (block-taken r l) (decided-by-all r l) (concludes r l) deciding_block deciding_work concluding_block concluding_work concluding_left;
           leaves = λ r l. (chosen.1 r l).leaves;
           arrived = λ r l. (chosen.1 r l).arrived;
           leaving = leaving;
           arrive = λ r k l e.
-              router-arrives (bits_of pattern_is) net layout_is pattern_is n (64 * b + r) r (links_at all_ports w0.came r) (held_at all_ports b0 r) (words (64 * b + r)) b1 b2 b3 w1 w2 w3 sent gone (has_bit comes r) may.good may.few (plan-fits net plan may.good may.plan_is) layout-fits (node r l)
+              router-arrives (bits_of pattern_is) net layout_is pattern_is n (64 * b + r) r (links_at all_ports w0.came r) (held_at all_ports b0 r) (words (64 * b + r)) b1 b2 b3 w1 w2 w3 sent gone (comes r) may.good may.few (plan-fits net plan may.good may.plan_is) layout-fits (node r l)
               (block-taken r l) (decided-by-all r l) (concludes r l) deciding_block deciding_work concluding_block concluding_work concluding_left k e;
           told = λ r l. (chosen.1 r l).told;
           counted = λ r i l m. (chosen.1 r l).counted i;

@@ -33,5 +33,5 @@ pub use Rattle.noc_engine.specs.Runs.{AreFindings, HasJustRun, HasRepeated, IsNe
 pub use Rattle.noc_engine.specs.Shows.{IsPlanOf, ShowsAt, has_block}
 pub use Rattle.noc_engine.specs.Steps.{MayStep}
 pub use Rattle.noc_engine.specs.Tiles.{AreNear, HasBehind, HasRunTile, HasStepped, HasTurnedTile, IsCut, IsJoined, IsTold, MayRunTile, Shows}
-pub use Rattle.noc_engine.specs.Turns.{HasTurnedBlock, MayTurn}
+pub use Rattle.noc_engine.specs.Turns.{HasTurnedBlock, MayTurn, happens_in}
 pub use Rattle.noc_engine.specs.declared.plan.Plan.{Plan}

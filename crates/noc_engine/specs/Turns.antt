@@ -1,5 +1,5 @@
 -- The turn of a block of a network in a cycle.
-use Rattle.std.specs.Prelude.{◌≡◌, ℕ, ◌+◌, ◌*◌, ◌<◌, ◌≤◌, Bool, List, true, length}
+use Rattle.std.specs.Prelude.{◌≡◌, ℕ, ◌+◌, ◌*◌, ◌<◌, ◌≤◌, ◌||◌, Bool, List, true, bit_or, length, nat_eq, not}
 use Rattle.noc_packet.specs.Set.{has_bit}
 use Rattle.noc_route.specs.Routes.{Routes}
 use Rattle.noc_sets.specs.Counts.{with_verdicts}
@@ -12,12 +12,13 @@ use Rattle.noc_theory_bits.specs.Network.{numbers_in, tells_in}
 use Rattle.noc_columns.specs.Picks.{channels_of}
 use Rattle.noc_columns.specs.Words.{set_of}
 use Rattle.noc_columns.specs.declared.channels.Links.{Links}
+use Rattle.noc_columns.specs.declared.ports.RouterPorts.{RouterPorts}
 use Rattle.noc_columns.specs.declared.words.TheConstants.{ROUTERS}
 use Rattle.noc_counts.specs.Told.{told_at}
 use Rattle.noc_cycles.specs.Gathered.{ShowsLeft}
 use Rattle.noc_columns.specs.Heads.{packet_in}
 use Rattle.noc_cycles.specs.Held.{held_at, links_at}
-use Rattle.noc_cycles.specs.Taking.{IsPunctual, links_count}
+use Rattle.noc_cycles.specs.Taking.{IsPunctual, comes_to, links_count}
 use Rattle.noc_cycles.specs.Told.{Tells, port_in, vc_in}
 use Rattle.noc_cycles.specs.Turning.{ShowsTurn}
 use Rattle.noc_cycles.specs.declared.block.Block.{Block}
@@ -43,6 +44,15 @@ pub record MayTurn (net : Setup) (relation : Routes) (plan : Plan) (n b : ℕ) (
   pub before : ℕ  -- a cycle of which it is known which packets are due
   pub known : before ≤ n
   pub punctual : IsPunctual before plan.pattern.table.ports block
+
+-- whether something happens in router r: something comes to it, a head comes to wait, an output
+-- channel is granted, or a flit moves
+abbrev pub happens_in : RouterPorts → Block → Work → ℕ → Bool
+happens_in ports block work r =
+    let set = set_of (channels_of ports) r in
+    comes_to ports work.came r
+    || not (nat_eq (bit_or (bit_or (set work.standing.heads) (set block.grants.granted))
+    (set work.verdicts.moved)) 0)
 
 -- it has had it: each of its routers makes one of these turns, and this is what it holds then, and
 -- has worked out

@@ -1,7 +1,8 @@
 //! The turn of a block in a cycle.
 
-ghost use Rattle.std.specs.Prelude.{◌≡◌, ℕ, ◌||◌, not, bit_or, nat_eq};
-ghost use Rattle.noc_engine.specs.Prelude.{HasTurnedBlock, MayTurn, Router, Setup, Turn, channels_of, has_bit, set_of, some_below};
+ghost use Rattle.std.specs.Prelude.{◌≡◌, ℕ, true, not, nat_eq};
+ghost use Rattle.noc_cycles.specs.Taking.{comes_to};
+ghost use Rattle.noc_engine.specs.Prelude.{HasTurnedBlock, MayTurn, Router, Setup, Turn, channels_of, happens_in, has_bit, set_of, some_below};
 
 use crate::plan::Plan;
 use noc_columns::{Links, ROUTERS, Words};
@@ -39,7 +40,7 @@ pub(crate) fn turn(
 {
     let plan = cycle.plan;
     let pattern = &plan.pattern;
-    let comes = take(pattern, &plan.starts, cycle.number, block, work);
+    let injected = take(pattern, &plan.starts, cycle.number, block, work);
     let routing = Routing {
         relation: cycle.relation,
         headers: &plan.headers,
@@ -54,36 +55,36 @@ pub(crate) fn turn(
     );
     let leaving = conclude(pattern, block, work, left);
     work.leaving = leaving;
-    does_something(pattern, comes, block, work)
+    does_something(pattern, injected, block, work)
 }
 
 // Whether something comes to one of these routers, or happens in one of a block: a head comes to
-// wait, an output channel is granted, or a flit moves.
-fn does_something(pattern: &Pattern, comes: u64, block: &Block, work: &Work) -> bool
-    ensures { let set = set_of (channels_of pattern.now.table.ports) in
-        result ≡ some_below ROUTERS
-        (λ r. has_bit comes r || not (nat_eq
-        (bit_or (bit_or (set r work.now.standing.heads) (set r block.now.grants.granted))
-        (set r work.now.verdicts.moved)) 0)) }
+// wait, an output channel is granted, or a flit moves. The sources of some routers inject.
+fn does_something(pattern: &Pattern, injected: u64, block: &Block, work: &Work) -> bool
+    requires { (r : ℕ) → has_bit injected r ≡ true
+        → comes_to pattern.now.table.ports work.now.came r ≡ true }
+    ensures { result
+        ≡ some_below ROUTERS (happens_in pattern.now.table.ports block.now work.now) }
 {
-    if comes != 0 {
+    if injected != 0 {
         return true;
     }
-    does_something_itself(pattern, block, work)
+    does_more(pattern, block, work)
 }
 
-// Whether something happens in one of these routers, to which nothing comes. (That is seldom so.)
+// The same, wherever it comes from. (That is seldom asked, since mostly a source injects.)
 #[inline(never)]
-fn does_something_itself(pattern: &Pattern, block: &Block, work: &Work) -> bool
-    ensures { let set = set_of (channels_of pattern.now.table.ports) in
-        result ≡ some_below ROUTERS (λ r. not (nat_eq
-        (bit_or (bit_or (set r work.now.standing.heads) (set r block.now.grants.granted))
-        (set r work.now.verdicts.moved)) 0)) }
+fn does_more(pattern: &Pattern, block: &Block, work: &Work) -> bool
+    ensures { result
+        ≡ some_below ROUTERS (happens_in pattern.now.table.ports block.now work.now) }
 {
+    let links = &pattern.table.ports.links;
+    let flits = some_of(pattern, &work.came.flits);
+    let credits = some_in(&work.came.credits, 0, links.vcs * links.width);
     let heads = some_of(pattern, &work.standing.heads);
     let granted = some_of(pattern, &block.grants.granted);
     let moved = some_of(pattern, &work.verdicts.moved);
-    (heads | granted | moved) != 0
+    (flits | credits | (heads | granted | moved)) != 0
 }
 
 // The routers that have a channel in these words.

@@ -6,7 +6,6 @@ use Rattle.noc_cycles.specs.Taking.{HasInjected, MaySend}
 use Rattle.noc_cycles.specs.declared.block.Work.{Work}
 use Rattle.noc_cycles.proofs.ConcludingLemmas.{all-within, none-there}
 use Rattle.noc_cycles.proofs.PartLemmas.{none-above}
-use Rattle.noc_cycles.proofs.SomeLemmas.{some-comes}
 use Rattle.noc_cycles.proofs.StillLemmas.{has-taken}
 use Rattle.noc_cycles.proofs.taking.take.Goals as goal
 
@@ -35,8 +34,10 @@ returns-clause-taken c = λ layout r b fits few shows may.
     (c.count_credits.ensures.credits layout r fits few)
     (subst (λ w. HasInjected pattern layout starts c.args.cycle (links_at ports w r) a d flits tails) same_came (c.inject_flits-injected.ensures.injected layout r fits few))
     (c.land-heading.ensures.flits all r (all-within pattern)) refl refl
-    (some-comes pattern r c.inject_flits-injected.result c.some_come.result sent.came.flits sent.came.credits (c.inject_flits-injected.ensures.some r) (c.some_come.ensures r)
-    ∙ ap (λ w. not (nat_eq (bit_or flits (set_of links r w)) 0)) (c.inject_flits-injected.ensures.credits ∙ ap (λ (w : Work). w.came.credits) c.count_credits.ensures.work))
+    (ap (λ w. not (nat_eq (bit_or flits (set_of links r w)) 0)) (c.inject_flits-injected.ensures.credits ∙ ap (λ (w : Work). w.came.credits) c.count_credits.ensures.work))
+
+pub returns-clause-injected : goal.returns-clause-injected
+returns-clause-injected c = c.inject_flits-injected.ensures.some
 
 pub returns-clause-heading : goal.returns-clause-heading
 returns-clause-heading c = λ none r.
