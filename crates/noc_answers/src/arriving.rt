@@ -38,13 +38,13 @@ fn first_left(network: &Network) -> Option<usize>
 
 // The packets to a node that are not out: their flits, and those of the longest of them.
 #[derive(Drop)]
-struct Left {
+struct PacketsLeft {
     flits: u64,
     longest: u64,
 }
 
 // What is left for a node.
-fn left_for(network: &Network, node: u32) -> Left
+fn left_for(network: &Network, node: u32) -> PacketsLeft
     ensures flits { result.flits ≡ sum_by (λ p. (packet_at network.now.net p).length)
         (left_for network.now.net network.now.count node) }
     ensures longest { (p : ℕ) → p < length network.now.net.packets
@@ -53,7 +53,7 @@ fn left_for(network: &Network, node: u32) -> Left
     ensures short { result.longest ≤ MAX_LENGTH }
     ensures good { IsGoodSetup network.now.net }
 {
-    let mut left = Left {
+    let mut left = PacketsLeft {
         flits: 0,
         longest: 0,
     };

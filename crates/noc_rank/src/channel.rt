@@ -6,11 +6,14 @@ ghost use Rattle.noc_route.specs.Ranks.{is_port_channel, is_channel, rank_count,
 
 use noc_topo::{LINKS, MAX_NODES, Shape};
 
-/// A virtual channel of a link, named by the router that sends on it, its port and its VC.
+/// A virtual channel of a link.
 #[derive(Clone, Copy, Debug, PartialEq, Eq)]
 pub struct LinkChannel {
+    /// The router that sends on it.
     pub router: usize,
+    /// Its port there.
     pub port: usize,
+    /// Which of the link's virtual channels it is.
     pub vc: usize,
 }
 

@@ -12,13 +12,16 @@ use noc_topo::Shape;
 // The greatest rank.
 pub(crate) const MAX_RANK: usize = 1_000_000;
 
-/// A link channel, named by the router that sends on it, its port and its VC, with its rank, 1 to
-/// 1,000,000; None says that the channel is adaptive.
+/// A link channel with its rank.
 #[derive(Clone, Copy, Debug, PartialEq, Eq)]
 pub struct RankRow {
+    /// The router that sends on the channel.
     pub router: usize,
+    /// Its port there.
     pub port: usize,
+    /// Which of the link's virtual channels it is.
     pub vc: usize,
+    /// Its rank, 1 to 1,000,000; None says that the channel is adaptive.
     pub rank: Option<usize>,
 }
 

@@ -9,48 +9,48 @@ ghost use Rattle.noc_route.specs.Gathering.{IsBlank};
 ghost use Rattle.noc_route.specs.Trimming.{routes_in, page_set};
 
 use crate::entered::Entered;
+use crate::fitting::FittingRule;
 use crate::map::Map;
 use crate::named::named_set;
-use crate::routing::Routing;
 use crate::rows::first_fault;
 use crate::rule::{RouteFault, RouteRow, Rule};
 use noc_packet::ChannelSet;
 use std::alloc::Global;
 
 // A rule's sets. Answers the fault of the first bad row, or `Memory`.
-pub(crate) fn enter(alloc: Global, routing: &Routing) -> Result<Entered, RouteFault>
-    ensures err { IfErr result (IsFaultOf (parts_of routing.now)) }
-    ensures rows { IfOk result (λ _. let g = parts_of routing.now in
+pub(crate) fn enter(alloc: Global, fitting: &FittingRule) -> Result<Entered, RouteFault>
+    ensures err { IfErr result (IsFaultOf (parts_of fitting.now)) }
+    ensures rows { IfOk result (λ _. let g = parts_of fitting.now in
         All (λ row. row_fault g.grid g.vcs g.classes row ≡ None) (table_rows_of g.rule)) }
-    ensures all { IfOk result (AreAll routing.now.map.now.sizes) }
-    ensures entered { IfOk result (λ e. let f = routing.now.map.now.sizes in
-        IsEntered (parts_of routing.now) (routes_in f (sets_in f e))) }
+    ensures all { IfOk result (AreAll fitting.now.map.now.sizes) }
+    ensures entered { IfOk result (λ e. let f = fitting.now.map.now.sizes in
+        IsEntered (parts_of fitting.now) (routes_in f (sets_in f e))) }
 {
-    let sizes = &routing.map.sizes;
-    let Rule::Rows(rows) = routing.rule else {
+    let sizes = &fitting.map.sizes;
+    let Rule::Rows(rows) = fitting.rule else {
         let mut sets = vec![in alloc; ChannelSet::empty(); sizes.pages()]?;
-        enter_named(routing, &mut sets);
+        enter_named(fitting, &mut sets);
         return Ok(Entered::OfPages(sets));
     };
     let mut sets = vec![in alloc; ChannelSet::empty(); sizes.pages() * sizes.width()]?;
-    if let Some(fault) = first_fault(routing.map, rows) {
+    if let Some(fault) = first_fault(fitting.map, rows) {
         return Err(fault);
     }
-    enter_rows(routing.map, rows, &mut sets);
+    enter_rows(fitting.map, rows, &mut sets);
     Ok(Entered::OfEntries(sets))
 }
 
 // Writes the sets of a rule by coordinates, one for each page.
-fn enter_named(routing: &Routing, sets: &mut [ChannelSet])
-    requires { let f = routing.now.map.now.sizes in length sets.old ≡ pages f.shape f.classes }
-    ensures { let f = routing.now.map.now.sizes in (b k : ℕ) → b < pages f.shape f.classes
+fn enter_named(fitting: &FittingRule, sets: &mut [ChannelSet])
+    requires { let f = fitting.now.map.now.sizes in length sets.old ≡ pages f.shape f.classes }
+    ensures { let f = fitting.now.map.now.sizes in (b k : ℕ) → b < pages f.shape f.classes
         → has_bit (slice_index sets.new b) k ≡ (nat_lt k (width f.shape f.vcs)
-        && is_led (parts_of routing.now) (page_class f.shape f.classes b)
+        && is_led (parts_of fitting.now) (page_class f.shape f.classes b)
         (page_router f.shape f.classes b) (page_dst f.shape b) (k / f.vcs) (k % f.vcs)) }
 {
     for page in 0..sets.len() {
-        let (class, router, dst) = routing.map.sizes.page_parts(page);
-        sets[page] = named_set(routing, class, router, dst);
+        let (class, router, dst) = fitting.map.sizes.page_parts(page);
+        sets[page] = named_set(fitting, class, router, dst);
     }
 }
 

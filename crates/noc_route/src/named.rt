@@ -9,8 +9,8 @@ ghost use Rattle.noc_route.specs.Relation.{is_led, takes_channel, dor_port, is_n
 ghost use Rattle.noc_route.specs.Routes.{width};
 ghost use Rattle.noc_steps.specs.Ways.{is_of_class};
 
+use crate::fitting::FittingRule;
 use crate::map::Map;
-use crate::routing::Routing;
 use crate::rule::Rule;
 use crate::sizes::{Sizes, escapes, resource_class};
 use noc_packet::ChannelSet;
@@ -19,26 +19,31 @@ use noc_topo::{Kind, LINKS};
 
 // The output channels by which a rule by coordinates leads a packet of this class, at this router
 // and bound for `dst`; none by a table.
-pub(crate) fn named_set(routing: &Routing, class: usize, router: usize, dst: usize) -> ChannelSet
-    requires class { class < routing.now.map.now.sizes.classes }
-    requires router { router < nodes routing.now.map.now.sizes.shape }
-    requires dst { dst < nodes routing.now.map.now.sizes.shape }
-    ensures { let f = routing.now.map.now.sizes in (k : ℕ)
+pub(crate) fn named_set(
+    fitting: &FittingRule,
+    class: usize,
+    router: usize,
+    dst: usize,
+) -> ChannelSet
+    requires class { class < fitting.now.map.now.sizes.classes }
+    requires router { router < nodes fitting.now.map.now.sizes.shape }
+    requires dst { dst < nodes fitting.now.map.now.sizes.shape }
+    ensures { let f = fitting.now.map.now.sizes in (k : ℕ)
         → has_bit result k ≡ (nat_lt k (width f.shape f.vcs)
-        && is_led (parts_of routing.now) class router dst (k / f.vcs) (k % f.vcs)) }
+        && is_led (parts_of fitting.now) class router dst (k / f.vcs) (k % f.vcs)) }
 {
-    let sizes = &routing.map.sizes;
+    let sizes = &fitting.map.sizes;
     if router == dst {
         return ejection(sizes, class);
     }
-    let way = way_of(routing.map, router, dst);
-    if let Some(port) = only_port(&way, routing.rule) {
-        return channels(&way, routing, class, port);
+    let way = way_of(fitting.map, router, dst);
+    if let Some(port) = only_port(&way, fitting.rule) {
+        return channels(&way, fitting, class, port);
     }
     let mut set = ChannelSet::empty();
     for port in 0..sizes.port_count {
-        if port < LINKS && takes_port(&way, routing, port) {
-            set = set.either(channels(&way, routing, class, port));
+        if port < LINKS && takes_port(&way, fitting, port) {
+            set = set.either(channels(&way, fitting, class, port));
         }
     }
     set
@@ -89,20 +94,20 @@ fn only_port(way: &Way, rule: &Rule) -> Option<usize>
 }
 
 // The channels of a class and of a port that a rule takes, along which it leads.
-fn channels(way: &Way, routing: &Routing, class: usize, port: usize) -> ChannelSet
-    requires class { class < routing.now.map.now.sizes.classes }
+fn channels(way: &Way, fitting: &FittingRule, class: usize, port: usize) -> ChannelSet
+    requires class { class < fitting.now.map.now.sizes.classes }
     requires port { port < LINKS }
-    requires exists { port < ports routing.now.map.now.sizes.shape }
-    ensures { let g = parts_of routing.now in (r t k : ℕ) → IsWay g.grid way.now r t
+    requires exists { port < ports fitting.now.map.now.sizes.shape }
+    ensures { let g = parts_of fitting.now in (r t k : ℕ) → IsWay g.grid way.now r t
         → has_bit result k ≡ (nat_eq (k / g.vcs) port
         && takes_channel g.grid g.vcs g.classes g.rule class (coordinates g.grid.radix r)
         (coordinates g.grid.radix t) port (k % g.vcs)) }
 {
-    let sizes = &routing.map.sizes;
+    let sizes = &fitting.map.sizes;
     let (first, end) = channels_of_class(sizes.vcs, sizes.classes, class);
     let mut set = ChannelSet::empty();
     for vc in first..end {
-        if takes_of_class(way, routing, port, vc) {
+        if takes_of_class(way, fitting, port, vc) {
             set = set.with(sizes.index(port, vc));
         }
     }
@@ -110,20 +115,20 @@ fn channels(way: &Way, routing: &Routing, class: usize, port: usize) -> ChannelS
 }
 
 // Whether a rule leads along this port, away from the destination.
-fn takes_port(way: &Way, routing: &Routing, port: usize) -> bool
+fn takes_port(way: &Way, fitting: &FittingRule, port: usize) -> bool
     requires port { port < LINKS }
     requires here { let xs = way.now.here in
-        EachIndex xs (λ i. slice_index xs i ≤ slice_index routing.now.map.now.last i) }
+        EachIndex xs (λ i. slice_index xs i ≤ slice_index fitting.now.map.now.last i) }
     requires there { let ts = way.now.there in
-        EachIndex ts (λ i. slice_index ts i ≤ slice_index routing.now.map.now.last i) }
-    ensures { let g = routing.now.map.now.sizes.shape in (r t : ℕ) → IsWay g way.now r t
-        → result ≡ takes_port g routing.now.rule.now (coordinates g.radix r)
+        EachIndex ts (λ i. slice_index ts i ≤ slice_index fitting.now.map.now.last i) }
+    ensures { let g = fitting.now.map.now.sizes.shape in (r t : ℕ) → IsWay g way.now r t
+        → result ≡ takes_port g fitting.now.rule.now (coordinates g.radix r)
         (coordinates g.radix t) port }
 {
-    match routing.rule {
+    match fitting.rule {
         Rule::Dor | Rule::Dateline => way.towards == Some(port),
-        Rule::WestFirst => is_nearer(way, routing.map, port) && way.is_west_first(port),
-        Rule::Adaptive => is_nearer(way, routing.map, port),
+        Rule::WestFirst => is_nearer(way, fitting.map, port) && way.is_west_first(port),
+        Rule::Adaptive => is_nearer(way, fitting.map, port),
         Rule::Rows(_) => false,
     }
 }
@@ -151,14 +156,14 @@ fn is_nearer(way: &Way, map: &Map, port: usize) -> bool
 }
 
 // Whether a rule takes a channel of a port that it takes, among those of the packet's class.
-fn takes_of_class(way: &Way, routing: &Routing, port: usize, vc: usize) -> bool
+fn takes_of_class(way: &Way, fitting: &FittingRule, port: usize, vc: usize) -> bool
     requires { port < LINKS }
-    ensures { let f = routing.now.map.now.sizes in (r t : ℕ) → IsWay f.shape way.now r t
-        → result ≡ takes_of_class f.shape f.vcs f.classes routing.now.rule.now
+    ensures { let f = fitting.now.map.now.sizes in (r t : ℕ) → IsWay f.shape way.now r t
+        → result ≡ takes_of_class f.shape f.vcs f.classes fitting.now.rule.now
         (coordinates f.shape.radix r) (coordinates f.shape.radix t) port vc }
 {
-    let sizes = &routing.map.sizes;
-    match routing.rule {
+    let sizes = &fitting.map.sizes;
+    match fitting.rule {
         Rule::Dor | Rule::WestFirst | Rule::Rows(_) => true,
         Rule::Dateline => {
             resource_class(sizes.vcs, sizes.classes, vc) == way.dateline_class(port)

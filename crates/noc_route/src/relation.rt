@@ -13,9 +13,9 @@ ghost use Rattle.noc_route.specs.Trimming.{routes_in};
 use crate::columns::Columns;
 use crate::enter::enter;
 use crate::entered::Entered;
+use crate::fitting::FittingRule;
 use crate::gather::{Departures, gather};
 use crate::map::Map;
-use crate::routing::Routing;
 use crate::rule::{RouteFault, Rule};
 use crate::sizes::Sizes;
 use noc_packet::ChannelSet;
@@ -63,12 +63,12 @@ impl Relation {
             return Err(RouteFault::WrongShape);
         };
         let map = Map::new(alloc, sizes)?;
-        let routing = Routing {
+        let fitting = FittingRule {
             map: &map,
             rule: &rule,
         };
         Ok(Relation {
-            columns: columns_of(alloc, &routing)?,
+            columns: columns_of(alloc, &fitting)?,
         })
     }
 
@@ -120,40 +120,40 @@ impl Relation {
 }
 
 // The columns of a rule's sets at the entries that packets reach, or the first fault.
-fn columns_of(alloc: Global, routing: &Routing) -> Result<Columns, RouteFault>
-    ensures sizes { IfOk result (λ c. c.sizes ≡ routing.now.map.now.sizes) }
-    ensures exact { let f = routing.now.map.now.sizes in
-        MatchResult result (λ c. IsRelationOfRule (parts_of routing.now) (routes_in f
-        (table_of f c.sets.items c.starts.items))) (IsFaultOf (parts_of routing.now)) }
+fn columns_of(alloc: Global, fitting: &FittingRule) -> Result<Columns, RouteFault>
+    ensures sizes { IfOk result (λ c. c.sizes ≡ fitting.now.map.now.sizes) }
+    ensures exact { let f = fitting.now.map.now.sizes in
+        MatchResult result (λ c. IsRelationOfRule (parts_of fitting.now) (routes_in f
+        (table_of f c.sets.items c.starts.items))) (IsFaultOf (parts_of fitting.now)) }
 {
-    let mut outs = vec![in alloc; ChannelSet::empty(); routing.map.sizes.pages()]?;
-    let entered = enter(alloc, routing)?;
-    reached_columns(alloc, routing, &entered, &mut outs)
+    let mut outs = vec![in alloc; ChannelSet::empty(); fitting.map.sizes.pages()]?;
+    let entered = enter(alloc, fitting)?;
+    reached_columns(alloc, fitting, &entered, &mut outs)
 }
 
 // The same by the rule's sets at all entries, where no row is bad. `outs` gets the channels by
 // which packets leave each router.
 fn reached_columns(
     alloc: Global,
-    routing: &Routing,
+    fitting: &FittingRule,
     entered: &Entered,
     outs: &mut [ChannelSet],
 ) -> Result<Columns, RouteFault>
-    requires rows { let g = parts_of routing.now in
+    requires rows { let g = parts_of fitting.now in
         All (λ row. row_fault g.grid g.vcs g.classes row ≡ None) (table_rows_of g.rule) }
-    requires all { AreAll routing.now.map.now.sizes entered.now }
-    requires entered { let f = routing.now.map.now.sizes in
-        IsEntered (parts_of routing.now) (routes_in f (sets_in f entered.now)) }
-    requires outs { let f = routing.now.map.now.sizes in
+    requires all { AreAll fitting.now.map.now.sizes entered.now }
+    requires entered { let f = fitting.now.map.now.sizes in
+        IsEntered (parts_of fitting.now) (routes_in f (sets_in f entered.now)) }
+    requires outs { let f = fitting.now.map.now.sizes in
         AreOuts (routes_in f (sets_in f entered.now)) outs.old }
-    ensures sizes { IfOk result (λ c. c.sizes ≡ routing.now.map.now.sizes) }
-    ensures exact { let f = routing.now.map.now.sizes in
-        MatchResult result (λ c. IsRelationOfRule (parts_of routing.now) (routes_in f
-        (table_of f c.sets.items c.starts.items))) (IsFaultOf (parts_of routing.now)) }
+    ensures sizes { IfOk result (λ c. c.sizes ≡ fitting.now.map.now.sizes) }
+    ensures exact { let f = fitting.now.map.now.sizes in
+        MatchResult result (λ c. IsRelationOfRule (parts_of fitting.now) (routes_in f
+        (table_of f c.sets.items c.starts.items))) (IsFaultOf (parts_of fitting.now)) }
 {
-    gather(routing.map, entered, outs);
+    gather(fitting.map, entered, outs);
     let leaving = Departures {
-        map: routing.map,
+        map: fitting.map,
         outs,
     };
     let (columns, stuck) = Columns::new(alloc, &leaving, entered)?;

@@ -65,16 +65,22 @@ impl RuleName {
     }
 }
 
-/// A packet of class `class`, bound for node `dst`, that came to `router` on channel `in_vc` of
-/// input port `in_port`, may go on by channel `out_vc` of output port `out_port`.
+/// A row of a routing table: where a packet stands, and by which channel it may go on.
 #[derive(Clone, Copy, Debug, PartialEq, Eq)]
 pub struct RouteRow {
+    /// The class of the packet.
     pub class: usize,
+    /// The router at which it stands.
     pub router: usize,
+    /// The input port by which it came.
     pub in_port: usize,
+    /// The virtual channel on which it came.
     pub in_vc: usize,
+    /// The node for which it is bound.
     pub dst: usize,
+    /// The output port by which it may go on.
     pub out_port: usize,
+    /// The virtual channel of that port.
     pub out_vc: usize,
 }
 
@@ -95,14 +101,18 @@ impl RouteRow {
     }
 }
 
-/// Where a packet can stand for its next channel: its class, the router, the input port and channel
-/// on which it came, and its destination.
+/// Where a packet can stand for its next channel.
 #[derive(Clone, Copy, Debug, PartialEq, Eq)]
 pub struct Entry {
+    /// The class of the packet.
     pub class: usize,
+    /// The router at which it stands.
     pub router: usize,
+    /// The input port by which it came.
     pub in_port: usize,
+    /// The virtual channel on which it came.
     pub in_vc: usize,
+    /// The node for which it is bound.
     pub dst: usize,
 }
 

@@ -2,7 +2,7 @@ use Rattle.std.proofs.Common.{◌≡◌, ◌+◌, ◌<◌, length, ap, arith, su
 use Rattle.noc_packet.specs.declared.packet.Packet.{Packet}
 use Rattle.noc_theory.specs.Network.{packet_at}
 use Rattle.noc_net.proofs.LimitLemmas.{packet-good, packet-here}
-use Rattle.noc_answers.specs.declared.arriving.Left.{Left}
+use Rattle.noc_answers.specs.declared.arriving.PacketsLeft.{PacketsLeft}
 use Rattle.noc_answers.proofs.ArrivingLemmas.{IsLeftBefore, left-all, left-more, left-none, left-same}
 use Rattle.noc_answers.proofs.arriving.left_for.Goals.{then-is_left, else-is_left}
 use Rattle.noc_answers.proofs.arriving.left_for.Goals as goal
@@ -15,7 +15,7 @@ loop-packet-preserved c =
     let u = c.args.network.now in
     let n = c.loop-packet.packet in
     let so_far = c.loop-packet.left in
-    let After : Left → Type 0 = λ (x : Left). IsLeftBefore u.net u.count c.args.node (n + 1) x.flits x.longest in
+    let After : PacketsLeft → Type 0 = λ (x : PacketsLeft). IsLeftBefore u.net u.count c.args.node (n + 1) x.flits x.longest in
     elim c.if-is_left.branch [
       | then-is_left w ↦
           let low : n < length u.net.packets = omega (arith, c.loop-packet-test.true, c.packets-packet-end.ensures.value) in

@@ -18,16 +18,16 @@ use Rattle.noc_route.proofs.enter.enter.Goals as goal
 
 pub returns-in_default : goal.returns-in_default
 returns-in_default c =
-    let f = c.args.routing.now.map.now.sizes in
-    let g = parts_of c.args.routing.now in
+    let f = c.args.fitting.now.map.now.sizes in
+    let g = parts_of c.args.fitting.now in
     let w = width f.shape f.vcs in
-    let none = rows_of-none c.args.routing.now.rule.now c.in_default.not-Rows in
+    let none = rows_of-none c.args.fitting.now.rule.now c.in_default.not-Rows in
     let table = λ (sets : List ℕ). tabulate (pages f.shape f.classes * w) (λ k. slice_index sets (k / w)) in
     let new = c.enter_named.new.sets in
     let P : List ℕ → Type 0 = λ sets. IsEntered g (routes_in f (table sets)) in
     record {
       err = tt;
-      rows = All-none (λ row. row_fault f.shape f.vcs f.classes row ≡ None) c.args.routing.now.rule.now none;
+      rows = All-none (λ row. row_fault f.shape f.vcs f.classes row ≡ None) c.args.fitting.now.rule.now none;
       all = c.in_ok-sets.ensures.len ∙ c.pages.ensures.value;
       entered = subst P (sym (take_at new _ c.in_ok-sets.sets.len (omega (arith, c.enter_named.auto.sets, c.deref_mut.ensures.len))))
           (IsEntered-from_pages g (routes_in f (table new))
@@ -39,16 +39,16 @@ returns-in_default c =
 
 pub returns-in-Some-clause-err : goal.returns-in-Some-clause-err
 returns-in-Some-clause-err c =
-    let f = c.args.routing.now.map.now.sizes in
+    let f = c.args.fitting.now.map.now.sizes in
     let P : List RouteRow → Type 0 = λ rows. IsFirstFault f.shape f.vcs f.classes rows c.in-Some.fault in
-    IsFaultOf-row (parts_of c.args.routing.now) c.in-Some.fault c.args.routing.now.right (subst P (c.deref.ensures.value ∙ sym (ap table_rows_of c.in-Rows.is)) c.in-Some.ensures.some)
+    IsFaultOf-row (parts_of c.args.fitting.now) c.in-Some.fault c.args.fitting.now.right (subst P (c.deref.ensures.value ∙ sym (ap table_rows_of c.in-Rows.is)) c.in-Some.ensures.some)
 
 pub returns-clause-entered : goal.returns-clause-entered
 returns-clause-entered c =
-    let f = c.args.routing.now.map.now.sizes in
+    let f = c.args.fitting.now.map.now.sizes in
     let new = c.enter_rows.new.sets in
     let P : Rule → List ℕ → Type 0 = λ rule sets. IsEntered (routing_in f rule) (routes_in f sets) in
-    subst (P c.args.routing.now.rule.now) (sym (take_at new _ c.in_ok-sets-2.sets.len (omega (arith, c.enter_rows.auto.sets, c.deref_mut-2.ensures.len))))
+    subst (P c.args.fitting.now.rule.now) (sym (take_at new _ c.in_ok-sets-2.sets.len (omega (arith, c.enter_rows.auto.sets, c.deref_mut-2.ensures.len))))
     (subst (λ rule. P rule new) (sym c.in-Rows.is)
     (IsEntered-from_pages (routing_in f (Rows c.in-Rows.rows)) (routes_in f new)
     (λ b i k m l. c.enter_rows.ensures b i k m l ∙ ap (λ rows. nat_lt k (width f.shape f.vcs) && has_row_at (routes_in f new) rows b i k) c.deref-2.ensures.value)))
@@ -56,10 +56,10 @@ returns-clause-entered c =
 pub returns-in_err-sets : goal.returns-in_err-sets
 returns-in_err-sets c =
     let p = err_from_is_err_and c.from_residual.result c.from_residual.ensures.1 in
-    rw (p.1, p.2) (record { err = c.args.routing.now.right; rows = tt; all = tt; entered = tt })
+    rw (p.1, p.2) (record { err = c.args.fitting.now.right; rows = tt; all = tt; entered = tt })
 
 pub returns-in_err-sets-2-clause-err : goal.returns-in_err-sets-2-clause-err
-returns-in_err-sets-2-clause-err c = let p = err_from_is_err_and c.from_residual-in_err-sets-2.result c.from_residual-in_err-sets-2.ensures.1 in rw (p.1, p.2) c.args.routing.now.right
+returns-in_err-sets-2-clause-err c = let p = err_from_is_err_and c.from_residual-in_err-sets-2.result c.from_residual-in_err-sets-2.ensures.1 in rw (p.1, p.2) c.args.fitting.now.right
 
 pub returns-in_err-sets-2-clause-rows : goal.returns-in_err-sets-2-clause-rows
 returns-in_err-sets-2-clause-rows c = let p = err_from_is_err_and c.from_residual-in_err-sets-2.result c.from_residual-in_err-sets-2.ensures.1 in rw p.1 tt
@@ -75,30 +75,30 @@ enter_named-requires c = c.deref_mut.ensures.len ∙ c.in_ok-sets.ensures.len �
 
 pub overflow_mul-pages : goal.overflow_mul-pages
 overflow_mul-pages c =
-    let f = c.args.routing.now.map.now.sizes in
+    let f = c.args.fitting.now.map.now.sizes in
     let size : c.pages-2.result * c.width.result ≡ pages f.shape f.classes * width f.shape f.vcs = ap (λ n. n * c.width.result) c.pages-2.ensures.value ∙ ap (λ w. pages f.shape f.classes * w) c.width.ensures.value in
     omega (arith, size, table-few f)
 
 pub returns-clause-all : goal.returns-clause-all
 returns-clause-all c =
-    let f = c.args.routing.now.map.now.sizes in
+    let f = c.args.fitting.now.map.now.sizes in
     c.in_ok-sets-2.ensures.len ∙ ap (λ n. n * c.width.result) c.pages-2.ensures.value ∙ ap (λ w. pages f.shape f.classes * w) c.width.ensures.value
 
 pub returns-clause-rows : goal.returns-clause-rows
 returns-clause-rows c =
-    let f = c.args.routing.now.map.now.sizes in
+    let f = c.args.fitting.now.map.now.sizes in
     let P : List RouteRow → Type 0 = λ rows. All (λ row. row_fault f.shape f.vcs f.classes row ≡ None) rows in
     subst P (c.deref.ensures.value ∙ sym (ap table_rows_of c.in-Rows.is)) c.in_default-first_fault.ensures.none
 
 pub enter_rows-requires-clause-blank : goal.enter_rows-requires-clause-blank
 enter_rows-requires-clause-blank c =
-    let f = c.args.routing.now.map.now.sizes in
+    let f = c.args.fitting.now.map.now.sizes in
     let size : c.pages-2.result * c.width.result ≡ pages f.shape f.classes * width f.shape f.vcs = ap (λ n. n * c.width.result) c.pages-2.ensures.value ∙ ap (λ w. pages f.shape f.classes * w) c.width.ensures.value in
     c.deref_mut-2.ensures.value ∙ c.in_ok-sets-2.ensures.items_if_clones_equal (λ y e. e)
     ∙ ap (λ n. replicate n c.empty-2.result) size ∙ ap (λ set. replicate (pages f.shape f.classes * width f.shape f.vcs) set) c.empty-2.ensures.bits
 
 pub enter_rows-requires-clause-rows : goal.enter_rows-requires-clause-rows
 enter_rows-requires-clause-rows c =
-    let f = c.args.routing.now.map.now.sizes in
+    let f = c.args.fitting.now.map.now.sizes in
     let P : List RouteRow → Type 0 = λ rows. All (λ row. is_real_row f.shape f.vcs f.classes row ≡ true) rows in
     subst P (c.deref.ensures.value ∙ sym c.deref-2.ensures.value) (λ k d l. row_fault-none f.shape f.vcs f.classes _ (c.in_default-first_fault.ensures.none k d l))

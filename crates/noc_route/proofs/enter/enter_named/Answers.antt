@@ -8,8 +8,8 @@ use Rattle.noc_route.proofs.enter.enter_named.Goals as goal
 
 pub loop-page-preserved : goal.loop-page-preserved
 loop-page-preserved c = λ b k l.
-    let f = c.args.routing.now.map.now.sizes in
-    let led = λ (m r t k : ℕ). nat_lt k (width f.shape f.vcs) && is_led (routing_in f c.args.routing.now.rule.now) m r t (k / f.vcs) (k % f.vcs) in
+    let f = c.args.fitting.now.map.now.sizes in
+    let led = λ (m r t k : ℕ). nat_lt k (width f.shape f.vcs) && is_led (routing_in f c.args.fitting.now.rule.now) m r t (k / f.vcs) (k % f.vcs) in
     let sets = c.loop-page.sets in
     let page = c.loop-page.page in
     let value = c.named_set.result in

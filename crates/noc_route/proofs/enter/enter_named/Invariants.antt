@@ -8,7 +8,7 @@ use Rattle.noc_route.proofs.enter.enter_named.Given as goal
 
 abbrev pub invariant-loop-page : goal.invariant-loop-page
 invariant-loop-page l =
-    let f = l.routing.map.now.sizes in
+    let f = l.fitting.map.now.sizes in
     (b k : ℕ) → b < l.page
     → has_bit (get_or l.sets b 0) k
-    ≡ (nat_lt k (width f.shape f.vcs) && is_led (routing_in f l.routing.rule.now) (page_class f.shape f.classes b) (page_router f.shape f.classes b) (page_dst f.shape b) (k / f.vcs) (k % f.vcs))
+    ≡ (nat_lt k (width f.shape f.vcs) && is_led (routing_in f l.fitting.rule.now) (page_class f.shape f.classes b) (page_router f.shape f.classes b) (page_dst f.shape b) (k / f.vcs) (k % f.vcs))

@@ -12,13 +12,13 @@ use Rattle.noc_route.proofs.named.channels.Goals.{then-takes_of_class, else-take
 
 pub loop-vc-preserved : goal.loop-vc-preserved
 loop-vc-preserved c = λ r t k way.
-    let f = c.args.routing.now.map.now.sizes in
+    let f = c.args.fitting.now.map.now.sizes in
     let vc = c.loop-vc.vc in
     let x = nat_eq (k % f.vcs) vc in
     let port = nat_eq (k / f.vcs) c.args.port in
-    let takes = λ (v : ℕ). takes_channel f.shape f.vcs f.classes c.args.routing.now.rule.now c.args.class (coordinates f.shape.radix r) (coordinates f.shape.radix t) c.args.port v in
+    let takes = λ (v : ℕ). takes_channel f.shape f.vcs f.classes c.args.fitting.now.rule.now c.args.class (coordinates f.shape.radix r) (coordinates f.shape.radix t) c.args.port v in
     let here : takes vc ≡ c.takes_of_class.result
-    = ap (λ b. b && takes_of_class f.shape f.vcs f.classes c.args.routing.now.rule.now (coordinates f.shape.radix r) (coordinates f.shape.radix t) c.args.port vc)
+    = ap (λ b. b && takes_of_class f.shape f.vcs f.classes c.args.fitting.now.rule.now (coordinates f.shape.radix r) (coordinates f.shape.radix t) c.args.port vc)
     (of_class-within f.vcs f.classes c.args.class vc (omega (arith, c.loop-vc.auto.vc, c.channels_of_class-first.ensures.first)) (omega (arith, c.loop-vc-test.true, c.channels_of_class-first.ensures.end)))
     ∙ sym (c.takes_of_class.ensures r t way) in
     let next = ap (λ b. port && (b && takes (k % f.vcs))) (sym (lt_next (k % f.vcs) vc)) in
@@ -37,10 +37,10 @@ loop-vc-preserved c = λ r t k way.
 
 pub returns : goal.returns
 returns c = λ r t k way.
-    let f = c.args.routing.now.map.now.sizes in
+    let f = c.args.fitting.now.map.now.sizes in
     c.loop-vc.invariant r t k way
     ∙ ap (λ b. nat_eq (k / f.vcs) c.args.port && b)
     (and-implied (nat_lt (k % f.vcs) c.loop-vc.vc) _
     (λ e.
-    let below = takes_channel-below f.shape f.vcs f.classes c.args.routing.now.rule.now c.args.class (coordinates f.shape.radix r) (coordinates f.shape.radix t) c.args.port (k % f.vcs) e in
+    let below = takes_channel-below f.shape f.vcs f.classes c.args.fitting.now.rule.now c.args.class (coordinates f.shape.radix r) (coordinates f.shape.radix t) c.args.port (k % f.vcs) e in
     lt-ltb (k % f.vcs) c.loop-vc.vc (omega (arith, below, c.loop-vc-test.false, c.channels_of_class-first.ensures.end))))

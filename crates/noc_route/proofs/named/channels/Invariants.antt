@@ -8,7 +8,7 @@ use Rattle.noc_route.proofs.named.channels.Given as goal
 
 abbrev pub invariant-loop-vc : goal.invariant-loop-vc
 invariant-loop-vc l =
-    let g = parts_of l.routing in
+    let g = parts_of l.fitting in
     (r t k : ℕ) → IsWay g.grid l.way r t
     → has_bit l.set k
     ≡ (nat_eq (k / g.vcs) l.port

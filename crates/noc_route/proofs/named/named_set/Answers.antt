@@ -16,29 +16,29 @@ use Rattle.noc_route.proofs.named.named_set.Goals.{then-port-lt-LINKS+then-takes
 
 pub returns-then-router-dst : goal.returns-then-router-dst
 returns-then-router-dst c = λ k.
-    let g = parts_of c.args.routing.now in
+    let g = parts_of c.args.fitting.now in
     let home = nat_eq (k / g.vcs) (local_port g.grid) in
     let class = is_of_class g.vcs g.classes c.args.class (k % g.vcs) in
     c.ejection.ensures k
     ∙ sym
     (ap (λ b. nat_lt k (width g.grid g.vcs) && b) (is_led-home g c.args.class c.args.router c.args.dst (k / g.vcs) (k % g.vcs) (eq-eqb c.args.router c.args.dst c.if-router-dst.true))
     ∙ and-implied (nat_lt k (width g.grid g.vcs)) (home && class)
-    (λ e. sym (port_test k (ports g.grid) g.vcs c.args.routing.now.map.now.sizes.some_vcs) ∙ lt-ltb (k / g.vcs) (ports g.grid) (omega (arith, eqb-true (k / g.vcs) (local_port g.grid) (and_parts home class e).0))))
+    (λ e. sym (port_test k (ports g.grid) g.vcs c.args.fitting.now.map.now.sizes.some_vcs) ∙ lt-ltb (k / g.vcs) (ports g.grid) (omega (arith, eqb-true (k / g.vcs) (local_port g.grid) (and_parts home class e).0))))
 
 -- what is known of the one port that the rule takes
 known : (o : Option ℕ) (port bound : ℕ) → IfSome o (λ p. p < bound) → o ≡ Some port → port < bound
 known o port bound h e = let P : Option ℕ → Type 0 = λ o. IfSome o (λ p. p < bound) in subst P e h
 
 pub channels-requires-clause-port : goal.channels-requires-clause-port
-channels-requires-clause-port c = let f = c.args.routing.now.map.now.sizes in omega (arith, known _ _ (local_port f.shape) c.way_of-way.ensures.link c.in-Some.ensures.towards, f.few_ports, f.all_ports)
+channels-requires-clause-port c = let f = c.args.fitting.now.map.now.sizes in omega (arith, known _ _ (local_port f.shape) c.way_of-way.ensures.link c.in-Some.ensures.towards, f.few_ports, f.all_ports)
 
 pub channels-requires-clause-exists : goal.channels-requires-clause-exists
-channels-requires-clause-exists c = let f = c.args.routing.now.map.now.sizes in omega (arith, known _ _ (local_port f.shape) c.way_of-way.ensures.link c.in-Some.ensures.towards)
+channels-requires-clause-exists c = let f = c.args.fitting.now.map.now.sizes in omega (arith, known _ _ (local_port f.shape) c.way_of-way.ensures.link c.in-Some.ensures.towards)
 
 pub returns-in-Some : goal.returns-in-Some
 returns-in-Some c = λ k.
-    let f = c.args.routing.now.map.now.sizes in
-    let g = parts_of c.args.routing.now in
+    let f = c.args.fitting.now.map.now.sizes in
+    let g = parts_of c.args.fitting.now in
     let port = c.in-Some.port in
     let q = k / g.vcs in
     let v = k % g.vcs in
@@ -60,9 +60,9 @@ returns-in-Some c = λ k.
 
 pub loop-port-init : goal.loop-port-init
 loop-port-init c = λ k.
-    let f = c.args.routing.now.map.now.sizes in
+    let f = c.args.fitting.now.map.now.sizes in
     let none = le-ltb (k / f.vcs) 0 (omega arith) in
-    c.empty-set.ensures.members k ∙ sym (ap (λ b. b && is_led (parts_of c.args.routing.now) c.args.class c.args.router c.args.dst (k / f.vcs) (k % f.vcs)) none)
+    c.empty-set.ensures.members k ∙ sym (ap (λ b. b && is_led (parts_of c.args.fitting.now) c.args.class c.args.router c.args.dst (k / f.vcs) (k % f.vcs)) none)
 
 pub takes_port-requires-clause-here : goal.takes_port-requires-clause-here
 takes_port-requires-clause-here c = c.way_of-way.ensures.here
@@ -72,8 +72,8 @@ takes_port-requires-clause-there c = c.way_of-way.ensures.there
 
 pub loop-port-preserved : goal.loop-port-preserved
 loop-port-preserved c = λ k.
-    let f = c.args.routing.now.map.now.sizes in
-    let g = parts_of c.args.routing.now in
+    let f = c.args.fitting.now.map.now.sizes in
+    let g = parts_of c.args.fitting.now in
     let port = c.loop-port.port in
     let x = nat_eq (k / g.vcs) port in
     let l = nat_lt (k / g.vcs) port in
@@ -94,14 +94,14 @@ loop-port-preserved c = λ k.
           (λ e. ap led (eqb-true (k / g.vcs) port e)
           ∙ (elim w.else-port-lt-LINKS.branch [
             | else-port-lt-LINKS-via-then-port-lt-LINKS+else-takes_port v ↦ away ∙ ap (λ b. b && takes) (sym (v.takes_port.ensures c.args.router c.args.dst c.way_of-way.ensures.way) ∙ v.if-takes_port.false)
-            | else-port-lt-LINKS-via-else-port-lt-LINKS v ↦ is_led-past g c.args.class c.args.router c.args.dst port (k % g.vcs) c.args.routing.now.right differ (omega (arith, v.if-port-lt-LINKS.false, f.few_ports, f.all_ports))
+            | else-port-lt-LINKS-via-else-port-lt-LINKS v ↦ is_led-past g c.args.class c.args.router c.args.dst port (k % g.vcs) c.args.fitting.now.right differ (omega (arith, v.if-port-lt-LINKS.false, f.few_ports, f.all_ports))
           ]))
           ∙ next
     ]
 
 pub returns : goal.returns
 returns c = λ k.
-    let f = c.args.routing.now.map.now.sizes in
+    let f = c.args.fitting.now.map.now.sizes in
     let end : c.loop-port.port ≡ ports f.shape = omega (arith, c.loop-port-test.false, c.loop-port.auto.port-end, f.all_ports) in
     c.loop-port.invariant k
-    ∙ ap (λ b. b && is_led (parts_of c.args.routing.now) c.args.class c.args.router c.args.dst (k / f.vcs) (k % f.vcs)) (ap (nat_lt (k / f.vcs)) end ∙ port_test k (ports f.shape) f.vcs f.some_vcs)
+    ∙ ap (λ b. b && is_led (parts_of c.args.fitting.now) c.args.class c.args.router c.args.dst (k / f.vcs) (k % f.vcs)) (ap (nat_lt (k / f.vcs)) end ∙ port_test k (ports f.shape) f.vcs f.some_vcs)

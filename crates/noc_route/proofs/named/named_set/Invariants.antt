@@ -7,5 +7,5 @@ use Rattle.noc_route.proofs.named.named_set.Given as goal
 
 abbrev pub invariant-loop-port : goal.invariant-loop-port
 invariant-loop-port l =
-    let g = parts_of l.routing in
+    let g = parts_of l.fitting in
     (k : ℕ) → has_bit l.set k ≡ (nat_lt (k / g.vcs) l.port && is_led g l.fn.class l.fn.router l.fn.dst (k / g.vcs) (k % g.vcs))

@@ -11,20 +11,20 @@ use Rattle.noc_route.proofs.named.takes_of_class.Goals as goal
 
 pub resource_class-requires : goal.resource_class-requires
 resource_class-requires c =
-    let f = c.args.routing.now.map.now.sizes in
-    half-some f.shape f.vcs f.classes (sym (ap (is_right f.shape f.vcs f.classes) c.in-Dateline.is) ∙ c.args.routing.now.right)
+    let f = c.args.fitting.now.map.now.sizes in
+    half-some f.shape f.vcs f.classes (sym (ap (is_right f.shape f.vcs f.classes) c.in-Dateline.is) ∙ c.args.fitting.now.right)
 
 pub nonzero_div-index : goal.nonzero_div-index
-nonzero_div-index c = c.args.routing.now.map.now.sizes.some_classes
+nonzero_div-index c = c.args.fitting.now.map.now.sizes.some_classes
 
 pub nonzero_rem-index : goal.nonzero_rem-index
 nonzero_rem-index c =
-    let f = c.args.routing.now.map.now.sizes in
-    adaptive-some f.shape f.vcs f.classes (sym (ap (is_right f.shape f.vcs f.classes) c.in-Adaptive.is) ∙ c.args.routing.now.right)
+    let f = c.args.fitting.now.map.now.sizes in
+    adaptive-some f.shape f.vcs f.classes (sym (ap (is_right f.shape f.vcs f.classes) c.in-Adaptive.is) ∙ c.args.fitting.now.right)
 
 pub returns-in-Dateline : goal.returns-in-Dateline
 returns-in-Dateline c = λ r t w.
-    let f = c.args.routing.now.map.now.sizes in
+    let f = c.args.fitting.now.map.now.sizes in
     let i = c.args.port / 2 in
     let xs = coordinates f.shape.radix r in
     let ts = coordinates f.shape.radix t in
@@ -38,27 +38,27 @@ returns-in-Dateline c = λ r t w.
 
 pub returns-then-index-escapes : goal.returns-then-index-escapes
 returns-then-index-escapes c = λ r t w.
-    let f = c.args.routing.now.map.now.sizes in
+    let f = c.args.fitting.now.map.now.sizes in
     le-leb c.escapes.result (c.args.vc % (f.vcs / f.classes)) c.if-index-escapes.true
-    ∙ sym (takes-adaptive f.shape f.vcs f.classes c.args.routing.now.rule.now (coordinates f.shape.radix r) (coordinates f.shape.radix t) c.args.port c.args.vc c.escapes.result c.in-Adaptive.is c.escapes.ensures.value c.if-index-escapes.true)
+    ∙ sym (takes-adaptive f.shape f.vcs f.classes c.args.fitting.now.rule.now (coordinates f.shape.radix r) (coordinates f.shape.radix t) c.args.port c.args.vc c.escapes.result c.in-Adaptive.is c.escapes.ensures.value c.if-index-escapes.true)
 
 pub returns-else-index-escapes : goal.returns-else-index-escapes
 returns-else-index-escapes c = λ r t w.
-    let f = c.args.routing.now.map.now.sizes in
+    let f = c.args.fitting.now.map.now.sizes in
     c.takes_escape.ensures r t c.args.vc w refl
-    ∙ sym (takes-escape f.shape f.vcs f.classes c.args.routing.now.rule.now (coordinates f.shape.radix r) (coordinates f.shape.radix t) c.args.port c.args.vc c.escapes.result c.in-Adaptive.is c.escapes.ensures.value c.if-index-escapes.false)
+    ∙ sym (takes-escape f.shape f.vcs f.classes c.args.fitting.now.rule.now (coordinates f.shape.radix r) (coordinates f.shape.radix t) c.args.port c.args.vc c.escapes.result c.in-Adaptive.is c.escapes.ensures.value c.if-index-escapes.false)
 
 pub returns-in-Dor : goal.returns-in-Dor
 returns-in-Dor c = λ r t w.
-    let f = c.args.routing.now.map.now.sizes in
-    takes-all f.shape f.vcs f.classes c.args.routing.now.rule.now (coordinates f.shape.radix r) (coordinates f.shape.radix t) c.args.port c.args.vc c.in-Dor.is
+    let f = c.args.fitting.now.map.now.sizes in
+    takes-all f.shape f.vcs f.classes c.args.fitting.now.rule.now (coordinates f.shape.radix r) (coordinates f.shape.radix t) c.args.port c.args.vc c.in-Dor.is
 
 pub returns-in-Dor-2 : goal.returns-in-Dor-2
 returns-in-Dor-2 c = λ r t w.
-    let f = c.args.routing.now.map.now.sizes in
-    takes-all f.shape f.vcs f.classes c.args.routing.now.rule.now (coordinates f.shape.radix r) (coordinates f.shape.radix t) c.args.port c.args.vc c.in-Dor.is
+    let f = c.args.fitting.now.map.now.sizes in
+    takes-all f.shape f.vcs f.classes c.args.fitting.now.rule.now (coordinates f.shape.radix r) (coordinates f.shape.radix t) c.args.port c.args.vc c.in-Dor.is
 
 pub returns-in-Dor-3 : goal.returns-in-Dor-3
 returns-in-Dor-3 c = λ r t w.
-    let f = c.args.routing.now.map.now.sizes in
-    takes-all f.shape f.vcs f.classes c.args.routing.now.rule.now (coordinates f.shape.radix r) (coordinates f.shape.radix t) c.args.port c.args.vc c.in-Dor.is
+    let f = c.args.fitting.now.map.now.sizes in
+    takes-all f.shape f.vcs f.classes c.args.fitting.now.rule.now (coordinates f.shape.radix r) (coordinates f.shape.radix t) c.args.port c.args.vc c.in-Dor.is

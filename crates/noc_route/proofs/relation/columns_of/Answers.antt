@@ -11,7 +11,7 @@ pub returns-in_err-outs-clause-sizes : goal.returns-in_err-outs-clause-sizes
 returns-in_err-outs-clause-sizes c = let p = err_from_is_err_and c.from_residual.result c.from_residual.ensures.1 in rw p.1 tt
 
 pub returns-in_err-outs-clause-exact : goal.returns-in_err-outs-clause-exact
-returns-in_err-outs-clause-exact c = let p = err_from_is_err_and c.from_residual.result c.from_residual.ensures.1 in rw (p.1, p.2) c.args.routing.now.right
+returns-in_err-outs-clause-exact c = let p = err_from_is_err_and c.from_residual.result c.from_residual.ensures.1 in rw (p.1, p.2) c.args.fitting.now.right
 
 pub returns-in_err-entered-clause-sizes : goal.returns-in_err-entered-clause-sizes
 returns-in_err-entered-clause-sizes c = let p = err_from_is_err_and c.from_residual-in_err-entered.result c.from_residual-in_err-entered.ensures.1 in rw p.1 tt
@@ -31,7 +31,7 @@ reached_columns-requires-clause-entered c = c.in_ok-entered.ensures.entered
 
 pub reached_columns-requires-clause-outs : goal.reached_columns-requires-clause-outs
 reached_columns-requires-clause-outs c =
-    let f = c.args.routing.now.map.now.sizes in
+    let f = c.args.fitting.now.map.now.sizes in
     let outs = c.deref_mut.result.now in
     let zeros : outs ≡ replicate c.pages.result 0 = c.deref_mut.ensures.value ∙ c.in_ok-outs.ensures.items_if_clones_equal (λ y e. e) ∙ ap (λ set. replicate c.pages.result set) c.empty.ensures.bits in
     outs-none (routes_in f (sets_in f c.in_ok-entered.entered)) outs (c.deref_mut.ensures.len ∙ c.in_ok-outs.ensures.len ∙ c.pages.ensures.value) (zeros-at outs c.pages.result zeros)

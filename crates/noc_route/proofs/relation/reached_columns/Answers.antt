@@ -23,8 +23,8 @@ made-of f rule sets outs right rows entered gathered =
 
 pub gather-requires-clause-nearer : goal.gather-requires-clause-nearer
 gather-requires-clause-nearer c =
-    let f = c.args.routing.now.map.now.sizes in
-    ComesNearer-entered (routing_in f c.args.routing.now.rule.now) (sets_in f c.args.entered.now) (record { grid = f.grid; right = c.args.routing.now.right; rows = c.requires.rows }) c.requires.entered
+    let f = c.args.fitting.now.map.now.sizes in
+    ComesNearer-entered (routing_in f c.args.fitting.now.rule.now) (sets_in f c.args.entered.now) (record { grid = f.grid; right = c.args.fitting.now.right; rows = c.requires.rows }) c.requires.entered
 
 pub invariant_of-leaving : goal.invariant_of-leaving
 invariant_of-leaving c = record { long = c.gather.ensures.lists.long }
@@ -33,28 +33,28 @@ pub returns-in_err-columns-clause-sizes : goal.returns-in_err-columns-clause-siz
 returns-in_err-columns-clause-sizes c = let p = err_from_is_err_and c.from_residual.result c.from_residual.ensures.1 in rw p.1 tt
 
 pub returns-in_err-columns-clause-exact : goal.returns-in_err-columns-clause-exact
-returns-in_err-columns-clause-exact c = let p = err_from_is_err_and c.from_residual.result c.from_residual.ensures.1 in rw (p.1, p.2) c.args.routing.now.right
+returns-in_err-columns-clause-exact c = let p = err_from_is_err_and c.from_residual.result c.from_residual.ensures.1 in rw (p.1, p.2) c.args.fitting.now.right
 
 pub returns-in-Some-clause-exact : goal.returns-in-Some-clause-exact
 returns-in-Some-clause-exact c =
-    let f = c.args.routing.now.map.now.sizes in
+    let f = c.args.fitting.now.map.now.sizes in
     let sets = sets_in f c.args.entered.now in
     let outs = c.gather.new.outs in
-    let made = made-of f c.args.routing.now.rule.now sets outs c.args.routing.now.right c.requires.rows c.requires.entered c.gather.ensures in
+    let made = made-of f c.args.fitting.now.rule.now sets outs c.args.fitting.now.right c.requires.rows c.requires.entered c.gather.ensures in
     let P : Option Entry → Type 0 = λ first. IsFirstStuck (routes_in f (left_in f sets outs)) outs (pages f.shape f.classes * width f.shape f.vcs) first in
-    IsFirstNoWay-stuck (routing_in f c.args.routing.now.rule.now) sets (left_in f sets outs) outs c.in-Some.entry made (subst P c.in-Some.is c.in_ok-columns.ensures.first)
+    IsFirstNoWay-stuck (routing_in f c.args.fitting.now.rule.now) sets (left_in f sets outs) outs c.in-Some.entry made (subst P c.in-Some.is c.in_ok-columns.ensures.first)
 
 pub returns-in-None-clause-sizes : goal.returns-in-None-clause-sizes
 returns-in-None-clause-sizes c = c.in_ok-columns.ensures.sizes
 
 pub returns-in-None-clause-exact : goal.returns-in-None-clause-exact
 returns-in-None-clause-exact c =
-    let f = c.args.routing.now.map.now.sizes in
-    let g = routing_in f c.args.routing.now.rule.now in
+    let f = c.args.fitting.now.map.now.sizes in
+    let g = routing_in f c.args.fitting.now.rule.now in
     let sets = sets_in f c.args.entered.now in
     let outs = c.gather.new.outs in
     let left = left_in f sets outs in
-    let made = made-of f c.args.routing.now.rule.now sets outs c.args.routing.now.right c.requires.rows c.requires.entered c.gather.ensures in
+    let made = made-of f c.args.fitting.now.rule.now sets outs c.args.fitting.now.right c.requires.rows c.requires.entered c.gather.ensures in
     let P : Option Entry → Type 0 = λ first. IsFirstStuck (routes_in f left) outs (pages f.shape f.classes * width f.shape f.vcs) first in
     let unstuck = IsUnstuck-none g left outs (pages f.shape f.classes * width f.shape f.vcs) refl (subst P c.in-None.is c.in_ok-columns.ensures.first) in
     subst (λ items. IsRelationOfRule g (routes_in f items)) (sym c.in_ok-columns.ensures.table)

@@ -10,8 +10,8 @@ use Rattle.noc_route.specs.declared.sizes.Sizes.{Sizes}
 use Rattle.noc_route.proofs.WayLemmas.{routing_in-sizes}
 use Rattle.noc_route.proofs.relation.Relation.build.Goals as goal
 
-pub invariant_of-routing : goal.invariant_of-routing
-invariant_of-routing c =
+pub invariant_of-fitting : goal.invariant_of-fitting
+invariant_of-fitting c =
     let s = c.in-Some.ensures.some in
     let P : Sizes → Type 0 = λ f. is_right f.shape f.vcs f.classes c.args.rule ≡ true in
     let Q : RelationParts → Type 0 = λ g. is_right g.grid g.vcs g.classes g.rule ≡ true in

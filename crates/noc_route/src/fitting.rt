@@ -8,7 +8,7 @@ use crate::rule::Rule;
 
 // A rule with the map of the network that it fits.
 #[derive(Drop)]
-pub(crate) struct Routing<'a> {
+pub(crate) struct FittingRule<'a> {
     pub(crate) map: &'a Map,
     pub(crate) rule: &'a Rule,
     ghost right: { is_right map.now.sizes.shape map.now.sizes.vcs map.now.sizes.classes rule.now
