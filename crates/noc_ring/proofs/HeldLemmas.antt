@@ -8,64 +8,64 @@ use Rattle.std.proofs.Math.ListN.{replicate}
 use Rattle.std.proofs.Math.Nat.{mod-eq_of_lt}
 use Rattle.noc_packet.specs.declared.limits.TheConstants.{INDICES}
 use Rattle.noc_packet.specs.declared.packet.Flit.{Flit}
-use Rattle.noc_ring.specs.declared.bank.Ends.{Ends}
+use Rattle.noc_ring.specs.declared.bank.Extent.{Extent}
 use Rattle.noc_ring.specs.Buffers.{Buffers}
-use Rattle.noc_ring.specs.Slots.{no_ends, slot_of, AreHeld}
+use Rattle.noc_ring.specs.Slots.{no_extent, slot_of, AreHeld}
 use Rattle.noc_ring.proofs.SlotLemmas.{apart, next_head, rings_apart}
 use Rattle.noc_ring.proofs.RingLemmas.{IsRing, slot, offset-below}
 
 -- rings without flits
-pub new-held : (filled : List Bool) (c n : ℕ) (ends : List Ends) → n ≤ INDICES → ends ≡ replicate INDICES no_ends → length filled ≡ n * c → AreHeld filled c n ends
-new-held filled c n ends few is all = record {
+pub new-held : (filled : List Bool) (c n : ℕ) (extents : List Extent) → n ≤ INDICES → extents ≡ replicate INDICES no_extent → length filled ≡ n * c → AreHeld filled c n extents
+new-held filled c n extents few is all = record {
   whole = all;
   held = λ r i u l.
-      let e : (get_or ends r no_ends).len ≡ 0 = ap (λ (x : Ends). x.len) (ap (λ es. get_or es r no_ends) is ∙ get_or-replicate INDICES r no_ends no_ends (omega arith)) in
+      let e : (get_or extents r no_extent).len ≡ 0 = ap (λ (x : Extent). x.len) (ap (λ es. get_or es r no_extent) is ∙ get_or-replicate INDICES r no_extent no_extent (omega arith)) in
       absurd (omega arith);
 }
 
 -- the slot of the first flit of a ring
-pub front-held : {slots : List Flit} {c many : ℕ} {ends : List Ends} {v : Buffers} {r : ℕ} (filled : List Bool) → IsRing slots c many ends v r → AreHeld filled c many ends → 0 < (get_or ends r no_ends).len
-    → get_or filled (r * c + (get_or ends r no_ends).head) false ≡ true
-front-held {c} {ends} {r} filled ring held some =
-    let h : ℕ = (get_or ends r no_ends).head in
+pub front-held : {slots : List Flit} {c many : ℕ} {extents : List Extent} {v : Buffers} {r : ℕ} (filled : List Bool) → IsRing slots c many extents v r → AreHeld filled c many extents → 0 < (get_or extents r no_extent).len
+    → get_or filled (r * c + (get_or extents r no_extent).head) false ≡ true
+front-held {c} {extents} {r} filled ring held some =
+    let h : ℕ = (get_or extents r no_extent).head in
     let z : h ≡ (h + 0) % c = sym (ap (λ k. k % c) (let y : h + 0 ≡ h = omega arith in y) ∙ mod-eq_of_lt ring.head_below) in
     ap (λ k. get_or filled (r * c + k) false) z ∙ held.held r 0 ring.inside some
 
 -- where ring r alone has changed
-held-set : (filled after : List Bool) (c many : ℕ) (ends : List Ends) (r : ℕ) (e : Ends) → AreHeld filled c many ends → r < length ends → length after ≡ length filled
+held-set : (filled after : List Bool) (c many : ℕ) (extents : List Extent) (r : ℕ) (e : Extent) → AreHeld filled c many extents → r < length extents → length after ≡ length filled
     → ((i : ℕ) → i < e.len → get_or after (slot_of (r * c) c e.head i) false ≡ true)
     → ((q p : ℕ) → q ≢ r → p < c → get_or after (q * c + p) false ≡ get_or filled (q * c + p) false)
-    → 0 < c → AreHeld after c many (set ends r e)
-held-set filled after c many ends r e held l same_length here others some = record { whole = same_length ∙ held.whole; held = λ q i u. at q i u (cases_eq q r) }
+    → 0 < c → AreHeld after c many (set extents r e)
+held-set filled after c many extents r e held l same_length here others some = record { whole = same_length ∙ held.whole; held = λ q i u. at q i u (cases_eq q r) }
   where
-    at : (q i : ℕ) → q < many → (q ≡ r) ⊎ (q ≡ r → ⊥) → i < (get_or (set ends r e) q no_ends).len → get_or after (slot_of (q * c) c (get_or (set ends r e) q no_ends).head i) false ≡ true
+    at : (q i : ℕ) → q < many → (q ≡ r) ⊎ (q ≡ r → ⊥) → i < (get_or (set extents r e) q no_extent).len → get_or after (slot_of (q * c) c (get_or (set extents r e) q no_extent).head i) false ≡ true
     at q i u (inl same) v =
-        let ours : get_or (set ends r e) q no_ends ≡ e = ap (λ k. get_or (set ends r e) k no_ends) same ∙ get_or-set_same ends r e no_ends l in
-        let n : (get_or (set ends r e) q no_ends).len ≡ e.len = ap (λ (x : Ends). x.len) ours in
-        ap (λ (x : Ends). get_or after (slot_of (q * c) c x.head i) false) ours
+        let ours : get_or (set extents r e) q no_extent ≡ e = ap (λ k. get_or (set extents r e) k no_extent) same ∙ get_or-set_same extents r e no_extent l in
+        let n : (get_or (set extents r e) q no_extent).len ≡ e.len = ap (λ (x : Extent). x.len) ours in
+        ap (λ (x : Extent). get_or after (slot_of (q * c) c x.head i) false) ours
         ∙ ap (λ k. get_or after (slot_of (k * c) c e.head i) false) same
         ∙ here i (omega arith)
     at q i u (inr other) v =
-        let same : get_or (set ends r e) q no_ends ≡ get_or ends q no_ends = get_or-set_other ends r q e no_ends other in
-        let n : (get_or (set ends r e) q no_ends).len ≡ (get_or ends q no_ends).len = ap (λ (x : Ends). x.len) same in
-        ap (λ (x : Ends). get_or after (slot_of (q * c) c x.head i) false) same
-        ∙ others q (((get_or ends q no_ends).head + i) % c) other (mod_below ((get_or ends q no_ends).head + i) c some)
+        let same : get_or (set extents r e) q no_extent ≡ get_or extents q no_extent = get_or-set_other extents r q e no_extent other in
+        let n : (get_or (set extents r e) q no_extent).len ≡ (get_or extents q no_extent).len = ap (λ (x : Extent). x.len) same in
+        ap (λ (x : Extent). get_or after (slot_of (q * c) c x.head i) false) same
+        ∙ others q (((get_or extents q no_extent).head + i) % c) other (mod_below ((get_or extents q no_extent).head + i) c some)
         ∙ held.held q i u (omega arith)
 
-pub push-held : {slots : List Flit} {c many : ℕ} {ends : List Ends} {v : Buffers} {r : ℕ} (filled : List Bool) → IsRing slots c many ends v r → AreHeld filled c many ends
-    → (p : ℕ) → (get_or ends r no_ends).len < c → p ≡ ((get_or ends r no_ends).head + (get_or ends r no_ends).len) % c
-    → AreHeld (set filled (r * c + p) true) c many (set ends r (record { head = (get_or ends r no_ends).head; len = (get_or ends r no_ends).len + 1 }))
-push-held {slots} {c} {many} {ends} {v} {r} filled ring held p room place =
-    held-set filled (set filled (r * c + p) true) c many ends r (record { head = h; len = n + 1 }) held (omega (arith, ring.listed, ring.is_bank.table)) (length-set filled (r * c + p) true)
+pub push-held : {slots : List Flit} {c many : ℕ} {extents : List Extent} {v : Buffers} {r : ℕ} (filled : List Bool) → IsRing slots c many extents v r → AreHeld filled c many extents
+    → (p : ℕ) → (get_or extents r no_extent).len < c → p ≡ ((get_or extents r no_extent).head + (get_or extents r no_extent).len) % c
+    → AreHeld (set filled (r * c + p) true) c many (set extents r (record { head = (get_or extents r no_extent).head; len = (get_or extents r no_extent).len + 1 }))
+push-held {slots} {c} {many} {extents} {v} {r} filled ring held p room place =
+    held-set filled (set filled (r * c + p) true) c many extents r (record { head = h; len = n + 1 }) held (omega (arith, ring.listed, ring.is_bank.table)) (length-set filled (r * c + p) true)
     (λ i l. at i (cases_eq (r * c + (h + i) % c) (r * c + p)) l)
     (λ q s other low. get_or-set_other filled (r * c + p) (q * c + s) true false (rings_apart q r c s p other low below))
     ring.is_bank.some
   where
     h : ℕ
-    h = (get_or ends r no_ends).head
+    h = (get_or extents r no_extent).head
 
     n : ℕ
-    n = (get_or ends r no_ends).len
+    n = (get_or extents r no_extent).len
 
     below : p < c
     below = offset-below ring p (h + n) place
@@ -78,11 +78,11 @@ push-held {slots} {c} {many} {ends} {v} {r} filled ring held p room place =
     at i (inl same) l = ap (λ k. get_or (set filled (r * c + p) true) k false) same ∙ get_or-set_same filled (r * c + p) true false (omega (arith, slot ring p below, held.whole, ring.is_bank.whole))
     at i (inr other) l = get_or-set_other filled (r * c + p) (r * c + (h + i) % c) true false other ∙ held.held r i ring.inside (earlier i l (cases_eq i n) other)
 
-pub pop-held : {slots : List Flit} {c many : ℕ} {ends : List Ends} {v : Buffers} {r : ℕ} (filled : List Bool) → IsRing slots c many ends v r → AreHeld filled c many ends
-    → (p : ℕ) → 0 < (get_or ends r no_ends).len → p ≡ ((get_or ends r no_ends).head + 1) % c
-    → AreHeld (set filled (r * c + (get_or ends r no_ends).head) false) c many (set ends r (record { head = p; len = (get_or ends r no_ends).len - 1 }))
-pop-held {slots} {c} {many} {ends} {v} {r} filled ring held p some place =
-    held-set filled (set filled (r * c + h) false) c many ends r (record { head = p; len = n - 1 }) held (omega (arith, ring.listed, ring.is_bank.table)) (length-set filled (r * c + h) false)
+pub pop-held : {slots : List Flit} {c many : ℕ} {extents : List Extent} {v : Buffers} {r : ℕ} (filled : List Bool) → IsRing slots c many extents v r → AreHeld filled c many extents
+    → (p : ℕ) → 0 < (get_or extents r no_extent).len → p ≡ ((get_or extents r no_extent).head + 1) % c
+    → AreHeld (set filled (r * c + (get_or extents r no_extent).head) false) c many (set extents r (record { head = p; len = (get_or extents r no_extent).len - 1 }))
+pop-held {slots} {c} {many} {extents} {v} {r} filled ring held p some place =
+    held-set filled (set filled (r * c + h) false) c many extents r (record { head = p; len = n - 1 }) held (omega (arith, ring.listed, ring.is_bank.table)) (length-set filled (r * c + h) false)
     (λ i l.
     let shift : (p + i) % c ≡ (h + (i + 1)) % c = ap (λ k. (k + i) % c) place ∙ next_head h c i ring.head_below (omega (arith, ring.len_within)) in
     ap (λ k. get_or (set filled (r * c + h) false) (r * c + k) false) shift
@@ -92,10 +92,10 @@ pop-held {slots} {c} {many} {ends} {v} {r} filled ring held p some place =
     ring.is_bank.some
   where
     h : ℕ
-    h = (get_or ends r no_ends).head
+    h = (get_or extents r no_extent).head
 
     n : ℕ
-    n = (get_or ends r no_ends).len
+    n = (get_or extents r no_extent).len
 
     later : (i : ℕ) → i < n - 1 → r * c + (h + (i + 1)) % c ≢ r * c + h
     later i l same =

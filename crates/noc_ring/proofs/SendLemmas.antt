@@ -18,7 +18,7 @@ use Rattle.core.specs.contracts.slots.Lease as Lease
 use Rattle.std.proofs.Crossing.{frees}
 use Rattle.std.specs.contracts.alloc.Global as Global
 use Rattle.noc_packet.specs.contracts.packet.Flit as Flit
-use Rattle.noc_ring.specs.contracts.store.Block as Block
+use Rattle.noc_ring.specs.contracts.store.SlotBlock as SlotBlock
 use denote.Struct.Declared.{shape as shape-of}
 
 pub quiet : {D X : Type 0} (to : D → X) (e : Exit X) → Quiet e → Quiet (hidden (under to e))
@@ -77,8 +77,8 @@ flit_send = search sendable depth 20
 flit_sync : IsSync Flit.the_row
 flit_sync = search sendable depth 20
 
-pub Block-send : IsSend Block.the_field.row
-Block-send = struct_send (shape-of Block.the_type) (Slots-send Flit.the_row flit_send, (Lease-send Flit.the_row Global.the_row _ frees, (search sendable depth 20, tt)))
+pub SlotBlock-send : IsSend SlotBlock.the_field.row
+SlotBlock-send = struct_send (shape-of SlotBlock.the_type) (Slots-send Flit.the_row flit_send, (Lease-send Flit.the_row Global.the_row _ frees, (search sendable depth 20, tt)))
 
-pub Block-sync : IsSync Block.the_field.row
-Block-sync = struct_sync (shape-of Block.the_type) (Slots-sync Flit.the_row flit_sync, (Lease-sync Flit.the_row Global.the_row _ frees, (search sendable depth 20, tt)))
+pub SlotBlock-sync : IsSync SlotBlock.the_field.row
+SlotBlock-sync = struct_sync (shape-of SlotBlock.the_type) (Slots-sync Flit.the_row flit_sync, (Lease-sync Flit.the_row Global.the_row _ frees, (search sendable depth 20, tt)))

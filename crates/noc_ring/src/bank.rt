@@ -14,7 +14,7 @@ use std::marker::Model;
 
 // Where a ring begins in its slots, and how many flits it has.
 #[derive(Clone, Copy)]
-struct Ends {
+struct Extent {
     head: u8,
     len: u8,
 }
@@ -23,7 +23,7 @@ struct Ends {
 #[derive(Drop)]
 pub struct Bank {
     store: Store,
-    ends: [Ends; INDICES],
+    extents: [Extent; INDICES],
     rings: usize,
     capacity: usize,
 }
@@ -36,10 +36,10 @@ impl Model for Bank {
     ghost use Rattle.noc_ring.specs.Slots.{rings_of, IsBank, AreHeld};
 
     ghost view = { λ b. record
-        { rings = rings_of b.store.flits b.capacity b.rings b.ends; capacity = b.capacity } };
+        { rings = rings_of b.store.flits b.capacity b.rings b.extents; capacity = b.capacity } };
 
-    ghost invariant = { λ b. IsBank b.store.flits b.capacity b.rings b.ends
-        × AreHeld b.store.filled b.capacity b.rings b.ends };
+    ghost invariant = { λ b. IsBank b.store.flits b.capacity b.rings b.extents
+        × AreHeld b.store.filled b.capacity b.rings b.extents };
 }
 
 // The offset in a ring, for an offset that may be past the ring's end once.
@@ -66,7 +66,7 @@ impl Bank {
     {
         Ok(Bank {
             store: Store::new(alloc, rings * capacity)?,
-            ends: [Ends { head: 0, len: 0 }; INDICES],
+            extents: [Extent { head: 0, len: 0 }; INDICES],
             rings,
             capacity,
         })
@@ -78,8 +78,8 @@ impl Bank {
         ensures count { result ≡ length (buffer_at self.now ring) }
         ensures fits { result ≤ self.now.capacity }
     {
-        let ends = &self.ends;
-        ends[ring].len as usize
+        let extents = &self.extents;
+        extents[ring].len as usize
     }
 
     /// Whether the ring has no slot left.
@@ -87,7 +87,7 @@ impl Bank {
         requires { ring < length self.now.rings }
         ensures { result ≡ nat_le self.now.capacity (length (buffer_at self.now ring)) }
     {
-        self.capacity <= self.ends[ring].len as usize
+        self.capacity <= self.extents[ring].len as usize
     }
 
     /// The flit that `pop` would give, or None where the ring is empty.
@@ -96,11 +96,11 @@ impl Bank {
         ensures { result ≡ slice_get (buffer_at self.now ring) 0 }
     {
         let capacity = self.capacity;
-        let ends = self.ends[ring];
-        if ends.len == 0 {
+        let extent = self.extents[ring];
+        if extent.len == 0 {
             return None;
         }
-        Some(self.store.get(ring * capacity + ends.head as usize))
+        Some(self.store.get(ring * capacity + extent.head as usize))
     }
 
     /// Puts a flit behind those of the ring, which is not full.
@@ -110,12 +110,12 @@ impl Bank {
         ensures { self.new ≡ buffers_after_push self.old ring flit }
     {
         let capacity = self.capacity;
-        let ends = self.ends[ring];
-        let offset = wrapped(ends.head as usize + ends.len as usize, capacity);
+        let extent = self.extents[ring];
+        let offset = wrapped(extent.head as usize + extent.len as usize, capacity);
         self.store.put(ring * capacity + offset, flit);
-        self.ends[ring] = Ends {
-            head: ends.head,
-            len: ends.len + 1,
+        self.extents[ring] = Extent {
+            head: extent.head,
+            len: extent.len + 1,
         };
     }
 
@@ -127,11 +127,11 @@ impl Bank {
         ensures rest { self.new ≡ buffers_after_pop self.old ring }
     {
         let capacity = self.capacity;
-        let ends = self.ends[ring];
-        let flit = self.store.take(ring * capacity + ends.head as usize);
-        self.ends[ring] = Ends {
-            head: wrapped(ends.head as usize + 1, capacity) as u8,
-            len: ends.len - 1,
+        let extent = self.extents[ring];
+        let flit = self.store.take(ring * capacity + extent.head as usize);
+        self.extents[ring] = Extent {
+            head: wrapped(extent.head as usize + 1, capacity) as u8,
+            len: extent.len - 1,
         };
         flit
     }

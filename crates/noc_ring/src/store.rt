@@ -35,7 +35,7 @@ const MOST: usize = INDICES * MAX_BUFFER;
 static AS_MANY: [Flit; MOST] = [BLANK; MOST];
 
 // One block of memory for flits, and the right to free it.
-struct Block {
+struct SlotBlock {
     slots: Slots<Flit>,
     lease: Lease<Flit, Global>,
     alloc: Global,
@@ -46,7 +46,7 @@ struct Block {
 /// Slots for flits in one block of memory, each of which is empty or holds a flit.
 /// The drop frees the block.
 pub(crate) struct Store {
-    block: Block,
+    block: SlotBlock,
 }
 
 impl Model for Store {
@@ -72,7 +72,7 @@ unsafe impl Send for Store {}
 unsafe impl Sync for Store {}
 
 impl Store {
-    fn of(block: Block) -> Store
+    fn of(block: SlotBlock) -> Store
         ensures { (result.flits ≡ slots_items block.slots)
             × (result.filled ≡ slots_filled block.slots) }
     {
@@ -87,7 +87,7 @@ impl Store {
         // `unsafe`, since a value in a slot is forgotten when another is put there or the block
         // goes. A flit is plain data.
         let (slots, lease) = unsafe { reserve(&alloc, &AS_MANY[..count])? };
-        Ok(Store::of(Block {
+        Ok(Store::of(SlotBlock {
             slots,
             lease,
             alloc,
@@ -127,7 +127,7 @@ impl Store {
 impl Drop for Store {
     fn drop(self) {
         let Store { block } = self;
-        let Block {
+        let SlotBlock {
             slots,
             lease,
             alloc,

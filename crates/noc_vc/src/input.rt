@@ -112,20 +112,20 @@ impl InputChannel {
         }
     }
 
-    /// How far the channel is with its packet.
-    pub fn state(&self) -> InputState
-        ensures value { result ≡ self.now.phase }
-        ensures sound { IsInput self.now }
-    {
-        self.state
-    }
-
     /// The number of the packet whose head has landed, until its tail has been sent.
     pub fn packet(&self) -> Option<u32>
         ensures value { result ≡ self.now.packet }
         ensures sound { IsInput self.now }
     {
         self.packet
+    }
+
+    /// How far the channel is with its packet.
+    pub fn state(&self) -> InputState
+        ensures value { result ≡ self.now.phase }
+        ensures sound { IsInput self.now }
+    {
+        self.state
     }
 
     // Whether the flit is the one that this channel expects next.

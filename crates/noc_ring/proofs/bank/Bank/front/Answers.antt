@@ -12,8 +12,8 @@ bounds-self-inside-ring c = let ring = ring-known c.self.invariant.0 c.self.view
 pub offset_bounds-self-inside-ring : goal.offset_bounds-self-inside-ring
 offset_bounds-self-inside-ring c = let ring = ring-known c.self.invariant.0 c.self.view_is c.requires in omega (arith, ring.listed)
 
-pub returns-then-ends-eq0 : goal.returns-then-ends-eq0
-returns-then-ends-eq0 c =
+pub returns-then-extent-eq0 : goal.returns-then-extent-eq0
+returns-then-extent-eq0 c =
     let ring = ring-known c.self.invariant.0 c.self.view_is c.requires in
     sym (slice_get_past (buffer_at c.args.self.now c.args.ring) 0 (omega (arith, ring.count)))
 

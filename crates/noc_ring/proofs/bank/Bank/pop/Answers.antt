@@ -1,6 +1,6 @@
 use Rattle.std.proofs.Common.{ap, sym, ◌∙◌, ◌∷◌, arith}
 use Rattle.noc_ring.specs.Buffers.{Buffers, buffer_at}
-use Rattle.noc_ring.proofs.RingLemmas.{ring-known, slot, offset-below, set-ends_fits, popped-is, front-is, ring_at-popped}
+use Rattle.noc_ring.proofs.RingLemmas.{ring-known, slot, offset-below, set-extents_fits, popped-is, front-is, ring_at-popped}
 use Rattle.noc_ring.proofs.HeldLemmas.{front-held, pop-held}
 use Rattle.noc_ring.proofs.bank.Bank.pop.Goals as goal
 
@@ -48,7 +48,7 @@ pub invariant_of-self : goal.invariant_of-self
 invariant_of-self c =
     let ring = ring-known c.self.invariant.0 c.self.view_is c.requires.ring in
     rw (c.take-flit.ensures.flits) (rw (c.take-flit.ensures.filled) (
-      set-ends_fits _ _ _ _ _ _ c.self.invariant.0 ring.inside (offset-below ring _ _ c.wrapped.ensures) (omega (arith, ring.len_within)),
+      set-extents_fits _ _ _ _ _ _ c.self.invariant.0 ring.inside (offset-below ring _ _ c.wrapped.ensures) (omega (arith, ring.len_within)),
       pop-held c.self.inside.store.filled ring c.self.invariant.1 _ (omega (arith, ring.count, c.requires.some)) c.wrapped.ensures,
     ))
 

@@ -1,7 +1,7 @@
 -- A `&` to the slots is one to their block. Assumes `Logic`.
 use denote.SharingLaws.{nothing_shr_laws}
 use denote.Struct.Lending.{of_Lends, Lends-nothing}
-use Rattle.noc_ring.proofs.store.Block.TheLaws as block
+use Rattle.noc_ring.proofs.store.SlotBlock.TheLaws as block
 use Rattle.noc_ring.specs.contracts.store.Store as C
 use Rattle.noc_ring.proofs.store.Store.TheLaw.Statement.{statement}
 

@@ -18,8 +18,8 @@ use denote.Triple.Entry.{alive}
 use denote.Triple.Walked.{Stays, walk_of, stay_dropped, ends_at}
 use Rattle.core.proofs.alloc.Calls.{Goes-blank}
 use Rattle.std.specs.Mem.Slots.{slots_items, slots_filled}
-use Rattle.noc_ring.specs.contracts.store.Block.{the_row as Block, the_type as Fields}
-use Rattle.noc_ring.proofs.store.Block.TheLaws as block
+use Rattle.noc_ring.specs.contracts.store.SlotBlock.{the_row as SlotBlock, the_type as Fields}
+use Rattle.noc_ring.proofs.store.SlotBlock.TheLaws as block
 use Rattle.noc_ring.specs.contracts.store.Store as C
 use Rattle.noc_ring.specs.contracts.store.Store.of as f
 use Rattle.noc_ring.specs.declared.store.Store.TheInside.{Inside}
@@ -28,15 +28,15 @@ use Rattle.noc_ring.proofs.store.Store.of.Statement.{statement}
 use Rattle.noc_ring.proofs.store.Store.of.Code as code
 
 abbrev stayed : Stays f.ended.signature.params f.ended.kept
-stayed = (stay_dropped (plain (λ _. Block)) yes, tt)
+stayed = (stay_dropped (plain (λ _. SlotBlock)) yes, tt)
 
 pub of_spec : {M : Type 1} → statement M
 of_spec 𝓤 𝓛 𝓜 𝓡 wired =
     let c = f.clauses 𝓛 𝓜.mem 𝓡.returns in let W = walk_of 𝓛 f.ended stayed c in let 𝓣 = tables 𝓤 𝓛.H 𝓜 𝓡 𝓡.env in
-    proved 𝓛 f.ended stayed c 𝓜 𝓡 (Goes-blank 𝓛 0 (plain (λ _. Block)) yes (λ κs x f. tt), tt)
+    proved 𝓛 f.ended stayed c 𝓜 𝓡 (Goes-blank 𝓛 0 (plain (λ _. SlotBlock)) yes (λ κs x f. tt), tt)
     f.Key.name code.function (code.unfolded 𝓤 𝓛.H 𝓜 𝓡 wired)
     (λ κs. ((λ d. block.lowered d ∷ []), tt)) (λ κs. (block.lowers.val_is, tt)) (λ κs qs bounds a _ are.
-    let d : Block.Denot = a.0 in let v : Val = block.lowered d in let u : Val = vstruct (vcons v vnil) in
+    let d : SlotBlock.Denot = a.0 in let v : Val = block.lowered d in let u : Val = vstruct (vcons v vnil) in
     let typed = (block.the_field_laws.lawful 𝓛).typed (Fields.to d) (v ∷ []) are.0 in
     let inside : Inside = record { block = d } in let result : C.the_row.Denot = C.the_view inside in
     let made = (inner.the_field_laws.lawful 𝓛).typed inside (u ∷ []) (((v ∷ [], tt), (refl, (are.0, tt))), tt) in
@@ -44,7 +44,7 @@ of_spec 𝓤 𝓛 𝓜 𝓡 wired =
     let y : W.Ghost = ((κs, qs, bounds, a, (v ∷ [], tt)), tt) in
     qed 𝓛 ((raw (alive 𝓛 f.ended.signature κs qs) ⊛ ‵ (owns (types_at f.ended.signature.params κs) a y.0.4)) ∷ raw ((c κs a).requires tt) ∷ []) ∵
     split ! $ keep ! (1 ∷ 0 ∷ []) $ feq_i ! (List Val) (u ∷ []) (u ∷ []) refl $ fjoin ! $
-    fpack ! (Valss (Block ∷ [])) (λ vss. fsep (feq (List Val) (u ∷ []) (vstruct (of_list (vss.0 ++ [])) ∷ [])) (owns (Block ∷ []) (d, tt) vss)) (v ∷ [], tt) $
+    fpack ! (Valss (SlotBlock ∷ [])) (λ vss. fsep (feq (List Val) (u ∷ []) (vstruct (of_list (vss.0 ++ [])) ∷ [])) (owns (SlotBlock ∷ []) (d, tt) vss)) (v ∷ [], tt) $
     nothing ! $ move ! (1 ∷ 0 ∷ []) $ fjoin ! $ nothing ! $ move ! (1 ∷ 0 ∷ []) $ fjoin ! $
     fpack ! ((x : Inside) × ((C.the_view x ≡ result) × C.the_invariant x)) (λ x. fsep (C.TheInside.the_row.own_val x.0 (u ∷ [])) ftrue) (inside, (refl, tt)) $
     enter ! 𝓣.C 𝓣.Λ code.function (v ∷ []) (W.post y) $ alloc_all ! (λ l. pass_all ! refl (typed.0, tt) $
