@@ -1,11 +1,11 @@
 -- The cycles that are not added yet, and those that are.
 use Rattle.std.proofs.Common.{◌≡◌, ◌≢◌, ℕ, zero, suc, ◌+◌, ◌*◌, ◌/◌, ◌%◌, ◌^◌, ◌<◌, ◌≤◌, Bool, true, false, List, [], length, set, refl, ap, ap₂, sym, ◌∙◌, arith, add-one, add-zero, add_assoc, get_or-set_same, get_or-set_other}
-use Rattle.std.specs.Prelude.{slice_index_or, if◌then◌else◌}
+use Rattle.std.specs.Prelude.{slice_index_or}
 use Rattle.noc_packet.specs.Set.{has_bit}
 use Rattle.noc_packet.proofs.SetLemmas.{has_bit-zero}
 use Rattle.noc_topo.specs.Lists.{one_if}
 use Rattle.noc_columns.specs.Words.{word}
-use Rattle.noc_counts.specs.Counted.{Begins, HasAdded, HasBegun, HasCounted, HasNoted, added_in, noted_in, set_in}
+use Rattle.noc_counts.specs.Counted.{HasAdded, HasCounted, HasNoted, added_in, noted_in, set_in}
 use Rattle.noc_counts.specs.Low.{low_at, set_sum}
 use Rattle.noc_counts.specs.Tallies.{counted_at}
 use Rattle.noc_counts.specs.declared.count.Count.{Count}
@@ -59,62 +59,16 @@ one-few false = omega arith
 pub one-none : (w r : ℕ) → w ≡ 0 → one_if (has_bit w r) ≡ 0
 one-none w r is = ap (λ v. one_if (has_bit v r)) is ∙ ap one_if (has_bit-zero r)
 
--- rows that have no words
-pub set-zero : (sets : List (List ℕ)) (n j r : ℕ) → ((k : ℕ) → k < n → word j (slice_index_or sets k []) ≡ 0) → set_sum sets n j r ≡ 0
-set-zero sets zero j r none = set-none sets j r
-set-zero sets (suc n) j r none =
-    let rest = set-zero sets n j r (λ k l. none k (omega arith)) in
-    let next = set-next sets n j r in
-    let last = one-none _ r (none n (omega arith)) in
-    let e : n + 1 ≡ suc n = omega arith in
-    ap (λ m. set_sum sets m j r) (sym e) ∙ (let z : set_sum sets (n + 1) j r ≡ 0 = omega (arith, rest, next, last) in z)
-
-if-none : (b : Bool) → ◌≡◌ {A = ℕ} (if b then 0 else 0) 0
-if-none true = refl
-if-none false = refl
-
 pub noted-zero : (c : Count) (j r : ℕ) → noted_in c 0 j r ≡ 0
-noted-zero c j r = ap (λ n. set_sum c.recent n j r) (if-none c.busy) ∙ set-none c.recent j r
-
--- ---- it is looked whether there is something to note
-module _ (slot : ℕ) (row : List ℕ) (old : Count) where
-  pub begun-now : (new : Count) → (if old.busy then slot else 0) ≡ 0 → Begins slot row old new → HasBegun slot row old new
-  begun-now new first begins =
-      let before : (j r : ℕ) → noted_in old slot j r ≡ 0 = λ j r. ap (λ n. set_sum old.recent n j r) first ∙ set-none old.recent j r in
-      record { some = λ e j r. begins.some e j r ∙ sym (before j r); none = begins.none; no_more = λ e. before; rest = begins.rest }
-
-  pub begun-before : (if old.busy then slot else 0) ≢ 0 → HasBegun slot row old old
-  begun-before later = record {
-    some = λ e j r. ap (λ b. set_sum old.recent (if b then slot else 0) j r) (sym e);
-    none = λ e. absurd (later (ap (λ b. if b then slot else 0) e));
-    no_more = λ e. absurd (later (ap (λ b. if b then slot else 0) e));
-    rest = refl;
-  }
+noted-zero c j r = set-none c.recent j r
 
 -- ---- a row is noted
-module _ (slot : ℕ) (row : List ℕ) (old now : Count) (begun : HasBegun slot row old now) where
-  pub noted-some : (words : List ℕ) → now.busy ≡ true → slot < length now.recent → words ≡ row → HasNoted slot row old (record now { recent = set now.recent slot words })
-  noted-some words busy few is = record {
-    counts = λ j r l.
-        ap (λ b. set_sum (set now.recent slot words) (if b then slot + 1 else 0) j r) busy
-        ∙ set-with now.recent words slot j r few
-        ∙ ap₂ (λ a (w : List ℕ). a + one_if (has_bit (word j w) r)) (begun.some busy j r) is;
-    last = λ j l.
-        ap (λ b. word j (if b then slice_index_or (set now.recent slot words) slot [] else [])) busy
-        ∙ ap (word j) (get_or-set_same now.recent slot words [] few ∙ is);
-    rest = ap (λ (c : Count). record c { recent = set now.recent slot words }) begun.rest;
-  }
-
-  pub noted-none : now.busy ≡ false → HasNoted slot row old now
-  noted-none idle = record {
-    counts = λ j r l.
-        let after : noted_in now (slot + 1) j r ≡ 0 = ap (λ b. set_sum now.recent (if b then slot + 1 else 0) j r) idle ∙ set-none now.recent j r in
-        let before = begun.no_more idle j r in
-        let one = one-none _ r (begun.none idle j l) in
-        omega (arith, after, before, one);
-    last = λ j l. ap (λ b. word j (if b then set_in now slot else [])) idle ∙ sym (begun.none idle j l);
-    rest = begun.rest;
-  }
+pub noted-row : (slot : ℕ) (row words : List ℕ) (old : Count) → slot < length old.recent → words ≡ row → HasNoted slot row old (record old { recent = set old.recent slot words })
+noted-row slot row words old few is = record {
+  counts = λ j r l. set-with old.recent words slot j r few ∙ ap (λ (w : List ℕ). set_sum old.recent slot j r + one_if (has_bit (word j w) r)) is;
+  last = get_or-set_same old.recent slot words [] few ∙ is;
+  rest = refl;
+}
 
 -- ---- and so a cycle is counted
 module _ (cycles : ℕ) (row : List ℕ) (old now : Count) (noted : HasNoted (cycles % 16) row old now) where
@@ -132,7 +86,7 @@ module _ (cycles : ℕ) (row : List ℕ) (old now : Count) (noted : HasNoted (cy
         let next : (cycles + 1) % 16 ≡ cycles % 16 + 1 = omega arith in
         ap₂ (λ a b. a + b) (ap (λ n. added_in now n j r) same ∙ same-added (cycles / 16) j r) (ap (λ n. noted_in now n j r) next ∙ noted.counts j r l)
         ∙ sym (add_assoc (added_in old (cycles / 16) j r) (noted_in old (cycles % 16) j r) (one_if (has_bit (word j row) r)));
-    last = λ j l. ap (λ n. word j (if now.busy then set_in now n else [])) last-slot ∙ noted.last j l;
+    last = ap (λ n. set_in now n) last-slot ∙ noted.last;
   }
 
   -- and where they are, and are added
@@ -147,9 +101,7 @@ module _ (cycles : ℕ) (row : List ℕ) (old now : Count) (noted : HasNoted (cy
         (ap (λ n. noted_in new n j r) none ∙ noted-zero new j r)
         ∙ add-zero _
         ∙ sym (add_assoc (added_in old (cycles / 16) j r) (noted_in old (cycles % 16) j r) (one_if (has_bit (word j row) r)));
-    last = λ j l.
-        (λ x. word j (if added.busy x then slice_index_or (added.recent x) (last-slot x) [] else []))
-        ∙ noted.last j l;
+    last = (λ x. slice_index_or (added.recent x) (last-slot x) []) ∙ noted.last;
   }
 
 -- ---- sixteen cycles are added
@@ -166,7 +118,6 @@ module _ (times : ℕ) (c : Count) (low : Low (List ℕ)) (carry : List ℕ) (le
         let next : (times + 1) % 4 ≡ times % 4 + 1 = omega arith in
         joined (low_at low j r) (one_if (has_bit (word j carry) r)) (low_at c.low j r) (noted_in c 16 j r) (counted_at c.tally (times / 4) j r) (set_sum c.carried (times % 4) j r) _ _
         (carries j r few) (ap (λ n. counted_at c.tally n j r) same) (ap (λ n. set_sum (set c.carried (times % 4) carry) n j r) next ∙ carried-sum j r);
-    busy = refl;
     recent = refl;
   }
     where
@@ -187,7 +138,6 @@ module _ (times : ℕ) (c : Count) (low : Low (List ℕ)) (carry : List ℕ) (le
         (carries j r few) (ap (λ n. counted_at tally n j r) more ∙ adds (omega arith) j r few)
         (ap (λ n. set_sum (set c.carried (times % 4) carry) n j r) (sym four) ∙ carried-sum j r)
         (ap (λ n. set_sum (set c.carried (times % 4) carry) n j r) none ∙ set-none (set c.carried (times % 4) carry) j r);
-    busy = refl;
     recent = refl;
   }
     where

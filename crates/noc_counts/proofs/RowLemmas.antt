@@ -1,16 +1,11 @@
 -- The words of a group of four channels, verdict by verdict.
-use Rattle.std.proofs.Common.{◌≡◌, ◌≢◌, ◌⊎◌, ℕ, zero, suc, ◌+◌, ◌*◌, ◌/◌, ◌%◌, ◌<◌, ◌≤◌, false, List, [], refl, ap, sym, ◌∙◌, arith, bit_or, inl, inr}
-use Rattle.std.specs.Prelude.{◌&&◌, nat_eq, not}
+use Rattle.std.proofs.Common.{◌≡◌, ◌≢◌, ◌⊎◌, ℕ, zero, suc, ◌+◌, ◌*◌, ◌/◌, ◌%◌, ◌<◌, ◌≤◌, false, List, refl, ap, sym, ◌∙◌, arith, bit_or, inl, inr}
+use Rattle.std.specs.Prelude.{nat_eq, not}
 use Rattle.std.proofs.lemmas.Bool.{cases_eq, false≢true, ne_eqb}
 use Rattle.std.proofs.lemmas.Nat.{le_or_l, le_or_r}
-use Rattle.std.proofs.lemmas.List.{get_or-replicate}
-use Rattle.noc_packet.specs.Set.{has_bit}
-use Rattle.noc_packet.proofs.SetLemmas.{has_bit-zero}
-use Rattle.noc_sets.specs.Counts.{ByVerdict, nine_counts, no_counts}
-use Rattle.noc_sets.specs.Sets.{less}
-use Rattle.noc_sets.proofs.MemberLemmas.{less_members, same-word}
+use Rattle.noc_sets.specs.Counts.{ByVerdict}
 use Rattle.noc_columns.specs.Words.{word}
-use Rattle.noc_counts.specs.Rows.{by_lane, row_of, row_with, waiting_in}
+use Rattle.noc_counts.specs.Rows.{by_lane, row_of, waiting_in}
 
 pub nine-same : {a b c d e f g h i p q r s t u v w x : ℕ} → a ≡ p → b ≡ q → c ≡ r → d ≡ s → e ≡ t → f ≡ u → g ≡ v → h ≡ w → i ≡ x
     → ◌≡◌ {A = ByVerdict}
@@ -23,12 +18,6 @@ left-none a b e = let l : a ≤ bit_or a b = le_or_l a b in omega (arith, e, l)
 
 pub right-none : (a b : ℕ) → bit_or a b ≡ 0 → b ≡ 0
 right-none a b e = let l : b ≤ bit_or a b = le_or_r a b in omega (arith, e, l)
-
-less-zero : (a : ℕ) → less 0 a ≡ 0
-less-zero a = same-word _ 0 (λ k. less_members 0 a k ∙ ap (λ b. b && not (has_bit a k)) (has_bit-zero k) ∙ sym (has_bit-zero k))
-
-pub less-none : (a b : ℕ) → a ≡ 0 → less a b ≡ 0
-less-none a b e = ap (λ n. less n b) e ∙ less-zero b
 
 pub is-none : (x : ℕ) → not (nat_eq x 0) ≡ false → x ≡ 0
 is-none x e = at (cases_eq x 0)
@@ -54,12 +43,6 @@ lane-of told j = at (j % 4) (omega arith) (omega arith)
     at (suc (suc (suc zero))) few e = ap told (let i : 4 * (j / 4) + 3 ≡ j = omega (arith, e) in i)
     at (suc (suc (suc (suc l)))) few e = absurd (omega arith)
 
--- where nothing is told of any
-pub row-none : (a b c d : ByVerdict) → a ≡ no_counts → b ≡ no_counts → c ≡ no_counts → d ≡ no_counts
-    → (j : ℕ) → j < 36 → word j (row_with (nine_counts a) (nine_counts b) (nine_counts c) (nine_counts d)) ≡ 0
-row-none a b c d ea eb ec ed j few =
-    (λ x. word j (row_with (nine_counts (ea x)) (nine_counts (eb x)) (nine_counts (ec x)) (nine_counts (ed x)))) ∙ get_or-replicate 36 j 0 0 few
-
 -- the words of the three verdicts in which nothing happens
 pub lane-waiting : (row : List ℕ) (l : ℕ) → l < 4
     → by_lane (λ p. word p (waiting_in row)) l
@@ -69,6 +52,3 @@ lane-waiting row (suc zero) few = refl
 lane-waiting row (suc (suc zero)) few = refl
 lane-waiting row (suc (suc (suc zero))) few = refl
 lane-waiting row (suc (suc (suc (suc l)))) few = absurd (omega arith)
-
-pub none-waiting : (j : ℕ) → j < 36 → word j (waiting_in []) ≡ 0
-none-waiting j few = get_or-replicate 36 j 0 0 few

@@ -1,6 +1,6 @@
 -- How often four channels of a block had each verdict, place by place of a row: what was added of
 -- sixteen cycles at a time, and the cycles since then.
-use Rattle.std.specs.Prelude.{◌≡◌, ℕ, ◌+◌, ◌*◌, ◌/◌, ◌%◌, ◌^◌, ◌<◌, List, [], false, slice_index_or, true, if◌then◌else◌}
+use Rattle.std.specs.Prelude.{◌≡◌, ℕ, ◌+◌, ◌*◌, ◌/◌, ◌%◌, ◌^◌, ◌<◌, List, [], slice_index_or}
 use Rattle.noc_packet.specs.Set.{has_bit}
 use Rattle.noc_topo.specs.Lists.{one_if}
 use Rattle.noc_columns.specs.Words.{word}
@@ -23,7 +23,7 @@ added_in c times j r =
 
 -- what was noted since then, in so many cycles
 abbrev pub noted_in : Count → ℕ → ℕ → ℕ → ℕ
-noted_in c slots j r = set_sum c.recent (if c.busy then slots else 0) j r
+noted_in c slots j r = set_sum c.recent slots j r
 
 -- how often router r had the verdict at place j, where so many cycles were counted one by one
 abbrev pub count_in : Count → ℕ → ℕ → ℕ → ℕ
@@ -31,35 +31,20 @@ count_in c cycles j r = added_in c (cycles / SLOTS) j r + noted_in c (cycles % S
 
 -- the row of the last of these
 abbrev pub last_of : Count → ℕ → List ℕ
-last_of c cycles = if c.busy then set_in c ((cycles + 15) % SLOTS) else []
+last_of c cycles = set_in c ((cycles + 15) % SLOTS)
 
 -- ---- a cycle more
--- it was looked whether one of the words has a router, which had none in the cycles before
-pub record Begins (slot : ℕ) (row : List ℕ) (old new : Count) : Type 0 where
-  pub some : new.busy ≡ true → (j r : ℕ) → set_sum new.recent slot j r ≡ 0
-  pub none : new.busy ≡ false → (j : ℕ) → j < ROW → word j row ≡ 0
-  pub rest : new ≡ record old { busy = new.busy; recent = new.recent }
-
--- that was done, where none had in the cycles before
-pub record HasBegun (slot : ℕ) (row : List ℕ) (old new : Count) : Type 0 where
-  pub some : new.busy ≡ true → (j r : ℕ) → set_sum new.recent slot j r ≡ noted_in old slot j r
-  pub none : new.busy ≡ false → (j : ℕ) → j < ROW → word j row ≡ 0
-  pub no_more : new.busy ≡ false → (j r : ℕ) → noted_in old slot j r ≡ 0
-  pub rest : new ≡ record old { busy = new.busy; recent = new.recent }
-
 -- its row was noted
 pub record HasNoted (slot : ℕ) (row : List ℕ) (old new : Count) : Type 0 where
   pub counts : (j r : ℕ) → j < ROW
       → noted_in new (slot + 1) j r ≡ noted_in old slot j r + one_if (has_bit (word j row) r)
-  pub last : (j : ℕ) → j < ROW
-      → word j (if new.busy then set_in new slot else []) ≡ word j row
-  pub rest : new ≡ record old { busy = new.busy; recent = new.recent }
+  pub last : set_in new slot ≡ row
+  pub rest : new ≡ record old { recent = new.recent }
 
 -- the last sixteen cycles were added, where such had been added so many times
 pub record HasAdded (times : ℕ) (old new : Count) : Type 0 where
   pub counts : (j r : ℕ) → j < ROW → times + 1 < 2 ^ LEVELS
       → added_in new (times + 1) j r ≡ added_in old times j r + noted_in old SLOTS j r
-  pub busy : new.busy ≡ old.busy
   pub recent : new.recent ≡ old.recent
 
 -- it was counted, where so many were counted before
@@ -67,4 +52,4 @@ pub record HasCounted (cycles : ℕ) (row : List ℕ) (old new : Count) : Type 0
   pub counts : (j r : ℕ) → j < ROW → cycles + 1 < 2 ^ 32
       → count_in new (cycles + 1) j r
       ≡ count_in old cycles j r + one_if (has_bit (word j row) r)
-  pub last : (j : ℕ) → j < ROW → word j (last_of new (cycles + 1)) ≡ word j row
+  pub last : last_of new (cycles + 1) ≡ row

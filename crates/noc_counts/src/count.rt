@@ -1,15 +1,15 @@
 //! How often four channels of a block had each verdict.
 
-ghost use Rattle.std.specs.Prelude.{◌≡◌, ◌+◌, ◌*◌, ◌^◌, ◌<◌, ◌≤◌, ℕ, false, length, true, if◌then◌else◌};
+ghost use Rattle.std.specs.Prelude.{◌≡◌, ◌+◌, ◌*◌, ◌^◌, ◌<◌, ◌≤◌, ℕ, length};
 ghost use Rattle.noc_columns.specs.Prelude.{has_bit, one_if, word};
-ghost use Rattle.noc_counts.specs.Counted.{Begins, HasAdded, HasBegun, HasCounted, HasNoted, count_in, last_of};
+ghost use Rattle.noc_counts.specs.Counted.{HasAdded, HasNoted, count_in, last_of};
 ghost use Rattle.noc_counts.specs.Low.{low_at, set_sum};
 ghost use Rattle.noc_counts.specs.Rows.{row_of, waiting_in};
 ghost use Rattle.noc_counts.specs.Tallies.{counted_at};
 ghost use Rattle.noc_counts.specs.Told.{told_by};
 
 use crate::low::{Low, SLOTS};
-use crate::row::{GROUPS, ROW, Row, row_at, some_at, waiting_in};
+use crate::row::{GROUPS, ROW, Row, row_at, waiting_in};
 use crate::tally::{Cycles, Tally};
 use noc_columns::{ROUTERS, bit};
 use noc_cycles::{Block, Work};
@@ -17,9 +17,7 @@ use noc_cycles::{Block, Work};
 // How often each of four channels had each verdict.
 #[derive(Drop)]
 pub(crate) struct Count {
-    // Whether one of them had a verdict since the cycles that were added, or in the last of these.
-    busy: bool,
-    // Where one had, their words of each cycle since then, and of the last one.
+    // Their words of each cycle since those that were added, and of the last one.
     recent: [Row; SLOTS],
     // The lowest bits of how often they had it in those that were added.
     low: Low<Row>,
@@ -32,7 +30,6 @@ pub(crate) struct Count {
 impl Count {
     // Nothing, from which a count may be copied to where it stands on the heap.
     pub(crate) const NONE: Count = Count {
-        busy: false,
         recent: [[0; ROW]; SLOTS],
         low: Low::<Row>::NONE,
         carried: [[0; ROW]; 4],
@@ -47,73 +44,24 @@ impl Count {
         self.tally.clear();
     }
 
-    // Counts a cycle more of a group, where so many were counted one by one.
-    #[inline(always)]
-    pub(crate) fn count(&mut self, block: &Block, work: &Work, group: usize, cycles: u32)
-        requires { group < GROUPS }
-        ensures { HasCounted cycles (row_of (λ j. told_by (word j) block.now work.now) group)
-            self.old self.new }
-    {
-        let slot = (cycles % SLOTS as u32) as usize;
-        self.note(block, work, group, slot);
-        if slot + 1 == SLOTS {
-            self.add(cycles / SLOTS as u32);
-        }
-    }
-
     // Notes the verdicts of a cycle, which is this one of the next sixteen.
     #[inline(always)]
-    fn note(&mut self, block: &Block, work: &Work, group: usize, slot: usize)
+    pub(crate) fn note(&mut self, block: &Block, work: &Work, group: usize, slot: usize)
         requires group { group < GROUPS }
         requires slot { slot < SLOTS }
         ensures { HasNoted slot (row_of (λ j. told_by (word j) block.now work.now) group)
             self.old self.new }
     {
-        self.begin_if(block, work, group, slot);
-        if self.busy {
-            self.recent[slot] = row_at(block, work, group);
-        }
-    }
-
-    // Looks whether one of the channels has a verdict, if none had in the cycles before.
-    #[inline(always)]
-    fn begin_if(&mut self, block: &Block, work: &Work, group: usize, slot: usize)
-        requires group { group < GROUPS }
-        requires slot { slot < SLOTS }
-        ensures { HasBegun slot (row_of (λ j. told_by (word j) block.now work.now) group)
-            self.old self.new }
-    {
-        if slots_if(self.busy, slot) == 0 {
-            self.begin(block, work, group, slot);
-        }
-    }
-
-    // Looks whether one of the channels has a verdict. If so, none had in the cycles before.
-    #[inline(always)]
-    fn begin(&mut self, block: &Block, work: &Work, group: usize, slot: usize)
-        requires group { group < GROUPS }
-        requires slot { slot < SLOTS }
-        ensures { Begins slot (row_of (λ j. told_by (word j) block.now work.now) group)
-            self.old self.new }
-    {
-        self.busy = some_at(block, work, group, &mut self.recent[slot]);
-        if self.busy {
-            clear_rows(&mut self.recent, slot);
-        }
+        self.recent[slot] = row_at(block, work, group);
     }
 
     // The last sixteen cycles are added, where such were added so many times.
     #[inline(never)]
-    fn add(&mut self, times: u32)
+    pub(crate) fn add(&mut self, times: u32)
         ensures { HasAdded times self.old self.new }
     {
         let slot = (times % 4) as usize;
-        add_if(
-            self.busy,
-            &self.recent,
-            &mut self.low,
-            &mut self.carried[slot],
-        );
+        self.low.add(&self.recent, &mut self.carried[slot]);
         if slot == 3 {
             let [first, second, third, fourth] = &self.carried;
             let sets = Cycles {
@@ -134,11 +82,9 @@ impl Count {
             + times * one_if (has_bit (word j (waiting_in (last_of self.old cycles))) r) }
         ensures last { last_of self.new cycles ≡ last_of self.old cycles }
     {
-        if self.busy {
-            let slot = (cycles.wrapping_add(15) % SLOTS as u32) as usize;
-            let set = waiting_in(&self.recent[slot]);
-            repeat(&mut self.low, &mut self.tally, &set, times);
-        }
+        let slot = (cycles.wrapping_add(15) % SLOTS as u32) as usize;
+        let set = waiting_in(&self.recent[slot]);
+        repeat(&mut self.low, &mut self.tally, &set, times);
     }
 
     // How often a router has the word at a place, where so many cycles were counted one by one.
@@ -151,34 +97,9 @@ impl Count {
         let times = cycles / SLOTS as u32;
         let carried = total_of(&self.carried, (times % 4) as usize, place, router);
         let upper = self.tally.total(place, router, times / 4) + carried;
-        let slots = slots_if(self.busy, (cycles % SLOTS as u32) as usize);
+        let slots = (cycles % SLOTS as u32) as usize;
         let recent = total_of(&self.recent, slots, place, router);
         self.low.number(place, router) + recent + 16 * upper
-    }
-}
-
-// The sets of sixteen cycles are added to the lowest bits, if some are to be. It is written what is
-// carried.
-#[inline(always)]
-fn add_if(busy: bool, sets: &[Row; SLOTS], low: &mut Low<Row>, carry: &mut Row)
-    ensures { (j r : ℕ) → j < ROW
-        → low_at low.new j r + SLOTS * one_if (has_bit (word j carry.new) r)
-        ≡ low_at low.old j r + set_sum sets.now (if busy then SLOTS else 0) j r }
-{
-    if busy {
-        low.add(sets, carry);
-    } else {
-        *carry = [0; ROW];
-    }
-}
-
-// No words in the first so many cycles.
-fn clear_rows(sets: &mut [Row; SLOTS], count: usize)
-    requires { count ≤ SLOTS }
-    ensures { (j r : ℕ) → set_sum sets.new count j r ≡ 0 }
-{
-    for slot in 0..count {
-        sets[slot] = [0; ROW];
     }
 }
 
@@ -196,15 +117,6 @@ fn repeat(low: &mut Low<Row>, tally: &mut Tally, set: &Row, times: u32)
     if times >= 16 {
         tally.repeat(set, times / 16);
     }
-}
-
-// So many cycles, or none.
-#[inline(always)]
-fn slots_if(busy: bool, slots: usize) -> usize
-    ensures is { result ≡ (if busy then slots else 0) }
-    ensures few { result ≤ slots }
-{
-    if busy { slots } else { 0 }
 }
 
 // In how many of the first sets, so many, a router has a word.

@@ -3,12 +3,13 @@
 ghost use Rattle.std.specs.Prelude.{◌≡◌, ◌+◌, ◌*◌, ◌%◌, ◌^◌, ◌<◌, ◌≤◌, ℕ, IfOk, sum};
 ghost use Rattle.noc_sets.specs.Counts.{ByVerdict, RunOn, nine_counts, ten_counts, with_verdicts};
 ghost use Rattle.noc_columns.specs.Prelude.{IsWithin, Numbering, channels_of, word};
-ghost use Rattle.noc_counts.specs.Counted.{HasCounted, count_in};
+ghost use Rattle.noc_counts.specs.Counted.{HasAdded, HasCounted, HasNoted, count_in};
 ghost use Rattle.noc_counts.specs.Counts.{AreClear, AreSmall, HasRepeated, IsClear, counted_in, counts_at, last_at, numbers_of, of_group, word_counts};
 ghost use Rattle.noc_counts.specs.Rows.{row_of};
 ghost use Rattle.noc_counts.specs.Told.{told_at, told_by};
 
 use crate::count::Count;
+use crate::low::SLOTS;
 use crate::nine::Nine;
 use crate::row::{
     GRANTED, GROUPS, LOST_CHANNEL, LOST_INPUT, LOST_SWITCH, MOVED, NO_CREDIT, NO_FLIT,
@@ -146,8 +147,34 @@ fn count_all(frame: &Frame, block: &Block, work: &Work, cycles: u32, of: &mut [C
         → HasCounted cycles (row_of (λ j. told_by (word j) block.now work.now) g)
         (of_group of.old g) (of_group of.new g) }
 {
+    let slot = (cycles % SLOTS as u32) as usize;
+    note_all(frame, block, work, slot, of);
+    if slot + 1 == SLOTS {
+        add_all(frame, cycles / SLOTS as u32, of);
+    }
+}
+
+// Notes the verdicts of a cycle in each group, which is this one of the next sixteen.
+#[inline(always)]
+fn note_all(frame: &Frame, block: &Block, work: &Work, slot: usize, of: &mut [Count; GROUPS])
+    requires { slot < SLOTS }
+    ensures { (g : ℕ) → g < frame.now.groups
+        → HasNoted slot (row_of (λ j. told_by (word j) block.now work.now) g)
+        (of_group of.old g) (of_group of.new g) }
+{
     for group in 0..frame.groups {
-        of[group].count(block, work, group, cycles);
+        of[group].note(block, work, group, slot);
+    }
+}
+
+// The last sixteen cycles are added in each group, where such were added so many times.
+#[inline(never)]
+fn add_all(frame: &Frame, times: u32, of: &mut [Count; GROUPS])
+    ensures { (g : ℕ) → g < frame.now.groups
+        → HasAdded times (of_group of.old g) (of_group of.new g) }
+{
+    for group in 0..frame.groups {
+        of[group].add(times);
     }
 }
 

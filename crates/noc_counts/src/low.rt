@@ -1,11 +1,11 @@
 //! The lowest four bits of counts, to which the sets of sixteen cycles are added at once.
 
-ghost use Rattle.std.specs.Prelude.{◌≡◌, ◌≢◌, ◌+◌, ◌*◌, ◌%◌, ◌<◌, ◌≤◌, ℕ};
+ghost use Rattle.std.specs.Prelude.{◌≡◌, ◌≢◌, ◌+◌, ◌*◌, ◌%◌, ◌<◌, ◌≤◌, ℕ, bit_or, false};
 ghost use Rattle.noc_columns.specs.Prelude.{has_bit, one_if, word};
-ghost use Rattle.noc_counts.specs.Low.{low_at, low_by, low_in, set_sum};
+ghost use Rattle.noc_counts.specs.Low.{HasRaised, low_at, low_by, low_in, set_sum};
 
-use crate::row::{ROW, Row, put};
-use noc_columns::{ROUTERS, bit};
+use crate::row::{COUNTED, ROW, Row, put};
+use noc_columns::{GROUP, ROUTERS, bit};
 
 // How many cycles are added at once.
 pub(crate) const SLOTS: usize = 16;
@@ -45,7 +45,34 @@ impl Low<Row> {
             → low_at self.new j r + SLOTS * one_if (has_bit (word j carry.new) r)
             ≡ low_at self.old j r + set_sum sets.now SLOTS j r }
     {
-        for i in 0..ROW {
+        *carry = [0; ROW];
+        for verdict in 0..COUNTED {
+            self.add_if(sets, GROUP * verdict, carry);
+        }
+    }
+
+    // Adds those of the four words of a verdict, from this one on, where nothing is carried yet.
+    // (Often no router has had it in sixteen cycles. Then there is nothing to add.)
+    #[inline(always)]
+    fn add_if(&mut self, sets: &[Row; SLOTS], first: usize, carry: &mut Row)
+        requires first { first + GROUP ≤ ROW }
+        requires none { (j : ℕ) → first ≤ j → word j carry.old ≡ 0 }
+        ensures { HasRaised (set_sum sets.now SLOTS) first (first + GROUP) self.old self.new
+            carry.old carry.new }
+    {
+        if have_some(sets, first) {
+            self.add_from(sets, first, carry);
+        }
+    }
+
+    // Adds those of the four words of a verdict, from this one on.
+    #[inline(always)]
+    fn add_from(&mut self, sets: &[Row; SLOTS], first: usize, carry: &mut Row)
+        requires { first + GROUP ≤ ROW }
+        ensures { HasRaised (set_sum sets.now SLOTS) first (first + GROUP) self.old self.new
+            carry.old carry.new }
+    {
+        for i in first..first + GROUP {
             let added = with_sets(&self.at(i), sets, i);
             self.put(i, &added.low);
             put(carry, i, added.carry);
@@ -181,16 +208,34 @@ fn with_four(low: u64, high: u64, first: u64, second: u64, third: u64, fourth: u
         ≡ one_if (has_bit low r) + 2 * one_if (has_bit high r) + one_if (has_bit first r)
         + one_if (has_bit second r) + one_if (has_bit third r) + one_if (has_bit fourth r) }
 {
-    let with_first = low ^ first;
-    let over = (low & first) | (with_first & second);
-    let with_second = with_first ^ second;
-    let with_third = with_second ^ third;
-    let again = (with_second & third) | (with_third & fourth);
-    let with_over = high ^ over;
+    let lower = with_two(low, first, second);
+    let next = with_two(lower.low, third, fourth);
+    let upper = with_two(high, lower.carry, next.carry);
     Two {
-        low: with_third ^ fourth,
-        high: with_over ^ again,
-        carry: (high & over) | (with_over & again),
+        low: next.low,
+        high: upper.low,
+        carry: upper.carry,
+    }
+}
+
+// One bit, and what it carries.
+#[derive(Drop)]
+struct One {
+    low: u64,
+    carry: u64,
+}
+
+// One bit with two words that are added to it. (So the first of them is read once, as the
+// instruction that takes it from memory wants it.)
+#[inline(always)]
+fn with_two(low: u64, first: u64, second: u64) -> One
+    ensures { (r : ℕ) → one_if (has_bit result.low r) + 2 * one_if (has_bit result.carry r)
+        ≡ one_if (has_bit low r) + one_if (has_bit first r) + one_if (has_bit second r) }
+{
+    let with_first = low ^ first;
+    One {
+        low: with_first ^ second,
+        carry: low ^ (with_first & (low ^ second)),
     }
 }
 
@@ -224,4 +269,30 @@ fn where_odd(number: u32, set: u64) -> u64
     ensures { (r : ℕ) → one_if (has_bit result r) ≡ number % 2 * one_if (has_bit set r) }
 {
     if number % 2 == 1 { set } else { 0 }
+}
+
+// Whether one of four words, from this one on, has a router in one of sixteen cycles.
+#[inline(always)]
+fn have_some(sets: &[Row; SLOTS], first: usize) -> bool
+    requires { first + GROUP ≤ ROW }
+    ensures { result ≡ false → (j r : ℕ) → first ≤ j → j < first + GROUP
+        → set_sum sets.now SLOTS j r ≡ 0 }
+{
+    let mut some = [0; GROUP];
+    for slot in 0..SLOTS {
+        join_row(&mut some, &sets[slot], first);
+    }
+    (some[0] | some[1] | some[2] | some[3]) != 0
+}
+
+// Four words of a row, from this one on, are joined with these.
+#[inline(always)]
+fn join_row(some: &mut [u64; GROUP], row: &Row, first: usize)
+    requires { first + GROUP ≤ ROW }
+    ensures { (k : ℕ) → k < GROUP
+        → word k some.new ≡ bit_or (word k some.old) (word (first + k) row.now) }
+{
+    for k in 0..GROUP {
+        some[k] = some[k] | row[first + k];
+    }
 }

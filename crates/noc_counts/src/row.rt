@@ -1,18 +1,21 @@
 //! The words of a group of four channels, verdict by verdict.
 
-ghost use Rattle.std.specs.Prelude.{◌≡◌, ◌≢◌, ◌<◌, ℕ, false, slice_index};
+ghost use Rattle.std.specs.Prelude.{◌≡◌, ◌≢◌, ◌<◌, ℕ, slice_index};
 ghost use Rattle.noc_columns.specs.Prelude.{word};
 ghost use Rattle.noc_counts.specs.Rows.{row_of, waiting_in};
 ghost use Rattle.noc_counts.specs.Told.{told_by};
 
-use crate::verdicts::{some_word, words_at};
+use crate::verdicts::words_at;
 use noc_columns::GROUP;
 use noc_cycles::{Block, Work};
 
 // How many groups of channels there are room for.
 pub(crate) const GROUPS: usize = 18;
 
-// How many words a group has: of each verdict but Empty one for each of its channels.
+// How many verdicts are counted: all but Empty.
+pub(crate) const COUNTED: usize = 9;
+
+// How many words a group has: of each of these verdicts one for each of its channels.
 pub(crate) const ROW: usize = 36;
 
 // Where in a row the words of each verdict begin. (Those that follow from others stand first, so
@@ -53,25 +56,6 @@ pub(crate) fn row_at(block: &Block, work: &Work, group: usize) -> Row
         d[1], a[2], b[2], c[2], d[2], a[5], b[5], c[5], d[5], a[6], b[6], c[6], d[6], a[7], b[7],
         c[7], d[7], a[8], b[8], c[8], d[8],
     ]
-}
-
-// Whether one of the channels of a group had one of these verdicts in some router. (What tells that
-// of each is written to a row, so that the compiler takes four words at a time.)
-#[inline(always)]
-pub(crate) fn some_at(block: &Block, work: &Work, group: usize, row: &mut Row) -> bool
-    requires { group < GROUPS }
-    ensures { result ≡ false → (j : ℕ) → j < ROW
-        → word j (row_of (λ j. told_by (word j) block.now work.now) group) ≡ 0 }
-{
-    let first = some_word(block, work, GROUP * group);
-    let second = some_word(block, work, GROUP * group + 1);
-    let third = some_word(block, work, GROUP * group + 2);
-    let fourth = some_word(block, work, GROUP * group + 3);
-    row[0] = first;
-    row[1] = second;
-    row[2] = third;
-    row[3] = fourth;
-    (first | second | third | fourth) != 0
 }
 
 // The words of the three verdicts that channels have in which nothing happens.

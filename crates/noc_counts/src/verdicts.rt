@@ -1,7 +1,6 @@
 //! The verdicts of one channel.
 
 ghost use Rattle.std.specs.Prelude.{◌≡◌, ◌<◌, ℕ};
-ghost use Rattle.noc_sets.specs.Counts.{no_counts};
 ghost use Rattle.noc_columns.specs.Words.{word};
 ghost use Rattle.noc_counts.specs.Counts.{numbers_of};
 ghost use Rattle.noc_counts.specs.Told.{told_by};
@@ -32,19 +31,4 @@ pub(crate) fn words_at(block: &Block, work: &Work, index: usize) -> Nine
         lost_input: verdicts.lost_input,
         lost_switch: verdicts.lost_switch,
     }
-}
-
-// The routers in which a channel had one of these verdicts, with all that own an output channel or
-// wait for one.
-#[inline(always)]
-pub(crate) fn some_word(block: &Block, work: &Work, index: usize) -> u64
-    requires { index < WORDS }
-    ensures { result ≡ 0 → told_by (word index) block.now work.now ≡ no_counts }
-{
-    let verdicts = work.verdicts.at(index);
-    let asks = block.inputs.waiting[index] | block.grants.granted[index];
-    let heads = work.standing.heads[index] | work.lost[index];
-    let stays = verdicts.active | verdicts.no_credit | verdicts.lost_input;
-    let goes = verdicts.lost_switch | verdicts.moved;
-    asks | heads | stays | goes
 }

@@ -1,12 +1,8 @@
-use Rattle.std.proofs.Common.{arith}
-use Rattle.noc_counts.proofs.GroupLemmas.{done-next, done-none}
+use Rattle.noc_counts.proofs.CountLemmas.{counted-full, counted-next}
 use Rattle.noc_counts.proofs.counts.count_all.Goals as goal
 
-pub loop-group-init : goal.loop-group-init
-loop-group-init c = done-none _ _ c.told-of
+pub returns-then-slot-eq-SLOTS : goal.returns-then-slot-eq-SLOTS
+returns-then-slot-eq-SLOTS c = λ g l. counted-full c.args.cycles _ _ _ (c.note_all.ensures g l) _ c.if-slot-eq-SLOTS.true (c.add_all.ensures g l)
 
-pub loop-group-preserved : goal.loop-group-preserved
-loop-group-preserved c = done-next _ _ _ _ _ c.loop-group.invariant (omega arith) c.count.ensures
-
-pub returns : goal.returns
-returns c = λ g l. c.loop-group.invariant.done g (omega arith)
+pub returns-else-slot-eq-SLOTS : goal.returns-else-slot-eq-SLOTS
+returns-else-slot-eq-SLOTS c = λ g l. counted-next c.args.cycles _ _ _ (c.note_all.ensures g l) c.if-slot-eq-SLOTS.false

@@ -1,4 +1,4 @@
-use Rattle.std.proofs.Common.{◌≡◌, ℕ, ◌∙◌, ◌+◌, ◌%◌, ◌/◌, ◌<◌, ◌^◌, ap, arith}
+use Rattle.std.proofs.Common.{◌≡◌, ℕ, List, ◌∙◌, ◌+◌, ◌%◌, ◌/◌, ◌<◌, ◌^◌, ap, arith}
 use Rattle.noc_sets.specs.Counts.{ByVerdict, with_verdicts}
 use Rattle.noc_columns.specs.Words.{word}
 use Rattle.noc_counts.specs.Counted.{count_in, last_of}
@@ -30,5 +30,5 @@ returns-clause-last c = λ n r within fits.
     let inside = within i l in
     let group : j / 4 < c.args.frame.now.groups = omega (arith, inside) in
     ap (λ (m : ℕ). by_lane (λ p. word p (last_of (of_group c.count_all.new.of (j / 4)) m)) (j % 4)) e
-    ∙ lane-same _ _ (j % 4) (omega arith) (λ p few. (c.count_all.ensures (j / 4) group).last p few)
+    ∙ ap (λ (row : List ℕ). by_lane (λ p. word p row) (j % 4)) (c.count_all.ensures (j / 4) group).last
     ∙ lane-of (λ k. told_by (word k) c.args.block.now c.args.work.now) j)

@@ -1,6 +1,6 @@
-use Rattle.noc_counts.proofs.LowLemmas.{IsRaised}
-use Rattle.noc_counts.specs.Low.{set_sum}
+use Rattle.std.proofs.Common.{◌*◌, replicate}
+use Rattle.noc_counts.specs.Low.{HasRaised, set_sum}
 use Rattle.noc_counts.proofs.low.Low+Row.add.Given as goal
 
-abbrev pub invariant-loop-i : goal.invariant-loop-i
-invariant-loop-i l = IsRaised (λ j r. set_sum l.sets 16 j r) l.fn.self l.self l.carry l.i
+abbrev pub invariant-loop-verdict : goal.invariant-loop-verdict
+invariant-loop-verdict l = HasRaised (set_sum l.sets 16) 0 (4 * l.verdict) l.fn.self l.self (replicate 36 0) l.carry
