@@ -3,7 +3,7 @@
 ghost use Rattle.std.specs.Prelude.{◌≡◌, ◌*◌, ◌<◌, ◌≤◌, ℕ};
 ghost use Rattle.noc_columns.specs.Prelude.{word};
 
-use noc_columns::{GROUP, WORDS, Words};
+use noc_columns::{CHANNELS, GROUP, WORDS, Words};
 
 // So many groups of four words become those of another set.
 #[inline(always)]
@@ -16,16 +16,32 @@ pub(crate) fn copy(groups: usize, from: &Words, to: &mut Words)
     }
 }
 
-// No router is left in so many groups of four words of two sets. (They are cleared side by side,
-// since a loop for each would be a call.)
+// No router is left in the words of so many channels, of two sets.
 #[inline(always)]
-pub(crate) fn clear(groups: usize, first: &mut Words, second: &mut Words)
-    requires { GROUP * groups ≤ WORDS }
-    ensures first { (k : ℕ) → k < GROUP * groups → word k first.new ≡ 0 }
-    ensures second { (k : ℕ) → k < GROUP * groups → word k second.new ≡ 0 }
+pub(crate) fn clear(channels: usize, first: &mut Words, second: &mut Words)
+    requires { channels ≤ CHANNELS }
+    ensures first { (k : ℕ) → k < channels → word k first.new ≡ 0 }
+    ensures second { (k : ℕ) → k < channels → word k second.new ≡ 0 }
 {
-    for i in 0..GROUP * groups {
-        first[i] = 0;
-        second[i] = 0;
+    if channels <= FEW {
+        clear_first::<FEW>(first);
+        clear_first::<FEW>(second);
+    } else {
+        clear_first::<CHANNELS>(first);
+        clear_first::<CHANNELS>(second);
+    }
+}
+
+// So many words are cleared where there are no more.
+const FEW: usize = 32;
+
+// No router is left in the first `COUNT` words. (As a constant it needs neither loop nor call.)
+#[inline(always)]
+fn clear_first<const COUNT: usize>(words: &mut Words)
+    requires { COUNT ≤ CHANNELS }
+    ensures { (k : ℕ) → k < COUNT → word k words.new ≡ 0 }
+{
+    for i in 0..COUNT {
+        words[i] = 0;
     }
 }

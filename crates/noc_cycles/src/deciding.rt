@@ -1,15 +1,16 @@
 //! It is decided what the channels of a block do: output channels are granted, heads are routed,
 //! and flits go through the switch.
 
-ghost use Rattle.std.specs.Prelude.{◌≡◌, ◌<◌, ◌+◌, ℕ, true, bit_or, length, slice_index};
+ghost use Rattle.std.specs.Prelude.{◌≡◌, ◌<◌, ◌+◌, ◌*◌, ℕ, true, false, bit_or, length, slice_index};
 ghost use Rattle.noc_topo.specs.Shape.{nodes};
 ghost use Rattle.noc_sets.specs.Column.{RouterMarks};
 ghost use Rattle.noc_sets.specs.Cycle.{Still};
 ghost use Rattle.noc_sets.specs.Layout.{Layout};
 ghost use Rattle.noc_sets.specs.Routed.{HasRouted};
+ghost use Rattle.noc_columns.specs.Allotted.{HasAllotted, allotment_at};
 ghost use Rattle.noc_columns.specs.Heads.{headed_marks, heading_at, packet_in};
 ghost use Rattle.noc_columns.specs.Routing.{AreRoutable, IsOfPorts, sets_by};
-ghost use Rattle.noc_columns.specs.Prelude.{channels_of, has_bit, set_of};
+ghost use Rattle.noc_columns.specs.Prelude.{MembersAreBelow, channels_of, has_bit, set_of};
 ghost use Rattle.noc_cycles.specs.Concluding.{standing_at};
 ghost use Rattle.noc_cycles.specs.Held.{ShowsStill, held_at};
 ghost use Rattle.noc_cycles.specs.May.{MayDecide};
@@ -20,8 +21,8 @@ use crate::block::{Block, Work};
 use crate::copies::clear;
 use crate::pattern::Pattern;
 use noc_columns::{
-    CHANNELS, Candidates, Guide, Header, Links, Marks, Picks, ROUTERS, Words, allocate, pick,
-    route, traverse,
+    CHANNELS, Candidates, ChannelTable, Grants, Guide, Header, Links, Marks, Picks, ROUTERS, Words,
+    allocate, pick, route, traverse,
 };
 use noc_route::Relation;
 
@@ -69,9 +70,10 @@ pub fn decide(
       lost = work.new.lost;
     } }
 {
-    let groups = pattern.frame.groups;
-    clear(groups, &mut block.grants.granted, &mut work.lost);
-    allocate(
+    let ports = &pattern.table.ports;
+    let channels = (ports.links.width + 1) * ports.links.vcs;
+    clear(channels, &mut block.grants.granted, &mut work.lost);
+    allocate_if(
         &pattern.table,
         &mut block.marks,
         &mut block.grants,
@@ -90,7 +92,6 @@ pub fn decide(
         &block.packets,
         &mut block.marks,
     );
-    let ports = &pattern.table.ports;
     let mut picks = Picks::NONE;
     let candidates = Candidates {
         standing: &work.standing,
@@ -99,6 +100,33 @@ pub fn decide(
     };
     pick(ports, &candidates, &mut work.decided, &mut picks);
     traverse(ports, &picks, &mut block.switch, &mut work.decided, left);
+}
+
+// Output channels are granted, if an idle one is wanted in some router.
+#[inline(always)]
+fn allocate_if(
+    table: &ChannelTable,
+    marks: &mut Marks,
+    grants: &mut Grants<Words>,
+    lost: &mut Words,
+)
+    requires waiting { (r : ℕ) → r < ROUTERS
+        → MembersAreBelow ((table.now.ports.links.width + 1) * table.now.ports.links.vcs)
+        (slice_index marks.old.waiting r) }
+    requires idle { (r : ℕ) → r < ROUTERS
+        → MembersAreBelow ((table.now.ports.links.width + 1) * table.now.ports.links.vcs)
+        (slice_index marks.old.idle r) }
+    ensures asked { (r : ℕ) → r < ROUTERS → has_bit marks.old.asking r ≡ true
+        → HasAllotted table.now.ports.links.vcs
+        (allotment_at (channels_of table.now.ports) marks.old grants.old lost.old r)
+        (allotment_at (channels_of table.now.ports) marks.new grants.new lost.new r) }
+    ensures others { (r : ℕ) → has_bit marks.old.asking r ≡ false
+        → allotment_at (channels_of table.now.ports) marks.new grants.new lost.new r
+        ≡ allotment_at (channels_of table.now.ports) marks.old grants.old lost.old r }
+{
+    if marks.asking != 0 {
+        allocate(table, marks, grants, lost);
+    }
 }
 
 // Heads are routed, if there are some in these routers.

@@ -4,15 +4,16 @@ use Rattle.noc_columns.specs.Routing.{sets_by}
 use Rattle.noc_columns.specs.declared.channels.Decided.{Decided}
 use Rattle.noc_cycles.proofs.Common.{true≢false, nodes, has_bit, has_bit-zero, channels_of, set_of, word, held_at, links_at}
 use Rattle.noc_cycles.specs.Deciding.{HasDecidedHeld}
-use Rattle.noc_cycles.proofs.ConcludingLemmas.{all-within, none-within}
+use Rattle.noc_cycles.proofs.ConcludingLemmas.{none-within}
+use Rattle.noc_columns.proofs.UsedLemmas.{channels-few, index-below}
 use Rattle.noc_cycles.proofs.DecidingLemmas.{decided-then}
 use Rattle.noc_cycles.proofs.deciding.decide.Goals as goal
 
-pub allocate-requires-clause-waiting : goal.allocate-requires-clause-waiting
-allocate-requires-clause-waiting c = λ r l. (c.requires.may r l).waiting
+pub allocate_if-requires-clause-waiting : goal.allocate_if-requires-clause-waiting
+allocate_if-requires-clause-waiting c = λ r l. (c.requires.may r l).waiting
 
-pub allocate-requires-clause-idle : goal.allocate-requires-clause-idle
-allocate-requires-clause-idle c = λ r l. (c.requires.may r l).idle
+pub allocate_if-requires-clause-idle : goal.allocate_if-requires-clause-idle
+allocate_if-requires-clause-idle c = λ r l. (c.requires.may r l).idle
 
 pub route_if-requires-clause-heads : goal.route_if-requires-clause-heads
 route_if-requires-clause-heads c = λ r k few e.
@@ -29,8 +30,8 @@ returns-clause-decided c = λ layout r no_credit s l shows.
     let standing = c.args.work.now.standing in
     let guide = c.args.routing.now in
     let sets = sets_by guide.relation.now guide.headers.now (c.args.first + r) in
-    let within = all-within pattern in
-    let got = c.allocate.new in
+    let within = index-below ports in
+    let got = c.allocate_if.new in
     let routed = c.route_if.ensures in
     let marks = c.route_if.new.marks in
     let pick = c.pick in
@@ -41,8 +42,11 @@ returns-clause-decided c = λ layout r no_credit s l shows.
     (standing_by (set_of n r) standing) (decided_by (set_of n r) d) (set_of n r got.grants.granted) (set_of n r got.lost) (links_at ports went.new.left r) in
     subst all (sym went.ensures.decided)
     (decided-then pattern r l block standing c.clear.new.first c.clear.new.second (none-within n r _ c.clear.new.first within c.clear.ensures.first) (none-within n r _ c.clear.new.second within c.clear.ensures.second)
-    got.marks got.grants got.lost (c.allocate.ensures.asked r l) (c.allocate.ensures.others r)
+    got.marks got.grants got.lost (c.allocate_if.ensures.asked r l) (c.allocate_if.ensures.others r)
     sets marks (λ m. routed.routed r m l) (routed.waiting r l) (routed.idle r) routed.turns fits
     decided pick.new.picks went.new.switch went.new.left (pick.ensures.picked r).first (pick.ensures.picked r).has (pick.ensures.picked r).any (went.ensures.traversed r)
     (length guide.headers.now) (nodes guide.relation.now.grid) (c.args.first + r) (c.requires.may r l)
     layout s no_credit shows)
+
+pub clear-requires : goal.clear-requires
+clear-requires c = let few = channels-few c.args.pattern.now.table.ports in omega (arith, few)
