@@ -9,7 +9,7 @@ use crate::channel_table::ChannelTable;
 use crate::grants::{Grants, grant_all};
 use crate::marks::Marks;
 use crate::planes::less;
-use crate::sets::{CHANNELS, but_lowest, least};
+use crate::sets::{but_lowest, least};
 use crate::words::{ROUTERS, Words};
 
 /// In the routers in which an idle output channel is wanted the waiting channels ask, and each
@@ -36,11 +36,9 @@ pub fn allocate(
         → allotment_at (channels_of table.now.ports) marks.new grants.new lost.new r
         ≡ allotment_at (channels_of table.now.ports) marks.old grants.old lost.old r }
 {
-    // (No request is left from one router to the next.)
-    let mut requests = [0; CHANNELS];
     let mut rest = marks.asking;
     while rest != 0 {
-        allocate_router(table, least(rest), marks, &mut requests, grants, lost);
+        allocate_router(table, least(rest), marks, grants, lost);
         rest = but_lowest(rest);
     }
 }
@@ -50,7 +48,6 @@ fn allocate_router(
     table: &ChannelTable,
     router: usize,
     marks: &mut Marks,
-    requests: &mut [u64; CHANNELS],
     grants: &mut Grants<Words>,
     lost: &mut Words,
 )
@@ -60,23 +57,21 @@ fn allocate_router(
         (slice_index marks.old.waiting router) }
     requires idle { MembersAreBelow ((table.now.ports.links.width + 1) * table.now.ports.links.vcs)
         (slice_index marks.old.idle router) }
-    requires none { (o : ℕ) → o < CHANNELS → slice_index requests.old o ≡ 0 }
     ensures here { HasAllotted table.now.ports.links.vcs
         (allotment_at (channels_of table.now.ports) marks.old grants.old lost.old router)
         (allotment_at (channels_of table.now.ports) marks.new grants.new lost.new router) }
     ensures others { (r : ℕ) → r ≢ router
         → allotment_at (channels_of table.now.ports) marks.new grants.new lost.new r
         ≡ allotment_at (channels_of table.now.ports) marks.old grants.old lost.old r }
-    ensures none { (o : ℕ) → o < CHANNELS → slice_index requests.new o ≡ 0 }
 {
     let waiting = marks.waiting[router];
     let idle = marks.idle[router];
-    let asks = ask_all(waiting, idle, &marks.sets[router], requests);
+    let asks = ask_all(waiting, idle, &marks.sets[router], &mut marks.requests);
     let granted = grant_all(
         table,
         router,
         asks.outs,
-        requests,
+        &mut marks.requests,
         &mut marks.turns[router],
         grants,
     );

@@ -22,6 +22,10 @@ pub struct Marks {
     pub sets: [[u64; CHANNELS]; ROUTERS],
     /// By router and output channel, the input channels at or after the pointer of its arbiter.
     pub turns: [[u64; CHANNELS]; ROUTERS],
+    /// By output channel, the input channels of a router that ask for it. None is left from one
+    /// router to the next.
+    pub requests: [u64; CHANNELS],
+    ghost unasked: { (o : ℕ) → o < CHANNELS → slice_index requests o ≡ 0 },
     ghost asks: { (r : ℕ) → r < ROUTERS → has_bit asking r
         ≡ not (nat_eq (asks_of (slice_index waiting r) (slice_index wanted r) (slice_index idle r))
         0) },

@@ -83,14 +83,20 @@ pub fn used_words(count: usize, words: &Words) -> u64
 {
     let used = if count <= FEW {
         used_of::<FEW>(words)
+    } else if count <= MORE {
+        used_of::<MORE>(words)
     } else {
         used_of::<CHANNELS>(words)
     };
     used & ((1 << count as u32) - 1)
 }
 
-// So many words are looked at where there are no more.
-const FEW: usize = 32;
+// So many words are looked at where there are no more: those of a mesh of two dimensions with four
+// virtual channels.
+const FEW: usize = 20;
+
+// So many where there are more: those of such a mesh with eight.
+const MORE: usize = 40;
 
 // Which of the first `COUNT` words have a router. (As a constant it needs no tests.)
 #[inline(always)]

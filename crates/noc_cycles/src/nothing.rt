@@ -42,6 +42,7 @@ pub(crate) const NO_BLOCK: Block = Block {
         asking: 0,
         sets: [[0; CHANNELS]; ROUTERS],
         turns: [[0; CHANNELS]; ROUTERS],
+        requests: [0; CHANNELS],
     },
     packets: [[0; CHANNELS]; ROUTERS],
     sources: Sources {

@@ -1,5 +1,4 @@
 use Rattle.std.proofs.Common.{◌+◌, ◌*◌, ap, sym, subst, arith}
-use Rattle.std.proofs.lemmas.List.{get_or-replicate}
 use Rattle.noc_alloc.specs.Members.{MembersAreBelow}
 use Rattle.noc_columns.specs.Allotted.{Allotment, HasAllotted, allotment_at}
 use Rattle.noc_columns.specs.Picks.{channels_of}
@@ -8,7 +7,6 @@ use Rattle.noc_columns.proofs.allocation.allocate.Goals as goal
 
 pub loop-rest-init : goal.loop-rest-init
 loop-rest-init c = record {
-  none = λ o l. get_or-replicate 64 o 0 0 l;
   are = each-none _ _ _ _;
 }
 
@@ -36,7 +34,6 @@ loop-rest-preserved c =
     let got = c.allocate_router in
     let old = allotment_at n c.args.marks.now c.args.grants.now c.args.lost.now in
     record {
-      none = got.ensures.none;
       are = each-stepped Allotment (λ r x. HasAllotted ports.links.vcs (old r) x) old c.args.marks.now.asking (allotment_at n was.marks was.grants was.lost) (allotment_at n got.new.marks got.new.grants got.new.lost) was.rest c.but_lowest-rest.result t
           c.least.ensures.least inv.are
           (subst (λ x. HasAllotted ports.links.vcs x (allotment_at n got.new.marks got.new.grants got.new.lost t)) (inv.are.left t c.least.ensures.least.0) got.ensures.here)

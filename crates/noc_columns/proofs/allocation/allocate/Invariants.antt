@@ -1,4 +1,3 @@
-use Rattle.std.proofs.Common.{◌≡◌, ℕ, ◌<◌, slice_index}
 use Rattle.noc_columns.specs.Allotted.{Allotment, HasAllotted, allotment_at}
 use Rattle.noc_columns.specs.Picks.{channels_of}
 use Rattle.noc_columns.proofs.LoopLemmas.{IsEach}
@@ -6,7 +5,6 @@ use Rattle.noc_columns.proofs.allocation.allocate.Given as goal
 
 abbrev pub invariant-loop-rest : goal.invariant-loop-rest
 invariant-loop-rest l = record {
-  none : (o : ℕ) → o < 64 → slice_index l.requests o ≡ 0;
   are : IsEach Allotment (λ r x. HasAllotted l.table.ports.links.vcs (allotment_at (channels_of l.table.ports) l.fn.marks l.fn.grants l.fn.lost r) x)
       (allotment_at (channels_of l.table.ports) l.fn.marks l.fn.grants l.fn.lost) (allotment_at (channels_of l.table.ports) l.marks l.grants l.lost) l.fn.marks.asking l.rest;
 }

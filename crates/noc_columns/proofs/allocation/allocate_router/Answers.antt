@@ -105,8 +105,8 @@ returns-clause-others c = λ r other.
     (numbers-kept n r sends.port sent.port (λ k l. (are.kept r k l (ap (λ b. b && has_bit granted k) apart)).0))
     (numbers-kept n r sends.vc sent.vc (λ k l. (are.kept r k l (ap (λ b. b && has_bit granted k) apart)).1))
 
-pub returns-clause-none : goal.returns-clause-none
-returns-clause-none c = λ o l. at o l (cases_Bool (has_bit c.ask_all-asks.result.outs o))
+pub invariant_of-marks-clause-unasked : goal.invariant_of-marks-clause-unasked
+invariant_of-marks-clause-unasked c = λ o l. at o l (cases_Bool (has_bit c.ask_all-asks.result.outs o))
   where
     at : (o : ℕ) → o < 64 → (has_bit c.ask_all-asks.result.outs o ≡ true) ⊎ (has_bit c.ask_all-asks.result.outs o ≡ false) → slice_index c.grant_all-granted.new.requests o ≡ 0
     at o l (inl asked) = c.grant_all-granted.ensures.answered o asked

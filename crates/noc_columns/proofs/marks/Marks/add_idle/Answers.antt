@@ -10,6 +10,7 @@ invariant_of-self c =
     let router = c.args.router in
     let idle = bit_or (slice_index self.idle router) c.args.channels in
     record {
+      unasked = self.unasked;
       asks =
           asked-still self.asking c.with_router-self.result router (slice_index self.waiting router) (slice_index self.wanted router) idle (λ r. slice_index self.waiting r) (λ r. slice_index self.wanted r) (λ r. slice_index self.idle r)
           (λ r. slice_index self.waiting r) (λ r. slice_index self.wanted r) (λ r. slice_index (set self.idle router idle) r)

@@ -9,6 +9,7 @@ invariant_of-self c =
     let self = c.args.self.now in
     let router = c.args.router in
     record {
+      unasked = self.unasked;
       asks =
           asked-still self.asking c.with_router-self.result router c.args.waiting c.args.wanted c.args.idle (λ r. slice_index self.waiting r) (λ r. slice_index self.wanted r) (λ r. slice_index self.idle r)
           (λ r. slice_index (set self.waiting router c.args.waiting) r) (λ r. slice_index (set self.wanted router c.args.wanted) r) (λ r. slice_index (set self.idle router c.args.idle) r)
