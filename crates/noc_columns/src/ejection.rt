@@ -1,10 +1,10 @@
 //! Tails leave the network, and local output channels are idle again.
 
 ghost use Rattle.std.specs.Prelude.{◌≡◌, ◌+◌, ◌*◌, ◌^◌, ◌<◌, ◌≤◌, ℕ, bit_or, slice_index, if◌then◌else◌};
-ghost use Rattle.noc_columns.specs.Arrivals.{given_back};
+ghost use Rattle.noc_columns.specs.Arrivals.{HasGivenBack};
 ghost use Rattle.noc_columns.specs.Marks.{ChangesIdle};
-ghost use Rattle.noc_columns.specs.Supply.{digits_by, number_in};
-ghost use Rattle.noc_columns.specs.Prelude.{channels_of, has_bit, port_at, set_of, union_from, word};
+ghost use Rattle.noc_columns.specs.Supply.{number_in};
+ghost use Rattle.noc_columns.specs.Prelude.{has_bit};
 
 use crate::marks::Marks;
 use crate::ports::RouterPorts;
@@ -16,13 +16,7 @@ use noc_packet::MAX_CHANNELS;
 /// The local output channels by which packets leave the network from these input channels are idle
 /// again.
 pub fn give_back(ports: &RouterPorts, arrived: &Words, vc: &Digits<Words>, marks: &mut Marks)
-    ensures idle { (r : ℕ) → r < ROUTERS → slice_index marks.new.idle r
-        ≡ given_back (slice_index marks.old.idle r)
-        ((ports.now.links.width + 1) * ports.now.links.vcs)
-        (ports.now.links.width * ports.now.links.vcs)
-        (set_of (channels_of ports.now) r arrived.now)
-        (number_in (digits_by (set_of (channels_of ports.now) r) vc.now)) }
-    ensures kept { ChangesIdle marks.old marks.new }
+    ensures { HasGivenBack ports.now arrived.now vc.now marks.old marks.new }
 {
     let links = ports.links.width * ports.links.vcs;
     let mut rest = used_words(links + ports.links.vcs, arrived);

@@ -65,7 +65,7 @@ pub use laws::{
 pub use left::Left;
 pub use marks::Marks;
 pub use neighbours::{Far, Near, Neighbours};
-pub use over_links::{gather, gather_far};
+pub use over_links::{gather, gather_far, opposite};
 pub use payments::pay;
 pub use picks::{Candidates, Picks, any_both, pick, pick_each};
 pub use places::{far_of, near_of};

@@ -163,13 +163,13 @@ fn join_far(far: &Far, from: &Words, other: usize, to: &mut Words, index: usize)
     to[index] = to[index] | turned(from[other], far.distance, far.mask);
 }
 
-// The port at the other end of a link.
+/// The port at the other end of a link.
 #[inline(always)]
-fn opposite(port: usize) -> usize
+pub fn opposite(port: usize) -> usize
     requires { port < PORTS }
     ensures { result ≡ opposite port }
 {
-    if port % 2 == 0 { port + 1 } else { port - 1 }
+    port + 1 - 2 * (port % 2)
 }
 
 // Each of these routers gets what the one has that stands so far from it.

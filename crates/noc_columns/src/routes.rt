@@ -1,13 +1,11 @@
 //! Heads are routed in the routers of a block.
 
-ghost use Rattle.std.specs.Prelude.{◌≡◌, ◌≢◌, ◌<◌, ◌+◌, ◌*◌, ◌&&◌, ℕ, true, nat_eq, bit_or, length, slice_index, if◌then◌else◌};
+ghost use Rattle.std.specs.Prelude.{◌≡◌, ◌≢◌, ◌<◌, ◌+◌, ◌*◌, ◌&&◌, ℕ, true, nat_eq, length, slice_index, if◌then◌else◌};
 ghost use Rattle.noc_topo.specs.Shape.{nodes, ports};
-ghost use Rattle.noc_sets.specs.Column.{RouterMarks};
-ghost use Rattle.noc_sets.specs.Routed.{HasRouted};
-ghost use Rattle.noc_columns.specs.Heads.{headed, headed_marks, heading_at, packet_in};
+ghost use Rattle.noc_columns.specs.Heads.{HasRoutedAll, MayRouteAll, headed, heading_at, packet_in};
 ghost use Rattle.noc_columns.specs.Marks.{ChangesWaiting};
 ghost use Rattle.noc_columns.specs.Routing.{AreRoutable, IsOfPorts, IsRoutable, set_by, sets_by};
-ghost use Rattle.noc_columns.specs.Prelude.{channels_of, has_bit, set_of, word};
+ghost use Rattle.noc_columns.specs.Prelude.{has_bit, word};
 
 use crate::channel_table::ChannelTable;
 use crate::header::Header;
@@ -39,23 +37,8 @@ pub fn route(
     packets: &[[u32; CHANNELS]; ROUTERS],
     marks: &mut Marks,
 )
-    requires ports { IsOfPorts guide.now.table.now.ports guide.now.relation.now }
-    requires headers { AreRoutable guide.now.relation.now guide.now.headers.now }
-    requires heads { (r k : ℕ) → r < ROUTERS
-        → has_bit (set_of (channels_of guide.now.table.now.ports) r heads.now) k ≡ true
-        → (guide.now.first + r < nodes guide.now.relation.now.grid)
-        × (packet_in packets.now r k < length guide.now.headers.now) }
-    ensures routed { (r : ℕ) (m : RouterMarks) → r < ROUTERS
-        → HasRouted (set_of (channels_of guide.now.table.now.ports) r heads.now)
-        (sets_by guide.now.relation.now guide.now.headers.now (guide.now.first + r))
-        (headed_marks (heading_at marks.old r) (packet_in packets.now r) m)
-        (headed_marks (heading_at marks.new r) (packet_in packets.now r) m)
-        (slice_index marks.old.wanted r) (slice_index marks.new.wanted r) }
-    ensures waiting { (r : ℕ) → r < ROUTERS → slice_index marks.new.waiting r
-        ≡ bit_or (slice_index marks.old.waiting r)
-        (set_of (channels_of guide.now.table.now.ports) r heads.now) }
-    ensures idle { (r : ℕ) → slice_index marks.new.idle r ≡ slice_index marks.old.idle r }
-    ensures turns { marks.new.turns ≡ marks.old.turns }
+    requires { MayRouteAll guide.now heads.now packets.now }
+    ensures { HasRoutedAll guide.now heads.now packets.now marks.old marks.new }
 {
     let links = &guide.table.ports.links;
     let mut rest = used_words((links.width + 1) * links.vcs, heads);

@@ -1,9 +1,7 @@
 //! What is decided takes effect.
 
 ghost use Rattle.std.specs.Prelude.{◌≡◌, ◌<◌, ◌+◌, ◌*◌, ℕ, slice_index};
-ghost use Rattle.noc_columns.specs.Arrivals.{given_back};
-ghost use Rattle.noc_columns.specs.Marks.{ChangesIdle};
-ghost use Rattle.noc_columns.specs.Supply.{digits_by, number_in};
+ghost use Rattle.noc_columns.specs.Arrivals.{HasGivenBack};
 ghost use Rattle.noc_columns.specs.Prelude.{channels_of, has_bit, set_of, some_below, word};
 ghost use Rattle.noc_cycles.specs.Concluding.{HasConcludedHeld, decided_at, standing_at, verdicts_at};
 ghost use Rattle.noc_cycles.specs.Held.{held_at, links_at};
@@ -83,13 +81,7 @@ fn free_local(
     marks: &mut Marks,
 )
     requires { routers ≡ 0 → (r : ℕ) → set_of (channels_of ports.now) r arrived.now ≡ 0 }
-    ensures idle { (r : ℕ) → r < ROUTERS → slice_index marks.new.idle r
-        ≡ given_back (slice_index marks.old.idle r)
-        ((ports.now.links.width + 1) * ports.now.links.vcs)
-        (ports.now.links.width * ports.now.links.vcs)
-        (set_of (channels_of ports.now) r arrived.now)
-        (number_in (digits_by (set_of (channels_of ports.now) r) vc.now)) }
-    ensures kept { ChangesIdle marks.old marks.new }
+    ensures { HasGivenBack ports.now arrived.now vc.now marks.old marks.new }
 {
     if routers != 0 {
         give_back(ports, arrived, vc, marks);

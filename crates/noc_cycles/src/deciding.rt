@@ -1,14 +1,12 @@
 //! It is decided what the channels of a block do: output channels are granted, heads are routed,
 //! and flits go through the switch.
 
-ghost use Rattle.std.specs.Prelude.{◌≡◌, ◌<◌, ◌+◌, ◌*◌, ℕ, true, false, bit_or, length, slice_index};
+ghost use Rattle.std.specs.Prelude.{◌≡◌, ◌<◌, ◌+◌, ◌*◌, ℕ, true, false, length, slice_index};
 ghost use Rattle.noc_topo.specs.Shape.{nodes};
-ghost use Rattle.noc_sets.specs.Column.{RouterMarks};
 ghost use Rattle.noc_sets.specs.Cycle.{Still};
 ghost use Rattle.noc_sets.specs.Layout.{Layout};
-ghost use Rattle.noc_sets.specs.Routed.{HasRouted};
 ghost use Rattle.noc_columns.specs.Allotted.{HasAllotted, allotment_at};
-ghost use Rattle.noc_columns.specs.Heads.{headed_marks, heading_at, packet_in};
+ghost use Rattle.noc_columns.specs.Heads.{HasRoutedAll, MayRouteAll};
 ghost use Rattle.noc_columns.specs.Routing.{AreRoutable, IsOfPorts, sets_by};
 ghost use Rattle.noc_columns.specs.Prelude.{MembersAreBelow, channels_of, has_bit, set_of};
 ghost use Rattle.noc_cycles.specs.Concluding.{standing_at};
@@ -138,25 +136,10 @@ fn route_if(
     packets: &[[u32; CHANNELS]; ROUTERS],
     marks: &mut Marks,
 )
-    requires ports { IsOfPorts guide.now.table.now.ports guide.now.relation.now }
-    requires headers { AreRoutable guide.now.relation.now guide.now.headers.now }
-    requires heads { (r k : ℕ) → r < ROUTERS
-        → has_bit (set_of (channels_of guide.now.table.now.ports) r heads.now) k ≡ true
-        → (guide.now.first + r < nodes guide.now.relation.now.grid)
-        × (packet_in packets.now r k < length guide.now.headers.now) }
+    requires may { MayRouteAll guide.now heads.now packets.now }
     requires none { routers ≡ 0 → (r : ℕ)
         → set_of (channels_of guide.now.table.now.ports) r heads.now ≡ 0 }
-    ensures routed { (r : ℕ) (m : RouterMarks) → r < ROUTERS
-        → HasRouted (set_of (channels_of guide.now.table.now.ports) r heads.now)
-        (sets_by guide.now.relation.now guide.now.headers.now (guide.now.first + r))
-        (headed_marks (heading_at marks.old r) (packet_in packets.now r) m)
-        (headed_marks (heading_at marks.new r) (packet_in packets.now r) m)
-        (slice_index marks.old.wanted r) (slice_index marks.new.wanted r) }
-    ensures waiting { (r : ℕ) → r < ROUTERS → slice_index marks.new.waiting r
-        ≡ bit_or (slice_index marks.old.waiting r)
-        (set_of (channels_of guide.now.table.now.ports) r heads.now) }
-    ensures idle { (r : ℕ) → slice_index marks.new.idle r ≡ slice_index marks.old.idle r }
-    ensures turns { marks.new.turns ≡ marks.old.turns }
+    ensures { HasRoutedAll guide.now heads.now packets.now marks.old marks.new }
 {
     if routers != 0 {
         route(guide, heads, packets, marks);

@@ -10,7 +10,7 @@ use crate::around::{Around, NOWHERE};
 use crate::block::Block;
 use crate::notes::Note;
 use crate::pattern::Pattern;
-use noc_columns::{CHANNELS, PORTS, ROUTERS, but_lowest, least, used_words};
+use noc_columns::{CHANNELS, ROUTERS, but_lowest, least, opposite, used_words};
 use noc_packet::Memory;
 use std::alloc::Global;
 
@@ -134,13 +134,4 @@ fn note(notes: &mut Vec<Note>, router: u16, channel: usize, packet: u32)
         channel: channel as u8,
         packet,
     });
-}
-
-// The port at the other end of a link.
-#[inline(always)]
-fn opposite(port: usize) -> usize
-    requires { port < PORTS }
-    ensures { result ≡ opposite port }
-{
-    port + 1 - 2 * (port % 2)
 }

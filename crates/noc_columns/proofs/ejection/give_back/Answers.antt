@@ -74,12 +74,16 @@ loop-rest-preserved c =
       kept = idle-next inv.kept c.give_back_by.ensures.kept;
     }
 
-pub returns-clause-idle : goal.returns-clause-idle
-returns-clause-idle c = λ r l.
+pub returns : goal.returns
+returns c =
     let ports = c.args.ports.now in
     let n = channels_of ports in
     let arrived = c.args.arrived.now in
     let none : c.loop-rest.rest ≡ 0 = omega arith in
-    c.loop-rest.invariant.idle r l
-    ∙ union-alike (slice_index c.args.marks.now.idle r) n.size (sum_of (walked n r arrived c.loop-rest.rest) (back_of ports c.args.vc.now r)) (sum_of (has_bit (set_of n r arrived)) (back_of ports c.args.vc.now r))
-    (λ k m. ap (λ b. if b then back_of ports c.args.vc.now r k else 0) (walked-all n (channels-apart ports) r arrived c.loop-rest.rest none k))
+    record {
+      idle = λ r l.
+          c.loop-rest.invariant.idle r l
+          ∙ union-alike (slice_index c.args.marks.now.idle r) n.size (sum_of (walked n r arrived c.loop-rest.rest) (back_of ports c.args.vc.now r)) (sum_of (has_bit (set_of n r arrived)) (back_of ports c.args.vc.now r))
+          (λ k m. ap (λ b. if b then back_of ports c.args.vc.now r k else 0) (walked-all n (channels-apart ports) r arrived c.loop-rest.rest none k));
+      kept = c.loop-rest.invariant.kept;
+    }

@@ -40,7 +40,7 @@ route_routers-requires-clause-heads c = λ r l e.
     let n = channels_of c.args.guide.now.table.now.ports in
     let heads = c.args.heads.now in
     let channel = c.channel_at-channel.result in
-    c.requires.heads r channel l (member-is n r channel heads c.channel_at-channel.ensures.within ∙ ap (λ i. has_bit (word i heads) r) c.channel_at-channel.ensures.is ∙ e)
+    c.requires.there r channel l (member-is n r channel heads c.channel_at-channel.ensures.within ∙ ap (λ i. has_bit (word i heads) r) c.channel_at-channel.ensures.is ∙ e)
 
 pub loop-rest-preserved : goal.loop-rest-preserved
 loop-rest-preserved c =

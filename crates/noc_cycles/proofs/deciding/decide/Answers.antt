@@ -15,11 +15,15 @@ allocate_if-requires-clause-waiting c = λ r l. (c.requires.may r l).waiting
 pub allocate_if-requires-clause-idle : goal.allocate_if-requires-clause-idle
 allocate_if-requires-clause-idle c = λ r l. (c.requires.may r l).idle
 
-pub route_if-requires-clause-heads : goal.route_if-requires-clause-heads
-route_if-requires-clause-heads c = λ r k few e.
-    let may = c.requires.may r few in
-    let node = may.node_is (λ none. true≢false (sym e ∙ ap (λ s. has_bit s k) none ∙ has_bit-zero k)) in
-    (omega (arith, node), may.heads k e)
+pub route_if-requires-clause-may : goal.route_if-requires-clause-may
+route_if-requires-clause-may c = record {
+  ports = c.requires.ports;
+  headers = c.requires.headers;
+  there = λ r k few e.
+      let may = c.requires.may r few in
+      let node = may.node_is (λ none. true≢false (sym e ∙ ap (λ s. has_bit s k) none ∙ has_bit-zero k)) in
+      (omega (arith, node), may.heads k e);
+}
 
 pub returns-clause-decided : goal.returns-clause-decided
 returns-clause-decided c = λ layout r no_credit s l shows.
