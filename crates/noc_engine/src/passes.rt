@@ -42,25 +42,24 @@ pub(crate) fn turn_all(
 
 // The packets that leave the network arrive in this cycle.
 pub(crate) fn arrive_blocks(
-    plan: &Plan,
-    cycle: u32,
+    cycle: &Cycle<'_>,
     blocks: &[Block],
     works: &[Work],
     arrivals: &mut [u32],
 )
     requires works { length works.now ≡ length blocks.now }
-    requires leaving { TellLeaving plan.now.pattern.table.ports works.now }
+    requires leaving { TellLeaving cycle.now.plan.now.pattern.table.ports works.now }
     requires packets { (s k : ℕ) → s < ROUTERS * length blocks.now
-        → has_bit (arrived_of plan.now.pattern.table.ports works.now s) k ≡ true
+        → has_bit (arrived_of cycle.now.plan.now.pattern.table.ports works.now s) k ≡ true
         → packets_of blocks.now s k < length arrivals.old }
-    ensures { HaveArrived cycle (ROUTERS * length blocks.now)
-        (arrived_of plan.now.pattern.table.ports works.now) (packets_of blocks.now)
+    ensures { HaveArrived cycle.now.number (ROUTERS * length blocks.now)
+        (arrived_of cycle.now.plan.now.pattern.table.ports works.now) (packets_of blocks.now)
         (slice_index arrivals.old) (slice_index arrivals.new) }
 {
     for number in 0..blocks.len() {
         arrive_in(
-            &plan.pattern,
-            cycle,
+            &cycle.plan.pattern,
+            cycle.number,
             &works[number],
             &blocks[number].packets,
             arrivals,

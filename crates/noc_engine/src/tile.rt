@@ -56,13 +56,7 @@ impl Tile {
             number: self.cycle,
         };
         let happened = turn_all(&cycle, self.first, blocks, works, left);
-        arrive_blocks(
-            plan,
-            self.cycle,
-            blocks,
-            works,
-            self.arrivals.as_mut_slice(),
-        );
+        arrive_blocks(&cycle, blocks, works, self.arrivals.as_mut_slice());
         tell_all(plan, self.first, blocks, self.notes.as_mut_slice());
         count_all(plan, blocks, works, self.counts.as_mut_slice());
         self.cycle += 1;
