@@ -56,8 +56,6 @@ module _ (deep : Bool) (s : Standing (List ℕ)) (d : Decided (List ℕ)) (grant
       let told = λ (k : ℕ) (l : k < n.size). (is k l).verdicts in
       let told_active = sets-are n r (leaf i.active) w.active (λ k l. ap (λ x. x.active) (told k l)) in
       let told_credit = sets-are n r (leaf v.no_credit) w.no_credit (λ k l. ap (λ x. x.no_credit) (told k l)) in
-      let told_input = sets-are n r (without (leaf s.ready) (leaf d.picked)) w.lost_input (λ k l. ap (λ x. x.lost_input) (told k l)) in
-      let told_switch = sets-are n r (without (leaf d.picked) (leaf w.moved)) w.lost_switch (λ k l. ap (λ x. x.lost_switch) (told k l)) in
       let told_moved = sets-are n r (both (leaf d.picked) (leaf d.sends)) w.moved (λ k l. ap (λ x. x.moved) (told k l)) in
       record {
         column = λ links local supplied c x. record c {
@@ -69,5 +67,5 @@ module _ (deep : Bool) (s : Standing (List ℕ)) (d : Decided (List ℕ)) (grant
         };
         ended = sets-are n r (without (leaf i.ended) released) j.ended (λ k l. (is k l).ended);
         ahead = sets-are n r (either (without (leaf i.ahead) (leaf d.sends)) (both (leaf d.past) (leaf d.sends))) j.ahead (λ k l. (is k l).ahead);
-        verdicts = λ x. record { active = told_active x; no_credit = told_credit x; lost_input = told_input x; lost_switch = told_switch x; moved = told_moved x };
+        verdicts = λ x. record { active = told_active x; no_credit = told_credit x; moved = told_moved x };
       }

@@ -51,7 +51,5 @@ abbrev pub verdicts_by : {A B : Type 0} → (A → B) → Verdicts A → Verdict
 verdicts_by f r = record {
   active = f r.active;
   no_credit = f r.no_credit;
-  lost_input = f r.lost_input;
-  lost_switch = f r.lost_switch;
   moved = f r.moved;
 }

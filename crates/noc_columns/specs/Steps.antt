@@ -105,8 +105,6 @@ pub record Settles (deep : Bool) (s : Standing ℕ) (d : Decided ℕ) (granted :
   pub verdicts : w ≡ record {
     active = i.active;
     no_credit = v.no_credit;
-    lost_input = less s.ready d.picked;
-    lost_switch = less d.picked w.moved;
     moved = bit_and d.picked d.sends;
   }
 

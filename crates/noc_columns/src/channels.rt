@@ -167,17 +167,14 @@ impl Decided<Words> {
     }
 }
 
-/// Verdicts of a cycle on input channels that own an output channel. The others have NoFlit.
+/// What verdicts of a cycle follow from on input channels that own an output channel, with those
+/// that are ready and those that are picked.
 #[derive(Drop)]
 pub struct Verdicts<T> {
     /// Those that own an output channel.
     pub active: T,
     /// NoCredit.
     pub no_credit: T,
-    /// LostInput.
-    pub lost_input: T,
-    /// LostSwitch.
-    pub lost_switch: T,
     /// Moved.
     pub moved: T,
 }
@@ -192,8 +189,6 @@ impl Verdicts<Words> {
         Verdicts {
             active: self.active[index],
             no_credit: self.no_credit[index],
-            lost_input: self.lost_input[index],
-            lost_switch: self.lost_switch[index],
             moved: self.moved[index],
         }
     }
@@ -208,8 +203,6 @@ impl Verdicts<Words> {
     {
         self.active[index] = words.active;
         self.no_credit[index] = words.no_credit;
-        self.lost_input[index] = words.lost_input;
-        self.lost_switch[index] = words.lost_switch;
         self.moved[index] = words.moved;
     }
 }

@@ -21,9 +21,10 @@ pub struct Moves<'a> {
     pub grants: &'a Grants<Words>,
 }
 
-/// Heads, grants and moves take effect on the input channels, and the verdicts are told. Of those
-/// that a tail leaves it is told from which it leaves the network: it goes by the local port, which
-/// has this number. The answer is the routers of which a flit moves, and those that a tail leaves.
+/// Heads, grants and moves take effect on the input channels. It is told which of them owned an
+/// output channel, and of which a flit moves. Of those that a tail leaves it is told from which it
+/// leaves the network: it goes by the local port, which has this number. The answer is the routers
+/// of which a flit moves, and those that a tail leaves.
 #[inline(always)]
 pub fn settle(
     frame: &Frame,
@@ -118,8 +119,6 @@ fn with_effects(
         verdicts: Verdicts {
             active: had.active,
             no_credit: told.no_credit,
-            lost_input: less(could.ready, what.picked),
-            lost_switch: less(what.picked, moved),
             moved,
         },
     }

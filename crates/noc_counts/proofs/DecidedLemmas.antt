@@ -103,18 +103,17 @@ module _ (pattern : Pattern) (layout : Layout) (sets : ℕ → ℕ → ℕ) (s :
 
   module _ (v w : Verdicts ℕ) (n : Held) (arrived : ℕ) (gone : Links ℕ) (short : no_credit ≡ v.no_credit) (done : HasConcludedHeld pattern standing decided granted gone arrived h n v w) where
     -- ---- what it tells
-    pub is-told : IsTold s.filled decided.picked s.column standing.heads w n.inputs.waiting granted lost
+    pub is-told : IsTold s.filled decided.picked s.column standing w n.inputs.waiting granted lost
     is-told =
         let settled = done.settles in
         record {
           heads_are = shows.heads;
+          ready_are = shows.ready;
           granted_are = granted-waits;
           lost_are = lost-waits;
           waiting_are = (λ x. (settled.column 0 0 0 s.column x).waiting) ∙ ap (λ (m : ℕ). bit_or (less m granted) standing.heads) ((λ x. (did.inputs x).waiting) ∙ sym waiting-is);
           active = (λ x. (settled.verdicts x).active) ∙ (λ x. (did.inputs x).active) ∙ sym active-is;
           no_credit = (λ x. (settled.verdicts x).no_credit) ∙ sym short ∙ shows.no_credit_is;
-          lost_input = (λ x. (settled.verdicts x).lost_input) ∙ ap (λ (m : ℕ). less m decided.picked) shows.ready;
-          lost_switch = λ x. (settled.verdicts x).lost_switch;
           picked_are = did.picks.among;
           moved_are = λ k e. (and_parts (has_bit decided.picked k) (has_bit decided.sends k)
               (sym (both_members decided.picked decided.sends k) ∙ ap (λ m. has_bit m k) (sym (λ x. (settled.verdicts x).moved)) ∙ e)).0;

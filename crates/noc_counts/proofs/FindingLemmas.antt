@@ -28,15 +28,21 @@ module _ (n : Numbering) (r i : ℕ) (few : i < n.size) where
     flit-word : has_bit (told_at n b w r).no_flit i ≡ has_bit (told_by (word (n.index i)) b w).no_flit r
     flit-word =
         let v = w.verdicts in
-        member-term (without (leaf v.active) (either (either (leaf v.no_credit) (leaf v.lost_input)) (either (leaf v.lost_switch) (leaf v.moved))))
+        member-term (without (leaf v.active) (either (leaf v.no_credit) (leaf w.standing.ready)))
 
     idle-word : has_bit (told_at n b w r).no_idle_channel i ≡ has_bit (told_by (word (n.index i)) b w).no_idle_channel r
     idle-word = member-term (without (leaf b.inputs.waiting) (either (leaf w.standing.heads) (leaf w.lost)))
 
+    input-word : has_bit (told_at n b w r).lost_input i ≡ has_bit (told_by (word (n.index i)) b w).lost_input r
+    input-word = member-term (without (leaf w.standing.ready) (leaf w.decided.picked))
+
+    switch-word : has_bit (told_at n b w r).lost_switch i ≡ has_bit (told_by (word (n.index i)) b w).lost_switch r
+    switch-word = member-term (without (leaf w.decided.picked) (leaf w.verdicts.moved))
+
     pub verdict-word : verdict_by (verdict_sets (told_at n b w r)) i ≡ verdict_by (verdict_sets (told_by (word (n.index i)) b w)) r
     verdict-word =
         let v = w.verdicts in
-        rw (member-is n r i v.moved few, member-is n r i b.grants.granted few, member-is n r i w.standing.heads few, flit-word, idle-word, member-is n r i w.lost few, member-is n r i v.no_credit few, member-is n r i v.lost_input few, member-is n r i v.lost_switch few) refl
+        rw (member-is n r i v.moved few, member-is n r i b.grants.granted few, member-is n r i w.standing.heads few, flit-word, idle-word, member-is n r i w.lost few, member-is n r i v.no_credit few, input-word, switch-word) refl
 
     pub counts-word : (c : ByVerdict) → with_verdicts (told_by (word (n.index i)) b w) r c ≡ with_verdicts (told_at n b w r) i c
     counts-word c =
@@ -45,7 +51,7 @@ module _ (n : Numbering) (r i : ℕ) (few : i < n.size) where
         nine-same (sym (ap (one c.routed) (member-is n r i w.standing.heads few))) (sym (ap (one c.granted) (member-is n r i b.grants.granted few)))
         (sym (ap (one c.moved) (member-is n r i v.moved few))) (sym (ap (one c.no_flit) flit-word)) (sym (ap (one c.no_idle_channel) idle-word))
         (sym (ap (one c.lost_channel) (member-is n r i w.lost few))) (sym (ap (one c.no_credit) (member-is n r i v.no_credit few)))
-        (sym (ap (one c.lost_input) (member-is n r i v.lost_input few))) (sym (ap (one c.lost_switch) (member-is n r i v.lost_switch few)))
+        (sym (ap (one c.lost_input) input-word)) (sym (ap (one c.lost_switch) switch-word))
 
 -- the sets of a router, where the words of its channels are told
 module _ (n : Numbering) (r : ℕ) (b : Block) (w : Work) (words : ℕ → ByVerdict) (is : (c : ℕ) → c < n.size → words (n.index c) ≡ told_by (word (n.index c)) b w) where
@@ -70,9 +76,9 @@ module _ (n : Numbering) (r : ℕ) (b : Block) (w : Work) (words : ℕ → ByVer
       nine-same (set-term (λ x. x.routed) (leaf w.standing.heads) (λ i. refl))
       (set-term (λ x. x.granted) (leaf b.grants.granted) (λ i. refl))
       (set-term (λ x. x.moved) (leaf v.moved) (λ i. refl))
-      (set-term (λ x. x.no_flit) (without (leaf v.active) (either (either (leaf v.no_credit) (leaf v.lost_input)) (either (leaf v.lost_switch) (leaf v.moved)))) (λ i. refl))
+      (set-term (λ x. x.no_flit) (without (leaf v.active) (either (leaf v.no_credit) (leaf w.standing.ready))) (λ i. refl))
       (set-term (λ x. x.no_idle_channel) (without (leaf b.inputs.waiting) (either (leaf w.standing.heads) (leaf w.lost))) (λ i. refl))
       (set-term (λ x. x.lost_channel) (leaf w.lost) (λ i. refl))
       (set-term (λ x. x.no_credit) (leaf v.no_credit) (λ i. refl))
-      (set-term (λ x. x.lost_input) (leaf v.lost_input) (λ i. refl))
-      (set-term (λ x. x.lost_switch) (leaf v.lost_switch) (λ i. refl))
+      (set-term (λ x. x.lost_input) (without (leaf w.standing.ready) (leaf w.decided.picked)) (λ i. refl))
+      (set-term (λ x. x.lost_switch) (without (leaf w.decided.picked) (leaf v.moved)) (λ i. refl))

@@ -15,6 +15,7 @@ use Rattle.noc_sets.specs.Grants.{asked_of}
 use Rattle.noc_sets.specs.Passes.{lane_ready}
 use Rattle.noc_sets.specs.Sets.{least}
 use Rattle.noc_sets.proofs.MemberLemmas.{least_is}
+use Rattle.noc_columns.specs.declared.channels.Decided.{Decided}
 use Rattle.noc_columns.specs.declared.channels.Standing.{Standing}
 use Rattle.noc_columns.specs.declared.channels.Verdicts.{Verdicts}
 use Rattle.noc_columns.proofs.GrantLemmas.{least-one-is}
@@ -81,24 +82,24 @@ pub record ShowsFound (vcs : ℕ) (c : Column) (m : RouterMarks) (idle : ℕ) (h
 pub least-power : (n : ℕ) → n < 64 → least (2 ^ n) ≡ n
 least-power n few = least-one-is (2 ^ n) n (least (2 ^ n)) refl (least_is (2 ^ n) (pow_pos n) (pow-lt few))
 
-module _ (vcs filled picked idle : ℕ) (c : Column) (m : RouterMarks) (standing : Standing ℕ) (v : Verdicts ℕ) (waiting granted lost : ℕ) (h : Held)
-    (told : IsTold filled picked c standing.heads v waiting granted lost) (shows : ShowsFound vcs c m idle h) (i : ℕ) where
+module _ (vcs filled idle : ℕ) (c : Column) (m : RouterMarks) (standing : Standing ℕ) (decided : Decided ℕ) (v : Verdicts ℕ) (waiting granted lost : ℕ) (h : Held)
+    (told : IsTold filled decided.picked c standing v waiting granted lost) (shows : ShowsFound vcs c m idle h) (i : ℕ) where
   abbrev sets : ByVerdict
-  sets = verdict_sets_by standing v waiting granted lost
+  sets = verdict_sets_by standing decided v waiting granted lost
 
   abbrev place : ℕ → ℕ × ℕ
   place o = (o / vcs, o % vcs)
 
   verdict-is : verdict_by (verdict_sets sets) i
-      ≡ verdict_of (has_bit c.waiting i) (has_bit c.active i) (has_bit filled i) (has_bit granted i) (has_bit lost i) (has_bit (lane_ready filled c) i) (has_bit picked i) (has_bit v.moved i)
+      ≡ verdict_of (has_bit c.waiting i) (has_bit c.active i) (has_bit filled i) (has_bit granted i) (has_bit lost i) (has_bit (lane_ready filled c) i) (has_bit decided.picked i) (has_bit v.moved i)
   verdict-is =
-      rw (head-is filled picked c standing v waiting granted lost told i, flit-is filled picked c standing v waiting granted lost told i, idle-is filled picked c standing v waiting granted lost told i, credit-is filled picked c standing v waiting granted lost told i, input-is filled picked c standing v waiting granted lost told i, switch-is filled picked c standing v waiting granted lost told i) refl
+      rw (head-is filled c standing decided v waiting granted lost told i, flit-is filled c standing decided v waiting granted lost told i, idle-is filled c standing decided v waiting granted lost told i, credit-is filled c standing decided v waiting granted lost told i, input-is filled c standing decided v waiting granted lost told i, switch-is filled c standing decided v waiting granted lost told i) refl
 
   follows : IsFound (verdict_by (verdict_sets sets) i) (has_bit c.waiting i) (has_bit c.active i) (has_bit filled i)
   follows =
       subst (λ (x : Verdict). IsFound x (has_bit c.waiting i) (has_bit c.active i) (has_bit filled i)) (sym verdict-is)
-      (found-bits (has_bit c.waiting i) (has_bit c.active i) (has_bit filled i) (has_bit granted i) (has_bit lost i) (has_bit (lane_ready filled c) i) (has_bit picked i) (has_bit v.moved i)
-      (shows.apart i) (told.granted_are i) (told.lost_are i) (ready-sends filled picked c standing v waiting granted lost told i) (told.picked_are i) (told.moved_are i))
+      (found-bits (has_bit c.waiting i) (has_bit c.active i) (has_bit filled i) (has_bit granted i) (has_bit lost i) (has_bit (lane_ready filled c) i) (has_bit decided.picked i) (has_bit v.moved i)
+      (shows.apart i) (told.granted_are i) (told.lost_are i) (ready-sends filled c standing decided v waiting granted lost told i) (told.picked_are i) (told.moved_are i))
 
   number-is : has_bit c.active i ≡ true → least (m.taken i) ≡ h.out_port i * vcs + h.out_vc i
   number-is e = ap least (shows.taken i e) ∙ least-power (h.out_port i * vcs + h.out_vc i) ((shows.number i e).1)

@@ -9,6 +9,7 @@ use Rattle.noc_sets.specs.Counts.{ByVerdict}
 use Rattle.noc_sets.specs.Passes.{lane_heads, lane_no_credit, lane_ready}
 use Rattle.noc_sets.specs.Sets.{less}
 use Rattle.noc_sets.proofs.MemberLemmas.{less_members}
+use Rattle.noc_columns.specs.declared.channels.Decided.{Decided}
 use Rattle.noc_columns.specs.declared.channels.Standing.{Standing}
 use Rattle.noc_columns.specs.declared.channels.Verdicts.{Verdicts}
 use Rattle.noc_cycles.specs.Turning.{verdict_sets_by}
@@ -18,15 +19,14 @@ abbrev pub AreAmong : ℕ → ℕ → Type 0
 AreAmong whole part = (i : ℕ) → has_bit part i ≡ true → has_bit whole i ≡ true
 
 -- this is told of a router with these words before the cycle takes effect, where these channels are filled, and these are picked
-pub record IsTold (filled picked : ℕ) (c : Column) (heads : ℕ) (w : Verdicts ℕ) (waiting granted lost : ℕ) : Type 0 where
-  pub heads_are : heads ≡ lane_heads filled c
+pub record IsTold (filled picked : ℕ) (c : Column) (standing : Standing ℕ) (w : Verdicts ℕ) (waiting granted lost : ℕ) : Type 0 where
+  pub heads_are : standing.heads ≡ lane_heads filled c
+  pub ready_are : standing.ready ≡ lane_ready filled c
   pub granted_are : AreAmong c.waiting granted
   pub lost_are : AreAmong c.waiting lost
-  pub waiting_are : waiting ≡ bit_or (less c.waiting granted) heads
+  pub waiting_are : waiting ≡ bit_or (less c.waiting granted) standing.heads
   pub active : w.active ≡ c.active
   pub no_credit : w.no_credit ≡ lane_no_credit filled c
-  pub lost_input : w.lost_input ≡ less (lane_ready filled c) picked
-  pub lost_switch : w.lost_switch ≡ less picked w.moved
   pub picked_are : AreAmong (lane_ready filled c) picked
   pub moved_are : AreAmong picked w.moved
 
@@ -46,19 +46,12 @@ head-waits true a true = refl
 head-waits true a false = refl
 head-waits false a f = refl
 
--- what has a flit is one of the four: where those that have one are x, the ready ones r, the picked ones p and those that move m
-four-bits : (x r p m : Bool) → (r ≡ true → x ≡ true) → (p ≡ true → r ≡ true) → (m ≡ true → p ≡ true) → (((x && not r) || (r && not p)) || ((p && not m) || m)) ≡ x
-four-bits true true true true rx pr mp = refl
-four-bits true true true false rx pr mp = refl
-four-bits true true false true rx pr mp = no (mp refl)
-four-bits true true false false rx pr mp = refl
-four-bits true false true m rx pr mp = no (pr refl)
-four-bits true false false true rx pr mp = no (mp refl)
-four-bits true false false false rx pr mp = refl
-four-bits false true p m rx pr mp = no (rx refl)
-four-bits false false true m rx pr mp = no (pr refl)
-four-bits false false false true rx pr mp = no (mp refl)
-four-bits false false false false rx pr mp = refl
+-- who has a flit is short of a credit or ready, where the ready ones are r
+two-bits : (x r : Bool) → (r ≡ true → x ≡ true) → ((x && not r) || r) ≡ x
+two-bits true true rx = refl
+two-bits true false rx = refl
+two-bits false true rx = no (rx refl)
+two-bits false false rx = refl
 
 flit-bits : (a f : Bool) → (a && not (a && f)) ≡ (a && not f)
 flit-bits true f = refl
@@ -69,9 +62,9 @@ first true b e = refl
 first false b e = e
 
 -- ---- whether channel k has each verdict
-module _ (filled picked : ℕ) (c : Column) (standing : Standing ℕ) (v : Verdicts ℕ) (waiting granted lost : ℕ) (told : IsTold filled picked c standing.heads v waiting granted lost) (k : ℕ) where
+module _ (filled : ℕ) (c : Column) (standing : Standing ℕ) (decided : Decided ℕ) (v : Verdicts ℕ) (waiting granted lost : ℕ) (told : IsTold filled decided.picked c standing v waiting granted lost) (k : ℕ) where
   abbrev sets : ByVerdict
-  sets = verdict_sets_by standing v waiting granted lost
+  sets = verdict_sets_by standing decided v waiting granted lost
 
   abbrev ready : ℕ
   ready = lane_ready filled c
@@ -104,18 +97,17 @@ module _ (filled picked : ℕ) (c : Column) (standing : Standing ℕ) (v : Verdi
   pub credit-is : has_bit sets.no_credit k ≡ ((has_bit c.active k && has_bit filled k) && not (has_bit ready k))
   credit-is = ap (λ n. has_bit n k) told.no_credit ∙ less_members (bit_and c.active filled) ready k ∙ ap (λ b. b && not (has_bit ready k)) sending-is
 
-  pub input-is : has_bit sets.lost_input k ≡ (has_bit ready k && not (has_bit picked k))
-  input-is = ap (λ n. has_bit n k) told.lost_input ∙ less_members ready picked k
+  pub input-is : has_bit sets.lost_input k ≡ (has_bit ready k && not (has_bit decided.picked k))
+  input-is = ap (λ n. has_bit (less n decided.picked) k) told.ready_are ∙ less_members ready decided.picked k
 
-  pub switch-is : has_bit sets.lost_switch k ≡ (has_bit picked k && not (has_bit sets.moved k))
-  switch-is = ap (λ n. has_bit n k) told.lost_switch ∙ less_members picked sets.moved k
+  pub switch-is : has_bit sets.lost_switch k ≡ (has_bit decided.picked k && not (has_bit sets.moved k))
+  switch-is = less_members decided.picked sets.moved k
 
   pub flit-is : has_bit sets.no_flit k ≡ (has_bit c.active k && not (has_bit filled k))
   flit-is =
-      less_members v.active (bit_or (bit_or v.no_credit v.lost_input) (bit_or v.lost_switch v.moved)) k
+      less_members v.active (bit_or v.no_credit standing.ready) k
       ∙ ap₂ (λ a b. a && not b) (ap (λ n. has_bit n k) told.active)
-      (either_members (bit_or v.no_credit v.lost_input) (bit_or v.lost_switch v.moved) k
-      ∙ ap₂ (λ a b. a || b) (either_members v.no_credit v.lost_input k) (either_members v.lost_switch v.moved k)
-      ∙ ap₂ (λ a b. a || b) (ap₂ (λ a b. a || b) credit-is input-is) (ap (λ b. b || has_bit v.moved k) switch-is)
-      ∙ four-bits (has_bit c.active k && has_bit filled k) (has_bit ready k) (has_bit picked k) (has_bit v.moved k) ready-sends (told.picked_are k) (told.moved_are k))
+      (either_members v.no_credit standing.ready k
+      ∙ ap₂ (λ a b. a || b) credit-is (ap (λ n. has_bit n k) told.ready_are)
+      ∙ two-bits (has_bit c.active k && has_bit filled k) (has_bit ready k) ready-sends)
       ∙ flit-bits (has_bit c.active k) (has_bit filled k)

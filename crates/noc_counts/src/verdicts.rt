@@ -18,17 +18,17 @@ pub(crate) fn words_at(block: &Block, work: &Work, index: usize) -> Nine
     let verdicts = work.verdicts.at(index);
     let heads = work.standing.heads[index];
     let lost_channel = work.lost[index];
-    let stays = verdicts.no_credit | verdicts.lost_input;
-    let goes = verdicts.lost_switch | verdicts.moved;
+    let ready = work.standing.ready[index];
+    let picked = work.decided.picked[index];
     Nine {
         routed: heads,
         granted: block.grants.granted[index],
         moved: verdicts.moved,
-        no_flit: less(verdicts.active, stays | goes),
+        no_flit: less(verdicts.active, verdicts.no_credit | ready),
         no_idle_channel: less(block.inputs.waiting[index], heads | lost_channel),
         lost_channel,
         no_credit: verdicts.no_credit,
-        lost_input: verdicts.lost_input,
-        lost_switch: verdicts.lost_switch,
+        lost_input: less(ready, picked),
+        lost_switch: less(picked, verdicts.moved),
     }
 }

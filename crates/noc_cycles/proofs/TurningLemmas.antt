@@ -429,72 +429,51 @@ module _ (pattern : Pattern) (layout : Layout) (sets : ℕ → ℕ → ℕ) (s :
   abbrev told : ByVerdict
   told = lane_verdicts s.filled decided.picked e.heads e.granted d.chosen.lost e.moved s.column
 
-  told-is : (f : Verdicts ℕ → ℕ) → f w ≡ f (record { active = h.inputs.active; no_credit = v.no_credit; lost_input = less standing.ready decided.picked; lost_switch = less decided.picked w.moved; moved = bit_and decided.picked decided.sends })
+  told-is : (f : Verdicts ℕ → ℕ) → f w ≡ f (record { active = h.inputs.active; no_credit = v.no_credit; moved = bit_and decided.picked decided.sends })
   told-is f = ap f c.settles.verdicts
 
   no_credit-is : lane_no_credit s.filled s.column ≡ w.no_credit
   no_credit-is = sym shows.no_credit_is ∙ sym (told-is (λ x. x.no_credit))
 
-  lost_input-is : less (lane_ready s.filled s.column) decided.picked ≡ w.lost_input
-  lost_input-is = ap (λ x. less x decided.picked) (sym shows.ready) ∙ sym (told-is (λ x. x.lost_input))
+  lost_input-is : less (lane_ready s.filled s.column) decided.picked ≡ less standing.ready decided.picked
+  lost_input-is = ap (λ x. less x decided.picked) (sym shows.ready)
 
-  lost_switch-is : less decided.picked e.moved ≡ w.lost_switch
-  lost_switch-is = ap (less decided.picked) (sym moved-is) ∙ sym (told-is (λ x. x.lost_switch))
+  lost_switch-is : less decided.picked e.moved ≡ less decided.picked w.moved
+  lost_switch-is = ap (less decided.picked) (sym moved-is)
 
   w-active : s.column.active ≡ w.active
   w-active = active-was ∙ sym (told-is (λ x. x.active))
 
-  -- who owns an output channel and has no other verdict has no flit
-  no_flit-is : lane_no_flit s.filled s.column ≡ less w.active (bit_or (bit_or w.no_credit w.lost_input) (bit_or w.lost_switch w.moved))
+  -- who owns an output channel, misses no credit and is not ready has no flit
+  no_flit-is : lane_no_flit s.filled s.column ≡ less w.active (bit_or w.no_credit standing.ready)
   no_flit-is =
-      same-word _ _ (λ k. first k ∙ by (has_bit s.column.active k) (has_bit s.filled k) (has_bit s.column.supplied k) (has_bit decided.picked k) (has_bit decided.sends k) (inside k) ∙ sym (second k))
-      ∙ ap₂ less w-active (ap₂ bit_or (ap₂ bit_or no_credit-is lost_input-is) (ap₂ bit_or lost_switch-is (sym moved-is)))
+      same-word _ _ (λ k. less_members s.column.active s.filled k ∙ by (has_bit s.column.active k) (has_bit s.filled k) (has_bit s.column.supplied k) ∙ sym (second k))
+      ∙ ap₂ less w-active (ap₂ bit_or no_credit-is (sym shows.ready))
     where
       ready : ℕ
       ready = lane_ready s.filled s.column
 
-      inside : (k : ℕ) → has_bit decided.picked k ≡ true → ((has_bit s.column.active k && has_bit s.filled k) && has_bit s.column.supplied k) ≡ true
-      inside k p = sym (both_members (bit_and s.column.active s.filled) s.column.supplied k ∙ ap (λ b. b && has_bit s.column.supplied k) (both_members s.column.active s.filled k)) ∙ picked-ready k p
+      by : (x f u : Bool) → (x && not f) ≡ (x && not (((x && f) && not ((x && f) && u)) || ((x && f) && u)))
+      by false f u = refl
+      by true false u = refl
+      by true true true = refl
+      by true true false = refl
 
-      first : (k : ℕ) → has_bit (less s.column.active s.filled) k ≡ (has_bit s.column.active k && not (has_bit s.filled k))
-      first k = less_members s.column.active s.filled k
+      filled : (k : ℕ) → has_bit (bit_and s.column.active s.filled) k ≡ (has_bit s.column.active k && has_bit s.filled k)
+      filled k = both_members s.column.active s.filled k
 
-      by : (x f u p g : Bool) → (p ≡ true → ((x && f) && u) ≡ true)
-          → (x && not f) ≡ (x && not ((((x && f) && not ((x && f) && u)) || (((x && f) && u) && not p)) || ((p && not (p && g)) || (p && g))))
-      by false f u p g i = refl
-      by true false u true g i = absurd (false≢true (i refl))
-      by true false u false g i = refl
-      by true true true true true i = refl
-      by true true true true false i = refl
-      by true true true false g i = refl
-      by true true false true g i = absurd (false≢true (i refl))
-      by true true false false g i = refl
+      readies : (k : ℕ) → has_bit ready k ≡ ((has_bit s.column.active k && has_bit s.filled k) && has_bit s.column.supplied k)
+      readies k = both_members (bit_and s.column.active s.filled) s.column.supplied k ∙ ap (λ b. b && has_bit s.column.supplied k) (filled k)
 
-      second : (k : ℕ) → has_bit (less s.column.active (bit_or (bit_or (lane_no_credit s.filled s.column) (less ready decided.picked)) (bit_or (less decided.picked e.moved) e.moved))) k
+      second : (k : ℕ) → has_bit (less s.column.active (bit_or (lane_no_credit s.filled s.column) ready)) k
           ≡ (has_bit s.column.active k
-          && not ((((has_bit s.column.active k && has_bit s.filled k) && not ((has_bit s.column.active k && has_bit s.filled k) && has_bit s.column.supplied k))
-          || (((has_bit s.column.active k && has_bit s.filled k) && has_bit s.column.supplied k) && not (has_bit decided.picked k)))
-          || ((has_bit decided.picked k && not (has_bit decided.picked k && has_bit decided.sends k)) || (has_bit decided.picked k && has_bit decided.sends k))))
+          && not (((has_bit s.column.active k && has_bit s.filled k) && not ((has_bit s.column.active k && has_bit s.filled k) && has_bit s.column.supplied k))
+          || ((has_bit s.column.active k && has_bit s.filled k) && has_bit s.column.supplied k)))
       second k =
           less_members s.column.active _ k
           ∙ ap (λ b. has_bit s.column.active k && not b)
-          (either_members (bit_or (lane_no_credit s.filled s.column) (less ready decided.picked)) (bit_or (less decided.picked e.moved) e.moved) k
-          ∙ ap₂ (λ x y. x || y)
-          (either_members (lane_no_credit s.filled s.column) (less ready decided.picked) k ∙ ap₂ (λ x y. x || y) (credit k) (less_members ready decided.picked k ∙ ap (λ b. b && not (has_bit decided.picked k)) (readies k)))
-          (either_members (less decided.picked e.moved) e.moved k
-          ∙ ap₂ (λ x y. x || y) (less_members decided.picked e.moved k ∙ ap (λ b. has_bit decided.picked k && not b) (moves k)) (moves k)))
-        where
-          filled : (k : ℕ) → has_bit (bit_and s.column.active s.filled) k ≡ (has_bit s.column.active k && has_bit s.filled k)
-          filled k = both_members s.column.active s.filled k
-
-          readies : (k : ℕ) → has_bit ready k ≡ ((has_bit s.column.active k && has_bit s.filled k) && has_bit s.column.supplied k)
-          readies k = both_members (bit_and s.column.active s.filled) s.column.supplied k ∙ ap (λ b. b && has_bit s.column.supplied k) (filled k)
-
-          credit : (k : ℕ) → has_bit (lane_no_credit s.filled s.column) k ≡ ((has_bit s.column.active k && has_bit s.filled k) && not ((has_bit s.column.active k && has_bit s.filled k) && has_bit s.column.supplied k))
-          credit k = less_members (bit_and s.column.active s.filled) ready k ∙ ap₂ (λ x y. x && not y) (filled k) (readies k)
-
-          moves : (k : ℕ) → has_bit e.moved k ≡ (has_bit decided.picked k && has_bit decided.sends k)
-          moves k = ap (λ x. has_bit x k) d.moved ∙ both_members decided.picked decided.sends k
+          (either_members (lane_no_credit s.filled s.column) ready k
+          ∙ ap₂ (λ x y. x || y) (less_members (bit_and s.column.active s.filled) ready k ∙ ap₂ (λ x y. x && not y) (filled k) (readies k)) (readies k))
 
   -- who waits afterwards, has not come to wait and has not lost one finds no idle output channel
   no_idle-is : less s.column.waiting (bit_or e.granted d.chosen.lost) ≡ less n.inputs.waiting (bit_or standing.heads lost)
@@ -530,7 +509,7 @@ module _ (pattern : Pattern) (layout : Layout) (sets : ℕ → ℕ → ℕ) (s :
           ∙ ap (λ b. b || has_bit standing.heads k) (less_members s.column.waiting granted k))
           (either_members standing.heads lost k)
 
-  told-sets : told ≡ verdict_sets_by standing w n.inputs.waiting granted lost
+  told-sets : told ≡ verdict_sets_by standing decided w n.inputs.waiting granted lost
   told-sets x = record {
     routed = sym heads-is x;
     granted = sym granted-is x;
@@ -574,7 +553,7 @@ module _ (pattern : Pattern) (layout : Layout) (starts : List Start) (sets : ℕ
     happened = not (nat_eq (bit_or (bit_or (bit_or (came_in layout cycle b) d.effects.heads) d.effects.granted) d.effects.moved) 0);
   }
 
-  pub has-worked : HasWorkedHeld pattern layout starts sets cycle b s d.chosen n (verdict_sets_by standing w n.inputs.waiting granted lost) (record left { credits = gone }) arrived happens
+  pub has-worked : HasWorkedHeld pattern layout starts sets cycle b s d.chosen n (verdict_sets_by standing decided w n.inputs.waiting granted lost) (record left { credits = gone }) arrived happens
   has-worked = record {
     turn = the-turn;
     works = record {
@@ -640,9 +619,9 @@ module _ (pattern : Pattern) (layout : Layout) (starts : List Start) (sets : ℕ
 
 pub worked-through : (pattern : Pattern) (layout : Layout) (starts : List Start) (sets : ℕ → ℕ → ℕ) (cycle : ℕ) (b : Router) (n : Held) (x : Worked) (happens : Bool) (goes : HasGoneThrough pattern layout starts sets cycle b n x happens)
     → FitsLayout pattern layout
-    → HasWorkedHeld pattern layout starts sets cycle b (still_of layout starts cycle goes.takes.up b) goes.decides.chosen n (verdict_sets_by x.standing x.verdicts n.inputs.waiting x.granted x.lost) x.left x.arrived happens
+    → HasWorkedHeld pattern layout starts sets cycle b (still_of layout starts cycle goes.takes.up b) goes.decides.chosen n (verdict_sets_by x.standing x.decided x.verdicts n.inputs.waiting x.granted x.lost) x.left x.arrived happens
 worked-through pattern layout starts sets cycle b n x happens goes fits =
     let concludes = coe 0 1 (y. HasConcludedHeld pattern x.standing x.decided x.granted (goes.sent_is y) x.arrived goes.chosen n goes.before x.verdicts) goes.concludes in
     coe 0 1
-    (y. HasWorkedHeld pattern layout starts sets cycle b (still_of layout starts cycle goes.takes.up b) goes.decides.chosen n (verdict_sets_by x.standing x.verdicts n.inputs.waiting x.granted x.lost) (sym goes.sent_is y) x.arrived happens)
+    (y. HasWorkedHeld pattern layout starts sets cycle b (still_of layout starts cycle goes.takes.up b) goes.decides.chosen n (verdict_sets_by x.standing x.decided x.verdicts n.inputs.waiting x.granted x.lost) (sym goes.sent_is y) x.arrived happens)
     (has-worked pattern layout starts sets cycle b goes.still goes.chosen n x.standing x.decided x.granted x.lost x.left.credits x.arrived goes.sent goes.before x.verdicts goes.comes happens fits goes.takes goes.decides concludes goes.happened)

@@ -8,6 +8,7 @@ use Rattle.noc_sets.specs.Grants.{Allocation}
 use Rattle.noc_sets.specs.Layout.{Layout}
 use Rattle.noc_sets.specs.Sets.{less}
 use Rattle.noc_sets.specs.Source.{Start}
+use Rattle.noc_columns.specs.declared.channels.Decided.{Decided}
 use Rattle.noc_columns.specs.declared.channels.Links.{Links}
 use Rattle.noc_columns.specs.declared.channels.Standing.{Standing}
 use Rattle.noc_columns.specs.declared.channels.Verdicts.{Verdicts}
@@ -19,18 +20,17 @@ use Rattle.noc_cycles.specs.declared.pattern.Pattern.{Pattern}
 
 -- the verdicts of a router on its input channels, where these wait after the cycle, and those are
 -- granted an output channel or ask for one and are not
-abbrev pub verdict_sets_by : Standing ℕ → Verdicts ℕ → ℕ → ℕ → ℕ → ByVerdict
-verdict_sets_by standing w waiting granted lost = record {
+abbrev pub verdict_sets_by : Standing ℕ → Decided ℕ → Verdicts ℕ → ℕ → ℕ → ℕ → ByVerdict
+verdict_sets_by standing decided w waiting granted lost = record {
   routed = standing.heads;
   granted = granted;
   moved = w.moved;
-  no_flit = less w.active
-      (bit_or (bit_or w.no_credit w.lost_input) (bit_or w.lost_switch w.moved));
+  no_flit = less w.active (bit_or w.no_credit standing.ready);
   no_idle_channel = less waiting (bit_or standing.heads lost);
   lost_channel = lost;
   no_credit = w.no_credit;
-  lost_input = w.lost_input;
-  lost_switch = w.lost_switch;
+  lost_input = less standing.ready decided.picked;
+  lost_switch = less decided.picked w.moved;
 }
 
 -- what a router holds after a cycle shows its turn

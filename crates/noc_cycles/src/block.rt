@@ -42,7 +42,7 @@ pub struct Work {
     pub decided: Decided<Words>,
     /// Those that ask for an output channel and are not granted it.
     pub lost: Words,
-    /// Their verdicts.
+    /// What their verdicts follow from, with what they can do and what is decided of them.
     pub verdicts: Verdicts<Words>,
     /// The input channels from which packets leave the network.
     pub arrived: Words,

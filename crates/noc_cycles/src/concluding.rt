@@ -13,8 +13,9 @@ use noc_columns::{
     Digits, GROUP, Links, Marks, Moves, ROUTERS, RouterPorts, Words, give_back, pay, settle,
 };
 
-/// What is decided in a block takes effect: on its channels, on their verdicts, and on what leaves
-/// the routers. The answer is the routers from which a packet leaves the network.
+/// What is decided in a block takes effect on its channels, and on what leaves the routers. It is
+/// told what the verdicts follow from. The answer is the routers from which a packet leaves the
+/// network.
 #[inline(never)]
 pub fn conclude(
     pattern: &Pattern,

@@ -79,8 +79,6 @@ pub(crate) const NO_WORK: Work = Work {
     verdicts: Verdicts {
         active: NO_WORDS,
         no_credit: NO_WORDS,
-        lost_input: NO_WORDS,
-        lost_switch: NO_WORDS,
         moved: NO_WORDS,
     },
     arrived: NO_WORDS,

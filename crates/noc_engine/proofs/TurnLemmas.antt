@@ -119,12 +119,12 @@ findings-follow : (pattern : Pattern) (layout : Layout) (sets : ℕ → ℕ → 
     → ((i : ℕ) → has_bit a.inputs.active i ≡ true → has_bit a.waiting i ≡ false) → MembersAreBelow (channels_count pattern) a.waiting → MembersAreBelow (channels_count pattern) a.idle
     → ((i o : ℕ) → has_bit a.waiting i ≡ true → has_bit (a.set i) o ≡ true → has_bit a.wanted o ≡ true)
     → (i : ℕ)
-    → finding_of pattern.table.ports.links.vcs (verdict_sets_by standing w n.inputs.waiting granted lost) (outs_of (channels_count pattern) pattern.table.ports.links.vcs granted n) n i
-    ≡ found_in pattern.table.ports.links.vcs (verdict_sets_by standing w n.inputs.waiting granted lost) s.filled s.column s.marks i
+    → finding_of pattern.table.ports.links.vcs (verdict_sets_by standing decided w n.inputs.waiting granted lost) (outs_of (channels_count pattern) pattern.table.ports.links.vcs granted n) n i
+    ≡ found_in pattern.table.ports.links.vcs (verdict_sets_by standing decided w n.inputs.waiting granted lost) s.filled s.column s.marks i
 findings-follow pattern layout sets s a h n standing decided granted lost arrived left gone v w shows did done apart below idles wanted i =
     let vcs = pattern.table.ports.links.vcs in
     let size = channels_count pattern in
-    found-is vcs s.filled decided.picked (outs_of size vcs granted n) s.column s.marks standing w n.inputs.waiting granted lost n
+    found-is vcs s.filled (outs_of size vcs granted n) s.column s.marks standing decided w n.inputs.waiting granted lost n
     (is-told pattern layout sets s a h standing decided granted lost v.no_credit left shows did v w n arrived gone refl done)
     (shows-found pattern layout sets s a h standing decided granted lost v.no_credit left shows did v w n arrived gone refl done apart (outs_of size vcs granted n)
     (λ k waits. asks-for-granted pattern layout sets s a h standing decided granted lost v.no_credit left shows did v w n arrived gone refl done below idles wanted k waits
@@ -223,7 +223,7 @@ module _ (count : ℕ) (net : Setup) (layout : Layout) (pattern : Pattern) (n no
   }
 
   worked : HasWorkedHeld pattern layout (all_starts net) sets n b (still_of layout (all_starts net) n takes.up b) goes.decides.chosen (held_at ports b3 r)
-      (verdict_sets_by (standing_at ports w3.standing r) (verdicts_at ports w3.verdicts r) (all b3.inputs.waiting) (all b3.grants.granted) (all w3.lost)) (links_at ports gone r) (all w3.arrived) happens
+      (verdict_sets_by (standing_at ports w3.standing r) (decided_at ports w3.decided r) (verdicts_at ports w3.verdicts r) (all b3.inputs.waiting) (all b3.grants.granted) (all w3.lost)) (links_at ports gone r) (all w3.arrived) happens
   worked = worked-through pattern layout (all_starts net) sets n b (held_at ports b3 r) (worked_at ports b3 w3 gone r) happens goes fits_layout
 
   tells : Tells net.relation.grid pattern.table.ports.links.vcs node (all b3.grants.granted) (held_at ports b2 r).out_port (held_at ports b2 r).out_vc (held_at ports b2 r).packet (tells_in net layout n b worked.turn)

@@ -9,7 +9,7 @@ pub returns : goal.returns
 returns c = λ pattern layout sets s a h n standing decided granted lost arrived left gone v w shows did done wants i.
     let vcs = pattern.table.ports.links.vcs in
     let size = (pattern.table.ports.links.width + 1) * vcs in
-    found-is vcs s.filled decided.picked (outs_of size vcs granted n) s.column s.marks standing w n.inputs.waiting granted lost n
+    found-is vcs s.filled (outs_of size vcs granted n) s.column s.marks standing decided w n.inputs.waiting granted lost n
     (is-told pattern layout sets s a h standing decided granted lost v.no_credit left shows did v w n arrived gone refl done)
     (shows-found pattern layout sets s a h standing decided granted lost v.no_credit left shows did v w n arrived gone refl done wants.apart (outs_of size vcs granted n)
     (λ i waits. asks-for-granted pattern layout sets s a h standing decided granted lost v.no_credit left shows did v w n arrived gone refl done wants.waiting_below wants.idle_below wants.wanted i waits
