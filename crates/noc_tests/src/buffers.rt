@@ -57,17 +57,41 @@ fn gives(bank: &mut Bank, packet: u32) -> bool
     take(bank) == Some(flit(packet))
 }
 
+// Puts the flits of packets 1 and 2 into one bank and that of packet 4 into the other, if there is
+// room.
+fn fill(one: &mut Bank, other: &mut Bank) -> bool
+    requires one { 0 < length one.old.rings }
+    requires other { 0 < length other.old.rings }
+    ensures one { length one.new.rings ≡ length one.old.rings }
+    ensures other { length other.new.rings ≡ length other.old.rings }
+{
+    let first = put(one, flit(1));
+    let second = put(one, flit(2));
+    let third = put(other, flit(4));
+    first && second && third
+}
+
+// Whether one bank has the flits of packets 2 and 3, and the other that of packet 5. They are taken.
+fn give(one: &mut Bank, other: &mut Bank) -> bool
+    requires one { 0 < length one.old.rings }
+    requires other { 0 < length other.old.rings }
+{
+    let second = gives(one, 2);
+    let third = gives(one, 3);
+    let fifth = gives(other, 5);
+    second && third && fifth && one.front(0).is_none() && other.front(0).is_none()
+}
+
 #[test]
 fn banks_go_to_a_thread_and_come_back_with_their_flits(rt: HostRuntime) -> Result<(), Fail> {
     let mut one = Bank::new(rt.alloc(), 2, 2)?;
     let mut other = Bank::new(rt.alloc(), 1, 1)?;
-    assert!(rt; put(&mut one, flit(1)) && put(&mut one, flit(2)) && put(&mut other, flit(4)));
+    assert!(rt; fill(&mut one, &mut other));
     let (mut one, mut other) = thread::join(
         &rt,
         move || replaced(one, flit(3)),
         move || replaced(other, flit(5)),
     );
-    assert!(rt; gives(&mut one, 2) && gives(&mut one, 3) && one.front(0).is_none());
-    assert!(rt; gives(&mut other, 5) && other.front(0).is_none());
+    assert!(rt; give(&mut one, &mut other));
     Ok(())
 }

@@ -16,29 +16,41 @@ fn is_output(channel: &OutputChannel, state: OutputState, credit: Option<usize>)
     channel.state() == state && channel.credit() == credit
 }
 
-#[test]
-fn a_link_channel_drains_until_its_last_credit_is_back(rt: HostRuntime) {
+// Whether a link channel of two credits drains until its last credit is back, and takes no other.
+fn drains() -> bool {
     let mut channel = OutputChannel::link(2);
     channel.hold(4, 7);
-    assert!(rt; is_output(&channel, OutputState::Owned(4, 7), Some(2)));
+    let owned = is_output(&channel, OutputState::Owned(4, 7), Some(2));
     channel.spend(false);
     channel.spend(true);
-    assert!(rt; is_output(&channel, OutputState::Draining, Some(0)));
-    assert!(rt; channel.credit_back().is_ok());
-    assert!(rt; is_output(&channel, OutputState::Draining, Some(1)));
-    assert!(rt; channel.credit_back().is_ok());
-    assert!(rt; is_output(&channel, OutputState::Idle, Some(2)));
-    assert!(rt; channel.credit_back().is_err());
-    assert!(rt; is_output(&channel, OutputState::Idle, Some(2)));
+    let none = is_output(&channel, OutputState::Draining, Some(0));
+    let first = channel.credit_back().is_ok();
+    let one = is_output(&channel, OutputState::Draining, Some(1));
+    let last = channel.credit_back().is_ok();
+    let idle = is_output(&channel, OutputState::Idle, Some(2));
+    let another = channel.credit_back().is_ok();
+    let stays = is_output(&channel, OutputState::Idle, Some(2));
+    owned && none && first && one && last && idle && !another && stays
+}
+
+#[test]
+fn a_link_channel_drains_until_its_last_credit_is_back(rt: HostRuntime) {
+    assert!(rt; drains());
+}
+
+// Whether an ejection channel takes no credit, and is idle when it is released.
+fn is_idle_at_once() -> bool {
+    let mut channel = OutputChannel::ejection();
+    channel.hold(0, 3);
+    let taken = channel.credit_back().is_ok();
+    let credit = channel.credit();
+    channel.release();
+    !taken && credit.is_none() && channel.state() == OutputState::Idle
 }
 
 #[test]
 fn an_ejection_channel_is_idle_at_once_and_takes_no_credit(rt: HostRuntime) {
-    let mut channel = OutputChannel::ejection();
-    channel.hold(0, 3);
-    assert!(rt; channel.credit_back().is_err() && channel.credit().is_none());
-    channel.release();
-    assert!(rt; channel.state() == OutputState::Idle);
+    assert!(rt; is_idle_at_once());
 }
 
 // Dimension order on a line of two routers, with one channel on each link.
@@ -126,37 +138,61 @@ fn sends(channel: &mut InputChannel, bank: &mut Bank, index: u8) -> bool
     bank.len(0) > 0 && channel.send(bank, 0) == flit(index)
 }
 
-// It takes a head, and none behind it until that is routed; then what follows,
-// as far as there is room.
+// Whether it takes a head, and none behind it until that is routed; then what follows, as far as
+// there is room.
+fn takes_one_packet(channel: &mut InputChannel, bank: &mut Bank, line: &Relation) -> bool
+    requires ring { 0 < length bank.old.rings }
+    requires grid { line.now.grid ≡ record { wraps = false; radix = 2 ∷ [] } }
+    requires vcs { line.now.vcs ≡ 1 }
+{
+    let without_head = land(channel, bank, line, 1);
+    let packet = channel.packet();
+    let head = land(channel, bank, line, 0);
+    let arrived = is_input(channel, InputState::Idle, Some(7));
+    let before_route = land(channel, bank, line, 1);
+    let routed = route(channel);
+    let out_of_order = land(channel, bank, line, 2);
+    let body = land(channel, bank, line, 1);
+    let beyond_room = land(channel, bank, line, 2);
+    let refused = without_head || before_route || out_of_order || beyond_room;
+    let taken = head && arrived && routed && body;
+    packet.is_none() && !refused && taken && bank.len(0) == 2
+}
+
 #[test]
 fn an_input_channel_takes_one_packet(rt: HostRuntime) -> Result<(), Fail> {
     let line = line_of_two(rt.alloc())?;
     let mut bank = Bank::new(rt.alloc(), 1, 2)?;
-    let mut channel = InputChannel::new();
-    assert!(rt; !land(&mut channel, &mut bank, &line, 1) && channel.packet().is_none());
-    assert!(rt; land(&mut channel, &mut bank, &line, 0));
-    assert!(rt; is_input(&channel, InputState::Idle, Some(7)));
-    assert!(rt; !land(&mut channel, &mut bank, &line, 1) && route(&mut channel));
-    assert!(rt; !land(&mut channel, &mut bank, &line, 2));
-    assert!(rt; land(&mut channel, &mut bank, &line, 1));
-    assert!(rt; !land(&mut channel, &mut bank, &line, 2) && bank.len(0) == 2);
+    assert!(rt; takes_one_packet(&mut InputChannel::new(), &mut bank, &line));
     Ok(())
 }
 
-// The packet of a source goes on flit by flit; with its tail the channel is idle and has no packet.
+// Whether the packet of a source goes on flit by flit, and with its tail the channel is idle and
+// has no packet.
+fn is_free_behind_its_tail(channel: &mut InputChannel, bank: &mut Bank) -> bool
+    requires { 0 < length bank.old.rings }
+{
+    let started = inject(channel, bank, 0);
+    let routed = route(channel);
+    let waiting = InputState::Waiting(ChannelSet::empty().with(2));
+    let waits = is_input(channel, waiting, Some(7));
+    let granted = grant(channel);
+    let head = sends(channel, bank, 0);
+    let holds = is_input(channel, InputState::Active(2), Some(7));
+    let followed = inject(channel, bank, 1);
+    let ended = inject(channel, bank, 2);
+    let body = sends(channel, bank, 1);
+    let still_holds = is_input(channel, InputState::Active(2), Some(7));
+    let tail = sends(channel, bank, 2);
+    let injected = started && followed && ended;
+    let sent = granted && head && body && tail;
+    let held = routed && waits && holds && still_holds;
+    injected && sent && held && is_input(channel, InputState::Idle, None)
+}
+
 #[test]
 fn an_input_channel_is_free_behind_its_tail(rt: HostRuntime) -> Result<(), Fail> {
     let mut bank = Bank::new(rt.alloc(), 1, 2)?;
-    let mut channel = InputChannel::new();
-    assert!(rt; inject(&mut channel, &mut bank, 0) && route(&mut channel));
-    let waiting = InputState::Waiting(ChannelSet::empty().with(2));
-    assert!(rt; is_input(&channel, waiting, Some(7)));
-    assert!(rt; grant(&mut channel) && sends(&mut channel, &mut bank, 0));
-    assert!(rt; is_input(&channel, InputState::Active(2), Some(7)));
-    assert!(rt; inject(&mut channel, &mut bank, 1) && inject(&mut channel, &mut bank, 2));
-    assert!(rt; sends(&mut channel, &mut bank, 1));
-    assert!(rt; is_input(&channel, InputState::Active(2), Some(7)));
-    assert!(rt; sends(&mut channel, &mut bank, 2));
-    assert!(rt; is_input(&channel, InputState::Idle, None));
+    assert!(rt; is_free_behind_its_tail(&mut InputChannel::new(), &mut bank));
     Ok(())
 }

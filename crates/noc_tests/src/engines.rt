@@ -13,7 +13,10 @@ fn runs_by_columns(alloc: Global, radix: &[usize], vcs: usize) -> Result<bool, F
     let mesh = relation(alloc, Kind::Mesh, radix, vcs, Rule::Dor)?;
     let made = network(alloc, mesh, 16, &[])?;
     let by_columns = made.runs_by_columns();
-    Ok(by_columns && !Network::from_parts(made.into_parts()).runs_by_columns())
+    let again = Network::from_parts(made.into_parts());
+    let by_routers = !again.runs_by_columns();
+    drop(again);
+    Ok(by_columns && by_routers)
 }
 
 // Shapes, and how many virtual channels their links have.

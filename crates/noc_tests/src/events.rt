@@ -21,7 +21,9 @@ fn waiting(alloc: Global) -> Result<Network, Fail>
 fn parts_make_the_network_again(rt: HostRuntime) -> Result<(), Fail> {
     let mut line = Network::from_parts(waiting(rt.alloc())?.into_parts());
     line.run(16);
-    assert!(rt; are_out(&line, LINE));
+    let are_out = are_out(&line, LINE);
+    drop(line);
+    assert!(rt; are_out);
     Ok(())
 }
 
@@ -45,8 +47,15 @@ fn backwards(core: &mut Core) {
 // Whether a core is a network of so many cycles, whose packets are out in these ones.
 fn is_network(core: Core, count: u64, cycles: &[Option<u64>]) -> bool {
     match core.finish() {
-        Ok(line) => line.count() == count && are_out(&line, cycles),
-        Err(_) => false,
+        Ok(line) => {
+            let is_as_wanted = line.count() == count && are_out(&line, cycles);
+            drop(line);
+            is_as_wanted
+        }
+        Err(core) => {
+            drop(core);
+            false
+        }
     }
 }
 
@@ -105,15 +114,27 @@ const SECOND: &[(Event, bool)] = &[
     (Event::Take(5, 0), false),
 ];
 
+// Whether a router of a line of two waits for its neighbour, and then the two are in step.
+fn waits(core: Core) -> bool
+    requires { core.net.relation.grid ≡ record { wraps = false; radix = 2 ∷ [] } }
+{
+    let mut core = core;
+    let is_ahead = agree(&mut core, FIRST) && is_at(&core, [1, 0], [2, 0]);
+    let mut core = match core.finish() {
+        Err(core) => core,
+        Ok(line) => {
+            drop(line);
+            return false;
+        }
+    };
+    let is_level = agree(&mut core, SECOND) && is_at(&core, [1, 1], [1, 1]);
+    let is_network = is_network(core, 1, &[]);
+    is_ahead && is_level && is_network
+}
+
 #[test]
 fn a_router_waits_for_its_neighbour(rt: HostRuntime) -> Result<(), Fail> {
-    let mut core = Core::new(line_of_two(rt.alloc())?);
-    assert!(rt; agree(&mut core, FIRST) && is_at(&core, [1, 0], [2, 0]));
-    let Err(mut core) = core.finish() else {
-        panic!(rt; "finished")
-    };
-    assert!(rt; agree(&mut core, SECOND) && is_at(&core, [1, 1], [1, 1]));
-    assert!(rt; is_network(core, 1, &[]));
+    assert!(rt; waits(Core::new(line_of_two(rt.alloc())?)));
     Ok(())
 }
 
@@ -123,7 +144,10 @@ const DECIDED: &[(Event, bool)] = &[(Event::Take(0, 0), true), (Event::Decide(0)
 #[test]
 fn nothing_is_found_before_a_decide(rt: HostRuntime) -> Result<(), Fail> {
     let mut core = Core::new(line_of_two(rt.alloc())?);
-    assert!(rt; core.findings(0).is_empty());
-    assert!(rt; agree(&mut core, DECIDED) && core.findings(0).len() == 3);
+    let before = core.findings(0).len();
+    let are_ready = agree(&mut core, DECIDED);
+    let after = core.findings(0).len();
+    drop(core);
+    assert!(rt; are_ready && before == 0 && after == 3);
     Ok(())
 }

@@ -1,32 +1,41 @@
 //! Calls that take memory, and calls that take none once a network is made. `run_growth.py`
 //! refuses their growths one by one, and counts them.
 
-ghost use Rattle.std.specs.Prelude.{◌≡◌, ◌∷◌, [], ◌<◌, ◌≤◌, false};
-ghost use Rattle.noc_net.specs.declared.workers.TheConstants.{MAX_WORKERS};
+ghost use Rattle.std.specs.Prelude.{◌≡◌, ◌∷◌, [], false};
 
 use crate::networks::{line_of_three, relation};
 use crate::read::{LINE, are_out, has_counts};
+use crate::threads::line_goes_out;
 use noc_files::{Out, write_findings, write_latency, write_stalls, write_summary};
 use noc_net::{Core, Event, Network};
-use noc_route::Rule;
+use noc_packet::Memory;
+use noc_route::{Relation, Rule};
 use noc_router::{Plan, Router};
-use noc_tiles::{AllOpen, run_tiles};
+use noc_tiles::AllOpen;
 use noc_topo::Kind;
+use std::alloc::Global;
 use std::io;
 use std::io::Write;
-use std::process::Abort;
-use std::sync::Wait;
 use std::test::Fail;
-use std::thread::Threads;
+
+// Makes router 0 of a relation, and a plan. Whether nothing has happened at the router.
+fn are_made(alloc: Global, relation: &Relation) -> Result<bool, Memory> {
+    if relation.shape().nodes() == 0 {
+        return Ok(false);
+    }
+    let router = Router::new(alloc, relation, 0, 2, Vec::new(alloc), Vec::new(alloc))?;
+    let is_new = router.last_event().is_none();
+    drop(router);
+    let plan = Plan::new(alloc, relation)?;
+    drop(plan);
+    Ok(is_new)
+}
 
 #[test]
 fn a_router_and_a_plan_are_made(rt: HostRuntime) -> Result<(), Fail> {
     let line = relation(rt.alloc(), Kind::Mesh, &[2], 1, Rule::Dor)?;
-    assert!(rt; line.shape().nodes() > 0);
-    let none = Vec::new(rt.alloc());
-    let router = Router::new(rt.alloc(), &line, 0, 2, none, Vec::new(rt.alloc()))?;
-    let _plan = Plan::new(rt.alloc(), &line)?;
-    assert!(rt; router.last_event().is_none());
+    let are_made = are_made(rt.alloc(), &line)?;
+    assert!(rt; are_made);
     Ok(())
 }
 
@@ -34,7 +43,9 @@ fn a_router_and_a_plan_are_made(rt: HostRuntime) -> Result<(), Fail> {
 #[test]
 fn a_line_is_made(rt: HostRuntime) -> Result<(), Fail> {
     let line = line_of_three(rt.alloc())?;
-    assert!(rt; line.packets() == 2);
+    let packets = line.packets();
+    drop(line);
+    assert!(rt; packets == 2);
     Ok(())
 }
 
@@ -57,7 +68,9 @@ fn a_line_runs_twice_and_is_read(rt: HostRuntime) -> Result<(), Fail> {
     let mut line = line_of_three(rt.alloc())?;
     line.run(4);
     line.run(16);
-    assert!(rt; is_read(&line));
+    let is_read = is_read(&line);
+    drop(line);
+    assert!(rt; is_read);
     Ok(())
 }
 
@@ -95,7 +108,9 @@ fn reported(network: &Network) -> Option<usize> {
 fn a_line_is_reported(rt: HostRuntime) -> Result<(), Fail> {
     let mut line = line_of_three(rt.alloc())?;
     line.run(20);
-    assert!(rt; reported(&line).is_some_and(|bytes| bytes > 500));
+    let reported = reported(&line);
+    drop(line);
+    assert!(rt; reported > Some(500));
     Ok(())
 }
 
@@ -112,39 +127,45 @@ fn goes_on(core: &mut Core) -> bool
     is_done && core.steps(0) == 5 && core.beats(0, 0) == 0
 }
 
+// Whether a core is no network, since its routers are at different cycles.
+fn is_between(core: Core) -> bool {
+    match core.finish() {
+        Ok(line) => {
+            drop(line);
+            false
+        }
+        Err(core) => {
+            drop(core);
+            true
+        }
+    }
+}
+
 #[test]
 fn a_core_of_a_line_is_read(rt: HostRuntime) -> Result<(), Fail> {
     let mut line = line_of_three(rt.alloc())?;
     line.run(4);
     let mut core = Core::new(line);
-    assert!(rt; goes_on(&mut core) && core.finish().is_err());
-    Ok(())
-}
-
-// The line by so many workers, with both packets out where they are.
-fn run_line<R: AllocGlobal + Abort + Threads + Wait + Sync>(
-    rt: &R,
-    workers: usize,
-) -> Result<(), Fail>
-    requires { (0 < workers) × (workers ≤ MAX_WORKERS) }
-{
-    let a = rt.alloc();
-    let line = run_tiles(rt, a, line_of_three(a)?, 20, workers, &AllOpen)?;
-    assert!(rt; are_out(&line, LINE));
+    let goes_on = goes_on(&mut core);
+    let is_between = is_between(core);
+    assert!(rt; goes_on && is_between);
     Ok(())
 }
 
 #[test]
 fn a_line_runs_by_one_worker(rt: HostRuntime) -> Result<(), Fail> {
-    run_line(&rt, 1)
+    assert!(rt; line_goes_out(&rt, 1, &AllOpen)?);
+    Ok(())
 }
 
 #[test]
 fn a_line_runs_by_two_workers(rt: HostRuntime) -> Result<(), Fail> {
-    run_line(&rt, 2)
+    assert!(rt; line_goes_out(&rt, 2, &AllOpen)?);
+    Ok(())
 }
 
 #[test]
 fn a_line_runs_by_three_workers(rt: HostRuntime) -> Result<(), Fail> {
-    run_line(&rt, 3)
+    assert!(rt; line_goes_out(&rt, 3, &AllOpen)?);
+    Ok(())
 }

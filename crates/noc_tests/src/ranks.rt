@@ -37,7 +37,10 @@ fn has_rank(shape: &Shape, ranks: &Ranks, router: usize, port: usize, rank: Opti
 fn ranks_are_made_from_rows(rt: HostRuntime) -> Result<(), Fail> {
     let line = Shape::new(Kind::Mesh, &[2])?;
     let ranks = Ranks::from_rows(rt.alloc(), &line, 1, &ROWS)?;
-    assert!(rt; has_rank(&line, &ranks, 0, 0, None) && has_rank(&line, &ranks, 1, 1, Some(7)));
+    let is_adaptive = has_rank(&line, &ranks, 0, 0, None);
+    let is_ranked = has_rank(&line, &ranks, 1, 1, Some(7));
+    drop(ranks);
+    assert!(rt; is_adaptive && is_ranked);
     Ok(())
 }
 

@@ -83,8 +83,9 @@ fn goes_so_far(alloc: Global, count: usize, end: End) -> Result<bool, AllocError
 #[test]
 fn pieces_into_a_sink_that_takes_some_bytes(rt: HostRuntime) -> Result<(), Fail> {
     for count in 0..TEXT.len() + 1 {
-        assert!(rt; goes_so_far(rt.alloc(), count, End::TakesNothing)?);
-        assert!(rt; goes_so_far(rt.alloc(), count, End::Fails)?);
+        let takes_nothing = goes_so_far(rt.alloc(), count, End::TakesNothing)?;
+        let fails = goes_so_far(rt.alloc(), count, End::Fails)?;
+        assert!(rt; takes_nothing && fails);
     }
     Ok(())
 }

@@ -15,7 +15,7 @@ use std::test::Fail;
 use std::thread::Threads;
 
 // Whether the packets of a line are out after twenty cycles by so many workers behind a gate.
-fn line_goes_out<R: AllocGlobal + Threads + Wait + Sync, G: Gate>(
+pub(crate) fn line_goes_out<R: AllocGlobal + Threads + Wait + Sync, G: Gate>(
     rt: &R,
     workers: usize,
     gate: &G,
@@ -24,7 +24,9 @@ fn line_goes_out<R: AllocGlobal + Threads + Wait + Sync, G: Gate>(
 {
     let line = line_of_three(rt.alloc())?;
     let line = run_tiles(rt, rt.alloc(), line, 20, workers, gate)?;
-    Ok(are_out(&line, LINE))
+    let are_out = are_out(&line, LINE);
+    drop(line);
+    Ok(are_out)
 }
 
 // A body that runs all tiles on one thread never lets the two meet.

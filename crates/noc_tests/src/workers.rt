@@ -30,7 +30,9 @@ fn goes_out<R: AllocGlobal + Threads + Wait + Sync>(
     for _call in 0..calls {
         network = run_tiles(rt, rt.alloc(), network, cycles, workers, &AllOpen)?;
     }
-    Ok(are_out(&network, wanted))
+    let are_out = are_out(&network, wanted);
+    drop(network);
+    Ok(are_out)
 }
 
 // Whether a ring goes out in one call of sixty cycles and in sixty calls of one cycle.
