@@ -1,5 +1,5 @@
 -- What a reader of a text answers.
-use Rattle.std.specs.Prelude.{◌≡◌, ◌≢◌, Result, Ok, Err}
+use Rattle.std.specs.Prelude.{◌≡◌, ◌≢◌, ◌↔◌, ℕ, List, Result, Ok, Err}
 use Rattle.noc_bytes.specs.declared.input_fault.InputFault.{InputFault}
 use Rattle.noc_bytes.specs.declared.input_fault.InputFault.TheVariants.{Memory}
 
@@ -19,3 +19,9 @@ Gives view (Err e) said = e ≢ Memory → said ≡ Err e
 abbrev pub result_map : {X Y E : Type 0} → (X → Y) → Result X E → Result Y E
 result_map view (Ok x) = Ok (view x)
 result_map view (Err e) = Err e
+
+-- texts are read as just what this says of them, and refused with just that fault
+pub record IsReadAs {X : Type 0} (Is : List ℕ → X → Type 0)
+    (IsFault : List ℕ → InputFault → Type 0) (said : List ℕ → Result X InputFault) : Type 0 where
+  pub reads : (text : List ℕ) (x : X) → (said text ≡ Ok x) ↔ Is text x
+  pub refuses : (text : List ℕ) (fault : InputFault) → (said text ≡ Err fault) ↔ IsFault text fault

@@ -7,6 +7,6 @@ pub use Rattle.noc_view.specs.declared.finding.Finding.{Finding}
 pub use Rattle.noc_theory.specs.Lockstep.{findings_before, findings_in_cycle}
 pub use Rattle.noc_theory.specs.Network.{size, Run, Setup}
 pub use Rattle.noc_bytes.specs.declared.input_fault.InputFault.{InputFault}
-pub use Rattle.noc_files.specs.Gives.{result_map, Gives}
+pub use Rattle.noc_files.specs.Gives.{result_map, Gives, IsReadAs}
 pub use Rattle.noc_files.specs.Writing.{comma, dash_or, line_end, number_or, taken}
 pub use Rattle.noc_files.specs.Writing.{text_of_pieces, Puts, Wrote}

@@ -1,12 +1,12 @@
 //! Configurations (docs/FORMATS.md).
 
-ghost use Rattle.std.specs.Prelude.{◌≡◌, ◌≤◌, ◌↔◌, ℕ, List, string_bytes, option_and_then, IfOk, IfSome};
+ghost use Rattle.std.specs.Prelude.{◌≡◌, ◌≤◌, string_bytes, option_and_then, IfOk, IfSome};
 ghost use Rattle.std.specs.BTreeMap.{keys};
-ghost use Rattle.noc_files.specs.Prelude.{list_all, Gives, result_map, InputFault as Fault};
+ghost use Rattle.noc_files.specs.Prelude.{list_all, Gives, IsReadAs, result_map};
 ghost use Rattle.std.specs.Option.{is_some, ok_or};
 ghost use Rattle.toml.specs.Data.{as_integer, get_member};
 ghost use Rattle.toml.specs.View.{items_view, table_view, view};
-ghost use Rattle.noc_files.specs.Configuration.{config_at, config_of, document_of, is_key, kind_at, lengths_of, integer_in, radix_at, settings, within, string_at, IsConfiguration, IsConfigurationFault, KeepsLimits, Settings};
+ghost use Rattle.noc_files.specs.Configuration.{config_at, config_of, document_of, is_key, kind_at, lengths_of, integer_in, radix_at, settings, within, string_at, IsConfiguration, IsConfigurationFault, KeepsLimits};
 ghost use Rattle.noc_bytes.specs.Keys.{key_name};
 
 use noc_bytes::{InputFault, Key};
@@ -216,14 +216,10 @@ pub fn read_config(alloc: Global, text: &[u8]) -> Result<Config, InputFault>
 
 /// A text is read as these settings exactly where it is a TOML document in UTF-8 that has just the
 /// keys of a configuration, with these settings as their values.
-pub fn configuration_is_document_with_keys()
-    ensures { (text : List ℕ) (s : Settings) → (config_of text ≡ Ok s) ↔ IsConfiguration text s }
-{}
-
-/// A text is refused with this fault exactly where it is the first one. The text is no TOML
-/// document in UTF-8, or it has a key that no configuration has. Or, in the order of the keys, this
-/// is the first that is missing, has a value of another type, or has one that it may not have.
-pub fn configuration_is_refused_with_its_first_fault()
-    ensures { (text : List ℕ) (fault : Fault)
-        → (config_of text ≡ Err fault) ↔ IsConfigurationFault text fault }
+///
+/// It is refused with this fault exactly where it is the first one. The text is no TOML document in
+/// UTF-8, or it has a key that no configuration has. Or, in the order of the keys, this is the first
+/// that is missing, has a value of another type, or has one that it may not have.
+pub fn configuration_is_read_exactly()
+    ensures { IsReadAs IsConfiguration IsConfigurationFault config_of }
 {}

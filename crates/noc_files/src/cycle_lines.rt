@@ -9,7 +9,7 @@ ghost use Rattle.noc_files.specs.Labels.{AreLabels, label_text};
 use crate::inputs::InputPorts;
 use crate::label::{LABEL, Label};
 use crate::labels::{LONGEST_VERDICT, Labels};
-use crate::listing::{Channels, Lines, Listing};
+use crate::listing::{Lines, ListedChannels, Listing};
 use crate::page::{PAGE, Page};
 use crate::pages::{LONGEST_TEXT, put_pages};
 use crate::permitted::permitted_to;
@@ -68,8 +68,8 @@ impl<'a> Lines for CycleLines<'a> {
     ghost said = { λ s router port vc.
         kept_line s.network.now s.trace.now.0 s.trace.now.1 s.cycle router port vc };
 
-    fn channels(&self) -> Channels<'_> {
-        Channels::of(self.network.relation())
+    fn channels(&self) -> ListedChannels<'_> {
+        ListedChannels::of(self.network.relation())
     }
 
     fn is_silent(&self, router: usize) -> bool {

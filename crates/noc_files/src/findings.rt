@@ -6,7 +6,7 @@ ghost use Rattle.noc_files.specs.Findings.{finding_header, findings_text, found_
 ghost use Rattle.noc_files.specs.Labels.{AreLabels};
 
 use crate::labels::Labels;
-use crate::listing::{Channels, Lines, write_lines};
+use crate::listing::{Lines, ListedChannels, write_lines};
 use crate::page::Page;
 use noc_bytes::{Sink, WriteFault};
 use noc_net::Network;
@@ -31,8 +31,8 @@ impl<'a> Lines for Found<'a> {
 
     ghost said = { λ s router. found_line s.relation.now s.findings.now };
 
-    fn channels(&self) -> Channels<'_> {
-        Channels::of(self.relation)
+    fn channels(&self) -> ListedChannels<'_> {
+        ListedChannels::of(self.relation)
     }
 
     fn add_line(&self, _: usize, port: usize, vc: usize, page: &mut Page) {

@@ -22,16 +22,16 @@ const LONGEST_PORT: usize = LONGEST_LINE * MAX_CHANNELS;
 // The channels that there are lines on: how many of the first ports of each router of a shape
 // there are lines on, and of how many channels of each port.
 #[derive(Drop)]
-pub(crate) struct Channels<'a> {
+pub(crate) struct ListedChannels<'a> {
     pub(crate) shape: &'a Shape,
     pub(crate) listed: usize,
     pub(crate) vcs: usize,
 }
 
-impl<'a> Channels<'a> {
+impl<'a> ListedChannels<'a> {
     // All input channels of the routers of a relation.
     #[inline]
-    pub(crate) fn of(relation: &'a Relation) -> Channels<'a>
+    pub(crate) fn of(relation: &'a Relation) -> ListedChannels<'a>
         ensures shape { result.shape.now ≡ relation.now.grid }
         ensures listed { result.listed ≡ ports relation.now.grid }
         ensures few_ports { result.listed ≤ MAX_PORTS }
@@ -39,7 +39,7 @@ impl<'a> Channels<'a> {
         ensures few { result.vcs ≤ MAX_CHANNELS }
     {
         let shape = relation.shape();
-        Channels {
+        ListedChannels {
             shape,
             listed: shape.ports(),
             vcs: relation.vcs(),
@@ -61,7 +61,7 @@ pub(crate) trait Lines {
     ghost said: { Self → ℕ → ℕ → ℕ → List ℕ };
 
     // The channels that there are lines on.
-    fn channels(&self) -> Channels<'_>
+    fn channels(&self) -> ListedChannels<'_>
         ensures shape { result.shape.now ≡ grid self.now }
         ensures listed { result.listed ≡ listed self.now }
         ensures within { result.listed ≤ ports (grid self.now) }
@@ -109,7 +109,7 @@ impl<'a, L: Lines> Listing<'a, L> {
             (L.said self.now.lines.now router) port }
         ensures short { length page.new ≤ length page.old + LONGEST_PORT }
     {
-        let Channels { shape, listed, vcs } = self.lines.channels();
+        let ListedChannels { shape, listed, vcs } = self.lines.channels();
         // (the counts say that the index is within the table)
         prove!(router < shape.nodes() && port < listed && listed <= shape.ports());
         if !self.inputs[router * MAX_PORTS + port] {

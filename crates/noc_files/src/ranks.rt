@@ -1,17 +1,16 @@
 //! Rank files (docs/FORMATS.md).
 
-ghost use Rattle.std.specs.Prelude.{◌≡◌, ◌↔◌, ◌≤◌, ℕ, List, Ok, Err};
-ghost use Rattle.noc_files.specs.Prelude.{fields_of, Grid, IsGrid, local_port, InputFault as Fault, Gives, Wrote};
+ghost use Rattle.std.specs.Prelude.{◌≡◌, ◌≤◌, Ok};
+ghost use Rattle.noc_files.specs.Prelude.{fields_of, Grid, IsGrid, local_port, Gives, IsReadAs, Wrote};
 ghost use Rattle.noc_packet.specs.declared.limits.TheConstants.{MAX_CHANNELS as CHANNELS};
 ghost use Rattle.noc_route.specs.Ranks.{Ranking};
 ghost use Rattle.noc_rank.specs.Ranking.{IsRanking};
-ghost use Rattle.noc_rank.specs.declared.rows.RankRow.{RankRow as RowValue};
 ghost use Rattle.noc_files.specs.Ranks.{rank_line, rank_of, rank_row, rank_row_of, rank_rows, ranks_of, ranks_text, IsRankFile, IsRankFileFault, ListsRanks};
 
-use crate::listing::{Channels, Lines, write_lines};
+use crate::listing::{Lines, ListedChannels, write_lines};
 use crate::page::Page;
 use crate::ports::known_name;
-use crate::rows::{number, number_in, port_in};
+use crate::rows::{number, number_in, port_in, want_fields};
 use crate::sheet::read_sheet;
 use csv::ByteRecord;
 use noc_bytes::{InputFault, Sink, WriteFault};
@@ -43,9 +42,7 @@ fn rank(field: &[u8]) -> Option<Option<usize>>
 fn rank_row_in(shape: &Shape, row: &ByteRecord, index: usize) -> Result<RankRow, InputFault>
     ensures { result ≡ rank_row_of shape.now index (fields_of row.now) }
 {
-    if row.len() != 4 {
-        return Err(InputFault::BadCount { row: index });
-    }
+    want_fields(row, index, 4)?;
     let router = number_in(row, index, 0)?;
     let port = port_in(shape, row, index, 1)?;
     let vc = number_in(row, index, 2)?;
@@ -74,30 +71,6 @@ pub fn read_ranks(alloc: Global, shape: &Shape, text: &[u8]) -> Result<Vec<RankR
     })
 }
 
-/// A text is read as these rows of ranks exactly where its first row is the header and the rows
-/// below it write them. Each of these has four fields: numerals, the name of a port of the shape,
-/// and a numeral or the text `adaptive`.
-pub fn rank_file_is_header_and_rows()
-    ensures { (g : Grid) → IsGrid g → (text : List ℕ) (rows : List RowValue)
-        → (ranks_of g text ≡ Ok rows) ↔ IsRankFile g text rows }
-{}
-
-/// A text is refused with this fault exactly where it is the first one. Either there is no header,
-/// or the fault is that of the first row that is no row of ranks. Such a row has not four fields,
-/// or has four, of which this is the first that may not stand there. A router and a channel are
-/// numerals, a port is one of the shape, and a rank is a numeral or the text `adaptive`.
-pub fn rank_file_is_refused_with_its_first_fault()
-    ensures { (g : Grid) → IsGrid g → (text : List ℕ) (fault : Fault)
-        → (ranks_of g text ≡ Err fault) ↔ IsRankFileFault g text fault }
-{}
-
-/// The rank file of some ranks is read back as rows that name each link channel once with its rank,
-/// in rising order of router, port and virtual channel.
-pub fn written_ranks_are_read_back()
-    ensures { (k : Ranking) → IsRanking k → k.vcs ≤ MAX_CHANNELS
-        → (ranks_of k.grid (ranks_text k) ≡ Ok (rank_rows k)) × ListsRanks k (rank_rows k) }
-{}
-
 // Some ranks with their shape and how many channels a link has.
 #[derive(Drop)]
 struct Listed<'a> {
@@ -119,8 +92,8 @@ impl<'a> Lines for Listed<'a> {
     ghost said = { λ s router port vc. rank_line s.ranks.now.grid
         (rank_row s.ranks.now router port vc) };
 
-    fn channels(&self) -> Channels<'_> {
-        Channels {
+    fn channels(&self) -> ListedChannels<'_> {
+        ListedChannels {
             shape: self.shape,
             listed: self.shape.ports() - 1,
             vcs: self.vcs,
@@ -156,3 +129,21 @@ pub fn write_ranks<W: Sink>(
     let lines = Listed { ranks, shape, vcs };
     write_lines("router,port,vc,rank\n", &lines, None, sink)
 }
+
+/// A text is read as these rows of ranks exactly where its first row is the header and the rows
+/// below it write them. Each of these has four fields: numerals, the name of a port of the shape,
+/// and a numeral or the text `adaptive`.
+///
+/// It is refused with this fault exactly where it is the first one. Either there is no header, or
+/// the fault is that of the first row that is no row of ranks. Such a row has not four fields, or
+/// has four, of which this is the first that may not stand there.
+pub fn rank_file_is_read_exactly()
+    ensures { (g : Grid) → IsGrid g → IsReadAs (IsRankFile g) (IsRankFileFault g) (ranks_of g) }
+{}
+
+/// The rank file of some ranks is read back as rows that name each link channel once with its rank,
+/// in rising order of router, port and virtual channel.
+pub fn written_ranks_are_read_back()
+    ensures { (k : Ranking) → IsRanking k → k.vcs ≤ MAX_CHANNELS
+        → (ranks_of k.grid (ranks_text k) ≡ Ok (rank_rows k)) × ListsRanks k (rank_rows k) }
+{}

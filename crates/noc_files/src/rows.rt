@@ -1,7 +1,7 @@
 //! The rows of a file of comma-separated fields.
 
 ghost use Rattle.csv.specs.declared.parser.State.TheVariants as st;
-ghost use Rattle.std.specs.Prelude.{ℕ, List, ◌≡◌, ◌∷◌, [], true, false, map, IfOk, IfErr};
+ghost use Rattle.std.specs.Prelude.{ℕ, List, ◌≡◌, ◌==◌, ◌∷◌, [], true, false, is_ok, length, map, IfOk, IfErr};
 ghost use Rattle.std.specs.Cmp.Lexicographic.{pointwise};
 ghost use Rattle.std.specs.Str.{bytes_eq};
 ghost use Rattle.noc_files.specs.Prelude.{fields_of, Each};
@@ -62,6 +62,17 @@ pub(crate) fn has_fields(row: &ByteRecord, names: &[&str]) -> bool
         }
     }
     true
+}
+
+// Refuses the row by `BadCount`, unless it has so many fields.
+pub(crate) fn want_fields(row: &ByteRecord, index: usize, count: usize) -> Result<(), InputFault>
+    ensures so_many { is_ok result ≡ (length (fields_of row.now) == count) }
+    ensures fault { IfErr result (λ e. e ≡ InputFault.BadCount index) }
+{
+    if row.len() != count {
+        return Err(InputFault::BadCount { row: index });
+    }
+    Ok(())
 }
 
 // The number that a field writes: 1 to 10 decimal digits, with a value below 2 ^ 32.

@@ -4,7 +4,7 @@ ghost use Rattle.std.specs.Prelude.{◌≡◌, ◌+◌, ◌≤◌, ◌++◌, ℕ
 ghost use Rattle.noc_files.specs.Prelude.{flat_map, ports, Run as RunValue, Wrote};
 ghost use Rattle.noc_files.specs.Stalls.{channel_counts, channel_line, count_text, stall_header, stalls_text};
 
-use crate::listing::{Channels, Lines, write_lines};
+use crate::listing::{Lines, ListedChannels, write_lines};
 use crate::page::{COLUMN, PAGE, Page};
 use crate::ports::known_name;
 use crate::summary::LONGEST_NAME;
@@ -60,8 +60,8 @@ impl<'a> Lines for StallLines<'a> {
 
     ghost said = { λ s. channel_line s.network.now };
 
-    fn channels(&self) -> Channels<'_> {
-        Channels::of(self.network.relation())
+    fn channels(&self) -> ListedChannels<'_> {
+        ListedChannels::of(self.network.relation())
     }
 
     #[tactic(auto, unfolding(crate::specs::Stalls::channel_line, crate::specs::Stalls::channel_counts))]

@@ -1,11 +1,11 @@
 //! Table files (docs/FORMATS.md).
 
-ghost use Rattle.std.specs.Prelude.{◌≡◌, ◌↔◌, ℕ, List, Ok, Err};
-ghost use Rattle.noc_files.specs.Prelude.{fields_of, Grid, IsGrid, Each, InputFault as Fault, Gives};
+ghost use Rattle.std.specs.Prelude.{◌≡◌, List, Ok};
+ghost use Rattle.noc_files.specs.Prelude.{fields_of, Grid, IsGrid, Each, Gives, IsReadAs};
 ghost use Rattle.noc_route.specs.declared.rule.RouteRow.{RouteRow as Route};
 ghost use Rattle.noc_files.specs.Table.{route_row_of, table_of, table_text, IsTable, IsTableFault, IsWritableRow};
 
-use crate::rows::{number_in, port_in};
+use crate::rows::{number_in, port_in, want_fields};
 use crate::sheet::read_sheet;
 use csv::ByteRecord;
 use noc_bytes::InputFault;
@@ -22,9 +22,7 @@ static HEADER: [&str; 7] = [
 fn route_row_in(shape: &Shape, row: &ByteRecord, index: usize) -> Result<RouteRow, InputFault>
     ensures { result ≡ route_row_of shape.now index (fields_of row.now) }
 {
-    if row.len() != 7 {
-        return Err(InputFault::BadCount { row: index });
-    }
+    want_fields(row, index, 7)?;
     let class = number_in(row, index, 0)?;
     let router = number_in(row, index, 1)?;
     let in_port = port_in(shape, row, index, 2)?;
@@ -56,18 +54,12 @@ pub fn read_table(alloc: Global, shape: &Shape, text: &[u8]) -> Result<Vec<Route
 
 /// A text is read as these rows of a table exactly where its first row is the header and the rows
 /// below it write them. Each of these has seven fields, numerals and names of ports of the shape.
-pub fn table_is_header_and_rows()
-    ensures { (g : Grid) → IsGrid g → (text : List ℕ) (rows : List Route)
-        → (table_of g text ≡ Ok rows) ↔ IsTable g text rows }
-{}
-
-/// A text is refused with this fault exactly where it is the first one. Either there is
-/// no header, or the fault is that of the first row that is no row of a table. Such a row
-/// has not seven fields, or has seven, of which this is the first that is no numeral or
-/// names no port of the shape.
-pub fn table_is_refused_with_its_first_fault()
-    ensures { (g : Grid) → IsGrid g → (text : List ℕ) (fault : Fault)
-        → (table_of g text ≡ Err fault) ↔ IsTableFault g text fault }
+///
+/// It is refused with this fault exactly where it is the first one. Either there is no header, or
+/// the fault is that of the first row that is no row of a table. Such a row has not seven fields,
+/// or has seven, of which this is the first that is no numeral or names no port of the shape.
+pub fn table_is_read_exactly()
+    ensures { (g : Grid) → IsGrid g → IsReadAs (IsTable g) (IsTableFault g) (table_of g) }
 {}
 
 /// The plainest table file of some rows is read back as these rows, where their numbers are at most

@@ -1,11 +1,11 @@
 //! Traffic files.
 
-ghost use Rattle.std.specs.Prelude.{◌≡◌, ◌↔◌, ℕ, List, Ok, Err};
-ghost use Rattle.noc_files.specs.Prelude.{fields_of, Each, InputFault as Fault, Gives};
+ghost use Rattle.std.specs.Prelude.{◌≡◌, List, Ok};
+ghost use Rattle.noc_files.specs.Prelude.{fields_of, Each, Gives, IsReadAs};
 ghost use Rattle.noc_packet.specs.declared.packet.Packet.{Packet as PacketValue};
 ghost use Rattle.noc_files.specs.Traffic.{packet_of, traffic_of, traffic_text, IsTraffic, IsTrafficFault, IsWritablePacket};
 
-use crate::rows::number_in;
+use crate::rows::{number_in, want_fields};
 use crate::sheet::read_sheet;
 use csv::ByteRecord;
 use noc_bytes::InputFault;
@@ -19,9 +19,7 @@ static HEADER: [&str; 5] = ["source", "destination", "class", "length", "due"];
 fn packet_in(row: &ByteRecord, index: usize) -> Result<Packet, InputFault>
     ensures { result ≡ packet_of index (fields_of row.now) }
 {
-    if row.len() != 5 {
-        return Err(InputFault::BadCount { row: index });
-    }
+    want_fields(row, index, 5)?;
     let source = number_in(row, index, 0)?;
     let destination = number_in(row, index, 1)?;
     let class = number_in(row, index, 2)?;
@@ -45,17 +43,12 @@ pub fn read_traffic(alloc: Global, text: &[u8]) -> Result<Vec<Packet>, InputFaul
 
 /// A text is read as these packets exactly where its first row is the header and the rows below it
 /// are five numerals each, which write them.
-pub fn traffic_is_header_and_numerals()
-    ensures { (text : List ℕ) (packets : List PacketValue)
-        → (traffic_of text ≡ Ok packets) ↔ IsTraffic text packets }
-{}
-
-/// A text is refused with this fault exactly where it is the first one. Either there is no header,
-/// or the fault is that of the first row that is no packet. Such a row has not five fields, or has
+///
+/// It is refused with this fault exactly where it is the first one. Either there is no header, or
+/// the fault is that of the first row that is no packet. Such a row has not five fields, or has
 /// five, of which this is the first that is no numeral.
-pub fn traffic_is_refused_with_its_first_fault()
-    ensures { (text : List ℕ) (fault : Fault)
-        → (traffic_of text ≡ Err fault) ↔ IsTrafficFault text fault }
+pub fn traffic_is_read_exactly()
+    ensures { IsReadAs IsTraffic IsTrafficFault traffic_of }
 {}
 
 /// The plainest traffic file of some packets, a header and a line of five numbers each, is read
