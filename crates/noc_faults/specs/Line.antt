@@ -129,11 +129,19 @@ entry_details g e =
     detail.Class e.class ∷ detail.Router e.router ∷ detail.Port g e.in_port ∷ detail.Vc e.in_vc
     ∷ detail.Dst e.dst ∷ []
 
+-- where the packet of a row stands
+abbrev pub entry_in : RouteRow → Entry
+entry_in row = record {
+  class = row.class;
+  router = row.router;
+  in_port = row.in_port;
+  in_vc = row.in_vc;
+  dst = row.dst;
+}
+
 abbrev pub hop_details : Grid → RouteRow → List Detail
 hop_details g row =
-    detail.Class row.class ∷ detail.Router row.router ∷ detail.Port g row.in_port
-    ∷ detail.Vc row.in_vc ∷ detail.Dst row.dst ∷ detail.Out g row.out_port
-    ∷ detail.Vc row.out_vc ∷ []
+    entry_details g (entry_in row) ++ detail.Out g row.out_port ∷ detail.Vc row.out_vc ∷ []
 
 abbrev pub route_details : Grid → RouteFault → List Detail
 route_details g (route.NoLink row) = hop_details g row

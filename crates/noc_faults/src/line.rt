@@ -2,7 +2,7 @@
 
 ghost use Rattle.std.specs.Prelude.{◌≡◌, ◌<◌, ◌≤◌, Some, length};
 ghost use Rattle.noc_files.specs.Writing.{Wrote};
-ghost use Rattle.noc_faults.specs.Line.{channel_details, descent_details, entry_details, fall_details, hop_details, input_details, line_of, name_of, text_of, text_with, value_of};
+ghost use Rattle.noc_faults.specs.Line.{channel_details, descent_details, entry_details, entry_in, fall_details, hop_details, input_details, line_of, name_of, text_of, text_with, value_of};
 ghost use Rattle.noc_bytes.specs.Titles.{input_title};
 
 use crate::fault::Fault;
@@ -209,15 +209,29 @@ fn entry_details(shape: &Shape, entry: &Entry) -> [Detail; 5]
 fn hop_details(shape: &Shape, row: &RouteRow) -> [Detail; 7]
     ensures { result ≡ hop_details shape.now row.now }
 {
+    let [class, router, port, vc, dst] = entry_details(shape, &entry_in(row));
     [
-        Detail::Class(row.class),
-        Detail::Router(row.router),
-        Detail::Port(*shape, row.in_port),
-        Detail::Vc(row.in_vc),
-        Detail::Dst(row.dst),
+        class,
+        router,
+        port,
+        vc,
+        dst,
         Detail::Out(*shape, row.out_port),
         Detail::Vc(row.out_vc),
     ]
+}
+
+// Where the packet of a row stands.
+fn entry_in(row: &RouteRow) -> Entry
+    ensures { result ≡ entry_in row.now }
+{
+    Entry {
+        class: row.class,
+        router: row.router,
+        in_port: row.in_port,
+        in_vc: row.in_vc,
+        dst: row.dst,
+    }
 }
 
 // A fault of ranks.
@@ -268,12 +282,13 @@ fn fall_details(
 ) -> [Detail; 9]
     ensures { result ≡ fall_details shape.now entry.now out_port out_vc rank next }
 {
+    let [class, router, port, vc, dst] = entry_details(shape, entry);
     [
-        Detail::Class(entry.class),
-        Detail::Router(entry.router),
-        Detail::Port(*shape, entry.in_port),
-        Detail::Vc(entry.in_vc),
-        Detail::Dst(entry.dst),
+        class,
+        router,
+        port,
+        vc,
+        dst,
         Detail::Out(*shape, out_port),
         Detail::Vc(out_vc),
         Detail::Rank(rank),
