@@ -10,7 +10,7 @@ use Rattle.noc_sets.proofs.MemberLemmas.{lowest-one, or-cases, or-left, or-none,
 use Rattle.noc_columns.specs.Grants.{AreGranted, IsNumbered, first_of}
 use Rattle.noc_columns.specs.Supply.{digits_by, number_in}
 use Rattle.noc_columns.specs.Words.{AreApart, Numbering, set_of, word}
-use Rattle.noc_columns.specs.declared.grants.Grants.{Grants}
+use Rattle.noc_columns.specs.declared.given.Grants.{Grants}
 use Rattle.noc_columns.specs.declared.supply.Digits.{Digits}
 use Rattle.noc_columns.proofs.PastLemmas.{first-some}
 use Rattle.noc_columns.proofs.PortLemmas.{lowest-least}
@@ -52,7 +52,7 @@ pub least-one-is : (bit t k : ℕ) → bit ≡ 2 ^ t → IsLeast (has_bit bit) (
 least-one-is bit t k one is = eqb-true k t (sym (ap (λ x. has_bit x k) one ∙ power-members t k) ∙ is.0)
 
 -- ---- one grant more
-module _ (n : Numbering) (vcs router : ℕ) (prev next : ℕ → Bool) (requests turn : ℕ → ℕ) (granted t bit : ℕ) (old now new : Grants (List ℕ))
+module _ (n : Numbering) (vcs router : ℕ) (prev next : ℕ → Bool) (requests turn : ℕ → ℕ) (granted t bit : ℕ) (old now new : Grants)
     (more : (k : ℕ) → next k ≡ (prev k || nat_eq k t)) (is : bit ≡ first_of requests turn t)
     (apart : (o k : ℕ) → prev o ≡ true → has_bit (first_of requests turn o) k ≡ true → has_bit bit k ≡ false)
     (one : (r : ℕ) → IsNumbered n r router bit (t / vcs) (t % vcs) now new)
@@ -116,7 +116,7 @@ module _ (n : Numbering) (vcs router : ℕ) (prev next : ℕ → Bool) (requests
           ∙ sym (ap (λ b. if b then bit_or (set_of n r old.granted) (bit_or granted bit) else set_of n r old.granted) e)
 
 -- none yet
-pub granted-none : (n : Numbering) (vcs router : ℕ) (outs : ℕ → Bool) (requests turn : ℕ → ℕ) (old : Grants (List ℕ)) → ((o : ℕ) → outs o ≡ false) → AreGranted n vcs router outs requests turn 0 old old
+pub granted-none : (n : Numbering) (vcs router : ℕ) (outs : ℕ → Bool) (requests turn : ℕ → ℕ) (old : Grants) → ((o : ℕ) → outs o ≡ false) → AreGranted n vcs router outs requests turn 0 old old
 granted-none n vcs router outs requests turn old empty = record {
   given = λ o k a b. absurd (true≢false (sym a ∙ empty o));
   none = λ k all. has_bit-zero k;
@@ -130,7 +130,7 @@ granted-none n vcs router outs requests turn old empty = record {
     at r false = refl
 
 -- the same output channels
-pub granted-same : (n : Numbering) (vcs router : ℕ) (outs others : ℕ → Bool) (requests turn : ℕ → ℕ) (granted : ℕ) (old new : Grants (List ℕ)) → ((o : ℕ) → others o ≡ outs o)
+pub granted-same : (n : Numbering) (vcs router : ℕ) (outs others : ℕ → Bool) (requests turn : ℕ → ℕ) (granted : ℕ) (old new : Grants) → ((o : ℕ) → others o ≡ outs o)
     → AreGranted n vcs router outs requests turn granted old new → AreGranted n vcs router others requests turn granted old new
 granted-same n vcs router outs others requests turn granted old new same are = record {
   given = λ o k a b. are.given o k (sym (same o) ∙ a) b;

@@ -20,6 +20,7 @@ pub mod InjectionLemmas
 pub mod LoopLemmas
 pub mod TableLemmas
 pub mod AskLemmas
+pub mod GivenLemmas
 pub mod GrantLemmas
 pub mod MarkLemmas
 pub mod AllotmentLemmas

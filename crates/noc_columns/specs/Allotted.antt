@@ -8,7 +8,7 @@ use Rattle.noc_columns.specs.Grants.{first_of}
 use Rattle.noc_columns.specs.Supply.{digits_by, number_in}
 use Rattle.noc_columns.specs.Switch.{ShowsSends}
 use Rattle.noc_columns.specs.Words.{Numbering, set_below, set_of, word}
-use Rattle.noc_columns.specs.declared.grants.Grants.{Grants}
+use Rattle.noc_columns.specs.declared.given.Grants.{Grants}
 use Rattle.noc_columns.specs.declared.marks.Marks.{Marks}
 use Rattle.noc_columns.specs.declared.sets.TheConstants.{CHANNELS}
 
@@ -25,7 +25,7 @@ pub record Allotment : Type 0 where
   pub out_vc : ℕ → ℕ  -- by input channel, its virtual channel
 
 -- what it finds and changes of router r of a block
-abbrev pub allotment_at : Numbering → Marks → Grants (List ℕ) → List ℕ → ℕ → Allotment
+abbrev pub allotment_at : Numbering → Marks → Grants → List ℕ → ℕ → Allotment
 allotment_at n marks grants lost r = record {
   waiting = word r marks.waiting;
   idle = word r marks.idle;

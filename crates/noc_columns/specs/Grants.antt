@@ -1,14 +1,14 @@
 -- What a grant changes of the words of a block.
-use Rattle.std.specs.Prelude.{◌≡◌, ℕ, ◌/◌, ◌%◌, ◌<◌, Bool, true, false, List, ◌&&◌, nat_eq, bit_or, if◌then◌else◌}
+use Rattle.std.specs.Prelude.{◌≡◌, ℕ, ◌/◌, ◌%◌, ◌<◌, Bool, true, false, ◌&&◌, nat_eq, bit_or, if◌then◌else◌}
 use Rattle.noc_packet.specs.Set.{has_bit}
 use Rattle.noc_sets.specs.Turns.{first_bit}
 use Rattle.noc_columns.specs.Supply.{digits_by, number_in}
 use Rattle.noc_columns.specs.Words.{Numbering, set_of}
-use Rattle.noc_columns.specs.declared.grants.Grants.{Grants}
+use Rattle.noc_columns.specs.declared.given.Grants.{Grants}
 
 -- the channels of this set are granted an output channel of this port and virtual channel, if r is
 -- the router; all else is as it was
-pub record IsNumbered (n : Numbering) (r router set out_port out_vc : ℕ) (old new : Grants (List ℕ))
+pub record IsNumbered (n : Numbering) (r router set out_port out_vc : ℕ) (old new : Grants)
     : Type 0 where
   pub granted : set_of n r new.granted
       ≡ (if nat_eq r router then bit_or (set_of n r old.granted) set else set_of n r old.granted)
@@ -29,7 +29,7 @@ first_of requests turn o = first_bit (requests o) (turn o)
 -- each of these output channels goes to the first of its requests, whose number is written; the
 -- other channels of the router, and the other routers, are as they were
 pub record AreGranted (n : Numbering) (vcs router : ℕ) (outs : ℕ → Bool) (requests turn : ℕ → ℕ)
-    (granted : ℕ) (old new : Grants (List ℕ)) : Type 0 where
+    (granted : ℕ) (old new : Grants) : Type 0 where
   pub given : (o k : ℕ) → outs o ≡ true → has_bit (first_of requests turn o) k ≡ true
       → has_bit granted k ≡ true
   pub none : (k : ℕ) → ((o : ℕ) → outs o ≡ true → has_bit (first_of requests turn o) k ≡ false)

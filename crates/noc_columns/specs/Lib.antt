@@ -8,6 +8,7 @@ pub mod Supply
 pub mod Switch
 pub mod Near
 pub mod Places
+pub mod Given
 pub mod Grants
 pub mod Wants
 pub mod Marks

@@ -19,7 +19,7 @@ use Rattle.noc_columns.specs.declared.channels.Outputs.{Outputs}
 use Rattle.noc_columns.specs.declared.channels.Returned.{Returned}
 use Rattle.noc_columns.specs.declared.channels.Standing.{Standing}
 use Rattle.noc_columns.specs.declared.channels.Verdicts.{Verdicts}
-use Rattle.noc_columns.specs.declared.grants.Grants.{Grants}
+use Rattle.noc_columns.specs.declared.given.Grants.{Grants}
 
 -- a router with these output channels
 abbrev pub with_outputs : Bool → Outputs ℕ → Column → Column
@@ -111,7 +111,7 @@ pub record Settles (deep : Bool) (s : Standing ℕ) (d : Decided ℕ) (granted :
 -- what is decided takes effect in every router of so many words, of which a flit moves in these
 -- and a packet leaves the network from those, by the port with this number
 pub record SettlesAll (count : ℕ) (deep : Bool) (local : ℕ) (s : Standing (List ℕ))
-    (d : Decided (List ℕ)) (g : Grants (List ℕ)) (i j : Inputs (List ℕ)) (v w : Verdicts (List ℕ))
+    (d : Decided (List ℕ)) (g : Grants) (i j : Inputs (List ℕ)) (v w : Verdicts (List ℕ))
     (gone : List ℕ) (moving leaving : ℕ) : Type 0 where
   pub settles : (n : Numbering) (r : ℕ) → IsWithin count n
       → Settles deep (standing_by (set_of n r) s) (decided_by (set_of n r) d) (set_of n r g.granted)

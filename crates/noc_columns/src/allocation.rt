@@ -1,33 +1,32 @@
 //! Waiting channels of the routers of a block are granted output channels.
 
-ghost use Rattle.std.specs.Prelude.{◌≡◌, ◌≢◌, ◌<◌, ◌+◌, ◌*◌, ℕ, true, false, slice_index};
+ghost use Rattle.std.specs.Prelude.{◌≡◌, ◌≢◌, ◌<◌, ◌≤◌, ◌+◌, ◌*◌, ℕ, true, false, slice_index};
 ghost use Rattle.noc_columns.specs.Allotted.{HasAllotted, allotment_at};
-ghost use Rattle.noc_columns.specs.Prelude.{MembersAreBelow, channels_of, has_bit};
+ghost use Rattle.noc_columns.specs.Prelude.{MembersAreBelow, channels_of, has_bit, set_of};
 
 use crate::asks::ask_all;
 use crate::channel_table::ChannelTable;
-use crate::grants::{Grants, grant_all};
+use crate::given::Grants;
+use crate::grants::grant_all;
 use crate::marks::Marks;
 use crate::planes::less;
-use crate::sets::{but_lowest, least};
+use crate::sets::{CHANNELS, but_lowest, least};
 use crate::words::{ROUTERS, Words};
 
 /// In the routers in which an idle output channel is wanted the waiting channels ask, and each
 /// output channel that is asked for is granted. It is told who is granted one, and who asks for one
 /// and is not. (What calls this is not to grow by it.)
 #[inline(never)]
-pub fn allocate(
-    table: &ChannelTable,
-    marks: &mut Marks,
-    grants: &mut Grants<Words>,
-    lost: &mut Words,
-)
+pub fn allocate(table: &ChannelTable, marks: &mut Marks, grants: &mut Grants, lost: &mut Words)
     requires waiting { (r : ℕ) → r < ROUTERS
         → MembersAreBelow ((table.now.ports.links.width + 1) * table.now.ports.links.vcs)
         (slice_index marks.old.waiting r) }
     requires idle { (r : ℕ) → r < ROUTERS
         → MembersAreBelow ((table.now.ports.links.width + 1) * table.now.ports.links.vcs)
         (slice_index marks.old.idle r) }
+    requires free { (r : ℕ) → r < ROUTERS
+        → set_of (channels_of table.now.ports) r grants.old.granted ≡ 0 }
+    requires none { grants.old.count ≡ 0 }
     ensures asked { (r : ℕ) → r < ROUTERS → has_bit marks.old.asking r ≡ true
         → HasAllotted table.now.ports.links.vcs
         (allotment_at (channels_of table.now.ports) marks.old grants.old lost.old r)
@@ -48,7 +47,7 @@ fn allocate_router(
     table: &ChannelTable,
     router: usize,
     marks: &mut Marks,
-    grants: &mut Grants<Words>,
+    grants: &mut Grants,
     lost: &mut Words,
 )
     requires router { router < ROUTERS }
@@ -57,12 +56,15 @@ fn allocate_router(
         (slice_index marks.old.waiting router) }
     requires idle { MembersAreBelow ((table.now.ports.links.width + 1) * table.now.ports.links.vcs)
         (slice_index marks.old.idle router) }
+    requires free { set_of (channels_of table.now.ports) router grants.old.granted ≡ 0 }
+    requires room { grants.old.count + CHANNELS ≤ ROUTERS * CHANNELS }
     ensures here { HasAllotted table.now.ports.links.vcs
         (allotment_at (channels_of table.now.ports) marks.old grants.old lost.old router)
         (allotment_at (channels_of table.now.ports) marks.new grants.new lost.new router) }
     ensures others { (r : ℕ) → r ≢ router
         → allotment_at (channels_of table.now.ports) marks.new grants.new lost.new r
         ≡ allotment_at (channels_of table.now.ports) marks.old grants.old lost.old r }
+    ensures few { grants.new.count ≤ grants.old.count + CHANNELS }
 {
     let waiting = marks.waiting[router];
     let idle = marks.idle[router];

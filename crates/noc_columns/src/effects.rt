@@ -5,7 +5,7 @@ ghost use Rattle.noc_columns.specs.Steps.{Settles, SettlesAll};
 
 use crate::channels::{Decided, Inputs, Standing, Verdicts};
 use crate::frame::Frame;
-use crate::grants::Grants;
+use crate::given::Grants;
 use crate::planes::less;
 use crate::supply::NUMBERS;
 use crate::words::{GROUP, Words, put};
@@ -18,7 +18,7 @@ pub struct Moves<'a> {
     /// What is decided of them.
     pub decided: &'a Decided<Words>,
     /// Which of them are granted an output channel, and by which one each of them sends.
-    pub grants: &'a Grants<Words>,
+    pub grants: &'a Grants,
 }
 
 /// Heads, grants and moves take effect on the input channels. It is told which of them owned an

@@ -17,6 +17,7 @@ mod effects;
 mod ejection;
 mod flits;
 mod frame;
+mod given;
 mod grants;
 mod header;
 mod injection;
@@ -49,7 +50,7 @@ pub use effects::{Moves, settle};
 pub use ejection::give_back;
 pub use flits::land;
 pub use frame::Frame;
-pub use grants::{Grants, grant, grant_all};
+pub use given::{GRANTS, Grant, Grants};
 pub use header::Header;
 pub use injection::{Injection, bring, inject};
 pub use laws::{
@@ -80,5 +81,6 @@ pub use starts::Start;
 pub use supply::{Digits, NUMBERS, Sends, look_up};
 pub use switch::{Switch, traverse};
 pub use words::{
-    GROUP, ROUTERS, WORDS, Words, alone_if, bit, put, put_router, used_words, with_router,
+    GROUP, ROUTERS, WORDS, Words, alone_if, bit, clear_first, put, put_router, used_words,
+    with_router,
 };

@@ -30,6 +30,17 @@ pub fn put(words: &mut Words, index: usize, word: u64)
     words[index] = word;
 }
 
+/// No router is left in the first `COUNT` words. (As a constant it needs neither loop nor call.)
+#[inline(always)]
+pub fn clear_first<const COUNT: usize>(words: &mut Words)
+    requires { COUNT ≤ CHANNELS }
+    ensures { (k : ℕ) → k < COUNT → word k words.new ≡ 0 }
+{
+    for i in 0..COUNT {
+        words[i] = 0;
+    }
+}
+
 /// Puts a router into the word with an index.
 #[inline(always)]
 pub fn put_router(words: &mut Words, index: usize, router: usize)

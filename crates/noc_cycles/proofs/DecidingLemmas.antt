@@ -12,29 +12,38 @@ use Rattle.noc_columns.specs.Allotted.{Allotment, HasAllotted, allotment_at}
 use Rattle.noc_columns.specs.Channels.{decided_by, standing_by}
 use Rattle.noc_columns.specs.Heads.{headed_marks, heading_at}
 use Rattle.noc_columns.specs.Picks.{HasPick, IsPicked, output_of, port_of}
+use Rattle.noc_columns.specs.Supply.{digits_by, number_in}
 use Rattle.noc_columns.specs.Switch.{HasTraversed, ShowsSends, leaves_by, picks_in}
 use Rattle.noc_columns.specs.Wants.{asks_of}
 use Rattle.noc_columns.specs.declared.channels.Decided.{Decided}
-use Rattle.noc_columns.specs.declared.grants.Grants.{Grants}
+use Rattle.noc_columns.specs.declared.given.Grants.{Grants}
 use Rattle.noc_columns.specs.declared.marks.Marks.{Marks}
 use Rattle.noc_columns.specs.declared.picks.Picks.{Picks}
+use Rattle.noc_columns.specs.declared.supply.Sends.{Sends}
 use Rattle.noc_columns.specs.declared.switch.Switch.{Switch}
-use Rattle.noc_cycles.proofs.Common.{and_parts, eq-eqb, ne_eqb, has_bit, both_members, either_members, RouterMarks, Still, Layout, less, ShowsOwned, packet_in, channels_of, set_of, word, Links, Standing, below-members, Held, ShowsStill, held_at, links_at, Block, Pattern}
+use Rattle.noc_columns.proofs.AllotmentLemmas.{the-allotment}
+use Rattle.noc_cycles.proofs.Common.{and_parts, eq-eqb, ne_eqb, has_bit, both_members, either_members, RouterMarks, Still, Layout, less, ShowsOwned, packet_in, channels_of, Numbering, set_of, word, Links, Standing, below-members, Held, ShowsStill, held_at, links_at, Block, Pattern}
 use Rattle.noc_cycles.specs.Deciding.{HasDecidedHeld}
 use Rattle.noc_cycles.specs.May.{MayDecide}
 use Rattle.noc_cycles.proofs.ChoiceLemmas.{choice, chosen, owned, waits-then}
 use Rattle.noc_cycles.proofs.SwitchedLemmas.{effects, link-leaves, marks, moved-then, past-then, picked-then, released-then, supplied, switched}
 
+-- what allocation finds of router r, where these are its grants before it, and its losses
+abbrev pub found_at : Numbering → Marks → List ℕ → Sends (List ℕ) → List ℕ → ℕ → Allotment
+found_at n marks granted sends lost r =
+    the-allotment (word r marks.waiting) (word r marks.idle) (word r marks.wanted) (λ k. word k (slice_index_or marks.sets r [])) (λ o. word o (slice_index_or marks.turns r [])) (set_of n r granted) (set_of n r lost)
+    (λ k. number_in (digits_by (set_of n r) sends.port) k) (λ k. number_in (digits_by (set_of n r) sends.vc) k)
+
 module _ (pattern : Pattern) (r : ℕ) (within : r < 64) (block : Block) (standing : Standing (List ℕ)) (granted_before lost_before : List ℕ)
     (clear : set_of (channels_of pattern.table.ports) r granted_before ≡ 0) (unlost : set_of (channels_of pattern.table.ports) r lost_before ≡ 0)
     -- output channels are granted
-    (granting : Marks) (grants : Grants (List ℕ)) (lost : List ℕ)
+    (granting : Marks) (grants : Grants) (lost : List ℕ)
     (asked : has_bit block.marks.asking r ≡ true
-    → HasAllotted pattern.table.ports.links.vcs (allotment_at (channels_of pattern.table.ports) block.marks (record { granted = granted_before; sends = block.grants.sends }) lost_before r)
+    → HasAllotted pattern.table.ports.links.vcs (found_at (channels_of pattern.table.ports) block.marks granted_before block.grants.sends lost_before r)
     (allotment_at (channels_of pattern.table.ports) granting grants lost r))
     (others : has_bit block.marks.asking r ≡ false
     → allotment_at (channels_of pattern.table.ports) granting grants lost r
-    ≡ allotment_at (channels_of pattern.table.ports) block.marks (record { granted = granted_before; sends = block.grants.sends }) lost_before r)
+    ≡ found_at (channels_of pattern.table.ports) block.marks granted_before block.grants.sends lost_before r)
     -- heads are routed
     (sets : ℕ → ℕ → ℕ) (routing : Marks)
     (routed : (m : RouterMarks)
@@ -76,7 +85,7 @@ module _ (pattern : Pattern) (r : ℕ) (within : r < 64) (block : Block) (standi
     given = allotment_at (channels_of pattern.table.ports) granting grants lost r
 
     abbrev before : Allotment
-    before = allotment_at (channels_of pattern.table.ports) block.marks (record { granted = granted_before; sends = block.grants.sends }) lost_before r
+    before = found_at (channels_of pattern.table.ports) block.marks granted_before block.grants.sends lost_before r
 
     asks : (asks_of a.waiting a.wanted a.idle ≢ 0) → HasAllotted vcs before given
     asks some = asked (block.marks.asks r within ∙ ap not (ne_eqb (asks_of a.waiting a.wanted a.idle) 0 some))

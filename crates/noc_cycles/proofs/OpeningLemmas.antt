@@ -26,6 +26,10 @@ nobody-asks r wanted idle few = has_bit-zero r ∙ sym (ap (λ n. not (nat_eq (a
 pub nothing-fits : (r : ℕ) → r < 64 → slice_index (replicate 64 0) r < 2 ^ 64
 nothing-fits r few = subst (λ w. w < 2 ^ 64) (sym (get_or-replicate 64 r 0 0 few)) (omega arith)
 
+-- no channel is granted anything
+pub nobody-granted : (r k : ℕ) → k < 64 → has_bit (slice_index (replicate 72 0) k) r ≡ false
+nobody-granted r k l = ap (λ w. has_bit w r) (get_or-replicate 72 k 0 0 (omega (arith, l))) ∙ has_bit-zero r
+
 -- so many bits, as a shift makes them
 pub low-bits : (n : ℕ) → n < 64 → 1 * 2 ^ n % 2 ^ 64 - 1 ≡ 2 ^ n - 1
 low-bits n few = ap (λ m. m - 1) (shl_whole 1 1 n 64 (omega arith) (omega (arith, few)) ∙ (let e : 1 * 2 ^ n ≡ 2 ^ n = omega arith in e))

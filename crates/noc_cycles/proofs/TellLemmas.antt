@@ -1,12 +1,21 @@
 -- What is noted over one link, and of all grants of a block.
 use Rattle.std.proofs.Common.{◌≡◌, ◌≢◌, ◌⊎◌, ℕ, ◌+◌, ◌*◌, ◌/◌, ◌%◌, ◌<◌, ◌≤◌, Bool, true, false, List, [], Option, Some, None, ap, ap₂, sym, subst, ◌∙◌, refl, arith, inl, inr}
-use Rattle.std.specs.Prelude.{if◌then◌else◌, is_some, nat_eq, nat_lt}
+use Rattle.std.specs.Prelude.{if◌then◌else◌, is_some, nat_eq, nat_lt, slice_index_or}
 use Rattle.std.proofs.lemmas.Bool.{ltb-true}
 use Rattle.std.proofs.lemmas.Nat.{div-add-mod', mod_below}
 use Rattle.noc_topo.specs.Shape.{IsGrid, ports}
 use Rattle.noc_topo.proofs.LinkLemmas.{hop_of, link_back}
+use Rattle.noc_sets.specs.Unions.{some_below}
+use Rattle.noc_sets.proofs.MemberLemmas.{or-cases}
+use Rattle.noc_columns.specs.Given.{IsGiven, is_of}
+use Rattle.noc_columns.specs.Supply.{digits_by, number_in}
+use Rattle.noc_columns.specs.declared.given.Grant.{Grant}
+use Rattle.noc_columns.proofs.ChannelLemmas.{channels-apart}
+use Rattle.noc_columns.proofs.PassLemmas.{some-next}
+use Rattle.noc_columns.proofs.SupplyLemmas.{number-is}
+use Rattle.noc_columns.proofs.UsedLemmas.{channels-few, index-below}
 use Rattle.noc_cycles.proofs.Common.{and_parts, cases_eq, eq-eqb, eqb-true, true≢false, div-mul-add, mod-mul-add, has_bit, Grid, local_port, neighbour, nodes, opposite, packet_in, channels_of, set_of, word, apart, below-members, member-is, number_or_nowhere, NotesSome, Block, Pattern}
-use Rattle.noc_cycles.specs.Told.{AreNotes, AreTold, IsNotedOver, heard, heard_over, noted, port_in, told_by, vc_in}
+use Rattle.noc_cycles.specs.Told.{AreNotes, AreTold, IsNotedOver, NotesFirst, heard, heard_over, noted, port_in, told_by, vc_in}
 use Rattle.noc_cycles.specs.declared.around.Around.{Around}
 use Rattle.noc_cycles.specs.declared.notes.Note.{Note}
 
@@ -124,6 +133,15 @@ module _ (g : Grid) (pattern : Pattern) (around : Around) (block : Block) (tells
       → has_bit (set_of (channels_of pattern.table.ports) r block.grants.granted) k ≡ has_bit (word index block.grants.granted) r
   granted-word r k index is below = member-is (channels_of pattern.table.ports) r k block.grants.granted below ∙ ap (λ j. has_bit (word j block.grants.granted) r) (sym is)
 
+  -- .. and is given
+  pub granted-given : (r k : ℕ) → r < 64 → Granted r k → some_below block.grants.count (is_of block.grants.given r ((channels_of pattern.table.ports).index k)) ≡ true
+  granted-given r k few granted =
+      let below = granted-below r k granted in
+      let index = (channels_of pattern.table.ports).index k in
+      let low = index-below pattern.table.ports k below in
+      let all = channels-few pattern.table.ports in
+      block.grants.all r index few (omega (arith, low, all)) (sym (granted-word r k index refl below) ∙ granted)
+
   -- none at first
   pub notes-none : (Done : ℕ → ℕ → Type 0) → ((s j : ℕ) → Done s j → ⊥) → NotesSome g pattern around block tells Done []
   notes-none Done none = record {
@@ -137,6 +155,64 @@ module _ (g : Grid) (pattern : Pattern) (around : Around) (block : Block) (tells
     right = are.right;
     are = λ s j to port l done bit link. are.are s j to port l (same s j l bit done) bit link;
   }
+
+  -- ---- the grant at one place
+  module _ (i : ℕ) (within : i < block.grants.count) where
+    abbrev index : ℕ → ℕ
+    index = (channels_of pattern.table.ports).index
+
+    abbrev size : ℕ
+    size = (pattern.table.ports.links.width + 1) * vcs
+
+    abbrev e : Grant
+    e = slice_index_or block.grants.given i (record { router = 0; index = 0; port = 0; vc = 0 })
+
+    its : IsGiven e block.grants.granted block.grants.sends
+    its = block.grants.right i (record { router = 0; index = 0; port = 0; vc = 0 }) within
+
+    -- it is noted, or an earlier one
+    earlier : (s j : ℕ) → some_below (i + 1) (is_of block.grants.given s (index j)) ≡ true → (some_below i (is_of block.grants.given s (index j)) ≡ true) ⊎ ((s ≡ e.router) × (index j ≡ e.index))
+    earlier s j after = elim (or-cases (some_below i (is_of block.grants.given s (index j))) (is_of block.grants.given s (index j) i) (sym (some-next i (is_of block.grants.given s (index j))) ∙ after)) [
+      | inl before ↦ inl before
+      | inr here ↦
+          let both = and_parts (nat_eq e.router s) (nat_eq e.index (index j)) here in
+          inr (sym (eqb-true e.router s both.0), sym (eqb-true e.index (index j) both.1))
+    ]
+
+    -- to channel k
+    module _ (k : ℕ) (few : k < size) (at : index k ≡ e.index) where
+      pub it-granted : Granted e.router k
+      it-granted = granted-word e.router k e.index (sym at) few ∙ its.granted_is
+
+      pub it-below : e.router < 64
+      it-below = its.router
+
+      pub it-port : port_in pattern.table.ports block e.router k ≡ e.port
+      it-port = number-is (channels_of pattern.table.ports) e.router k block.grants.sends.port few ∙ ap (λ m. number_in (digits_by (word m) block.grants.sends.port) e.router) at ∙ its.port
+
+      pub it-vc : vc_in pattern.table.ports block e.router k ≡ e.vc
+      it-vc = number-is (channels_of pattern.table.ports) e.router k block.grants.sends.vc few ∙ ap (λ m. number_in (digits_by (word m) block.grants.sends.vc) e.router) at ∙ its.vc
+
+      pub first-next : (old new : List Note) → NotesFirst g pattern around block tells i old → IsNotedOver vcs e.vc (packet_in block.packets e.router k) old new (neighbour g (node e.router) e.port) → NotesFirst g pattern around block tells (i + 1) new
+      first-next old new was over = notes-same
+          (λ s j. (some_below i (is_of block.grants.given s (index j)) ≡ true) ⊎ ((s ≡ e.router) × (j ≡ k))) (λ s j. some_below (i + 1) (is_of block.grants.given s (index j)) ≡ true) new
+          (λ s j low granted after. elim (earlier s j after) [
+            | inl before ↦ inl before
+            | inr it ↦ inr (it.0, channels-apart pattern.table.ports j k (granted-below s j granted) few (it.1 ∙ sym at))
+          ])
+          (notes-next e.router k its.router it-granted old new (λ s j. some_below i (is_of block.grants.given s (index j)) ≡ true) (λ s j. (some_below i (is_of block.grants.given s (index j)) ≡ true) ⊎ ((s ≡ e.router) × (j ≡ k)))
+          (λ s j after. after) was
+          (subst (λ p. IsNotedOver vcs (vc_in pattern.table.ports block e.router k) (packet_in block.packets e.router k) old new (neighbour g (node e.router) p)) (sym it-port)
+          (subst (λ v. IsNotedOver vcs v (packet_in block.packets e.router k) old new (neighbour g (node e.router) e.port)) (sym it-vc) over)))
+
+    -- to none of them
+    pub first-none : (notes : List Note) → size ≤ e.index → NotesFirst g pattern around block tells i notes → NotesFirst g pattern around block tells (i + 1) notes
+    first-none notes beyond = notes-same
+        (λ s j. some_below i (is_of block.grants.given s (index j)) ≡ true) (λ s j. some_below (i + 1) (is_of block.grants.given s (index j)) ≡ true) notes
+        (λ s j low granted after. elim (earlier s j after) [
+          | inl before ↦ before
+          | inr it ↦ let few = index-below pattern.table.ports j (granted-below s j granted) in let same = it.1 in absurd (omega (arith, few, same, beyond))
+        ])
 
   -- at the end all is noted
   pub notes-all : (n : ℕ) (notes : List Note) → n ≡ (pattern.table.ports.links.width + 1) * vcs → NotesSome g pattern around block tells (λ s j. j < n) notes → AreNotes g vcs (told_by around.block tells) notes

@@ -3,7 +3,7 @@ use Rattle.std.proofs.Common.{◌≡◌, ◌⊎◌, ℕ, ◌+◌, ◌*◌, Bool,
 use Rattle.std.specs.Prelude.{◌&&◌, ◌||◌, nat_eq, not}
 use Rattle.noc_columns.proofs.PassLemmas.{some-same}
 use Rattle.noc_columns.proofs.UsedLemmas.{channel-of, index-below}
-use Rattle.noc_cycles.proofs.Common.{eqb-true, has_bit, has_bit-zero, channels_of, some_below, set_of, word, Pattern}
+use Rattle.noc_cycles.proofs.Common.{has_bit, channels_of, some_below, set_of, word, Pattern}
 use Rattle.noc_cycles.proofs.SomeLemmas.{some-words}
 
 pub or-cases : (a b : Bool) → (a || b) ≡ true → (a ≡ true) ⊎ (b ≡ true)
@@ -35,19 +35,3 @@ module _ (pattern : Pattern) where
     where
       turn : width * vcs ≡ vcs * width
       turn = mul_comm width vcs
-
-pub unless : (a b : Bool) → (a && not b) ≡ false → (not a || b) ≡ true
-unless true true e = refl
-unless true false e = sym e
-unless false b e = refl
-
-pub not-false : (a : Bool) → not a ≡ true → a ≡ false
-not-false true e = sym e
-not-false false e = refl
-
-pub never : (w : ℕ) (r : ℕ) → not (nat_eq w 0) ≡ false → has_bit w r ≡ false
-never w r e = ap (λ v. has_bit v r) (eqb-true w 0 (unnot (nat_eq w 0) e)) ∙ has_bit-zero r
-  where
-    unnot : (b : Bool) → not b ≡ false → b ≡ true
-    unnot true e = refl
-    unnot false e = sym e

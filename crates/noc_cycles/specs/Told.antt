@@ -3,6 +3,8 @@ use Rattle.std.specs.Prelude.{◌≡◌, ◌≢◌, ◌⊎◌, ℕ, ◌+◌, ◌
 use Rattle.std.specs.declared.alloc.Global.{Global}
 use Rattle.noc_packet.specs.Set.{has_bit}
 use Rattle.noc_topo.specs.Shape.{Grid, neighbour, nodes, ports}
+use Rattle.noc_sets.specs.Unions.{some_below}
+use Rattle.noc_columns.specs.Given.{is_of}
 use Rattle.noc_columns.specs.Heads.{packet_in}
 use Rattle.noc_columns.specs.Picks.{channels_of}
 use Rattle.noc_columns.specs.Supply.{digits_by, number_in}
@@ -99,6 +101,14 @@ pub record NotesSome (g : Grid) (pattern : Pattern) (around : Around) (block : B
       ≡ Some (to, port)
       → is_some (noted notes to
       (port * pattern.table.ports.links.vcs + vc_in pattern.table.ports block r k)) ≡ true
+
+-- .. all of the first so many
+abbrev pub NotesFirst : Grid → Pattern → Around → Block → (ℕ → ℕ → Option ℕ) → ℕ → List Note
+    → Type 0
+NotesFirst g pattern around block tells count =
+    let index = (channels_of pattern.table.ports).index in
+    NotesSome g pattern around block tells
+    (λ r k. some_below count (is_of block.grants.given r (index k)) ≡ true)
 
 -- the notes of block b
 abbrev pub notes_or_none : Option (Vec Note Global) → List Note

@@ -14,7 +14,7 @@ pub struct Block {
     pub outputs: Outputs<Words>,
     /// By which output channel each active input channel sends, and which of them were granted it
     /// in the last cycle.
-    pub grants: Grants<Words>,
+    pub grants: Grants,
     /// The pointers of their output ports.
     pub switch: Switch<Words>,
     /// What their sources inject.

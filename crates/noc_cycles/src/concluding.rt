@@ -46,10 +46,11 @@ pub fn conclude(
     } }
     ensures left { left.new ≡ record left.old { credits = left.new.credits } }
 {
+    let grants = &block.grants;
     let moves = Moves {
         standing: &work.standing,
         decided: &work.decided,
-        grants: &block.grants,
+        grants,
     };
     let (_moved, arrived) = settle(
         &pattern.frame,
@@ -63,7 +64,7 @@ pub fn conclude(
         &pattern.table.ports,
         arrived,
         &work.arrived,
-        &block.grants.sends.vc,
+        &grants.sends.vc,
         &mut block.marks,
     );
     pay(&pattern.frame, &left.flits, &left.tails, &mut block.outputs);

@@ -70,7 +70,8 @@ pub fn decide(
 {
     let ports = &pattern.table.ports;
     let channels = (ports.links.width + 1) * ports.links.vcs;
-    clear(channels, &mut block.grants.granted, &mut work.lost);
+    block.grants.clear();
+    clear(channels, &mut work.lost);
     allocate_if(
         &pattern.table,
         &mut block.marks,
@@ -102,18 +103,16 @@ pub fn decide(
 
 // Output channels are granted, if an idle one is wanted in some router.
 #[inline(always)]
-fn allocate_if(
-    table: &ChannelTable,
-    marks: &mut Marks,
-    grants: &mut Grants<Words>,
-    lost: &mut Words,
-)
+fn allocate_if(table: &ChannelTable, marks: &mut Marks, grants: &mut Grants, lost: &mut Words)
     requires waiting { (r : ℕ) → r < ROUTERS
         → MembersAreBelow ((table.now.ports.links.width + 1) * table.now.ports.links.vcs)
         (slice_index marks.old.waiting r) }
     requires idle { (r : ℕ) → r < ROUTERS
         → MembersAreBelow ((table.now.ports.links.width + 1) * table.now.ports.links.vcs)
         (slice_index marks.old.idle r) }
+    requires free { (r : ℕ) → r < ROUTERS
+        → set_of (channels_of table.now.ports) r grants.old.granted ≡ 0 }
+    requires none { grants.old.count ≡ 0 }
     ensures asked { (r : ℕ) → r < ROUTERS → has_bit marks.old.asking r ≡ true
         → HasAllotted table.now.ports.links.vcs
         (allotment_at (channels_of table.now.ports) marks.old grants.old lost.old r)

@@ -5,8 +5,8 @@
 
 use crate::block::{Block, Work};
 use noc_columns::{
-    CHANNELS, Decided, Digits, Due, Grants, Injection, Inputs, Left, Links, Marks, Outputs, Planes,
-    ROUTERS, Returned, Sends, Sources, Standing, Switch, Verdicts, WORDS, Words,
+    CHANNELS, Decided, Digits, Due, GRANTS, Grant, Grants, Injection, Inputs, Left, Links, Marks,
+    Outputs, Planes, ROUTERS, Returned, Sends, Sources, Standing, Switch, Verdicts, WORDS, Words,
 };
 
 /// A block.
@@ -28,6 +28,8 @@ pub(crate) const NO_BLOCK: Block = Block {
             port: NO_DIGITS,
             vc: NO_DIGITS,
         },
+        count: 0,
+        given: [NO_GRANT; GRANTS],
     },
     switch: Switch { ahead: NO_WORDS },
     injection: Injection {
@@ -83,6 +85,13 @@ pub(crate) const NO_WORK: Work = Work {
     },
     arrived: NO_WORDS,
     leaving: 0,
+};
+
+const NO_GRANT: Grant = Grant {
+    router: 0,
+    index: 0,
+    port: 0,
+    vc: 0,
 };
 
 const NO_LINKS: Links<Words> = Links {

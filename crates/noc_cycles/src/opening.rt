@@ -15,7 +15,7 @@ use noc_topo::MAX_NODES;
 use std::alloc::Global;
 
 /// So many blocks before the first cycle, where these are the first packets of all routers. (Each
-/// is opened where it stands, since it takes 100 kB.)
+/// is opened where it stands, since it takes 115 kB.)
 pub fn open_blocks(
     alloc: Global,
     pattern: &Pattern,

@@ -4,13 +4,13 @@ ghost use Rattle.std.specs.Prelude.{◌≡◌, ◌<◌, ◌≤◌, ◌+◌, ◌*
 ghost use Rattle.noc_topo.specs.Shape.{Grid, neighbour, nodes, opposite};
 ghost use Rattle.noc_columns.specs.Heads.{packet_in};
 ghost use Rattle.noc_cycles.specs.Gathered.{IsWired};
-ghost use Rattle.noc_cycles.specs.Told.{AreNotes, AreTold, HaveRoom, IsNotedOver, NotesSome, noted, port_in, told_by, vc_in};
+ghost use Rattle.noc_cycles.specs.Told.{AreNotes, AreTold, HaveRoom, IsNotedOver, NotesFirst, noted, told_by};
 
 use crate::around::{Around, NOWHERE};
 use crate::block::Block;
 use crate::notes::Note;
 use crate::pattern::Pattern;
-use noc_columns::{CHANNELS, ROUTERS, but_lowest, least, opposite, used_words};
+use noc_columns::{CHANNELS, Grant, ROUTERS, opposite};
 use noc_packet::Memory;
 use std::alloc::Global;
 
@@ -40,41 +40,36 @@ pub fn tell(pattern: &Pattern, around: &Around, block: &Block, notes: &mut Vec<N
     ensures room { vec_capacity notes.old ≤ vec_capacity notes.new }
 {
     notes.clear();
-    let links = &pattern.table.ports.links;
-    let mut rest = used_words((links.width + 1) * links.vcs, &block.grants.granted);
-    while rest != 0 {
-        let channel = pattern.table.channel_at(least(rest));
-        tell_channel(pattern, around, block, channel, notes);
-        rest = but_lowest(rest);
+    for number in 0..block.grants.count {
+        tell_grant(pattern, around, block, number, notes);
     }
 }
 
-// Notes the grants of one input channel of the routers of a block.
-fn tell_channel(
+// Notes the grant of a block with this number. (Each is one of a channel that the routers have.)
+fn tell_grant(
     pattern: &Pattern,
     around: &Around,
     block: &Block,
-    channel: usize,
+    number: usize,
     notes: &mut Vec<Note>,
 )
     requires told { (g : Grid) × (tells : ℕ → ℕ → Option ℕ)
         × AreTold g pattern.now around.now block.now tells }
-    requires channel { channel < (pattern.now.table.ports.links.width + 1)
-        * pattern.now.table.ports.links.vcs }
-    requires room { vec_len notes.old + ROUTERS ≤ vec_capacity notes.old }
-    ensures notes { (g : Grid) (tells : ℕ → ℕ → Option ℕ) (done : ℕ → Bool)
+    requires number { number < block.now.grants.count }
+    requires room { vec_len notes.old < vec_capacity notes.old }
+    ensures notes { (g : Grid) (tells : ℕ → ℕ → Option ℕ)
         → AreTold g pattern.now around.now block.now tells
-        → NotesSome g pattern.now around.now block.now tells (λ r k. done k ≡ true) notes.old.items
-        → NotesSome g pattern.now around.now block.now tells
-        (λ r k. (done k || nat_eq k channel) ≡ true) notes.new.items }
-    ensures more { vec_len notes.new ≤ vec_len notes.old + ROUTERS }
+        → NotesFirst g pattern.now around.now block.now tells number notes.old.items
+        → NotesFirst g pattern.now around.now block.now tells (number + 1) notes.new.items }
+    ensures more { vec_len notes.new ≤ vec_len notes.old + 1 }
     ensures room { vec_capacity notes.old ≤ vec_capacity notes.new }
 {
-    let index = pattern.table.index(channel);
-    let mut rest = block.grants.granted[index];
-    while rest != 0 {
-        tell_one(pattern, around, block, channel, least(rest), notes);
-        rest = but_lowest(rest);
+    let links = &pattern.table.ports.links;
+    let grant = &block.grants.given[number];
+    let index = usize::from(grant.index);
+    if index < (links.width + 1) * links.vcs {
+        let channel = pattern.table.channel_at(index);
+        tell_one(pattern, around, block, channel, grant, notes);
     }
 }
 
@@ -85,34 +80,31 @@ fn tell_one(
     around: &Around,
     block: &Block,
     channel: usize,
-    router: usize,
+    grant: &Grant,
     notes: &mut Vec<Note>,
 )
     requires wired { (g : Grid) × IsWired g pattern.now around.now
-        × (ROUTERS * around.now.block + router < nodes g) }
+        × (ROUTERS * around.now.block + grant.now.router < nodes g) }
     requires channel { channel < (pattern.now.table.ports.links.width + 1)
         * pattern.now.table.ports.links.vcs }
-    requires router { router < ROUTERS }
-    requires vc { vc_in pattern.now.table.ports block.now router channel
-        < pattern.now.table.ports.links.vcs }
+    requires router { grant.now.router < ROUTERS }
+    requires vc { grant.now.vc < pattern.now.table.ports.links.vcs }
     requires room { vec_len notes.old < vec_capacity notes.old }
     ensures noted { (g : Grid) → IsWired g pattern.now around.now
-        → ROUTERS * around.now.block + router < nodes g
-        → IsNotedOver pattern.now.table.ports.links.vcs
-        (vc_in pattern.now.table.ports block.now router channel)
-        (packet_in block.now.packets router channel) notes.old.items notes.new.items
-        (neighbour g (ROUTERS * around.now.block + router)
-        (port_in pattern.now.table.ports block.now router channel)) }
+        → ROUTERS * around.now.block + grant.now.router < nodes g
+        → IsNotedOver pattern.now.table.ports.links.vcs grant.now.vc
+        (packet_in block.now.packets grant.now.router channel) notes.old.items notes.new.items
+        (neighbour g (ROUTERS * around.now.block + grant.now.router) grant.now.port) }
     ensures more { vec_len notes.new ≤ vec_len notes.old + 1 }
     ensures room { vec_capacity notes.old ≤ vec_capacity notes.new }
 {
-    let index = pattern.table.index(channel);
     let links = &pattern.table.ports.links;
-    let port = block.grants.sends.port.at(index).number(router);
+    let router = usize::from(grant.router);
+    let port = usize::from(grant.port);
     if port < links.width {
         let node = around.ends[router][port];
         if node != NOWHERE {
-            let vc = block.grants.sends.vc.at(index).number(router);
+            let vc = usize::from(grant.vc);
             let there = opposite(port) * links.vcs + vc;
             note(notes, node, there, block.packets[router][channel]);
         }

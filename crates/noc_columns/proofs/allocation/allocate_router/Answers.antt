@@ -2,6 +2,7 @@ use Rattle.std.proofs.Common.{◌≡◌, ◌⊎◌, ℕ, ◌^◌, ◌<◌, ◌�
 use Rattle.std.specs.Prelude.{◌&&◌, not, nat_eq, if◌then◌else◌}
 use Rattle.std.proofs.lemmas.Bool.{and_parts, cases_Bool, eq-eqb, ne_eqb}
 use Rattle.noc_packet.specs.Set.{has_bit}
+use Rattle.noc_packet.proofs.SetLemmas.{has_bit-zero}
 use Rattle.noc_sets.specs.Grants.{AreAsks}
 use Rattle.noc_sets.proofs.MemberLemmas.{less_members}
 use Rattle.noc_columns.specs.Picks.{channels_of}
@@ -25,6 +26,8 @@ grant_all-granted-requires c =
             asked-some (slice_index c.ask_all-asks.new.requests o) (sym (are.asked_for o l) ∙ a),
             λ k e. c.requires.waiting k (asks-wait _ idle _ _ _ _ _ are o k l e),
           );
+      free = λ o k a b. ap (λ w. has_bit w k) c.requires.free ∙ has_bit-zero k;
+      room = c.requires.room;
       apart = λ a b k ea eb x y. asks-apart _ idle _ _ _ _ _ are a b k (in-word c.ask_all-asks.result.outs a fits ea) (in-word c.ask_all-asks.result.outs b fits eb) x y;
     }
 

@@ -8,6 +8,9 @@ use Rattle.noc_columns.specs.Words.{set_of, word}
 use Rattle.noc_columns.proofs.BitLemmas.{put-set}
 use Rattle.noc_columns.proofs.ChannelLemmas.{channels-apart}
 use Rattle.noc_columns.proofs.GrantLemmas.{first-is, least-one-is, number-written}
+use Rattle.noc_columns.proofs.RouterLemmas.{first-among}
+use Rattle.noc_columns.proofs.SupplyLemmas.{member-is}
+use Rattle.noc_columns.proofs.UsedLemmas.{channels-few, index-below}
 use Rattle.noc_columns.proofs.grants.grant.Goals as goal
 
 pub least-requires : goal.least-requires
@@ -39,16 +42,16 @@ returns-clause-grants c = λ r.
     let apart = channels-apart ports in
     record {
       granted =
-          put-set n old.granted c.put_router.new.words k router apart few r
-          (λ i s. c.put_router.ensures i s ∙ ap (λ j. (nat_eq i j && nat_eq s router) || has_bit (word i old.granted) s) at)
+          put-set n old.granted c.put.new.self.granted k router apart few r
+          (λ i s. c.put.ensures.granted i s ∙ ap (λ j. (nat_eq i j && nat_eq s router) || has_bit (word i old.granted) s) at)
           ∙ ap (λ x. if nat_eq r router then bit_or (set_of n r old.granted) x else set_of n r old.granted) (sym is);
       port = λ d l.
-          number-written n old.sends.port c.put_number.new.self k router c.port.result r d apart few l
-          (λ i s. c.put_number.ensures i s ∙ ap (λ j. if nat_eq i j && nat_eq s router then c.port.result else number_in (digits_by (word i) old.sends.port) s) at)
+          number-written n old.sends.port c.put.new.self.sends.port k router c.port.result r d apart few l
+          (λ i s. c.put.ensures.port i s ∙ ap (λ j. if nat_eq i j && nat_eq s router then c.port.result else number_in (digits_by (word i) old.sends.port) s) at)
           ∙ ap₂ (λ x v. if nat_eq r router && has_bit x d then v else number_in (digits_by (set_of n r) old.sends.port) d) (sym is) c.port.ensures.is;
       vc = λ d l.
-          number-written n old.sends.vc c.put_number-2.new.self k router c.vc.result r d apart few l
-          (λ i s. c.put_number-2.ensures i s ∙ ap (λ j. if nat_eq i j && nat_eq s router then c.vc.result else number_in (digits_by (word i) old.sends.vc) s) at)
+          number-written n old.sends.vc c.put.new.self.sends.vc k router c.vc.result r d apart few l
+          (λ i s. c.put.ensures.vc i s ∙ ap (λ j. if nat_eq i j && nat_eq s router then c.vc.result else number_in (digits_by (word i) old.sends.vc) s) at)
           ∙ ap₂ (λ x v. if nat_eq r router && has_bit x d then v else number_in (digits_by (set_of n r) old.sends.vc) d) (sym is) c.vc.ensures.is;
     }
 
@@ -70,14 +73,32 @@ offset_bounds-turn-out c = omega (arith, c.args.table.now.few, c.requires.out)
 pub offset_bounds-turn-out-2 : goal.offset_bounds-turn-out-2
 offset_bounds-turn-out-2 c = omega (arith, c.args.table.now.few, c.requires.out)
 
-pub put_number-requires-clause-index : goal.put_number-requires-clause-index
-put_number-requires-clause-index c = c.index-index.ensures.within
+pub put-requires-clause-index : goal.put-requires-clause-index
+put-requires-clause-index c =
+    let ports = c.args.table.now.ports in
+    let size = (ports.links.width + 1) * ports.links.vcs in
+    let one = first-is size c.args.requests (slice_index c.args.turn.now c.args.out) c.first_in_turn-bit.result c.requires.below c.requires.some c.first_in_turn-bit.ensures in
+    let it = least-one-is c.first_in_turn-bit.result one.0 c.least.result one.2 c.least.ensures.least in
+    let low = index-below ports c.least.result (subst (λ x. x < size) (sym it) one.1) in
+    let all = channels-few ports in
+    let at = c.index-index.ensures.is in
+    omega (arith, low, all, at)
 
-pub put_number-requires-2-clause-index : goal.put_number-requires-2-clause-index
-put_number-requires-2-clause-index c = c.index-index.ensures.within
-
-pub put_router-requires-clause-index : goal.put_router-requires-clause-index
-put_router-requires-clause-index c = c.index-index.ensures.within
+-- who asks has no grant
+pub put-requires-clause-free : goal.put-requires-clause-free
+put-requires-clause-free c =
+    let ports = c.args.table.now.ports in
+    let n = channels_of ports in
+    let size = (ports.links.width + 1) * ports.links.vcs in
+    let turn = slice_index c.args.turn.now c.args.out in
+    let bit = c.first_in_turn-bit.result in
+    let k = c.least.result in
+    let words = c.args.grants.now.granted in
+    let one = first-is size c.args.requests turn bit c.requires.below c.requires.some c.first_in_turn-bit.ensures in
+    let it = least-one-is bit one.0 k one.2 c.least.ensures.least in
+    let few : k < size = subst (λ x. x < size) (sym it) one.1 in
+    let asks = first-among c.args.requests turn k (ap (λ w. has_bit w k) (sym c.first_in_turn-bit.ensures) ∙ c.least.ensures.least.0) in
+    ap (λ i. has_bit (word i words) c.args.router) c.index-index.ensures.is ∙ sym (member-is n c.args.router k words few) ∙ c.requires.free k asks
 
 pub returns-clause-first : goal.returns-clause-first
 returns-clause-first c = c.first_in_turn-bit.ensures

@@ -1,15 +1,17 @@
-use Rattle.std.proofs.Common.{◌≡◌, ◌≢◌, ℕ, ◌+◌, ◌*◌, ◌^◌, ◌<◌, Bool, true, false, ◌∙◌, ap, ap₂, sym, subst, arith, refl, inl, inr, set, slice_index, get_or-set_same, get_or-set_other}
-use Rattle.std.specs.Prelude.{◌&&◌, ◌||◌, not, nat_eq}
-use Rattle.std.proofs.lemmas.Bool.{and_parts, eq-eqb, eqb-true, true≢false}
+use Rattle.std.proofs.Common.{◌≡◌, ◌≢◌, ℕ, ◌+◌, ◌*◌, ◌^◌, ◌<◌, Bool, true, false, ◌∙◌, ap, ap₂, sym, subst, arith, refl, inl, inr, bit_or, set, slice_index, get_or-set_same, get_or-set_other}
+use Rattle.std.specs.Prelude.{◌&&◌, ◌||◌, not, nat_eq, if◌then◌else◌}
+use Rattle.std.proofs.lemmas.Bool.{and_parts, cases_Bool, cases_lt, eq-eqb, eqb-true, true≢false}
 use Rattle.std.proofs.lemmas.List.{length-set}
 use Rattle.noc_packet.specs.Set.{has_bit}
+use Rattle.noc_packet.proofs.SetLemmas.{either_members}
 use Rattle.noc_alloc.specs.Members.{MembersAreBelow}
 use Rattle.noc_sets.specs.Turns.{first_bit, in_turn}
 use Rattle.noc_sets.proofs.MemberLemmas.{lowest-one, or-cases, or-none}
 use Rattle.noc_columns.specs.Grants.{first_of}
 use Rattle.noc_columns.specs.Picks.{channels_of}
+use Rattle.noc_columns.specs.Words.{set_of}
 use Rattle.noc_columns.proofs.GrantLemmas.{granted-next, granted-none, granted-same}
-use Rattle.noc_columns.proofs.LoopLemmas.{all-done, left-part, none-left, not-done, not-left}
+use Rattle.noc_columns.proofs.LoopLemmas.{all-done, left-members, left-part, none-left, not-done, not-left}
 use Rattle.noc_columns.proofs.PortLemmas.{lowest-least}
 use Rattle.noc_columns.proofs.RouterLemmas.{first-among}
 use Rattle.noc_columns.proofs.grants.grant_all.Goals as goal
@@ -19,6 +21,8 @@ loop-rest-init c = record {
   size = omega arith;
   part = λ k e. e;
   granted = granted-none _ _ _ _ _ _ _ (λ o. none-left c.args.outs o);
+  few = λ o e. omega arith;
+  most = omega arith;
   left = λ o e. refl;
   turned = λ o k i a b l. absurd (true≢false (sym a ∙ none-left c.args.outs o));
   answered = λ o a. absurd (true≢false (sym a ∙ none-left c.args.outs o));
@@ -37,7 +41,32 @@ grant-bit-requires c =
       out = asked.0;
       some = subst (λ x. 0 < x) (sym was) asked.1;
       below = subst (MembersAreBelow ((ports.links.width + 1) * ports.links.vcs)) (sym was) asked.2;
+      free = λ k e. ungranted k (ap (λ w. has_bit w k) (sym was) ∙ e);
+      room = let few = inv.few t c.least-out.ensures.least.0 in let within = c.least-out.ensures.within in let room = c.requires.room in omega (arith, few, within, room);
     }
+  where
+    -- who asks for the channel is granted no other one
+    ungranted : (k : ℕ) → has_bit (slice_index c.args.requests.now c.least-out.result) k ≡ true → has_bit (set_of (channels_of c.args.table.now.ports) c.args.router c.loop-rest.grants.granted) k ≡ false
+    ungranted k asks =
+        let inv = c.loop-rest.invariant in
+        let n = channels_of c.args.table.now.ports in
+        let router = c.args.router in
+        let t = c.least-out.result in
+        let least = c.least-out.ensures.least in
+        let outs = c.args.outs in
+        let rest = c.loop-rest.rest in
+        let old = set_of n router c.args.grants.now.granted in
+        let whole = inv.part t least.0 in
+        ap (λ w. has_bit w k) (inv.granted.bits router ∙ ap (λ b. if b then bit_or old c.loop-rest.granted else old) (eq-eqb router router refl))
+        ∙ either_members old c.loop-rest.granted k
+        ∙ ap₂ (λ a b. a || b) (c.requires.free t k whole asks)
+        (inv.granted.none k (λ o p. elim (cases_Bool (has_bit (first_of (λ x. slice_index c.args.requests.now x) (λ x. slice_index c.args.turn.now x) o) k)) [
+          | inl b ↦
+              let parts = and_parts (has_bit outs o) (not (has_bit rest o)) p in
+              let same = c.requires.apart o t k parts.0 whole (first-among (slice_index c.args.requests.now o) (slice_index c.args.turn.now o) k b) asks in
+              absurd (true≢false (sym parts.1 ∙ ap (λ x. not (has_bit rest x)) same ∙ ap not least.0))
+          | inr b ↦ b
+        ]))
 
 pub loop-rest-preserved : goal.loop-rest-preserved
 loop-rest-preserved c =
@@ -64,6 +93,17 @@ loop-rest-preserved c =
       granted = granted-next (channels_of ports) ports.links.vcs c.args.router prev next requests turn c.loop-rest.granted t bit c.args.grants.now c.loop-rest.grants c.grant-bit.new.grants more is
           (λ o k p b. free o k p b (has_bit bit k) refl)
           c.grant-bit.ensures.grants inv.granted;
+      few = λ o e.
+          let both = and_parts (has_bit rest o) (not (nat_eq o t)) (sym (left-members rest t o least) ∙ ap (λ w. has_bit w o) (sym c.but_lowest-rest.ensures.members) ∙ e) in
+          elim (cases_lt o t) [
+            | inl before ↦ absurd (true≢false (sym both.0 ∙ least.1 o before))
+            | inr after ↦
+                let away : o ≢ t = λ same. true≢false (sym both.1 ∙ ap not (eq-eqb o t same)) in
+                let had = inv.few t least.0 in
+                let more = c.grant-bit.ensures.count in
+                omega (arith, after, away, had, more)
+          ];
+      most = let had = inv.few t least.0 in let more = c.grant-bit.ensures.count in omega (arith, had, more, few);
       left = λ o e.
           let both = or-none (prev o) (nat_eq o t) (sym (more o) ∙ e) in
           let far : o ≢ t = λ same. true≢false (sym (eq-eqb o t same) ∙ both.1) in
@@ -108,4 +148,5 @@ returns c =
       others = λ o e. inv.left o (done o ∙ e);
       answered = λ o a. inv.answered o (done o ∙ a);
       unasked = λ o e. inv.unread o (done o ∙ e);
+      few = inv.most;
     }

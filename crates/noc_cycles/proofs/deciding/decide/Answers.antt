@@ -6,7 +6,9 @@ use Rattle.noc_cycles.proofs.Common.{true≢false, nodes, has_bit, has_bit-zero,
 use Rattle.noc_cycles.specs.Deciding.{HasDecidedHeld}
 use Rattle.noc_cycles.proofs.ConcludingLemmas.{none-within}
 use Rattle.noc_columns.proofs.UsedLemmas.{channels-few, index-below}
-use Rattle.noc_cycles.proofs.DecidingLemmas.{decided-then}
+use Rattle.noc_columns.specs.Allotted.{HasAllotted, allotment_at}
+use Rattle.noc_columns.specs.Words.{IsWithin}
+use Rattle.noc_cycles.proofs.DecidingLemmas.{decided-then, found_at}
 use Rattle.noc_cycles.proofs.deciding.decide.Goals as goal
 
 pub allocate_if-requires-clause-waiting : goal.allocate_if-requires-clause-waiting
@@ -35,6 +37,9 @@ returns-clause-decided c = λ layout r no_credit s l shows.
     let guide = c.args.routing.now in
     let sets = sets_by guide.relation.now guide.headers.now (c.args.first + r) in
     let within = index-below ports in
+    let few : IsWithin 64 n = λ k m. let low = within k m in let all = channels-few ports in omega (arith, low, all) in
+    let before = c.clear.new.self in
+    let lost = c.clear-2.new.words in
     let got = c.allocate_if.new in
     let routed = c.route_if.ensures in
     let marks = c.route_if.new.marks in
@@ -45,12 +50,19 @@ returns-clause-decided c = λ layout r no_credit s l shows.
     let all = λ (d : Decided (List ℕ)). HasDecidedHeld pattern layout sets s (held_at ports block r) (held_at ports (record block { grants = got.grants; marks = marks; switch = went.new.switch }) r)
     (standing_by (set_of n r) standing) (decided_by (set_of n r) d) (set_of n r got.grants.granted) (set_of n r got.lost) (links_at ports went.new.left r) in
     subst all (sym went.ensures.decided)
-    (decided-then pattern r l block standing c.clear.new.first c.clear.new.second (none-within n r _ c.clear.new.first within c.clear.ensures.first) (none-within n r _ c.clear.new.second within c.clear.ensures.second)
-    got.marks got.grants got.lost (c.allocate_if.ensures.asked r l) (c.allocate_if.ensures.others r)
+    (decided-then pattern r l block standing before.granted lost (none-within n r 64 before.granted few c.clear.ensures.granted) (none-within n r _ lost within c.clear-2.ensures)
+    got.marks got.grants got.lost
+    (λ e. subst (λ s. HasAllotted ports.links.vcs (found_at n block.marks before.granted s lost r) (allotment_at n got.marks got.grants got.lost r)) c.clear.ensures.sends (c.allocate_if.ensures.asked r l e))
+    (λ e. c.allocate_if.ensures.others r e ∙ ap (λ s. found_at n block.marks before.granted s lost r) c.clear.ensures.sends)
     sets marks (λ m. routed.routed r m l) (routed.waiting r l) (routed.idle r) routed.turns fits
     decided pick.new.picks went.new.switch went.new.left (pick.ensures.picked r).first (pick.ensures.picked r).has (pick.ensures.picked r).any (went.ensures.traversed r)
     (length guide.headers.now) (nodes guide.relation.now.grid) (c.args.first + r) (c.requires.may r l)
     layout s no_credit shows)
 
-pub clear-requires : goal.clear-requires
-clear-requires c = let few = channels-few c.args.pattern.now.table.ports in omega (arith, few)
+pub allocate_if-requires-clause-free : goal.allocate_if-requires-clause-free
+allocate_if-requires-clause-free c = λ r l.
+    let ports = c.args.pattern.now.table.ports in
+    none-within (channels_of ports) r 64 c.clear.new.self.granted (λ k m. let low = index-below ports k m in let all = channels-few ports in omega (arith, low, all)) c.clear.ensures.granted
+
+pub clear-requires-2 : goal.clear-requires-2
+clear-requires-2 c = let few = channels-few c.args.pattern.now.table.ports in omega (arith, few)

@@ -1,9 +1,18 @@
+use Rattle.std.proofs.Common.{◌∙◌, arith, sym}
 use Rattle.std.proofs.lemmas.List.{get_or-replicate}
-use Rattle.noc_cycles.proofs.OpeningLemmas.{nobody-asks, nothing-fits, opened-next}
+use Rattle.noc_cycles.proofs.Common.{true≢false}
+use Rattle.noc_cycles.proofs.OpeningLemmas.{nobody-asks, nobody-granted, nothing-fits, opened-next}
 use Rattle.noc_cycles.proofs.opening.open_blocks.Goals as goal
 
 pub invariant_of-push : goal.invariant_of-push
 invariant_of-push c = record {
+  few = omega arith;
+  right = λ i d l. absurd (omega (arith, l));
+  all = λ r k low l is. absurd (true≢false (sym is ∙ nobody-granted r k l));
+}
+
+pub invariant_of-push-in-loop-number : goal.invariant_of-push-in-loop-number
+invariant_of-push-in-loop-number c = record {
   unasked = λ o few. get_or-replicate 64 o 0 0 few;
   asks = λ r few. nobody-asks r _ _ few;
   fit = nothing-fits;
