@@ -1,5 +1,4 @@
 pub mod Ends
-pub mod Faults
 pub mod TileStep
 pub mod Rings
 pub mod Tiles

@@ -1,9 +1,8 @@
 //! The tiles of a network, run in threads of their own.
 
-ghost use Rattle.std.specs.Prelude.{ℕ, List, ◌≡◌, ◌≢◌, ◌+◌, ◌<◌, ◌≤◌, ◌↔◌, ◌++◌, false, get_or, vec_len, IfErr, IfOk, IsOkAnd, IsTrue, OnOk};
+ghost use Rattle.std.specs.Prelude.{ℕ, List, ◌≡◌, ◌+◌, ◌<◌, ◌≤◌, ◌↔◌, ◌++◌, false, get_or, vec_len, IfErr, IfOk, IsTrue, OnOk};
 ghost use Rattle.std.specs.Thread.{IsSync};
 ghost use Rattle.noc_net.specs.Parts.{run_in};
-ghost use Rattle.noc_tiles.specs.Faults.{fault_number};
 ghost use Rattle.noc_tiles.specs.Partition.{AddsTile, AllWhole, AreDone, IsGathered, IsKept, IsToCut};
 ghost use Rattle.noc_tiles.specs.Tiles.{AllCanRun, AllEnded};
 ghost use Rattle.noc_tiles.specs.declared.tile.Tile.{Tile as tile_value};
@@ -12,7 +11,7 @@ use crate::ends::{Inlet, Outlet};
 use crate::partition::{Kept, empty_all, partition};
 use crate::tile::{Outcome, Tile};
 use crate::worker::run_tile;
-use noc_exchange::{Gate, Stop, may_be_shut};
+use noc_exchange::{Gate, NotRun, Stop, joined, may_be_shut};
 use noc_net::{Network, Parts, RunFault};
 use noc_packet::Beat;
 use noc_route::Relation;
@@ -44,7 +43,11 @@ pub(crate) fn run_threads<R: Threads + Wait + Sync, G: Gate>(
         return Err(RunFault::Memory);
     };
     let stop = Stop::new();
-    let tiles = run_all(rt, &kept.parts.relation, tiles, &stop, gate)?;
+    let tiles = match run_all(rt, &kept.parts.relation, tiles, &stop, gate) {
+        Ok(tiles) => tiles,
+        Err(NotRun::Memory) => return Err(RunFault::Memory),
+        Err(NotRun::NoWorker) => return Err(RunFault::NoWorker),
+    };
     if !all_whole(&tiles) {
         return Err(if may_be_shut(gate) {
             RunFault::LostWorker
@@ -102,7 +105,7 @@ impl<'a, G: Gate> PromisedTiles<'a, G> {
     }
 }
 
-impl<'a, G: Gate> Promise<Result<Vec<Tile>, RunFault>> for PromisedTiles<'a, G> {
+impl<'a, G: Gate> Promise<Result<Vec<Tile>, NotRun>> for PromisedTiles<'a, G> {
     ghost kept_by = { λ p r. IfOk r (λ v. AllEnded p.relation.now p.stop.now
         (record { opens = G.opens p.gate.now; shuts = G.shuts p.gate.now })
         p.before.value.items v.items) };
@@ -116,11 +119,10 @@ pub(crate) fn run_all<R: Threads + Wait + Sync, G: Gate>(
     tiles: Vec<Tile>,
     stop: &Stop,
     gate: &G,
-) -> Result<Vec<Tile>, RunFault>
+) -> Result<Vec<Tile>, NotRun>
     requires { AllCanRun relation.now tiles.items }
-    ensures ended { IfOk result (λ v. AllEnded relation.now stop.now
+    ensures { IfOk result (λ v. AllEnded relation.now stop.now
         (record { opens = G.opens gate.now; shuts = G.shuts gate.now }) tiles.items v.items) }
-    ensures started { IfErr result (λ e. e ≢ RunFault.LostWorker) }
 {
     let count = tiles.len();
     if count <= 1 {
@@ -129,23 +131,22 @@ pub(crate) fn run_all<R: Threads + Wait + Sync, G: Gate>(
     let mut first = tiles;
     let Ok(second) = first.split_off(count / 2) else {
         stop.raise();
-        return Err(RunFault::Memory);
+        return Err(NotRun::Memory);
     };
     thread::scope(
         thread::scope_env(),
         rt,
-        |scope| -> Result<Vec<Tile>, RunFault>
+        |scope| -> Result<Vec<Tile>, NotRun>
             requires { AllCanRun relation.now first.items × AllCanRun relation.now second.items
                 × (0 < vec_len first) × (0 < vec_len second) × IsSync R.row × IsSync G.row }
-            ensures ended { IfOk result (λ v. AllEnded relation.entry.now stop.entry.now
+            ensures { IfOk result (λ v. AllEnded relation.entry.now stop.entry.now
                 (record { opens = G.opens gate.entry.now; shuts = G.shuts gate.entry.now })
                 (first.items ++ second.items) v.items) }
-            ensures started { IfErr result (λ e. e ≢ RunFault.LostWorker) }
         {
             let promise = PromisedTiles::of(&second, relation, stop, gate);
             let child = scope.spawn_with(
                 promise,
-                move || -> Result<Vec<Tile>, RunFault>
+                move || -> Result<Vec<Tile>, NotRun>
                     requires { AllCanRun relation.now second.items × IsSync R.row × IsSync G.row }
                     ensures { IfOk result (λ v. AllEnded relation.entry.now stop.entry.now
                         (record { opens = G.opens gate.entry.now; shuts = G.shuts gate.entry.now })
@@ -154,7 +155,7 @@ pub(crate) fn run_all<R: Threads + Wait + Sync, G: Gate>(
             );
             let Ok(child) = child else {
                 stop.raise();
-                return Err(RunFault::NoWorker);
+                return Err(NotRun::NoWorker);
             };
             let first = run_all(rt, relation, first, stop, gate);
             let second = child.join(rt);
@@ -183,29 +184,6 @@ fn run_last<G: Gate>(
     let ended = run_tile(rt, relation, tile, stop, gate);
     tiles.push_reserved(ended);
     tiles
-}
-
-// Both lists in one, or the fault with the lower number.
-fn joined(
-    first: Result<Vec<Tile>, RunFault>,
-    second: Result<Vec<Tile>, RunFault>,
-) -> Result<Vec<Tile>, RunFault>
-    ensures items { IfOk result (λ v. IsOkAnd first (λ a. IsOkAnd second (λ b.
-        v.items ≡ a.items ++ b.items))) }
-    ensures least { IfErr result (λ e. IfErr first (λ f. fault_number e ≤ fault_number f)
-        × IfErr second (λ f. fault_number e ≤ fault_number f)) }
-    ensures started { IfErr result (λ e. e ≢ RunFault.LostWorker) }
-{
-    match (first, second) {
-        (Ok(mut first), Ok(mut second)) => {
-            if first.append(&mut second).is_err() {
-                return Err(RunFault::Memory);
-            }
-            Ok(first)
-        }
-        (Err(RunFault::Memory), _) | (_, Err(RunFault::Memory)) => Err(RunFault::Memory),
-        (Err(_), _) | (_, Err(_)) => Err(RunFault::NoWorker),
-    }
 }
 
 // What the tiles held.

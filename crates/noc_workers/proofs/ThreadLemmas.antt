@@ -5,7 +5,7 @@ use Rattle.std.proofs.lemmas.List.{length_push}
 use Rattle.noc_workers.specs.Cuts.{AllHaveRun, AllMayRun, AreHalves, HaveRunStretch, MayRunStretch}
 use Rattle.noc_workers.specs.Rounds.{Start}
 use Rattle.noc_workers.specs.Workers.{HasCome, IsWorkerAt, MayRunFrom}
-use Rattle.noc_workers.specs.declared.fork.NotRun.{NotRun}
+use Rattle.noc_exchange.specs.declared.halves.NotRun.{NotRun}
 use Rattle.noc_workers.specs.declared.fork.Stretch.{Stretch}
 use Rattle.noc_workers.specs.declared.worker.Worker.{Worker}
 use Rattle.noc_workers.proofs.SideLemmas.{side-append, side-first, side-split}

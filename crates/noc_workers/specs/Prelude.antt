@@ -10,5 +10,5 @@ pub use Rattle.noc_engine.specs.declared.plan.Plan.{Plan}
 pub use Rattle.noc_workers.specs.Cuts.{AllHaveRun, AllMayRun, AllShow, AreHalves, AreNew, HasAllNear, HaveRunStretch, IsNew, MayRunStretch, MeetsMore}
 pub use Rattle.noc_workers.specs.Mails.{HasHeard, HasSameBlocks, IsMail, blocks_in, with_blocks}
 pub use Rattle.noc_workers.specs.Rounds.{Follows, Start, setup_by, start_by, start_in, start_of}
-pub use Rattle.noc_workers.specs.Workers.{ArePosts, AreReady, HasCome, IsPost, IsReadyPost, IsWorkerAt, MayRunFrom, near_in, nears_in}
+pub use Rattle.noc_workers.specs.Workers.{ArePosts, AreReady, HasCome, HasReceivedBy, HasSentBy, IsPost, IsReadyPost, IsWorkerAt, MayReceiveBy, MayRunFrom, MaySendBy, ReadyPost, ReadyPosts, SentPost, SentPosts, near_in, nears_in}
 pub use Rattle.noc_workers.specs.declared.worker.Worker.{Worker}

@@ -4,12 +4,13 @@ use Rattle.std.specs.List.{slice_get}
 use Rattle.rtrb.specs.Ring.{sent, received}
 use Rattle.noc_theory.specs.Good.{IsGoodSetup}
 use Rattle.noc_theory.specs.declared.limits.TheConstants.{CYCLE_LIMIT}
-use Rattle.noc_workers.specs.Mails.{HasSameBlocks, blocks_in, with_blocks}
+use Rattle.noc_workers.specs.Mails.{HasHeard, HasSameBlocks, blocks_in, with_blocks}
 use Rattle.noc_workers.specs.Rounds.{Start, start_in}
 use Rattle.noc_engine.specs.Shows.{has_block}
 use Rattle.noc_engine.specs.Tiles.{AreNear, Shows}
 use Rattle.noc_workers.specs.declared.mail.Mail.{Mail}
 use Rattle.noc_workers.specs.declared.post.Post.{Post}
+use Rattle.noc_engine.specs.declared.tile.Tile.{Tile}
 use Rattle.noc_workers.specs.declared.worker.Worker.{Worker}
 
 -- ---- rings
@@ -56,6 +57,53 @@ AreReady start own c posts =
 abbrev pub ArePosts : Start → (ℕ → Bool) → ℕ → ℕ → List Post → Type 0
 ArePosts start own out back posts =
     (k : ℕ) (post : Post) → slice_get posts k ≡ Some post → IsPost start own out back post
+
+-- what is so of rings, with the blocks that tell by them, and after so many cycles
+abbrev pub OfRings : Type 1
+OfRings = Start → (ℕ → Bool) → ℕ → Type 0
+
+-- rings that are ready for a cycle, and rings by which it was sent
+abbrev pub ReadyPost : Post → OfRings
+ReadyPost post = λ start own c. IsReadyPost start own c post
+
+abbrev pub SentPost : Post → OfRings
+SentPost post = λ start own c. IsPost start own (c + 1) c post
+
+abbrev pub ReadyPosts : List Post → OfRings
+ReadyPosts posts = λ start own c. AreReady start own c posts
+
+abbrev pub SentPosts : List Post → OfRings
+SentPosts posts = λ start own c. ArePosts start own (c + 1) c posts
+
+-- rings may take what a tile tells in the cycle that it has run: they are ready for it. And when
+-- it is sent, this is so of them.
+abbrev pub MaySendBy : Tile → OfRings → Type 0
+MaySendBy tile IsReady =
+    (start : Start) × (c : ℕ) × (was : Tile)
+    × HasHeard start.net start.plan (start.cycle + c) (λ b. false) was tile
+    × IsReady start (has_block was) c
+
+abbrev pub HasSentBy : Tile → OfRings → OfRings → Type 0
+HasSentBy tile IsReady IsSent =
+    (start : Start) (c : ℕ) (was : Tile)
+    → HasHeard start.net start.plan (start.cycle + c) (λ b. false) was tile
+    → IsReady start (has_block was) c → IsSent start (has_block was) c
+
+-- a tile may wait for what others tell by rings in that cycle: this is so of them. And when it has
+-- come, the tile has heard from these blocks besides, and that is so of the rings.
+abbrev pub MayReceiveBy : Tile → OfRings → Type 0
+MayReceiveBy tile IsSent =
+    (start : Start) × (c : ℕ) × (from : ℕ → Bool) × (was : Tile)
+    × HasHeard start.net start.plan (start.cycle + c) from was tile
+    × IsSent start (has_block was) c
+
+abbrev pub HasReceivedBy : List ℕ → Tile → Tile → OfRings → OfRings → Type 0
+HasReceivedBy blocks old new IsSent IsReady =
+    (start : Start) (c : ℕ) (from : ℕ → Bool) (was : Tile)
+    → HasHeard start.net start.plan (start.cycle + c) from was old
+    → IsSent start (has_block was) c
+    → HasHeard start.net start.plan (start.cycle + c) (with_blocks from blocks) was new
+    × IsReady start (has_block was) (c + 1)
 
 -- the blocks of other tiles that tell one by these
 abbrev pub nears_in : List Post → List ℕ

@@ -4,12 +4,13 @@ ghost use Rattle.std.specs.Prelude.{◌≡◌, ℕ, ◌+◌, ◌<◌, ◌≤◌,
 ghost use Rattle.noc_workers.specs.Prelude.{AllMayRun, AllShow, CYCLE_LIMIT, IsGoodSetup, MayRun, ShowsRun, Worker as One, setup_by, start_by};
 
 use crate::cut::cut;
-use crate::fork::{NotRun, Stretch, run_all};
+use crate::fork::{Stretch, run_all};
 use crate::join::join;
 use crate::origin::{Run, Setup};
 use crate::pace::{Pace, each};
 use crate::worker::Worker;
 use noc_engine::Engine;
+use noc_exchange::NotRun;
 use std::alloc::Global;
 use std::sync::Wait;
 use std::thread::Threads;

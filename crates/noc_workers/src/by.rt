@@ -4,10 +4,10 @@ ghost use Rattle.std.specs.Prelude.{◌≡◌, ℕ, ◌+◌, ◌<◌, ◌≤◌,
 ghost use Rattle.noc_workers.specs.Prelude.{AreFindings, MayRun, ShowsRun, setup_by};
 
 use crate::apart::{Ahead, Ran, run_apart};
-use crate::fork::NotRun;
 use crate::origin::Setup;
 use crate::pace::{Pace, each, together};
 use noc_engine::Engine;
+use noc_exchange::NotRun;
 use std::alloc::Global;
 use std::sync::Wait;
 use std::thread::Threads;

@@ -1,35 +1,16 @@
 //! Workers in threads of their own.
 
-ghost use Rattle.std.specs.Prelude.{◌≡◌, ◌⊎◌, ◌+◌, ◌<◌, ◌≤◌, ◌++◌, Err, IfOk, IsOkAnd, vec_len};
+ghost use Rattle.std.specs.Prelude.{◌≡◌, ◌+◌, ◌<◌, ◌≤◌, IfOk, vec_len};
 ghost use Rattle.std.specs.Thread.{IsSync};
 ghost use Rattle.noc_workers.specs.Prelude.{AllHaveRun, AreHalves, HaveRunStretch, MayRunStretch, start_by, start_of};
 
 use crate::origin::Run;
 use crate::worker::{Worker, run_worker};
-use noc_packet::Memory;
+use noc_exchange::{NotRun, joined};
 use noc_waiting::settle;
 use std::sync::Wait;
 use std::thread;
 use std::thread::{Promise, Threads};
-
-/// Why tiles were not run.
-#[derive(Clone, Copy, Debug, PartialEq, Eq)]
-pub enum NotRun {
-    /// Memory was refused.
-    Memory,
-    /// A worker could not be started.
-    NoWorker,
-}
-
-impl From<Memory> for NotRun {
-    ghost use Rattle.noc_workers.specs.declared.fork.NotRun.{NotRun};
-
-    ghost from_gives = { λ _ e. e ≡ NotRun.Memory };
-
-    fn from(_memory: Memory) -> NotRun {
-        NotRun::Memory
-    }
-}
 
 /// How many cycles of a run are done and how many more workers run, and of which blocks.
 #[derive(Clone, Copy)]
@@ -159,28 +140,4 @@ fn run_last(rt: &impl Wait, run: &Run<'_>, stretch: Stretch, workers: Vec<Worker
     let ended = run_worker(rt, run, worker, stretch.more);
     workers.push_reserved(ended);
     workers
-}
-
-// Both lists in one, or a fault of one of them: that memory was refused, if either says so.
-fn joined(
-    first: Result<Vec<Worker>, NotRun>,
-    second: Result<Vec<Worker>, NotRun>,
-) -> Result<Vec<Worker>, NotRun>
-    ensures both { IfOk result (λ v. IsOkAnd first (λ a. IsOkAnd second (λ b.
-        v.items ≡ a.items ++ b.items))) }
-    ensures memory { (first ≡ Err NotRun.Memory) ⊎ (second ≡ Err NotRun.Memory)
-        → result ≡ Err NotRun.Memory }
-    ensures worker { result ≡ Err NotRun.NoWorker
-        → (first ≡ Err NotRun.NoWorker) ⊎ (second ≡ Err NotRun.NoWorker) }
-{
-    match (first, second) {
-        (Ok(mut first), Ok(mut second)) => {
-            if first.append(&mut second).is_err() {
-                return Err(NotRun::Memory);
-            }
-            Ok(first)
-        }
-        (Err(NotRun::Memory), _) | (_, Err(NotRun::Memory)) => Err(NotRun::Memory),
-        (Err(_), _) | (_, Err(_)) => Err(NotRun::NoWorker),
-    }
 }

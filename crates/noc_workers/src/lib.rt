@@ -22,5 +22,5 @@ mod rings;
 mod worker;
 
 pub use by::run_by;
-pub use fork::NotRun;
+pub use noc_exchange::NotRun;
 pub use origin::Setup;

@@ -1,8 +1,8 @@
 //! The rings between two tiles, and a cycle at them.
 
-ghost use Rattle.std.specs.Prelude.{◌≡◌, ℕ, ◌+◌, ◌<◌, ◌++◌, ◌∷◌, [], Bool, false, length, IsTrue};
+ghost use Rattle.std.specs.Prelude.{◌≡◌, ◌+◌, ◌<◌, ◌++◌, ◌∷◌, [], length, IsTrue};
 ghost use Rattle.rtrb.specs.Ring.{known_items, received, sent};
-ghost use Rattle.noc_workers.specs.Prelude.{Follows, HasHeard, HasSameBlocks, IsPost, IsReadyPost, Start, has_block, near_in, with_blocks};
+ghost use Rattle.noc_workers.specs.Prelude.{Follows, HasReceivedBy, HasSameBlocks, HasSentBy, MayReceiveBy, MaySendBy, ReadyPost, SentPost, near_in};
 
 use crate::mail::Mail;
 use noc_engine::Tile;
@@ -33,14 +33,10 @@ impl Post {
     /// Sends what its blocks tell in the cycle that their tile has run, and waits until it is on
     /// its way. False where the other tile is gone.
     pub(crate) fn send(&mut self, rt: &impl Wait, tile: &Tile) -> bool
-        requires { (start : Start) × (c : ℕ) × (was : Tile)
-            × HasHeard start.net start.plan (start.cycle + c) (λ b. false) was tile.now
-            × IsReadyPost start (has_block was) c self.old }
+        requires { MaySendBy tile.now (ReadyPost self.old) }
         ensures near { near_in self.new ≡ near_in self.old }
-        ensures sent { IsTrue result → (start : Start) (c : ℕ) (was : Tile)
-            → HasHeard start.net start.plan (start.cycle + c) (λ b. false) was tile.now
-            → IsReadyPost start (has_block was) c self.old
-            → IsPost start (has_block was) (c + 1) c self.new }
+        ensures sent { IsTrue result
+            → HasSentBy tile.now (ReadyPost self.old) (SentPost self.new) }
     {
         let Some(mut mail) = self.mail.take() else {
             return false;
@@ -52,17 +48,11 @@ impl Post {
     /// Waits for what the other tile's blocks tell in the cycle that the tile has run, and has it
     /// hear that. False where the other tile is gone.
     pub(crate) fn receive(&mut self, rt: &impl Wait, tile: &mut Tile) -> bool
-        requires { (start : Start) × (c : ℕ) × (from : ℕ → Bool) × (was : Tile)
-            × HasHeard start.net start.plan (start.cycle + c) from was tile.old
-            × IsPost start (has_block was) (c + 1) c self.old }
+        requires { MayReceiveBy tile.old (SentPost self.old) }
         ensures near { near_in self.new ≡ near_in self.old }
         ensures tile { HasSameBlocks tile.old tile.new }
-        ensures heard { IsTrue result → (start : Start) (c : ℕ) (from : ℕ → Bool) (was : Tile)
-            → HasHeard start.net start.plan (start.cycle + c) from was tile.old
-            → IsPost start (has_block was) (c + 1) c self.old
-            → HasHeard start.net start.plan (start.cycle + c)
-            (with_blocks from (near_in self.old)) was tile.new
-            × IsReadyPost start (has_block was) (c + 1) self.new }
+        ensures heard { IsTrue result → HasReceivedBy (near_in self.old) tile.old tile.new
+            (SentPost self.old) (ReadyPost self.new) }
     {
         hear_next(rt, &mut self.back, &mut self.mail, tile, &TillGone)
     }

@@ -1,7 +1,7 @@
 //! A tile that one thread runs, and its rings to the tiles near it.
 
-ghost use Rattle.std.specs.Prelude.{◌≡◌, ℕ, ◌+◌, Bool, false, IsTrue};
-ghost use Rattle.noc_workers.specs.Prelude.{ArePosts, AreReady, HasCome, HasHeard, HasSameBlocks, IsWorkerAt, MayRunFrom, Start, has_block, nears_in, start_by, with_blocks};
+ghost use Rattle.std.specs.Prelude.{◌≡◌, ℕ, ◌+◌, IsTrue};
+ghost use Rattle.noc_workers.specs.Prelude.{HasCome, HasReceivedBy, HasSameBlocks, HasSentBy, IsWorkerAt, MayReceiveBy, MayRunFrom, MaySendBy, ReadyPosts, SentPosts, nears_in, start_by};
 
 use crate::origin::Run;
 use crate::post::Post;
@@ -44,14 +44,10 @@ impl Worker {
 // Sends by each post what blocks of the tile tell in the cycle that it has run. False where a tile
 // near it is gone.
 fn send_all(rt: &impl Wait, tile: &Tile, posts: &mut [Post]) -> bool
-    requires { (start : Start) × (c : ℕ) × (was : Tile)
-        × HasHeard start.net start.plan (start.cycle + c) (λ b. false) was tile.now
-        × AreReady start (has_block was) c posts.old }
+    requires { MaySendBy tile.now (ReadyPosts posts.old) }
     ensures near { nears_in posts.new ≡ nears_in posts.old }
-    ensures sent { IsTrue result → (start : Start) (c : ℕ) (was : Tile)
-        → HasHeard start.net start.plan (start.cycle + c) (λ b. false) was tile.now
-        → AreReady start (has_block was) c posts.old
-        → ArePosts start (has_block was) (c + 1) c posts.new }
+    ensures sent { IsTrue result → HasSentBy tile.now (ReadyPosts posts.old)
+        (SentPosts posts.new) }
 {
     for k in 0..posts.len() {
         if !posts[k].send(rt, tile) {
@@ -64,17 +60,11 @@ fn send_all(rt: &impl Wait, tile: &Tile, posts: &mut [Post]) -> bool
 // Receives by each post what others tell in that cycle, and has the tile hear it. False where a
 // tile near it is gone.
 fn receive_all(rt: &impl Wait, tile: &mut Tile, posts: &mut [Post]) -> bool
-    requires { (start : Start) × (c : ℕ) × (from : ℕ → Bool) × (was : Tile)
-        × HasHeard start.net start.plan (start.cycle + c) from was tile.old
-        × ArePosts start (has_block was) (c + 1) c posts.old }
+    requires { MayReceiveBy tile.old (SentPosts posts.old) }
     ensures near { nears_in posts.new ≡ nears_in posts.old }
     ensures tile { HasSameBlocks tile.old tile.new }
-    ensures heard { IsTrue result → (start : Start) (c : ℕ) (from : ℕ → Bool) (was : Tile)
-        → HasHeard start.net start.plan (start.cycle + c) from was tile.old
-        → ArePosts start (has_block was) (c + 1) c posts.old
-        → HasHeard start.net start.plan (start.cycle + c) (with_blocks from (nears_in posts.old))
-        was tile.new
-        × AreReady start (has_block was) (c + 1) posts.new }
+    ensures heard { IsTrue result → HasReceivedBy (nears_in posts.old) tile.old tile.new
+        (SentPosts posts.old) (ReadyPosts posts.new) }
 {
     for k in 0..posts.len() {
         if !posts[k].receive(rt, tile) {

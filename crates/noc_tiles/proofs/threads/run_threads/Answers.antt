@@ -20,12 +20,12 @@ done : (s : Bool) (o : Gating) (f : Kept) (xs ys : List Tile) → AreCut f xs �
 done s o f xs ys C ended whole = record { ins = C.ins; outs = C.outs; cut = xs; partition = C.partition; stop = s; gate = o; ended = ended; whole = whole }
 
 pub gather-requires : goal.gather-requires
-gather-requires g c = tiles-fit c.in_ok-tiles.tiles (done _ _ c.args.kept.now c.in-Ok.tiles.items c.in_ok-tiles.tiles.items c.in-Ok.ensures c.in_ok-tiles.ensures.ended (subst AllWhole c.deref.ensures.value (c.if-not-all_whole.ensures.0 refl)))
+gather-requires g c = tiles-fit c.in-Ok-run_all.tiles (done _ _ c.args.kept.now c.in-Ok.tiles.items c.in-Ok-run_all.tiles.items c.in-Ok.ensures c.in-Ok-run_all.ensures (subst AllWhole c.deref.ensures.value (c.if-not-all_whole.ensures.0 refl)))
 
 pub returns-clause-done : goal.returns-clause-done
 returns-clause-done g c = (
-  c.in_ok-tiles.tiles.items,
-  done _ _ c.args.kept.now c.in-Ok.tiles.items c.in_ok-tiles.tiles.items c.in-Ok.ensures c.in_ok-tiles.ensures.ended (subst AllWhole c.deref.ensures.value (c.if-not-all_whole.ensures.0 refl)),
+  c.in-Ok-run_all.tiles.items,
+  done _ _ c.args.kept.now c.in-Ok.tiles.items c.in-Ok-run_all.tiles.items c.in-Ok.ensures c.in-Ok-run_all.ensures (subst AllWhole c.deref.ensures.value (c.if-not-all_whole.ensures.0 refl)),
   c.in-Ok-gather.ensures,
 )
 
@@ -39,5 +39,5 @@ returns-clause-asked g c = λ w k low within.
     let know : Gating = record { opens = g.G.Gate.opens c.args.gate.now; shuts = g.G.Gate.shuts c.args.gate.now } in
     let tile = W.tiles w d here in
     let cycles = tile.cycles in
-    let free = all_asked net.relation c.new-stop.result know xs c.in_ok-tiles.tiles.items c.in_ok-tiles.ensures.ended (subst AllWhole c.deref.ensures.value (c.if-not-all_whole.ensures.0 refl)) w d here k (omega arith) in
+    let free = all_asked net.relation c.new-stop.result know xs c.in-Ok-run_all.tiles.items c.in-Ok-run_all.ensures (subst AllWhole c.deref.ensures.value (c.if-not-all_whole.ensures.0 refl)) w d here k (omega arith) in
     sym (ap (λ m. g.G.Gate.shuts c.args.gate.now m ((get_or xs w d).start + k)) (c.in-Ok.ensures.numbered.worker w d here) ∙ ap (λ m. g.G.Gate.shuts c.args.gate.now w (m + k)) tile.start) ∙ free

@@ -1,4 +1,4 @@
-use Rattle.std.proofs.Common.{◌≡◌, ℕ, Bool, true, false, below_more, refl, subst, arith}
+use Rattle.std.proofs.Common.{◌≡◌, Bool, true, false, below_more, refl, subst, arith}
 use Rattle.std.specs.Prelude.{nat_lt, not}
 use mathlib.Core.Bool.{beq}
 use Rattle.noc_topo.specs.Shape.{nodes}

@@ -1,8 +1,7 @@
-use Rattle.std.proofs.Common.{◌≡◌, ◌∙◌, ◌+◌, ap, refl, subst, sym}
+use Rattle.std.proofs.Common.{◌+◌, ap, refl, subst, sym}
 use Rattle.rtrb.specs.Ring.{received}
 use Rattle.noc_workers.specs.Mails.{HasHeard, HasSameBlocks, with_blocks}
 use Rattle.noc_engine.specs.Shows.{has_block}
-use Rattle.noc_engine.specs.declared.tile.Tile.{Tile}
 use Rattle.noc_workers.specs.Workers.{near_in, senders}
 use Rattle.noc_workers.specs.declared.post.Post.{Post}
 use Rattle.noc_workers.proofs.MailLemmas.{both-same}
