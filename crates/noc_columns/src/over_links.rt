@@ -169,7 +169,7 @@ pub fn opposite(port: usize) -> usize
     requires { port < PORTS }
     ensures { result ≡ opposite port }
 {
-    port + 1 - 2 * (port % 2)
+    port ^ 1
 }
 
 // Each of these routers gets what the one has that stands so far from it.

@@ -24,24 +24,6 @@ pub struct Picks {
     pub vc: Digits<[u64; PORTS]>,
 }
 
-impl Picks {
-    /// Nothing is picked.
-    pub const NONE: Picks = Picks {
-        any: NO_PORTS,
-        tail: NO_PORTS,
-        port: NO_NUMBERS,
-        vc: NO_NUMBERS,
-    };
-}
-
-const NO_PORTS: [u64; PORTS] = [0; PORTS];
-
-const NO_NUMBERS: Digits<[u64; PORTS]> = Digits {
-    ones: NO_PORTS,
-    twos: NO_PORTS,
-    fours: NO_PORTS,
-};
-
 /// What the input ports of a block pick from.
 #[derive(Drop)]
 pub struct Candidates<'a> {
@@ -54,51 +36,30 @@ pub struct Candidates<'a> {
 }
 
 /// Of the ready channels of each input port one is picked, the first from the pointer on and
-/// around. It is written what these channels have.
-#[inline(always)]
-pub fn pick(
-    ports: &RouterPorts,
-    candidates: &Candidates<'_>,
-    decided: &mut Decided<Words>,
-    picks: &mut Picks,
-)
-    ensures { PicksAll ports.now candidates.now.standing.now candidates.now.ahead.now
-        candidates.now.sends.now decided.old decided.new picks.new }
-{
-    let width = ports.links.width;
-    if width == 2 {
-        pick_by::<2>(ports, candidates, decided, picks);
-    } else if width == 4 {
-        pick_by::<4>(ports, candidates, decided, picks);
-    } else {
-        pick_by::<6>(ports, candidates, decided, picks);
-    }
-}
-
-// Picks where so many are link ports. (They are a const parameter, so that loops over them are
-// unrolled. What calls this is not to grow by it, or the compiler takes one word at a time.)
+/// around. The answer is what these channels have. So many are link ports: as a const parameter,
+/// so that loops over them are unrolled. (What calls this is not to grow by it, or the compiler
+/// takes one word at a time.)
 #[inline(never)]
-fn pick_by<const WIDTH: usize>(
+pub fn pick<const WIDTH: usize>(
     ports: &RouterPorts,
     candidates: &Candidates<'_>,
     decided: &mut Decided<Words>,
-    picks: &mut Picks,
-)
+) -> Picks
     requires { WIDTH ≡ ports.now.links.width }
     ensures { PicksAll ports.now candidates.now.standing.now candidates.now.ahead.now
-        candidates.now.sends.now decided.old decided.new picks.new }
+        candidates.now.sends.now decided.old decided.new result }
 {
     let vcs = ports.links.vcs;
     let picked = &mut decided.picked;
     let past = &mut decided.past;
     if vcs == 2 {
-        pick_all(&ports.known(WIDTH, 2), candidates, picked, past, picks);
+        pick_all(&ports.known(WIDTH, 2), candidates, picked, past)
     } else if vcs == 4 {
-        pick_all(&ports.known(WIDTH, 4), candidates, picked, past, picks);
+        pick_all(&ports.known(WIDTH, 4), candidates, picked, past)
     } else if vcs == 8 {
-        pick_all(&ports.known(WIDTH, 8), candidates, picked, past, picks);
+        pick_all(&ports.known(WIDTH, 8), candidates, picked, past)
     } else {
-        pick_all(&ports.known(WIDTH, vcs), candidates, picked, past, picks);
+        pick_all(&ports.known(WIDTH, vcs), candidates, picked, past)
     }
 }
 
@@ -109,21 +70,20 @@ fn pick_all(
     candidates: &Candidates<'_>,
     picked: &mut Words,
     past: &mut Words,
-    picks: &mut Picks,
-)
+) -> Picks
     ensures { (r : ℕ) → HavePicked ports.now r candidates.now.standing.now.ready
         candidates.now.ahead.now picked.new past.new candidates.now.standing.now.last
-        candidates.now.sends.now picks.new }
+        candidates.now.sends.now result }
 {
     let standing = candidates.standing;
     let sends = candidates.sends;
     let any = pick_each(ports, &standing.ready, candidates.ahead, picked, past);
-    *picks = Picks {
+    Picks {
         any,
         tail: any_both(ports, picked, &standing.last),
         port: numbers(ports, picked, &sends.port),
         vc: numbers(ports, picked, &sends.vc),
-    };
+    }
 }
 
 // By port the numbers of the channels of a set that has one of each port at most.

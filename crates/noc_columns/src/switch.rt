@@ -37,32 +37,10 @@ struct Taken {
 
 /// Of the input ports that ask for it each output port takes the first from its pointer on and
 /// around, and its pointer goes past that port. It is told which input channels are of a port that
-/// sends, and by which output channels flits and tails leave.
-#[inline(always)]
-pub fn traverse(
-    ports: &RouterPorts,
-    picks: &Picks,
-    switch: &mut Switch<Words>,
-    decided: &mut Decided<Words>,
-    left: &mut Links<Words>,
-)
-    ensures { TraversesAll ports.now picks.now switch.old.ahead switch.new.ahead decided.old
-        decided.new left.old left.new }
-{
-    let width = ports.links.width;
-    if width == 2 {
-        traverse_by::<2>(ports, picks, switch, decided, left);
-    } else if width == 4 {
-        traverse_by::<4>(ports, picks, switch, decided, left);
-    } else {
-        traverse_by::<6>(ports, picks, switch, decided, left);
-    }
-}
-
-// Traverses where so many are link ports. (They are a const parameter, so that loops over them
-// are unrolled. What calls this is not to grow by it, or the compiler takes one word at a time.)
+/// sends, and by which output channels flits and tails leave. So many are link ports: as a const
+/// parameter, as in `pick`.
 #[inline(never)]
-fn traverse_by<const WIDTH: usize>(
+pub fn traverse<const WIDTH: usize>(
     ports: &RouterPorts,
     picks: &Picks,
     switch: &mut Switch<Words>,

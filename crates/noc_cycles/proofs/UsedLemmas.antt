@@ -1,6 +1,6 @@
 -- The words that have a router, and the routers that a channel has.
-use Rattle.std.proofs.Common.{◌≡◌, ◌⊎◌, ℕ, ◌+◌, ◌*◌, Bool, true, false, List, arith, ap, sym, ◌∙◌, refl, inl, inr, mul_comm}
-use Rattle.std.specs.Prelude.{◌&&◌, ◌||◌, nat_eq, not}
+use Rattle.std.proofs.Common.{◌≡◌, ◌⊎◌, ℕ, ◌+◌, ◌*◌, Bool, true, false, List, arith, ap, ◌∙◌, refl, inl, inr, mul_comm}
+use Rattle.std.specs.Prelude.{◌||◌, nat_eq, not}
 use Rattle.noc_columns.proofs.PassLemmas.{some-same}
 use Rattle.noc_columns.proofs.UsedLemmas.{channel-of, index-below}
 use Rattle.noc_cycles.proofs.Common.{has_bit, channels_of, some_below, set_of, word, Pattern}

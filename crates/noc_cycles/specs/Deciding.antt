@@ -1,6 +1,6 @@
 -- What is decided in one router of a block that has taken what comes: output channels are granted,
 -- heads are routed, and flits go through the switch.
-use Rattle.std.specs.Prelude.{◌≡◌, ℕ, ◌+◌, ◌*◌, ◌/◌, ◌<◌, bit_and, bit_or}
+use Rattle.std.specs.Prelude.{◌≡◌, ℕ, ◌+◌, ◌*◌, ◌/◌, ◌<◌, bit_and, List, bit_or}
 use Rattle.noc_packet.specs.Set.{has_bit}
 use Rattle.noc_sets.specs.Column.{RouterMarks}
 use Rattle.noc_sets.specs.Cycle.{Still}
@@ -14,10 +14,14 @@ use Rattle.noc_sets.specs.Sets.{less}
 use Rattle.noc_sets.specs.Turns.{ArePast, ArePicked}
 use Rattle.noc_columns.specs.Allotted.{ShowsOwned}
 use Rattle.noc_cycles.specs.Held.{Held, column_by}
-use Rattle.noc_columns.specs.Switch.{ShowsOutputs}
+use Rattle.noc_columns.specs.Picks.{PicksAll}
+use Rattle.noc_columns.specs.Switch.{ShowsOutputs, TraversesAll}
 use Rattle.noc_columns.specs.declared.channels.Decided.{Decided}
 use Rattle.noc_columns.specs.declared.channels.Links.{Links}
 use Rattle.noc_columns.specs.declared.channels.Standing.{Standing}
+use Rattle.noc_columns.specs.declared.picks.Picks.{Picks}
+use Rattle.noc_columns.specs.declared.ports.RouterPorts.{RouterPorts}
+use Rattle.noc_columns.specs.declared.supply.Sends.{Sends}
 use Rattle.noc_cycles.specs.declared.pattern.Pattern.{Pattern}
 
 -- a still router before anything is decided
@@ -74,3 +78,13 @@ pub record HasDecidedHeld (pattern : Pattern) (layout : Layout) (sets : ℕ → 
       (bit_or a.inputs.active granted) h.out_port h.out_vc chosen.marks
   pub pointers : ShowsOutputs (pattern.table.ports.links.width + 1) pattern.table.ports.links.vcs
       h.pointers marks
+
+-- ---- the flits of a block
+-- its ports pick among the channels that are ready, and these go through the switch
+pub record HasSentAll (ports : RouterPorts) (standing : Standing (List ℕ)) (ahead : List ℕ)
+    (sends : Sends (List ℕ)) (pointers next : List ℕ) (old new : Decided (List ℕ))
+    (was gone : Links (List ℕ)) : Type 0 where
+  pub picks : Picks
+  pub between : Decided (List ℕ)  -- once they have picked
+  pub picked : PicksAll ports standing ahead sends old between picks
+  pub traversed : TraversesAll ports picks pointers next between new was gone

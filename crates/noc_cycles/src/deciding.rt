@@ -10,6 +10,7 @@ ghost use Rattle.noc_columns.specs.Heads.{HasRoutedAll, MayRouteAll};
 ghost use Rattle.noc_columns.specs.Routing.{AreRoutable, IsOfPorts, sets_by};
 ghost use Rattle.noc_columns.specs.Prelude.{MembersAreBelow, channels_of, has_bit, set_of};
 ghost use Rattle.noc_cycles.specs.Concluding.{standing_at};
+ghost use Rattle.noc_cycles.specs.Deciding.{HasSentAll};
 ghost use Rattle.noc_cycles.specs.Held.{ShowsStill, held_at};
 ghost use Rattle.noc_cycles.specs.May.{MayDecide};
 ghost use Rattle.noc_cycles.specs.Taking.{TellsHeads};
@@ -19,8 +20,8 @@ use crate::block::{Block, Work};
 use crate::copies::clear;
 use crate::pattern::Pattern;
 use noc_columns::{
-    CHANNELS, Candidates, ChannelTable, Grants, Guide, Header, Links, Marks, Picks, ROUTERS, Words,
-    allocate, pick, route, traverse,
+    CHANNELS, Candidates, ChannelTable, Decided, Grants, Guide, Header, Links, Marks, ROUTERS,
+    RouterPorts, Switch, Words, allocate, pick, route, traverse,
 };
 use noc_route::Relation;
 
@@ -91,14 +92,19 @@ pub fn decide(
         &block.packets,
         &mut block.marks,
     );
-    let mut picks = Picks::NONE;
+    let grants = &block.grants;
     let candidates = Candidates {
         standing: &work.standing,
         ahead: &block.inputs.ahead,
-        sends: &block.grants.sends,
+        sends: &grants.sends,
     };
-    pick(ports, &candidates, &mut work.decided, &mut picks);
-    traverse(ports, &picks, &mut block.switch, &mut work.decided, left);
+    send(
+        ports,
+        &candidates,
+        &mut block.switch,
+        &mut work.decided,
+        left,
+    );
 }
 
 // Output channels are granted, if an idle one is wanted in some router.
@@ -143,4 +149,46 @@ fn route_if(
     if routers != 0 {
         route(guide, heads, packets, marks);
     }
+}
+
+// Flits go through the switch.
+#[inline(always)]
+fn send(
+    ports: &RouterPorts,
+    candidates: &Candidates<'_>,
+    switch: &mut Switch<Words>,
+    decided: &mut Decided<Words>,
+    left: &mut Links<Words>,
+)
+    ensures { HasSentAll ports.now candidates.now.standing.now candidates.now.ahead.now
+        candidates.now.sends.now switch.old.ahead switch.new.ahead decided.old decided.new left.old
+        left.new }
+{
+    let width = ports.links.width;
+    if width == 2 {
+        send_by::<2>(ports, candidates, switch, decided, left);
+    } else if width == 4 {
+        send_by::<4>(ports, candidates, switch, decided, left);
+    } else {
+        send_by::<6>(ports, candidates, switch, decided, left);
+    }
+}
+
+// They do so where so many are link ports. (What is picked is written where it is read: an answer
+// of several branches would be moved.)
+#[inline(always)]
+fn send_by<const WIDTH: usize>(
+    ports: &RouterPorts,
+    candidates: &Candidates<'_>,
+    switch: &mut Switch<Words>,
+    decided: &mut Decided<Words>,
+    left: &mut Links<Words>,
+)
+    requires { WIDTH ≡ ports.now.links.width }
+    ensures { HasSentAll ports.now candidates.now.standing.now candidates.now.ahead.now
+        candidates.now.sends.now switch.old.ahead switch.new.ahead decided.old decided.new left.old
+        left.new }
+{
+    let picks = pick::<WIDTH>(ports, candidates, decided);
+    traverse::<WIDTH>(ports, &picks, switch, decided, left);
 }

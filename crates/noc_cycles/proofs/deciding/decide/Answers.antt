@@ -43,19 +43,19 @@ returns-clause-decided c = λ layout r no_credit s l shows.
     let got = c.allocate_if.new in
     let routed = c.route_if.ensures in
     let marks = c.route_if.new.marks in
-    let pick = c.pick in
-    let went = c.traverse in
+    let sent = c.send.ensures in
+    let went = c.send in
     let fits : word r marks.wanted < 2 ^ 64 = marks.fit r l in
-    let decided : Decided (List ℕ) = record pick.new.decided { sends = went.new.decided.sends } in
+    let decided : Decided (List ℕ) = record sent.between { sends = went.new.decided.sends } in
     let all = λ (d : Decided (List ℕ)). HasDecidedHeld pattern layout sets s (held_at ports block r) (held_at ports (record block { grants = got.grants; marks = marks; switch = went.new.switch }) r)
     (standing_by (set_of n r) standing) (decided_by (set_of n r) d) (set_of n r got.grants.granted) (set_of n r got.lost) (links_at ports went.new.left r) in
-    subst all (sym went.ensures.decided)
+    subst all (sym sent.traversed.decided)
     (decided-then pattern r l block standing before.granted lost (none-within n r 64 before.granted few c.clear.ensures.granted) (none-within n r _ lost within c.clear-2.ensures)
     got.marks got.grants got.lost
     (λ e. subst (λ s. HasAllotted ports.links.vcs (found_at n block.marks before.granted s lost r) (allotment_at n got.marks got.grants got.lost r)) c.clear.ensures.sends (c.allocate_if.ensures.asked r l e))
     (λ e. c.allocate_if.ensures.others r e ∙ ap (λ s. found_at n block.marks before.granted s lost r) c.clear.ensures.sends)
     sets marks (λ m. routed.routed r m l) (routed.waiting r l) (routed.idle r) routed.turns fits
-    decided pick.new.picks went.new.switch went.new.left (pick.ensures.picked r).first (pick.ensures.picked r).has (pick.ensures.picked r).any (went.ensures.traversed r)
+    decided sent.picks went.new.switch went.new.left (sent.picked.picked r).first (sent.picked.picked r).has (sent.picked.picked r).any (sent.traversed.traversed r)
     (length guide.headers.now) (nodes guide.relation.now.grid) (c.args.first + r) (c.requires.may r l)
     layout s no_credit shows)
 

@@ -3,7 +3,7 @@ use Rattle.noc_columns.specs.Switch.{Traverses}
 use Rattle.noc_columns.specs.declared.channels.Links.{Links}
 use Rattle.noc_columns.specs.declared.picks.Picks.{Picks}
 use Rattle.noc_columns.specs.declared.ports.RouterPorts.{RouterPorts}
-use Rattle.noc_columns.proofs.switch.traverse_by.Goals as goal
+use Rattle.noc_columns.proofs.switch.traverse.Goals as goal
 
 -- what the clause says, of these ports
 abbrev Traversed : Picks → List ℕ → List ℕ → List ℕ → Links (List ℕ) → RouterPorts → Type 0
