@@ -235,15 +235,28 @@ static COMMANDS: [Subcommand<'static>; 5] = [
     ),
 ];
 
-// Adds the commands of the program.
+// Adds the commands of the program. (The loop stands apart: one over what is static costs its proof
+// much.)
 fn add_commands<'a>(alloc: Global, commands: &mut Vec<Command<'a>>) -> Result<(), AllocError>
     requires { commands.old.items ≡ [] }
     ensures { OnOk result ((names : ValueParser) × TakesReports names
         × AllZip IsLeaf (run_shape names ∷ explain_shape ∷ trace_shape ∷ check_shape
         ∷ ranks_shape ∷ []) commands.new.items) }
 {
-    for command in &COMMANDS {
-        add_command(alloc, command, commands)?;
+    add_all(alloc, &COMMANDS, commands)
+}
+
+// Adds these commands.
+fn add_all<'a>(
+    alloc: Global,
+    subcommands: &[Subcommand<'a>],
+    commands: &mut Vec<Command<'a>>,
+) -> Result<(), AllocError>
+    requires { commands.old.items ≡ [] }
+    ensures { OnOk result (AllZip IsLeaf (map shape_in subcommands.now) commands.new.items) }
+{
+    for subcommand in subcommands {
+        add_command(alloc, subcommand, commands)?;
     }
     Ok(())
 }
