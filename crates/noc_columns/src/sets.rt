@@ -55,14 +55,15 @@ pub fn where_some(set: u64, word: u64) -> u64
     if set == 0 { 0 } else { word }
 }
 
-/// The first of these requests, from the pointer of an arbiter on, and around.
+/// The first of some requests, from the pointer of an arbiter on, and around.
 #[inline(always)]
 pub fn first_in_turn(requests: u64, after: u64) -> u64
+    requires { 0 < requests }
     ensures { result ≡ first_bit requests after }
 {
     let high = requests & after;
     let first = if high == 0 { requests } else { high };
-    lowest(first)
+    less(first, first - 1)
 }
 
 /// The channels after the one that a set has.
