@@ -1,16 +1,20 @@
 -- What allocation makes of the routers of a block.
 use Rattle.std.specs.Prelude.{◌≡◌, ℕ, ◌+◌, ◌*◌, ◌/◌, ◌%◌, ◌^◌, ◌<◌, true, false, List, [], ◌&&◌, nat_eq, nat_lt, bit_or, slice_index_or, if◌then◌else◌}
 use Rattle.noc_packet.specs.Set.{has_bit}
+use Rattle.noc_alloc.specs.Members.{MembersAreBelow}
 use Rattle.noc_sets.specs.Column.{Column, RouterMarks}
 use Rattle.noc_sets.specs.Grants.{Allocation, AreAsks}
 use Rattle.noc_sets.specs.Sets.{least, less}
 use Rattle.noc_columns.specs.Grants.{first_of}
+use Rattle.noc_columns.specs.Picks.{channels_of}
 use Rattle.noc_columns.specs.Supply.{digits_by, number_in}
 use Rattle.noc_columns.specs.Switch.{ShowsSends}
 use Rattle.noc_columns.specs.Words.{Numbering, set_below, set_of, word}
 use Rattle.noc_columns.specs.declared.given.Grants.{Grants}
 use Rattle.noc_columns.specs.declared.marks.Marks.{Marks}
+use Rattle.noc_columns.specs.declared.ports.RouterPorts.{RouterPorts}
 use Rattle.noc_columns.specs.declared.sets.TheConstants.{CHANNELS}
+use Rattle.noc_columns.specs.declared.words.TheConstants.{ROUTERS}
 
 -- what it finds and changes of one router
 pub record Allotment : Type 0 where
@@ -66,6 +70,25 @@ pub record HasAllotted (vcs : ℕ) (a b : Allotment) : Type 0 where
   pub set : b.set ≡ a.set
   pub granted_is : b.granted ≡ bit_or a.granted granted
   pub lost_is : b.lost ≡ bit_or a.lost (less inputs granted)
+
+-- ---- of all routers of a block, where nothing is granted yet
+pub record MayAllotAll (ports : RouterPorts) (marks : Marks) (grants : Grants) : Type 0 where
+  pub waiting : (r : ℕ) → r < ROUTERS
+      → MembersAreBelow ((ports.links.width + 1) * ports.links.vcs) (word r marks.waiting)
+  pub idle : (r : ℕ) → r < ROUTERS
+      → MembersAreBelow ((ports.links.width + 1) * ports.links.vcs) (word r marks.idle)
+  pub free : (r : ℕ) → r < ROUTERS → set_of (channels_of ports) r grants.granted ≡ 0
+  pub none : grants.count ≡ 0
+
+-- those in which a channel asks have allotted theirs, and the others are as they were
+pub record HasAllottedAll (ports : RouterPorts) (marks marks' : Marks) (grants grants' : Grants)
+    (lost lost' : List ℕ) : Type 0 where
+  pub asked : (r : ℕ) → r < ROUTERS → has_bit marks.asking r ≡ true
+      → HasAllotted ports.links.vcs (allotment_at (channels_of ports) marks grants lost r)
+      (allotment_at (channels_of ports) marks' grants' lost' r)
+  pub others : (r : ℕ) → has_bit marks.asking r ≡ false
+      → allotment_at (channels_of ports) marks' grants' lost' r
+      ≡ allotment_at (channels_of ports) marks grants lost r
 
 -- ---- of the column and the marks of the router
 -- before it, where the rest of them are these

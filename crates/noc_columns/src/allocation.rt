@@ -1,7 +1,7 @@
 //! Waiting channels of the routers of a block are granted output channels.
 
 ghost use Rattle.std.specs.Prelude.{◌≡◌, ◌≢◌, ◌<◌, ◌≤◌, ◌+◌, ◌*◌, ℕ, true, false, slice_index};
-ghost use Rattle.noc_columns.specs.Allotted.{HasAllotted, allotment_at};
+ghost use Rattle.noc_columns.specs.Allotted.{HasAllotted, HasAllottedAll, MayAllotAll, allotment_at};
 ghost use Rattle.noc_columns.specs.Prelude.{MembersAreBelow, channels_of, has_bit, set_of};
 
 use crate::asks::ask_all;
@@ -18,22 +18,9 @@ use crate::words::{ROUTERS, Words};
 /// and is not. (What calls this is not to grow by it.)
 #[inline(never)]
 pub fn allocate(table: &ChannelTable, marks: &mut Marks, grants: &mut Grants, lost: &mut Words)
-    requires waiting { (r : ℕ) → r < ROUTERS
-        → MembersAreBelow ((table.now.ports.links.width + 1) * table.now.ports.links.vcs)
-        (slice_index marks.old.waiting r) }
-    requires idle { (r : ℕ) → r < ROUTERS
-        → MembersAreBelow ((table.now.ports.links.width + 1) * table.now.ports.links.vcs)
-        (slice_index marks.old.idle r) }
-    requires free { (r : ℕ) → r < ROUTERS
-        → set_of (channels_of table.now.ports) r grants.old.granted ≡ 0 }
-    requires none { grants.old.count ≡ 0 }
-    ensures asked { (r : ℕ) → r < ROUTERS → has_bit marks.old.asking r ≡ true
-        → HasAllotted table.now.ports.links.vcs
-        (allotment_at (channels_of table.now.ports) marks.old grants.old lost.old r)
-        (allotment_at (channels_of table.now.ports) marks.new grants.new lost.new r) }
-    ensures others { (r : ℕ) → has_bit marks.old.asking r ≡ false
-        → allotment_at (channels_of table.now.ports) marks.new grants.new lost.new r
-        ≡ allotment_at (channels_of table.now.ports) marks.old grants.old lost.old r }
+    requires { MayAllotAll table.now.ports marks.old grants.old }
+    ensures { HasAllottedAll table.now.ports marks.old marks.new grants.old grants.new lost.old
+        lost.new }
 {
     let mut rest = marks.asking;
     while rest != 0 {

@@ -5,7 +5,7 @@ ghost use Rattle.std.specs.Prelude.{◌≡◌, ◌<◌, ◌+◌, ◌*◌, ℕ, t
 ghost use Rattle.noc_topo.specs.Shape.{nodes};
 ghost use Rattle.noc_sets.specs.Cycle.{Still};
 ghost use Rattle.noc_sets.specs.Layout.{Layout};
-ghost use Rattle.noc_columns.specs.Allotted.{HasAllotted, allotment_at};
+ghost use Rattle.noc_columns.specs.Allotted.{HasAllottedAll, MayAllotAll};
 ghost use Rattle.noc_columns.specs.Heads.{HasRoutedAll, MayRouteAll};
 ghost use Rattle.noc_columns.specs.Routing.{AreRoutable, IsOfPorts, sets_by};
 ghost use Rattle.noc_columns.specs.Prelude.{MembersAreBelow, channels_of, has_bit, set_of};
@@ -110,22 +110,9 @@ pub fn decide(
 // Output channels are granted, if an idle one is wanted in some router.
 #[inline(always)]
 fn allocate_if(table: &ChannelTable, marks: &mut Marks, grants: &mut Grants, lost: &mut Words)
-    requires waiting { (r : ℕ) → r < ROUTERS
-        → MembersAreBelow ((table.now.ports.links.width + 1) * table.now.ports.links.vcs)
-        (slice_index marks.old.waiting r) }
-    requires idle { (r : ℕ) → r < ROUTERS
-        → MembersAreBelow ((table.now.ports.links.width + 1) * table.now.ports.links.vcs)
-        (slice_index marks.old.idle r) }
-    requires free { (r : ℕ) → r < ROUTERS
-        → set_of (channels_of table.now.ports) r grants.old.granted ≡ 0 }
-    requires none { grants.old.count ≡ 0 }
-    ensures asked { (r : ℕ) → r < ROUTERS → has_bit marks.old.asking r ≡ true
-        → HasAllotted table.now.ports.links.vcs
-        (allotment_at (channels_of table.now.ports) marks.old grants.old lost.old r)
-        (allotment_at (channels_of table.now.ports) marks.new grants.new lost.new r) }
-    ensures others { (r : ℕ) → has_bit marks.old.asking r ≡ false
-        → allotment_at (channels_of table.now.ports) marks.new grants.new lost.new r
-        ≡ allotment_at (channels_of table.now.ports) marks.old grants.old lost.old r }
+    requires { MayAllotAll table.now.ports marks.old grants.old }
+    ensures { HasAllottedAll table.now.ports marks.old marks.new grants.old grants.new lost.old
+        lost.new }
 {
     if marks.asking != 0 {
         allocate(table, marks, grants, lost);

@@ -62,8 +62,8 @@ loop-rest-preserved c =
           got.ensures.others c.but_lowest-rest.ensures.members;
     }
 
-pub returns-clause-asked : goal.returns-clause-asked
-returns-clause-asked c = λ r l e. each-all Allotment _ _ _ _ c.loop-rest.rest (omega arith) c.loop-rest.invariant.are r e
-
-pub returns-clause-others : goal.returns-clause-others
-returns-clause-others c = λ r e. c.loop-rest.invariant.are.kept r e
+pub returns : goal.returns
+returns c = record {
+  asked = λ r l e. each-all Allotment _ _ _ _ c.loop-rest.rest (omega arith) c.loop-rest.invariant.are r e;
+  others = λ r e. c.loop-rest.invariant.are.kept r e;
+}

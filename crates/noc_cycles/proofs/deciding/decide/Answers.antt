@@ -11,11 +11,15 @@ use Rattle.noc_columns.specs.Words.{IsWithin}
 use Rattle.noc_cycles.proofs.DecidingLemmas.{decided-then, found_at}
 use Rattle.noc_cycles.proofs.deciding.decide.Goals as goal
 
-pub allocate_if-requires-clause-waiting : goal.allocate_if-requires-clause-waiting
-allocate_if-requires-clause-waiting c = λ r l. (c.requires.may r l).waiting
-
-pub allocate_if-requires-clause-idle : goal.allocate_if-requires-clause-idle
-allocate_if-requires-clause-idle c = λ r l. (c.requires.may r l).idle
+pub allocate_if-requires : goal.allocate_if-requires
+allocate_if-requires c =
+    let ports = c.args.pattern.now.table.ports in
+    record {
+      waiting = λ r l. (c.requires.may r l).waiting;
+      idle = λ r l. (c.requires.may r l).idle;
+      free = λ r l. none-within (channels_of ports) r 64 c.clear.new.self.granted (λ k m. let low = index-below ports k m in let all = channels-few ports in omega (arith, low, all)) c.clear.ensures.granted;
+      none = c.clear.ensures.count;
+    }
 
 pub route_if-requires-clause-may : goal.route_if-requires-clause-may
 route_if-requires-clause-may c = record {
@@ -58,11 +62,6 @@ returns-clause-decided c = λ layout r no_credit s l shows.
     decided sent.picks went.new.switch went.new.left (sent.picked.picked r).first (sent.picked.picked r).has (sent.picked.picked r).any (sent.traversed.traversed r)
     (length guide.headers.now) (nodes guide.relation.now.grid) (c.args.first + r) (c.requires.may r l)
     layout s no_credit shows)
-
-pub allocate_if-requires-clause-free : goal.allocate_if-requires-clause-free
-allocate_if-requires-clause-free c = λ r l.
-    let ports = c.args.pattern.now.table.ports in
-    none-within (channels_of ports) r 64 c.clear.new.self.granted (λ k m. let low = index-below ports k m in let all = channels-few ports in omega (arith, low, all)) c.clear.ensures.granted
 
 pub clear-requires-2 : goal.clear-requires-2
 clear-requires-2 c = let few = channels-few c.args.pattern.now.table.ports in omega (arith, few)
