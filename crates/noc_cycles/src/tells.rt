@@ -40,22 +40,28 @@ pub fn tell(pattern: &Pattern, around: &Around, block: &Block, notes: &mut Vec<N
     ensures room { vec_capacity notes.old ≤ vec_capacity notes.new }
 {
     notes.clear();
+    let links = &pattern.table.ports.links;
+    let channels = (links.width + 1) * links.vcs;
     for number in 0..block.grants.count {
-        tell_grant(pattern, around, block, number, notes);
+        tell_grant(pattern, around, block, number, channels, notes);
     }
 }
 
-// Notes the grant of a block with this number. (Each is one of a channel that the routers have.)
+// Notes the grant of a block with this number. (Each is one of a channel that the routers have. How
+// many these are is worked out once.)
 fn tell_grant(
     pattern: &Pattern,
     around: &Around,
     block: &Block,
     number: usize,
+    channels: usize,
     notes: &mut Vec<Note>,
 )
     requires told { (g : Grid) × (tells : ℕ → ℕ → Option ℕ)
         × AreTold g pattern.now around.now block.now tells }
     requires number { number < block.now.grants.count }
+    requires channels { channels ≡ (pattern.now.table.ports.links.width + 1)
+        * pattern.now.table.ports.links.vcs }
     requires room { vec_len notes.old < vec_capacity notes.old }
     ensures notes { (g : Grid) (tells : ℕ → ℕ → Option ℕ)
         → AreTold g pattern.now around.now block.now tells
@@ -64,10 +70,9 @@ fn tell_grant(
     ensures more { vec_len notes.new ≤ vec_len notes.old + 1 }
     ensures room { vec_capacity notes.old ≤ vec_capacity notes.new }
 {
-    let links = &pattern.table.ports.links;
     let grant = &block.grants.given[number];
     let index = usize::from(grant.index);
-    if index < (links.width + 1) * links.vcs {
+    if index < channels {
         let channel = pattern.table.channel_at(index);
         tell_one(pattern, around, block, channel, grant, notes);
     }

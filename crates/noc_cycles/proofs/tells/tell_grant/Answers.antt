@@ -38,8 +38,8 @@ tell_one-requires-clause-vc c =
     subst (λ v. v < pattern.table.ports.links.vcs) (it-vc g pattern around block tells told number c.requires.number k at.within is)
     ((told.each _ (it-below g pattern around block tells told number c.requires.number k at.within is)).vc_is k (it-granted g pattern around block tells told number c.requires.number k at.within is))
 
-pub returns-then-index-links-clause-notes : goal.returns-then-index-links-clause-notes
-returns-then-index-links-clause-notes c = λ g tells told was.
+pub returns-then-index-channels-clause-notes : goal.returns-then-index-channels-clause-notes
+returns-then-index-channels-clause-notes c = λ g tells told was.
     let pattern = c.args.pattern.now in
     let around = c.args.around.now in
     let block = c.args.block.now in
@@ -50,8 +50,8 @@ returns-then-index-links-clause-notes c = λ g tells told was.
     first-next g pattern around block tells told number c.requires.number k at.within is c.args.notes.now.items c.tell_one.new.notes.items was
     (c.tell_one.ensures.noted g told.wired ((told.each _ (it-below g pattern around block tells told number c.requires.number k at.within is)).router k (it-granted g pattern around block tells told number c.requires.number k at.within is)))
 
-pub returns-else-index-links-clause-notes : goal.returns-else-index-links-clause-notes
-returns-else-index-links-clause-notes c = λ g tells told was.
+pub returns-else-index-channels-clause-notes : goal.returns-else-index-channels-clause-notes
+returns-else-index-channels-clause-notes c = λ g tells told was.
     let ports = c.args.pattern.now.table.ports in
-    let beyond : (ports.links.width + 1) * ports.links.vcs ≤ c.from-index.result = omega arith in
+    let beyond : (ports.links.width + 1) * ports.links.vcs ≤ c.from-index.result = subst (λ n. n ≤ c.from-index.result) c.requires.channels (omega arith) in
     first-none g c.args.pattern.now c.args.around.now c.args.block.now tells told c.args.number c.requires.number c.args.notes.now.items (subst (λ x. (ports.links.width + 1) * ports.links.vcs ≤ x) c.from-index.ensures beyond) was
