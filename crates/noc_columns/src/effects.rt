@@ -39,38 +39,21 @@ pub fn settle(
         moves.now.decided.now moves.now.grants.now inputs.old inputs.new verdicts.old verdicts.new
         arrived.new result.0 result.1 }
 {
-    if local == IN_A_PLANE {
-        settle_by(frame, IN_A_PLANE, moves, inputs, verdicts, arrived)
+    let plane = local == IN_A_PLANE;
+    if frame.deep && plane {
+        settle_all::<5>(moves, frame, IN_A_PLANE, inputs, verdicts, arrived)
+    } else if frame.deep {
+        settle_all::<5>(moves, frame, local, inputs, verdicts, arrived)
+    } else if plane {
+        settle_all::<SHALLOW>(moves, frame, IN_A_PLANE, inputs, verdicts, arrived)
     } else {
-        settle_by(frame, local, moves, inputs, verdicts, arrived)
+        settle_all::<SHALLOW>(moves, frame, local, inputs, verdicts, arrived)
     }
 }
 
 // The number of the local port of a network of two dimensions, as most are. (As a constant it
 // spares the loop the words that tell which digits it has.)
 const IN_A_PLANE: usize = 4;
-
-// What was decided takes effect, where the local port has this number.
-#[inline(always)]
-fn settle_by(
-    frame: &Frame,
-    local: usize,
-    moves: &Moves<'_>,
-    inputs: &mut Inputs<Words>,
-    verdicts: &mut Verdicts<Words>,
-    arrived: &mut Words,
-) -> (u64, u64)
-    requires { local < NUMBERS }
-    ensures { SettlesAll (GROUP * frame.now.groups) frame.now.deep local moves.now.standing.now
-        moves.now.decided.now moves.now.grants.now inputs.old inputs.new verdicts.old verdicts.new
-        arrived.new result.0 result.1 }
-{
-    if frame.deep {
-        settle_all::<5>(moves, frame, local, inputs, verdicts, arrived)
-    } else {
-        settle_all::<SHALLOW>(moves, frame, local, inputs, verdicts, arrived)
-    }
-}
 
 // How many bits a count has that is not deep.
 const SHALLOW: usize = 3;
