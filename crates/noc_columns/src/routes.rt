@@ -40,12 +40,19 @@ pub fn route(
     requires { MayRouteAll guide.now heads.now packets.now }
     ensures { HasRoutedAll guide.now heads.now packets.now marks.old marks.new }
 {
+    // (A value of its own, so the compiler knows that no write changes it.)
+    let own = Guide {
+        relation: guide.relation,
+        headers: guide.headers,
+        table: guide.table,
+        first: guide.first,
+    };
     let links = &guide.table.ports.links;
     let mut rest = used_words((links.width + 1) * links.vcs, heads);
     while rest != 0 {
         let index = least(rest);
-        let channel = guide.table.channel_at(index);
-        route_routers(guide, channel, heads[index], packets, marks);
+        let channel = own.table.channel_at(index);
+        route_routers(&own, channel, heads[index], packets, marks);
         rest = but_lowest(rest);
     }
 }
